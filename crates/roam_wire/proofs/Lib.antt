@@ -1,0 +1,4 @@
+pub mod WalkLemmas
+pub mod AttributeLemmas
+pub mod PacketLemmas
+pub mod BuildingLemmas

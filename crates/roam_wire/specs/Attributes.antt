@@ -1,0 +1,15 @@
+-- The attributes of one Type in a list (RFC 2865, section 5).
+use Rattle.std.specs.Prelude.{ℕ, ◌==◌, Bool, List, [], ◌∷◌, Option, Some, None, if◌then◌else◌, map, filter, length, count_by, find, option_map}
+use Rattle.roam_wire.specs.Packet.{Attribute}
+
+-- whether an attribute has this Type
+abbrev pub has_kind : ℕ → Attribute → Bool
+has_kind kind a = a.kind == kind
+
+-- the Value of the first attribute of a Type, if there is one
+abbrev pub first_value : ℕ → List Attribute → Option (List ℕ)
+first_value kind attributes = option_map (λ a. a.value) (find (has_kind kind) attributes)
+
+-- how many attributes have a Type
+abbrev pub count_of : ℕ → List Attribute → ℕ
+count_of kind attributes = count_by (has_kind kind) attributes

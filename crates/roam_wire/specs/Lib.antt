@@ -1,0 +1,6 @@
+pub mod Packet
+pub mod Reading
+pub mod Attributes
+pub mod Shown
+pub mod Refusal
+pub mod Building

@@ -1,0 +1,21 @@
+//! RADIUS packets as octets (RFC 2865, sections 3 and 5): reading a datagram, building a packet, and
+//! the refusals of the broker.
+//!
+//! Nothing here reads a socket or a clock. A datagram is a slice, and a packet is looked at where it
+//! lies in it. What reads takes no memory and copies no octets.
+#![tactic(auto)]
+
+pub mod attribute_type;
+mod attributes;
+pub mod code;
+mod octets;
+mod packet_buf;
+mod refusal;
+mod view;
+mod walk;
+
+pub use attributes::{Attr, Attrs};
+pub use octets::Octets;
+pub use packet_buf::PacketBuf;
+pub use refusal::{NoMemory, Refusal};
+pub use view::View;

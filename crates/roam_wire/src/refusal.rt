@@ -1,0 +1,124 @@
+//! Why the broker refuses an event.
+
+ghost use Rattle.std.specs.Prelude.{◌≡◌, ◌↔◌, IsTrue};
+
+use std::alloc::{AllocError, AllocFailed};
+
+/// A growth was refused: there was no memory (refusal 21). Nothing was changed.
+#[derive(Clone, Copy, Debug, PartialEq, Eq)]
+pub struct NoMemory;
+
+impl From<AllocError> for NoMemory {
+    fn from(_error: AllocError) -> NoMemory {
+        NoMemory
+    }
+}
+
+impl<T: Drop> From<AllocFailed<T>> for NoMemory {
+    fn from(_error: AllocFailed<T>) -> NoMemory {
+        NoMemory
+    }
+}
+
+/// Why the broker refuses an event. Every refusal leaves the broker as it was.
+///
+/// An arrival is refused by the first of `Short` to `TooLong` whose cause holds, and a tick by
+/// `NoShard`; then comes `Moment`; then, for a request, the first of `Exhausted` to `Busy`, and for a
+/// reply the first of `NoEntry` to `ReplyTooLong`. `NoMemory` comes wherever a growth was refused.
+#[derive(Clone, Copy, Debug, PartialEq, Eq)]
+pub enum Refusal {
+    /// The datagram has fewer than 20 octets.
+    Short,
+    /// Length is below 20, above 4096 or above the datagram's size.
+    BadLength,
+    /// An attribute's Length is below 2 or passes the end.
+    BadAttribute,
+    /// The source has no shared secret at this place, or the place names no realm.
+    UnknownSource,
+    /// The code isn't taken at this place from this source.
+    WrongCode,
+    /// The Request Authenticator of an Accounting-, Disconnect- or CoA-Request is wrong.
+    BadAuthenticator,
+    /// A request has two Message-Authenticators, one that hasn't 16 octets, or a wrong one.
+    BadMessageAuthenticator,
+    /// An Access-Request has no Message-Authenticator, and holds EAP-Message or comes from a peer that
+    /// is required to send one.
+    MissingMessageAuthenticator,
+    /// An Accounting-Request names no configured realm.
+    NoRealm,
+    /// The forwarded packet, or the local reject, would pass 4096 octets.
+    TooLong,
+    /// The realm's next ticket is 2^63.
+    Exhausted,
+    /// No target link has a free Identifier.
+    NoIdentifier,
+    /// The realm holds as many entries as it may, and all of them wait.
+    Busy,
+    /// No waiting entry on that link has that Identifier.
+    NoEntry,
+    /// The reply's code doesn't belong to the forwarded request's code.
+    WrongReply,
+    /// The Response Authenticator is wrong.
+    BadReply,
+    /// A reply has two Message-Authenticators, one that hasn't 16 octets, or a wrong one; or it holds
+    /// EAP-Message without one in an Access-Accept, -Reject or -Challenge.
+    BadReplyMessageAuthenticator,
+    /// The returned packet would pass 4096 octets.
+    ReplyTooLong,
+    /// The moment is above 2^62 milliseconds.
+    Moment,
+    /// The tick names no shard.
+    NoShard,
+    /// A growth was refused.
+    NoMemory,
+    /// The shard's trace holds as many steps as it may.
+    TraceFull,
+    /// The lock's trace is of another shard or opening.
+    Misplaced,
+}
+
+impl Refusal {
+    ghost use Rattle.roam_wire.specs.Refusal.{number_of};
+
+    /// The number of the refusal, from 1 to 23, under which it is logged.
+    pub fn number(self) -> u8
+        ensures { result ≡ number_of self }
+    {
+        match self {
+            Refusal::Short => 1,
+            Refusal::BadLength => 2,
+            Refusal::BadAttribute => 3,
+            Refusal::UnknownSource => 4,
+            Refusal::WrongCode => 5,
+            Refusal::BadAuthenticator => 6,
+            Refusal::BadMessageAuthenticator => 7,
+            Refusal::MissingMessageAuthenticator => 8,
+            Refusal::NoRealm => 9,
+            Refusal::TooLong => 10,
+            Refusal::Exhausted => 11,
+            Refusal::NoIdentifier => 12,
+            Refusal::Busy => 13,
+            Refusal::NoEntry => 14,
+            Refusal::WrongReply => 15,
+            Refusal::BadReply => 16,
+            Refusal::BadReplyMessageAuthenticator => 17,
+            Refusal::ReplyTooLong => 18,
+            Refusal::Moment => 19,
+            Refusal::NoShard => 20,
+            Refusal::NoMemory => 21,
+            Refusal::TraceFull => 22,
+            Refusal::Misplaced => 23,
+        }
+    }
+}
+
+impl From<NoMemory> for Refusal {
+    ghost use Rattle.std.specs.Prelude.{◌≡◌};
+    ghost use Rattle.roam_wire.specs.declared.refusal.Refusal.TheVariants as refusal;
+
+    ghost from_gives = { λ _ e. e ≡ refusal.NoMemory };
+
+    fn from(_error: NoMemory) -> Refusal {
+        Refusal::NoMemory
+    }
+}

@@ -1,0 +1,152 @@
+//! A packet in a datagram, looked at where it lies (RFC 2865, section 3).
+
+ghost use Rattle.std.specs.Prelude.{◌≡◌, ◌⊎◌, ◌↔◌, ◌<◌, ◌≤◌, length, take, drop, option_map, IfOk, IfErr, IsOkAnd, IsErrOf};
+ghost use Rattle.roam_wire.specs.Packet.{Packet, IsPacket, packet_text};
+ghost use Rattle.roam_wire.specs.Reading.{length_field, HasLength, ReadsAs, Reads};
+ghost use Rattle.roam_wire.specs.Attributes.{first_value, count_of};
+
+use crate::attributes::Attrs;
+use crate::refusal::Refusal;
+use crate::walk::are_attributes;
+use std::marker::Model;
+
+/// A packet that was read, looked at where it lies in the datagram (RFC 2865, section 3). Holding one
+/// proves that its octets are a packet's. Contracts see it as that packet.
+#[derive(Drop)]
+pub struct View<'a> {
+    octets: &'a [u8],
+}
+
+impl<'a> Model for View<'a> {
+    ghost use Rattle.roam_wire.specs.Packet.{Packet};
+    ghost use Rattle.roam_wire.specs.Reading.{IsPacketText, packet_of};
+
+    ghost Value = { Packet };
+
+    ghost view = { λ v. packet_of v.octets.now };
+
+    ghost invariant = { λ v. IsPacketText v.octets.now };
+}
+
+/// The Length field of a datagram.
+fn length_at(datagram: &[u8]) -> usize
+    requires { 20 ≤ length datagram.now }
+    ensures { result ≡ length_field datagram.now }
+{
+    256 * usize::from(datagram[2]) + usize::from(datagram[3])
+}
+
+/// The first octets of a datagram.
+fn front_of(datagram: &[u8], size: usize) -> &[u8]
+    requires { size ≤ length datagram.now }
+    ensures { result.now ≡ take size datagram.now }
+{
+    datagram.split_at(size).0
+}
+
+/// The octets behind a header.
+fn behind_header(octets: &[u8]) -> &[u8]
+    requires { 20 ≤ length octets.now }
+    ensures { result.now ≡ drop 20 octets.now }
+{
+    octets.split_at(20).1
+}
+
+/// The octets of an Authenticator field.
+fn authenticator_of(octets: &[u8]) -> [u8; 16]
+    requires { 20 ≤ length octets.now }
+    ensures { result ≡ take 16 (drop 4 octets.now) }
+{
+    let mut authenticator = [0; 16];
+    authenticator.copy_from_slice(octets.split_at(4).1.split_at(16).0);
+    authenticator
+}
+
+impl<'a> View<'a> {
+    /// Reads the packet at the front of a datagram (RFC 2865, section 3). Octets behind Length are
+    /// padding, and aren't looked at. One pass over the attributes; nothing is copied.
+    ///
+    /// Refused in this order: `Short`, `BadLength`, `BadAttribute`.
+    pub fn read(datagram: &'a [u8]) -> Result<View<'a>, Refusal>
+        // What is read is the packet that the datagram reads as, and there is no other.
+        ensures packet { IfOk result (λ v. ReadsAs datagram.now v) }
+        ensures only { (p : Packet) → ReadsAs datagram.now p → IsOkAnd result (λ v. v ≡ p) }
+
+        ensures short { IsErrOf result Refusal.Short ↔ (length datagram.now < 20) }
+        ensures bad_length { IsErrOf result Refusal.BadLength
+            ↔ ((20 ≤ length datagram.now) × ¬ HasLength datagram.now) }
+        ensures bad_attribute { IsErrOf result Refusal.BadAttribute
+            ↔ ((20 ≤ length datagram.now) × HasLength datagram.now × ¬ Reads datagram.now) }
+        ensures causes { IfErr result (λ e. (e ≡ Refusal.Short) ⊎ (e ≡ Refusal.BadLength)
+            ⊎ (e ≡ Refusal.BadAttribute)) }
+    {
+        if datagram.len() < 20 {
+            return Err(Refusal::Short);
+        }
+        let length = length_at(datagram);
+        if length < 20 || length > 4096 || length > datagram.len() {
+            return Err(Refusal::BadLength);
+        }
+        let octets = front_of(datagram, length);
+        if !are_attributes(behind_header(octets)) {
+            return Err(Refusal::BadAttribute);
+        }
+        Ok(View { octets })
+    }
+
+    /// The packet's Code.
+    pub fn code(&self) -> u8
+        ensures { result ≡ self.now.code }
+    {
+        self.octets[0]
+    }
+
+    /// The packet's Identifier.
+    pub fn id(&self) -> u8
+        ensures { result ≡ self.now.id }
+    {
+        self.octets[1]
+    }
+
+    /// The packet's Authenticator field.
+    pub fn authenticator(&self) -> [u8; 16]
+        ensures { result ≡ self.now.authenticator }
+    {
+        authenticator_of(self.octets)
+    }
+
+    /// The packet's attributes, in their order. They are few, since each takes two octets at least.
+    pub fn attributes(&self) -> Attrs<'a>
+        ensures all { result ≡ self.now.attributes }
+        ensures few { length result ≤ 2038 }
+    {
+        Attrs::over(behind_header(self.octets))
+    }
+
+    /// The packet's octets: those of the datagram up to Length, 20 to 4096 in number.
+    pub fn octets(&self) -> &'a [u8]
+        ensures text { result.now ≡ packet_text self.now }
+        ensures packet { IsPacket self.now }
+    {
+        self.octets
+    }
+
+    /// The Value of the packet's first attribute of a Type, if there is one. One pass.
+    pub fn first(&self, kind: u8) -> Option<&'a [u8]>
+        ensures { option_map (λ value. value.now) result ≡ first_value kind self.now.attributes }
+    {
+        for attribute in self.attributes() {
+            if attribute.kind == kind {
+                return Some(attribute.value);
+            }
+        }
+        None
+    }
+
+    /// How many attributes of a Type the packet has. One pass.
+    pub fn count(&self, kind: u8) -> usize
+        ensures { result ≡ count_of kind self.now.attributes }
+    {
+        self.attributes().filter(|attribute| attribute.kind == kind).count()
+    }
+}
