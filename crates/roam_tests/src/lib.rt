@@ -5,4 +5,8 @@
 #![tactic(auto)]
 
 #[cfg(test)]
+mod roam_ids_tests;
+#[cfg(test)]
+mod roam_testing_tests;
+#[cfg(test)]
 mod roam_wire_tests;

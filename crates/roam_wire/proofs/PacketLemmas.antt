@@ -1,6 +1,6 @@
 -- The octets of a packet, and the packet of octets.
 use Rattle.std.proofs.Common.{◌≡◌, ℕ, ◌+◌, ◌*◌, ◌/◌, ◌%◌, ◌<◌, ◌≤◌, List, [], ◌∷◌, ◌++◌, length, get_or, take, drop, subst, Option, Some, None, IsSome, refl, sym, ap, ◌∙◌, arith, length-drop, length-append}
-use Rattle.std.proofs.lemmas.List.{take-append-drop, take_at, drop_at, length-take, get_or-take}
+use Rattle.std.proofs.lemmas.List.{take-append-drop, take_at, drop_at, length-take, get_or-take, take_all}
 use Rattle.roam_wire.specs.Packet.{Attribute, IsAttribute, Packet, IsPacket, attributes_text, packet_text, packet_length}
 use Rattle.roam_wire.specs.Reading.{IsPacketText, ReadsAs, attributes_of, packet_of, length_field, HasLength}
 use Rattle.roam_wire.proofs.AttributeLemmas.{AreOctets, AreOctets-drop, AreOctets-take, read_spells, attributes_of-attributes_text}
@@ -117,3 +117,20 @@ pub length-attributes : (p : Packet) → IsPacket p → length p.attributes ≤ 
 length-attributes p h =
     let limit = h.size in
     omega (arith, length-attributes_text p.attributes)
+
+-- the Length field of a packet's octets is their number
+length_field-packet_text : (p : Packet) → length_field (packet_text p) ≡ packet_length p
+length_field-packet_text p = omega arith
+
+-- a packet's octets read as that packet
+pub ReadsAs-packet_text : (p : Packet) → IsPacket p → ReadsAs (packet_text p) p
+ReadsAs-packet_text p h =
+    let size = length-packet_text p h in
+    let all : take (length_field (packet_text p)) (packet_text p) ≡ packet_text p =
+      take_all (length_field (packet_text p)) (packet_text p) (omega (arith, length_field-packet_text p)) in
+    record { has_header = omega arith; packet = h; front = all }
+
+-- octets that are a packet's read as it
+pub ReadsAs-octets : (octets : List ℕ) → IsPacketText octets → ReadsAs octets (packet_of octets)
+ReadsAs-octets octets h =
+    subst (λ (t : List ℕ). ReadsAs t (packet_of octets)) (sym h.spelt) (ReadsAs-packet_text (packet_of octets) h.packet)

@@ -1,5 +1,5 @@
 -- The attributes of one Type in a list (RFC 2865, section 5).
-use Rattle.std.specs.Prelude.{ℕ, ◌==◌, Bool, List, [], ◌∷◌, Option, Some, None, if◌then◌else◌, map, filter, length, count_by, find, option_map}
+use Rattle.std.specs.Prelude.{ℕ, ◌==◌, Bool, List, [], ◌∷◌, Option, Some, None, if◌then◌else◌, map, filter, length, count_by, find, option_map, not}
 use Rattle.roam_wire.specs.Packet.{Attribute}
 
 -- whether an attribute has this Type
@@ -13,3 +13,11 @@ first_value kind attributes = option_map (λ a. a.value) (find (has_kind kind) a
 -- how many attributes have a Type
 abbrev pub count_of : ℕ → List Attribute → ℕ
 count_of kind attributes = count_by (has_kind kind) attributes
+
+-- the attributes of one Type, in their order
+abbrev pub only_kind : ℕ → List Attribute → List Attribute
+only_kind kind attributes = filter (has_kind kind) attributes
+
+-- the attributes of all other Types, in their order
+abbrev pub without_kind : ℕ → List Attribute → List Attribute
+without_kind kind attributes = filter (λ a. not (has_kind kind a)) attributes

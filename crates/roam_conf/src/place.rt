@@ -1,0 +1,26 @@
+//! The broker's own sockets, and the remote endpoints of a realm.
+
+/// One of the broker's own sockets.
+#[derive(Clone, Copy, Debug, PartialEq, Eq, Hash)]
+pub enum Place {
+    /// Takes Access-Requests of access servers (RFC 2865).
+    Auth,
+    /// Takes Accounting-Requests of access servers (RFC 2866).
+    Acct,
+    /// The outgoing socket of the realm of this index: what is forwarded for it leaves here, and the
+    /// replies come in here.
+    Out(u16),
+    /// Takes Disconnect- and CoA-Requests of the home servers of the realm of this index (RFC 5176).
+    Reverse(u16),
+}
+
+/// One of the remote endpoints to which the packets of a realm are forwarded.
+#[derive(Clone, Copy, Debug, PartialEq, Eq, Hash)]
+pub enum Link {
+    /// The authentication endpoint of the realm's server of this place.
+    Auth(u8),
+    /// The accounting endpoint of the realm's server of this place.
+    Acct(u8),
+    /// The endpoint for Disconnect- and CoA-Requests of the peer of this index.
+    Coa(u16),
+}

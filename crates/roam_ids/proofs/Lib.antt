@@ -1,0 +1,5 @@
+pub mod NextIdentifierLemmas
+pub mod WordLemmas
+pub mod SearchLemmas
+pub mod LaneLemmas
+pub mod WorkedFacts

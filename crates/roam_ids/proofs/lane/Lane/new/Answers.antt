@@ -1,0 +1,9 @@
+use Rattle.roam_ids.proofs.LaneLemmas.{zeros_tell, free_everywhere}
+use Rattle.roam_ids.proofs.lane.Lane.new.Goals as goal
+
+-- No bit is set, and no Identifier is in use.
+pub invariant_of-result : goal.invariant_of-result
+invariant_of-result c = zeros_tell
+
+pub returns-clause-free : goal.returns-clause-free
+returns-clause-free c id = free_everywhere 256 id

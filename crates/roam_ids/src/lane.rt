@@ -1,0 +1,149 @@
+//! The Identifiers in use toward one endpoint for one realm.
+ghost use Rattle.std.specs.Prelude.{◌≡◌, ℕ, ◌<◌, ◌↔◌, IsTrue, IfSome, IfNone, OnSome};
+ghost use Rattle.std.specs.Option.{option_map};
+ghost use Rattle.roam_ids.specs.NextIdentifier.{next_identifier, AllUsed};
+ghost use Rattle.roam_ids.specs.IdSlot.{slot_id, claimed_ticket};
+ghost use Rattle.roam_ids.specs.Marks.{is_marked};
+ghost use Rattle.roam_ids.specs.LaneState.{HasIdentifiers, place_at, ticket_at, is_used, put_at, cursor_past};
+
+use crate::place::Place;
+use crate::slot::IdSlot;
+use crate::words::{all_marked, mark, next_free};
+use std::marker::Model;
+
+/// Lane: the Identifiers in use toward one endpoint for one realm.
+///
+/// Each of the 256 Identifiers is free, out in a caller's hand as an `IdSlot`, or parked there with
+/// the ticket of the request that waits for a reply. Out and parked ones are in use. A contract
+/// sees the tag, the cursor, and what stands at each Identifier. No call takes memory.
+#[derive(Drop)]
+pub struct Lane {
+    tag: u32,
+    cursor: u8,
+    words: [u64; 4],
+    places: [Place; 256],
+}
+
+impl Model for Lane {
+    ghost use Rattle.roam_ids.specs.LaneState.{LaneState};
+
+    ghost Value = { LaneState };
+
+    ghost use Rattle.roam_ids.specs.Marks.{WordsTell};
+
+    ghost view = { λ lane. record { tag = lane.tag; cursor = lane.cursor; places = lane.places } };
+
+    ghost invariant = { λ lane. WordsTell lane.words lane.places };
+}
+
+impl Lane {
+    /// A lane with this tag, of which nothing is in use. Its cursor is 0.
+    pub fn new(tag: u32) -> Lane
+        ensures tag { result.tag ≡ tag }
+        ensures cursor { result.cursor ≡ 0 }
+        ensures free { (id : ℕ) → place_at result id ≡ Place.Free }
+        ensures whole { HasIdentifiers result }
+    {
+        Lane {
+            tag,
+            cursor: 0,
+            words: [0; 4],
+            places: [Place::Free; 256],
+        }
+    }
+
+    /// Writes what stands at an Identifier, and its bit.
+    fn put(&mut self, id: u8, place: Place)
+        ensures put { self.new ≡ put_at self.old id place }
+        ensures whole { HasIdentifiers self.new }
+    {
+        mark(&mut self.words, id, place.is_used());
+        self.places[usize::from(id)] = place;
+    }
+
+    /// Takes the next free Identifier: the first at or after the cursor, cyclic. The cursor then
+    /// stands one past it. `None` where all 256 are in use: the lane is as it was.
+    pub fn take(&mut self) -> Option<IdSlot>
+        ensures next { option_map slot_id result
+            ≡ next_identifier (is_used self.old) self.old.cursor }
+        ensures tag { IfSome result (λ slot. slot.tag ≡ self.old.tag) }
+        ensures taken { IfSome result (λ slot.
+            self.new ≡ cursor_past (put_at self.old slot.id Place.Out) slot.id) }
+        ensures none { IfNone result (self.new ≡ self.old) }
+
+        // So the slot can be parked or freed here.
+        ensures out { IfSome result (λ slot. place_at self.new slot.id ≡ Place.Out) }
+        ensures whole { HasIdentifiers self.new }
+    {
+        let id = next_free(&self.words, self.cursor)?;
+        self.put(id, Place::Out);
+        self.cursor = id.wrapping_add(1);
+        Some(IdSlot { tag: self.tag, id })
+    }
+
+    /// Parks an Identifier with the ticket of the request that waits for a reply to it.
+    pub fn park(&mut self, slot: IdSlot, ticket: u64)
+        requires tag { slot.tag ≡ self.old.tag }
+        requires out { place_at self.old slot.id ≡ Place.Out }
+        ensures parked { self.new ≡ put_at self.old slot.id (Place.Parked ticket) }
+        ensures whole { HasIdentifiers self.new }
+    {
+        let IdSlot { tag: _, id } = slot;
+        self.put(id, Place::Parked(ticket));
+    }
+
+    /// Claims a parked Identifier, with its ticket. It is then out. `None` where nothing is parked
+    /// there: the lane is as it was.
+    pub fn claim(&mut self, id: u8) -> Option<(IdSlot, u64)>
+        ensures ticket { option_map claimed_ticket result ≡ ticket_at self.old id }
+        ensures slot { IfSome result (λ claimed.
+            claimed.0 ≡ record { tag = self.old.tag; id = id }) }
+        ensures claimed { OnSome result (self.new ≡ put_at self.old id Place.Out) }
+        ensures none { IfNone result (self.new ≡ self.old) }
+
+        // So the slot can be parked or freed here.
+        ensures out { OnSome result (place_at self.new id ≡ Place.Out) }
+        ensures whole { HasIdentifiers self.new }
+    {
+        let ticket = self.holder(id)?;
+        self.put(id, Place::Out);
+        Some((IdSlot { tag: self.tag, id }, ticket))
+    }
+
+    /// The ticket that is parked at an Identifier.
+    pub fn holder(&self, id: u8) -> Option<u64>
+        ensures ticket { result ≡ ticket_at self.now id }
+        ensures whole { HasIdentifiers self.now }
+    {
+        match self.places[usize::from(id)] {
+            Place::Parked(ticket) => Some(ticket),
+            _ => None,
+        }
+    }
+
+    /// Whether all 256 Identifiers are in use, parked or out.
+    pub fn is_full(&self) -> bool
+        ensures { IsTrue result ↔ AllUsed (is_used self.now) }
+    {
+        all_marked(&self.words)
+    }
+
+    /// Gives an Identifier back: it is free again.
+    pub fn free(&mut self, slot: IdSlot)
+        requires tag { slot.tag ≡ self.old.tag }
+        requires out { place_at self.old slot.id ≡ Place.Out }
+        ensures free { self.new ≡ put_at self.old slot.id Place.Free }
+        ensures whole { HasIdentifiers self.new }
+    {
+        let IdSlot { tag: _, id } = slot;
+        self.put(id, Place::Free);
+    }
+
+    /// The Identifiers in use as bits: bit `i mod 64` of word `i / 64`, rounded down, is set just
+    /// where Identifier `i` is in use.
+    pub fn words(&self) -> &[u64; 4]
+        ensures { (id : ℕ) → id < 256 → is_marked result.now id ≡ is_used self.now id }
+    {
+        &self.words
+    }
+}

@@ -1,0 +1,15 @@
+//! The Identifiers in use toward each remote endpoint (RFC 2865, section 3: an Identifier is one
+//! octet, and a reply is matched to its request by it).
+//!
+//! A lane holds the 256 Identifiers toward one endpoint for one realm. Nothing here takes memory,
+//! or touches a socket or a clock.
+#![tactic(auto)]
+
+mod lane;
+pub mod laws;
+mod place;
+mod slot;
+mod words;
+
+pub use lane::Lane;
+pub use slot::IdSlot;
