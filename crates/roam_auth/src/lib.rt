@@ -1,1 +1,23 @@
+//! Authenticators of RADIUS packets: Response and Request Authenticator (RFC 2865, section 3;
+//! RFC 2866, section 3; RFC 5176, section 2.3), HMAC-MD5 (RFC 2104) and Message-Authenticator
+//! (RFC 3579, section 3.2).
+//!
+//! Nothing here takes memory or copies a packet: each digest takes the pieces where they lie. MD5
+//! itself is the crate `md5`'s. Every secret has 1 to 64 octets. Authenticators are passed by value.
+//! What is compared isn't compared in constant time.
 #![tactic(auto)]
+
+mod hmac;
+mod in_place;
+mod laws;
+mod message;
+mod pieces;
+mod request;
+mod response;
+
+pub use hmac::hmac_md5;
+pub use in_place::{seal, sign_reply, sign_request};
+pub use laws::{deciding, sealing, signing, zeroing};
+pub use message::{message_auth, message_ok};
+pub use request::{request_auth, request_ok};
+pub use response::{response_auth, response_ok};

@@ -1,0 +1,12 @@
+pub mod Config
+pub mod Document
+pub mod Duplicates
+pub mod Faults
+pub mod Lookup
+pub mod Parts
+pub mod Reading
+pub mod Shown
+pub mod StatedParts
+pub mod Tables
+pub mod Texts
+pub mod Values

@@ -1,0 +1,6 @@
+pub mod Hiding
+pub mod HidingKeys
+pub mod HidingLaws
+pub mod SaltedValues
+pub mod SaltedFunctions
+pub mod SaltedLaws

@@ -1,1 +1,23 @@
+//! Hidden attributes, hidden anew for the next hop: User-Password (RFC 2865, section 5.2),
+//! Tunnel-Password (RFC 2868, section 3.5), MS-MPPE-Send-Key and MS-MPPE-Recv-Key (RFC 2548,
+//! section 2.4).
+//!
+//! All is done in place, on the octets of an attribute's value, and nothing takes memory.
 #![tactic(auto)]
+
+mod blocks;
+mod hiding_key;
+pub mod laws;
+mod password;
+mod salted_packet;
+mod salted_value;
+mod sub_attributes;
+mod tunnel_password;
+mod vendor_specific;
+
+pub use hiding_key::HidingKey;
+pub use password::{password_fits, rehide_password};
+pub use salted_packet::salted;
+pub use salted_value::rehide_salted;
+pub use tunnel_password::rehide_tunnel;
+pub use vendor_specific::rehide_vendor;

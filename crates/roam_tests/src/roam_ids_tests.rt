@@ -39,7 +39,10 @@ fn identifiers_come_in_order_until_all_are_in_use(rt: HostRuntime) {
     let mut lane = Lane::new(65_537);
     for id in 0..256u16 {
         assert!(rt; !lane.is_full(), "before {id}");
-        assert!(rt; admit(&mut lane, 5000 + u64::from(id)).map(u16::from) == Some(id), "at {id}");
+        assert!(rt;
+            admit(&mut lane, 5000 + u64::from(id)).map(u16::from) == Some(id),
+            "at {id}"
+        );
     }
     assert!(rt; lane.is_full());
     assert!(rt; admit(&mut lane, 9000).is_none());
@@ -56,8 +59,14 @@ fn the_one_free_identifier_is_found_from_any_cursor(rt: HostRuntime) {
         for free in [0u8, 63, 64, 191, 255] {
             let mut lane = full_lane();
             assert!(rt; move_cursor(&mut lane, cursor) == Some(cursor.wrapping_sub(1)));
-            assert!(rt; settle(&mut lane, free).is_some(), "free {free} from {cursor}");
-            assert!(rt; admit(&mut lane, 1) == Some(free), "take {free} from {cursor}");
+            assert!(rt;
+                settle(&mut lane, free).is_some(),
+                "free {free} from {cursor}"
+            );
+            assert!(rt;
+                admit(&mut lane, 1) == Some(free),
+                "take {free} from {cursor}"
+            );
             assert!(rt; admit(&mut lane, 2).is_none(), "none from {cursor}");
         }
     }
@@ -80,7 +89,10 @@ fn the_first_at_or_after_the_cursor_goes_before_lower_ones(rt: HostRuntime) {
         assert!(rt; move_cursor(&mut lane, cursor) == Some(cursor.wrapping_sub(1)));
         assert!(rt; settle(&mut lane, one).is_some());
         assert!(rt; settle(&mut lane, other).is_some());
-        assert!(rt; admit(&mut lane, 1) == Some(first), "{one} or {other} from {cursor}");
+        assert!(rt;
+            admit(&mut lane, 1) == Some(first),
+            "{one} or {other} from {cursor}"
+        );
     }
 }
 

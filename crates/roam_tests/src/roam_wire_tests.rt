@@ -6,11 +6,13 @@ use std::test::Fail;
 
 // The Access-Request of RFC 2865, section 7.1: User-Name "nemo", User-Password "arctangent" hidden
 // under the secret "xyzzy5461", NAS-IP-Address 192.168.1.16, NAS-Port 3.
-const ACCESS_REQUEST: &[u8; 56] = b"\x01\x00\x00\x38\x0f\x40\x3f\x94\x73\x97\x80\x57\xbd\x83\xd5\xcb\x98\xf4\x22\x7a\x01\x06nemo\x02\x12\x0d\xbe\x70\x8d\x93\xd4\x13\xce\x31\x96\xe4\x3f\x78\x2a\x0a\xee\x04\x06\xc0\xa8\x01\x10\x05\x06\x00\x00\x00\x03";
+const ACCESS_REQUEST: &[u8; 56] =
+    b"\x01\x00\x00\x38\x0f\x40\x3f\x94\x73\x97\x80\x57\xbd\x83\xd5\xcb\x98\xf4\x22\x7a\x01\x06nemo\x02\x12\x0d\xbe\x70\x8d\x93\xd4\x13\xce\x31\x96\xe4\x3f\x78\x2a\x0a\xee\x04\x06\xc0\xa8\x01\x10\x05\x06\x00\x00\x00\x03";
 
 // The Access-Accept of RFC 2865, section 7.1: Service-Type Login, Login-Service Telnet,
 // Login-IP-Host 192.168.1.3.
-const ACCESS_ACCEPT: &[u8; 38] = b"\x02\x00\x00\x26\x86\xfe\x22\x0e\x76\x24\xba\x2a\x10\x05\xf6\xbf\x9b\x55\xe0\xb2\x06\x06\x00\x00\x00\x01\x0f\x06\x00\x00\x00\x00\x0e\x06\xc0\xa8\x01\x03";
+const ACCESS_ACCEPT: &[u8; 38] =
+    b"\x02\x00\x00\x26\x86\xfe\x22\x0e\x76\x24\xba\x2a\x10\x05\xf6\xbf\x9b\x55\xe0\xb2\x06\x06\x00\x00\x00\x01\x0f\x06\x00\x00\x00\x00\x0e\x06\xc0\xa8\x01\x03";
 
 /// The first so many octets.
 fn prefix(octets: &[u8], size: usize) -> &[u8] {
@@ -23,7 +25,10 @@ fn the_access_request_of_the_standard_is_read(rt: HostRuntime) -> Result<(), Fai
     let view = View::read(ACCESS_REQUEST)?;
     assert_eq!(rt; view.code(), code::ACCESS_REQUEST);
     assert_eq!(rt; view.id(), 0);
-    assert_eq!(rt; prefix(ACCESS_REQUEST, 20).ends_with(&view.authenticator()), true);
+    assert_eq!(rt;
+        prefix(ACCESS_REQUEST, 20).ends_with(&view.authenticator()),
+        true
+    );
     assert_eq!(rt; view.octets(), ACCESS_REQUEST.as_slice());
     let mut kinds = Vec::new(rt.alloc());
     let mut sizes = Vec::new(rt.alloc());
@@ -33,7 +38,10 @@ fn the_access_request_of_the_standard_is_read(rt: HostRuntime) -> Result<(), Fai
     }
     assert_eq!(rt; kinds.as_slice(), [1, 2, 4, 5].as_slice());
     assert_eq!(rt; sizes.as_slice(), [4, 16, 4, 4].as_slice());
-    assert_eq!(rt; view.first(attribute_type::USER_NAME).ok_or("a name")?, b"nemo".as_slice());
+    assert_eq!(rt;
+        view.first(attribute_type::USER_NAME).ok_or("a name")?,
+        b"nemo".as_slice()
+    );
     assert!(rt; view.first(attribute_type::PROXY_STATE).is_none());
     assert_eq!(rt; view.count(attribute_type::USER_PASSWORD), 1);
     assert_eq!(rt; view.count(attribute_type::PROXY_STATE), 0);
@@ -68,7 +76,11 @@ fn refusal_number(datagram: &[u8]) -> u8 {
 fn each_prefix_of_a_good_packet_is_refused(rt: HostRuntime) {
     for size in 0..56usize {
         let expected = if size < 20 { 1 } else { 2 };
-        assert_eq!(rt; refusal_number(prefix(ACCESS_REQUEST, size)), expected, "{size} octets");
+        assert_eq!(rt;
+            refusal_number(prefix(ACCESS_REQUEST, size)),
+            expected,
+            "{size} octets"
+        );
     }
     assert_eq!(rt; refusal_number(ACCESS_REQUEST), 0);
 }
@@ -87,11 +99,25 @@ fn header(alloc: std::alloc::Global, length: u16, size: usize) -> Result<Vec<u8>
 #[test]
 fn lengths_at_the_bounds(rt: HostRuntime) -> Result<(), Fail> {
     for (length, size, expected) in [
-        (0, 20, 2), (19, 20, 2), (20, 20, 0), (20, 19, 1), (20, 4097, 0), (21, 20, 2), (21, 21, 3),
-        (22, 22, 3), (4096, 4095, 2), (4096, 4096, 3), (4097, 4097, 2), (65535, 65535, 2),
+        (0, 20, 2),
+        (19, 20, 2),
+        (20, 20, 0),
+        (20, 19, 1),
+        (20, 4097, 0),
+        (21, 20, 2),
+        (21, 21, 3),
+        (22, 22, 3),
+        (4096, 4095, 2),
+        (4096, 4096, 3),
+        (4097, 4097, 2),
+        (65535, 65535, 2),
     ] {
         let datagram = header(rt.alloc(), length, size)?;
-        assert_eq!(rt; refusal_number(&datagram), expected, "Length {length} of {size} octets");
+        assert_eq!(rt;
+            refusal_number(&datagram),
+            expected,
+            "Length {length} of {size} octets"
+        );
     }
     Ok(())
 }
@@ -102,7 +128,11 @@ fn attribute_lengths_at_the_bounds(rt: HostRuntime) -> Result<(), Fail> {
     for (attribute_length, expected) in [(0, 3), (1, 3), (2, 3), (3, 0), (4, 3), (255, 3)] {
         let mut datagram = header(rt.alloc(), 23, 20)?;
         datagram.extend_from_slice(&[1, attribute_length, 7])?;
-        assert_eq!(rt; refusal_number(&datagram), expected, "an attribute of {attribute_length}");
+        assert_eq!(rt;
+            refusal_number(&datagram),
+            expected,
+            "an attribute of {attribute_length}"
+        );
     }
     // A lone Type at the end, and an attribute without Value.
     let mut lone = header(rt.alloc(), 21, 20)?;
@@ -170,7 +200,11 @@ fn each_growth_of_a_push(rt: HostRuntime) -> Result<(), Fail> {
     for n in refusing.each_growth() {
         let mut packet = PacketBuf::start(&refusing, 2, 0, &authenticator)?;
         refusing.refuse_nth(n);
-        for (kind, value) in [(6, [0, 0, 0, 1]), (15, [0, 0, 0, 0]), (14, [192, 168, 1, 3])] {
+        for (kind, value) in [
+            (6, [0, 0, 0, 1]),
+            (15, [0, 0, 0, 0]),
+            (14, [192, 168, 1, 3]),
+        ] {
             let result = packet.push_attr(kind, &value);
             if result.is_err() {
                 assert!(rt; matches!(result, Err(Refusal::NoMemory)), "at growth {n}");
@@ -178,7 +212,11 @@ fn each_growth_of_a_push(rt: HostRuntime) -> Result<(), Fail> {
                 packet.push_attr(kind, &value)?;
             }
         }
-        assert_eq!(rt; packet.finish().as_slice(), ACCESS_ACCEPT.as_slice(), "at growth {n}");
+        assert_eq!(rt;
+            packet.finish().as_slice(),
+            ACCESS_ACCEPT.as_slice(),
+            "at growth {n}"
+        );
         runs = n;
     }
     assert!(rt; 2 <= runs, "{runs} runs");
@@ -193,6 +231,9 @@ fn octets_are_copied_and_given_back(rt: HostRuntime) -> Result<(), Fail> {
     let octets = Octets::copy_of(&refusing, b"nemo")?;
     assert_eq!(rt; (octets.len(), octets.as_slice()), (4, b"nemo".as_slice()));
     assert_eq!(rt; octets.into_vec().as_slice(), b"nemo".as_slice());
-    assert_eq!(rt; Octets::from_vec(Vec::from_slice(rt.alloc(), b"x")?).len(), 1);
+    assert_eq!(rt;
+        Octets::from_vec(Vec::from_slice(rt.alloc(), b"x")?).len(),
+        1
+    );
     Ok(())
 }

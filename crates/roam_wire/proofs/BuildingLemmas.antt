@@ -52,9 +52,9 @@ attribute_appended kind value octets size text short size-is limit =
       size = omega arith;
     } in
     let tail : (p.authenticator ++ attributes_text p.attributes) ++ attribute_text a ≡ p.authenticator ++ attributes_text (p.attributes ++ a ∷ []) =
-      flat_map_more attribute_text p.authenticator p.attributes a in
+    flat_map_more attribute_text p.authenticator p.attributes a in
     let spelt : slice_set (slice_set (octets ++ attribute_text a) 2 (size / 256)) 3 (size % 256) ≡ packet_text q =
-      ap (λ (o : List ℕ). slice_set (slice_set (o ++ attribute_text a) 2 (size / 256)) 3 (size % 256)) text.spelt
-      ∙ ap (λ (t : List ℕ). p.code ∷ p.id ∷ (size / 256) ∷ (size % 256) ∷ t) tail
-      ∙ ap (λ (n : ℕ). p.code ∷ p.id ∷ (n / 256) ∷ (n % 256) ∷ p.authenticator ++ attributes_text (p.attributes ++ a ∷ [])) (sym now_long) in
+    ap (λ (o : List ℕ). slice_set (slice_set (o ++ attribute_text a) 2 (size / 256)) 3 (size % 256)) text.spelt
+    ∙ ap (λ (t : List ℕ). p.code ∷ p.id ∷ (size / 256) ∷ (size % 256) ∷ t) tail
+    ∙ ap (λ (n : ℕ). p.code ∷ p.id ∷ (n / 256) ∷ (n % 256) ∷ p.authenticator ++ attributes_text (p.attributes ++ a ∷ [])) (sym now_long) in
     subst (AreTextOf q) (sym spelt) (AreTextOf-packet_text q is_packet)

@@ -2,3 +2,4 @@ pub mod WalkLemmas
 pub mod AttributeLemmas
 pub mod PacketLemmas
 pub mod BuildingLemmas
+pub mod ReadingLemmas

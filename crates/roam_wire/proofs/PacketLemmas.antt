@@ -45,7 +45,7 @@ header_and_attributes a b c e rest all fits low high field found =
     let low_octet : packet_length p % 256 ≡ e = omega arith in
     let tail : take 16 rest ++ attributes_text all ≡ rest = rw (← read.spelt) (take-append-drop 16 rest) in
     let spelt : packet_text p ≡ a ∷ b ∷ c ∷ e ∷ rest =
-      ap (λ (t : List ℕ). a ∷ b ∷ (packet_length p / 256) ∷ (packet_length p % 256) ∷ t) tail ∙ rw (high_octet, low_octet) refl in
+    ap (λ (t : List ℕ). a ∷ b ∷ (packet_length p / 256) ∷ (packet_length p % 256) ∷ t) tail ∙ rw (high_octet, low_octet) refl in
     record { packet = subst IsPacket (sym is_p) packet; spelt = sym (ap packet_text is_p ∙ spelt) }
 
 -- octets whose Length is their number, and that are attributes behind the header
@@ -127,7 +127,7 @@ pub ReadsAs-packet_text : (p : Packet) → IsPacket p → ReadsAs (packet_text p
 ReadsAs-packet_text p h =
     let size = length-packet_text p h in
     let all : take (length_field (packet_text p)) (packet_text p) ≡ packet_text p =
-      take_all (length_field (packet_text p)) (packet_text p) (omega (arith, length_field-packet_text p)) in
+    take_all (length_field (packet_text p)) (packet_text p) (omega (arith, length_field-packet_text p)) in
     record { has_header = omega arith; packet = h; front = all }
 
 -- octets that are a packet's read as it

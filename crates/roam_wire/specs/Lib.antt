@@ -3,4 +3,5 @@ pub mod Reading
 pub mod Attributes
 pub mod Shown
 pub mod Refusal
+pub mod Codes
 pub mod Building

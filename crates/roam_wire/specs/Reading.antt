@@ -1,6 +1,10 @@
 -- What a datagram reads as (RFC 2865, section 3).
-use Rattle.std.specs.Prelude.{◌≡◌, ℕ, zero, suc, ◌+◌, ◌-◌, ◌*◌, ◌≤◌, List, [], ◌∷◌, length, take, drop, Option, Some, None, option_map, option_and_then, unwrap_or, nat_le, ◌&&◌, if◌then◌else◌, slice_index}
+use Rattle.std.specs.Prelude.{◌≡◌, ℕ, zero, suc, ◌+◌, ◌-◌, ◌*◌, ◌≤◌, List, [], ◌∷◌, length, take, drop, Option, Some, None, option_map, option_and_then, unwrap_or, nat_le, ◌&&◌, Bool, if◌then◌else◌, slice_index}
+use Rattle.std.specs.Prelude.{nat_lt, Result, Ok, Err}
+use Rattle.std.specs.Option.{option_map_or}
 use Rattle.roam_wire.specs.Packet.{Attribute, Packet, IsPacket, packet_text}
+use Rattle.roam_wire.specs.declared.refusal.Refusal.{Refusal}
+use Rattle.roam_wire.specs.declared.refusal.Refusal.TheVariants as refusal
 
 -- the Length field of a datagram: two octets, the high one first (RFC 2865, section 3)
 abbrev pub length_field : List ℕ → ℕ
@@ -64,3 +68,23 @@ packet_of octets = record {
 pub record IsPacketText (octets : List ℕ) : Type 0 where
   pub packet : IsPacket (packet_of octets)
   pub spelt : octets ≡ packet_text (packet_of octets)
+
+-- the octets of a datagram up to its Length
+abbrev pub front_of : List ℕ → List ℕ
+front_of datagram = take (length_field datagram) datagram
+
+-- whether Length is from 20 to 4096 and all those octets came, as a test
+abbrev pub has_length : List ℕ → Bool
+has_length datagram =
+    nat_le 20 (length_field datagram) && nat_le (length_field datagram) 4096
+    && nat_le (length_field datagram) (length datagram)
+
+-- what reading a datagram answers, as a function, for definitions that go on from it. What it means is
+-- said by the contract of `View::read`, which answers it: the packet that the datagram reads as, or the
+-- first refusal whose cause holds
+unfoldable pub reading : List ℕ → Result Packet Refusal
+reading datagram =
+    if nat_lt (length datagram) 20 then Err refusal.Short
+    else if has_length datagram
+    then option_map_or (λ all. Ok (packet_of (front_of datagram))) (attributes_of (drop 20 (front_of datagram))) (Err refusal.BadAttribute)
+    else Err refusal.BadLength

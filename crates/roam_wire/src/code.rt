@@ -1,14 +1,25 @@
 //! The codes of packets (RFC 2865 section 3, RFC 2866 section 3, RFC 5176 section 2.3).
 
 pub const ACCESS_REQUEST: u8 = 1;
+
 pub const ACCESS_ACCEPT: u8 = 2;
+
 pub const ACCESS_REJECT: u8 = 3;
+
 pub const ACCOUNTING_REQUEST: u8 = 4;
+
 pub const ACCOUNTING_RESPONSE: u8 = 5;
+
 pub const ACCESS_CHALLENGE: u8 = 11;
+
 pub const DISCONNECT_REQUEST: u8 = 40;
+
 pub const DISCONNECT_ACK: u8 = 41;
+
 pub const DISCONNECT_NAK: u8 = 42;
+
 pub const COA_REQUEST: u8 = 43;
+
 pub const COA_ACK: u8 = 44;
+
 pub const COA_NAK: u8 = 45;

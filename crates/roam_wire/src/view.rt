@@ -2,7 +2,7 @@
 
 ghost use Rattle.std.specs.Prelude.{◌≡◌, ◌⊎◌, ◌↔◌, ◌<◌, ◌≤◌, length, take, drop, option_map, IfOk, IfErr, IsOkAnd, IsErrOf};
 ghost use Rattle.roam_wire.specs.Packet.{Packet, IsPacket, packet_text};
-ghost use Rattle.roam_wire.specs.Reading.{length_field, HasLength, ReadsAs, Reads};
+ghost use Rattle.roam_wire.specs.Reading.{length_field, HasLength, ReadsAs, Reads, reading};
 ghost use Rattle.roam_wire.specs.Attributes.{first_value, count_of};
 
 use crate::attributes::Attrs;
@@ -71,6 +71,7 @@ impl<'a> View<'a> {
         // What is read is the packet that the datagram reads as, and there is no other.
         ensures packet { IfOk result (λ v. ReadsAs datagram.now v) }
         ensures only { (p : Packet) → ReadsAs datagram.now p → IsOkAnd result (λ v. v ≡ p) }
+        ensures answer { result ≡ reading datagram.now }
 
         ensures short { IsErrOf result Refusal.Short ↔ (length datagram.now < 20) }
         ensures bad_length { IsErrOf result Refusal.BadLength
@@ -147,6 +148,8 @@ impl<'a> View<'a> {
     pub fn count(&self, kind: u8) -> usize
         ensures { result ≡ count_of kind self.now.attributes }
     {
-        self.attributes().filter(|attribute| attribute.kind == kind).count()
+        self.attributes()
+            .filter(|attribute| attribute.kind == kind)
+            .count()
     }
 }

@@ -9,14 +9,14 @@ use Rattle.roam_wire.proofs.view.View.attributes.Goals as goal
 pub over-requires : goal.over-requires
 over-requires c =
     let some : IsSome (attributes_of c.behind_header.result.now) =
-      rw (c.behind_header.ensures, attributes_of-octets c.self.inside.octets.now c.self.invariant) refl in
+    rw (c.behind_header.ensures, attributes_of-octets c.self.inside.octets.now c.self.invariant) refl in
     some
 
 -- and these are the packet's
 pub returns-clause-all : goal.returns-clause-all
 returns-clause-all c =
     let found : attributes_of c.behind_header.result.now ≡ Some (packet_of c.self.inside.octets.now).attributes =
-      rw c.behind_header.ensures (attributes_of-octets c.self.inside.octets.now c.self.invariant) in
+    rw c.behind_header.ensures (attributes_of-octets c.self.inside.octets.now c.self.invariant) in
     same_Some _ _ (c.over.ensures ∙ found) ∙ ap (λ (p : Packet). p.attributes) c.self.view_is
 
 -- a packet has few

@@ -1,7 +1,10 @@
-use Rattle.std.proofs.Common.{◌≡◌, ◌≤◌, ℕ, sym, ◌∙◌, ap, List, length, arith, IsSome, refl, subst, drop, take}
+use Rattle.std.proofs.Common.{◌≡◌, ◌≤◌, ℕ, sym, ◌∙◌, ap, List, length, arith, false, IsSome, refl, subst, drop, take}
 use Rattle.roam_wire.specs.Packet.{Packet}
 use Rattle.roam_wire.specs.Reading.{ReadsAs, Reads, HasLength, IsPacketText, packet_of, length_field, attributes_of}
 use Rattle.roam_wire.proofs.PacketLemmas.{front, IsPacketText-front, ReadsAs-follows}
+use Rattle.roam_wire.proofs.ReadingLemmas.{reading-short, reading-bad_length, reading-bad_attribute, reading-ok}
+use Rattle.std.proofs.lemmas.Bool.Decides.{nat_tests}
+use Rattle.roam_wire.specs.Reading.{has_length as length_fits}
 use Rattle.roam_wire.proofs.view.View.read.Goals as goal
 
 -- a packet that is read has a Length that fits
@@ -67,3 +70,28 @@ returns-clause-only c = λ p reads.
 pub returns-clause-bad_attribute : goal.returns-clause-bad_attribute
 returns-clause-bad_attribute c =
     (λ h. absurd (cc h), λ h. absurd (h.2 (record { packet = packet_of (front c.args.datagram.now); reads = reads_front c })))
+
+-- the same as a function
+pub returns-then-datagram-lt20-clause-answer : goal.returns-then-datagram-lt20-clause-answer
+returns-then-datagram-lt20-clause-answer c = sym (reading-short c.args.datagram.now (omega arith))
+
+pub returns-then-length-lt20-clause-answer : goal.returns-then-length-lt20-clause-answer
+returns-then-length-lt20-clause-answer c =
+    let bad : length_fits c.args.datagram.now ≡ false = grind (arith, nat_tests, c.length_at-length.ensures, c.then-length-lt20.either) in
+    sym (reading-bad_length c.args.datagram.now (omega arith) bad)
+
+pub returns-then-not-are_attributes-clause-answer : goal.returns-then-not-are_attributes-clause-answer
+returns-then-not-are_attributes-clause-answer c =
+    sym (reading-bad_attribute c.args.datagram.now (omega arith) (has_length c) (no_attributes c))
+
+pub returns-clause-answer : goal.returns-clause-answer
+returns-clause-answer c =
+    let some : IsSome (attributes_of c.behind_header.result.now) = c.if-not-are_attributes.ensures.0 refl in
+    let octets : c.front_of-octets.result.now ≡ front c.args.datagram.now = c.front_of-octets.ensures ∙ rw c.length_at-length.ensures refl in
+    let at_front : IsSome (attributes_of (drop 20 (front c.args.datagram.now))) = rw (c.behind_header.ensures, octets) at some in
+    let fits : HasLength c.args.datagram.now = record {
+      at_least_header = omega (arith, c.length_at-length.ensures);
+      at_most_4096 = omega (arith, c.length_at-length.ensures);
+      all_came = omega (arith, c.length_at-length.ensures);
+    } in
+    rw octets (sym (reading-ok c.args.datagram.now (omega arith) fits at_front))

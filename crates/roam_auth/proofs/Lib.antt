@@ -1,0 +1,6 @@
+pub mod PieceLemmas
+pub mod ValueLemmas
+pub mod SealLemmas
+pub mod StandardFacts
+pub mod SealingLemmas
+pub mod DecidingLemmas

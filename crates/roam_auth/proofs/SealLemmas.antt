@@ -1,0 +1,234 @@
+-- Message-Authenticators, and packets that are well sealed.
+use Rattle.std.proofs.Common.{◌≡◌, ℕ, zero, suc, ◌+◌, ◌<◌, ◌/◌, ◌%◌, ◌↔◌, ◌⊎◌, inl, inr, List, [], ◌∷◌, ◌++◌, length, take, Some, refl, sym, ap, subst, ◌∙◌, arith, slice_index_or, append_assoc}
+use Rattle.std.specs.Prelude.{Any}
+use Rattle.std.specs.List.{AllByRecursion}
+use Rattle.md5.specs.Md5.{Holds}
+use Rattle.md5.specs.declared.Md5.{Md5}
+use Rattle.md5.proofs.StandardFacts.{length-md5}
+use Rattle.roam_wire.specs.Packet.{Attribute, IsAttribute, Packet, attribute_text, packet_text, packet_length}
+use Rattle.roam_wire.specs.Attributes.{first_value}
+use Rattle.roam_wire.specs.declared.attribute_type.TheConstants.{MESSAGE_AUTHENTICATOR}
+use Rattle.roam_auth.specs.Authenticators.{zero_octets, with_authenticator}
+use Rattle.roam_auth.specs.Hmac.{hmac_md5}
+use Rattle.roam_auth.specs.MessageAuthenticator.{HasOneMessageAuthenticator, HasAtMostOneMessageAuthenticator, attribute_with_value, with_value, zeroed_text, message_authenticator, with_message_authenticator, IsSealedOver, IsWellSealed}
+use Rattle.roam_auth.proofs.ValueLemmas.{packet_length-with_value, count_of-with_value, first_value-with_value, first_value-none, HasOne-with_value, with_value-again}
+
+-- ---- the digest in pieces
+
+-- what a hasher took in since it was `before`, of all the attributes but those that are left
+pub record HasTaken (before hasher : Md5) (all left : List Attribute) : Type 0 where
+  pub attributes : AllByRecursion IsAttribute left
+  pub held : (m : List ℕ) → Holds before m →
+      (n : List ℕ) × Holds hasher n × (n ++ zeroed_text left ≡ m ++ zeroed_text all)
+
+-- an attribute's two octets before its Value, and the Value
+pub attribute_taken : (new : Md5) (m value : List ℕ) (a : Attribute) →
+    value ≡ (attribute_with_value zero_octets a).value →
+    Holds new (m ++ (a.kind ∷ (length value + 2) ∷ []) ++ value) →
+    Holds new (m ++ attribute_text (attribute_with_value zero_octets a))
+attribute_taken new m value a same held =
+    let text : m ++ (a.kind ∷ (length value + 2) ∷ []) ++ value
+    ≡ m ++ attribute_text (attribute_with_value zero_octets a) =
+    append_assoc m (a.kind ∷ (length value + 2) ∷ []) value
+    ∙ ap (λ (v : List ℕ). m ++ (a.kind ∷ (length v + 2) ∷ v)) same in
+    subst (Holds new) text held
+
+-- one attribute more
+pub HasTaken-more : (before hasher new : Md5) (all left : List Attribute) (a : Attribute) →
+    HasTaken before hasher all (a ∷ left) →
+    ((m : List ℕ) → Holds hasher m →
+    Holds new (m ++ attribute_text (attribute_with_value zero_octets a))) →
+    HasTaken before new all left
+HasTaken-more before hasher new all left a taken more = record {
+  attributes = taken.attributes.1;
+  held = λ m h.
+      let so_far = taken.held m h in
+      let text : List ℕ = attribute_text (attribute_with_value zero_octets a) in (
+        so_far.0 ++ text,
+        more so_far.0 so_far.1,
+        append_assoc so_far.0 text (zeroed_text left)
+            ∙ so_far.2,
+      );
+}
+
+-- the header with another Authenticator, and the attributes with zeros, are the packet that is
+-- hashed
+pub hashed_packet : (a : List ℕ) (p : Packet) → HasAtMostOneMessageAuthenticator p →
+    take 4 (packet_text p) ++ a ++ zeroed_text p.attributes
+    ≡ packet_text (with_authenticator a (with_value zero_octets p))
+hashed_packet a p h =
+    let same : packet_length (with_value zero_octets p) ≡ packet_length p =
+    packet_length-with_value zero_octets p refl h in
+    let rest : List ℕ = a ++ zeroed_text p.attributes in
+    ap (λ (n : ℕ). p.code ∷ p.id ∷ (n / 256) ∷ (n % 256) ∷ rest) (sym same)
+
+-- the pieces that a Message-Authenticator takes in, behind the padded key
+pub sealed_pieces : (key a before field octets : List ℕ) (all : List Attribute) (p : Packet) →
+    HasAtMostOneMessageAuthenticator p → octets ≡ packet_text p → before ≡ take 4 octets →
+    field ≡ a → all ≡ p.attributes →
+    key ++ before ++ field ++ zeroed_text all
+    ≡ key ++ packet_text (with_authenticator a (with_value zero_octets p))
+sealed_pieces key a before field octets all p h text front middle attributes =
+    let pieces : before ++ field ++ zeroed_text all
+    ≡ take 4 (packet_text p) ++ a ++ zeroed_text p.attributes =
+    rw (front, middle, attributes, text) refl in
+    append_assoc (key ++ before) field (zeroed_text all)
+    ∙ append_assoc key before (field ++ zeroed_text all)
+    ∙ ap (λ (t : List ℕ). key ++ t) (sym (append_assoc before field (zeroed_text all)) ∙ pieces
+    ∙ hashed_packet a p h)
+
+-- ---- the Message-Authenticator
+
+pub length-hmac_md5 : (key message : List ℕ) → length (hmac_md5 key message) ≡ 16
+unfolding hmac_md5
+length-hmac_md5 key message = length-md5 _
+
+pub length-message_authenticator : (secret authenticator : List ℕ) (p : Packet) →
+    length (message_authenticator secret authenticator p) ≡ 16
+unfolding message_authenticator
+length-message_authenticator secret authenticator p = length-hmac_md5 _ _
+
+-- it doesn't depend on the Value that stood in its place
+pub message_authenticator-with_value : (secret authenticator value : List ℕ) (p : Packet) →
+    message_authenticator secret authenticator (with_value value p)
+    ≡ message_authenticator secret authenticator p
+unfolding message_authenticator
+message_authenticator-with_value secret authenticator value p =
+    ap (λ (q : Packet). hmac_md5 secret (packet_text (with_authenticator authenticator q)))
+    (with_value-again zero_octets value p)
+
+-- nor on the Authenticator field
+pub message_authenticator-with_authenticator : (secret authenticator field : List ℕ) (p : Packet) →
+    message_authenticator secret authenticator (with_authenticator field p)
+    ≡ message_authenticator secret authenticator p
+unfolding message_authenticator
+message_authenticator-with_authenticator secret authenticator field p = refl
+
+-- ---- some element of a list
+
+any_of_one : {X : Type 0} (P : X → Type 0) (a x : X) (k : ℕ) → k < 1 →
+    slice_index_or (a ∷ []) k x ≡ x → P x → P a
+any_of_one P a x zero below at here = subst P (sym at) here
+any_of_one P a x (suc k) below at here = absurd (omega arith)
+
+-- an element of a list of one is that one
+pub Any-one : {X : Type 0} (P : X → Type 0) (a : X) → Any P (a ∷ []) → P a
+Any-one P a some = any_of_one P a some.1 some.0 some.2 some.3 some.4
+
+pub Any-here : {X : Type 0} (P : X → Type 0) (a : X) → P a → Any P (a ∷ [])
+Any-here P a here = (0, a, omega arith, refl, here)
+
+any_of_two : {X : Type 0} (P : X → Type 0) (a b x : X) (k : ℕ) → k < 2 →
+    slice_index_or (a ∷ b ∷ []) k x ≡ x → P x → P a ⊎ P b
+any_of_two P a b x zero below at here = inl (subst P (sym at) here)
+any_of_two P a b x (suc zero) below at here = inr (subst P (sym at) here)
+any_of_two P a b x (suc (suc k)) below at here = absurd (omega arith)
+
+-- an element of a list of two is one of them
+pub Any-two : {X : Type 0} (P : X → Type 0) (a b : X) → Any P (a ∷ b ∷ []) → P a ⊎ P b
+Any-two P a b some = any_of_two P a b some.1 some.0 some.2 some.3 some.4
+
+pub Any-first : {X : Type 0} (P : X → Type 0) (a b : X) → P a → Any P (a ∷ b ∷ [])
+Any-first P a b here = (0, a, omega arith, refl, here)
+
+pub Any-second : {X : Type 0} (P : X → Type 0) (a b : X) → P b → Any P (a ∷ b ∷ [])
+Any-second P a b here = (1, b, omega arith, refl, here)
+
+-- ---- well sealed
+
+-- a packet with one is well sealed just where its Value is the one expected
+pub well_sealed_one : (secret authenticator value expected : List ℕ) (p : Packet) →
+    HasOneMessageAuthenticator p → Some value ≡ first_value MESSAGE_AUTHENTICATOR p.attributes →
+    expected ≡ message_authenticator secret authenticator p →
+    (value ≡ expected) ↔ IsWellSealed secret (authenticator ∷ []) p
+well_sealed_one secret authenticator value expected p one first is = (
+  λ same. inr (
+    one,
+    Any-here (IsSealedOver secret p) authenticator
+        (sym first ∙ ap Some (same ∙ is)),
+  ),
+  λ sealed.
+      elim sealed [
+        | inl none ↦ absurd (let count = one.one in omega arith)
+        | inr some ↦
+            let stands : IsSealedOver secret p authenticator =
+            Any-one (IsSealedOver secret p) authenticator some.1 in
+            let both : Some value ≡ Some (message_authenticator secret authenticator p) = first
+            ∙ stands in
+            cc
+      ],
+)
+
+-- a packet whose Message-Authenticators aren't just one of 16 octets isn't well sealed
+pub not_well_sealed : (secret authenticator value : List ℕ) (p : Packet) →
+    Some value ≡ first_value MESSAGE_AUTHENTICATOR p.attributes →
+    (HasOneMessageAuthenticator p → ⊥) → IsWellSealed secret (authenticator ∷ []) p → ⊥
+not_well_sealed secret authenticator value p first isnt sealed =
+    elim sealed [
+      | inl none ↦
+          let nothing = first_value-none p.attributes none in
+          absurd (cc)
+      | inr some ↦ isnt some.0
+    ]
+
+-- a sealed packet is well sealed
+pub IsWellSealed-sealed : (secret authenticator : List ℕ) (p : Packet) →
+    HasAtMostOneMessageAuthenticator p →
+    IsWellSealed secret (authenticator ∷ []) (with_message_authenticator secret authenticator p)
+IsWellSealed-sealed secret authenticator p h =
+    let value : List ℕ = message_authenticator secret authenticator p in
+    let q : Packet = with_value value p in
+    elim h [
+      | inl none ↦ inl (count_of-with_value MESSAGE_AUTHENTICATOR value p.attributes ∙ none)
+      | inr one ↦
+          let stands : IsSealedOver secret q authenticator =
+          first_value-with_value value p.attributes one.one
+          ∙ ap Some (sym (message_authenticator-with_value secret authenticator value p)) in
+          inr (
+            HasOne-with_value value p (length-message_authenticator secret authenticator p) one,
+            Any-here (IsSealedOver secret q) authenticator stands,
+          )
+    ]
+
+-- another Authenticator in its field leaves a packet well sealed
+pub IsWellSealed-with_authenticator : (secret : List ℕ) (authenticators : List (List ℕ))
+    (field : List ℕ) (p : Packet) → IsWellSealed secret authenticators p →
+    IsWellSealed secret authenticators (with_authenticator field p)
+IsWellSealed-with_authenticator secret authenticators field p sealed =
+    elim sealed [
+      | inl none ↦ inl none
+      | inr some ↦
+          let found = some.1 in
+          let stands : IsSealedOver secret (with_authenticator field p) found.1 =
+          found.4 ∙ ap Some (sym (message_authenticator-with_authenticator secret found.1 field p))
+          in
+          inr (
+            record { one = some.0.one; size = some.0.size },
+            (found.0, found.1, found.2, found.3, stands),
+          )
+    ]
+
+-- well sealed for one of two Authenticators
+pub IsWellSealed-two : (secret a b : List ℕ) (p : Packet) →
+    IsWellSealed secret (a ∷ b ∷ [])
+    p ↔ (IsWellSealed secret (a ∷ []) p ⊎ IsWellSealed secret (b ∷ []) p)
+IsWellSealed-two secret a b p =
+    let P : List ℕ → Type 0 = IsSealedOver secret p in (
+      λ sealed. elim sealed [
+        | inl none ↦ inl (inl none)
+        | inr some ↦ elim (Any-two P a b some.1) [
+          | inl first ↦ inl (inr (some.0, Any-here P a first))
+          | inr second ↦ inr (inr (some.0, Any-here P b second))
+        ]
+      ],
+      λ either. elim either [
+        | inl first ↦ elim first [
+          | inl none ↦ inl none
+          | inr some ↦ inr (some.0, Any-first P a b (Any-one P a some.1))
+        ]
+        | inr second ↦ elim second [
+          | inl none ↦ inl none
+          | inr some ↦ inr (some.0, Any-second P a b (Any-one P b some.1))
+        ]
+      ],
+    )

@@ -1,0 +1,15 @@
+use Rattle.std.proofs.Common.{refl}
+use Rattle.roam_auth.specs.Authenticators.{response_authenticator, request_authenticator}
+use Rattle.roam_auth.proofs.SealLemmas.{IsWellSealed-with_authenticator}
+use Rattle.roam_auth.proofs.laws.signing.Goals as goal
+
+pub returns-clause-reply : goal.returns-clause-reply
+unfolding response_authenticator
+returns-clause-reply c = λ secret request_authenticator p. refl
+
+pub returns-clause-request : goal.returns-clause-request
+unfolding request_authenticator
+returns-clause-request c = λ secret p. refl
+
+pub returns-clause-seal : goal.returns-clause-seal
+returns-clause-seal c = IsWellSealed-with_authenticator

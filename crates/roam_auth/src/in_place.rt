@@ -1,0 +1,114 @@
+//! Filling in the Message-Authenticator and the Authenticator of a packet that is built, in place.
+
+ghost use Rattle.std.specs.Prelude.{◌≡◌, ◌+◌, ◌≤◌, ◌++◌, length, take, drop, MatchOption, IfNone, IfSome};
+ghost use Rattle.roam_wire.specs.Packet.{packet_text};
+ghost use Rattle.roam_wire.specs.Reading.{IsPacketText, packet_of};
+ghost use Rattle.roam_auth.specs.Authenticators.{with_authenticator, request_authenticator, response_authenticator};
+ghost use Rattle.roam_auth.specs.MessageAuthenticator.{HasNoMessageAuthenticator, HasOneMessageAuthenticator, HasAtMostOneMessageAuthenticator, message_authenticator, with_message_authenticator};
+ghost use Rattle.roam_auth.specs.Sealing.{IsValuePlace};
+
+use crate::message::message_auth;
+use crate::request::request_auth;
+use crate::response::response_auth;
+use roam_wire::View;
+use roam_wire::attribute_type::MESSAGE_AUTHENTICATOR;
+
+/// Where in the packet's octets the Value of its first Message-Authenticator begins, if it has one.
+fn value_place(view: &View<'_>) -> Option<usize>
+    ensures { MatchOption result (HasNoMessageAuthenticator view.now)
+        (λ at. IsValuePlace at view.now.attributes) }
+{
+    let _octets = view.octets();
+    let mut at = 20;
+    for attribute in view.attributes() {
+        if attribute.kind == MESSAGE_AUTHENTICATOR {
+            return Some(at + 2);
+        }
+        at += 2 + attribute.value.len();
+    }
+    None
+}
+
+/// The same, in the packet's octets.
+fn place_in(octets: &[u8]) -> Option<usize>
+    requires { IsPacketText octets.now }
+    ensures { MatchOption result (HasNoMessageAuthenticator (packet_of octets.now))
+        (λ at. IsValuePlace at (packet_of octets.now).attributes) }
+{
+    match View::read(octets) {
+        Ok(view) => value_place(&view),
+        Err(_) => None,
+    }
+}
+
+/// The Message-Authenticator of the packet of these octets, if it has one.
+fn digest_of(octets: &[u8], secret: &[u8], authenticator: [u8; 16]) -> Option<[u8; 16]>
+    requires packet { IsPacketText octets.now }
+    requires at_least_one_octet { 1 ≤ length secret.now }
+    requires at_most_64_octets { length secret.now ≤ 64 }
+    ensures none { IfNone result (¬ HasOneMessageAuthenticator (packet_of octets.now)) }
+    ensures some { IfSome result (λ digest. digest
+        ≡ message_authenticator secret.now authenticator (packet_of octets.now)) }
+{
+    match View::read(octets) {
+        Ok(view) => message_auth(&view, secret, authenticator),
+        Err(_) => None,
+    }
+}
+
+/// Writes sixteen octets.
+fn put_sixteen(octets: &mut [u8], at: usize, sixteen: &[u8; 16])
+    requires { at + 16 ≤ length octets.old }
+    ensures { octets.new ≡ take at octets.old ++ sixteen.now ++ drop (at + 16) octets.old }
+{
+    octets[at..at + 16].copy_from_slice(sixteen);
+}
+
+/// Fills in a packet's Message-Authenticator over this Authenticator (RFC 3579, section 3.2), in its
+/// octets. A packet that has none stays as it is.
+pub fn seal(octets: &mut [u8], secret: &[u8], authenticator: [u8; 16])
+    requires packet { IsPacketText octets.old }
+    requires at_most_one { HasAtMostOneMessageAuthenticator (packet_of octets.old) }
+    requires at_least_one_octet { 1 ≤ length secret.now }
+    requires at_most_64_octets { length secret.now ≤ 64 }
+    ensures { octets.new
+        ≡ packet_text (with_message_authenticator secret.now authenticator (packet_of octets.old)) }
+{
+    let Some(at) = place_in(octets) else {
+        return;
+    };
+    if let Some(digest) = digest_of(octets, secret, authenticator) {
+        put_sixteen(octets, at, &digest);
+    }
+}
+
+/// Fills in the Authenticator of an accounting or reverse request (RFC 2866, section 3; RFC 5176,
+/// section 2.3), in its octets.
+pub fn sign_request(octets: &mut [u8], secret: &[u8])
+    requires packet { IsPacketText octets.old }
+    requires at_least_one_octet { 1 ≤ length secret.now }
+    requires at_most_64_octets { length secret.now ≤ 64 }
+    ensures { octets.new ≡ packet_text (with_authenticator
+        (request_authenticator secret.now (packet_of octets.old)) (packet_of octets.old)) }
+{
+    if let Ok(view) = View::read(octets) {
+        let digest = request_auth(&view, secret);
+        put_sixteen(octets, 4, &digest);
+    }
+}
+
+/// Fills in the Authenticator of a reply to a request of this Authenticator (RFC 2865, section 3), in
+/// its octets.
+pub fn sign_reply(octets: &mut [u8], request_authenticator: [u8; 16], secret: &[u8])
+    requires packet { IsPacketText octets.old }
+    requires at_least_one_octet { 1 ≤ length secret.now }
+    requires at_most_64_octets { length secret.now ≤ 64 }
+    ensures { octets.new ≡ packet_text (with_authenticator
+        (response_authenticator secret.now request_authenticator (packet_of octets.old))
+        (packet_of octets.old)) }
+{
+    if let Ok(view) = View::read(octets) {
+        let digest = response_auth(&view, request_authenticator, secret);
+        put_sixteen(octets, 4, &digest);
+    }
+}

@@ -1,0 +1,37 @@
+//! Laws of sealing and signing. These functions do nothing: their contracts hold of all packets.
+
+ghost use Rattle.roam_auth.specs.DecidingLaws.{SignedReplyIsDecided, SignedRequestIsDecided, WellSealedIsDecided};
+ghost use Rattle.roam_auth.specs.Laws.{SealedIsWellSealed, SealingKeepsLength, SealingKeepsPacket, UnsealedStays, WellSealedForEither, ZeroedAgain, ValueDoesNotCount, FieldDoesNotCount, CountsStay, OthersStay, ValueStandsInPlace, SignedReplyIsSigned, SignedRequestIsSigned, SigningKeepsSeal};
+
+/// What a packet with its Message-Authenticator in its place is.
+pub fn sealing()
+    ensures well_sealed { SealedIsWellSealed }
+    ensures length { SealingKeepsLength }
+    ensures packet { SealingKeepsPacket }
+    ensures unsealed { UnsealedStays }
+    ensures either { WellSealedForEither }
+{}
+
+/// What another Value in the place of a Message-Authenticator changes, and what it doesn't.
+pub fn zeroing()
+    ensures again { ZeroedAgain }
+    ensures value { ValueDoesNotCount }
+    ensures field { FieldDoesNotCount }
+    ensures counts { CountsStay }
+    ensures others { OthersStay }
+    ensures place { ValueStandsInPlace }
+{}
+
+/// The tests by which definitions choose are true just where their facts hold.
+pub fn deciding()
+    ensures signed_reply { SignedReplyIsDecided }
+    ensures signed_request { SignedRequestIsDecided }
+    ensures well_sealed { WellSealedIsDecided }
+{}
+
+/// What a packet with its Response or Request Authenticator in its field is.
+pub fn signing()
+    ensures reply { SignedReplyIsSigned }
+    ensures request { SignedRequestIsSigned }
+    ensures seal { SigningKeepsSeal }
+{}

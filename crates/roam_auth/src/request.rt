@@ -1,0 +1,30 @@
+//! The Request Authenticator of accounting and reverse requests (RFC 2866, section 3; RFC 5176,
+//! section 2.3).
+
+ghost use Rattle.std.specs.Prelude.{◌≡◌, ◌↔◌, ◌≤◌, IsTrue, length};
+ghost use Rattle.roam_auth.specs.Authenticators.{request_authenticator, IsSignedRequest};
+
+use crate::response::response_auth;
+use roam_wire::View;
+
+/// The Request Authenticator of an accounting or reverse request: MD5 of its Code, Identifier and
+/// Length, sixteen zero octets, its attributes and the secret (RFC 2866, section 3; RFC 5176,
+/// section 2.3).
+#[tactic(auto, unfolding(crate::specs::Authenticators::request_authenticator, crate::specs::Authenticators::response_authenticator))]
+pub fn request_auth(view: &View<'_>, secret: &[u8]) -> [u8; 16]
+    requires at_least_one { 1 ≤ length secret.now }
+    requires at_most_64 { length secret.now ≤ 64 }
+    ensures { result ≡ request_authenticator secret.now view.now }
+{
+    response_auth(view, [0; 16], secret)
+}
+
+/// Whether an accounting or reverse request is signed: whether its Authenticator field is its
+/// Request Authenticator (RFC 2866, section 3; RFC 5176, section 2.3).
+pub fn request_ok(view: &View<'_>, secret: &[u8]) -> bool
+    requires at_least_one { 1 ≤ length secret.now }
+    requires at_most_64 { length secret.now ≤ 64 }
+    ensures { IsTrue result ↔ IsSignedRequest secret.now view.now }
+{
+    view.authenticator() == request_auth(view, secret)
+}

@@ -1,0 +1,34 @@
+//! The Response Authenticator (RFC 2865, section 3).
+
+ghost use Rattle.std.specs.Prelude.{◌≡◌, ◌↔◌, ◌≤◌, IsTrue, length};
+ghost use Rattle.roam_auth.specs.Authenticators.{response_authenticator, IsSignedReply};
+
+use crate::pieces::{before_authenticator, behind_authenticator};
+use md5::{Digest, Md5};
+use roam_wire::View;
+
+/// The Response Authenticator of a reply: MD5 of its Code, Identifier and Length, the request's
+/// Authenticator, its attributes and the secret (RFC 2865, section 3).
+pub fn response_auth(view: &View<'_>, request_authenticator: [u8; 16], secret: &[u8]) -> [u8; 16]
+    requires at_least_one { 1 ≤ length secret.now }
+    requires at_most_64 { length secret.now ≤ 64 }
+    ensures { result ≡ response_authenticator secret.now request_authenticator view.now }
+{
+    let octets = view.octets();
+    let mut hasher = Md5::new();
+    hasher.update(before_authenticator(octets));
+    hasher.update(request_authenticator.as_slice());
+    hasher.update(behind_authenticator(octets));
+    hasher.update(secret);
+    hasher.finalize()
+}
+
+/// Whether a reply is signed: whether its Authenticator field is its Response Authenticator
+/// (RFC 2865, section 3).
+pub fn response_ok(view: &View<'_>, request_authenticator: [u8; 16], secret: &[u8]) -> bool
+    requires at_least_one { 1 ≤ length secret.now }
+    requires at_most_64 { length secret.now ≤ 64 }
+    ensures { IsTrue result ↔ IsSignedReply secret.now request_authenticator view.now }
+{
+    view.authenticator() == response_auth(view, request_authenticator, secret)
+}

@@ -1,0 +1,5 @@
+pub mod CheckLemmas
+pub mod KeptLemmas
+pub mod SignedLemmas
+pub mod ReturnedLemmas
+pub mod EveryCodeLemmas

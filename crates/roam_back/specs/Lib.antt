@@ -1,0 +1,3 @@
+pub mod ReplyCheck
+pub mod Returned
+pub mod ReturnedLaws

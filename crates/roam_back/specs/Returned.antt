@@ -1,0 +1,75 @@
+-- The packet that is returned for a reply (RFC 2865, section 2.3).
+use Rattle.std.specs.Prelude.{◌==◌, ℕ, List, ◌∷◌, ◌++◌, map, if◌then◌else◌}
+use Rattle.roam_wire.specs.Packet.{Attribute, Packet, packet_length}
+use Rattle.roam_wire.specs.Attributes.{only_kind, without_kind}
+use Rattle.roam_wire.specs.declared.attribute_type.TheConstants.{PROXY_STATE, MESSAGE_AUTHENTICATOR, TUNNEL_PASSWORD, VENDOR_SPECIFIC}
+use Rattle.roam_wire.specs.declared.code.TheConstants.{ACCESS_ACCEPT}
+use Rattle.roam_auth.specs.Authenticators.{with_authenticator, response_authenticator}
+use Rattle.roam_auth.specs.MessageAuthenticator.{empty_message_authenticator, with_message_authenticator}
+use Rattle.roam_hide.specs.Hiding.{Key}
+use Rattle.roam_hide.specs.SaltedFunctions.{tunnel_anew, vendor_anew}
+use Rattle.roam_back.specs.ReplyCheck.{is_access_reply}
+
+-- what a reply is returned with: the Authenticator of the forwarded request, the secret shared with
+-- the link from which the reply came, and the one shared with the requester (ours)
+pub record Returning : Type 0 where
+  pub forwarded_authenticator : List ℕ
+  pub home_secret : List ℕ
+  pub client_secret : List ℕ
+
+-- a packet's Proxy-States, in their order (RFC 2865, section 5.33)
+abbrev pub proxy_states : Packet → List Attribute
+proxy_states p = only_kind PROXY_STATE p.attributes
+
+-- an attribute with its salted strings hidden anew: from the link's secret and the forwarded
+-- Authenticator to the requester's secret and Authenticator (RFC 2868 section 3.5, RFC 2548 section
+-- 2.4)
+abbrev pub with_salted_anew : Returning → Packet → Attribute → Attribute
+with_salted_anew r request a =
+    let from : Key = record { secret = r.home_secret; first = r.forwarded_authenticator } in
+    let to : Key = record { secret = r.client_secret; first = request.authenticator } in
+    record a {
+      value =
+          if a.kind == TUNNEL_PASSWORD then tunnel_anew from to a.value
+          else if a.kind == VENDOR_SPECIFIC then vendor_anew from to a.value
+          else a.value;
+    }
+
+-- the reply's own attributes as they are returned: without Proxy-State; in an Access reply without
+-- Message-Authenticator too, behind one that is still to be filled in; in an Access-Accept with
+-- salted strings hidden anew (RFC 2865, section 2.3)
+abbrev pub carried_attributes : Returning → Packet → Packet → List Attribute
+carried_attributes r reply request =
+    let own = without_kind PROXY_STATE reply.attributes in
+    if is_access_reply reply.code
+    then empty_message_authenticator
+    ∷ (if reply.code == ACCESS_ACCEPT
+    then map (with_salted_anew r request) (without_kind MESSAGE_AUTHENTICATOR own)
+    else without_kind MESSAGE_AUTHENTICATOR own)
+    else own
+
+-- the packet before it is sealed and signed: the reply's code, the request's Identifier and
+-- Authenticator, and the request's Proxy-States behind the reply's own attributes
+abbrev pub unsealed : Returning → Packet → Packet → Packet
+unsealed r reply request = record {
+  code = reply.code;
+  id = request.id;
+  authenticator = request.authenticator;
+  attributes = carried_attributes r reply request ++ proxy_states request;
+}
+
+-- sealed with the requester's secret over the request's Authenticator (RFC 3579, section 3.2)
+abbrev pub sealed : Returning → Packet → Packet → Packet
+sealed r reply request =
+    with_message_authenticator r.client_secret request.authenticator (unsealed r reply request)
+
+-- the returned packet: sealed, and signed for the requester (RFC 2865, section 3)
+unfoldable pub returned : Returning → Packet → Packet → Packet
+returned r reply request =
+    with_authenticator
+    (response_authenticator r.client_secret request.authenticator (sealed r reply request))
+    (sealed r reply request)
+
+-- its size, in octets
+unfoldable pub returned_length : Returning → Packet → Packet → ℕ
+returned_length r reply request = packet_length (unsealed r reply request)

@@ -1,0 +1,14 @@
+//! Replies to forwarded packets: which are taken, and the packet that is returned to the requester
+//! (RFC 2865, section 2.3).
+//!
+//! Nothing here reads a socket or a clock, and nothing is remembered: what a reply is judged by, and
+//! what it is returned with, is handed in.
+#![tactic(auto)]
+
+mod laws;
+mod reply_check;
+mod returning;
+
+pub use laws::{returned_authenticators, returned_reads, returned_to_the_requester};
+pub use reply_check::check_reply;
+pub use returning::back;

@@ -1,0 +1,7 @@
+use Rattle.roam_conf.proofs.realm.Realm.acct_or_coa_at.Goals as goal
+
+pub returns-in-Some : goal.returns-in-Some
+returns-in-Some c = rw (← c.as_slice.ensures.value, ← c.in-Some.ensures.value)
+
+pub returns-in-None : goal.returns-in-None
+returns-in-None c = rw (← c.as_slice.ensures.value, ← c.in-None.ensures.value, c.link_to_peer.ensures, c.coa_at.ensures.value)

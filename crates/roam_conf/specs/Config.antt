@@ -1,0 +1,41 @@
+-- A configuration as plain records: texts as octets, lists in the order of the file. Ours.
+use Rattle.std.specs.Prelude.{ℕ, Bool, List, Option}
+use Rattle.roam_conf.specs.declared.endpoint.Endpoint.{Endpoint}
+
+-- a home server: where it takes Access-Requests and Accounting-Requests, and its shared secret
+pub record ServerView : Type 0 where
+  pub auth : Endpoint
+  pub acct : Endpoint
+  pub secret : List ℕ
+
+-- an access server, or the proxy of a visited network
+pub record PeerView : Type 0 where
+  pub name : List ℕ
+  pub ip : List ℕ
+  pub secret : List ℕ
+  pub coa : Option Endpoint
+  pub nas_ip : Option (List ℕ)
+  pub nas_id : Option (List ℕ)
+  pub require_seal : Bool
+
+-- a realm with its own two sockets, its limits, and its servers in the order of their use
+pub record RealmView : Type 0 where
+  pub name : List ℕ
+  pub out : Endpoint
+  pub reverse : Endpoint
+  pub tries : ℕ
+  pub wait : ℕ
+  pub hold : ℕ
+  pub max_pending : ℕ
+  pub max_sessions : ℕ
+  pub servers : List ServerView
+
+-- the whole configuration
+pub record ConfigView : Type 0 where
+  pub shards : ℕ
+  pub seed : List ℕ
+  pub auth : Endpoint
+  pub acct : Endpoint
+  pub trace_limit : ℕ
+  pub peers : List PeerView
+  pub realms : List RealmView

@@ -1,0 +1,84 @@
+-- What may not stand twice in a configuration. Ours.
+use Rattle.std.specs.Prelude.{ℕ, ◌==◌, ◌&&◌, ◌||◌, Bool, false, List, [], ◌∷◌, Option, Some, None, if◌then◌else◌}
+use Rattle.std.specs.List.{list_any, filter_map, flat_map}
+use Rattle.std.specs.Str.{bytes_eq, str_eq_ignore_ascii_case}
+use Rattle.roam_conf.specs.declared.endpoint.Endpoint.{Endpoint}
+use Rattle.roam_conf.specs.declared.fault.ConfFault.{ConfFault}
+use Rattle.roam_conf.specs.declared.fault.ConfFault.TheVariants.{DuplicateRealm, DuplicatePeer, DuplicateEndpoint, DuplicateServer, DuplicateLink}
+use Rattle.roam_conf.specs.Config.{ServerView, PeerView, RealmView}
+
+-- two elements, at different places of the list, are the same by the test
+abbrev pub has_pair : {X : Type 0} → (X → X → Bool) → List X → Bool
+has_pair same [] = false
+has_pair same (x ∷ xs) = list_any (same x) xs || has_pair same xs
+
+-- equal addresses and equal ports
+abbrev pub same_endpoint : Endpoint → Endpoint → Bool
+same_endpoint a b = bytes_eq a.ip b.ip && (a.port == b.port)
+
+-- the endpoint is one of these
+abbrev pub is_among : List Endpoint → Endpoint → Bool
+is_among endpoints endpoint = list_any (same_endpoint endpoint) endpoints
+
+-- names that are equal without ASCII case
+abbrev pub same_realm : RealmView → RealmView → Bool
+same_realm a b = str_eq_ignore_ascii_case a.name b.name
+
+-- both are there, and equal
+abbrev pub same_if_there : Option (List ℕ) → Option (List ℕ) → Bool
+same_if_there (Some a) (Some b) = bytes_eq a b
+same_if_there _ _ = false
+
+-- equal names, addresses, NAS-IP-Addresses or NAS-Identifiers
+abbrev pub same_peer : PeerView → PeerView → Bool
+same_peer a b =
+    bytes_eq a.name b.name || bytes_eq a.ip b.ip || same_if_there a.nas_ip b.nas_ip || same_if_there a.nas_id b.nas_id
+
+-- the broker's own sockets: `auth` and `acct`, and each realm's `out` and `reverse`
+abbrev pub own_endpoints : Endpoint → Endpoint → List RealmView → List Endpoint
+own_endpoints auth acct realms = auth ∷ acct ∷ flat_map (λ realm. realm.out ∷ realm.reverse ∷ []) realms
+
+-- the endpoints of one realm's servers
+abbrev pub server_endpoints : List ServerView → List Endpoint
+server_endpoints servers = flat_map (λ server. server.auth ∷ server.acct ∷ []) servers
+
+-- the endpoints of those peers that take reverse requests
+abbrev pub coa_endpoints : List PeerView → List Endpoint
+coa_endpoints peers = filter_map (λ peer. peer.coa) peers
+
+-- some server of the list is at one of these endpoints
+abbrev pub some_server_at : List Endpoint → List ServerView → Bool
+some_server_at endpoints servers =
+    list_any (λ server. is_among endpoints server.auth || is_among endpoints server.acct) servers
+
+-- two realm names are equal without ASCII case
+unfoldable pub has_duplicate_realm : List RealmView → Bool
+has_duplicate_realm realms = has_pair same_realm realms
+
+-- two peers are equal in one of the four
+unfoldable pub has_duplicate_peer : List PeerView → Bool
+has_duplicate_peer peers = has_pair same_peer peers
+
+-- two of the broker's own sockets are at one endpoint
+unfoldable pub has_duplicate_endpoint : Endpoint → Endpoint → List RealmView → Bool
+has_duplicate_endpoint auth acct realms = has_pair same_endpoint (own_endpoints auth acct realms)
+
+-- two endpoints of one realm's servers are equal; two realms may have the same servers
+unfoldable pub has_duplicate_server : List RealmView → Bool
+has_duplicate_server realms = list_any (λ realm. has_pair same_endpoint (server_endpoints realm.servers)) realms
+
+-- two peers take reverse requests at one endpoint, or a peer does at a server's
+unfoldable pub has_duplicate_link : List PeerView → List RealmView → Bool
+has_duplicate_link peers realms =
+    has_pair same_endpoint (coa_endpoints peers)
+    || list_any (λ realm. some_server_at (coa_endpoints peers) realm.servers) realms
+
+-- the first of the five that is there
+unfoldable pub first_duplicate : Endpoint → Endpoint → List PeerView → List RealmView → Option ConfFault
+first_duplicate auth acct peers realms =
+    if has_duplicate_realm realms then Some DuplicateRealm
+    else if has_duplicate_peer peers then Some DuplicatePeer
+    else if has_duplicate_endpoint auth acct realms then Some DuplicateEndpoint
+    else if has_duplicate_server realms then Some DuplicateServer
+    else if has_duplicate_link peers realms then Some DuplicateLink
+    else None

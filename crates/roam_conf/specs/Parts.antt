@@ -1,0 +1,33 @@
+-- Servers, peers and realms as plain records. Ours.
+use Rattle.std.specs.Prelude.{map, option_map, string_bytes}
+use Rattle.roam_conf.specs.declared.peer.Peer.{Peer}
+use Rattle.roam_conf.specs.declared.realm.Realm.{Realm}
+use Rattle.roam_conf.specs.declared.server.Server.{Server}
+use Rattle.roam_conf.specs.Config.{ServerView, PeerView, RealmView}
+
+abbrev pub shown_server : Server → ServerView
+shown_server server = record { auth = server.auth; acct = server.acct; secret = string_bytes server.secret }
+
+abbrev pub shown_peer : Peer → PeerView
+shown_peer peer = record {
+  name = string_bytes peer.name;
+  ip = peer.ip;
+  secret = string_bytes peer.secret;
+  coa = peer.coa;
+  nas_ip = peer.nas_ip;
+  nas_id = option_map string_bytes peer.nas_id;
+  require_seal = peer.require_seal;
+}
+
+abbrev pub shown_realm : Realm → RealmView
+shown_realm realm = record {
+  name = string_bytes realm.name;
+  out = realm.out;
+  reverse = realm.reverse;
+  tries = realm.tries;
+  wait = realm.wait;
+  hold = realm.hold;
+  max_pending = realm.max_pending;
+  max_sessions = realm.max_sessions;
+  servers = map shown_server realm.servers.items;
+}

@@ -1,0 +1,95 @@
+//! Look-ups in a configuration. None of them takes memory.
+
+use crate::{Config, Endpoint, Link, Peer, Realm, finding};
+
+impl Realm {
+    ghost use Rattle.std.specs.Prelude.{◌≡◌, ◌≤◌, length, map};
+    ghost use Rattle.roam_conf.specs.Lookup.{server_with_ip, link_at, acct_or_coa_at};
+    ghost use Rattle.roam_conf.specs.Parts.{shown_peer, shown_realm};
+
+    /// The link that the endpoint is, of this realm among these peers.
+    #[tactic(auto, unfolding(crate::specs::Lookup::link_at))]
+    fn link_at(&self, peers: &[Peer], endpoint: Endpoint) -> Option<Link>
+        requires { length peers.now ≤ 256 }
+        ensures { result ≡ link_at (map shown_peer peers.now) (shown_realm self.now) endpoint }
+    {
+        match finding::auth_at(self.servers.as_slice(), endpoint) {
+            Some(server) => Some(Link::Auth(server as u8)),
+            None => self.acct_or_coa_at(peers, endpoint),
+        }
+    }
+
+    /// The same where the endpoint is no server's `auth`.
+    fn acct_or_coa_at(&self, peers: &[Peer], endpoint: Endpoint) -> Option<Link>
+        requires { length peers.now ≤ 256 }
+        ensures { result ≡ acct_or_coa_at (map shown_peer peers.now) (shown_realm self.now) endpoint }
+    {
+        match finding::acct_at(self.servers.as_slice(), endpoint) {
+            Some(server) => Some(Link::Acct(server as u8)),
+            None => finding::link_to_peer(finding::coa_at(peers, endpoint)),
+        }
+    }
+
+    /// The first server with the address.
+    fn home_of(&self, ip: [u8; 4]) -> Option<u8>
+        ensures { result ≡ server_with_ip (shown_realm self.now).servers ip }
+    {
+        match finding::server_with_ip(self.servers.as_slice(), ip) {
+            Some(server) => Some(server as u8),
+            None => None,
+        }
+    }
+}
+
+impl Config {
+    ghost use Rattle.std.specs.Prelude.{◌≡◌, ◌%◌, ◌<◌, IfSome, vec_len};
+    ghost use Rattle.roam_conf.specs.Lookup.{realm_named, peer_with_ip, link_in, home_in};
+    ghost use Rattle.roam_conf.specs.Shown.{shown};
+
+    /// The index of the realm of the name, compared without ASCII case and matched whole.
+    pub fn realm_index(&self, name: &[u8]) -> Option<u16>
+        ensures value { result ≡ realm_named (shown self.now).realms name.now }
+        ensures bound { IfSome result (λ r. r < vec_len self.now.realms) }
+    {
+        match finding::realm_named(self.realms.as_slice(), name) {
+            Some(realm) => Some(realm as u16),
+            None => None,
+        }
+    }
+
+    /// The index of the peer of the address.
+    pub fn peer_by_ip(&self, ip: [u8; 4]) -> Option<u16>
+        ensures value { result ≡ peer_with_ip (shown self.now).peers ip }
+        ensures bound { IfSome result (λ p. p < vec_len self.now.peers) }
+    {
+        match finding::peer_with_ip(self.peers.as_slice(), ip) {
+            Some(peer) => Some(peer as u16),
+            None => None,
+        }
+    }
+
+    /// The link of a realm that the endpoint is; `None` also where the realm isn't configured.
+    pub fn link_of(&self, realm: u16, endpoint: Endpoint) -> Option<Link>
+        ensures { result ≡ link_in (shown self.now) realm endpoint }
+    {
+        let realm = self.realms.get(usize::from(realm))?;
+        realm.link_at(self.peers.as_slice(), endpoint)
+    }
+
+    /// The first server of a realm, in the order of use, that has the address in its `auth` or its
+    /// `acct` endpoint; `None` also where the realm isn't configured.
+    pub fn home_of(&self, realm: u16, ip: [u8; 4]) -> Option<u8>
+        ensures { result ≡ home_in (shown self.now) realm ip }
+    {
+        let realm = self.realms.get(usize::from(realm))?;
+        realm.home_of(ip)
+    }
+
+    /// The shard that holds a realm: its index modulo the number of shards.
+    pub fn shard_of(&self, realm: u16) -> u16
+        ensures value { result ≡ realm % self.now.shards }
+        ensures bound { result < self.now.shards }
+    {
+        realm % self.shards
+    }
+}

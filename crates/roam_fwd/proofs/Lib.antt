@@ -1,0 +1,4 @@
+pub mod ForwardedLemmas
+pub mod BufferLemmas
+pub mod AccessLemmas
+pub mod LawLemmas

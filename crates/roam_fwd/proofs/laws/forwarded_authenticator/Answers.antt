@@ -1,0 +1,11 @@
+use Rattle.roam_fwd.proofs.LawLemmas.{IsSignedRequest-forwarded, HasOne-forwarded_access, authenticator-forwarded_access}
+use Rattle.roam_fwd.proofs.laws.forwarded_authenticator.Goals as goal
+
+pub returns-clause-signed : goal.returns-clause-signed
+returns-clause-signed c = IsSignedRequest-forwarded
+
+pub returns-clause-access_seal : goal.returns-clause-access_seal
+returns-clause-access_seal c = HasOne-forwarded_access
+
+pub returns-clause-access_authenticator : goal.returns-clause-access_authenticator
+returns-clause-access_authenticator c = authenticator-forwarded_access

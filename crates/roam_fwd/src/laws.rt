@@ -1,0 +1,24 @@
+//! Laws of the forwarded packet. These functions do nothing: their contracts hold of all packets.
+
+ghost use Rattle.roam_fwd.specs.ForwardedLaws.{ForwardedIsPacket, ForwardedHasLength, ForwardedIsWellSealed, ForwardedIsSigned, AccessHasSeal, AccessHasAuthenticator, ForwardedKeepsCode, ForwardedHasIdentifier, TicketIsLast};
+
+/// What a forwarded packet is, for every code.
+pub fn forwarded_packet()
+    ensures packet { ForwardedIsPacket }
+    ensures length { ForwardedHasLength }
+    ensures well_sealed { ForwardedIsWellSealed }
+{}
+
+/// What holds of a request that is signed, and of an Access-Request, which isn't.
+pub fn forwarded_authenticator()
+    ensures signed { ForwardedIsSigned }
+    ensures access_seal { AccessHasSeal }
+    ensures access_authenticator { AccessHasAuthenticator }
+{}
+
+/// What a reply is known by, for every code.
+pub fn forwarded_marks()
+    ensures code { ForwardedKeepsCode }
+    ensures identifier { ForwardedHasIdentifier }
+    ensures ticket { TicketIsLast }
+{}

@@ -1,0 +1,16 @@
+//! The packet that a proxy forwards for a request (RFC 2865, section 2.3): its size, its octets written
+//! behind others in a buffer, and the laws of it.
+//!
+//! Nothing here reads a socket, a clock or a table: the new Identifier, the Authenticator, the secrets
+//! and the ticket are arguments. A request's octets are copied once, and rewritten where they then lie.
+#![tactic(auto)]
+
+mod forwardable;
+mod forwarding;
+mod laws;
+mod length;
+
+pub use forwardable::can_be_forwarded;
+pub use forwarding::{forward, forward_reserved, rewrite};
+pub use laws::{forwarded_authenticator, forwarded_marks, forwarded_packet};
+pub use length::forwarded_len;

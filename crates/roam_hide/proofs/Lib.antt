@@ -1,0 +1,4 @@
+pub mod HidingLemmas
+pub mod SaltedLemmas
+pub mod SaltedFunctionLemmas
+pub mod StandardFacts

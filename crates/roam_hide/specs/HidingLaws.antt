@@ -1,0 +1,32 @@
+-- What follows from the definition of hiding. Each is the contract of a function of src/laws.rt.
+use Rattle.std.specs.Prelude.{◌≡◌, ℕ, ◌%◌, List, length}
+use Rattle.roam_hide.specs.Hiding.{Key, IsHidden, IsHiddenAnew, hidden_text, plain_text, hidden_anew}
+
+-- this is the one text of which the fact holds
+pub record IsTheOne (Fact : List ℕ → Type 0) (text : List ℕ) : Type 0 where
+  pub holds : Fact text
+  pub no_other : (other : List ℕ) → Fact other → other ≡ text
+
+-- a plain text of whole blocks has just one hidden text
+abbrev pub OneHiddenText : Type 0
+OneHiddenText = (key : Key) (plain : List ℕ) → length plain % 16 ≡ 0
+    → IsTheOne (λ hidden. IsHidden key plain hidden) (hidden_text key plain)
+
+-- a hidden text of whole blocks has just one plain text
+abbrev pub OnePlainText : Type 0
+OnePlainText = (key : Key) (hidden : List ℕ) → length hidden % 16 ≡ 0
+    → IsTheOne (λ plain. IsHidden key plain hidden) (plain_text key hidden)
+
+-- so a text of whole blocks can be hidden anew in just one way
+abbrev pub OneTextAnew : Type 0
+OneTextAnew = (from to : Key) (old : List ℕ) → length old % 16 ≡ 0
+    → IsTheOne (λ new. IsHiddenAnew from to old new) (hidden_anew from to old)
+
+-- hiding anew with the same key changes nothing
+abbrev pub SameKeyChangesNothing : Type 0
+SameKeyChangesNothing = (key : Key) (old new : List ℕ) → IsHiddenAnew key key old new → new ≡ old
+
+-- hidden anew, and then anew with the first key, it is the first text again
+abbrev pub FirstKeyBringsBack : Type 0
+FirstKeyBringsBack = (from to : Key) (old new back : List ℕ)
+    → IsHiddenAnew from to old new → IsHiddenAnew to from new back → back ≡ old

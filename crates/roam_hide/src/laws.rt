@@ -1,0 +1,52 @@
+//! What follows from the definitions of hiding and of salted values: each function's contract is
+//! one law, and it does nothing.
+
+ghost use Rattle.roam_hide.specs.HidingLaws.{OneHiddenText, OnePlainText, OneTextAnew, SameKeyChangesNothing, FirstKeyBringsBack};
+ghost use Rattle.roam_hide.specs.SaltedLaws.{OneListOfSubAttributes, OneTunnelAnew, OneVendorAnew, HiddenAnewKeepsSize, TunnelAnewKeepsSize, VendorAnewKeepsSize};
+
+/// A plain text of whole blocks has just one hidden text.
+pub fn one_hidden_text()
+    ensures { OneHiddenText }
+{}
+
+/// A hidden text of whole blocks has just one plain text.
+pub fn one_plain_text()
+    ensures { OnePlainText }
+{}
+
+/// A text of whole blocks can be hidden anew in just one way.
+pub fn one_text_anew()
+    ensures { OneTextAnew }
+{}
+
+/// Hiding anew with the same key changes nothing.
+pub fn same_key_changes_nothing()
+    ensures { SameKeyChangesNothing }
+{}
+
+/// What is hidden anew, and then anew with the first key, is the first text again.
+pub fn first_key_brings_back()
+    ensures { FirstKeyBringsBack }
+{}
+
+/// Octets are those of one list of sub-attributes at most.
+pub fn one_list_of_sub_attributes()
+    ensures { OneListOfSubAttributes }
+{}
+
+/// The value of a Tunnel-Password can be hidden anew in just one way.
+pub fn one_tunnel_anew()
+    ensures { OneTunnelAnew }
+{}
+
+/// The value of a Vendor-Specific can be hidden anew in just one way.
+pub fn one_vendor_anew()
+    ensures { OneVendorAnew }
+{}
+
+/// What is hidden anew keeps its size.
+pub fn sizes_stay()
+    ensures hidden { HiddenAnewKeepsSize }
+    ensures tunnel { TunnelAnewKeepsSize }
+    ensures vendor { VendorAnewKeepsSize }
+{}

@@ -1,0 +1,33 @@
+//! Whether a packet holds a salted string.
+
+ghost use Rattle.std.specs.Prelude.{◌↔◌, IsTrue};
+ghost use Rattle.roam_wire.specs.Shown.{shown};
+ghost use Rattle.roam_hide.specs.SaltedValues.{IsSalted, IsSaltedAttribute};
+
+use crate::vendor_specific::holds_key;
+use roam_wire::{Attr, View};
+
+/// Whether an attribute is a Tunnel-Password, or holds a key of Microsoft's.
+fn is_salted(attribute: &Attr<'_>) -> bool
+    ensures { IsTrue result ↔ IsSaltedAttribute (shown attribute.now) }
+{
+    match attribute.kind {
+        69 => true,
+        26 => holds_key(attribute.value),
+        _ => false,
+    }
+}
+
+/// Whether a packet has a Tunnel-Password (type 69), of whatever size, or a Vendor-Specific (type
+/// 26) of vendor 311 whose sub-attributes are well formed and hold an MS-MPPE-Send-Key or
+/// MS-MPPE-Recv-Key (types 16 and 17).
+pub fn salted(view: &View<'_>) -> bool
+    ensures { IsTrue result ↔ IsSalted view.now }
+{
+    for attribute in view.attributes() {
+        if is_salted(&attribute) {
+            return true;
+        }
+    }
+    false
+}

@@ -1,0 +1,81 @@
+-- A pending request as a plain record: what the code's entry says, without its buffers.
+use Rattle.std.specs.Prelude.{ℕ, ◌==◌, ◌&&◌, Bool, true, false, List, nat_eq}
+use Rattle.std.specs.Cmp.Lexicographic.{pointwise}
+use Rattle.roam_conf.specs.declared.endpoint.Endpoint.{Endpoint}
+use Rattle.roam_conf.specs.declared.place.Link.{Link}
+use Rattle.roam_conf.specs.declared.place.Link.TheVariants as link
+use Rattle.roam_conf.specs.declared.place.Place.{Place}
+use Rattle.roam_conf.specs.declared.place.Place.TheVariants as place
+use Rattle.roam_pending.specs.declared.key.Key.{Key}
+use Rattle.roam_pending.specs.declared.key.Requester.{Requester}
+
+-- a request as it came in: what tells it from others, who sent it, and its octets up to Length (ours)
+pub record PlainRequest : Type 0 where
+  pub key : Key
+  pub requester : Requester
+  pub octets : List ℕ
+
+-- how an entry stands (ours): it waits for a reply to what was forwarded, or it is done and its reply is held
+pub data PlainStanding : Type 0 where
+  waiting : (link : Link) → (id : ℕ) → (forwarded : List ℕ) → (sends_left deadline : ℕ) → PlainStanding
+  done : (reply : List ℕ) → (deadline : ℕ) → PlainStanding
+
+-- a pending request: the request, its ticket, and how it stands (ours)
+pub record PlainEntry : Type 0 where
+  pub request : PlainRequest
+  pub ticket : ℕ
+  pub standing : PlainStanding
+
+-- one socket of the broker
+abbrev pub same_place : Place → Place → Bool
+same_place place.Auth place.Auth = true
+same_place place.Acct place.Acct = true
+same_place (place.Out a) (place.Out b) = a == b
+same_place (place.Reverse a) (place.Reverse b) = a == b
+same_place _ _ = false
+
+-- one address and one port
+abbrev pub same_endpoint : Endpoint → Endpoint → Bool
+same_endpoint a b = pointwise nat_eq a.ip b.ip && a.port == b.port
+
+-- place, source and Identifier are the same (RFC 2865, section 3: what makes a request a duplicate)
+abbrev pub same_key : Key → Key → Bool
+same_key a b = same_place a.place b.place && same_endpoint a.from b.from && a.id == b.id
+
+-- one remote endpoint of the realm
+abbrev pub same_link : Link → Link → Bool
+same_link (link.Auth a) (link.Auth b) = a == b
+same_link (link.Acct a) (link.Acct b) = a == b
+same_link (link.Coa a) (link.Coa b) = a == b
+same_link _ _ = false
+
+-- until when an entry stands as it does, in milliseconds
+abbrev pub deadline_of : PlainStanding → ℕ
+deadline_of (waiting link id forwarded sends_left deadline) = deadline
+deadline_of (done reply deadline) = deadline
+
+-- an entry of this key
+abbrev pub has_key : Key → PlainEntry → Bool
+has_key k e = same_key e.request.key k
+
+-- an entry of this ticket
+abbrev pub has_ticket : ℕ → PlainEntry → Bool
+has_ticket t e = e.ticket == t
+
+-- it waits for a reply on this link, with this Identifier
+abbrev pub stands_at : Link → ℕ → PlainStanding → Bool
+stands_at l i (waiting link id forwarded sends_left deadline) = same_link link l && id == i
+stands_at l i (done reply deadline) = false
+
+-- an entry that waits there
+abbrev pub waits_at : Link → ℕ → PlainEntry → Bool
+waits_at l i e = stands_at l i e.standing
+
+-- it was answered
+abbrev pub stands_done : PlainStanding → Bool
+stands_done (waiting link id forwarded sends_left deadline) = false
+stands_done (done reply deadline) = true
+
+-- an entry that was answered
+abbrev pub is_done : PlainEntry → Bool
+is_done e = stands_done e.standing

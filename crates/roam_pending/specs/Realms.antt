@@ -1,0 +1,40 @@
+-- The entries of several realms: a list for each realm's index (ours).
+use Rattle.std.specs.Prelude.{◌≡◌, ◌≢◌, ◌-◌, ◌==◌, ℕ, Bool, List, [], if◌then◌else◌}
+use Rattle.roam_pending.specs.PlainEntry.{PlainEntry, PlainStanding, waiting, done, deadline_of}
+use Rattle.roam_pending.specs.EntryList.{Held}
+
+-- the realm's entries are now these, and every other realm's are as they were
+pub record RealmBecomes (realm : ℕ) (es : List PlainEntry) (old new : ℕ → List PlainEntry) : Type 0 where
+  pub here : new realm ≡ es
+  pub others : (r : ℕ) → r ≢ realm → new r ≡ old r
+
+-- the list of one realm as lists of all: every other realm isn't kept, and has no entries and no room
+abbrev pub keeps_in : Held → ℕ → Bool
+keeps_in p r = r == p.realm
+
+abbrev pub entries_in : Held → ℕ → List PlainEntry
+entries_in p r = if r == p.realm then p.entries else []
+
+abbrev pub room_in : Held → ℕ → ℕ
+room_in p r = if r == p.realm then p.spare else 0
+
+-- what stands for an entry while it is out of its list: its key and ticket, done, with nothing to send
+abbrev pub hollow : PlainEntry → PlainEntry
+hollow e = record {
+  request = record { key = e.request.key; requester = e.request.requester; octets = [] };
+  ticket = e.ticket;
+  standing = done [] (deadline_of e.standing);
+}
+
+-- a forwarded packet was sent once more: one send fewer is left, and the wait lasts until a later moment
+abbrev pub waits_on : ℕ → PlainStanding → PlainStanding
+waits_on deadline (waiting link id forwarded sends_left old) = waiting link id forwarded (sends_left - 1) deadline
+waits_on deadline (done reply old) = done reply old
+
+-- an entry that stands otherwise
+abbrev pub with_standing : PlainStanding → PlainEntry → PlainEntry
+with_standing s e = record { request = e.request; ticket = e.ticket; standing = s }
+
+-- an entry whose forwarded packet was sent once more
+abbrev pub sent_again : ℕ → PlainEntry → PlainEntry
+sent_again deadline e = with_standing (waits_on deadline e.standing) e

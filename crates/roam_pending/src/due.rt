@@ -1,0 +1,11 @@
+//! When an entry is due.
+
+ghost use Rattle.std.specs.Prelude.{◌≡◌};
+
+/// When an entry is due, and which one: dues are ordered by deadline, and at one deadline by ticket.
+#[derive(Clone, Copy, Debug, PartialEq, Eq)]
+pub struct Due {
+    /// In milliseconds.
+    pub deadline: u64,
+    pub ticket: u64,
+}

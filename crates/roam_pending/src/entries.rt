@@ -1,0 +1,100 @@
+//! What a realm's rules need of its entries, whatever keeps them.
+
+ghost use Rattle.std.specs.Prelude.{◌≡◌, ◌<◌, ◌≤◌, ◌+◌, ℕ, Bool, List, Some, None, length, OnOk, IsOk, IfSome, IsSomeAnd, IsTrue};
+ghost use Rattle.roam_pending.specs.PlainEntry.{PlainEntry};
+ghost use Rattle.roam_pending.specs.EntryList.{IsEntryList, IsNew, HasPlaceOf, find_client, find_link, find_ticket, first_done, besides, put, without};
+ghost use Rattle.roam_pending.specs.DueOrder.{due_after};
+ghost use Rattle.roam_pending.specs.Realms.{RealmBecomes};
+ghost use Rattle.roam_pending.specs.Shown.{shown, seen, taken};
+
+use crate::due::Due;
+use crate::entry::Entry;
+use crate::key::Key;
+use roam_conf::Link;
+use roam_wire::NoMemory;
+use std::alloc::Allocator;
+
+/// Keeps the entries of some realms, each realm's in order of ticket.
+///
+/// A change names its realm and leaves every other realm's entries as they were. An entry that owns
+/// buffers is changed without a copy: `take_out` hands it out and leaves a hollow one in its place, and
+/// `replace_entry` puts it back.
+///
+/// An entry goes in behind a `&mut`, since the check can't yet state a trait's method that takes a
+/// value with an allocator of the trait's by value. `insert_entry` and `replace_entry` take it by
+/// value.
+pub trait Entries<A: Allocator> {
+    /// Whether the entries of the realm of this index are kept here.
+    ghost keeps: { Self → ℕ → Bool };
+
+    /// The entries of each realm. A realm that isn't kept here has none.
+    ghost entries_of: { Self → ℕ → List PlainEntry };
+
+    /// For how many more entries of a realm there is room without memory.
+    ghost room_for: { Self → ℕ → ℕ };
+
+    /// How many entries the realm has.
+    fn len(&self, realm: u16) -> usize
+        ensures len { result ≡ length (entries_of self.now realm) }
+        ensures list { IsEntryList (entries_of self.now realm) };
+
+    /// The entry of a ticket.
+    fn find_ticket(&self, realm: u16, ticket: u64) -> Option<&Entry<A>>
+        ensures found { seen result ≡ find_ticket ticket (entries_of self.now realm) }
+        ensures list { IsEntryList (entries_of self.now realm) };
+
+    /// The entry of a key.
+    fn find_client(&self, realm: u16, key: &Key) -> Option<&Entry<A>>
+        ensures found { seen result ≡ find_client key.now (entries_of self.now realm) }
+        ensures list { IsEntryList (entries_of self.now realm) };
+
+    /// The first entry, in order of ticket, that waits on a link with an Identifier.
+    fn find_link(&self, realm: u16, link: Link, id: u8) -> Option<&Entry<A>>
+        ensures found { seen result ≡ find_link link id (entries_of self.now realm) }
+        ensures list { IsEntryList (entries_of self.now realm) };
+
+    /// The ticket of the done entry of least ticket, besides one that counts as gone.
+    fn first_done(&self, realm: u16, except: Option<u64>) -> Option<u64>
+        ensures { result ≡ first_done (besides except (entries_of self.now realm)) };
+
+    /// Of the realm's entries whose deadline is at most `now`, the one of least deadline and ticket,
+    /// or where `last` is one of them, the next one after it.
+    fn due_after(&self, realm: u16, now: u64, last: Option<Due>) -> Option<Due>
+        ensures found { result ≡ due_after now last (entries_of self.now realm) }
+        ensures list { IsEntryList (entries_of self.now realm) };
+
+    /// Makes room for one entry more of the realm. No entry changes.
+    fn reserve(&mut self, realm: u16) -> Result<(), NoMemory>
+        requires { IsTrue (keeps self.old realm) }
+        ensures ok { OnOk result (0 < room_for self.new realm) }
+        ensures succeeds { 0 < room_for self.old realm → IsOk result }
+        ensures entries { entries_of self.new ≡ entries_of self.old }
+        ensures room { room_for self.old realm ≤ room_for self.new realm }
+        ensures keeps { keeps self.new ≡ keeps self.old };
+
+    /// Puts the entry that is handed over in order of ticket, where there is room. Takes no memory.
+    /// (See `insert_entry`.)
+    fn insert_from(&mut self, realm: u16, entry: &mut Option<Entry<A>>)
+        requires new { IsSomeAnd entry.old (λ e. IsNew (shown e) (entries_of self.old realm)) }
+        requires room { 0 < room_for self.old realm }
+        ensures entries { IfSome entry.old (λ e. RealmBecomes realm (put (shown e) (entries_of self.old realm)) (entries_of self.old) (entries_of self.new)) }
+        ensures handed_over { entry.new ≡ None }
+        ensures room { room_for self.old realm ≤ room_for self.new realm + 1 }
+        ensures keeps { keeps self.new ≡ keeps self.old };
+
+    /// Takes out the entry of a ticket for good. Takes no memory, and no room.
+    fn remove(&mut self, realm: u16, ticket: u64) -> Option<Entry<A>>
+        ensures found { taken result ≡ find_ticket ticket (entries_of self.old realm) }
+        ensures entries { RealmBecomes realm (without ticket (entries_of self.old realm)) (entries_of self.old) (entries_of self.new) }
+        ensures room { room_for self.old realm ≤ room_for self.new realm }
+        ensures keeps { keeps self.new ≡ keeps self.old };
+
+    /// Changes an entry with the one that has its key and ticket. Takes no memory, and no room. (See
+    /// `replace_entry`.)
+    fn swap(&mut self, realm: u16, entry: &mut Entry<A>)
+        requires { HasPlaceOf (shown entry.old) (entries_of self.old realm) }
+        ensures found { Some (shown entry.new) ≡ find_ticket entry.old.ticket (entries_of self.old realm) }
+        ensures entries { RealmBecomes realm (put (shown entry.old) (entries_of self.old realm)) (entries_of self.old) (entries_of self.new) }
+        ensures room { room_for self.old realm ≤ room_for self.new realm }
+        ensures keeps { keeps self.new ≡ keeps self.old };
+}

@@ -1,0 +1,70 @@
+//! An entry: a request, its ticket, and how it stands.
+//!
+//! ```text
+//!                    a reply comes in time
+//! request --> Waiting -----------------------------> Done --> gone, at its deadline,
+//!             |  ^  |                                 ^       or to make way for another
+//!             |  |  |  no send and no target is left  |
+//!             +--+  +---------------------------------+
+//!          at its   |  a Disconnect- or CoA-Request is answered by a NAK
+//!       deadline:   |
+//!      sent again,  +--> gone: any other request, and one whose reply isn't held
+//!   or to the next
+//!           target
+//! ```
+//!
+//! A waiting entry also goes where a request of its key with other octets takes its place.
+
+use crate::key::{Key, Requester};
+use roam_conf::Link;
+use roam_wire::Octets;
+use std::alloc::Allocator;
+
+/// A request of a realm, as it came in.
+#[derive(Drop)]
+pub struct Request<A: Allocator> {
+    pub key: Key,
+    pub requester: Requester,
+    /// The octets up to Length.
+    pub octets: Octets<A>,
+}
+
+/// A request that was forwarded and has no reply yet.
+#[derive(Drop)]
+pub struct Waiting<A: Allocator> {
+    /// Where it was forwarded to.
+    pub link: Link,
+    /// The Identifier that the forwarded packet has there.
+    pub id: u8,
+    /// The forwarded packet.
+    pub forwarded: Octets<A>,
+    /// How often that packet may be sent again.
+    pub sends_left: u8,
+    /// In milliseconds.
+    pub deadline: u64,
+}
+
+/// A request that was answered, while its reply is held for retransmissions of the request.
+#[derive(Drop)]
+pub struct Done<A: Allocator> {
+    /// The packet that was returned.
+    pub reply: Octets<A>,
+    /// In milliseconds.
+    pub deadline: u64,
+}
+
+/// How an entry stands.
+#[derive(Drop)]
+pub enum Standing<A: Allocator> {
+    Waiting(Waiting<A>),
+    Done(Done<A>),
+}
+
+/// A pending request.
+#[derive(Drop)]
+pub struct Entry<A: Allocator> {
+    pub request: Request<A>,
+    /// The number under which the realm admitted it.
+    pub ticket: u64,
+    pub standing: Standing<A>,
+}

@@ -1,0 +1,41 @@
+//! What tells one request from another, and who sent it.
+
+ghost use Rattle.std.specs.Prelude.{◌≡◌};
+ghost use Rattle.roam_pending.specs.PlainEntry.{same_key, same_link};
+
+use roam_conf::{Endpoint, Link, Place};
+
+/// What makes two requests of a realm the same one to the broker, as long as their octets are equal
+/// too (RFC 2865, section 3: a duplicate has the same source and Identifier).
+#[derive(Clone, Copy, Debug, PartialEq, Eq, Hash)]
+pub struct Key {
+    /// The broker's socket at which the request came in.
+    pub place: Place,
+    /// The address and port from which it came.
+    pub from: Endpoint,
+    /// Its Identifier.
+    pub id: u8,
+}
+
+/// Who sent a request: with whose shared secret its reply is signed.
+#[derive(Clone, Copy, Debug, PartialEq, Eq)]
+pub enum Requester {
+    /// The peer of this index.
+    Peer(u16),
+    /// The realm's home server of this place.
+    Home(u8),
+}
+
+/// Whether two keys are the same.
+pub(crate) fn is_same_key(key: &Key, other: &Key) -> bool
+    ensures { result ≡ same_key key.now other.now }
+{
+    *key == *other
+}
+
+/// Whether two links are the same.
+pub(crate) fn is_same_link(link: &Link, other: &Link) -> bool
+    ensures { result ≡ same_link link.now other.now }
+{
+    *link == *other
+}

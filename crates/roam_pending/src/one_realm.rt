@@ -1,0 +1,86 @@
+//! A plain list as what keeps the entries of its one realm.
+
+use crate::due::Due;
+use crate::entries::Entries;
+use crate::entry::Entry;
+use crate::key::Key;
+use crate::pending::Pending;
+use roam_conf::Link;
+use roam_wire::NoMemory;
+use std::alloc::Allocator;
+
+impl<A: Allocator> Entries<A> for Pending<A> {
+    ghost use Rattle.roam_pending.specs.Realms.{keeps_in, entries_in, room_in};
+
+    ghost keeps = { keeps_in };
+
+    ghost entries_of = { entries_in };
+
+    ghost room_for = { room_in };
+
+    fn len(&self, realm: u16) -> usize {
+        if realm == self.realm() { self.len() } else { 0 }
+    }
+
+    fn find_ticket(&self, realm: u16, ticket: u64) -> Option<&Entry<A>> {
+        if realm == self.realm() {
+            self.find_ticket(ticket)
+        } else {
+            None
+        }
+    }
+
+    fn find_client(&self, realm: u16, key: &Key) -> Option<&Entry<A>> {
+        if realm == self.realm() {
+            self.find_client(key)
+        } else {
+            None
+        }
+    }
+
+    fn find_link(&self, realm: u16, link: Link, id: u8) -> Option<&Entry<A>> {
+        if realm == self.realm() {
+            self.find_link(link, id)
+        } else {
+            None
+        }
+    }
+
+    fn first_done(&self, realm: u16, except: Option<u64>) -> Option<u64> {
+        if realm == self.realm() {
+            self.first_done(except)
+        } else {
+            None
+        }
+    }
+
+    fn due_after(&self, realm: u16, now: u64, last: Option<Due>) -> Option<Due> {
+        if realm == self.realm() {
+            self.due_after(now, last)
+        } else {
+            None
+        }
+    }
+
+    fn reserve(&mut self, realm: u16) -> Result<(), NoMemory> {
+        self.reserve()
+    }
+
+    fn insert_from(&mut self, realm: u16, entry: &mut Option<Entry<A>>) {
+        if let Some(entry) = entry.take() {
+            self.insert_reserved(entry);
+        }
+    }
+
+    fn remove(&mut self, realm: u16, ticket: u64) -> Option<Entry<A>> {
+        if realm == self.realm() {
+            self.remove(ticket)
+        } else {
+            None
+        }
+    }
+
+    fn swap(&mut self, realm: u16, entry: &mut Entry<A>) {
+        self.swap(entry);
+    }
+}

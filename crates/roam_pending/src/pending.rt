@@ -1,0 +1,214 @@
+//! The entries of one realm as a plain list.
+
+ghost use Rattle.std.specs.Prelude.{◌≡◌, ◌<◌, ◌≤◌, ◌+◌, ◌↔◌, IsTrue, [], length, slice_get, OnOk, OnErr, IfErr, IsOk, Some, None, OnSome};
+ghost use Rattle.roam_pending.specs.DueOrder.{due_after};
+ghost use Rattle.roam_pending.specs.EntryList.{IsEntryList, IsNew, HasPlaceOf, find_client, find_link, find_ticket, first_done, besides, put, without};
+ghost use Rattle.roam_pending.specs.Shown.{shown, seen, taken};
+
+use crate::due::Due;
+use crate::entry::Entry;
+use crate::key::Key;
+use crate::search::{client_in, count_below, done_in, due_in, place_of, waiting_in};
+use roam_conf::Link;
+use roam_wire::NoMemory;
+use std::alloc::Allocator;
+use std::marker::Model;
+use std::mem;
+
+/// The entries of one realm, in order of ticket. Contracts see the realm's index, that list, and for
+/// how many more entries there is room.
+#[derive(Drop)]
+pub struct Pending<A: Allocator> {
+    realm: u16,
+    entries: Vec<Entry<A>, A>,
+}
+
+impl<A: Allocator> Model for Pending<A> {
+    ghost use Rattle.std.specs.Prelude.{◌-◌, vec_len, vec_capacity};
+    ghost use Rattle.roam_pending.specs.EntryList.{Held, IsEntryList};
+    ghost use Rattle.roam_pending.specs.Shown.{shown_all};
+
+    ghost Value = { Held };
+
+    ghost view = { λ p. record { realm = p.realm; entries = shown_all p.entries.items; spare = vec_capacity p.entries - vec_len p.entries } };
+
+    ghost invariant = { λ p. IsEntryList (shown_all p.entries.items) };
+}
+
+impl<A: Allocator> Pending<A> {
+    /// No entries, for the realm of this index. Takes no memory.
+    pub fn new(alloc: A, realm: u16) -> Pending<A>
+        ensures realm { result.realm ≡ realm }
+        ensures entries { result.entries ≡ [] }
+    {
+        Pending {
+            realm,
+            entries: Vec::new(alloc),
+        }
+    }
+
+    /// The realm's index.
+    pub fn realm(&self) -> u16
+        ensures { result ≡ self.now.realm }
+    {
+        self.realm
+    }
+
+    /// How many entries are held.
+    pub fn len(&self) -> usize
+        ensures len { result ≡ length self.now.entries }
+        ensures list { IsEntryList self.now.entries }
+    {
+        self.entries.len()
+    }
+
+    /// Whether no entry is held.
+    pub fn is_empty(&self) -> bool
+        ensures { IsTrue result ↔ (self.now.entries ≡ []) }
+    {
+        self.entries.is_empty()
+    }
+
+    /// The entry at a place, in order of ticket, from 0 on.
+    pub fn at(&self, place: usize) -> Option<&Entry<A>>
+        ensures found { seen result ≡ slice_get self.now.entries place }
+        ensures list { IsEntryList self.now.entries }
+    {
+        self.entries.get(place)
+    }
+
+    /// The entry of a key.
+    pub fn find_client(&self, key: &Key) -> Option<&Entry<A>>
+        ensures found { seen result ≡ find_client key.now self.now.entries }
+        ensures list { IsEntryList self.now.entries }
+    {
+        client_in(&self.entries, key)
+    }
+
+    /// The first entry that waits on a link with an Identifier.
+    pub fn find_link(&self, link: Link, id: u8) -> Option<&Entry<A>>
+        ensures found { seen result ≡ find_link link id self.now.entries }
+        ensures list { IsEntryList self.now.entries }
+    {
+        waiting_in(&self.entries, link, id)
+    }
+
+    /// The ticket of the done entry of least ticket, besides one that counts as gone.
+    pub fn first_done(&self, except: Option<u64>) -> Option<u64>
+        ensures { result ≡ first_done (besides except self.now.entries) }
+    {
+        done_in(&self.entries, except)
+    }
+
+    /// The entry of a ticket.
+    pub fn find_ticket(&self, ticket: u64) -> Option<&Entry<A>>
+        ensures found { seen result ≡ find_ticket ticket self.now.entries }
+        ensures list { IsEntryList self.now.entries }
+    {
+        match place_of(&self.entries, ticket) {
+            None => None,
+            Some(place) => Some(&self.entries[place]),
+        }
+    }
+
+    /// Of the entries whose deadline is at most `now`, the one of least deadline and ticket, or where
+    /// `last` is one of them, the next one after it.
+    pub fn due_after(&self, now: u64, last: Option<Due>) -> Option<Due>
+        ensures found { result ≡ due_after now last self.now.entries }
+        ensures list { IsEntryList self.now.entries }
+    {
+        due_in(&self.entries, now, last)
+    }
+
+    /// Of the entries whose deadline is at most `now`, the one of least deadline and ticket.
+    pub fn due(&self, now: u64) -> Option<Due>
+        ensures found { result ≡ due_after now None self.now.entries }
+        ensures list { IsEntryList self.now.entries }
+    {
+        self.due_after(now, None)
+    }
+
+    /// Makes room for one entry more.
+    pub fn reserve(&mut self) -> Result<(), NoMemory>
+        ensures ok { OnOk result (0 < self.new.spare) }
+        ensures err { OnErr result (self.new ≡ self.old) }
+
+        // No entry changes, and no room is lost.
+        ensures realm { self.new.realm ≡ self.old.realm }
+        ensures entries { self.new.entries ≡ self.old.entries }
+        ensures room { self.old.spare ≤ self.new.spare }
+        ensures succeeds { 0 < self.old.spare → IsOk result }
+    {
+        self.entries.reserve(1).map_err(|_| NoMemory)
+    }
+
+    /// Puts a new entry in order of ticket, where there is room. Takes no memory.
+    pub fn insert_reserved(&mut self, entry: Entry<A>)
+        requires new { IsNew (shown entry) self.old.entries }
+        requires room { 0 < self.old.spare }
+        ensures realm { self.new.realm ≡ self.old.realm }
+        ensures entries { self.new.entries ≡ put (shown entry) self.old.entries }
+        ensures room { self.new.spare + 1 ≡ self.old.spare }
+    {
+        let place = count_below(&self.entries, entry.ticket);
+        self.entries.insert(place, entry).unwrap();
+    }
+
+    /// Puts a new entry in order of ticket. Where memory is wanted the entry comes back.
+    pub fn insert(&mut self, entry: Entry<A>) -> Result<(), (Entry<A>, NoMemory)>
+        requires { IsNew (shown entry) self.old.entries }
+        ensures ok { OnOk result (self.new.entries ≡ put (shown entry) self.old.entries) }
+        ensures err { OnErr result (self.new ≡ self.old) }
+        ensures given_back { IfErr result (λ e. e.0 ≡ entry) }
+        ensures realm { self.new.realm ≡ self.old.realm }
+        ensures succeeds { 0 < self.old.spare → IsOk result }
+    {
+        if self.reserve().is_err() {
+            return Err((entry, NoMemory));
+        }
+        self.insert_reserved(entry);
+        Ok(())
+    }
+
+    /// Takes out the entry of a ticket. Its place is room for another one. Takes no memory.
+    pub fn remove(&mut self, ticket: u64) -> Option<Entry<A>>
+        ensures found { taken result ≡ find_ticket ticket self.old.entries }
+        ensures realm { self.new.realm ≡ self.old.realm }
+        ensures entries { self.new.entries ≡ without ticket self.old.entries }
+        ensures room { self.old.spare ≤ self.new.spare }
+        ensures room_for_one { OnSome result (0 < self.new.spare) }
+    {
+        match place_of(&self.entries, ticket) {
+            None => None,
+            Some(place) => Some(self.entries.remove(place)),
+        }
+    }
+
+    /// Changes an entry with the one that has its key and ticket. Takes no memory.
+    pub fn swap(&mut self, entry: &mut Entry<A>)
+        requires { HasPlaceOf (shown entry.old) self.old.entries }
+        ensures found { Some (shown entry.new) ≡ find_ticket entry.old.ticket self.old.entries }
+        ensures realm { self.new.realm ≡ self.old.realm }
+        ensures entries { self.new.entries ≡ put (shown entry.old) self.old.entries }
+        ensures room { self.new.spare ≡ self.old.spare }
+    {
+        match place_of(&self.entries, entry.ticket) {
+            None => unreachable!(),
+            Some(place) => mem::swap(&mut self.entries[place], entry),
+        }
+    }
+
+    /// Puts an entry in place of the one that has its key and ticket, which comes back. Takes no
+    /// memory.
+    pub fn replace(&mut self, entry: Entry<A>) -> Entry<A>
+        requires { HasPlaceOf (shown entry) self.old.entries }
+        ensures found { Some (shown result) ≡ find_ticket entry.ticket self.old.entries }
+        ensures realm { self.new.realm ≡ self.old.realm }
+        ensures entries { self.new.entries ≡ put (shown entry) self.old.entries }
+        ensures room { self.new.spare ≡ self.old.spare }
+    {
+        let mut entry = entry;
+        self.swap(&mut entry);
+        entry
+    }
+}

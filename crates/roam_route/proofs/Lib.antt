@@ -1,0 +1,4 @@
+pub mod CheckLemmas
+pub mod EventLemmas
+pub mod RealmLemmas
+pub mod NameLemmas

@@ -1,0 +1,190 @@
+-- What an arrival gives: a refusal, a local reject, or an event of a realm (RFC 2865 sections 2.3 and
+-- 3, RFC 2866, RFC 5176; the order of the checks is ours).
+use Rattle.std.specs.Prelude.{ℕ, ◌==◌, ◌&&◌, ◌||◌, not, nat_lt, nat_le, Bool, true, false, List, [], ◌∷◌, Option, Some, None, option_map, option_and_then, slice_get, Result, Ok, Err, if◌then◌else◌}
+use Rattle.std.specs.Option.{option_map_or}
+use Rattle.roam_wire.specs.Packet.{Packet, packet_text}
+use Rattle.roam_wire.specs.Attributes.{count_of}
+use Rattle.roam_wire.specs.Codes.{is_access_reply, is_reverse_request, is_reverse_reply}
+use Rattle.roam_wire.specs.Reading.{reading}
+use Rattle.roam_wire.specs.declared.attribute_type.TheConstants.{EAP_MESSAGE, MESSAGE_AUTHENTICATOR}
+use Rattle.roam_wire.specs.declared.code.TheConstants.{ACCESS_REQUEST, ACCOUNTING_REQUEST, ACCOUNTING_RESPONSE}
+use Rattle.roam_wire.specs.declared.refusal.Refusal.{Refusal}
+use Rattle.roam_wire.specs.declared.refusal.Refusal.TheVariants as refusal
+use Rattle.roam_auth.specs.Authenticators.{zero_octets}
+use Rattle.roam_auth.specs.Deciding.{is_signed_request, is_well_sealed}
+use Rattle.roam_conf.specs.Config.{ConfigView, RealmView}
+use Rattle.roam_conf.specs.Lookup.{peer_with_ip, link_in, home_in}
+use Rattle.roam_conf.specs.declared.endpoint.Endpoint.{Endpoint}
+use Rattle.roam_conf.specs.declared.place.Link.{Link}
+use Rattle.roam_conf.specs.declared.place.Link.TheVariants as link
+use Rattle.roam_conf.specs.declared.place.Place.{Place}
+use Rattle.roam_conf.specs.declared.place.Place.TheVariants as place
+use Rattle.roam_fwd.specs.Forwarded.{forwarded_length}
+use Rattle.roam_route.specs.UserName.{realm_of}
+use Rattle.roam_route.specs.LocalReject.{is_rejected, local_reject, reject_length}
+use Rattle.roam_route.specs.declared.job.Side.{Side}
+use Rattle.roam_route.specs.declared.job.Side.TheVariants as side
+
+-- a datagram that arrived: at which place, from where, and its octets
+pub record Arrival : Type 0 where
+  pub at : Place
+  pub from : Endpoint
+  pub octets : List ℕ
+
+-- what a realm is given: a request or a reply, with the place and the source, who sent it, and the
+-- octets up to Length
+pub record PlainJob : Type 0 where
+  pub realm : ℕ
+  pub place : Place
+  pub from : Endpoint
+  pub side : Side
+  pub octets : List ℕ
+
+-- a packet that leaves: for which realm, from which place, where to, and its octets
+pub record PlainOut : Type 0 where
+  pub realm : Option ℕ
+  pub from : Place
+  pub to : Endpoint
+  pub bytes : List ℕ
+
+-- what an arrival gives
+pub data Admission : Type 0 where
+  refused : Refusal → Admission
+  rejected : PlainOut → Admission
+  admitted : PlainJob → Admission
+
+-- who the source is at a place, if it shares a secret with the broker there: a peer by its address, a
+-- link of the realm by its endpoint, a home server of the realm by its address (RFC 2865, section 3)
+abbrev pub sender : ConfigView → Arrival → Place → Option Side
+sender config a place.Auth = option_map (λ i. side.Peer i) (peer_with_ip config.peers a.from.ip)
+sender config a place.Acct = option_map (λ i. side.Peer i) (peer_with_ip config.peers a.from.ip)
+sender config a (place.Out realm) = option_map (λ l. side.Link l) (link_in config realm a.from)
+sender config a (place.Reverse realm) = option_map (λ i. side.Home i) (home_in config realm a.from.ip)
+
+-- the secret of a peer; of a realm's home server (the empty list where there is no such one)
+abbrev pub peer_secret : ConfigView → ℕ → List ℕ
+peer_secret config i = option_map_or (λ p. p.secret) (slice_get config.peers i) []
+
+abbrev pub home_secret : ConfigView → ℕ → ℕ → List ℕ
+home_secret config realm i =
+    option_map_or (λ s. s.secret)
+    (option_and_then (λ (r : RealmView). slice_get r.servers i) (slice_get config.realms realm)) []
+
+-- the secret shared with a link of a realm
+abbrev pub link_secret : ConfigView → ℕ → Link → List ℕ
+link_secret config realm (link.Auth server) = home_secret config realm server
+link_secret config realm (link.Acct server) = home_secret config realm server
+link_secret config realm (link.Coa peer) = peer_secret config peer
+
+-- the codes that a link sends (RFC 2865 section 4, RFC 2866 section 4, RFC 5176 section 2.3)
+abbrev pub is_code_of_link : Link → ℕ → Bool
+is_code_of_link (link.Auth server) code = is_access_reply code
+is_code_of_link (link.Acct server) code = code == ACCOUNTING_RESPONSE
+is_code_of_link (link.Coa peer) code = is_reverse_reply code
+
+-- whether a code is taken at a place from a sender
+abbrev pub is_taken : Place → Side → ℕ → Bool
+is_taken place.Auth (side.Peer i) code = code == ACCESS_REQUEST
+is_taken place.Acct (side.Peer i) code = code == ACCOUNTING_REQUEST
+is_taken (place.Out realm) (side.Link l) code = is_code_of_link l code
+is_taken (place.Reverse realm) (side.Home i) code = is_reverse_request code
+is_taken _ _ code = false
+
+-- a check with its refusal, and what follows where it holds
+abbrev pub checked : Bool → Refusal → Admission → Admission
+checked holds why further = if holds then further else refused why
+
+-- whether a request is signed where its code says that it is (RFC 2866 section 3, RFC 5176 section 2.3)
+abbrev pub is_rightly_signed : List ℕ → Packet → Bool
+is_rightly_signed secret p = p.code == ACCESS_REQUEST || is_signed_request secret p
+
+-- whether it is well sealed: over its own Authenticator in an Access-Request, over zeros in any other
+-- (RFC 3579, section 3.2; the second is ours)
+abbrev pub is_rightly_sealed : List ℕ → Packet → Bool
+is_rightly_sealed secret p =
+    is_well_sealed secret ((if p.code == ACCESS_REQUEST then p.authenticator else zero_octets) ∷ []) p
+
+-- whether an Access-Request has a Message-Authenticator where it must: with an EAP-Message (RFC 3579,
+-- section 3.1), and from a peer of which it is required (ours)
+abbrev pub has_needed_seal : Bool → Packet → Bool
+has_needed_seal required p =
+    not (p.code == ACCESS_REQUEST)
+    || nat_lt 0 (count_of MESSAGE_AUTHENTICATOR p.attributes)
+    || (count_of EAP_MESSAGE p.attributes == 0 && not required)
+
+-- whether a peer is required to seal its Access-Requests
+abbrev pub seal_required : ConfigView → Side → Bool
+seal_required config (side.Peer i) = option_map_or (λ p. p.require_seal) (slice_get config.peers i) false
+seal_required config _ = false
+
+-- a packet that passed, as the event of a realm
+abbrev pub given_to : Arrival → Side → Packet → ℕ → Admission
+given_to a s p realm =
+    admitted (record { realm = realm; place = a.at; from = a.from; side = s; octets = packet_text p })
+
+-- a request of a realm, where its forwarded packet has at most 4096 octets
+abbrev pub forwarded_for : Arrival → Side → Packet → ℕ → Admission
+forwarded_for a s p realm = checked (nat_le (forwarded_length p) 4096) refusal.TooLong (given_to a s p realm)
+
+-- the local reject, where it has at most 4096 octets
+abbrev pub rejected_for : List ℕ → Arrival → Packet → Admission
+rejected_for secret a p =
+    checked (nat_le (reject_length p) 4096) refusal.TooLong
+    (rejected (record { realm = None; from = a.at; to = a.from; bytes = packet_text (local_reject secret p) }))
+
+-- a request that names its realm, or none
+abbrev pub named : Arrival → Side → Packet → Option ℕ → Admission
+named a s p None = refused refusal.NoRealm
+named a s p (Some realm) = forwarded_for a s p realm
+
+-- what a request that passed the checks of its signature and seal gives: to the realm of its place
+-- where it came from a home server; else to the realm that it names
+abbrev pub routed : ConfigView → List ℕ → Arrival → Side → Packet → Place → Admission
+routed config secret a s p (place.Reverse realm) = forwarded_for a s p realm
+routed config secret a s p place.Auth =
+    if is_rejected config p then rejected_for secret a p
+    else named a s p (realm_of config p.attributes)
+routed config secret a s p _ = named a s p (realm_of config p.attributes)
+
+-- what a request gives
+abbrev pub request_admission : ConfigView → List ℕ → Arrival → Side → Packet → Admission
+request_admission config secret a s p =
+    checked (is_rightly_signed secret p) refusal.BadAuthenticator
+    (checked (is_rightly_sealed secret p) refusal.BadMessageAuthenticator
+    (checked (has_needed_seal (seal_required config s) p) refusal.MissingMessageAuthenticator
+    (routed config secret a s p a.at)))
+
+-- what a packet of a known sender and a code that is taken gives: a reply goes to the realm of its
+-- place as it is, and is judged there
+abbrev pub packet_admission : ConfigView → Arrival → Side → Packet → Place → Admission
+packet_admission config a s p (place.Out realm) = given_to a s p realm
+packet_admission config a (side.Peer i) p _ =
+    request_admission config (peer_secret config i) a (side.Peer i) p
+packet_admission config a (side.Home i) p (place.Reverse realm) =
+    request_admission config (home_secret config realm i) a (side.Home i) p
+packet_admission config a s p _ = refused refusal.WrongCode
+
+-- what a packet gives: the source first, then the code
+abbrev pub sent_admission : (Place → Side → ℕ → Bool) → ConfigView → Arrival → Packet → Option Side → Admission
+sent_admission takes config a p None = refused refusal.UnknownSource
+sent_admission takes config a p (Some s) =
+    checked (takes a.at s p.code) refusal.WrongCode (packet_admission config a s p a.at)
+
+-- what is read, and what it gives
+abbrev pub read_admission : (Place → Side → ℕ → Bool) → ConfigView → Arrival → Result Packet Refusal → Admission
+read_admission takes config a (Err why) = refused why
+read_admission takes config a (Ok p) = sent_admission takes config a p (sender config a a.at)
+
+-- what an arrival gives, where these codes are taken
+unfoldable pub admission_by : (Place → Side → ℕ → Bool) → ConfigView → Arrival → Admission
+admission_by takes config a = read_admission takes config a (reading a.octets)
+
+-- what an arrival gives
+abbrev pub admission : ConfigView → Arrival → Admission
+admission config a = admission_by is_taken config a
+
+-- the codes that are served by now: accounting requests and responses. All others are refused as
+-- WrongCode until they are served
+abbrev pub is_served : Place → Side → ℕ → Bool
+is_served at s code =
+    is_taken at s code && (code == ACCOUNTING_REQUEST || code == ACCOUNTING_RESPONSE)

@@ -1,0 +1,32 @@
+-- What the code's datagrams, jobs and packets are seen as.
+use Rattle.std.specs.Prelude.{◌≡◌, ◌⊎◌, Result, Ok, Err}
+use Rattle.roam_wire.specs.declared.refusal.Refusal.{Refusal}
+use Rattle.roam_wire.specs.declared.refusal.Refusal.TheVariants as refusal
+use Rattle.roam_route.specs.declared.datagram.Datagram.{Datagram}
+use Rattle.roam_route.specs.declared.datagram.Out.{Out}
+use Rattle.roam_route.specs.declared.job.Job.{Job}
+use Rattle.roam_route.specs.declared.job.Prepared.{Prepared}
+use Rattle.roam_route.specs.declared.job.Prepared.TheVariants as prepared
+use Rattle.roam_route.specs.Admission.{Arrival, PlainJob, PlainOut, Admission, refused, rejected, admitted}
+
+-- a datagram
+abbrev pub shown_arrival : {A : Type 0} → Datagram A → Arrival
+shown_arrival d = record { at = d.at; from = d.from; octets = d.octets }
+
+-- an event of a realm
+abbrev pub shown_job : {A : Type 0} → Job A → PlainJob
+shown_job j = record { realm = j.realm; place = j.place; from = j.from; side = j.side; octets = j.octets }
+
+-- a packet that leaves
+abbrev pub shown_out : {A : Type 0} → Out A → PlainOut
+shown_out o = record { realm = o.realm; from = o.from; to = o.to; bytes = o.bytes }
+
+-- what `prepare` answers
+abbrev pub shown : {A : Type 0} → Result (Prepared A) Refusal → Admission
+shown (Ok (prepared.Job j)) = admitted (shown_job j)
+shown (Ok (prepared.Reject o)) = rejected (shown_out o)
+shown (Err why) = refused why
+
+-- an answer of `prepare` is this admission, or NoMemory, since a growth may be refused
+abbrev pub Answers : {A : Type 0} → Result (Prepared A) Refusal → Admission → Type 0
+Answers result admission = (result ≡ Err refusal.NoMemory) ⊎ (shown result ≡ admission)

@@ -1,0 +1,30 @@
+-- The realm that a request's User-Name gives, and the access server that its attributes name (RFC
+-- 2865, sections 2.3, 5.1, 5.4 and 5.32; how a name gives a realm is ours).
+use Rattle.std.specs.Prelude.{ℕ, ◌==◌, List, [], ◌∷◌, Option, Some, None, if◌then◌else◌, option_and_then}
+use Rattle.roam_wire.specs.Packet.{Attribute}
+use Rattle.roam_wire.specs.Attributes.{first_value}
+use Rattle.roam_wire.specs.declared.attribute_type.TheConstants.{USER_NAME, NAS_IP_ADDRESS, NAS_IDENTIFIER}
+use Rattle.roam_conf.specs.Config.{ConfigView}
+use Rattle.roam_conf.specs.Lookup.{realm_named}
+
+-- what follows a later `@`, else what follows this octet where it is one
+abbrev pub part_after : ℕ → List ℕ → Option (List ℕ) → Option (List ℕ)
+part_after octet octets (Some part) = Some part
+part_after octet octets None = if octet == 64 then Some octets else None
+
+-- what follows the last `@` of a name, whose octet is 64; none where there is no `@` (ours)
+abbrev pub realm_part : List ℕ → Option (List ℕ)
+realm_part [] = None
+realm_part (octet ∷ octets) = part_after octet octets (realm_part octets)
+
+-- the realm of a request: the configured one whose name, without ASCII case and matched whole, is what
+-- follows the last `@` of the first User-Name (ours)
+abbrev pub realm_of : ConfigView → List Attribute → Option ℕ
+realm_of config attributes =
+    option_and_then (realm_named config.realms)
+    (option_and_then realm_part (first_value USER_NAME attributes))
+
+-- the access server that a packet names: its first NAS-IP-Address, and its first NAS-Identifier (RFC
+-- 2865, sections 5.4 and 5.32)
+abbrev pub nas_of : List Attribute → Option (List ℕ) × Option (List ℕ)
+nas_of attributes = (first_value NAS_IP_ADDRESS attributes, first_value NAS_IDENTIFIER attributes)

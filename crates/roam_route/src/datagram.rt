@@ -1,0 +1,29 @@
+//! Datagrams that arrive, and packets that leave.
+
+use roam_conf::{Endpoint, Place};
+use roam_wire::Octets;
+use std::alloc::Allocator;
+
+/// A datagram that arrived.
+#[derive(Drop)]
+pub struct Datagram<A: Allocator> {
+    /// The place where it arrived.
+    pub at: Place,
+    /// Where it came from.
+    pub from: Endpoint,
+    /// All of its octets, padding too.
+    pub octets: Octets<A>,
+}
+
+/// A packet that leaves.
+#[derive(Drop)]
+pub struct Out<A: Allocator> {
+    /// The index of the realm for which it is sent; none for a local reject.
+    pub realm: Option<u16>,
+    /// The place that it leaves from.
+    pub from: Place,
+    /// Where it goes.
+    pub to: Endpoint,
+    /// The packet's octets.
+    pub bytes: Octets<A>,
+}

@@ -1,0 +1,41 @@
+//! What a realm is given: a request or a reply.
+
+use crate::datagram::Out;
+use roam_conf::{Endpoint, Link, Place};
+use roam_wire::Octets;
+use std::alloc::Allocator;
+
+/// Who sent a packet, and so with whom the broker shares its secret.
+#[derive(Clone, Copy, Debug, PartialEq, Eq)]
+pub enum Side {
+    /// The peer of this index.
+    Peer(u16),
+    /// A link of the realm: one of the remote endpoints to which its packets are forwarded.
+    Link(Link),
+    /// The realm's home server of this place, in the order of use.
+    Home(u8),
+}
+
+/// A packet that passed the checks of its arrival: the event of one realm.
+#[derive(Drop)]
+pub struct Job<A: Allocator> {
+    /// The index of the realm.
+    pub realm: u16,
+    /// The place where it arrived.
+    pub place: Place,
+    /// Where it came from.
+    pub from: Endpoint,
+    /// Who sent it.
+    pub side: Side,
+    /// The packet's octets, up to its Length.
+    pub octets: Octets<A>,
+}
+
+/// What an arrival gives, unless it is refused.
+#[derive(Drop)]
+pub enum Prepared<A: Allocator> {
+    /// An event of a realm.
+    Job(Job<A>),
+    /// A local reject, which needs no realm and no state.
+    Reject(Out<A>),
+}

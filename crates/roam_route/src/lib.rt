@@ -1,0 +1,21 @@
+//! From a datagram to the event of a realm (RFC 2865, sections 2.3 and 3).
+//!
+//! Nothing here has state, takes a lock or looks at a moment: what an arrival gives depends on the
+//! datagram and the configuration alone.
+#![tactic(auto)]
+
+mod admission;
+mod checks;
+mod datagram;
+mod job;
+mod laws;
+mod nas;
+mod source;
+mod user_name;
+
+pub use admission::prepare;
+pub use datagram::{Datagram, Out};
+pub use job::{Job, Prepared, Side};
+pub use laws::{events, names};
+pub use nas::{NasName, nas_of};
+pub use user_name::realm_of;

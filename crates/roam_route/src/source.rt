@@ -1,0 +1,102 @@
+//! Who sent a datagram, the secret shared with it, and the codes that are taken from it.
+
+ghost use Rattle.std.specs.Prelude.{◌≡◌, ℕ, ◌<◌, ◌≤◌, Some, length, vec_len};
+ghost use Rattle.roam_conf.specs.Shown.{shown};
+ghost use Rattle.roam_wire.specs.Codes.{is_access_reply, is_reverse_reply, is_reverse_request};
+ghost use Rattle.roam_route.specs.Admission.{is_code_of_link, is_served, is_taken, peer_secret, sender};
+ghost use Rattle.roam_route.specs.Shown.{shown_arrival};
+
+use crate::datagram::Datagram;
+use crate::job::Side;
+use roam_conf::{Config, Link, Place};
+use roam_wire::code::{
+    ACCESS_ACCEPT, ACCESS_CHALLENGE, ACCESS_REJECT, ACCESS_REQUEST, ACCOUNTING_REQUEST,
+    ACCOUNTING_RESPONSE, COA_ACK, COA_NAK, COA_REQUEST, DISCONNECT_ACK, DISCONNECT_NAK,
+    DISCONNECT_REQUEST,
+};
+use std::alloc::Allocator;
+
+/// Who the source of a datagram is at its place; none where the broker shares no secret with it there,
+/// or where the place's realm isn't configured.
+pub(crate) fn sender<A: Allocator>(config: &Config, datagram: &Datagram<A>) -> Option<Side>
+    ensures value { result
+        ≡ sender (shown config.now) (shown_arrival datagram.now) datagram.now.at }
+    ensures peer { (i : ℕ) → result ≡ Some (Side.Peer i) → i < vec_len config.now.peers }
+{
+    match datagram.at {
+        Place::Auth | Place::Acct => match config.peer_by_ip(datagram.from.ip) {
+            Some(peer) => Some(Side::Peer(peer)),
+            None => None,
+        },
+        Place::Out(realm) => match config.link_of(realm, datagram.from) {
+            Some(link) => Some(Side::Link(link)),
+            None => None,
+        },
+        Place::Reverse(realm) => match config.home_of(realm, datagram.from.ip) {
+            Some(server) => Some(Side::Home(server)),
+            None => None,
+        },
+    }
+}
+
+/// The secret shared with a peer.
+pub(crate) fn secret_of_peer(config: &Config, peer: u16) -> &[u8]
+    requires { peer < vec_len config.now.peers }
+    ensures text { result.now ≡ peer_secret (shown config.now) peer }
+    ensures at_least_one { 1 ≤ length result.now }
+    ensures at_most_64 { length result.now ≤ 64 }
+{
+    config.peers[usize::from(peer)].secret.as_bytes()
+}
+
+/// Whether a code is one of the replies of a home server to an Access-Request (RFC 2865, section 4).
+fn is_access_reply(code: u8) -> bool
+    ensures { result ≡ is_access_reply code }
+{
+    code == ACCESS_ACCEPT || code == ACCESS_REJECT || code == ACCESS_CHALLENGE
+}
+
+/// Whether a code is a Disconnect- or CoA-Request (RFC 5176, section 2.3).
+fn is_reverse_request(code: u8) -> bool
+    ensures { result ≡ is_reverse_request code }
+{
+    code == DISCONNECT_REQUEST || code == COA_REQUEST
+}
+
+/// Whether a code is an access server's reply to such a request (RFC 5176, section 2.3).
+fn is_reverse_reply(code: u8) -> bool
+    ensures { result ≡ is_reverse_reply code }
+{
+    code == DISCONNECT_ACK || code == DISCONNECT_NAK || code == COA_ACK || code == COA_NAK
+}
+
+/// Whether a link sends this code.
+fn is_code_of_link(link: Link, code: u8) -> bool
+    ensures { result ≡ is_code_of_link link code }
+{
+    match link {
+        Link::Auth(_) => is_access_reply(code),
+        Link::Acct(_) => code == ACCOUNTING_RESPONSE,
+        Link::Coa(_) => is_reverse_reply(code),
+    }
+}
+
+/// Whether a code is taken at a place from a sender.
+fn is_taken(at: Place, side: Side, code: u8) -> bool
+    ensures { result ≡ is_taken at side code }
+{
+    match (at, side) {
+        (Place::Auth, Side::Peer(_)) => code == ACCESS_REQUEST,
+        (Place::Acct, Side::Peer(_)) => code == ACCOUNTING_REQUEST,
+        (Place::Out(_), Side::Link(link)) => is_code_of_link(link, code),
+        (Place::Reverse(_), Side::Home(_)) => is_reverse_request(code),
+        _ => false,
+    }
+}
+
+/// Whether a code is taken at a place from a sender, and served by now: accounting alone is.
+pub(crate) fn is_served(at: Place, side: Side, code: u8) -> bool
+    ensures { result ≡ is_served at side code }
+{
+    is_taken(at, side, code) && (code == ACCOUNTING_REQUEST || code == ACCOUNTING_RESPONSE)
+}
