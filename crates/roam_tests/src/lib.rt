@@ -11,6 +11,8 @@ mod roam_auth_tests;
 #[cfg(test)]
 mod roam_back_tests;
 #[cfg(test)]
+mod roam_conf_tests;
+#[cfg(test)]
 mod roam_fwd_tests;
 #[cfg(test)]
 mod roam_hide_tests;
