@@ -1,4 +1,5 @@
-//! A caller for each crate, as a server above would write it: proved from the crates' contracts alone.
+//! A caller for each crate, as a server above would write it: proved from the crates' contracts
+//! alone.
 
 ghost use Rattle.std.specs.Prelude.{◌≡◌, ◌↔◌, ◌≤◌, [], ◌∷◌, IsTrue, length, option_map, string_bytes};
 ghost use Rattle.std.specs.Bool.{OnTrue};
@@ -53,7 +54,8 @@ pub fn pass_on(value: &mut [u8], from: HidingKey<'_>, to: HidingKey<'_>) -> bool
     fits
 }
 
-/// Gives a request the next free Identifier of a lane, and parks it there under the request's ticket.
+/// Gives a request the next free Identifier of a lane, and parks it there under the request's
+/// ticket.
 pub fn admit(lane: &mut Lane, ticket: u64) -> Option<u8>
     ensures { result ≡ next_identifier (is_used lane.old) lane.old.cursor }
 {
@@ -63,8 +65,8 @@ pub fn admit(lane: &mut Lane, ticket: u64) -> Option<u8>
     Some(id)
 }
 
-/// Whether an accounting request is signed by the peer of this address. That the peer's secret has 1 to
-/// 64 octets is the configuration's invariant: nothing here tests it.
+/// Whether an accounting request is signed by the peer of this address. That the peer's secret has
+/// 1 to 64 octets is the configuration's invariant: nothing here tests it.
 pub fn is_signed_by_peer(config: &Config, ip: [u8; 4], request: &View<'_>) -> bool {
     match config.peer_by_ip(ip) {
         Some(peer) => is_signed_by(&config.peers[usize::from(peer)], request),

@@ -1,0 +1,189 @@
+//! The sample documents, what a change makes of them, and the fault that each has.
+
+use roam_conf::{ConfFault, Config, Endpoint};
+use std::alloc::Global;
+use std::process::Abort;
+use std::test::Fail;
+
+/// The seed's line in `TOP`.
+pub const SEED: &str =
+    "seed = \"0000000000000000000000000000000000000000000000000000000000000000\"\n";
+
+pub const TOP: &str = "shards = 1
+seed = \"0000000000000000000000000000000000000000000000000000000000000000\"
+auth = \"127.0.0.1:1812\"
+acct = \"127.0.0.1:1813\"
+trace_limit = 1000
+";
+
+pub const PEER: &str = "
+[[peer]]
+name = \"nas1\"
+ip = \"192.0.2.1\"
+secret = \"xyzzy5461\"
+coa = \"192.0.2.1:3799\"
+nas_ip = \"192.0.2.1\"
+nas_id = \"nas1\"
+";
+
+pub const REALM: &str = "
+[[realm]]
+name = \"a.example\"
+out = \"127.0.0.1:2000\"
+reverse = \"127.0.0.1:3000\"
+tries = 2
+wait = 1000
+hold = 5000
+max_pending = 300
+max_sessions = 100
+";
+
+pub const SERVER: &str = "
+[[realm.server]]
+auth = \"198.51.100.1:1812\"
+acct = \"198.51.100.1:1813\"
+secret = \"h1\"
+";
+
+pub const SECOND_PEER: &str = "
+[[peer]]
+name = \"nas2\"
+ip = \"192.0.2.2\"
+secret = \"s\"
+";
+
+pub const THIRD_PEER: &str = "
+[[peer]]
+name = \"nas3\"
+ip = \"192.0.2.3\"
+secret = \"s\"
+";
+
+pub const SECOND_REALM: &str = "
+[[realm]]
+name = \"b.example\"
+out = \"127.0.0.1:2001\"
+reverse = \"127.0.0.1:3001\"
+tries = 2
+wait = 1000
+hold = 5000
+max_pending = 300
+max_sessions = 100
+";
+
+pub const THIRD_REALM: &str = "
+[[realm]]
+name = \"c.example\"
+out = \"127.0.0.1:2002\"
+reverse = \"127.0.0.1:3002\"
+tries = 2
+wait = 1000
+hold = 5000
+max_pending = 300
+max_sessions = 100
+";
+
+pub const SECOND_SERVER: &str = "
+[[realm.server]]
+auth = \"198.51.100.2:1812\"
+acct = \"198.51.100.2:1813\"
+secret = \"h2\"
+";
+
+/// The sample configuration, whose peer, realm and server are one each.
+pub const SAMPLE: [&str; 4] = [TOP, PEER, REALM, SERVER];
+
+/// A change: the first text that is replaced, what stands there then, and the fault of what comes.
+pub type Change = (&'static str, &'static str, Option<ConfFault>);
+
+/// An endpoint of a home server.
+pub fn home_server(last: u8, port: u16) -> Endpoint {
+    Endpoint {
+        ip: [198, 51, 100, last],
+        port,
+    }
+}
+
+/// The parts in a row.
+pub fn joined(alloc: Global, parts: &[&str]) -> Result<String, Fail> {
+    let mut text = String::new(alloc);
+    for part in parts {
+        text.push_str(part)?;
+    }
+    Ok(text)
+}
+
+/// The text with the first `old` in it replaced.
+pub fn changed(alloc: Global, text: &str, old: &str, new: &str) -> Result<String, Fail> {
+    let (front, back) = text
+        .split_once(old)
+        .ok_or("the text to be changed isn't there")?;
+    joined(alloc, &[front, new, back])
+}
+
+/// The sample with the first `old` in it replaced.
+pub fn sample_with(alloc: Global, old: &str, new: &str) -> Result<String, Fail> {
+    let text = joined(alloc, &SAMPLE)?;
+    changed(alloc, text.as_str(), old, new)
+}
+
+/// The configuration that a document of these parts states.
+pub fn config_of(alloc: Global, parts: &[&str]) -> Result<Config, Fail> {
+    let text = joined(alloc, parts)?;
+    Ok(Config::read(alloc, text.as_str())?)
+}
+
+/// The fault of a text, or `None` where it is accepted.
+pub fn fault_of(alloc: Global, text: &str) -> Option<ConfFault> {
+    match Config::read(alloc, text) {
+        Ok(_) => None,
+        Err(fault) => Some(fault),
+    }
+}
+
+/// The sample with each of these changes has this fault.
+pub fn expect_fault_of_each(
+    rt: &impl Abort,
+    alloc: Global,
+    changes: &[(&str, &str)],
+    expected: Option<ConfFault>,
+) -> Result<(), Fail> {
+    for &(old, new) in changes {
+        expect_fault_after(rt, alloc, old, new, expected)?;
+    }
+    Ok(())
+}
+
+/// A document of these parts has this fault.
+pub fn expect_fault(
+    rt: &impl Abort,
+    alloc: Global,
+    parts: &[&str],
+    expected: Option<ConfFault>,
+    what: &str,
+) -> Result<(), Fail> {
+    let text = joined(alloc, parts)?;
+    assert_eq!(rt; fault_of(alloc, text.as_str()), expected, "{what}");
+    Ok(())
+}
+
+/// The sample with a change has this fault.
+pub fn expect_fault_after(
+    rt: &impl Abort,
+    alloc: Global,
+    old: &str,
+    new: &str,
+    expected: Option<ConfFault>,
+) -> Result<(), Fail> {
+    let text = sample_with(alloc, old, new)?;
+    assert_eq!(rt; fault_of(alloc, text.as_str()), expected, "{old} and {new}");
+    Ok(())
+}
+
+/// Each change of the sample has its fault.
+pub fn expect_faults_after(rt: &impl Abort, alloc: Global, changes: &[Change]) -> Result<(), Fail> {
+    for &(old, new, expected) in changes {
+        expect_fault_after(rt, alloc, old, new, expected)?;
+    }
+    Ok(())
+}

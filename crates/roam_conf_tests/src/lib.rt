@@ -1,0 +1,19 @@
+//! The configuration: which documents are accepted and what is read from them, and which fault each
+//! other one has.
+//!
+//! The sample documents and the expected faults are those of the format's description: its sample
+//! configuration, its table of changes, and its ranges.
+#![tactic(auto)]
+
+#[cfg(test)]
+mod bound_tests;
+#[cfg(test)]
+mod documents;
+#[cfg(test)]
+mod duplicate_tests;
+#[cfg(test)]
+mod fault_tests;
+#[cfg(test)]
+mod look_up_tests;
+#[cfg(test)]
+mod sample_tests;

@@ -1,0 +1,12 @@
+//! Packets that leave, against octets from outside: what is forwarded for a request, which replies
+//! are taken, and what is returned for them.
+#![tactic(auto)]
+
+#[cfg(test)]
+mod back_tests;
+#[cfg(test)]
+mod exchanges;
+#[cfg(test)]
+mod fwd_tests;
+#[cfg(test)]
+mod reply_tests;
