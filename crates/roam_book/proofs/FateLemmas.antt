@@ -1,0 +1,286 @@
+-- What becomes of a due entry is the definition's step, and the realm stays sound.
+use Rattle.std.proofs.Common.{◌≡◌, ℕ, ◌+◌, ◌%◌, ◌<◌, ◌≤◌, true, List, [], ◌∷◌, Option, Some, None, refl, ap, sym, ◌∙◌, subst, arith, inl, inr, length, ltb}
+use Rattle.std.specs.Prelude.{IfSome, option_map, slice_set}
+use Rattle.std.specs.List.{AllByRecursion, find}
+use Rattle.std.proofs.lemmas.Bool.Decides.{nat_tests}
+use Rattle.std.proofs.lemmas.Bool.{cases_eq}
+use Rattle.roam_conf.specs.declared.place.Link.{Link}
+use Rattle.roam_conf.specs.declared.place.Link.TheVariants as link
+use Rattle.roam_pending.specs.declared.entry.Standing.TheVariants as standing
+use Rattle.roam_pending.specs.declared.entry.Waiting.{Waiting}
+use Rattle.roam_pending.specs.PlainEntry.{PlainRequest, PlainStanding, PlainEntry, waiting, done, is_done, stands_done}
+use Rattle.roam_pending.specs.EntryList.{IsInOrder, find_ticket, without, put}
+use Rattle.roam_pending.specs.Realms.{sent_again, waits_on, with_standing}
+use Rattle.roam_pending.specs.Shown.{shown_standing}
+use Rattle.roam_pending.proofs.OrderLemmas.{list-without}
+use Rattle.roam_pending.proofs.ChangeLemmas.{find-passes, find-put, find-put_other, find-without, find-without_other, put-without}
+use Rattle.roam_route.specs.Admission.{PlainOut}
+use Rattle.roam_route.specs.Shown.{shown_out}
+use Rattle.roam_route.specs.declared.datagram.Out.{Out}
+use Rattle.roam_ids.specs.LaneState.{LaneState}
+use Rattle.roam_book.specs.declared.fate.Fate.{Fate}
+use Rattle.roam_book.specs.declared.fate.Fate.TheVariants as fate
+use Rattle.roam_book.specs.declared.numbers.Numbers.{Numbers}
+use Rattle.roam_book.specs.declared.service.Service.TheVariants as service
+use Rattle.roam_book.specs.RealmConfig.{RealmConfig, IsLink, link_place, later_targets}
+use Rattle.roam_book.specs.RealmState.{Target, next_toward, first_target}
+use Rattle.roam_book.specs.OnRequest.{packet_to, forwarded_octets, forwarded_entry}
+use Rattle.roam_book.specs.OnTick.{fail_over, without_entry, due_standing}
+use Rattle.roam_book.specs.Sound.{IsEntry, IsWaiting, StandsWell, IsSound, LanesTell, state_of, cursors_of, lane_of, has_free, is_open}
+use Rattle.roam_book.specs.Rooms.{size_of}
+use Rattle.roam_book.specs.Fates.{IsHeld, IsFate, fate_entries}
+use Rattle.roam_book.proofs.SoundLemmas.{kept-put, kept-without, kept-ticket}
+use Rattle.roam_book.proofs.LaneLemmas.{tells-gone, tells-again, target-tells, target-next, links-are}
+
+-- A realm whose entries change
+
+-- the numbers that a realm hands out are as they were, but for the lanes
+pub record IsSameBut {A : Type 0} (old new : Numbers A) : Type 0 where
+  pub count : length new.lanes.items ≡ length old.lanes.items
+  pub ticket : new.ticket ≡ old.ticket
+  pub stream_position : new.stream_position ≡ old.stream_position
+
+pub sound-changed :
+    {A : Type 0} (c : RealmConfig) (es fs : List PlainEntry) (n m : Numbers A) → IsSound c es n
+    → IsSameBut n m → AllByRecursion (IsEntry c n.ticket) fs → LanesTell c fs m.lanes.items
+    → IsSound c fs m
+sound-changed c es fs n m sound same each tells = record {
+  each = rw same.ticket each;
+  ticket = omega (arith, same.ticket, sound.ticket);
+  stream_position = rw same.stream_position sound.stream_position;
+  lane_count = same.count ∙ sound.lane_count;
+  lanes_tell = tells;
+}
+
+same-numbers : {A : Type 0} (n : Numbers A) → IsSameBut n n
+same-numbers n = record { count = refl; ticket = refl; stream_position = refl }
+
+-- A done entry
+
+pub gone-done :
+    {A : Type 0} (c : RealmConfig) (now : ℕ) (es : List PlainEntry) (e : PlainEntry) (n : Numbers A)
+    (reply : List ℕ) (deadline : ℕ) → e.standing ≡ done reply deadline → IsHeld c es e n
+    → IsFate c now es e n fate.Gone (due_standing c now (state_of es n) e e.standing)
+gone-done {A} c now es e n reply deadline stands held =
+    let is : is_done e ≡ true = ap stands_done stands in
+    let each = kept-without c n.ticket e.ticket es held.sound.each in
+    let tells = tells-gone c es n.lanes.items e.ticket e held.sound.lanes_tell held.found is in
+    subst (λ (p : PlainStanding). IsFate c now es e n fate.Gone
+    (due_standing c now (state_of es n) e p)) (sym stands) (record {
+      packets = refl;
+      state = refl;
+      sound = sound-changed c es (without e.ticket es) n n held.sound (same-numbers n) each tells;
+    })
+
+-- An entry that is sent again
+
+stands-again :
+    (c : RealmConfig) (q : PlainRequest) (s : PlainStanding) (d : ℕ) → StandsWell c q s
+    → StandsWell c q (waits_on d s)
+stands-again c q (waiting l id forwarded sends_left deadline) d h = h
+stands-again c q (done reply deadline) d h = h
+
+entry-again : (c : RealmConfig) (n : ℕ) (e : PlainEntry) (d : ℕ) → IsEntry c n e
+    → IsEntry c n (sent_again d e)
+entry-again c n e d h = record {
+  ticket = h.ticket;
+  request = h.request;
+  standing = stands-again c e.request e.standing d h.standing;
+}
+
+pub again :
+    {A : Type 0} (c : RealmConfig) (now : ℕ) (es : List PlainEntry) (e : PlainEntry) (n : Numbers A)
+    (l : Link) (id : ℕ) (forwarded : List ℕ) (sends_left deadline : ℕ) (out : Out A)
+    → e.standing ≡ waiting l id forwarded sends_left deadline → 0 < sends_left
+    → shown_out out ≡ packet_to c l forwarded → IsHeld c es e n
+    → IsFate c now es e n (fate.SentAgain out) (due_standing c now (state_of es n) e e.standing)
+again c now es e n l id forwarded sends_left deadline out stands some sent held =
+    let d = now + c.realm.wait in
+    let left : ltb 0 sends_left ≡ true = grind (arith, nat_tests) in
+    let here = entry-again c n.ticket e d
+    (kept-ticket c n.ticket e.ticket e es held.found held.sound.each) in
+    let each = kept-put c n.ticket (sent_again d e) es here held.sound.each in
+    let tells = tells-again c es n.lanes.items e.ticket e d held.sound.lanes_tell held.found in
+    let sound = sound-changed c es (put (sent_again d e) es) n n held.sound (same-numbers n) each
+    tells in
+    subst (λ (p : PlainStanding). IsFate c now es e n (fate.SentAgain out)
+    (due_standing c now (state_of es n) e p)) (sym stands)
+    (rw left (record { packets = ap (λ (p : PlainOut). p ∷ []) sent; state = refl; sound = sound }))
+
+-- An entry that isn't sent again: its Identifier was given back
+
+pub record IsFreed {A : Type 0} (c : RealmConfig) (es : List PlainEntry)
+    (old new : Numbers A) : Type 0 where
+  pub cursors : cursors_of new.lanes.items ≡ cursors_of old.lanes.items
+  pub tells : LanesTell c es new.lanes.items
+  pub same : IsSameBut old new
+
+pub later-links : (c : RealmConfig) (l : Link) → AllByRecursion (IsLink c) (later_targets c l)
+later-links c (link.Auth server) = links-are c service.Authentication (server + 1)
+later-links c (link.Acct server) = links-are c service.Accounting (server + 1)
+later-links c (link.Coa peer) = tt
+
+-- the first later target is found by the lanes
+target-is :
+    {A : Type 0} (c : RealmConfig) (es : List PlainEntry) (e : PlainEntry) (n m : Numbers A)
+    (l : Link)
+    → IsHeld c es e n → IsFreed c (without e.ticket es) n m
+    → option_map (λ t. t.link) (first_target c (cursors_of n.lanes.items) (without e.ticket es)
+    (later_targets c l))
+    ≡ find (is_open c m.lanes.items None) (later_targets c l)
+target-is c es e n m l held freed =
+    let told = target-tells c (without e.ticket es) m.lanes.items (later_targets c l)
+    (list-without e.ticket es held.list) freed.tells (later-links c l) in
+    rw freed.cursors at told
+
+no_target : (o : Option Target) → option_map (λ t. t.link) o ≡ None → o ≡ None
+no_target None h = refl
+no_target (Some t) h = absurd (let k : Some t.link ≡ None = h in cc)
+
+a_target :
+    (o : Option Target) (l : Link) → option_map (λ t. t.link) o ≡ Some l
+    → (t : Target) × (o ≡ Some t) × (t.link ≡ l)
+a_target None l h = absurd (let k : None ≡ Some l = h in cc)
+a_target (Some t) l h = let k : Some t.link ≡ Some l = h in let is : t.link
+    ≡ l = cc in (t, refl, is)
+
+same_target : (t : Target) (l : Link) (i : ℕ) → t.link ≡ l → t.id ≡ i
+    → t ≡ record { link = l; id = i }
+same_target t l i at is = rw (← at, ← is) refl
+
+-- the target that is found has a free Identifier
+pub free-target :
+    (c : RealmConfig) (lanes : List LaneState) (links : List Link) (o : Option Link)
+    → o ≡ find (is_open c lanes None) links → IfSome o (λ l. has_free (lane_of c lanes l) ≡ true)
+free-target c lanes links None h = tt
+free-target c lanes links (Some l) h = find-passes (is_open c lanes None) links l (sym h)
+
+-- no later target has a free Identifier: the entry goes
+pub gone-freed :
+    {A : Type 0} (c : RealmConfig) (now : ℕ) (es : List PlainEntry) (e : PlainEntry)
+    (n m : Numbers A) (l : Link)
+    → IsHeld c es e n → IsFreed c (without e.ticket es) n m
+    → None ≡ find (is_open c m.lanes.items None) (later_targets c l)
+    → IsFate c now es e m fate.Gone (fail_over c now (without_entry (state_of es n) e) e
+    (first_target c (cursors_of n.lanes.items) (without e.ticket es) (later_targets c l)))
+gone-freed c now es e n m l held freed none =
+    let first = no_target (first_target c (cursors_of n.lanes.items) (without e.ticket es)
+    (later_targets c l)) (target-is c es e n m l held freed ∙ sym none) in
+    let each = kept-without c n.ticket e.ticket es held.sound.each in
+    let state : state_of (without e.ticket es) m ≡ without_entry (state_of es n) e = rw
+    (freed.cursors, freed.same.ticket, freed.same.stream_position) refl in
+    rw first (record {
+      packets = refl;
+      state = state;
+      sound = sound-changed c es (without e.ticket es) n m held.sound freed.same each freed.tells;
+    })
+
+-- where a request is forwarded to
+abbrev pub target_at : Link → ℕ → Target
+target_at l i = record { link = l; id = i }
+
+-- a request was forwarded to a link
+pub record IsSent {A : Type 0} (c : RealmConfig) (now : ℕ) (es : List PlainEntry) (q : PlainRequest)
+    (t : ℕ) (l : Link) (old new : Numbers A) (o : Out A) (w : Waiting A) : Type 0 where
+  pub next : next_toward c (cursors_of old.lanes.items) es l ≡ Some w.id
+  pub out : shown_out o ≡ packet_to c l (forwarded_octets c q t (target_at l w.id))
+  pub standing : shown_standing (standing.Waiting w)
+      ≡ (forwarded_entry c now q t (target_at l w.id)).standing
+  pub waits : IsWaiting c q l w.id w.forwarded
+  pub cursors : cursors_of new.lanes.items ≡ slice_set (cursors_of old.lanes.items) (link_place c l)
+      ((w.id + 1) % 256)
+  pub tells : LanesTell c (put (forwarded_entry c now q t (target_at l w.id)) es) new.lanes.items
+  pub same : IsSameBut old new
+
+stands-waiting :
+    {A : Type 0} (c : RealmConfig) (q : PlainRequest) (l : Link) (w : Waiting A) (f : List ℕ)
+    (s d : ℕ)
+    → shown_standing (standing.Waiting w) ≡ waiting l w.id f s d → IsWaiting c q l w.id w.forwarded
+    → StandsWell c q (shown_standing (standing.Waiting w))
+stands-waiting {A} c q l w f s d is waits =
+    let at : w.link ≡ l = let k : waiting w.link w.id w.forwarded w.sends_left w.deadline ≡ waiting
+    l w.id f s d = is in cc in
+    rw at waits
+
+same-both : {A : Type 0} (n m k : Numbers A) → IsSameBut n m → IsSameBut m k → IsSameBut n k
+same-both n m k h j = record {
+  count = j.count ∙ h.count;
+  ticket = j.ticket ∙ h.ticket;
+  stream_position = j.stream_position ∙ h.stream_position;
+}
+
+-- a later target has one: the request goes there under its ticket
+pub forwarded-freed :
+    {A : Type 0} (c : RealmConfig) (now : ℕ) (es : List PlainEntry) (e : PlainEntry)
+    (n m k : Numbers A) (l to : Link) (o : Out A) (w : Waiting A)
+    → IsHeld c es e n → IsFreed c (without e.ticket es) n m
+    → Some to ≡ find (is_open c m.lanes.items None) (later_targets c l)
+    → IsSent c now (without e.ticket es) e.request e.ticket to m k o w
+    → IsFate c now es e k (fate.Forwarded o w) (fail_over c now (without_entry (state_of es n) e) e
+    (first_target c (cursors_of n.lanes.items) (without e.ticket es) (later_targets c l)))
+forwarded-freed c now es e n m k l to o w held freed some sent =
+    let others = without e.ticket es in
+    let found = a_target (first_target c (cursors_of n.lanes.items) others (later_targets c l)) to
+    (target-is c es e n m l held freed ∙ sym some) in
+    let next = target-next c (cursors_of n.lanes.items) others (later_targets c l) found.0
+    found.1 in
+    let taken : next_toward c (cursors_of n.lanes.items) others found.0.link ≡ Some w.id = rw
+    (found.2, ← freed.cursors) sent.next in
+    let both : Some found.0.id ≡ Some w.id = sym next ∙ taken in
+    let id : found.0.id ≡ w.id = cc in
+    let first = found.1 ∙ ap Some (same_target found.0 to w.id found.2 id) in
+    let new = forwarded_entry c now e.request e.ticket (target_at to w.id) in
+    let is : with_standing (shown_standing (standing.Waiting w)) e ≡ new = ap
+    (λ (s : PlainStanding). with_standing s e) sent.standing in
+    let put_is : put (with_standing (shown_standing (standing.Waiting w)) e) es ≡ put new
+    others = ap (λ (x : PlainEntry). put x es) is ∙ sym (put-without new es) in
+    let old = kept-ticket c n.ticket e.ticket e es held.found held.sound.each in
+    let here : IsEntry c n.ticket (with_standing (shown_standing (standing.Waiting w)) e) = record {
+      ticket = old.ticket;
+      request = old.request;
+      standing = stands-waiting c e.request to w _ _ _ sent.standing sent.waits;
+    } in
+    let each = kept-put c n.ticket (with_standing (shown_standing (standing.Waiting w)) e) es here
+    held.sound.each in
+    let tells = subst (λ (l : List PlainEntry). LanesTell c l k.lanes.items) (sym put_is)
+    sent.tells in
+    let numbers = same-both n m k freed.same sent.same in
+    rw first (record {
+      packets = ap (λ (p : PlainOut). p ∷ []) sent.out;
+      state = rw (put_is, sent.cursors, freed.cursors, numbers.ticket, numbers.stream_position)
+          refl;
+      sound = sound-changed c es _ n k held.sound numbers each tells;
+    })
+
+-- No entry grows
+
+size-put :
+    (t : ℕ) (x e : PlainEntry) (es : List PlainEntry) → IsInOrder es → x.ticket ≡ e.ticket
+    → x.request ≡ e.request → find_ticket e.ticket es ≡ Some e
+    → size_of (find_ticket t (put x es)) ≤ size_of (find_ticket t es)
+size-put t x e es order at is found =
+    elim (cases_eq t x.ticket) [
+      | inl here ↦
+          let new : find_ticket t (put x es) ≡ Some x = rw here (find-put x es) in
+          let old : find_ticket t es ≡ Some e = rw (here, at) found in
+          rw (new, old, is) (omega arith)
+      | inr other ↦ rw (find-put_other t x es order other) (omega arith)
+    ]
+
+size-without : (t s : ℕ) (es : List PlainEntry)
+    → size_of (find_ticket t (without s es)) ≤ size_of (find_ticket t es)
+size-without t s es =
+    elim (cases_eq t s) [
+      | inl here ↦ rw (here, find-without s es) (omega arith)
+      | inr other ↦ rw (find-without_other t s es other) (omega arith)
+    ]
+
+pub size-after :
+    {A : Type 0} (c : RealmConfig) (now t : ℕ) (e : PlainEntry) (es : List PlainEntry) (f : Fate A)
+    → IsInOrder es → find_ticket e.ticket es ≡ Some e
+    → size_of (find_ticket t (fate_entries c now e es f)) ≤ size_of (find_ticket t es)
+size-after c now t e es fate.Gone order found = size-without t e.ticket es
+size-after c now t e es (fate.SentAgain out) order found = size-put t
+    (sent_again (now + c.realm.wait) e) e es order refl refl found
+size-after c now t e es (fate.Forwarded out w) order found = size-put t
+    (with_standing (shown_standing (standing.Waiting w)) e) e es order refl refl found

@@ -1,0 +1,16 @@
+pub mod AdmissionLemmas
+pub mod BookLemmas
+pub mod FateLemmas
+pub mod JobLemmas
+pub mod LaneLemmas
+pub mod LeastLemmas
+pub mod LinkLaneLemmas
+pub mod ReplyLemmas
+pub mod RequestLemmas
+pub mod RoomLemmas
+pub mod SendingLemmas
+pub mod SoundLemmas
+pub mod TakenLaneLemmas
+pub mod TickLemmas
+pub mod UsedLemmas
+pub mod WaitingLemmas

@@ -1,0 +1,171 @@
+-- The links of the servers that are open, and the lane of a link.
+use Rattle.std.proofs.Common.{◌≡◌, ◌≢◌, inl, inr, ℕ, ◌+◌, ◌%◌, ◌<◌, ◌↔◌, ◌||◌, Bool, true, false, not, cond, List, [], ◌∷◌, Option, Some, None, is_some, IsTrue, refl, ap, sym, ◌∙◌, arith, get_or, set, length, drop, drop-cons, add-one}
+use Rattle.std.specs.List.{find}
+use Rattle.std.proofs.lemmas.List.{get_or_default, map-set, set-get_or}
+use Rattle.std.proofs.Math.Seq.{map-set_same}
+use Rattle.roam_conf.specs.Config.{ServerView}
+use Rattle.roam_conf.specs.declared.place.Link.{Link}
+use Rattle.roam_ids.specs.declared.place.Place.TheVariants.{Free, Out, Parked}
+use Rattle.roam_ids.specs.LaneState.{LaneState, is_used, put_at, cursor_past}
+use Rattle.roam_ids.specs.NextIdentifier.{AllUsed, IsNextIdentifier, next_identifier}
+use Rattle.roam_ids.proofs.NextIdentifierLemmas.{next_identifier-is_next, below_256}
+use Rattle.roam_book.specs.declared.service.Service.{Service}
+use Rattle.roam_book.specs.RealmConfig.{RealmConfig, IsLink, link_place, server_link, server_links}
+use Rattle.roam_book.specs.Sound.{is_freed, is_open, has_free, cursors_of, lane_of, no_lane}
+use Rattle.std.proofs.lemmas.Bool.{cases_Bool}
+use Rattle.roam_conf.specs.declared.place.Link.TheVariants as link
+use Rattle.roam_pending.specs.PlainEntry.{PlainEntry, same_link}
+use Rattle.roam_pending.specs.EntryList.{IsEntryList}
+use Rattle.roam_pending.proofs.TestLemmas.{same}
+use Rattle.roam_book.specs.RealmState.{next_toward}
+use Rattle.roam_book.specs.Sound.{LanesTell}
+use Rattle.roam_book.proofs.SoundLemmas.{same_link-equal}
+use Rattle.roam_book.proofs.LaneLemmas.{next-tells}
+
+not_full :
+    (used : ℕ → Bool) (cursor : ℕ) (full : Bool) (o : Option ℕ) → IsTrue full ↔ AllUsed used
+    → IsNextIdentifier used cursor o → not full ≡ is_some o
+not_full used cursor true None tells is = refl
+not_full used cursor false (Some id) tells is = refl
+not_full used cursor true (Some id) tells first =
+    let yes : used id ≡ true = tells.0 refl id (below_256 used cursor id first) in
+    absurd (let k : false ≡ true = sym first.not_used ∙ yes in cc)
+not_full used cursor false None tells all = absurd (let k : false ≡ true = tells.1 all in cc)
+
+-- a lane has a free Identifier where it isn't full
+pub free-not_full :
+    (lane : LaneState) (full : Bool) → IsTrue full ↔ AllUsed (is_used lane)
+    → not full ≡ has_free lane
+free-not_full lane full tells =
+    not_full (is_used lane) lane.cursor full (next_identifier (is_used lane) lane.cursor) tells
+    (next_identifier-is_next (is_used lane) lane.cursor)
+
+-- The links of the servers from a place on
+
+first_of : (servers : List ServerView) (place : ℕ) → place < length servers → ServerView
+first_of [] place lt = absurd (omega arith)
+first_of (s ∷ ss) place lt = s
+
+links_here :
+    (p : Link → Bool) (s : Service) (servers : List ServerView) (place : ℕ) (b : Bool)
+    → place < length servers → p (server_link s place) ≡ b
+    → find p (server_links s place (drop place servers))
+    ≡ cond b (Some (server_link s place)) (find p (server_links s (place + 1) (drop (place + 1) servers)))
+links_here p s servers place b lt is =
+    let first = first_of servers place lt in
+    rw (drop-cons servers place first, is, add-one) refl
+
+-- the link at a place passes, and none before it did; it doesn't pass
+pub link-hit :
+    (p : Link → Bool) (s : Service) (servers : List ServerView) (place : ℕ) (l : Link) (answer : Option Link)
+    → place < length servers → l ≡ server_link s place → p l ≡ true
+    → find p (server_links s place (drop place servers)) ≡ answer → Some l ≡ answer
+link-hit p s servers place l answer lt at is inv =
+    ap Some at ∙ sym (links_here p s servers place true lt (ap p (sym at) ∙ is)) ∙ inv
+
+pub link-skip :
+    (p : Link → Bool) (s : Service) (servers : List ServerView) (place : ℕ) (l : Link) (answer : Option Link)
+    → place < length servers → l ≡ server_link s place → p l ≡ false
+    → find p (server_links s place (drop place servers)) ≡ answer
+    → find p (server_links s (place + 1) (drop (place + 1) servers)) ≡ answer
+link-skip p s servers place l answer lt at is inv =
+    sym (links_here p s servers place false lt (ap p (sym at) ∙ is)) ∙ inv
+
+-- a link is open where it is freed, or by its lane, and otherwise not
+or_true : (b : Bool) → (b || true) ≡ true
+or_true true = refl
+or_true false = refl
+
+pub open-by_freed :
+    (c : RealmConfig) (lanes : List LaneState) (freed : Option Link) (l : Link)
+    → is_freed freed l ≡ true → is_open c lanes freed l ≡ true
+open-by_freed c lanes freed l h = rw h refl
+
+pub open-by_lane :
+    (c : RealmConfig) (lanes : List LaneState) (freed : Option Link) (l : Link)
+    → has_free (lane_of c lanes l) ≡ true → is_open c lanes freed l ≡ true
+open-by_lane c lanes freed l h = ap (λ (b : Bool). is_freed freed l || b) h ∙ or_true (is_freed freed l)
+
+pub open-not :
+    (c : RealmConfig) (lanes : List LaneState) (freed : Option Link) (l : Link)
+    → is_freed freed l ≡ false → has_free (lane_of c lanes l) ≡ false → is_open c lanes freed l ≡ false
+open-not c lanes freed l f h = ap (λ (b : Bool). b || has_free (lane_of c lanes l)) f ∙ h
+
+-- The places of links
+
+-- different links have different places
+pub link_place-one :
+    (c : RealmConfig) (a b : Link) → IsLink c a → IsLink c b → link_place c a ≡ link_place c b → a ≡ b
+link_place-one c (link.Auth a) (link.Auth b) x y at = ap link.Auth at
+link_place-one c (link.Auth a) (link.Acct b) x y at = absurd (omega arith)
+link_place-one c (link.Auth a) (link.Coa b) x y at = absurd (omega arith)
+link_place-one c (link.Acct a) (link.Auth b) x y at = absurd (omega arith)
+link_place-one c (link.Acct a) (link.Acct b) x y at = let is : a ≡ b = omega arith in ap link.Acct is
+link_place-one c (link.Acct a) (link.Coa b) x y at = absurd (omega arith)
+link_place-one c (link.Coa a) (link.Auth b) x y at = absurd (omega arith)
+link_place-one c (link.Coa a) (link.Acct b) x y at = absurd (omega arith)
+link_place-one c (link.Coa a) (link.Coa b) x y at = let is : a ≡ b = omega arith in ap link.Coa is
+
+-- a link is the same as itself
+pub same_link-same : (l : Link) → same_link l l ≡ true
+same_link-same (link.Auth a) = same a a refl
+same_link-same (link.Acct a) = same a a refl
+same_link-same (link.Coa a) = same a a refl
+
+-- links of different places aren't the same
+pub apart :
+    (c : RealmConfig) (l k : Link) → link_place c k ≢ link_place c l → same_link l k ≡ false
+apart c l k ne =
+    elim (cases_Bool (same_link l k)) [
+      | inl y ↦ absurd (ne (ap (link_place c) (sym (same_link-equal l k y))))
+      | inr n ↦ n
+    ]
+
+-- One link's lane
+
+-- the lane that is read at a link's place is the link's, and to write it back changes nothing
+pub lane-read :
+    (c : RealmConfig) (lanes : List LaneState) (l : Link) (place : ℕ) (lane : LaneState)
+    → place ≡ link_place c l → place < length lanes → lane ≡ get_or lanes place lane
+    → lane ≡ lane_of c lanes l
+lane-read c lanes l place lane at within is =
+    is ∙ get_or_default lanes place lane no_lane within ∙ ap (λ (k : ℕ). get_or lanes k no_lane) at
+
+pub lane-back :
+    (lanes : List LaneState) (place : ℕ) (lane new : LaneState) → lane ≡ get_or lanes place lane
+    → new ≡ lane → set lanes place new ≡ lanes
+lane-back lanes place lane new is same_one =
+    ap (set lanes place) (same_one ∙ is) ∙ set-get_or lanes place lane
+
+-- the cursors once an Identifier was taken; once one was given back
+pub cursors-taken :
+    (c : RealmConfig) (lanes : List LaneState) (l : Link) (place id n ticket : ℕ) (lane out new : LaneState)
+    → place ≡ link_place c l → n ≡ id → out ≡ cursor_past (put_at lane id Out) id
+    → new ≡ put_at out id (Parked ticket)
+    → cursors_of (set lanes place new) ≡ set (cursors_of lanes) (link_place c l) ((n + 1) % 256)
+cursors-taken c lanes l place id n ticket lane out new at n_is out_is new_is =
+    let cursor : LaneState → ℕ = λ x. x.cursor in
+    let moved : new.cursor ≡ (id + 1) % 256 = ap cursor new_is ∙ ap cursor out_is in
+    let here : new.cursor ≡ (n + 1) % 256 = moved ∙ ap (λ (i : ℕ). (i + 1) % 256) (sym n_is) in
+    map-set cursor lanes place new
+    ∙ ap (λ (k : ℕ). set (cursors_of lanes) k new.cursor) at
+    ∙ ap (λ (i : ℕ). set (cursors_of lanes) (link_place c l) i) here
+
+pub cursors-freed :
+    (lanes : List LaneState) (place id i : ℕ) (lane out new : LaneState) → lane ≡ get_or lanes place lane
+    → out ≡ put_at lane id Out → new ≡ put_at out i Free → cursors_of (set lanes place new) ≡ cursors_of lanes
+cursors-freed lanes place id i lane out new is out_is new_is =
+    let cursor : LaneState → ℕ = λ x. x.cursor in
+    map-set_same cursor lanes place new lane (ap cursor new_is ∙ ap cursor out_is ∙ ap cursor is)
+
+-- the next Identifier of the lane that is read is the next toward the link
+pub next-read :
+    (c : RealmConfig) (es : List PlainEntry) (lanes : List LaneState) (l : Link) (place : ℕ)
+    (lane : LaneState)
+    → IsLink c l → place ≡ link_place c l → place < length lanes → lane ≡ get_or lanes place lane
+    → IsEntryList es → LanesTell c es lanes
+    → next_identifier (is_used lane) lane.cursor ≡ next_toward c (cursors_of lanes) es l
+next-read c es lanes l place lane link at within is list tells =
+    let lane_is = lane-read c lanes l place lane at within is in
+    let next : LaneState → Option ℕ = λ x. next_identifier (is_used x) x.cursor in
+    ap next lane_is ∙ sym (next-tells c es lanes l list tells link)

@@ -1,0 +1,167 @@
+-- What comes of a reply: why it isn't taken, the turn that it is, and what its realm then keeps.
+use Rattle.std.proofs.Common.{◌≡◌, ◌⊎◌, ◌↔◌, ℕ, ◌+◌, ◌<◌, ◌≤◌, ◌^◌, Bool, true, false, List, [], ◌∷◌, Option, Some, None, IsTrue, refl, ap, sym, ◌∙◌, subst, arith, eqb, ltb, inl, inr, length}
+use Rattle.std.specs.Prelude.{IsSomeAnd, not, ◌&&◌, ◌||◌}
+use Rattle.std.specs.List.{AllByRecursion}
+use Rattle.std.proofs.lemmas.Bool.{cases_Bool}
+use Rattle.std.proofs.lemmas.Bool.Decides.{nat_tests}
+use Rattle.roam_wire.specs.Packet.{Packet}
+use Rattle.roam_wire.specs.Reading.{packet_of}
+use Rattle.roam_wire.specs.Attributes.{count_of}
+use Rattle.roam_wire.specs.declared.attribute_type.TheConstants.{EAP_MESSAGE, MESSAGE_AUTHENTICATOR}
+use Rattle.roam_wire.specs.declared.refusal.Refusal.{Refusal}
+use Rattle.roam_wire.specs.declared.refusal.Refusal.TheVariants as refusal
+use Rattle.roam_auth.specs.Authenticators.{IsSignedReply}
+use Rattle.roam_auth.specs.Deciding.{is_signed_reply, is_well_sealed}
+use Rattle.roam_auth.proofs.DecidingLemmas.{signed_reply_decided, well_sealed_decided}
+use Rattle.roam_back.specs.ReplyCheck.{is_access_reply, answers, sealing_authenticators, IsRightlySealed}
+use Rattle.roam_back.specs.Returned.{returned_length}
+use Rattle.roam_conf.specs.declared.place.Link.{Link}
+use Rattle.roam_pending.specs.PlainEntry.{PlainRequest, PlainStanding, PlainEntry, waiting, done, same_link, stands_at, stands_done, waits_at}
+use Rattle.roam_pending.specs.EntryList.{IsEntryList, find_link, find_ticket, put, without}
+use Rattle.roam_pending.specs.Realms.{with_standing}
+use Rattle.roam_pending.proofs.ChangeLemmas.{find-passes, found-is, found-ticket}
+use Rattle.roam_book.specs.RealmConfig.{RealmConfig, IsLink}
+use Rattle.roam_book.specs.RealmState.{RealmState}
+use Rattle.roam_book.specs.Turn.{Turn, Answers, refuses}
+use Rattle.roam_book.specs.OnReply.{has_seal_for_eap, is_rightly_sealed, reply_fault, return_reply, returned_octets, returning}
+use Rattle.roam_book.specs.Sound.{IsEntry, IsSound, LanesTell, StandsWell, cursors_of}
+use Rattle.roam_book.specs.Judged.{returns_octets}
+use Rattle.roam_book.specs.declared.answer.Answer.{Answer}
+use Rattle.roam_book.specs.declared.numbers.Numbers.{Numbers}
+use Rattle.roam_book.proofs.LaneLemmas.{tells-done}
+use Rattle.roam_book.proofs.SoundLemmas.{kept-put, kept-ticket, same_link-equal}
+
+-- Why a reply isn't taken
+
+-- a test that isn't true
+is_false : (b : Bool) → (b ≡ true → ⊥) → b ≡ false
+is_false true h = absurd (h refl)
+is_false false h = refl
+
+and_left : (a b : Bool) → (a && b) ≡ true → a ≡ true
+and_left true b h = refl
+and_left false b h = h
+
+and_right : (a b : Bool) → (a && b) ≡ true → b ≡ true
+and_right true b h = h
+and_right false b h = absurd (let k : false ≡ true = h in cc)
+
+-- the test of the seal for an EAP-Message shows it
+eap_shown : (access : Bool) (eap seals : ℕ) → (not access || eqb eap 0 || ltb 0 seals) ≡ true
+    → access ≡ true → 0 < eap → 0 < seals
+eap_shown true eap seals h is some = grind (arith, nat_tests, h)
+eap_shown false eap seals h is some = absurd (let k : false ≡ true = is in cc)
+
+sealed_shown : (secret : List ℕ) (reply forwarded : Packet)
+    → is_rightly_sealed secret reply forwarded ≡ true → IsRightlySealed secret reply forwarded
+sealed_shown secret reply forwarded h =
+    let well = is_well_sealed secret (sealing_authenticators reply forwarded) reply in
+    record {
+      well_sealed = (well_sealed_decided secret (sealing_authenticators reply forwarded) reply).0 (and_left well (has_seal_for_eap reply) h);
+      eap = eap_shown (is_access_reply reply.code) (count_of EAP_MESSAGE reply.attributes) (count_of MESSAGE_AUTHENTICATOR reply.attributes) (and_right well (has_seal_for_eap reply) h);
+    }
+
+-- the refusal that was found is the reply's fault
+pub fault-found : (secret : List ℕ) (reply forwarded : Packet) (why : Refusal)
+    → (why ≡ refusal.WrongReply → IsTrue (answers forwarded.code reply.code) → ⊥)
+    → (why ≡ refusal.BadReply → IsTrue (answers forwarded.code reply.code)
+    × (IsSignedReply secret forwarded.authenticator reply → ⊥))
+    → (why ≡ refusal.BadReplyMessageAuthenticator → IsTrue (answers forwarded.code reply.code)
+    × IsSignedReply secret forwarded.authenticator reply
+    × (IsRightlySealed secret reply forwarded → ⊥))
+    → (why ≡ refusal.WrongReply) ⊎ (why ≡ refusal.BadReply) ⊎ (why ≡ refusal.BadReplyMessageAuthenticator)
+    → Some why ≡ reply_fault secret reply forwarded
+fault-found secret reply forwarded why wrong bad unsealed causes =
+    let code = answers forwarded.code reply.code in
+    let signed = is_signed_reply secret forwarded.authenticator reply in
+    let sealed = is_rightly_sealed secret reply forwarded in
+    let decided = signed_reply_decided secret forwarded.authenticator reply in
+    elim causes [
+      | inl is ↦
+          let no : code ≡ false = is_false code (wrong is) in
+          rw no (ap Some is)
+      | inr (inl is) ↦
+          let yes : code ≡ true = (bad is).0 in
+          let no : signed ≡ false = is_false signed (λ t. (bad is).1 (decided.0 t)) in
+          rw (yes, no) (ap Some is)
+      | inr (inr is) ↦
+          let facts = unsealed is in
+          let yes : code ≡ true = facts.0 in
+          let well : signed ≡ true = decided.1 facts.1 in
+          let no : sealed ≡ false = is_false sealed (λ t. facts.2 (sealed_shown secret reply forwarded t)) in
+          rw (yes, well, no) (ap Some is)
+    ]
+
+-- The turn that a reply is
+
+-- the returned packet is short enough, and is sent and held
+pub returned-turn : (c : RealmConfig) (now : ℕ) (s : RealmState) (e : PlainEntry) (l : Link)
+    (forwarded reply : Packet) (octets : List ℕ)
+    → (4096 < returned_length (returning c e.request l forwarded) reply (packet_of e.request.octets) → ⊥)
+    → octets ≡ returned_octets c e.request l forwarded reply
+    → returns_octets c now e.request.key octets e s ≡ return_reply c now s e l forwarded reply
+returned-turn c now s e l forwarded reply octets short is =
+    let size = returned_length (returning c e.request l forwarded) reply (packet_of e.request.octets) in
+    let no : ltb 4096 size ≡ false = is_false (ltb 4096 size) (λ t. short (let lt : 4096 < size = grind (arith, nat_tests, t) in lt)) in
+    rw (no, is) refl
+
+-- the returned packet is too long
+pub long-turn : (c : RealmConfig) (now : ℕ) (s : RealmState) (e : PlainEntry) (l : Link)
+    (forwarded reply : Packet)
+    → 4096 < returned_length (returning c e.request l forwarded) reply (packet_of e.request.octets)
+    → refuses refusal.ReplyTooLong ≡ return_reply c now s e l forwarded reply
+long-turn c now s e l forwarded reply lt =
+    let size = returned_length (returning c e.request l forwarded) reply (packet_of e.request.octets) in
+    let yes : ltb 4096 size ≡ true = grind (arith, nat_tests, lt) in
+    rw yes refl
+
+-- an answer to one turn is an answer to the same turn, from the same state to the same state
+pub same-turn : {A : Type 0} (a : Answer A) (old after new : RealmState) (turn other : Turn)
+    → Answers a old after turn → new ≡ after → turn ≡ other → Answers a old new other
+same-turn a old after new turn other h at is = record {
+  packets = rw (← is) h.packets;
+  refusal = rw (← is) h.refusal;
+  state = rw (at, ← is) h.state;
+}
+
+-- The entry that a reply is for
+
+-- an entry that waits on a link waits on a link of the realm
+pub link-of : (c : RealmConfig) (l : Link) (i : ℕ) (q : PlainRequest) (s : PlainStanding)
+    → stands_at l i s ≡ true → StandsWell c q s → IsLink c l
+link-of c l i q (waiting link id forwarded sends_left deadline) h well =
+    subst (IsLink c) (same_link-equal link l (and_left (same_link link l) (eqb id i) h)) well.link
+link-of c l i q (done reply deadline) h well = absurd (let k : false ≡ true = h in cc)
+
+-- what is found on a link is the entry of its ticket, and waits there
+pub waits-found : (l : Link) (i : ℕ) (e : PlainEntry) (es : List PlainEntry) → IsEntryList es
+    → find_link l i es ≡ Some e
+    → IsSomeAnd (find_ticket e.ticket es) (λ x. waits_at l i x ≡ true)
+waits-found l i e es list at =
+    let here = found-is (waits_at l i) es e list.in_order at in
+    rw here (find-passes (waits_at l i) es e at)
+
+-- the entry that a fact of the found one speaks of
+pub found-with : {X : Type 0} (o : Option X) (P : X → Type 0) → IsSomeAnd o P
+    → (x : X) × (o ≡ Some x) × P x
+found-with None P h = absurd h
+found-with (Some x) P h = (x, refl, h)
+
+-- once an entry is done and its Identifier given back, its realm keeps what it kept
+pub done-sound : {A : Type 0} (c : RealmConfig) (t : ℕ) (e : PlainEntry) (es fs : List PlainEntry)
+    (reply : List ℕ) (deadline : ℕ) (old new : Numbers A) → IsSound c es old
+    → find_ticket t es ≡ Some e → fs ≡ put (with_standing (done reply deadline) e) es
+    → LanesTell c (without e.ticket es) new.lanes.items
+    → length new.lanes.items ≡ length old.lanes.items → new.ticket ≡ old.ticket
+    → new.stream_position ≡ old.stream_position → IsSound c fs new
+done-sound c t e es fs reply deadline old new sound at is tells count ticket position =
+    let x = with_standing (done reply deadline) e in
+    let was : IsEntry c old.ticket e = kept-ticket c old.ticket t e es at sound.each in
+    let here : IsEntry c old.ticket x = record { ticket = was.ticket; request = was.request; standing = tt } in
+    record {
+      each = rw (is, ticket) (kept-put c old.ticket x es here sound.each);
+      ticket = rw ticket sound.ticket;
+      stream_position = rw position sound.stream_position;
+      lane_count = count ∙ sound.lane_count;
+      lanes_tell = subst (λ (l : List PlainEntry). LanesTell c l new.lanes.items) (sym is) (tells-done c es new.lanes.items x refl tells);
+    }

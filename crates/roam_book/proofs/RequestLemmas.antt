@@ -1,0 +1,209 @@
+-- Which case of a request's definition comes to pass.
+use Rattle.std.proofs.Common.{◌≡◌, ◌≢◌, ℕ, ◌^◌, Bool, true, false, List, [], Option, Some, None, Result, Ok, Err, refl, ap, sym, ◌∙◌, subst, cond, eqb, is_some}
+use Rattle.std.specs.Prelude.{IfOk, nat_eq, option_map, unwrap_or}
+use Rattle.std.specs.Cmp.Lexicographic.{pointwise}
+use Rattle.std.specs.List.{AllByRecursion, find}
+use Rattle.roam_wire.specs.Reading.{packet_of}
+use Rattle.roam_wire.specs.declared.code.TheConstants.{ACCOUNTING_REQUEST}
+use Rattle.roam_wire.specs.declared.refusal.NoMemory.{NoMemory}
+use Rattle.roam_wire.specs.declared.refusal.Refusal.TheVariants as refusal
+use Rattle.roam_conf.specs.declared.place.Link.{Link}
+use Rattle.roam_route.specs.Admission.{PlainOut}
+use Rattle.roam_pending.specs.PlainEntry.{PlainEntry, PlainRequest, has_key}
+use Rattle.roam_pending.specs.EntryList.{IsEntryList, besides, find_client, find_ticket, without, without_client}
+use Rattle.roam_pending.specs.declared.key.Key.{Key}
+use Rattle.roam_pending.proofs.TestLemmas.{differs}
+use Rattle.roam_pending.proofs.ChangeLemmas.{find-passes, found-is}
+use Rattle.roam_pending.proofs.ClientLemmas.{client-without, key-equal, without_client-absent, without_client-found}
+use Rattle.roam_book.specs.NewEntry.{HasNext, freed_link, target_at}
+use Rattle.roam_book.specs.OnRequest.{at_target, held_reply, new_request, of_key}
+use Rattle.roam_book.specs.RealmConfig.{RealmConfig, IsLink, links_from, targets}
+use Rattle.roam_book.specs.RealmState.{RealmState, Target, first_target, next_toward}
+use Rattle.roam_book.specs.Sound.{CountsAsGone, IsRequest, IsSound, cursors_of, gone_ticket, is_open, standing_place, state_of}
+use Rattle.roam_book.specs.Turn.{Gives, Turn, refuses, sends, shown_outs}
+use Rattle.roam_book.specs.declared.answer.Answer.{Answer}
+use Rattle.roam_book.specs.declared.gone.Gone.{Gone}
+use Rattle.roam_book.specs.declared.numbers.Numbers.{Numbers}
+use Rattle.roam_book.specs.declared.service.Service.TheVariants as service
+use Rattle.roam_book.proofs.LaneLemmas.{links-are, target-freed, target-next, target-tells}
+
+-- the first target is the link that was found, with its next free Identifier
+target_of : Link → ℕ → Target
+target_of l id = record { link = l; id = id }
+
+target-joined : (t l : Link) (i j : ℕ) → t ≡ l → i ≡ j → target_of t i ≡ target_of l j
+target-joined t l i j link id = cc (link, id)
+
+target-is :
+    (c : RealmConfig) (cursors : List ℕ) (es : List PlainEntry) (links : List Link) (l : Link)
+    (found : Option Target) → first_target c cursors es links ≡ found
+    → option_map (λ t. t.link) found ≡ Some l
+    → (first_target c cursors es links ≡ Some (target_at c cursors es l)) × HasNext c cursors es l
+unfolding target_of
+target-is c cursors es links l None is at = absurd (let k : None ≡ Some l = at in cc)
+target-is c cursors es links l (Some target) is at =
+    let same_link : target.link ≡ l = let k : Some target.link ≡ Some l = at in cc k in
+    let next : next_toward c cursors es l ≡ Some target.id =
+    subst (λ (x : Link). next_toward c cursors es x ≡ Some target.id) same_link
+    (target-next c cursors es links target is) in
+    let id : target.id ≡ unwrap_or (next_toward c cursors es l) 0 =
+    sym (ap (λ (o : Option ℕ). unwrap_or o 0) next) in
+    let joined = target-joined target.link l target.id (unwrap_or (next_toward c cursors es l) 0)
+    same_link id in
+    (is ∙ ap (λ (t : Target). Some t) joined, ap is_some next)
+
+no-target :
+    (found : Option Target) → option_map (λ t. t.link) found ≡ None → found ≡ None
+no-target None h = refl
+no-target (Some target) h = absurd (let k : Some target.link ≡ None = h in cc)
+
+-- the links of an Accounting-Request's targets
+targets-are :
+    (c : RealmConfig) (code : ℕ) → code ≡ ACCOUNTING_REQUEST
+    → targets c code ≡ links_from c service.Accounting 0
+targets-are c code h = ap (targets c) h
+
+-- the first open link is that of the first target
+open-is :
+    {A : Type 0} (c : RealmConfig) (es : List PlainEntry) (n : Numbers A) (o : Option Gone)
+    (links : List Link) → IsSound c es n → IsEntryList es → CountsAsGone o es
+    → AllByRecursion (IsLink c) links
+    → option_map (λ t. t.link)
+    (first_target c (cursors_of n.lanes.items) (besides (gone_ticket o) es) links)
+    ≡ find (is_open c n.lanes.items (freed_link o)) links
+open-is c es n None links sound list gone are =
+    target-tells c es n.lanes.items links list sound.lanes_tell are
+open-is c es n (Some g) links sound list gone are =
+    target-freed c n.ticket es n.lanes.items links g.ticket gone.0 g.waits_at list sound.each
+    sound.lanes_tell are gone.1.found (sym gone.1.place)
+
+targets-open :
+    {A : Type 0} (c : RealmConfig) (es : List PlainEntry) (n : Numbers A) (o : Option Gone)
+    (code : ℕ) → IsSound c es n → IsEntryList es → CountsAsGone o es → code ≡ ACCOUNTING_REQUEST
+    → option_map (λ t. t.link)
+    (first_target c (cursors_of n.lanes.items) (besides (gone_ticket o) es) (targets c code))
+    ≡ find (is_open c n.lanes.items (freed_link o)) (links_from c service.Accounting 0)
+targets-open c es n o code sound list gone is =
+    let opened = open-is c es n o (links_from c service.Accounting 0) sound list gone
+    (links-are c service.Accounting 0) in
+    let links_of : List Link → Option Link = λ links. option_map (λ t. t.link)
+    (first_target c (cursors_of n.lanes.items) (besides (gone_ticket o) es) links) in
+    ap links_of (targets-are c code is) ∙ opened
+
+-- a new request, while there is a ticket
+in-else : (b : Bool) (x y : Turn) → b ≡ false → cond b x y ≡ y
+in-else b x y h = rw h refl
+
+in-then : (b : Bool) (x y : Turn) → b ≡ true → cond b x y ≡ x
+in-then b x y h = rw h refl
+
+new-request-is :
+    (c : RealmConfig) (now : ℕ) (s : RealmState) (es : List PlainEntry) (q : PlainRequest)
+    (found : Option Target) → s.ticket ≢ 2 ^ 63
+    → first_target c s.cursors es (targets c (packet_of q.octets).code) ≡ found
+    → new_request c now s es q ≡ at_target c now s es q found
+new-request-is c now s es q found ne is =
+    in-else (eqb s.ticket (2 ^ 63)) _ _ (differs s.ticket (2 ^ 63) ne)
+    ∙ ap (at_target c now s es q) is
+
+-- a new request for which the code found an open link, or none
+pub at-open :
+    {A : Type 0} (c : RealmConfig) (now : ℕ) (es : List PlainEntry) (n : Numbers A)
+    (o : Option Gone) (q : PlainRequest) (freed : Option Link) (l : Link) → IsSound c es n → IsEntryList es
+    → CountsAsGone o es → IsRequest c q → n.ticket ≢ 2 ^ 63 → freed ≡ freed_link o
+    → Some l ≡ find (is_open c n.lanes.items freed) (links_from c service.Accounting 0)
+    → (new_request c now (state_of es n) (besides (gone_ticket o) es) q
+    ≡ at_target c now (state_of es n) (besides (gone_ticket o) es) q
+    (Some (target_at c (cursors_of n.lanes.items) (besides (gone_ticket o) es) l)))
+    × HasNext c (cursors_of n.lanes.items) (besides (gone_ticket o) es) l
+at-open c now es n o q freed l sound list gone request ne same_freed found =
+    let mid = besides (gone_ticket o) es in
+    let links = links_from c service.Accounting 0 in
+    let here : find (is_open c n.lanes.items (freed_link o)) links ≡ Some l =
+    subst (λ (x : Option Link). find (is_open c n.lanes.items x) links ≡ Some l) same_freed
+    (sym found) in
+    let at = targets-open c es n o (packet_of q.octets).code sound list gone request.code ∙ here in
+    let all = targets c (packet_of q.octets).code in
+    let target = target-is c (cursors_of n.lanes.items) mid all l _ refl at in
+    (new-request-is c now (state_of es n) mid q _ ne target.0, target.1)
+
+pub at-none :
+    {A : Type 0} (c : RealmConfig) (now : ℕ) (es : List PlainEntry) (n : Numbers A)
+    (o : Option Gone) (q : PlainRequest) (freed : Option Link) → IsSound c es n → IsEntryList es
+    → CountsAsGone o es → IsRequest c q → n.ticket ≢ 2 ^ 63 → freed ≡ freed_link o
+    → None ≡ find (is_open c n.lanes.items freed) (links_from c service.Accounting 0)
+    → new_request c now (state_of es n) (besides (gone_ticket o) es) q
+    ≡ refuses refusal.NoIdentifier
+at-none c now es n o q freed sound list gone request ne same_freed found =
+    let mid = besides (gone_ticket o) es in
+    let links = links_from c service.Accounting 0 in
+    let here : find (is_open c n.lanes.items (freed_link o)) links ≡ None =
+    subst (λ (x : Option Link). find (is_open c n.lanes.items x) links ≡ None) same_freed
+    (sym found) in
+    let at = targets-open c es n o (packet_of q.octets).code sound list gone request.code ∙ here in
+    new-request-is c now (state_of es n) mid q None ne (no-target _ at)
+
+-- the entry of a request's key counts as gone, and the key is then free
+pub key-gone :
+    (k : Key) (e : PlainEntry) (es : List PlainEntry) (g : Gone) → IsEntryList es
+    → find_client k es ≡ Some e → g.ticket ≡ e.ticket → g.waits_at ≡ standing_place e.standing
+    → CountsAsGone (Some g) es
+key-gone k e es g list at ticket place =
+    let found = found-is (has_key k) es e list.in_order at in
+    let here = subst (λ (t : ℕ). find_ticket t es ≡ Some e) (sym ticket) found in
+    (e, record { found = here; place = place })
+
+rest-of :
+    (k : Key) (e : PlainEntry) (es : List PlainEntry) (t : ℕ) → IsEntryList es
+    → find_client k es ≡ Some e → t ≡ e.ticket → without_client k es ≡ without t es
+rest-of k e es t list at ticket =
+    without_client-found k es e list.in_order list.distinct_keys at
+    ∙ ap (λ (n : ℕ). without n es) (sym ticket)
+
+pub key-free :
+    (k : Key) (e : PlainEntry) (es : List PlainEntry) (t : ℕ) → IsEntryList es
+    → find_client k es ≡ Some e → t ≡ e.ticket → find_client k (without t es) ≡ None
+key-free k e es t list at ticket =
+    subst (λ (xs : List PlainEntry). find_client k xs ≡ None) (rest-of k e es t list at ticket)
+    (client-without k es)
+
+-- a request by its key: there is no entry, one with other octets, or one with its octets
+pub of-key-none :
+    (c : RealmConfig) (now : ℕ) (s : RealmState) (q : PlainRequest)
+    → find_client q.key s.entries ≡ None
+    → of_key c now s q (find_client q.key s.entries) ≡ new_request c now s s.entries q
+of-key-none c now s q at =
+    ap (of_key c now s q) at
+    ∙ ap (λ (xs : List PlainEntry). new_request c now s xs q)
+    (without_client-absent q.key s.entries at)
+
+pub of-key-new :
+    (c : RealmConfig) (now : ℕ) (s : RealmState) (q : PlainRequest) (e : PlainEntry) (t : ℕ)
+    → IsEntryList s.entries → find_client q.key s.entries ≡ Some e → t ≡ e.ticket
+    → pointwise nat_eq e.request.octets q.octets ≡ false
+    → of_key c now s q (find_client q.key s.entries) ≡ new_request c now s (without t s.entries) q
+of-key-new c now s q e t list at ticket differs =
+    ap (of_key c now s q) at
+    ∙ in-else (pointwise nat_eq e.request.octets q.octets) _ _ differs
+    ∙ ap (λ (xs : List PlainEntry). new_request c now s xs q)
+    (rest-of q.key e s.entries t list at ticket)
+
+pub of-key-same :
+    (c : RealmConfig) (now : ℕ) (s : RealmState) (q : PlainRequest) (e : PlainEntry)
+    → find_client q.key s.entries ≡ Some e → pointwise nat_eq e.request.octets q.octets ≡ true
+    → of_key c now s q (find_client q.key s.entries)
+    ≡ sends (held_reply c e.request.key e.standing) s
+of-key-same c now s q e at same =
+    let key = key-equal e.request.key q.key (find-passes (has_key q.key) s.entries e at) in
+    ap (of_key c now s q) at
+    ∙ in-then (pointwise nat_eq e.request.octets q.octets) _ _ same
+    ∙ ap (λ (k : Key). sends (held_reply c k e.standing) s) (sym key)
+
+-- packets that are sent while the state stays as it is
+pub gives-held :
+    {A : Type 0} (result : Result (Answer A) NoMemory) (s : RealmState) (packets : List PlainOut)
+    → IfOk result (λ a. shown_outs a.outs.items ≡ packets) → IfOk result (λ a. a.refusal ≡ None)
+    → Gives result s s (sends packets s)
+gives-held (Ok answer) s packets outs refusal =
+    record { packets = outs; refusal = refusal; state = refl }
+gives-held (Err e) s packets outs refusal = refl

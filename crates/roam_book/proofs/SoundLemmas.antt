@@ -1,0 +1,74 @@
+-- What a realm keeps of each entry, through the changes of its list.
+use Rattle.std.proofs.Common.{◌≡◌, ℕ, ◌<◌, ◌≤◌, Bool, true, false, List, [], ◌∷◌, Option, Some, None, refl, ap, arith, eqb}
+use Rattle.std.specs.Prelude.{not}
+use Rattle.std.specs.List.{AllByRecursion, find}
+use Rattle.std.proofs.lemmas.Bool.Decides.{nat_tests}
+use Rattle.roam_conf.specs.declared.place.Link.{Link}
+use Rattle.roam_conf.specs.declared.place.Link.TheVariants as link
+use Rattle.roam_pending.specs.declared.key.Key.{Key}
+use Rattle.roam_pending.specs.PlainEntry.{PlainEntry, has_key, has_ticket, same_link, waits_at}
+use Rattle.roam_pending.specs.EntryList.{find_client, find_link, find_ticket, put, without}
+use Rattle.roam_pending.proofs.TestLemmas.{differs, all-filter, all-find, all-weaker}
+use Rattle.roam_pending.proofs.OrderLemmas.{all-put}
+use Rattle.roam_book.specs.RealmConfig.{RealmConfig}
+use Rattle.roam_book.specs.Sound.{IsEntry}
+
+-- an entry is put in order of ticket; one is taken out
+pub kept-put :
+    (c : RealmConfig) (n : ℕ) (e : PlainEntry) (es : List PlainEntry) → IsEntry c n e
+    → AllByRecursion (IsEntry c n) es → AllByRecursion (IsEntry c n) (put e es)
+kept-put c n e es here h = all-put (IsEntry c n) e es here h
+
+pub kept-without :
+    (c : RealmConfig) (n t : ℕ) (es : List PlainEntry) → AllByRecursion (IsEntry c n) es
+    → AllByRecursion (IsEntry c n) (without t es)
+kept-without c n t es h = all-filter (IsEntry c n) (λ (e : PlainEntry). not (has_ticket t e)) es h
+
+-- what is found is an entry of the realm
+pub kept-ticket :
+    (c : RealmConfig) (n t : ℕ) (e : PlainEntry) (es : List PlainEntry) → find_ticket t es ≡ Some e
+    → AllByRecursion (IsEntry c n) es → IsEntry c n e
+kept-ticket c n t e es at h = all-find (IsEntry c n) (has_ticket t) es e at h
+
+pub kept-client :
+    (c : RealmConfig) (n : ℕ) (k : Key) (e : PlainEntry) (es : List PlainEntry)
+    → find_client k es ≡ Some e → AllByRecursion (IsEntry c n) es → IsEntry c n e
+kept-client c n k e es at h = all-find (IsEntry c n) (has_key k) es e at h
+
+pub kept-link :
+    (c : RealmConfig) (n : ℕ) (l : Link) (i : ℕ) (e : PlainEntry) (es : List PlainEntry)
+    → find_link l i es ≡ Some e → AllByRecursion (IsEntry c n) es → IsEntry c n e
+kept-link c n l i e es at h = all-find (IsEntry c n) (waits_at l i) es e at h
+
+-- the next ticket rises
+later : (c : RealmConfig) (n m : ℕ) → n ≤ m → (e : PlainEntry) → IsEntry c n e → IsEntry c m e
+later c n m le e h = record {
+  ticket = omega (arith, h.ticket);
+  request = h.request;
+  standing = h.standing;
+}
+
+pub kept-later :
+    (c : RealmConfig) (n m : ℕ) (es : List PlainEntry) → n ≤ m → AllByRecursion (IsEntry c n) es
+    → AllByRecursion (IsEntry c m) es
+kept-later c n m es le h = all-weaker (IsEntry c n) (IsEntry c m) es (later c n m le) h
+
+-- no entry has the next ticket
+pub unheld-ticket :
+    (c : RealmConfig) (n : ℕ) (es : List PlainEntry) → AllByRecursion (IsEntry c n) es
+    → find_ticket n es ≡ None
+unheld-ticket c n [] h = refl
+unheld-ticket c n (e ∷ es) h =
+    let lt = h.0.ticket in rw (differs e.ticket n (omega arith)) (unheld-ticket c n es h.1)
+
+-- links that are the same are equal
+pub same_link-equal : (a b : Link) → same_link a b ≡ true → a ≡ b
+same_link-equal (link.Auth a) (link.Auth b) h = let is : a ≡ b = grind (arith, nat_tests, h) in ap link.Auth is
+same_link-equal (link.Auth a) (link.Acct b) h = absurd (let k : false ≡ true = h in cc)
+same_link-equal (link.Auth a) (link.Coa b) h = absurd (let k : false ≡ true = h in cc)
+same_link-equal (link.Acct a) (link.Auth b) h = absurd (let k : false ≡ true = h in cc)
+same_link-equal (link.Acct a) (link.Acct b) h = let is : a ≡ b = grind (arith, nat_tests, h) in ap link.Acct is
+same_link-equal (link.Acct a) (link.Coa b) h = absurd (let k : false ≡ true = h in cc)
+same_link-equal (link.Coa a) (link.Auth b) h = absurd (let k : false ≡ true = h in cc)
+same_link-equal (link.Coa a) (link.Acct b) h = absurd (let k : false ≡ true = h in cc)
+same_link-equal (link.Coa a) (link.Coa b) h = let is : a ≡ b = grind (arith, nat_tests, h) in ap link.Coa is

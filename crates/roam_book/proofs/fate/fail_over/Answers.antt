@@ -1,0 +1,71 @@
+use Rattle.std.proofs.Common.{◌≡◌, List, ℕ, ap, subst}
+use Rattle.roam_pending.specs.PlainEntry.{PlainRequest}
+use Rattle.roam_pending.specs.EntryList.{without}
+use Rattle.roam_pending.specs.Shown.{shown}
+use Rattle.roam_pending.proofs.OrderLemmas.{list-without}
+use Rattle.roam_pending.proofs.ChangeLemmas.{find-without}
+use Rattle.roam_book.proofs.FateLemmas.{IsFreed, IsSent, gone-freed, forwarded-freed}
+use Rattle.roam_book.proofs.fate.fail_over.Goals as goal
+
+-- no later target has a free Identifier
+pub returns-in_default : goal.returns-in_default
+returns-in_default g c =
+    λ es held.
+    let e = shown c.args.entry.now in
+    let freed : IsFreed c.args.settings.now (without e.ticket es) c.args.numbers.now
+    c.give_back.new.self = record {
+      cursors = c.give_back.ensures.cursors;
+      tells = c.give_back.ensures.tells e es held.sound.lanes_tell held.found c.requires.waits;
+      same = record {
+        count = c.give_back.ensures.count;
+        ticket = c.give_back.ensures.ticket;
+        stream_position = c.give_back.ensures.stream_position;
+      };
+    } in
+    gone-freed c.args.settings.now c.args.now es e c.args.numbers.now c.give_back.new.self
+    c.args.link held freed c.in_default.ensures.first
+
+-- the request goes to the target that was found
+pub returns : goal.returns
+returns g c =
+    λ es held.
+    let e = shown c.args.entry.now in
+    let others = without e.ticket es in
+    let new = c.send_new-out.new.numbers in
+    let freed : IsFreed c.args.settings.now others c.args.numbers.now c.give_back.new.self = record {
+      cursors = c.give_back.ensures.cursors;
+      tells = c.give_back.ensures.tells e es held.sound.lanes_tell held.found c.requires.waits;
+      same = record {
+        count = c.give_back.ensures.count;
+        ticket = c.give_back.ensures.ticket;
+        stream_position = c.give_back.ensures.stream_position;
+      };
+    } in
+    let one = c.send_new-out.ensures in
+    let asked : PlainRequest = record {
+      key = e.request.key;
+      requester = e.request.requester;
+      octets = c.as_slice.result.now;
+    } in
+    let same : asked ≡ e.request = ap (λ (o : List ℕ). record
+    { key = e.request.key; requester = e.request.requester; octets = o }) c.as_slice.ensures in
+    let sent : IsSent c.args.settings.now c.args.now others asked e.ticket c.in-Some.target
+    c.give_back.new.self new c.send_new-out.result.0 c.send_new-out.result.1 = record {
+      next = one.next others (list-without e.ticket es held.list) freed.tells;
+      out = one.out;
+      standing = one.standing;
+      waits = one.waiting;
+      cursors = one.cursors;
+      tells = one.tells others freed.tells (find-without e.ticket es);
+      same = record {
+        count = one.count;
+        ticket = one.ticket;
+        stream_position = one.stream_position;
+      };
+    } in
+    let of_entry = subst (λ (q : PlainRequest). IsSent c.args.settings.now c.args.now others q
+    e.ticket c.in-Some.target c.give_back.new.self new c.send_new-out.result.0
+    c.send_new-out.result.1) same sent in
+    forwarded-freed c.args.settings.now c.args.now es e c.args.numbers.now c.give_back.new.self new
+    c.args.link c.in-Some.target c.send_new-out.result.0 c.send_new-out.result.1 held freed
+    c.in-Some.ensures.first of_entry

@@ -1,0 +1,31 @@
+use Rattle.std.proofs.Common.{◌≡◌, ℕ, ◌<◌, List, ap, refl}
+use Rattle.std.specs.Prelude.{Result, Ok, Err}
+use Rattle.std.proofs.lemmas.Result.{IfOk-weaker}
+use Rattle.roam_pending.specs.PlainEntry.{PlainEntry}
+use Rattle.roam_pending.specs.Shown.{shown}
+use Rattle.roam_book.specs.RealmState.{RealmState}
+use Rattle.roam_book.specs.OnReply.{return_reply}
+use Rattle.roam_book.specs.Judged.{IsVerdict, returns_octets}
+use Rattle.roam_book.proofs.ReplyLemmas.{long-turn, returned-turn, same-turn}
+use Rattle.roam_book.proofs.verdict.return_reply.Goals as goal
+
+-- the packet fits, and is sent and held
+pub returns-in-Ok-clause-turn : goal.returns-in-Ok-clause-turn
+returns-in-Ok-clause-turn g c =
+    let e : PlainEntry = shown c.args.entry.now in
+    let octets : List ℕ = c.in-Ok.packet.items in
+    IfOk-weaker c.return_packet.result
+    (λ v. (x : PlainEntry) → IsVerdict v x (λ s. returns_octets c.args.settings.now c.args.now e.request.key octets x s))
+    (λ v. IsVerdict v e (λ s. return_reply c.args.settings.now c.args.now s e c.args.link c.args.forwarded.now c.args.reply.now))
+    (λ v h s. same-turn v.answer s _ _ _ _ (h e s) refl
+    (returned-turn c.args.settings.now c.args.now s e c.args.link c.args.forwarded.now c.args.reply.now octets
+    (λ lt. absurd (let k = c.in-Ok.ensures.too_long.1 lt in cc)) c.in-Ok.ensures.octets))
+    c.return_packet.ensures
+
+-- the packet doesn't fit
+pub returns-in-Err-ReplyTooLong-clause-turn : goal.returns-in-Err-ReplyTooLong-clause-turn
+returns-in-Err-ReplyTooLong-clause-turn g c =
+    let e : PlainEntry = shown c.args.entry.now in
+    let long = c.in-Err-ReplyTooLong.ensures.too_long.0 (ap Err c.in-Err-ReplyTooLong.field-0-is) in
+    λ s. same-turn c.not_taken.result.answer s _ _ _ _ (c.not_taken.ensures e s) refl
+    (long-turn c.args.settings.now c.args.now s e c.args.link c.args.forwarded.now c.args.reply.now long)

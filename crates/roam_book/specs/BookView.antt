@@ -1,0 +1,54 @@
+-- What a contract sees of a book, and which events its realm takes (ours).
+use Rattle.std.specs.Prelude.{◌≡◌, ℕ, ◌<◌, Bool, true, false, List, slice_index, vec_len}
+use Rattle.roam_wire.specs.Reading.{IsPacketText}
+use Rattle.roam_conf.specs.Config.{ConfigView}
+use Rattle.roam_conf.specs.Shown.{shown}
+use Rattle.roam_conf.specs.declared.config.Config.{Config}
+use Rattle.roam_route.specs.Admission.{PlainJob}
+use Rattle.roam_route.specs.Events.{IsEvent}
+use Rattle.roam_route.specs.declared.job.Side.{Side}
+use Rattle.roam_route.specs.declared.job.Side.TheVariants as side
+use Rattle.roam_pending.specs.declared.key.Requester.TheVariants as requester
+use Rattle.roam_pending.specs.EntryList.{Held}
+use Rattle.roam_book.specs.RealmConfig.{RealmConfig, realm_config}
+use Rattle.roam_book.specs.RealmState.{RealmState}
+use Rattle.roam_book.specs.OneRealm.{request_of}
+use Rattle.roam_book.specs.Sound.{IsRequest, IsSound}
+use Rattle.roam_book.specs.declared.numbers.Numbers.{Numbers}
+
+-- a book: the configuration that it was made with, its realm's index there, and its realm's state
+pub record BookView : Type 0 where
+  pub config : ConfigView
+  pub realm : ℕ
+  pub state : RealmState
+
+-- what a book reads of its configuration: of other realms nothing
+abbrev pub settings_of : BookView → RealmConfig
+settings_of b = realm_config b.config b.realm
+
+-- what a book keeps
+pub record IsBook {A : Type 0} (config : Config) (realm : ℕ) (held : Held) (numbers : Numbers A) : Type 0 where
+  pub configured : realm < vec_len config.realms
+  pub own_entries : held.realm ≡ realm
+  pub sound : IsSound (realm_config (shown config) realm) held.entries numbers
+
+-- whether a link sent a packet, so that it is a reply
+abbrev pub is_link : Side → Bool
+is_link (side.Peer peer) = false
+is_link (side.Home server) = false
+is_link (side.Link l) = true
+
+-- a job that a realm takes: a request of a code that is served by now, or a packet from a link
+abbrev pub IsTakenFrom : RealmConfig → PlainJob → Side → Type 0
+IsTakenFrom c job (side.Peer peer) = IsRequest c (request_of job (requester.Peer peer))
+IsTakenFrom c job (side.Home server) = IsRequest c (request_of job (requester.Home server))
+IsTakenFrom c job (side.Link l) = IsPacketText job.octets
+
+-- numbers that are octets
+abbrev pub AreOctets : List ℕ → Type 0
+AreOctets octets = (i : ℕ) → slice_index octets i < 256
+
+-- an event of a configuration is a job that its realm takes
+abbrev pub EventIsTaken : Type 0
+EventIsTaken = (config : ConfigView) (job : PlainJob) → AreOctets job.octets → IsEvent config job →
+    IsTakenFrom (realm_config config job.realm) job job.side

@@ -1,0 +1,43 @@
+-- What becomes of a due entry: words of private functions alone.
+use Rattle.std.specs.Prelude.{◌≡◌, ℕ, ◌+◌, List, [], ◌∷◌, Some}
+use Rattle.roam_pending.specs.declared.entry.Standing.TheVariants as standing
+use Rattle.roam_pending.specs.PlainEntry.{PlainEntry}
+use Rattle.roam_pending.specs.EntryList.{IsEntryList, find_ticket, without, put}
+use Rattle.roam_pending.specs.Realms.{sent_again, with_standing}
+use Rattle.roam_pending.specs.Shown.{shown_standing}
+use Rattle.roam_route.specs.Admission.{PlainOut}
+use Rattle.roam_route.specs.Shown.{shown_out}
+use Rattle.roam_book.specs.declared.fate.Fate.{Fate}
+use Rattle.roam_book.specs.declared.fate.Fate.TheVariants as fate
+use Rattle.roam_book.specs.declared.numbers.Numbers.{Numbers}
+use Rattle.roam_book.specs.RealmConfig.{RealmConfig}
+use Rattle.roam_book.specs.OnTick.{Progress}
+use Rattle.roam_book.specs.Sound.{IsSound, state_of}
+
+-- what is sent for it
+abbrev pub fate_packets : {A : Type 0} → Fate A → List PlainOut
+fate_packets fate.Gone = []
+fate_packets (fate.SentAgain out) = shown_out out ∷ []
+fate_packets (fate.Forwarded out w) = shown_out out ∷ []
+
+-- the entries that follow
+abbrev pub fate_entries : {A : Type 0} → RealmConfig → ℕ → PlainEntry → List PlainEntry → Fate A
+    → List PlainEntry
+fate_entries c now e es fate.Gone = without e.ticket es
+fate_entries c now e es (fate.SentAgain out) = put (sent_again (now + c.realm.wait) e) es
+fate_entries c now e es (fate.Forwarded out w) = put
+    (with_standing (shown_standing (standing.Waiting w)) e) es
+
+-- an entry of the realm
+pub record IsHeld {A : Type 0} (c : RealmConfig) (es : List PlainEntry) (e : PlainEntry)
+    (numbers : Numbers A) : Type 0 where
+  pub sound : IsSound c es numbers
+  pub list : IsEntryList es
+  pub found : find_ticket e.ticket es ≡ Some e
+
+-- what becomes of it is this progress, and the realm stays sound
+pub record IsFate {A : Type 0} (c : RealmConfig) (now : ℕ) (es : List PlainEntry) (e : PlainEntry)
+    (numbers : Numbers A) (f : Fate A) (p : Progress) : Type 0 where
+  pub packets : fate_packets f ≡ p.packets
+  pub state : state_of (fate_entries c now e es f) numbers ≡ p.state
+  pub sound : IsSound c (fate_entries c now e es f) numbers

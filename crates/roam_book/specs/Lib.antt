@@ -1,0 +1,14 @@
+pub mod RealmConfig
+pub mod RealmState
+pub mod Turn
+pub mod OnRequest
+pub mod OnReply
+pub mod OnTick
+pub mod OneRealm
+pub mod Sound
+pub mod Rooms
+pub mod BookView
+pub mod Fates
+pub mod Judged
+pub mod LeastFirst
+pub mod NewEntry

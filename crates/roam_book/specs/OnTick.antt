@@ -1,0 +1,72 @@
+-- What a tick does to a realm: the entries that are due, in order of deadline and ticket, each once
+-- (ours).
+use Rattle.std.specs.Prelude.{ℕ, ◌+◌, nat_lt, List, [], ◌∷◌, ◌++◌, Option, Some, None, if◌then◌else◌}
+use Rattle.roam_route.specs.Admission.{PlainOut}
+use Rattle.roam_pending.specs.declared.due.Due.{Due}
+use Rattle.roam_pending.specs.DueOrder.{due_list}
+use Rattle.roam_pending.specs.PlainEntry.{PlainStanding, PlainEntry, waiting, done}
+use Rattle.roam_pending.specs.EntryList.{find_ticket, without, put}
+use Rattle.roam_pending.specs.Realms.{sent_again}
+use Rattle.roam_book.specs.RealmConfig.{RealmConfig, later_targets}
+use Rattle.roam_book.specs.RealmState.{RealmState, Target, with_entries, first_target}
+use Rattle.roam_book.specs.Turn.{Turn, sends, in_time}
+use Rattle.roam_book.specs.OnRequest.{packet_to, forwarded_octets, once_forwarded}
+
+-- what was sent so far, and the state that follows
+pub record Progress : Type 0 where
+  pub packets : List PlainOut
+  pub state : RealmState
+
+-- nothing is sent
+abbrev pub silent : RealmState → Progress
+silent s = record { packets = []; state = s }
+
+-- a request that isn't sent to its link again: its Identifier there is free. It goes to the next target
+-- under the same ticket, where there is one, else its entry goes. (`s` is the state without the entry.)
+abbrev pub fail_over : RealmConfig → ℕ → RealmState → PlainEntry → Option Target → Progress
+fail_over c now s e None = silent s
+fail_over c now s e (Some target) = record {
+  packets = packet_to c target.link (forwarded_octets c e.request e.ticket target) ∷ [];
+  state = once_forwarded c now s e.request e.ticket target;
+}
+
+-- the state without an entry
+abbrev pub without_entry : RealmState → PlainEntry → RealmState
+without_entry s e = with_entries s (without e.ticket s.entries)
+
+-- a due entry, by how it stands: a done one goes; one with sends left sends the same octets again, and
+-- waits until `now + wait`; one with none left goes to the first later target with a free Identifier
+abbrev pub due_standing : RealmConfig → ℕ → RealmState → PlainEntry → PlainStanding → Progress
+due_standing c now s e (done reply deadline) = silent (without_entry s e)
+due_standing c now s e (waiting l id forwarded sends_left deadline) =
+    if nat_lt 0 sends_left
+    then record {
+      packets = packet_to c l forwarded ∷ [];
+      state = with_entries s (put (sent_again (now + c.realm.wait) e) s.entries);
+    }
+    else fail_over c now (without_entry s e) e
+    (first_target c s.cursors (without e.ticket s.entries) (later_targets c l))
+
+-- the entry of a due ticket
+abbrev pub due_entry : RealmConfig → ℕ → RealmState → Option PlainEntry → Progress
+due_entry c now s None = silent s
+due_entry c now s (Some e) = due_standing c now s e e.standing
+
+abbrev pub due_one : RealmConfig → ℕ → RealmState → Due → Progress
+due_one c now s d = due_entry c now s (find_ticket d.ticket s.entries)
+
+-- the due ones of a list, one after the other
+abbrev pub due_each : RealmConfig → ℕ → RealmState → List Due → Progress
+due_each c now s [] = silent s
+due_each c now s (d ∷ ds) =
+    let one = due_one c now s d in
+    let others = due_each c now one.state ds in
+    record { packets = one.packets ++ others.packets; state = others.state }
+
+-- that, as a turn
+abbrev pub as_turn : Progress → Turn
+as_turn p = sends p.packets p.state
+
+-- what a tick does
+abbrev pub on_tick : RealmConfig → ℕ → RealmState → Turn
+on_tick c now s = in_time now (as_turn (due_each c now s (due_list now s.entries)))

@@ -1,0 +1,117 @@
+-- What the broker of one realm reads of the configuration, and the links of that realm (ours).
+use Rattle.std.specs.Prelude.{ℕ, ◌+◌, ◌*◌, ◌<◌, ◌==◌, List, [], ◌∷◌, drop, length, slice_get, slice_index_or, unwrap_or, if◌then◌else◌}
+use Rattle.std.specs.Option.{option_map_or}
+use Rattle.roam_wire.specs.declared.code.TheConstants.{ACCESS_REQUEST}
+use Rattle.roam_conf.specs.Config.{ConfigView, PeerView, RealmView, ServerView}
+use Rattle.roam_conf.specs.Lookup.{endpoint_of}
+use Rattle.roam_conf.specs.declared.endpoint.Endpoint.{Endpoint}
+use Rattle.roam_conf.specs.declared.place.Link.{Link}
+use Rattle.roam_conf.specs.declared.place.Link.TheVariants as link
+use Rattle.roam_pending.specs.declared.key.Requester.{Requester}
+use Rattle.roam_pending.specs.declared.key.Requester.TheVariants as requester
+use Rattle.roam_book.specs.declared.service.Service.{Service}
+use Rattle.roam_book.specs.declared.service.Service.TheVariants as service
+
+-- the seed of the random words, the realm's index, its own entry, and all peers; of other realms nothing
+pub record RealmConfig : Type 0 where
+  pub seed : List ℕ
+  pub index : ℕ
+  pub realm : RealmView
+  pub peers : List PeerView
+
+-- nowhere: the endpoint of a link that isn't there
+abbrev pub nowhere : Endpoint
+nowhere = record { ip = 0 ∷ 0 ∷ 0 ∷ 0 ∷ []; port = 0 }
+
+-- what stands for a realm that isn't configured: it has no servers
+abbrev pub no_realm : RealmView
+no_realm = record {
+  name = [];
+  out = nowhere;
+  reverse = nowhere;
+  tries = 0;
+  wait = 0;
+  hold = 0;
+  max_pending = 0;
+  max_sessions = 0;
+  servers = [];
+}
+
+-- what a configuration says of the realm of an index
+abbrev pub realm_config : ConfigView → ℕ → RealmConfig
+realm_config config index = record {
+  seed = config.seed;
+  index = index;
+  realm = slice_index_or config.realms index no_realm;
+  peers = config.peers;
+}
+
+-- the secret shared with a home server of the realm; with a peer (the empty list where there is none)
+abbrev pub server_secret : RealmConfig → ℕ → List ℕ
+server_secret c server = option_map_or (λ s. s.secret) (slice_get c.realm.servers server) []
+
+abbrev pub peer_secret : RealmConfig → ℕ → List ℕ
+peer_secret c peer = option_map_or (λ p. p.secret) (slice_get c.peers peer) []
+
+-- the secret shared with a link, and with the sender of a request (RFC 2865, section 3)
+abbrev pub link_secret : RealmConfig → Link → List ℕ
+link_secret c (link.Auth server) = server_secret c server
+link_secret c (link.Acct server) = server_secret c server
+link_secret c (link.Coa peer) = peer_secret c peer
+
+abbrev pub requester_secret : RealmConfig → Requester → List ℕ
+requester_secret c (requester.Peer peer) = peer_secret c peer
+requester_secret c (requester.Home server) = server_secret c server
+
+-- the endpoint of a link
+abbrev pub link_endpoint : RealmConfig → Link → Endpoint
+link_endpoint c l = unwrap_or (endpoint_of c.peers c.realm l) nowhere
+
+-- the place of a link among the realm's links: the servers' `auth`, then their `acct`, then the peers
+abbrev pub link_place : RealmConfig → Link → ℕ
+link_place c (link.Auth server) = server
+link_place c (link.Acct server) = length c.realm.servers + server
+link_place c (link.Coa peer) = length c.realm.servers + length c.realm.servers + peer
+
+-- how many places there are
+abbrev pub link_count : RealmConfig → ℕ
+link_count c = length c.realm.servers + length c.realm.servers + length c.peers
+
+-- a link of the realm
+abbrev pub IsLink : RealmConfig → Link → Type 0
+IsLink c (link.Auth server) = server < length c.realm.servers
+IsLink c (link.Acct server) = server < length c.realm.servers
+IsLink c (link.Coa peer) = peer < length c.peers
+
+-- a sender of requests: a peer, or a home server of the realm
+abbrev pub IsRequester : RealmConfig → Requester → Type 0
+IsRequester c (requester.Peer peer) = peer < length c.peers
+IsRequester c (requester.Home server) = server < length c.realm.servers
+
+-- a server's endpoint of a service: its `auth`, or its `acct`
+abbrev pub server_link : Service → ℕ → Link
+server_link service.Authentication server = link.Auth server
+server_link service.Accounting server = link.Acct server
+
+-- those of some servers, numbered from this place on
+abbrev pub server_links : Service → ℕ → List ServerView → List Link
+server_links service place [] = []
+server_links service place (s ∷ ss) = server_link service place ∷ server_links service (place + 1) ss
+
+-- those of the realm's servers from this place on
+abbrev pub links_from : RealmConfig → Service → ℕ → List Link
+links_from c service place = server_links service place (drop place c.realm.servers)
+
+-- the service that a request of this code asks for (RFC 2865 section 4, RFC 2866 section 4)
+abbrev pub service_of : ℕ → Service
+service_of code = if code == ACCESS_REQUEST then service.Authentication else service.Accounting
+
+-- the targets of a request, in the order of their use
+abbrev pub targets : RealmConfig → ℕ → List Link
+targets c code = links_from c (service_of code) 0
+
+-- the targets after a link
+abbrev pub later_targets : RealmConfig → Link → List Link
+later_targets c (link.Auth server) = links_from c service.Authentication (server + 1)
+later_targets c (link.Acct server) = links_from c service.Accounting (server + 1)
+later_targets c (link.Coa peer) = []

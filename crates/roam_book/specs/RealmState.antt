@@ -1,0 +1,65 @@
+-- The state of one realm (ours): no lanes, no index, no list of deadlines.
+use Rattle.std.specs.Prelude.{ℕ, ◌+◌, ◌==◌, Bool, List, [], ◌∷◌, Option, Some, None, replicate, slice_index}
+use Rattle.std.specs.List.{list_any}
+use Rattle.roam_conf.specs.declared.place.Link.{Link}
+use Rattle.roam_ids.specs.NextIdentifier.{next_identifier}
+use Rattle.roam_pending.specs.PlainEntry.{PlainEntry}
+use Rattle.roam_pending.specs.EntryList.{identifiers_on}
+use Rattle.roam_book.specs.RealmConfig.{RealmConfig, link_place, link_count}
+use Rattle.roam_book.specs.declared.start.Start.{Start}
+
+-- a session of a peer, by the octets of its Acct-Session-Id (RFC 2866, section 5.5)
+pub record Session : Type 0 where
+  pub peer : ℕ
+  pub id : List ℕ
+
+-- the entries in order of ticket, the next ticket, a cursor for each link in the order of their
+-- places, the place in the stream of random words, and the sessions
+pub record RealmState : Type 0 where
+  pub entries : List PlainEntry
+  pub ticket : ℕ
+  pub cursors : List ℕ
+  pub stream_position : ℕ
+  pub sessions : List Session
+
+-- how a realm begins: no entries and no sessions, cursors 0, place and ticket as they are given
+abbrev pub opening : RealmConfig → Start → RealmState
+opening c start = record {
+  entries = [];
+  ticket = start.ticket;
+  cursors = replicate (link_count c) 0;
+  stream_position = start.place;
+  sessions = [];
+}
+
+-- the same state with other entries; with the next ticket
+abbrev pub with_entries : RealmState → List PlainEntry → RealmState
+with_entries s entries = record s { entries = entries }
+
+abbrev pub with_next_ticket : RealmState → RealmState
+with_next_ticket s = record s { ticket = s.ticket + 1 }
+
+-- an Identifier is in use toward a link where an entry waits there with it
+abbrev pub is_used_on : Link → List PlainEntry → ℕ → Bool
+is_used_on l entries id = list_any (λ used. used == id) (identifiers_on l entries)
+
+-- the next free Identifier toward a link: the first at or after the link's cursor, cyclic
+abbrev pub next_toward : RealmConfig → List ℕ → List PlainEntry → Link → Option ℕ
+next_toward c cursors entries l =
+    next_identifier (is_used_on l entries) (slice_index cursors (link_place c l))
+
+-- where a packet is forwarded to: a link, and the packet's Identifier there
+pub record Target : Type 0 where
+  pub link : Link
+  pub id : ℕ
+
+-- this link, if it has a free Identifier, else what the others give
+abbrev pub this_or : Link → Option ℕ → Option Target → Option Target
+this_or l None others = others
+this_or l (Some id) others = Some (record { link = l; id = id })
+
+-- the first of some links that has a free Identifier, and that Identifier
+abbrev pub first_target : RealmConfig → List ℕ → List PlainEntry → List Link → Option Target
+first_target c cursors entries [] = None
+first_target c cursors entries (l ∷ ls) =
+    this_or l (next_toward c cursors entries l) (first_target c cursors entries ls)

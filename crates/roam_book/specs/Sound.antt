@@ -1,0 +1,142 @@
+-- What a realm keeps (ours): of each entry, and between its entries and its lanes. No definition of
+-- what the broker does rests on it; each contract says that it is kept.
+use Rattle.std.specs.Prelude.{◌≡◌, ◌≢◌, ℕ, ◌+◌, ◌<◌, ◌≤◌, ◌^◌, ◌==◌, ◌&&◌, ◌||◌, Bool, false, List, [], length, map, Option, Some, None, option_map, is_some, slice_index_or, vec_len, vec_capacity}
+use Rattle.std.specs.List.{AllByRecursion}
+use Rattle.std.specs.Option.{option_map_or}
+use Rattle.roam_wire.specs.Reading.{IsPacketText, packet_of}
+use Rattle.roam_wire.specs.declared.code.TheConstants.{ACCOUNTING_REQUEST}
+use Rattle.roam_conf.specs.declared.place.Link.{Link}
+use Rattle.roam_fwd.specs.Forwarded.{CanBeForwarded}
+use Rattle.roam_ids.specs.LaneState.{LaneState, is_used, ticket_at}
+use Rattle.roam_ids.specs.NextIdentifier.{next_identifier}
+use Rattle.roam_pending.specs.PlainEntry.{PlainRequest, PlainStanding, PlainEntry, waiting, done, waits_at, same_link}
+use Rattle.roam_pending.specs.EntryList.{find_ticket}
+use Rattle.roam_book.specs.RealmConfig.{RealmConfig, IsLink, IsRequester, link_place, link_count}
+use Rattle.roam_book.specs.RealmState.{RealmState}
+use Rattle.roam_book.specs.declared.buffers.Buffers.{Buffers}
+use Rattle.roam_book.specs.declared.gone.Gone.{Gone}
+use Rattle.roam_book.specs.declared.sending.Asked.{Asked}
+use Rattle.roam_book.specs.declared.numbers.Numbers.{Numbers}
+
+-- a request of the realm, of a code that is served by now
+pub record IsRequest (c : RealmConfig) (q : PlainRequest) : Type 0 where
+  pub packet : IsPacketText q.octets
+  pub code : (packet_of q.octets).code ≡ ACCOUNTING_REQUEST
+  pub can_be_forwarded : CanBeForwarded (packet_of q.octets)
+  pub requester : IsRequester c q.requester
+
+-- a request waits on a link of the realm, with the packet that was forwarded for it
+pub record IsWaiting (c : RealmConfig) (q : PlainRequest) (l : Link) (i : ℕ) (forwarded : List ℕ) : Type 0 where
+  pub link : IsLink c l
+  pub id : i < 256
+  pub packet : IsPacketText forwarded
+  pub code : (packet_of forwarded).code ≡ ACCOUNTING_REQUEST
+  pub size : length forwarded ≤ length q.octets + 46
+
+abbrev pub StandsWell : RealmConfig → PlainRequest → PlainStanding → Type 0
+StandsWell c q (waiting l id forwarded sends_left deadline) = IsWaiting c q l id forwarded
+StandsWell c q (done reply deadline) = Unit {0}
+
+-- an entry of the realm, admitted before the next ticket
+pub record IsEntry (c : RealmConfig) (next : ℕ) (e : PlainEntry) : Type 0 where
+  pub ticket : e.ticket < next
+  pub request : IsRequest c e.request
+  pub standing : StandsWell c e.request e.standing
+
+-- a lane that holds nothing: what a link has that isn't there
+abbrev pub no_lane : LaneState
+no_lane = record { tag = 0; cursor = 0; places = [] }
+
+-- the lane of a link
+abbrev pub lane_of : RealmConfig → List LaneState → Link → LaneState
+lane_of c lanes l = slice_index_or lanes (link_place c l) no_lane
+
+-- this ticket's entry waits on this link with this Identifier
+abbrev pub waits_there : Link → ℕ → ℕ → List PlainEntry → Bool
+waits_there l id ticket entries = option_map_or (waits_at l id) (find_ticket ticket entries) false
+
+-- this ticket is parked at this Identifier
+abbrev pub is_parked : LaneState → ℕ → ℕ → Bool
+is_parked lane id ticket = option_map_or (λ parked. parked == ticket) (ticket_at lane id) false
+
+-- at one Identifier of a lane: just the ticket whose entry waits there is parked, and none is out
+pub record TellsAt (entries : List PlainEntry) (l : Link) (lane : LaneState) (id : ℕ) : Type 0 where
+  pub parked : (ticket : ℕ) → is_parked lane id ticket ≡ waits_there l id ticket entries
+  pub none_out : is_used lane id ≡ is_some (ticket_at lane id)
+
+-- each slot parked in a lane is a waiting entry's, and the other way round
+abbrev pub LanesTell : RealmConfig → List PlainEntry → List LaneState → Type 0
+LanesTell c entries lanes =
+    (l : Link) → IsLink c l → (id : ℕ) → id < 256 → TellsAt entries l (lane_of c lanes l) id
+
+-- what the code's numbers and entries stand for
+abbrev pub cursors_of : List LaneState → List ℕ
+cursors_of lanes = map (λ lane. lane.cursor) lanes
+
+abbrev pub state_of : {A : Type 0} → List PlainEntry → Numbers A → RealmState
+state_of entries numbers = record {
+  entries = entries;
+  ticket = numbers.ticket;
+  cursors = cursors_of numbers.lanes.items;
+  stream_position = numbers.stream_position;
+  sessions = [];
+}
+
+-- what a realm keeps
+pub record IsSound {A : Type 0} (c : RealmConfig) (entries : List PlainEntry) (numbers : Numbers A) : Type 0 where
+  pub each : AllByRecursion (IsEntry c numbers.ticket) entries
+  pub ticket : numbers.ticket ≤ 2 ^ 63
+  pub stream_position : numbers.stream_position < 2 ^ 68
+  pub lane_count : length numbers.lanes.items ≡ link_count c
+  pub lanes_tell : LanesTell c entries numbers.lanes.items
+
+-- a lane has a free Identifier
+abbrev pub has_free : LaneState → Bool
+has_free lane = is_some (next_identifier (is_used lane) lane.cursor)
+
+-- a link has a free Identifier, or is the one where an Identifier becomes free
+abbrev pub is_freed : Option Link → Link → Bool
+is_freed None l = false
+is_freed (Some freed) l = same_link freed l
+
+abbrev pub is_open : RealmConfig → List LaneState → Option Link → Link → Bool
+is_open c lanes freed l = is_freed freed l || has_free (lane_of c lanes l)
+
+-- an entry waits on this link with this Identifier, and nowhere else
+abbrev pub WaitsJustAt : Link → ℕ → PlainEntry → Type 0
+WaitsJustAt link id e = (l : Link) (i : ℕ) → waits_at l i e ≡ (same_link link l && id == i)
+
+-- a request that is looked at
+abbrev pub shown_request : Asked → PlainRequest
+shown_request q = record { key = q.key; requester = q.requester; octets = q.octets.now }
+
+-- two empty buffers with room for so many octets
+pub record HasBuffers {A : Type 0} (size : ℕ) (b : Buffers A) : Type 0 where
+  pub sent_empty : b.sent.items ≡ []
+  pub sent_length : vec_len b.sent ≡ 0
+  pub sent_room : size ≤ vec_capacity b.sent
+  pub kept_empty : b.kept.items ≡ []
+  pub kept_length : vec_len b.kept ≡ 0
+  pub kept_room : size ≤ vec_capacity b.kept
+
+-- the entry that counts as gone: its ticket, and where it waits, if it does
+abbrev pub standing_place : PlainStanding → Option (Link × ℕ)
+standing_place (waiting l id forwarded sends_left deadline) = Some (l, id)
+standing_place (done reply deadline) = None
+
+pub record IsGone (g : Gone) (entries : List PlainEntry) (e : PlainEntry) : Type 0 where
+  pub found : find_ticket g.ticket entries ≡ Some e
+  pub place : g.waits_at ≡ standing_place e.standing
+
+-- the ticket of the entry that counts as gone; the link where it waits
+abbrev pub gone_ticket : Option Gone → Option ℕ
+gone_ticket gone = option_map (λ g. g.ticket) gone
+
+-- an entry counts as gone, or none does
+abbrev pub CountsAsGone : Option Gone → List PlainEntry → Type 0
+CountsAsGone None entries = Unit {0}
+CountsAsGone (Some g) entries = (e : PlainEntry) × IsGone g entries e
+
+-- every other realm's entries are as they were
+abbrev pub OthersStay : ℕ → (ℕ → List PlainEntry) → (ℕ → List PlainEntry) → Type 0
+OthersStay realm old new = (r : ℕ) → r ≢ realm → new r ≡ old r

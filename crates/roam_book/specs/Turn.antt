@@ -1,0 +1,47 @@
+-- What an event does to a realm: it is refused, or packets are sent and the state changes (ours).
+use Rattle.std.specs.Prelude.{◌≡◌, ℕ, ◌^◌, nat_lt, List, [], map, Option, Some, None, Result, Ok, Err, if◌then◌else◌}
+use Rattle.roam_wire.specs.declared.refusal.NoMemory.{NoMemory}
+use Rattle.roam_wire.specs.declared.refusal.Refusal.{Refusal}
+use Rattle.roam_wire.specs.declared.refusal.Refusal.TheVariants as refusal
+use Rattle.roam_route.specs.Admission.{PlainOut}
+use Rattle.roam_route.specs.Shown.{shown_out}
+use Rattle.roam_route.specs.declared.datagram.Out.{Out}
+use Rattle.roam_book.specs.RealmState.{RealmState}
+use Rattle.roam_book.specs.declared.answer.Answer.{Answer}
+
+-- a refusal sends nothing and leaves the state as it was
+pub data Turn : Type 0 where
+  refuses : Refusal → Turn
+  sends : List PlainOut → RealmState → Turn
+
+-- what is sent, why nothing is, and the state that follows
+abbrev pub packets_of : Turn → List PlainOut
+packets_of (refuses why) = []
+packets_of (sends packets state) = packets
+
+abbrev pub refusal_of : Turn → Option Refusal
+refusal_of (refuses why) = Some why
+refusal_of (sends packets state) = None
+
+abbrev pub state_after : RealmState → Turn → RealmState
+state_after old (refuses why) = old
+state_after old (sends packets state) = state
+
+-- an event whose moment is above 2^62 milliseconds is refused
+abbrev pub in_time : ℕ → Turn → Turn
+in_time now turn = if nat_lt (2 ^ 62) now then refuses refusal.Moment else turn
+
+-- the packets of an answer
+abbrev pub shown_outs : {A : Type 0} → List (Out A) → List PlainOut
+shown_outs outs = map shown_out outs
+
+-- an answer and the state after it are those of a turn
+pub record Answers {A : Type 0} (answer : Answer A) (old new : RealmState) (turn : Turn) : Type 0 where
+  pub packets : shown_outs answer.outs.items ≡ packets_of turn
+  pub refusal : answer.refusal ≡ refusal_of turn
+  pub state : new ≡ state_after old turn
+
+-- what a call that may want memory gives: the turn, or nothing, and the state is as it was
+abbrev pub Gives : {A : Type 0} → Result (Answer A) NoMemory → RealmState → RealmState → Turn → Type 0
+Gives (Ok answer) old new turn = Answers answer old new turn
+Gives (Err e) old new turn = new ≡ old

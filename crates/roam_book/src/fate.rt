@@ -1,0 +1,158 @@
+//! What becomes of an entry that is due.
+
+ghost use Rattle.std.specs.Prelude.{◌≡◌, ◌≤◌, ◌+◌, ◌^◌, List, [], true, IfSome, length, vec_len, vec_capacity};
+ghost use Rattle.std.specs.List.{find};
+ghost use Rattle.roam_pending.specs.PlainEntry.{PlainEntry, waits_at};
+ghost use Rattle.roam_pending.specs.EntryList.{without};
+ghost use Rattle.roam_pending.specs.Shown.{shown};
+ghost use Rattle.roam_route.specs.Shown.{shown_out};
+ghost use Rattle.roam_book.specs.RealmConfig.{IsLink, link_count, later_targets};
+ghost use Rattle.roam_book.specs.RealmState.{first_target};
+ghost use Rattle.roam_book.specs.OnRequest.{packet_to};
+ghost use Rattle.roam_book.specs.OnTick.{due_standing, fail_over, without_entry};
+ghost use Rattle.roam_book.specs.Sound.{IsEntry, HasBuffers, state_of, cursors_of, lane_of, has_free, is_open};
+ghost use Rattle.roam_book.specs.Fates.{IsHeld, IsFate};
+
+use crate::buffers::Buffers;
+use crate::numbers::Numbers;
+use crate::sending::{Asked, packet_to, send_new};
+use crate::service::Service;
+use crate::settings::Settings;
+use roam_conf::Link;
+use roam_pending::{Entry, Standing, Waiting};
+use roam_route::Out;
+use roam_wire::Octets;
+use std::alloc::Allocator;
+
+/// What becomes of an entry that is due.
+#[derive(Drop)]
+pub(crate) enum Fate<A: Allocator> {
+    /// It goes.
+    Gone,
+    /// Its packet is sent to its link again.
+    SentAgain(Out<A>),
+    /// Its request is forwarded to another link, where it then waits.
+    Forwarded(Out<A>, Waiting<A>),
+}
+
+/// The forwarded packet of a waiting request, once more.
+fn packet_again<A: Allocator>(
+    settings: &Settings<'_>,
+    waiting: &Waiting<A>,
+    buffer: Vec<u8, A>,
+) -> Out<A>
+    requires link { IsLink settings.now waiting.now.link }
+    requires empty { buffer.items ≡ [] }
+    requires len { vec_len buffer ≡ 0 }
+    requires room { length waiting.now.forwarded ≤ vec_capacity buffer }
+    ensures { shown_out result ≡ packet_to settings.now waiting.now.link waiting.now.forwarded }
+{
+    let mut bytes = buffer;
+    bytes
+        .extend_from_slice(waiting.forwarded.as_slice())
+        .unwrap();
+    packet_to(settings, waiting.link, Octets::from_vec(bytes))
+}
+
+/// The first target after a link that has a free Identifier.
+fn later_target<A: Allocator + Copy>(
+    settings: &Settings<'_>,
+    numbers: &Numbers<A>,
+    link: Link,
+) -> Option<Link>
+    requires count { length numbers.now.lanes.items ≡ link_count settings.now }
+    ensures first { result ≡ find (is_open settings.now numbers.now.lanes.items None)
+        (later_targets settings.now link) }
+    ensures link { IfSome result (λ l. IsLink settings.now l) }
+    ensures free { IfSome result (λ l. has_free (lane_of settings.now numbers.now.lanes.items l)
+        ≡ true) }
+{
+    match link {
+        Link::Auth(server) => {
+            numbers.first_open(
+                settings,
+                Service::Authentication,
+                usize::from(server) + 1,
+                None,
+            )
+        }
+        Link::Acct(server) => {
+            numbers.first_open(settings, Service::Accounting, usize::from(server) + 1, None)
+        }
+        Link::Coa(_) => None,
+    }
+}
+
+/// Gives back the Identifier of an entry that isn't sent to its link again, and forwards its
+/// request to the next target, where there is one.
+fn fail_over<A: Allocator + Copy>(
+    settings: &Settings<'_>,
+    numbers: &mut Numbers<A>,
+    now: u64,
+    entry: &Entry<A>,
+    link: Link,
+    id: u8,
+    buffers: Buffers<A>,
+) -> Fate<A>
+    requires moment { now ≤ 2 ^ 62 }
+    requires count { length numbers.old.lanes.items ≡ link_count settings.now }
+    requires entry { IsEntry settings.now numbers.old.ticket (shown entry.now) }
+    requires link { IsLink settings.now link }
+    requires waits { waits_at link id (shown entry.now) ≡ true }
+    requires buffers { HasBuffers (length entry.now.request.octets + 46) buffers }
+    ensures { (es : List PlainEntry) → IsHeld settings.now es (shown entry.now) numbers.old
+        → IsFate settings.now now es (shown entry.now) numbers.new result
+        (fail_over settings.now now
+        (without_entry (state_of es numbers.old) (shown entry.now)) (shown entry.now)
+        (first_target settings.now (cursors_of numbers.old.lanes.items)
+        (without entry.now.ticket es) (later_targets settings.now link))) }
+{
+    numbers.give_back(settings, link, id);
+    let Some(target) = later_target(settings, numbers, link) else {
+        return Fate::Gone;
+    };
+    let asked = Asked {
+        key: entry.request.key,
+        requester: entry.request.requester,
+        octets: entry.request.octets.as_slice(),
+    };
+    let (out, waiting) = send_new(settings, numbers, now, asked, entry.ticket, target, buffers);
+    Fate::Forwarded(out, waiting)
+}
+
+/// What becomes of a due entry, by how it stands.
+pub(crate) fn fate_of<A: Allocator + Copy>(
+    settings: &Settings<'_>,
+    numbers: &mut Numbers<A>,
+    now: u64,
+    entry: &Entry<A>,
+    buffers: Buffers<A>,
+) -> Fate<A>
+    requires moment { now ≤ 2 ^ 62 }
+    requires count { length numbers.old.lanes.items ≡ link_count settings.now }
+    requires entry { IsEntry settings.now numbers.old.ticket (shown entry.now) }
+    requires buffers { HasBuffers (length entry.now.request.octets + 46) buffers }
+    ensures { (es : List PlainEntry) → IsHeld settings.now es (shown entry.now) numbers.old
+        → IsFate settings.now now es (shown entry.now) numbers.new result
+        (due_standing settings.now now (state_of es numbers.old) (shown entry.now)
+        (shown entry.now).standing) }
+{
+    match &entry.standing {
+        Standing::Done(_) => Fate::Gone,
+        Standing::Waiting(waiting) => {
+            if waiting.sends_left > 0 {
+                Fate::SentAgain(packet_again(settings, waiting, buffers.sent))
+            } else {
+                fail_over(
+                    settings,
+                    numbers,
+                    now,
+                    entry,
+                    waiting.link,
+                    waiting.id,
+                    buffers,
+                )
+            }
+        }
+    }
+}

@@ -1,0 +1,19 @@
+//! Laws of the broker of one realm, for readers and for the crates above.
+//!
+//! Each is a function that does nothing: its contract is the law.
+
+ghost use Rattle.roam_book.specs.BookView.{EventIsTaken};
+ghost use Rattle.roam_book.specs.LeastFirst.{LeastDueFirst, NoneIsDueAfter};
+
+/// A tick takes the least due entry, until none is due. Each due entry is taken once, since what waits
+/// again isn't due at that moment: the time from one sending to the next is at least a millisecond.
+pub fn ticks_take_the_least_due_first()
+    ensures least { LeastDueFirst }
+    ensures none_after { NoneIsDueAfter }
+{}
+
+/// An event of a configuration is a job that its realm takes: a request that can be forwarded and
+/// whose sender shares a secret with the broker, or a packet from a link.
+pub fn events()
+    ensures { EventIsTaken }
+{}

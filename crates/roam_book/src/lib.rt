@@ -1,0 +1,38 @@
+//! The broker of one realm: what a request, a reply and a tick do to the realm's state, and which
+//! packets leave.
+//!
+//! The rules are written once, over whatever keeps the entries ([`roam_pending::Entries`]) and the
+//! numbers that a realm hands out ([`Numbers`]). [`Book`] is a realm with a plain list of entries.
+//!
+//! Nothing here touches a socket or a clock: moments and packets are values.
+#![tactic(auto)]
+
+mod admitting;
+mod answer;
+mod book;
+mod buffers;
+mod fate;
+mod gone;
+mod laws;
+mod numbers;
+mod replies;
+mod requests;
+mod room;
+mod sending;
+mod service;
+mod settings;
+mod start;
+mod ticks;
+mod verdict;
+
+pub use answer::Answer;
+pub use book::Book;
+pub use laws::{events, ticks_take_the_least_due_first};
+pub use numbers::Numbers;
+pub use replies::on_reply;
+pub use requests::on_request;
+pub use room::{Room, tick_room};
+pub use sending::Asked;
+pub use settings::Settings;
+pub use start::Start;
+pub use ticks::on_tick;

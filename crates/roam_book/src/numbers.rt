@@ -1,0 +1,167 @@
+//! The numbers that a realm hands out.
+
+ghost use Rattle.std.specs.Prelude.{◌≡◌, ◌<◌, ◌+◌, ◌%◌, List, [], true, Some, None, length, replicate, drop, slice_set, IfSome, IfNone, IfOk, is_some};
+ghost use Rattle.std.specs.List.{find};
+ghost use Rattle.roam_pending.specs.PlainEntry.{PlainEntry, waits_at};
+ghost use Rattle.roam_pending.specs.EntryList.{IsEntryList, find_ticket, put, without};
+ghost use Rattle.roam_book.specs.RealmConfig.{IsLink, link_place, link_count, server_links};
+ghost use Rattle.roam_book.specs.RealmState.{next_toward};
+ghost use Rattle.roam_book.specs.Sound.{LanesTell, lane_of, cursors_of, has_free, is_freed, is_open, WaitsJustAt};
+
+use crate::service::Service;
+use crate::settings::Settings;
+use crate::start::Start;
+use roam_conf::Link;
+use roam_ids::Lane;
+use roam_wire::NoMemory;
+use std::alloc::Allocator;
+
+/// The numbers that a realm hands out: Identifiers toward its links, tickets, and random words.
+#[derive(Drop)]
+pub struct Numbers<A: Allocator> {
+    /// A lane for each link, in the order of their places.
+    pub(crate) lanes: Vec<Lane, A>,
+    /// The next ticket.
+    pub(crate) ticket: u64,
+    /// The place of the next random word in the realm's stream.
+    pub(crate) stream_position: u128,
+}
+
+/// The tag of a lane: its realm's index, and the place of its link.
+fn tag_of(settings: &Settings<'_>, place: usize) -> u32
+    requires { place < 272 }
+{
+    u32::from(settings.index()) * 65536 + place as u32
+}
+
+/// A lane for each link, of which nothing is in use.
+fn new_lanes<A: Allocator + Copy>(
+    alloc: A,
+    settings: &Settings<'_>,
+) -> Result<Vec<Lane, A>, NoMemory>
+    ensures count { IfOk result (λ lanes. length lanes.items ≡ link_count settings.now) }
+    ensures cursors { IfOk result (λ lanes. cursors_of lanes.items ≡ replicate (link_count settings.now) 0) }
+    ensures free { IfOk result (λ lanes. LanesTell settings.now [] lanes.items) }
+{
+    let count = settings.link_count();
+    let mut lanes = Vec::with_capacity(alloc, count).map_err(|_| NoMemory)?;
+    for place in 0..count {
+        lanes.push_reserved(Lane::new(tag_of(settings, place)));
+    }
+    Ok(lanes)
+}
+
+/// Whether a link is the one where an Identifier becomes free.
+fn is_freed(freed: Option<Link>, link: Link) -> bool
+    ensures { result ≡ is_freed freed link }
+{
+    match freed {
+        Some(freed) => freed == link,
+        None => false,
+    }
+}
+
+impl<A: Allocator + Copy> Numbers<A> {
+    /// Nothing is in use yet, and the place and the next ticket are those given.
+    pub fn new(alloc: A, settings: &Settings<'_>, start: Start) -> Result<Numbers<A>, NoMemory>
+        ensures count { IfOk result (λ n. length n.lanes.items ≡ link_count settings.now) }
+        ensures cursors { IfOk result (λ n. cursors_of n.lanes.items ≡ replicate (link_count settings.now) 0) }
+        ensures free { IfOk result (λ n. LanesTell settings.now [] n.lanes.items) }
+        ensures ticket { IfOk result (λ n. n.ticket ≡ start.ticket) }
+        ensures place { IfOk result (λ n. n.stream_position ≡ start.place) }
+    {
+        let lanes = new_lanes(alloc, settings)?;
+        Ok(Numbers {
+            lanes,
+            ticket: start.ticket,
+            stream_position: start.place,
+        })
+    }
+
+    /// Whether an Identifier is free toward a link.
+    fn has_free(&self, settings: &Settings<'_>, link: Link) -> bool
+        requires link { IsLink settings.now link }
+        requires count { length self.now.lanes.items ≡ link_count settings.now }
+        ensures { result ≡ has_free (lane_of settings.now self.now.lanes.items link) }
+    {
+        !self.lanes[settings.place_of(link)].is_full()
+    }
+
+    /// The first of the servers' links, from a place on, that has a free Identifier, or that is `freed`.
+    pub(crate) fn first_open(
+        &self,
+        settings: &Settings<'_>,
+        service: Service,
+        from: usize,
+        freed: Option<Link>,
+    ) -> Option<Link>
+        requires count { length self.now.lanes.items ≡ link_count settings.now }
+        ensures first { result ≡ find (is_open settings.now self.now.lanes.items freed)
+            (server_links service from (drop from settings.now.realm.servers)) }
+        ensures link { IfSome result (λ l. IsLink settings.now l) }
+    {
+        for server in from..settings.server_count() {
+            let link = service.link(server as u8);
+            if is_freed(freed, link) || self.has_free(settings, link) {
+                return Some(link);
+            }
+        }
+        None
+    }
+
+    /// Takes the next free Identifier toward a link for a ticket, whose request then waits for its
+    /// reply. `None` where all are in use.
+    pub(crate) fn take_next(
+        &mut self,
+        settings: &Settings<'_>,
+        link: Link,
+        ticket: u64,
+    ) -> Option<u8>
+        requires link { IsLink settings.now link }
+        requires count { length self.old.lanes.items ≡ link_count settings.now }
+        ensures next { (es : List PlainEntry) → IsEntryList es → LanesTell settings.now es self.old.lanes.items
+            → result ≡ next_toward settings.now (cursors_of self.old.lanes.items) es link }
+        ensures free { is_some result ≡ has_free (lane_of settings.now self.old.lanes.items link) }
+        ensures none { IfNone result (self.new.lanes.items ≡ self.old.lanes.items) }
+        ensures cursors { IfSome result (λ id. cursors_of self.new.lanes.items
+            ≡ slice_set (cursors_of self.old.lanes.items) (link_place settings.now link) ((id + 1) % 256)) }
+        ensures range { IfSome result (λ id. id < 256) }
+
+        // An entry of the ticket that waits there with the Identifier is what the lane then tells.
+        ensures tells { IfSome result (λ id. (e : PlainEntry) (es : List PlainEntry)
+            → LanesTell settings.now es self.old.lanes.items
+            → find_ticket ticket es ≡ None → e.ticket ≡ ticket
+            → WaitsJustAt link id e
+            → LanesTell settings.now (put e es) self.new.lanes.items) }
+        ensures count { length self.new.lanes.items ≡ length self.old.lanes.items }
+        ensures ticket { self.new.ticket ≡ self.old.ticket }
+        ensures stream_position { self.new.stream_position ≡ self.old.stream_position }
+    {
+        let lane = &mut self.lanes[settings.place_of(link)];
+        let slot = lane.take()?;
+        let id = slot.id();
+        lane.park(slot, ticket);
+        Some(id)
+    }
+
+    /// Gives the Identifier of a waiting entry back: it is free again.
+    pub(crate) fn give_back(&mut self, settings: &Settings<'_>, link: Link, id: u8)
+        requires link { IsLink settings.now link }
+        requires count { length self.old.lanes.items ≡ link_count settings.now }
+        ensures cursors { cursors_of self.new.lanes.items ≡ cursors_of self.old.lanes.items }
+
+        // Once the entry that waits there is gone, the lanes tell the others.
+        ensures tells { (e : PlainEntry) (es : List PlainEntry)
+            → LanesTell settings.now es self.old.lanes.items
+            → find_ticket e.ticket es ≡ Some e → waits_at link id e ≡ true
+            → LanesTell settings.now (without e.ticket es) self.new.lanes.items }
+        ensures count { length self.new.lanes.items ≡ length self.old.lanes.items }
+        ensures ticket { self.new.ticket ≡ self.old.ticket }
+        ensures stream_position { self.new.stream_position ≡ self.old.stream_position }
+    {
+        let lane = &mut self.lanes[settings.place_of(link)];
+        if let Some((slot, _)) = lane.claim(id) {
+            lane.free(slot);
+        }
+    }
+}

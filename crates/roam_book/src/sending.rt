@@ -1,0 +1,149 @@
+//! A request as it is forwarded (RFC 2865, section 2.3).
+
+ghost use Rattle.std.specs.Prelude.{◌≡◌, ℕ, ◌<◌, ◌≤◌, ◌+◌, ◌%◌, ◌^◌, ◌++◌, List, [], ◌∷◌, Some, None, true, length, slice_set, vec_len, vec_capacity};
+ghost use Rattle.roam_wire.specs.Reading.{IsPacketText, packet_of};
+ghost use Rattle.roam_pending.specs.PlainEntry.{PlainEntry, PlainRequest};
+ghost use Rattle.roam_pending.specs.EntryList.{IsEntryList, find_ticket, put};
+ghost use Rattle.roam_pending.specs.Shown.{shown_standing};
+ghost use Rattle.roam_pending.specs.declared.entry.Standing.TheVariants as standing;
+ghost use Rattle.roam_route.specs.Shown.{shown_out};
+ghost use Rattle.roam_book.specs.RealmConfig.{IsLink, link_place, link_count};
+ghost use Rattle.roam_book.specs.RealmState.{next_toward};
+ghost use Rattle.roam_book.specs.OnRequest.{packet_to, packet_back, forwarded_octets, forwarded_entry};
+ghost use Rattle.roam_book.specs.Sound.{shown_request, IsRequest, HasBuffers, LanesTell, IsWaiting, lane_of, cursors_of, has_free};
+
+use crate::buffers::Buffers;
+use crate::numbers::Numbers;
+use crate::settings::Settings;
+use roam_conf::{Link, Place};
+use roam_fwd::forward_reserved;
+use roam_pending::{Key, Requester, Waiting};
+use roam_route::Out;
+use roam_wire::{Octets, View};
+use std::alloc::Allocator;
+
+/// A request of a realm: what tells it from others, who sent it, and its octets up to Length.
+#[derive(Clone, Copy)]
+pub struct Asked<'a> {
+    pub key: Key,
+    pub requester: Requester,
+    pub octets: &'a [u8],
+}
+
+/// A packet of the realm toward a link.
+pub(crate) fn packet_to<A: Allocator>(
+    settings: &Settings<'_>,
+    link: Link,
+    bytes: Octets<A>,
+) -> Out<A>
+    requires { IsLink settings.now link }
+    ensures { shown_out result ≡ packet_to settings.now link bytes }
+{
+    Out {
+        realm: Some(settings.index()),
+        from: Place::Out(settings.index()),
+        to: settings.endpoint_of(link),
+        bytes,
+    }
+}
+
+/// A packet of the realm back to the sender of a request.
+pub(crate) fn packet_back<A: Allocator>(
+    settings: &Settings<'_>,
+    key: Key,
+    bytes: Octets<A>,
+) -> Out<A>
+    ensures { shown_out result ≡ packet_back settings.now key bytes }
+{
+    Out {
+        realm: Some(settings.index()),
+        from: key.place,
+        to: key.from,
+        bytes,
+    }
+}
+
+/// Writes the forwarded packet of a request into an empty buffer that has room for it.
+fn forward_into<A: Allocator>(
+    settings: &Settings<'_>,
+    asked: Asked<'_>,
+    ticket: u64,
+    link: Link,
+    id: u8,
+    out: &mut Vec<u8, A>,
+)
+    requires request { IsRequest settings.now (shown_request asked) }
+    requires link { IsLink settings.now link }
+    requires empty { out.old.items ≡ [] }
+    requires len { vec_len out.old ≡ 0 }
+    requires room { length asked.octets.now + 46 ≤ vec_capacity out.old }
+    ensures octets { out.new.items
+        ≡ forwarded_octets settings.now (shown_request asked.entry) ticket
+        (record { link = link; id = id }) }
+    ensures waiting { IsWaiting settings.now (shown_request asked.entry) link id out.new.items }
+{
+    let Ok(request) = View::read(asked.octets) else {
+        unreachable!();
+    };
+    let from_secret = settings.secret_of_requester(asked.requester);
+    let to_secret = settings.secret_of_link(link);
+    forward_reserved(&request, from_secret, to_secret, id, [0; 16], ticket, out);
+}
+
+/// Forwards a request to a link that has a free Identifier: the next one is its Identifier there,
+/// and belongs to its ticket from now on. Gives the packet that is sent, and how the request then
+/// waits. Takes no memory.
+pub(crate) fn send_new<A: Allocator + Copy>(
+    settings: &Settings<'_>,
+    numbers: &mut Numbers<A>,
+    now: u64,
+    asked: Asked<'_>,
+    ticket: u64,
+    link: Link,
+    buffers: Buffers<A>,
+) -> (Out<A>, Waiting<A>)
+    requires moment { now ≤ 2 ^ 62 }
+    requires request { IsRequest settings.now (shown_request asked) }
+    requires link { IsLink settings.now link }
+    requires count { length numbers.old.lanes.items ≡ link_count settings.now }
+    requires free { has_free (lane_of settings.now numbers.old.lanes.items link) ≡ true }
+    requires buffers { HasBuffers (length asked.octets.now + 46) buffers }
+    ensures next { (es : List PlainEntry) → IsEntryList es
+        → LanesTell settings.now es numbers.old.lanes.items
+        → next_toward settings.now (cursors_of numbers.old.lanes.items) es link ≡ Some result.1.id }
+    ensures out { shown_out result.0 ≡ packet_to settings.now link (forwarded_octets settings.now
+        (shown_request asked.entry) ticket (record { link = link; id = result.1.id })) }
+    ensures standing { shown_standing (standing.Waiting result.1)
+        ≡ (forwarded_entry settings.now now (shown_request asked.entry) ticket
+        (record { link = link; id = result.1.id })).standing }
+    ensures waiting { IsWaiting settings.now (shown_request asked.entry) link result.1.id
+        result.1.forwarded }
+    ensures cursors { cursors_of numbers.new.lanes.items
+        ≡ slice_set (cursors_of numbers.old.lanes.items) (link_place settings.now link)
+        ((result.1.id + 1) % 256) }
+
+    // The lanes then tell the entry that waits there too.
+    ensures tells { (es : List PlainEntry) → LanesTell settings.now es numbers.old.lanes.items
+        → find_ticket ticket es ≡ None
+        → LanesTell settings.now
+        (put (forwarded_entry settings.now now (shown_request asked.entry) ticket
+        (record { link = link; id = result.1.id })) es) numbers.new.lanes.items }
+    ensures count { length numbers.new.lanes.items ≡ length numbers.old.lanes.items }
+    ensures ticket { numbers.new.ticket ≡ numbers.old.ticket }
+    ensures stream_position { numbers.new.stream_position ≡ numbers.old.stream_position }
+{
+    let Some(id) = numbers.take_next(settings, link, ticket) else {
+        unreachable!();
+    };
+    let Buffers { mut sent, mut kept } = buffers;
+    forward_into(settings, asked, ticket, link, id, &mut sent);
+    forward_into(settings, asked, ticket, link, id, &mut kept);
+    let waiting = Waiting {
+        link,
+        id,
+        forwarded: Octets::from_vec(kept),
+        sends_left: settings.tries().saturating_sub(1),
+        deadline: now + u64::from(settings.wait()),
+    };
+    (packet_to(settings, link, Octets::from_vec(sent)), waiting)
+}

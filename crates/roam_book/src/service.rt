@@ -1,0 +1,27 @@
+//! The two services of a home server.
+
+ghost use Rattle.std.specs.Prelude.{◌≡◌};
+ghost use Rattle.roam_book.specs.RealmConfig.{server_link};
+
+use roam_conf::Link;
+
+/// What a home server does for a request.
+#[derive(Clone, Copy, Debug, PartialEq, Eq)]
+pub enum Service {
+    /// It answers Access-Requests (RFC 2865).
+    Authentication,
+    /// It answers Accounting-Requests (RFC 2866).
+    Accounting,
+}
+
+impl Service {
+    /// The link to the server of this place.
+    pub(crate) fn link(self, server: u8) -> Link
+        ensures { result ≡ server_link self server }
+    {
+        match self {
+            Service::Authentication => Link::Auth(server),
+            Service::Accounting => Link::Acct(server),
+        }
+    }
+}

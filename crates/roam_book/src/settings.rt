@@ -1,0 +1,204 @@
+//! What the rules of a realm read of the configuration.
+
+ghost use Rattle.std.specs.Prelude.{◌≡◌, ℕ, ◌<◌, ◌≤◌, ◌+◌, length, unwrap_or, vec_len};
+ghost use Rattle.roam_conf.specs.Shown.{shown};
+ghost use Rattle.roam_conf.specs.Parts.{shown_realm, shown_peer, shown_server};
+ghost use Rattle.roam_book.specs.RealmConfig.{realm_config, server_secret, peer_secret, link_secret, requester_secret, link_endpoint, link_place, link_count, nowhere, IsLink, IsRequester};
+
+use roam_conf::{Config, Endpoint, Link, Peer, Realm, Server};
+use roam_pending::Requester;
+use std::marker::Model;
+
+/// What the rules of one realm read of a configuration: the seed, the realm's index and entry, and
+/// all peers. Contracts see just that.
+#[derive(Drop)]
+pub struct Settings<'c> {
+    config: &'c Config,
+    realm: u16,
+}
+
+impl<'c> Model for Settings<'c> {
+    ghost use Rattle.std.specs.Prelude.{◌<◌, vec_len};
+    ghost use Rattle.roam_conf.specs.Shown.{shown};
+    ghost use Rattle.roam_book.specs.RealmConfig.{RealmConfig, realm_config};
+
+    ghost Value = { RealmConfig };
+
+    ghost view = { λ s. realm_config (shown s.config.now) s.realm };
+
+    ghost invariant = { λ s. s.realm < vec_len s.config.now.realms };
+}
+
+impl<'c> Settings<'c> {
+    /// Those of the realm of this index, which is configured.
+    pub fn new(config: &'c Config, realm: u16) -> Settings<'c>
+        requires { realm < vec_len config.now.realms }
+        ensures { result ≡ realm_config (shown config.now) realm }
+    {
+        Settings { config, realm }
+    }
+
+    /// The realm's index.
+    pub fn index(&self) -> u16
+        ensures { result ≡ self.now.index }
+    {
+        self.realm
+    }
+
+    /// The realm's entry of the configuration.
+    fn realm(&self) -> &Realm
+        ensures { shown_realm result.now ≡ self.now.realm }
+    {
+        &self.config.realms[usize::from(self.realm)]
+    }
+
+    /// How often a packet is sent to one server.
+    pub(crate) fn tries(&self) -> u8
+        ensures { result ≡ self.now.realm.tries }
+    {
+        self.realm().tries
+    }
+
+    /// The time from one sending to the next, in milliseconds.
+    pub(crate) fn wait(&self) -> u32
+        ensures { result ≡ self.now.realm.wait }
+    {
+        self.realm().wait
+    }
+
+    /// The time for which a reply is held, in milliseconds.
+    pub(crate) fn hold(&self) -> u32
+        ensures { result ≡ self.now.realm.hold }
+    {
+        self.realm().hold
+    }
+
+    /// How many requests may be pending.
+    pub(crate) fn max_pending(&self) -> u16
+        ensures { result ≡ self.now.realm.max_pending }
+    {
+        self.realm().max_pending
+    }
+
+    /// How many home servers the realm has: at most 8.
+    pub(crate) fn server_count(&self) -> usize
+        ensures count { result ≡ length self.now.realm.servers }
+        ensures few { result ≤ 8 }
+    {
+        self.realm().servers.len()
+    }
+
+    /// How many peers are configured: at most 256.
+    pub(crate) fn peer_count(&self) -> usize
+        ensures count { result ≡ length self.now.peers }
+        ensures few { result ≤ 256 }
+    {
+        self.config.peers.len()
+    }
+
+    /// The home server of a place.
+    fn server(&self, server: u8) -> &Server
+        requires { server < length self.now.realm.servers }
+        ensures secret { server_secret self.now server ≡ (shown_server result.now).secret }
+        ensures auth { link_endpoint self.now (Link.Auth server) ≡ result.now.auth }
+        ensures acct { link_endpoint self.now (Link.Acct server) ≡ result.now.acct }
+    {
+        &self.realm().servers[usize::from(server)]
+    }
+
+    /// The peer of an index.
+    fn peer(&self, peer: u16) -> &Peer
+        requires { peer < length self.now.peers }
+        ensures secret { peer_secret self.now peer ≡ (shown_peer result.now).secret }
+        ensures coa { link_endpoint self.now (Link.Coa peer) ≡ unwrap_or result.now.coa nowhere }
+    {
+        &self.config.peers[usize::from(peer)]
+    }
+
+    /// The secret shared with a home server, of 1 to 64 octets.
+    fn secret_of_server(&self, server: u8) -> &[u8]
+        requires { server < length self.now.realm.servers }
+        ensures text { result.now ≡ server_secret self.now server }
+        ensures at_least_one { 1 ≤ length result.now }
+        ensures at_most_64 { length result.now ≤ 64 }
+    {
+        self.server(server).secret.as_bytes()
+    }
+
+    /// The secret shared with a peer, of 1 to 64 octets.
+    fn secret_of_peer(&self, peer: u16) -> &[u8]
+        requires { peer < length self.now.peers }
+        ensures text { result.now ≡ peer_secret self.now peer }
+        ensures at_least_one { 1 ≤ length result.now }
+        ensures at_most_64 { length result.now ≤ 64 }
+    {
+        self.peer(peer).secret.as_bytes()
+    }
+
+    /// The secret shared with a link of the realm, of 1 to 64 octets.
+    pub(crate) fn secret_of_link(&self, link: Link) -> &[u8]
+        requires { IsLink self.now link }
+        ensures text { result.now ≡ link_secret self.now link }
+        ensures at_least_one { 1 ≤ length result.now }
+        ensures at_most_64 { length result.now ≤ 64 }
+    {
+        match link {
+            Link::Auth(server) | Link::Acct(server) => self.secret_of_server(server),
+            Link::Coa(peer) => self.secret_of_peer(peer),
+        }
+    }
+
+    /// The secret shared with the sender of a request, of 1 to 64 octets.
+    pub(crate) fn secret_of_requester(&self, requester: Requester) -> &[u8]
+        requires { IsRequester self.now requester }
+        ensures text { result.now ≡ requester_secret self.now requester }
+        ensures at_least_one { 1 ≤ length result.now }
+        ensures at_most_64 { length result.now ≤ 64 }
+    {
+        match requester {
+            Requester::Peer(peer) => self.secret_of_peer(peer),
+            Requester::Home(server) => self.secret_of_server(server),
+        }
+    }
+
+    /// The endpoint of a link of the realm.
+    pub(crate) fn endpoint_of(&self, link: Link) -> Endpoint
+        requires { IsLink self.now link }
+        ensures { result ≡ link_endpoint self.now link }
+    {
+        match link {
+            Link::Auth(server) => self.server(server).auth,
+            Link::Acct(server) => self.server(server).acct,
+            Link::Coa(peer) => self.peer(peer).coa.unwrap_or(NOWHERE),
+        }
+    }
+
+    /// How many places there are for links.
+    pub(crate) fn link_count(&self) -> usize
+        ensures count { result ≡ link_count self.now }
+        ensures few { result ≤ 272 }
+    {
+        2 * self.server_count() + self.peer_count()
+    }
+
+    /// The place of a link among the realm's links.
+    pub(crate) fn place_of(&self, link: Link) -> usize
+        requires { IsLink self.now link }
+        ensures place { result ≡ link_place self.now link }
+        ensures below { result < link_count self.now }
+    {
+        let servers = self.server_count();
+        let _peers = self.peer_count();
+        match link {
+            Link::Auth(server) => usize::from(server),
+            Link::Acct(server) => servers + usize::from(server),
+            Link::Coa(peer) => 2 * servers + usize::from(peer),
+        }
+    }
+}
+
+/// The endpoint of a peer that takes no reverse requests.
+const NOWHERE: Endpoint = Endpoint {
+    ip: [0; 4],
+    port: 0,
+};

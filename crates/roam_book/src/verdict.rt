@@ -1,0 +1,204 @@
+//! What comes of a reply for the entry that it is for (RFC 2865, section 2.3).
+
+ghost use Rattle.std.specs.Prelude.{◌≡◌, ◌⊎◌, ◌↔◌, ◌<◌, ◌≤◌, ◌^◌, [], IfErr, IfNone, IfOk, IsErrOf, IsOk, length};
+ghost use Rattle.roam_wire.specs.Reading.{IsPacketText, packet_of};
+ghost use Rattle.roam_wire.specs.declared.code.TheConstants.{ACCOUNTING_REQUEST};
+ghost use Rattle.roam_back.specs.ReplyCheck.{IsTaken};
+ghost use Rattle.roam_back.specs.Returned.{returned_length};
+ghost use Rattle.roam_pending.specs.PlainEntry.{PlainEntry};
+ghost use Rattle.roam_pending.specs.Shown.{shown, shown_request, shown_standing};
+ghost use Rattle.roam_book.specs.RealmConfig.{IsLink, link_secret};
+ghost use Rattle.roam_book.specs.RealmState.{RealmState};
+ghost use Rattle.roam_book.specs.Turn.{packets_of, refuses};
+ghost use Rattle.roam_book.specs.OnReply.{judge, reply_fault, return_reply, returned_octets, returning, to_standing};
+ghost use Rattle.roam_book.specs.Sound.{IsRequest, IsWaiting, StandsWell};
+ghost use Rattle.roam_book.specs.Judged.{IsVerdict, returns_octets};
+
+use crate::answer::{Answer, one_packet, refused};
+use crate::sending::packet_back;
+use crate::settings::Settings;
+use roam_back::{back, check_reply};
+use roam_conf::Link;
+use roam_pending::{Done, Entry, Key, Request, Standing, Waiting};
+use roam_wire::{NoMemory, Octets, Refusal, View};
+use std::alloc::Allocator;
+
+/// What comes of a reply for an entry.
+#[derive(Drop)]
+pub(crate) struct Verdict<A: Allocator> {
+    pub answer: Answer<A>,
+    /// How the entry is done from now on. `None` where the reply isn't taken.
+    pub done: Option<Done<A>>,
+}
+
+/// A reply that isn't taken. Takes no memory.
+fn not_taken<A: Allocator>(alloc: A, why: Refusal) -> Verdict<A>
+    ensures { (e : PlainEntry) → IsVerdict result e (λ s. refuses why) }
+{
+    Verdict {
+        answer: refused(alloc, why),
+        done: None,
+    }
+}
+
+/// Octets that are a packet's, as that packet.
+pub(crate) fn packet_in(octets: &[u8]) -> View<'_>
+    requires { IsPacketText octets.now }
+    ensures { result ≡ packet_of octets.now }
+{
+    let Ok(packet) = View::read(octets) else {
+        unreachable!();
+    };
+    packet
+}
+
+/// Why a reply to a forwarded packet isn't taken, if it isn't. Takes no memory.
+fn fault_of(reply: &View<'_>, forwarded: &View<'_>, secret: &[u8]) -> Option<Refusal>
+    requires at_least_one_octet { 1 ≤ length secret.now }
+    requires at_most_64_octets { length secret.now ≤ 64 }
+    ensures fault { result ≡ reply_fault secret.now reply.now forwarded.now }
+    ensures taken { IfNone result (IsTaken secret.now reply.now forwarded.now) }
+{
+    match check_reply(reply, forwarded, secret) {
+        Ok(()) => None,
+        Err(why) => Some(why),
+    }
+}
+
+/// The packet that is returned for a reply that was taken.
+///
+/// Refused in this order: `ReplyTooLong`, looked at before memory is asked for; `NoMemory`.
+fn returned_packet<A: Allocator + Copy>(
+    alloc: A,
+    settings: &Settings<'_>,
+    request: &Request<A>,
+    link: Link,
+    forwarded: &View<'_>,
+    reply: &View<'_>,
+) -> Result<Vec<u8, A>, Refusal>
+    requires request { IsRequest settings.now (shown_request request.now) }
+    requires link { IsLink settings.now link }
+    requires code { forwarded.now.code ≡ ACCOUNTING_REQUEST }
+    requires taken { IsTaken (link_secret settings.now link) reply.now forwarded.now }
+    ensures octets { IfOk result (λ packet. packet.items
+        ≡ returned_octets settings.now (shown_request request.now) link forwarded.now reply.now) }
+    ensures too_long { IsErrOf result Refusal.ReplyTooLong ↔ (4096 < returned_length
+        (returning settings.now (shown_request request.now) link forwarded.now) reply.now
+        (packet_of request.now.octets)) }
+    ensures causes { IfErr result (λ e. (e ≡ Refusal.ReplyTooLong) ⊎ (e ≡ Refusal.NoMemory)) }
+{
+    let mut packet = Vec::new(alloc);
+    match back(
+        reply,
+        &packet_in(request.octets.as_slice()),
+        forwarded.authenticator(),
+        settings.secret_of_link(link),
+        settings.secret_of_requester(request.requester),
+        &mut packet,
+    ) {
+        Ok(()) => Ok(packet),
+        Err(why) => Err(why),
+    }
+}
+
+/// A packet goes back to the sender of a request, and is held until `now + hold`.
+fn return_packet<A: Allocator + Copy>(
+    alloc: A,
+    settings: &Settings<'_>,
+    now: u64,
+    key: Key,
+    packet: Vec<u8, A>,
+) -> Result<Verdict<A>, NoMemory>
+    requires moment { now ≤ 2 ^ 62 }
+    ensures { IfOk result (λ v. (e : PlainEntry)
+        → IsVerdict v e (λ s. returns_octets settings.now now key packet.items e s)) }
+{
+    let reply = Octets::copy_of(alloc, packet.as_slice())?;
+    let deadline = now + u64::from(settings.hold());
+    let out = packet_back(settings, key, Octets::from_vec(packet));
+    let answer = one_packet(alloc, out)?;
+    Ok(Verdict {
+        answer,
+        done: Some(Done { reply, deadline }),
+    })
+}
+
+/// A reply that was taken, for the entry that waits for it.
+fn return_reply<A: Allocator + Copy>(
+    alloc: A,
+    settings: &Settings<'_>,
+    now: u64,
+    entry: &Entry<A>,
+    link: Link,
+    forwarded: &View<'_>,
+    reply: &View<'_>,
+) -> Result<Verdict<A>, NoMemory>
+    requires moment { now ≤ 2 ^ 62 }
+    requires request { IsRequest settings.now (shown entry.now).request }
+    requires link { IsLink settings.now link }
+    requires code { forwarded.now.code ≡ ACCOUNTING_REQUEST }
+    requires taken { IsTaken (link_secret settings.now link) reply.now forwarded.now }
+    ensures turn { IfOk result (λ v. IsVerdict v (shown entry.now)
+        (λ s. return_reply settings.now now s (shown entry.now) link forwarded.now reply.now)) }
+    ensures succeeds { (s : RealmState) → packets_of (return_reply settings.now now s
+        (shown entry.now) link forwarded.now reply.now) ≡ [] → IsOk result }
+{
+    match returned_packet(alloc, settings, &entry.request, link, forwarded, reply) {
+        Ok(packet) => return_packet(alloc, settings, now, entry.request.key, packet),
+        Err(Refusal::ReplyTooLong) => Ok(not_taken(alloc, Refusal::ReplyTooLong)),
+        Err(_) => Err(NoMemory),
+    }
+}
+
+/// A reply to an entry that waits.
+fn judge<A: Allocator + Copy>(
+    alloc: A,
+    settings: &Settings<'_>,
+    now: u64,
+    entry: &Entry<A>,
+    waiting: &Waiting<A>,
+    reply: &View<'_>,
+) -> Result<Verdict<A>, NoMemory>
+    requires moment { now ≤ 2 ^ 62 }
+    requires request { IsRequest settings.now (shown entry.now).request }
+    requires waiting { IsWaiting settings.now (shown entry.now).request waiting.now.link waiting.now.id
+        waiting.now.forwarded }
+    ensures turn { IfOk result (λ v. IsVerdict v (shown entry.now)
+        (λ s. judge settings.now now s (shown entry.now) waiting.now.link
+        (packet_of waiting.now.forwarded) reply.now
+        (reply_fault (link_secret settings.now waiting.now.link) reply.now
+        (packet_of waiting.now.forwarded)))) }
+    ensures succeeds { (s : RealmState) → packets_of (judge settings.now now s (shown entry.now)
+        waiting.now.link (packet_of waiting.now.forwarded) reply.now
+        (reply_fault (link_secret settings.now waiting.now.link) reply.now
+        (packet_of waiting.now.forwarded))) ≡ [] → IsOk result }
+{
+    let link = waiting.link;
+    let forwarded = packet_in(waiting.forwarded.as_slice());
+    if let Some(why) = fault_of(reply, &forwarded, settings.secret_of_link(link)) {
+        return Ok(not_taken(alloc, why));
+    }
+    return_reply(alloc, settings, now, entry, link, &forwarded, reply)
+}
+
+/// A reply to an entry, as it stands. A reply that isn't taken wants no memory.
+pub(crate) fn to_standing<A: Allocator + Copy>(
+    alloc: A,
+    settings: &Settings<'_>,
+    now: u64,
+    entry: &Entry<A>,
+    reply: &View<'_>,
+) -> Result<Verdict<A>, NoMemory>
+    requires moment { now ≤ 2 ^ 62 }
+    requires request { IsRequest settings.now (shown entry.now).request }
+    requires standing { StandsWell settings.now (shown entry.now).request (shown entry.now).standing }
+    ensures turn { IfOk result (λ v. IsVerdict v (shown entry.now)
+        (λ s. to_standing settings.now now s (shown entry.now) reply.now (shown entry.now).standing)) }
+    ensures succeeds { (s : RealmState) → packets_of (to_standing settings.now now s
+        (shown entry.now) reply.now (shown entry.now).standing) ≡ [] → IsOk result }
+{
+    match &entry.standing {
+        Standing::Waiting(waiting) => judge(alloc, settings, now, entry, waiting, reply),
+        Standing::Done(_) => Ok(not_taken(alloc, Refusal::NoEntry)),
+    }
+}

@@ -1,0 +1,16 @@
+pub mod KeptLemmas
+pub mod PacketLemmas
+pub mod SentLemmas
+pub mod AdmissionLemmas
+pub mod TickLemmas
+pub mod EventLemmas
+pub mod IsolationLemmas
+pub mod RunLemmas
+pub mod BookLemmas
+pub mod ShardLemmas
+pub mod OriginRunLemmas
+pub mod OriginLemmas
+pub mod OriginRequestLemmas
+pub mod OriginReplyLemmas
+pub mod OriginTickLemmas
+pub mod ProvenanceLemmas

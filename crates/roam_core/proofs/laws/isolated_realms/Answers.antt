@@ -1,0 +1,8 @@
+use Rattle.roam_core.proofs.IsolationLemmas.{isolated, stands_alone}
+use Rattle.roam_core.proofs.laws.isolated_realms.Goals as goal
+
+pub returns-clause-packets : goal.returns-clause-packets
+returns-clause-packets c = isolated
+
+pub returns-clause-states : goal.returns-clause-states
+returns-clause-states c = stands_alone

@@ -1,0 +1,43 @@
+-- A run's events one after the other, and all of them at its end.
+use Rattle.std.proofs.Common.{◌≡◌, ◌<◌, ◌++◌, length, get_or, sym, ap, ◌∙◌, arith}
+use Rattle.std.proofs.Math.ListN.{get_or-map}
+use Rattle.std.proofs.lemmas.List.{map-append, length-map}
+use Rattle.roam_route.specs.Shown.{shown_out}
+use Rattle.roam_book.specs.Turn.{shown_outs}
+use Rattle.roam_core.specs.Shown.{shown_event, shown_events}
+use Rattle.roam_core.proofs.RunLemmas.{answered, lost_one, has_run_all}
+use Rattle.roam_core.proofs.runs.run.Goals as goal
+use Rattle.roam_core.proofs.runs.run.Goals.{in-Ok+in_ok-append_all-in-Ok, in-Err+in_ok-note_lost-in-Err}
+
+pub loop-place-preserved : goal.loop-place-preserved
+loop-place-preserved g c =
+    let events = shown_events c.args.events.now in
+    let event = shown_event c.index-events-place.result in
+    let within : c.loop-place.place < length events = omega (arith, length-map c.args.events.now shown_event) in
+    let at : get_or events c.loop-place.place event ≡ event =
+    get_or-map shown_event c.args.events.now c.loop-place.place c.index-events-place.result ∙ ap shown_event (sym c.index-events-place.is) in
+    elim c.match-step.branch [
+      | in-Ok+in_ok-append_all-in-Ok w ↦
+          let all : shown_outs (c.loop-place.outs.items ++ w.in-Ok.answer.outs.items) ≡ shown_outs c.loop-place.outs.items ++ shown_outs w.in-Ok.answer.outs.items =
+          map-append shown_out c.loop-place.outs.items w.in-Ok.answer.outs.items in
+          rw (w.outs-is, w.lost-is, w.in_ok-append_all-in-Ok.ensures, all)
+          (answered _ _ _ _ _ _ _ _ _ _ _ _ _ within at c.loop-place.invariant
+          w.in-Ok.ensures.whole w.in-Ok.ensures.shards w.in-Ok.ensures.config
+          w.in-Ok.ensures.answer.packets w.in-Ok.ensures.answer.states)
+      | in-Err+in_ok-note_lost-in-Err w ↦
+          rw (w.outs-is, w.lost-is, w.in_ok-note_lost-in-Err.ensures)
+          (lost_one _ _ _ _ _ _ _ _ _ _ event event within at c.loop-place.invariant
+          w.in-Err.ensures.whole w.in-Err.ensures.shards w.in-Err.ensures.config w.in-Err.ensures.answer)
+    ]
+
+pub returns-clause-isolated : goal.returns-clause-isolated
+returns-clause-isolated g c =
+    (has_run_all _ _ _ _ _ _ _ _ (omega (arith, length-map c.args.events.now shown_event)) c.loop-place.invariant).isolated
+
+pub returns-clause-rejects : goal.returns-clause-rejects
+returns-clause-rejects g c =
+    (has_run_all _ _ _ _ _ _ _ _ (omega (arith, length-map c.args.events.now shown_event)) c.loop-place.invariant).rejects
+
+pub returns-clause-realms : goal.returns-clause-realms
+returns-clause-realms g c =
+    (has_run_all _ _ _ _ _ _ _ _ (omega (arith, length-map c.args.events.now shown_event)) c.loop-place.invariant).realms

@@ -1,0 +1,15 @@
+use Rattle.std.proofs.Common.{ℕ, subst}
+use Rattle.std.specs.Prelude.{◌==◌}
+use Rattle.roam_conf.specs.Shown.{shown}
+use Rattle.roam_core.specs.ShardRooms.{IsRealmRoom}
+use Rattle.roam_core.proofs.ShardLemmas.{one-more-gathered}
+use Rattle.roam_core.proofs.shard_room.room_of_shard.Goals as goal
+
+pub loop-realm-preserved : goal.loop-realm-preserved
+loop-realm-preserved g c =
+    let book = c.index-books-realm.result in
+    let room = c.in_ok-room.room in
+    let own = subst (λ (n : ℕ). IsRealmRoom c.args.now (n == c.args.shard) book.state.entries room) c.shard_of.ensures.value c.in_ok-room.ensures in
+    rw c.in_ok-push.ensures.items
+    (one-more-gathered (shown c.args.config.now) c.args.now c.args.shard c.loop-realm.realm c.args.books.now c.loop-realm.rooms.items c.loop-realm.most _ book room
+    c.loop-realm.invariant c.loop-realm-test.true c.index-books-realm.is own c.in_ok-most.ensures)

@@ -1,0 +1,227 @@
+//! The broker over a list of books, one for each realm.
+
+ghost use Rattle.std.specs.Prelude.{◌≡◌, ◌+◌, ◌<◌, ◌≤◌, ◌++◌, [], ◌∷◌, Some, None, length, slice_set, IfOk, vec_len, vec_capacity};
+ghost use Rattle.roam_conf.specs.Shown.{shown};
+ghost use Rattle.roam_route.specs.Admission.{admitted, admission_by, is_served};
+ghost use Rattle.roam_route.specs.Events.{IsEvent};
+ghost use Rattle.roam_route.specs.Shown.{shown_arrival, shown_job, shown_out};
+ghost use Rattle.roam_book.specs.BookView.{settings_of};
+ghost use Rattle.roam_book.specs.OneRealm.{event_of, on_event};
+ghost use Rattle.roam_book.specs.Turn.{Gives, packets_of, shown_outs, state_after};
+ghost use Rattle.roam_core.specs.Answers.{GivesAnswer, state_at, to_arrival, to_tick};
+ghost use Rattle.roam_core.specs.BrokerView.{fresh};
+ghost use Rattle.roam_core.specs.ShardRooms.{AllFit, Fits, most_of, most_of_all, tick_in, turn_in};
+
+use crate::event::Event;
+use crate::shard_room::{ShardRoom, room_of_shard};
+use crate::stepper::Stepper;
+use roam_book::{Answer, Book, Room, Start};
+use roam_conf::Config;
+use roam_route::{Datagram, Job, Out, Prepared, Side, prepare};
+use roam_wire::{NoMemory, Refusal};
+use std::alloc::Allocator;
+use std::marker::Model;
+
+/// The latest moment, in milliseconds: a tick of a later one is refused.
+const LATEST: u64 = 1 << 62;
+
+/// A refusal. Takes no memory.
+fn refused<A: Allocator>(alloc: A, why: Refusal) -> Answer<A>
+    ensures outs { shown_outs result.outs.items ≡ [] }
+    ensures refusal { result.refusal ≡ Some why }
+{
+    Answer {
+        outs: Vec::new(alloc),
+        refusal: Some(why),
+    }
+}
+
+/// A local reject is sent.
+fn rejected<A: Allocator>(alloc: A, out: Out<A>) -> Result<Answer<A>, NoMemory>
+    ensures outs { IfOk result (λ a. shown_outs a.outs.items ≡ shown_out out ∷ []) }
+    ensures refusal { IfOk result (λ a. a.refusal ≡ None) }
+{
+    let mut outs = Vec::with_capacity(alloc, 1)?;
+    outs.push_reserved(out);
+    Ok(Answer {
+        outs,
+        refusal: None,
+    })
+}
+
+/// Gives a job to the book of its realm: what comes from a link is a reply, all else is a request.
+fn given<A: Allocator + Copy>(
+    book: &mut Book<'_, A>,
+    now: u64,
+    job: &Job<A>,
+) -> Result<Answer<A>, NoMemory>
+    requires event { IsEvent book.old.config (shown_job job.now) }
+    requires own { job.now.realm ≡ book.old.realm }
+    ensures turn { Gives result book.old.state book.new.state
+        (on_event (settings_of book.old) book.old.state (event_of now (shown_job job.now))) }
+    ensures config { book.new.config ≡ book.old.config }
+    ensures realm { book.new.realm ≡ book.old.realm }
+{
+    match job.side {
+        Side::Link(_) => book.reply(now, job),
+        Side::Peer(_) | Side::Home(_) => book.request(now, job),
+    }
+}
+
+/// Appends packets for which there are places. Takes no memory.
+fn append_reserved<A: Allocator>(outs: &mut Vec<Out<A>, A>, mut more: Vec<Out<A>, A>)
+    requires { vec_len outs.old + length more.items ≤ vec_capacity outs.old }
+    ensures items { outs.new.items ≡ outs.old.items ++ more.items }
+    ensures len { vec_len outs.new ≡ vec_len outs.old + length more.items }
+    ensures capacity { vec_capacity outs.old ≤ vec_capacity outs.new }
+{
+    outs.append(&mut more).unwrap();
+}
+
+/// The broker: a book for each realm. Contracts see its configuration, and the state of each realm in
+/// the order of their indexes.
+#[derive(Drop)]
+pub struct Broker<'c, A: Allocator> {
+    alloc: A,
+    config: &'c Config,
+    books: Vec<Book<'c, A>, A>,
+}
+
+impl<'c, A: Allocator> Model for Broker<'c, A> {
+    ghost use Rattle.roam_conf.specs.Shown.{shown};
+    ghost use Rattle.roam_core.specs.BrokerView.{BrokerView, IsBroker, states_of};
+
+    ghost Value = { BrokerView };
+
+    ghost view = { λ b. record { config = shown b.config.now; states = states_of b.books.items } };
+
+    ghost invariant = { λ b. IsBroker (shown b.config.now) b.books.items };
+}
+
+impl<'c, A: Allocator + Copy> Broker<'c, A> {
+    /// A fresh broker: no request is pending, and each realm begins at place 0 of its random words and
+    /// ticket 0.
+    pub fn new(alloc: A, config: &'c Config) -> Result<Broker<'c, A>, NoMemory>
+        ensures config { IfOk result (λ b. b.config ≡ shown config.now) }
+        ensures states { IfOk result (λ b. b.states ≡ fresh (shown config.now)) }
+    {
+        let count = config.realms.len() as u16;
+        let mut books = Vec::with_capacity(alloc, config.realms.len())?;
+        for realm in 0..count {
+            let start = Start {
+                place: 0,
+                ticket: 0,
+            };
+            books.push(Book::new(alloc, config, realm, start)?)?;
+        }
+        Ok(Broker {
+            alloc,
+            config,
+            books,
+        })
+    }
+
+    /// Gives a job to the book of its realm.
+    fn give(&mut self, now: u64, job: &Job<A>) -> Result<Answer<A>, NoMemory>
+        requires { IsEvent self.old.config (shown_job job.now) }
+        ensures turn { GivesAnswer result self.old.states self.new.states
+            (to_arrival self.old.config self.old.states now (admitted (shown_job job.now))) }
+        ensures config { self.new.config ≡ self.old.config }
+    {
+        given(&mut self.books[usize::from(job.realm)], now, job)
+    }
+
+    /// Answers an arrival.
+    fn arrive(&mut self, now: u64, datagram: &Datagram<A>) -> Result<Answer<A>, NoMemory>
+        ensures turn { GivesAnswer result self.old.states self.new.states
+            (to_arrival self.old.config self.old.states now
+            (admission_by is_served self.old.config (shown_arrival datagram.now))) }
+        ensures config { self.new.config ≡ self.old.config }
+        ensures whole { length self.old.states ≡ length self.old.config.realms }
+        ensures shards { 1 ≤ self.old.config.shards }
+    {
+        match prepare(self.alloc, self.config, datagram) {
+            Ok(Prepared::Job(job)) => self.give(now, &job),
+            Ok(Prepared::Reject(out)) => rejected(self.alloc, out),
+            Err(Refusal::NoMemory) => Err(NoMemory),
+            Err(why) => Ok(refused(self.alloc, why)),
+        }
+    }
+
+    /// A realm's part of a tick, in the room that was made for it, if one was. Takes no memory.
+    fn tick_one(&mut self, now: u64, realm: usize, room: Option<Room<A>>, outs: &mut Vec<Out<A>, A>)
+        requires there { realm < length self.old.states }
+        requires room { Fits now (state_at self.old.states realm).entries room }
+        requires places { vec_len outs.old + most_of room ≤ vec_capacity outs.old }
+        ensures packets { shown_outs outs.new.items ≡ shown_outs outs.old.items ++ packets_of
+            (turn_in self.old.config now realm (state_at self.old.states realm) room) }
+        ensures states { self.new.states ≡ slice_set self.old.states realm
+            (state_after (state_at self.old.states realm)
+            (turn_in self.old.config now realm (state_at self.old.states realm) room)) }
+        ensures config { self.new.config ≡ self.old.config }
+        ensures len { vec_len outs.new ≤ vec_len outs.old + most_of room }
+        ensures capacity { vec_capacity outs.old ≤ vec_capacity outs.new }
+    {
+        let Some(room) = room else {
+            return;
+        };
+        let answer = self.books[realm].tick_reserved(now, room);
+        append_reserved(outs, answer.outs);
+    }
+
+    /// A tick of the realms that have a room, in rising index. Takes no memory.
+    fn tick_in(&mut self, now: u64, room: ShardRoom<A>) -> Answer<A>
+        requires rooms { AllFit now self.old.states room.rooms.items }
+        requires empty { room.outs.items ≡ [] }
+        requires len { vec_len room.outs ≡ 0 }
+        requires places { most_of_all room.rooms.items ≤ vec_capacity room.outs }
+        ensures packets { shown_outs result.outs.items
+            ≡ (tick_in self.old.config now 0 self.old.states room.rooms.items).packets }
+        ensures refusal { result.refusal ≡ None }
+        ensures states { self.new.states
+            ≡ (tick_in self.old.config now 0 self.old.states room.rooms.items).states }
+        ensures config { self.new.config ≡ self.old.config }
+    {
+        let ShardRoom { rooms, mut outs } = room;
+        let mut realm = 0;
+        for room in rooms {
+            self.tick_one(now, realm, room, &mut outs);
+            realm += 1;
+        }
+        Answer {
+            outs,
+            refusal: None,
+        }
+    }
+
+    /// Answers a shard's tick: all its memory is taken before anything changes.
+    fn tick(&mut self, now: u64, shard: u16) -> Result<Answer<A>, NoMemory>
+        ensures turn { GivesAnswer result self.old.states self.new.states
+            (to_tick self.old.config self.old.states now shard) }
+        ensures config { self.new.config ≡ self.old.config }
+        ensures whole { length self.old.states ≡ length self.old.config.realms }
+        ensures shards { 1 ≤ self.old.config.shards }
+    {
+        if shard >= self.config.shards {
+            return Ok(refused(self.alloc, Refusal::NoShard));
+        }
+        if now > LATEST {
+            return Ok(refused(self.alloc, Refusal::Moment));
+        }
+        let room = room_of_shard(self.alloc, self.config, &self.books, now, shard)?;
+        Ok(self.tick_in(now, room))
+    }
+}
+
+impl<'c, A: Allocator + Copy> Stepper<A> for Broker<'c, A> {
+    ghost config = { λ b. b.config };
+
+    ghost states = { λ b. b.states };
+
+    fn step(&mut self, event: &Event<A>) -> Result<Answer<A>, NoMemory> {
+        match event {
+            Event::Arrive { now, datagram } => self.arrive(*now, datagram),
+            Event::Tick { now, shard } => self.tick(*now, *shard),
+        }
+    }
+}

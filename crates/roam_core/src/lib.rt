@@ -1,0 +1,17 @@
+//! Many realms: events, what answers them, and runs over lists of them.
+//!
+//! Nothing here touches a socket or a clock: datagrams, moments and packets are values.
+#![tactic(auto)]
+
+mod broker;
+mod event;
+mod laws;
+mod runs;
+mod shard_room;
+mod stepper;
+
+pub use broker::Broker;
+pub use event::Event;
+pub use laws::{isolated_realms, provenance, two_worlds};
+pub use runs::{Outcome, run};
+pub use stepper::Stepper;

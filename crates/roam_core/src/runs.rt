@@ -1,0 +1,80 @@
+//! A run of the broker over a list of events.
+
+ghost use Rattle.std.specs.Prelude.{◌≡◌, ◌++◌, ◌∷◌, [], IfOk, OnOk, length};
+ghost use Rattle.std.specs.List.{AllByRecursion};
+ghost use Rattle.roam_book.specs.Turn.{shown_outs};
+ghost use Rattle.roam_core.specs.Answers.{answers_to};
+ghost use Rattle.roam_core.specs.Events.{kept, local_rejects};
+ghost use Rattle.roam_core.specs.Isolation.{IsIsolated, HasRealm, packets_for_none};
+ghost use Rattle.roam_core.specs.Shown.{shown_events};
+
+use crate::event::Event;
+use crate::stepper::Stepper;
+use roam_route::Out;
+use roam_wire::NoMemory;
+use std::alloc::Allocator;
+
+/// What a run gave: the packets in the order in which they were sent, and the places, from 0, of the
+/// events that met want of memory and were lost.
+#[derive(Drop)]
+pub struct Outcome<A: Allocator> {
+    pub outs: Vec<Out<A>, A>,
+    pub lost: Vec<usize, A>,
+}
+
+/// Appends the packets of one answer.
+fn append_all<A: Allocator>(
+    outs: &mut Vec<Out<A>, A>,
+    mut more: Vec<Out<A>, A>,
+) -> Result<(), NoMemory>
+    ensures { OnOk result (outs.new.items ≡ outs.old.items ++ more.items) }
+{
+    outs.append(&mut more).map_err(|_| NoMemory)
+}
+
+/// Notes the place of an event that was lost.
+fn note_lost<A: Allocator>(lost: &mut Vec<usize, A>, place: usize) -> Result<(), NoMemory>
+    ensures { OnOk result (lost.new.items ≡ lost.old.items ++ place ∷ []) }
+{
+    lost.push(place).map_err(|_| NoMemory)
+}
+
+/// Gives events to a broker, one after the other. An event that meets want of memory is lost, and the
+/// run goes on.
+///
+/// Each realm is isolated: whatever the events, the packets for a realm are, in order and octet for
+/// octet, those that the written broker of that one realm sends, begun in the realm's state, when it is
+/// given the realm's own events among those that weren't lost.
+///
+/// `NoMemory` comes where the outcome itself couldn't grow; the broker then stands after some of the
+/// events.
+pub fn run<A: Allocator + Copy, S: Stepper<A>>(
+    alloc: A,
+    stepper: &mut S,
+    events: &[Event<A>],
+) -> Result<Outcome<A>, NoMemory>
+    ensures isolated { IfOk result (λ o. IsIsolated (S.config stepper.old) (S.states stepper.old)
+        (kept o.lost.items (shown_events events.now)) (shown_outs o.outs.items)) }
+
+    // All packets, and the states at the end: the written answers to the events that weren't lost.
+    ensures packets { IfOk result (λ o. shown_outs o.outs.items ≡ (answers_to (S.config stepper.old)
+        (S.states stepper.old) (kept o.lost.items (shown_events events.now))).packets) }
+    ensures states { IfOk result (λ o. S.states stepper.new ≡ (answers_to (S.config stepper.old)
+        (S.states stepper.old) (kept o.lost.items (shown_events events.now))).states) }
+
+    // Packets for no realm are the local rejects, and every other one is for a realm that is there.
+    ensures rejects { IfOk result (λ o. packets_for_none (shown_outs o.outs.items)
+        ≡ local_rejects (S.config stepper.old) (kept o.lost.items (shown_events events.now))) }
+    ensures realms { IfOk result (λ o. AllByRecursion (HasRealm (length (S.config stepper.old).realms))
+        (shown_outs o.outs.items)) }
+{
+    let mut outs = Vec::new(alloc);
+    let mut lost = Vec::new(alloc);
+    for (place, event) in events.iter().enumerate() {
+        match stepper.step(event) {
+            Ok(answer) => append_all(&mut outs, answer.outs)?,
+            Err(_) => note_lost(&mut lost, place)?,
+        }
+    }
+    Ok(Outcome { outs, lost })
+}

@@ -1,0 +1,31 @@
+//! What answers events one after the other.
+
+ghost use Rattle.std.specs.Prelude.{◌≡◌, ◌≤◌, List, length};
+ghost use Rattle.roam_conf.specs.Config.{ConfigView};
+ghost use Rattle.roam_book.specs.RealmState.{RealmState};
+ghost use Rattle.roam_core.specs.Answers.{GivesAnswer, answer_to};
+ghost use Rattle.roam_core.specs.Shown.{shown_event};
+
+use crate::event::Event;
+use roam_book::Answer;
+use roam_wire::NoMemory;
+use std::alloc::Allocator;
+
+/// What answers events one after the other: a broker, whatever keeps its realms.
+pub trait Stepper<A: Allocator> {
+    /// The configuration.
+    ghost config: { Self → ConfigView };
+
+    /// The state of each realm, in the order of their indexes.
+    ghost states: { Self → List RealmState };
+
+    /// Answers an event, and the states are then those that follow. Where memory is wanted nothing is
+    /// sent, and all states are as they were.
+    fn step(&mut self, event: &Event<A>) -> Result<Answer<A>, NoMemory>
+        ensures answer { GivesAnswer result (states self.old) (states self.new) (answer_to (config self.old) (states self.old) (shown_event event.now)) }
+        ensures config { config self.new ≡ config self.old }
+
+        // There is a state for each realm, and there is a shard.
+        ensures whole { length (states self.old) ≡ length (config self.old).realms }
+        ensures shards { 1 ≤ (config self.old).shards };
+}
