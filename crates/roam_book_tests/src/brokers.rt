@@ -185,7 +185,8 @@ fn at_the_tick(row: &str) -> Result<(&str, &str), Fail> {
 
 /// Lets each growth of the tick be refused in turn: nothing is sent, and the same tick with memory and
 /// the events behind it are answered as if the refused one had never been.
-fn refuse_each_of_the_tick(rt: &impl Abort, alloc: Global, config: &Config) -> Result<(), Fail> {
+fn refuse_each_of_the_tick(rt: &impl Abort, alloc: Global) -> Result<(), Fail> {
+    let config = config(alloc, TWO_REALMS, &[])?;
     let (before, after) = at_the_tick(TWO_REALMS_IN_ONE_TICK)?;
     let refusing = Refusing::new(alloc);
     let tick = roam_core::Event::Tick {
@@ -193,7 +194,7 @@ fn refuse_each_of_the_tick(rt: &impl Abort, alloc: Global, config: &Config) -> R
         shard: 0,
     };
     for n in refusing.each_growth() {
-        let mut play = Play::new(alloc, &refusing, config)?;
+        let mut play = Play::new(alloc, &refusing, &config)?;
         play.row(rt, alloc, before)?;
         refusing.refuse_nth(n);
         let wanting = play.meets(alloc, &tick)?;
@@ -213,8 +214,7 @@ fn refuse_each_of_the_tick(rt: &impl Abort, alloc: Global, config: &Config) -> R
 
 #[test]
 fn tick_of_two_realms_without_memory(rt: HostRuntime) -> Result<(), Fail> {
-    let config = config(rt.alloc(), TWO_REALMS, &[])?;
-    refuse_each_of_the_tick(&rt, rt.alloc(), &config)
+    refuse_each_of_the_tick(&rt, rt.alloc())
 }
 
 /// Lets each growth of a new broker be refused in turn.
