@@ -1,9 +1,8 @@
 -- Entries that go before a new request is admitted, and its target.
-use Rattle.std.proofs.Common.{◌≡◌, ℕ, Bool, true, false, List, [], ◌∷◌, Option, Some, None, refl, ap, sym, ◌∙◌, ◌+◌, ◌<◌, ◌≤◌, ◌^◌, subst, arith, inl, inr, is_some, length}
-use Rattle.std.specs.Prelude.{◌&&◌, not, option_map, unwrap_or}
+use Rattle.std.proofs.Common.{◌≡◌, ℕ, true, List, [], ◌∷◌, Option, Some, None, refl, ap, sym, ◌∙◌, ◌+◌, ◌<◌, ◌≤◌, ◌^◌, subst, arith, inl, inr, length}
+use Rattle.std.specs.Prelude.{unwrap_or}
 use Rattle.std.specs.List.{AllByRecursion}
 use Rattle.std.proofs.lemmas.Bool.{cases_Bool}
-use Rattle.std.proofs.lemmas.Bool.Decides.{nat_tests}
 use Rattle.roam_conf.specs.declared.place.Link.{Link}
 use Rattle.roam_conf.specs.declared.place.Link.TheVariants as link
 use Rattle.roam_ids.specs.LaneState.{LaneState}
@@ -16,14 +15,14 @@ use Rattle.roam_pending.proofs.ChangeLemmas.{found-ticket, length-without}
 use Rattle.roam_pending.proofs.ClientLemmas.{done-found}
 use Rattle.roam_book.specs.declared.gone.Gone.{Gone}
 use Rattle.roam_book.specs.declared.numbers.Numbers.{Numbers}
-use Rattle.roam_book.specs.NewEntry.{HasNext, MakesWay, target_at}
+use Rattle.roam_book.specs.NewEntry.{MakesWay, target_at}
 use Rattle.roam_book.specs.RealmConfig.{RealmConfig, IsLink}
-use Rattle.roam_book.specs.RealmState.{RealmState, Session, Target, first_target, next_toward}
+use Rattle.roam_book.specs.RealmState.{RealmState, Session, Target, next_toward}
 use Rattle.roam_book.specs.OnRequest.{admit}
 use Rattle.roam_book.specs.Turn.{Turn}
 use Rattle.roam_book.specs.Sound.{CountsAsGone, IsEntry, IsRequest, IsSound, IsWaiting, LanesTell, StandsWell, cursors_of, gone_ticket, standing_place}
 use Rattle.roam_book.proofs.SoundLemmas.{kept-later, kept-put, kept-ticket, kept-without}
-use Rattle.roam_book.proofs.LaneLemmas.{next-tells, target-next, tells-gone}
+use Rattle.roam_book.proofs.LaneLemmas.{next-tells, tells-gone}
 
 -- a link is itself
 same_link-self : (l : Link) → same_link l l ≡ true

@@ -5,7 +5,7 @@ use Rattle.std.specs.List.{position_from}
 use Rattle.std.specs.Option.{option_map_or}
 use Rattle.std.proofs.lemmas.Bool.{cases_Bool}
 use Rattle.std.proofs.lemmas.Bool.Decides.{nat_tests}
-use Rattle.roam_wire.specs.Packet.{Attribute, Packet, IsPacket, packet_text}
+use Rattle.roam_wire.specs.Packet.{Attribute, Packet, IsPacket}
 use Rattle.roam_wire.specs.Reading.{HasLength, attributes_of, front_of, has_length, packet_of, reading}
 use Rattle.roam_wire.specs.declared.code.TheConstants.{ACCESS_REQUEST, ACCOUNTING_REQUEST}
 use Rattle.roam_wire.specs.declared.refusal.Refusal.{Refusal}
@@ -26,10 +26,7 @@ use Rattle.roam_route.specs.Events.{arrival_of, IsEvent}
 use Rattle.roam_route.specs.declared.job.Side.{Side}
 use Rattle.roam_route.specs.declared.job.Side.TheVariants as side
 use Rattle.roam_route.proofs.EventLemmas.{served_elsewhere}
-use Rattle.roam_pending.specs.declared.key.Requester.TheVariants as requester
 use Rattle.roam_book.specs.RealmConfig.{RealmConfig, realm_config}
-use Rattle.roam_book.specs.OneRealm.{request_of}
-use Rattle.roam_book.specs.Sound.{IsRequest}
 use Rattle.roam_book.specs.BookView.{AreOctets, EventIsTaken, IsTakenFrom}
 
 -- What is read is a packet

@@ -1,8 +1,6 @@
 -- What comes of a reply: why it isn't taken, the turn that it is, and what its realm then keeps.
-use Rattle.std.proofs.Common.{◌≡◌, ◌⊎◌, ◌↔◌, ℕ, ◌+◌, ◌<◌, ◌≤◌, ◌^◌, Bool, true, false, List, [], ◌∷◌, Option, Some, None, IsTrue, refl, ap, sym, ◌∙◌, subst, arith, eqb, ltb, inl, inr, length}
+use Rattle.std.proofs.Common.{◌≡◌, ◌⊎◌, ℕ, ◌<◌, Bool, true, false, List, Option, Some, None, IsTrue, refl, ap, sym, ◌∙◌, subst, arith, eqb, ltb, inl, inr, length}
 use Rattle.std.specs.Prelude.{IsSomeAnd, not, ◌&&◌, ◌||◌}
-use Rattle.std.specs.List.{AllByRecursion}
-use Rattle.std.proofs.lemmas.Bool.{cases_Bool}
 use Rattle.std.proofs.lemmas.Bool.Decides.{nat_tests}
 use Rattle.roam_wire.specs.Packet.{Packet}
 use Rattle.roam_wire.specs.Reading.{packet_of}
@@ -16,15 +14,15 @@ use Rattle.roam_auth.proofs.DecidingLemmas.{signed_reply_decided, well_sealed_de
 use Rattle.roam_back.specs.ReplyCheck.{is_access_reply, answers, sealing_authenticators, IsRightlySealed}
 use Rattle.roam_back.specs.Returned.{returned_length}
 use Rattle.roam_conf.specs.declared.place.Link.{Link}
-use Rattle.roam_pending.specs.PlainEntry.{PlainRequest, PlainStanding, PlainEntry, waiting, done, same_link, stands_at, stands_done, waits_at}
+use Rattle.roam_pending.specs.PlainEntry.{PlainRequest, PlainStanding, PlainEntry, waiting, done, same_link, stands_at, waits_at}
 use Rattle.roam_pending.specs.EntryList.{IsEntryList, find_link, find_ticket, put, without}
 use Rattle.roam_pending.specs.Realms.{with_standing}
-use Rattle.roam_pending.proofs.ChangeLemmas.{find-passes, found-is, found-ticket}
+use Rattle.roam_pending.proofs.ChangeLemmas.{find-passes, found-is}
 use Rattle.roam_book.specs.RealmConfig.{RealmConfig, IsLink}
 use Rattle.roam_book.specs.RealmState.{RealmState}
 use Rattle.roam_book.specs.Turn.{Turn, Answers, refuses}
 use Rattle.roam_book.specs.OnReply.{has_seal_for_eap, is_rightly_sealed, reply_fault, return_reply, returned_octets, returning}
-use Rattle.roam_book.specs.Sound.{IsEntry, IsSound, LanesTell, StandsWell, cursors_of}
+use Rattle.roam_book.specs.Sound.{IsEntry, IsSound, LanesTell, StandsWell}
 use Rattle.roam_book.specs.Judged.{returns_octets}
 use Rattle.roam_book.specs.declared.answer.Answer.{Answer}
 use Rattle.roam_book.specs.declared.numbers.Numbers.{Numbers}

@@ -1,6 +1,6 @@
 //! The numbers that a realm hands out.
 
-ghost use Rattle.std.specs.Prelude.{◌≡◌, ◌<◌, ◌+◌, ◌%◌, List, [], true, Some, None, length, replicate, drop, slice_set, IfSome, IfNone, IfOk, is_some};
+ghost use Rattle.std.specs.Prelude.{◌≡◌, ◌<◌, ◌+◌, ◌*◌, ◌%◌, List, [], true, Some, None, length, replicate, drop, slice_set, IfSome, IfNone, IfOk, is_some};
 ghost use Rattle.std.specs.List.{find};
 ghost use Rattle.roam_pending.specs.PlainEntry.{PlainEntry, waits_at};
 ghost use Rattle.roam_pending.specs.EntryList.{IsEntryList, find_ticket, put, without};
@@ -30,6 +30,7 @@ pub struct Numbers<A: Allocator> {
 /// The tag of a lane: its realm's index, and the place of its link.
 fn tag_of(settings: &Settings<'_>, place: usize) -> u32
     requires { place < 272 }
+    ensures { result ≡ settings.now.index * 65536 + place }
 {
     u32::from(settings.index()) * 65536 + place as u32
 }

@@ -2,7 +2,7 @@
 
 use roam_conf::Config;
 use std::alloc::Global;
-use std::test::Fail;
+use std::process::Abort;
 
 const TOP: &str = "shards = 1
 seed = \"0000000000000000000000000000000000000000000000000000000000000000\"
@@ -20,7 +20,7 @@ nas_id = \"nas1\"
 ";
 
 /// The first realm.
-pub(crate) const REALM_A: &str = "
+const REALM_A: &str = "
 [[realm]]
 name = \"a.example\"
 out = \"127.0.0.1:2000\"
@@ -32,21 +32,8 @@ max_pending = 300
 max_sessions = 100
 ";
 
-/// The second realm.
-pub(crate) const REALM_B: &str = "
-[[realm]]
-name = \"b.example\"
-out = \"127.0.0.1:2001\"
-reverse = \"127.0.0.1:3001\"
-tries = 2
-wait = 1000
-hold = 5000
-max_pending = 300
-max_sessions = 100
-";
-
 /// A first server of the realm before it.
-pub(crate) const SERVER_1: &str = "
+const SERVER_1: &str = "
 [[realm.server]]
 auth = \"198.51.100.1:1812\"
 acct = \"198.51.100.1:1813\"
@@ -54,56 +41,45 @@ secret = \"h1\"
 ";
 
 /// A second one.
-pub(crate) const SERVER_2: &str = "
+const SERVER_2: &str = "
 [[realm.server]]
 auth = \"198.51.100.2:1812\"
 acct = \"198.51.100.2:1813\"
 secret = \"h2\"
 ";
 
-/// A third one.
-pub(crate) const SERVER_3: &str = "
-[[realm.server]]
-auth = \"198.51.100.3:1812\"
-acct = \"198.51.100.3:1813\"
-secret = \"h3\"
-";
-
 /// One realm with one server.
-pub(crate) const ONE_SERVER: &[&str] = &[REALM_A, SERVER_1];
+pub(crate) const ONE_SERVER: &[&str] = &[TOP, REALM_A, SERVER_1];
 
 /// One realm with two servers.
-pub(crate) const TWO_SERVERS: &[&str] = &[REALM_A, SERVER_1, SERVER_2];
+pub(crate) const TWO_SERVERS: &[&str] = &[TOP, REALM_A, SERVER_1, SERVER_2];
 
-/// Two realms with the same server.
-pub(crate) const TWO_REALMS: &[&str] = &[REALM_A, SERVER_1, REALM_B, SERVER_1];
-
-fn joined(alloc: Global, parts: &[&str]) -> Result<String, Fail> {
+fn joined(rt: &impl Abort, alloc: Global, parts: &[&str]) -> String {
     let mut text = String::new(alloc);
     for part in parts {
-        text.push_str(part)?;
+        text.push_str(part).expect(rt, "memory");
     }
-    Ok(text)
+    text
 }
 
 /// The text with the first `old` in it replaced.
-fn changed(alloc: Global, text: &str, old: &str, new: &str) -> Result<String, Fail> {
+fn changed(rt: &impl Abort, alloc: Global, text: &str, old: &str, new: &str) -> String {
     let (front, back) = text
         .split_once(old)
-        .ok_or("the text to be changed isn't there")?;
-    joined(alloc, &[front, new, back])
+        .expect(rt, "the text to be changed is there");
+    joined(rt, alloc, &[front, new, back])
 }
 
 /// The configuration of some tables, with changes of their text, made one after the other.
 pub(crate) fn config(
+    rt: &impl Abort,
     alloc: Global,
     tables: &[&str],
     changes: &[(&str, &str)],
-) -> Result<Config, Fail> {
-    let tables = joined(alloc, tables)?;
-    let mut text = joined(alloc, &[TOP, tables.as_str()])?;
+) -> Config {
+    let mut text = joined(rt, alloc, tables);
     for (old, new) in changes {
-        text = changed(alloc, text.as_str(), old, new)?;
+        text = changed(rt, alloc, text.as_str(), old, new);
     }
-    Ok(Config::read(alloc, text.as_str()).map_err(|_| "the configuration isn't accepted")?)
+    Config::read(alloc, text.as_str()).expect(rt, "the configuration is accepted")
 }

@@ -1,60 +1,49 @@
-//! Playing a row: each event goes to the realms, and what they answer is compared with the row.
+//! Playing a row over the broker of one realm: what each event is answered with is compared with the
+//! row.
 //!
-//! A row is a text. A line `A now place endpoint octets` is an arrival, a line `T now shard` a
-//! tick. The lines behind it are what it must be answered with: `realm place endpoint octets` for
-//! each packet, in order, or `refused N`; where there are none, nothing is sent. A line that begins
-//! with `#` says in words what the event is.
+//! A row is a script. A comment `#> ..` behind an event names a line of its answer: a packet as it is
+//! printed, or `refused N`. Where there is none, nothing is sent. Any other comment says in words what
+//! the next event is.
 
-ghost use Rattle.std.specs.Prelude.{◌≡◌, ◌<◌, ◌≤◌, ◌^◌, vec_len};
+ghost use Rattle.std.specs.Prelude.{◌≡◌, ◌≤◌, ◌^◌};
 ghost use Rattle.roam_conf.specs.Shown.{shown};
 ghost use Rattle.roam_route.specs.Events.{IsEvent};
 ghost use Rattle.roam_route.specs.Shown.{shown_job};
 
-use crate::row_texts::{endpoint, moment, next_field, octets, place, realm_index};
 use roam_book::{Answer, Book, Start};
 use roam_conf::Config;
-use roam_route::{Datagram, Job, Out, Prepared, Side, prepare};
+use roam_core::Event;
+use roam_route::{Datagram, Job, Prepared, Side, prepare};
+use roam_sim::{print_packet, read_script};
 use roam_testing::Refusing;
-use roam_wire::{NoMemory, Octets, Refusal};
+use roam_wire::{NoMemory, Refusal};
 use std::alloc::{Allocator, Global};
+use std::io::Write;
 use std::process::Abort;
-use std::str::SplitWhitespace;
-use std::test::Fail;
 
-/// The broker of one realm, and the configuration that it reads.
+/// The broker of the first realm, and the configuration that it reads.
 #[derive(Drop)]
 pub(crate) struct Realm<'c, A: Allocator> {
     config: &'c Config,
-    index: u16,
     book: Book<'c, A>,
     ghost own_config: { book.config ≡ shown config.now },
-    ghost own_index: { book.realm ≡ index },
+    ghost own_realm: { book.realm ≡ 0 },
 }
 
 impl<'c, A: Allocator + Copy> Realm<'c, A> {
-    /// The broker of a configured realm, as it begins.
-    pub(crate) fn new(
-        alloc: A,
-        config: &'c Config,
-        index: u16,
-        ticket: u64,
-    ) -> Result<Realm<'c, A>, NoMemory>
-        requires configured { index < vec_len config.now.realms }
-        requires ticket { ticket ≤ 2 ^ 63 }
+    /// The broker of the first realm, as it begins, with this next ticket.
+    pub(crate) fn new(alloc: A, config: &'c Config, ticket: u64) -> Result<Realm<'c, A>, NoMemory>
+        requires { ticket ≤ 2 ^ 63 }
     {
         let start = Start { place: 0, ticket };
-        let book = Book::new(alloc, config, index, start)?;
-        Ok(Realm {
-            config,
-            index,
-            book,
-        })
+        let book = Book::new(alloc, config, 0, start)?;
+        Ok(Realm { config, book })
     }
 
-    /// An event of this realm.
+    /// A job of this realm.
     fn takes(&mut self, now: u64, job: &Job<A>) -> Result<Answer<A>, NoMemory>
         requires event { IsEvent (shown self.old.config.now) (shown_job job.now) }
-        requires own { job.now.realm ≡ self.old.index }
+        requires own { job.now.realm ≡ 0 }
     {
         match job.side {
             Side::Link(_) => self.book.reply(now, job),
@@ -71,7 +60,7 @@ impl<'c, A: Allocator + Copy> Realm<'c, A> {
     ) -> Result<Option<Answer<A>>, Refusal> {
         match prepare(alloc, self.config, datagram)? {
             Prepared::Job(job) => {
-                if job.realm != self.index {
+                if job.realm != 0 {
                     return Ok(None);
                 }
                 Ok(Some(self.takes(now, &job)?))
@@ -80,251 +69,134 @@ impl<'c, A: Allocator + Copy> Realm<'c, A> {
         }
     }
 
-    /// A tick of this realm.
-    fn ticks(&mut self, now: u64) -> Result<Answer<A>, Refusal> {
-        Ok(self.book.tick(now)?)
+    /// What an event gives, where it is refused before any realm, or is this realm's.
+    fn meets(&mut self, alloc: A, event: &Event<A>) -> Result<Option<Answer<A>>, Refusal> {
+        match event {
+            Event::Arrive { now, datagram } => self.arrives(alloc, *now, datagram),
+            Event::Tick { now, .. } => Ok(Some(self.book.tick(*now)?)),
+        }
     }
 
     /// A tick in its room: how many packets the room is for, and how many are sent. Once the room
-    /// is there, the first growth is refused.
+    /// is there, no growth is asked for.
     pub(crate) fn ticks_in_room(
         &mut self,
+        rt: &impl Abort,
         refusing: &Refusing<Global>,
         now: u64,
-    ) -> Result<(usize, usize), NoMemory> {
-        let room = self.book.tick_room(now)?;
+    ) -> (usize, usize) {
+        let room = self.book.tick_room(now).expect(rt, "memory");
         let most = room.most();
         refusing.refuse_nth(1);
         let answer = self.book.tick_reserved(now, room);
-        Ok((most, answer.outs.len()))
+        assert_eq!(rt; refusing.growths(), 0, "a tick in its room");
+        refusing.refuse_nth(0);
+        (most, answer.outs.len())
     }
 }
 
-/// An event of a row.
-#[derive(Drop)]
-pub(crate) enum Event<A: Allocator> {
-    Arrives(u64, Datagram<A>),
-    Ticks(u64, u16),
-}
-
-/// An arrival: the fields behind `A`.
-fn arrival<A: Allocator>(
-    alloc: Global,
+/// The events of a script.
+pub(crate) fn events<A: Allocator + Copy>(
+    rt: &impl Abort,
     over: A,
-    mut fields: SplitWhitespace<'_>,
-) -> Result<Event<A>, Fail> {
-    let now = moment(next_field(&mut fields)?)?;
-    let at = place(next_field(&mut fields)?)?;
-    let from = endpoint(next_field(&mut fields)?)?;
-    let octets = octets(alloc, fields)?;
-    let octets = Octets::copy_of(over, &octets)?;
-    Ok(Event::Arrives(now, Datagram { at, from, octets }))
+    script: &str,
+) -> Vec<Event<A>, A> {
+    read_script(over, script).expect(rt, "a script")
 }
 
-/// A tick: the fields behind `T`.
-fn tick<A: Allocator>(mut fields: SplitWhitespace<'_>) -> Result<Event<A>, Fail> {
-    let now = moment(next_field(&mut fields)?)?;
-    let shard = realm_index(next_field(&mut fields)?)?;
-    Ok(Event::Ticks(now, shard))
+/// Prints the line of a refusal.
+fn print_refusal(rt: &impl Abort, text: &mut Vec<u8>, refusal: Refusal) {
+    writeln!(text, "refused {}", refusal.number()).expect(rt, "memory");
 }
 
-/// The event of a line.
-pub(crate) fn event_of<A: Allocator>(alloc: Global, over: A, line: &str) -> Result<Event<A>, Fail> {
-    let mut fields = line.split_whitespace();
-    if next_field(&mut fields)? == "T" {
-        tick(fields)
-    } else {
-        arrival(alloc, over, fields)
+/// Prints an answer: a line for each packet, and one for its refusal.
+fn print_answer<A: Allocator>(rt: &impl Abort, text: &mut Vec<u8>, answer: &Answer<A>) {
+    for out in answer.outs.iter() {
+        print_packet(text, out.realm, out.from, out.to, out.bytes.as_slice()).expect(rt, "memory");
+    }
+    if let Some(refusal) = answer.refusal {
+        print_refusal(rt, text, refusal);
     }
 }
 
-/// What an event was answered with, and how much of it the row has named by now.
-#[derive(Drop)]
-pub(crate) struct Answered<A: Allocator> {
-    pub(crate) outs: Vec<Out<A>>,
-    named: usize,
-    pub(crate) refusal: Option<Refusal>,
-}
-
-impl<A: Allocator> Answered<A> {
-    pub(crate) fn nothing(alloc: Global) -> Answered<A> {
-        Answered {
-            outs: Vec::new(alloc),
-            named: 0,
-            refusal: None,
-        }
-    }
-
-    /// Packets that were sent.
-    pub(crate) fn of(outs: Vec<Out<A>>) -> Answered<A> {
-        Answered {
-            outs,
-            named: 0,
-            refusal: None,
-        }
-    }
-
-    /// Notes the answer of one realm behind those of the others.
-    pub(crate) fn note(&mut self, answer: Result<Answer<A>, Refusal>) -> Result<(), Fail> {
-        match answer {
-            Ok(answer) => {
-                for out in answer.outs {
-                    self.outs.push(out)?;
-                }
-                if answer.refusal.is_some() {
-                    self.refusal = answer.refusal;
-                }
-            }
-            Err(refusal) => self.refusal = Some(refusal),
-        }
-        Ok(())
-    }
-
-    /// The row names a refusal.
-    pub(crate) fn names_refusal(&mut self, rt: &impl Abort, number: &str, line: &str) {
-        let refusal = self.refusal.map(|refusal| refusal.number());
-        assert_eq!(rt; refusal, number.parse::<u8>().ok(), "at {line}");
-        self.refusal = None;
-    }
-
-    /// The row names a packet.
-    pub(crate) fn names_packet(
-        &mut self,
-        rt: &impl Abort,
-        alloc: Global,
-        realm: &str,
-        mut fields: SplitWhitespace<'_>,
-        line: &str,
-    ) -> Result<(), Fail> {
-        assert_eq!(rt; self.refusal, None, "at {line}");
-        assert!(rt;
-            self.named < self.outs.len(),
-            "nothing more is sent: {line}"
-        );
-        let out = &self.outs[self.named];
-        assert_eq!(rt; out.realm, Some(realm_index(realm)?), "the realm of {line}");
-        assert_eq!(rt;
-            out.from,
-            place(next_field(&mut fields)?)?,
-            "the place of {line}"
-        );
-        assert_eq!(rt;
-            out.to,
-            endpoint(next_field(&mut fields)?)?,
-            "where it goes: {line}"
-        );
-        let sent = hex::encode(alloc, out.bytes.as_slice())?;
-        let expected = hex::encode(alloc, octets(alloc, fields)?.as_slice())?;
-        assert_eq!(rt; sent.as_str(), expected.as_str(), "at {line}");
-        self.named += 1;
-        Ok(())
-    }
-
-    /// The row has named all of it.
-    pub(crate) fn is_all_named(&self, rt: &impl Abort, line: &str) {
-        assert_eq!(rt; self.refusal, None, "before {line}");
-        assert_eq!(rt; self.named, self.outs.len(), "packets before {line}");
-    }
-}
-
-/// The realms of a configuration while a row is played, and what they answered last.
+/// The broker of one realm while a row is played.
 #[derive(Drop)]
 pub(crate) struct Play<'c, A: Allocator> {
-    /// Over which the realms and their datagrams grow. What the play keeps grows over another.
+    /// Over which the realm and its events grow. What the play keeps grows over another.
     over: A,
-    shards: u16,
-    pub(crate) realms: Vec<Realm<'c, A>>,
-    pub(crate) answered: Answered<A>,
+    pub(crate) realm: Realm<'c, A>,
+    /// What was answered last, as lines.
+    pub(crate) answered: Vec<u8>,
+    /// What of it the row has named by now.
+    named: Vec<u8>,
 }
 
 impl<'c, A: Allocator + Copy> Play<'c, A> {
-    /// The realms as they begin, with this next ticket.
+    /// The first realm as it begins, with this next ticket.
     pub(crate) fn new(
+        rt: &impl Abort,
         alloc: Global,
         over: A,
         config: &'c Config,
         ticket: u64,
-    ) -> Result<Play<'c, A>, Fail>
+    ) -> Play<'c, A>
         requires { ticket ≤ 2 ^ 63 }
     {
-        let mut realms = Vec::new(alloc);
-        for index in 0..config.realms.len() {
-            realms.push(Realm::new(over, config, index as u16, ticket)?)?;
-        }
-        Ok(Play {
+        Play {
             over,
-            shards: config.shards,
-            realms,
-            answered: Answered::nothing(alloc),
-        })
-    }
-
-    /// The event of a line.
-    pub(crate) fn event(&self, alloc: Global, line: &str) -> Result<Event<A>, Fail> {
-        event_of(alloc, self.over, line)
-    }
-
-    /// Gives an event to the realms: a tick to each of its shard, in order of index.
-    pub(crate) fn meets(&mut self, alloc: Global, event: &Event<A>) -> Result<(), Fail> {
-        self.answered = Answered::nothing(alloc);
-        for realm in self.realms.iter_mut() {
-            match event {
-                Event::Arrives(now, datagram) => match realm.arrives(self.over, *now, datagram) {
-                    Ok(None) => {}
-                    Ok(Some(answer)) => self.answered.note(Ok(answer))?,
-                    Err(refusal) => self.answered.note(Err(refusal))?,
-                },
-                Event::Ticks(now, shard) => {
-                    if realm.index.checked_rem(self.shards) == Some(*shard) {
-                        self.answered.note(realm.ticks(*now))?;
-                    }
-                }
-            }
+            realm: Realm::new(over, config, ticket).expect(rt, "memory"),
+            answered: Vec::new(alloc),
+            named: Vec::new(alloc),
         }
-        Ok(())
     }
 
-    /// What was answered last counts no more.
-    pub(crate) fn forgets(&mut self, alloc: Global) {
-        self.answered = Answered::nothing(alloc);
+    /// Gives an event to the realm. Whether memory was wanting.
+    pub(crate) fn meets(&mut self, rt: &impl Abort, event: &Event<A>) -> bool {
+        self.answered.clear();
+        match self.realm.meets(self.over, event) {
+            Ok(Some(answer)) => print_answer(rt, &mut self.answered, &answer),
+            Ok(None) => {}
+            Err(Refusal::NoMemory) => return true,
+            Err(refusal) => print_refusal(rt, &mut self.answered, refusal),
+        }
+        false
     }
 
-    /// Plays a line: an event is met, and what is behind it is compared with the answer.
-    fn line(&mut self, rt: &impl Abort, alloc: Global, line: &str) -> Result<(), Fail> {
-        let mut fields = line.split_whitespace();
-        match fields.next() {
-            None | Some("#") => Ok(()),
-            Some("A") | Some("T") => {
-                self.answered.is_all_named(rt, line);
-                let event = self.event(alloc, line)?;
-                self.meets(alloc, &event)
-            }
-            Some("refused") => {
-                self.answered
-                    .names_refusal(rt, next_field(&mut fields)?, line);
-                Ok(())
-            }
-            Some(realm) => self.answered.names_packet(rt, alloc, realm, fields, line),
+    /// The row has named all that was answered last.
+    fn is_all_named(&mut self, rt: &impl Abort, line: &str) {
+        assert!(rt;
+            self.answered == self.named,
+            "what is answered before {line}"
+        );
+        self.named.clear();
+    }
+
+    /// The row names a line of the answer.
+    fn names(&mut self, rt: &impl Abort, line: &str) {
+        self.named
+            .extend_from_slice(line.as_bytes())
+            .expect(rt, "memory");
+        self.named.push(b'\n').expect(rt, "memory");
+    }
+
+    /// Plays a line that isn't the name of an answer.
+    fn line(&mut self, rt: &impl Abort, line: &str) {
+        for event in events(rt, self.over, line).iter() {
+            self.is_all_named(rt, line);
+            let wanting = self.meets(rt, event);
+            assert!(rt; !wanting, "there is memory at {line}");
         }
     }
 
     /// Plays a row, or a part of one.
-    pub(crate) fn row(&mut self, rt: &impl Abort, alloc: Global, row: &str) -> Result<(), Fail> {
+    pub(crate) fn row(&mut self, rt: &impl Abort, row: &str) {
         for line in row.lines() {
-            self.line(rt, alloc, line)?;
+            match line.strip_prefix("#> ") {
+                Some(named) => self.names(rt, named),
+                None => self.line(rt, line),
+            }
         }
-        self.answered.is_all_named(rt, "the end");
-        Ok(())
+        self.is_all_named(rt, "the end");
+        self.answered.clear();
     }
-}
-
-/// Plays a row over the realms of a configuration, as they begin.
-pub(crate) fn plays(
-    rt: &impl Abort,
-    alloc: Global,
-    config: &Config,
-    row: &str,
-) -> Result<(), Fail> {
-    let mut play = Play::new(alloc, alloc, config, 0)?;
-    play.row(rt, alloc, row)
 }

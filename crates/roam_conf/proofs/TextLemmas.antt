@@ -26,23 +26,23 @@ unfolding is_decimal
 decimal_digits text is = grind (arith, nat_tests)
 
 -- what `parse` reads of a decimal number, looked at for its range
-pub decimal_in-ok : (least most : ℕ) (text : List ℕ) (n : ℕ) → is_decimal text ≡ true → ParsesUnsigned {E = ℕ} 16 10 text (Ok n) → decimal_in least most text ≡ cond (leb least n && leb n most) (Some n) None
+pub decimal_in-ok : (least most : ℕ) (text : List ℕ) (n : ℕ) → is_decimal text ≡ true → ParsesUnsigned {E = ℕ} 64 10 text (Ok n) → decimal_in least most text ≡ cond (leb least n && leb n most) (Some n) None
 unfolding decimal_in
 decimal_in-ok least most text n is read =
     let digits = decimal_digits text is in
-    let value : OkIff {E = ℕ} (Ok n) ((0 < length text) × (digits_value 10 text < 2 ^ 16)) (digits_value 10 text) = parse_digits own {E = ℕ} 16 text (Ok n) read digits.0 in
+    let value : OkIff {E = ℕ} (Ok n) ((0 < length text) × (digits_value 10 text < 2 ^ 64)) (digits_value 10 text) = parse_digits own {E = ℕ} 64 text (Ok n) read digits.0 in
     rw (is, value.1)
 
 too_large : (least most v : ℕ) → most < v → cond (leb least v && leb v most) (Some v) None ≡ None
 too_large least most v above = grind (arith, nat_tests)
 
 -- a decimal number that `parse` finds too large is too large
-pub decimal_in-err : (least most : ℕ) (text : List ℕ) → is_decimal text ≡ true → most < 2 ^ 16 → ParsesUnsigned {E = ℕ} 16 10 text (Err 0) → decimal_in least most text ≡ None
+pub decimal_in-err : (least most : ℕ) (text : List ℕ) → is_decimal text ≡ true → most < 2 ^ 64 → ParsesUnsigned {E = ℕ} 64 10 text (Err 0) → decimal_in least most text ≡ None
 unfolding decimal_in
 decimal_in-err least most text is small read =
     let digits = decimal_digits text is in
-    let large : OkIff {T = ℕ} {E = ℕ} (Err 0) ((0 < length text) × (digits_value 10 text < 2 ^ 16)) (digits_value 10 text) = parse_digits own {E = ℕ} 16 text (Err 0) read digits.0 in
-    let above : most < digits_value 10 text = omega (arith, λ (h : digits_value 10 text < 2 ^ 16). large (digits.1, h)) in
+    let large : OkIff {T = ℕ} {E = ℕ} (Err 0) ((0 < length text) × (digits_value 10 text < 2 ^ 64)) (digits_value 10 text) = parse_digits own {E = ℕ} 64 text (Err 0) read digits.0 in
+    let above : most < digits_value 10 text = omega (arith, λ (h : digits_value 10 text < 2 ^ 64). large (digits.1, h)) in
     rw is (too_large least most _ above)
 
 -- an octet of the text, told apart from the separator by a test
@@ -60,7 +60,7 @@ parts-cut separator text (Some x) cut ascii =
     rw (first.1, first.2) (slice_split_first _ text 0 first.0)
 
 -- a text without a separator is its one part
-one_part : (separator : ℕ) (text part : List ℕ) → parts separator text ≡ part ∷ [] → part ≡ text
+pub one_part : (separator : ℕ) (text part : List ℕ) → parts separator text ≡ part ∷ [] → part ≡ text
 unfolding parts
 one_part separator text part alone = rw alone at (join_with_byte-slice_split separator text)
 
@@ -76,7 +76,7 @@ digits_apart separator text apart digits = λ k d within.
     apart_from separator (get_or text k d) apart (and_at (list_all is_ascii_digit) is_ascii_digit refl (λ _ _. refl) text k d within digits)
 
 -- a decimal number is one part
-decimal_part : (separator least most : ℕ) (text : List ℕ) (n : ℕ) → is_ascii_digit separator ≡ false → decimal_in least most text ≡ Some n → parts separator text ≡ text ∷ []
+pub decimal_part : (separator least most : ℕ) (text : List ℕ) (n : ℕ) → is_ascii_digit separator ≡ false → decimal_in least most text ≡ Some n → parts separator text ≡ text ∷ []
 unfolding parts
 decimal_part separator least most text n apart is =
     slice_split_none _ text (digits_apart separator text apart (decimal_digits text (decimal_is least most text n is)).0)

@@ -1,9 +1,25 @@
 //! Where a packet comes from or goes to: an IPv4 address and a UDP port.
 
+use crate::texts;
+
 /// An IPv4 address and a UDP port.
 #[derive(Clone, Copy, Debug, PartialEq, Eq, Hash)]
 pub struct Endpoint {
     /// The four octets of the address, in the order in which they are written.
     pub ip: [u8; 4],
     pub port: u16,
+}
+
+impl Endpoint {
+    ghost use Rattle.std.specs.Prelude.{◌≡◌, ◌≤◌, IfSome};
+    ghost use Rattle.roam_conf.specs.Texts.{endpoint_in};
+
+    /// The endpoint that a text states: four numbers from 0 to 255 joined by dots, a colon and a port
+    /// from 1 to 65535, none of them with leading zeros.
+    pub fn from_text(text: &str) -> Option<Endpoint>
+        ensures value { result ≡ endpoint_in text.now }
+        ensures port { IfSome result (λ e. 1 ≤ e.port) }
+    {
+        texts::endpoint(text)
+    }
 }

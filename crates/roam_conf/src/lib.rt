@@ -28,3 +28,4 @@ pub use peer::Peer;
 pub use place::{Link, Place};
 pub use realm::Realm;
 pub use server::Server;
+pub use texts::decimal;

@@ -28,15 +28,15 @@ fn is_decimal(octets: &[u8]) -> bool
     are_digits(octets)
 }
 
-/// A decimal number from `least` to `most`, without leading zeros.
-pub(crate) fn decimal(text: &str, least: u16, most: u16) -> Option<u16>
+/// The decimal number that the text is, without leading zeros, where it is from `least` to `most`.
+pub fn decimal(text: &str, least: u64, most: u64) -> Option<u64>
     ensures value { result ≡ decimal_in least most text.now }
     ensures bounds { IfSome result (λ n. (least ≤ n) × (n ≤ most)) }
 {
     if !is_decimal(text.as_bytes()) {
         return None;
     }
-    match text.parse::<u16>() {
+    match text.parse::<u64>() {
         Ok(number) => {
             if least <= number && number <= most {
                 Some(number)
@@ -104,7 +104,10 @@ pub(crate) fn endpoint(text: &str) -> Option<Endpoint>
 {
     let (ip, port) = cut_at_colon(text)?;
     match (address(ip), decimal(port, 1, 65535)) {
-        (Some(ip), Some(port)) => Some(Endpoint { ip, port }),
+        (Some(ip), Some(port)) => Some(Endpoint {
+            ip,
+            port: port as u16,
+        }),
         _ => None,
     }
 }

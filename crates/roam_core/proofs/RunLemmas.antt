@@ -7,7 +7,7 @@ use Rattle.roam_route.specs.Admission.{PlainOut}
 use Rattle.roam_book.specs.RealmState.{RealmState}
 use Rattle.roam_core.specs.Events.{PlainEvent, kept, local_rejects}
 use Rattle.roam_core.specs.Isolation.{IsIsolated, packets_for_none, HasRealm}
-use Rattle.roam_core.specs.Answers.{packets_sent, states_after, answer_to, answers_to}
+use Rattle.roam_core.specs.Answers.{StandsAfterSome, packets_sent, states_after, answer_to, answers_to}
 use Rattle.roam_core.proofs.KeptLemmas.{Below, Below-more, Below-append, kept-done, kept-lost}
 use Rattle.roam_core.proofs.IsolationLemmas.{answers-length, isolated, rejects_alone, each_has_realm}
 
@@ -109,3 +109,11 @@ has_run_all config first events n lost packets now states is run =
       rejects = ap packets_for_none sent ∙ rejects_alone config first (kept lost events);
       realms = subst (λ (l : List PlainOut). AllByRecursion (HasRealm (length config.realms)) l) (sym sent) (realms_at_end config first events lost whole);
     }
+
+-- at any moment: the states are those after some of the events
+pub stands_after : (config : ConfigView) (first : List RealmState) (events : List PlainEvent) (n : ℕ) (lost : List ℕ) (packets : List PlainOut) (now : ConfigView) (states new : List RealmState) → HasRun config first events n lost packets now states → new ≡ states → StandsAfterSome config first new events
+stands_after config first events n lost packets now states new run same = record {
+  count = n;
+  lost = lost;
+  stands = same ∙ run.states_are;
+}

@@ -1,6 +1,6 @@
 -- What the broker answers an event with, and how its realms then stand (ours): one state for each
 -- realm, in the order of their indexes.
-use Rattle.std.specs.Prelude.{◌≡◌, ℕ, ◌+◌, ◌^◌, nat_lt, List, [], ◌∷◌, ◌++◌, slice_index_or, slice_set, Option, Some, None, Result, Ok, Err, if◌then◌else◌}
+use Rattle.std.specs.Prelude.{◌≡◌, ℕ, ◌+◌, ◌^◌, nat_lt, List, [], ◌∷◌, ◌++◌, slice_index_or, slice_set, take, Option, Some, None, Result, Ok, Err, if◌then◌else◌}
 use Rattle.roam_wire.specs.declared.refusal.NoMemory.{NoMemory}
 use Rattle.roam_wire.specs.declared.refusal.Refusal.{Refusal}
 use Rattle.roam_wire.specs.declared.refusal.Refusal.TheVariants as refusal
@@ -13,7 +13,7 @@ use Rattle.roam_book.specs.OnTick.{on_tick}
 use Rattle.roam_book.specs.OneRealm.{event_of, on_event}
 use Rattle.roam_book.specs.declared.answer.Answer.{Answer}
 use Rattle.roam_book.specs.declared.start.Start.{Start}
-use Rattle.roam_core.specs.Events.{PlainEvent, arrives, ticks, is_in_shard}
+use Rattle.roam_core.specs.Events.{PlainEvent, arrives, ticks, is_in_shard, kept}
 
 -- a refusal sends nothing and leaves all states as they were
 pub data BrokerTurn : Type 0 where
@@ -100,6 +100,13 @@ answers_to config states (e ∷ es) =
     let turn = answer_to config states e in
     let others = answers_to config (states_after states turn) es in
     record { packets = packets_sent turn ++ others.packets; states = others.states }
+
+-- the realms stand after some of the events: after the first `count` of the list, without those at the
+-- lost places, which changed no state. What a run leaves whose outcome couldn't grow
+pub record StandsAfterSome (config : ConfigView) (old new : List RealmState) (events : List PlainEvent) : Type 0 where
+  pub count : ℕ
+  pub lost : List ℕ
+  pub stands : new ≡ (answers_to config old (kept lost (take count events))).states
 
 -- how the realms begin, from the realm of this index on: each at its start
 abbrev pub openings_from : ConfigView → ℕ → List Start → List RealmState

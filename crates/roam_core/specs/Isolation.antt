@@ -1,6 +1,9 @@
--- The isolation of realms (ours): for every realm, the packets that the broker sends for it are, in
--- order and octet for octet, those that the written broker of one realm sends when it is given that
--- realm's events alone.
+-- The isolation of realms (ours). For every list of events, in any interleaving, with losses and
+-- repeats (a lost datagram isn't in the list, a repeated one is in it twice), and for every realm: the
+-- packets that the broker sends for that realm are, in order and octet for octet, those that the
+-- written broker of one realm sends when it is given that realm's events alone, with its configuration
+-- (`realm_config`), its moments (they stand in the events) and its random words (what they are taken
+-- from is the seed and the index there, and the stream position in its state).
 use Rattle.std.specs.Prelude.{◌≡◌, ℕ, ◌<◌, ◌≤◌, ◌==◌, Bool, true, false, List, Option, Some, None, length}
 use Rattle.std.specs.List.{filter}
 use Rattle.roam_conf.specs.Config.{ConfigView}
@@ -21,7 +24,8 @@ abbrev pub is_none : Option ℕ → Bool
 is_none None = true
 is_none (Some r) = false
 
--- the packets that are sent for a realm, and those for none
+-- the packets that are sent for a realm, and those for none: in order, each with the place that it
+-- leaves from, where it goes, and its octets
 abbrev pub packets_for : ℕ → List PlainOut → List PlainOut
 packets_for realm packets = filter (λ out. is_realm realm out.realm) packets
 
@@ -29,7 +33,8 @@ abbrev pub packets_for_none : List PlainOut → List PlainOut
 packets_for_none packets = filter (λ out. is_none out.realm) packets
 
 -- each realm is isolated: begun in these states, the packets for a realm are those of its own written
--- broker, which is given its part of the configuration, its state and its events, and nothing else
+-- broker, which is given its part of the configuration, its state and its events, and nothing else. The
+-- events are those that weren't lost for want of memory: `run` names them by `kept`
 abbrev pub IsIsolated : ConfigView → List RealmState → List PlainEvent → List PlainOut → Type 0
 IsIsolated config states events packets =
     (realm : ℕ) → realm < length states

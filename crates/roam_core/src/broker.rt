@@ -100,7 +100,7 @@ impl<'c, A: Allocator> Model for Broker<'c, A> {
 
 impl<'c, A: Allocator + Copy> Broker<'c, A> {
     /// A fresh broker: no request is pending, and each realm begins at place 0 of its random words and
-    /// ticket 0.
+    /// ticket 0. `NoMemory` comes where a growth was refused; nothing of the broker is left then.
     pub fn new(alloc: A, config: &'c Config) -> Result<Broker<'c, A>, NoMemory>
         ensures config { IfOk result (λ b. b.config ≡ shown config.now) }
         ensures states { IfOk result (λ b. b.states ≡ fresh (shown config.now)) }

@@ -1,9 +1,9 @@
 //! A run of the broker over a list of events.
 
-ghost use Rattle.std.specs.Prelude.{◌≡◌, ◌++◌, ◌∷◌, [], IfOk, OnOk, length};
+ghost use Rattle.std.specs.Prelude.{◌≡◌, ◌++◌, ◌∷◌, [], IfOk, OnErr, OnOk, length};
 ghost use Rattle.std.specs.List.{AllByRecursion};
 ghost use Rattle.roam_book.specs.Turn.{shown_outs};
-ghost use Rattle.roam_core.specs.Answers.{answers_to};
+ghost use Rattle.roam_core.specs.Answers.{StandsAfterSome, answers_to};
 ghost use Rattle.roam_core.specs.Events.{kept, local_rejects};
 ghost use Rattle.roam_core.specs.Isolation.{IsIsolated, HasRealm, packets_for_none};
 ghost use Rattle.roam_core.specs.Shown.{shown_events};
@@ -44,10 +44,11 @@ fn note_lost<A: Allocator>(lost: &mut Vec<usize, A>, place: usize) -> Result<(),
 ///
 /// Each realm is isolated: whatever the events, the packets for a realm are, in order and octet for
 /// octet, those that the written broker of that one realm sends, begun in the realm's state, when it is
-/// given the realm's own events among those that weren't lost.
+/// given the realm's own events among those that weren't lost, with its part of the configuration. The
+/// moments stand in the events.
 ///
-/// `NoMemory` comes where the outcome itself couldn't grow; the broker then stands after some of the
-/// events.
+/// `NoMemory` comes where the outcome itself couldn't grow; the broker then stands after a first part of
+/// the events, without those that were lost.
 pub fn run<A: Allocator + Copy, S: Stepper<A>>(
     alloc: A,
     stepper: &mut S,
@@ -67,6 +68,12 @@ pub fn run<A: Allocator + Copy, S: Stepper<A>>(
         ≡ local_rejects (S.config stepper.old) (kept o.lost.items (shown_events events.now))) }
     ensures realms { IfOk result (λ o. AllByRecursion (HasRealm (length (S.config stepper.old).realms))
         (shown_outs o.outs.items)) }
+
+    // Whatever the answer is, the configuration stays. Where the outcome couldn't grow, the states are
+    // those after some of the events.
+    ensures config { S.config stepper.new ≡ S.config stepper.old }
+    ensures err { OnErr result (StandsAfterSome (S.config stepper.old) (S.states stepper.old)
+        (S.states stepper.new) (shown_events events.now)) }
 {
     let mut outs = Vec::new(alloc);
     let mut lost = Vec::new(alloc);

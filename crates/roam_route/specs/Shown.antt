@@ -30,3 +30,9 @@ shown (Err why) = refused why
 -- an answer of `prepare` is this admission, or NoMemory, since a growth may be refused
 abbrev pub Answers : {A : Type 0} → Result (Prepared A) Refusal → Admission → Type 0
 Answers result admission = (result ≡ Err refusal.NoMemory) ⊎ (shown result ≡ admission)
+
+-- memory is wanted for octets that are handed on, so for no arrival that is refused
+abbrev pub WantsMemory : Admission → Type 0
+WantsMemory (refused why) = ⊥
+WantsMemory (rejected out) = Unit {0}
+WantsMemory (admitted job) = Unit {0}

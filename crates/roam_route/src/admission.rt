@@ -1,10 +1,10 @@
 //! What an arrival gives: a refusal, or the event of a realm.
 
-ghost use Rattle.std.specs.Prelude.{◌≡◌, ℕ, ◌<◌, true, vec_len, IfOk};
+ghost use Rattle.std.specs.Prelude.{◌≡◌, ℕ, ◌<◌, true, vec_len, IfOk, IsErrOf};
 ghost use Rattle.roam_conf.specs.Shown.{shown};
 ghost use Rattle.roam_route.specs.Admission.{admission_by, forwarded_for, given_to, is_served, named, packet_admission, peer_secret, request_admission};
 ghost use Rattle.roam_route.specs.Events.{IsPrepared};
-ghost use Rattle.roam_route.specs.Shown.{Answers, shown_arrival};
+ghost use Rattle.roam_route.specs.Shown.{Answers, WantsMemory, shown_arrival};
 ghost use Rattle.roam_route.specs.UserName.{realm_of};
 
 use crate::checks::{is_rightly_sealed, is_rightly_signed};
@@ -45,7 +45,9 @@ fn forwarded_for<A: Allocator + Copy>(
     view: &View<'_>,
     realm: u16,
 ) -> Result<Prepared<A>, Refusal>
-    ensures { Answers result (forwarded_for (shown_arrival datagram.now) side view.now realm) }
+    ensures answer { Answers result (forwarded_for (shown_arrival datagram.now) side view.now realm) }
+    ensures memory { IsErrOf result Refusal.NoMemory
+        → WantsMemory (forwarded_for (shown_arrival datagram.now) side view.now realm) }
 {
     if forwarded_len(view) > 4096 {
         return Err(Refusal::TooLong);
@@ -61,7 +63,10 @@ fn named<A: Allocator + Copy>(
     side: Side,
     view: &View<'_>,
 ) -> Result<Prepared<A>, Refusal>
-    ensures { Answers result (named (shown_arrival datagram.now) side view.now
+    ensures answer { Answers result (named (shown_arrival datagram.now) side view.now
+        (realm_of (shown config.now) view.now.attributes)) }
+    ensures memory { IsErrOf result Refusal.NoMemory
+        → WantsMemory (named (shown_arrival datagram.now) side view.now
         (realm_of (shown config.now) view.now.attributes)) }
 {
     match realm_of(config, view) {
@@ -82,7 +87,10 @@ fn accounting_request<A: Allocator + Copy>(
     requires known { peer < vec_len config.now.peers }
     requires place { datagram.now.at ≡ Place.Acct }
     requires code { view.now.code ≡ 4 }
-    ensures { Answers result (request_admission (shown config.now)
+    ensures answer { Answers result (request_admission (shown config.now)
+        (peer_secret (shown config.now) peer) (shown_arrival datagram.now) (Side.Peer peer) view.now) }
+    ensures memory { IsErrOf result Refusal.NoMemory
+        → WantsMemory (request_admission (shown config.now)
         (peer_secret (shown config.now) peer) (shown_arrival datagram.now) (Side.Peer peer) view.now) }
 {
     let secret = secret_of_peer(config, peer);
@@ -106,7 +114,10 @@ fn served<A: Allocator + Copy>(
 ) -> Result<Prepared<A>, Refusal>
     requires served { is_served datagram.now.at side view.now.code ≡ true }
     requires known { (i : ℕ) → side ≡ Side.Peer i → i < vec_len config.now.peers }
-    ensures { Answers result (packet_admission (shown config.now) (shown_arrival datagram.now)
+    ensures answer { Answers result (packet_admission (shown config.now) (shown_arrival datagram.now)
+        side view.now datagram.now.at) }
+    ensures memory { IsErrOf result Refusal.NoMemory
+        → WantsMemory (packet_admission (shown config.now) (shown_arrival datagram.now)
         side view.now datagram.now.at) }
 {
     if let Place::Out(realm) = datagram.at {
@@ -119,7 +130,8 @@ fn served<A: Allocator + Copy>(
 }
 
 /// What an arrival gives: the event of a realm, with the packet's octets, or the first of `Short` to
-/// `TooLong` whose cause holds. `NoMemory` comes where a growth was refused, and nowhere else.
+/// `TooLong` whose cause holds. `NoMemory` comes where a growth was refused, and nowhere else: memory
+/// is wanted only for what passes.
 ///
 /// By now accounting packets alone are served: a packet of any other code is refused as `WrongCode`
 /// where the checks before it pass, and no local reject comes.
@@ -131,6 +143,10 @@ pub fn prepare<A: Allocator + Copy>(
 ) -> Result<Prepared<A>, Refusal>
     ensures answer { Answers result
         (admission_by is_served (shown config.now) (shown_arrival datagram.now)) }
+
+    // What is refused is refused for its cause, whatever memory there is.
+    ensures memory { IsErrOf result Refusal.NoMemory
+        → WantsMemory (admission_by is_served (shown config.now) (shown_arrival datagram.now)) }
 
     // What passes is a job with the packet's octets, which alone would give that job again.
     ensures job { IfOk result (IsPrepared (shown config.now)) }

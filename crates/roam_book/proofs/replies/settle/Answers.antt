@@ -1,5 +1,4 @@
 use Rattle.std.proofs.Common.{◌≡◌, ℕ, ap, ◌∙◌, true, Some}
-use Rattle.std.specs.Prelude.{MatchOption}
 use Rattle.roam_pending.specs.PlainEntry.{PlainEntry, waits_at}
 use Rattle.roam_pending.specs.EntryList.{find_ticket}
 use Rattle.roam_pending.proofs.ChangeLemmas.{found-ticket}

@@ -1,6 +1,6 @@
-use Rattle.std.proofs.Common.{◌≡◌, ℕ, List, Option, Some, sym, ap, ◌∙◌}
+use Rattle.std.proofs.Common.{◌≡◌, Option, Some, sym, ap}
 use Rattle.roam_pending.specs.PlainEntry.{PlainEntry, waits_at}
-use Rattle.roam_pending.specs.EntryList.{IsEntryList, find_link, find_ticket}
+use Rattle.roam_pending.specs.EntryList.{IsEntryList, find_link}
 use Rattle.roam_pending.specs.Shown.{shown}
 use Rattle.roam_pending.proofs.ChangeLemmas.{find-passes, found-is}
 use Rattle.roam_book.specs.RealmState.{RealmState}

@@ -1,4 +1,4 @@
-use Rattle.std.proofs.Common.{◌≡◌, ℕ, ◌+◌, ◌≤◌, ◌<◌, subst, sym, arith}
+use Rattle.std.proofs.Common.{◌≡◌, subst, sym, arith}
 use Rattle.roam_wire.specs.Reading.{packet_of}
 use Rattle.roam_wire.proofs.PacketLemmas.{ReadsAs-octets}
 use Rattle.roam_pending.specs.PlainEntry.{PlainRequest}

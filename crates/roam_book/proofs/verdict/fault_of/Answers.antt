@@ -1,5 +1,5 @@
 use Rattle.std.proofs.Common.{ap}
-use Rattle.std.specs.Prelude.{Result, Err}
+use Rattle.std.specs.Prelude.{Err}
 use Rattle.roam_book.proofs.ReplyLemmas.{fault-found}
 use Rattle.roam_book.proofs.verdict.fault_of.Goals as goal
 

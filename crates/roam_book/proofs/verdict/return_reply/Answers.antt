@@ -1,9 +1,8 @@
-use Rattle.std.proofs.Common.{◌≡◌, ℕ, ◌<◌, List, ap, refl}
-use Rattle.std.specs.Prelude.{Result, Ok, Err}
+use Rattle.std.proofs.Common.{ℕ, List, ap, refl}
+use Rattle.std.specs.Prelude.{Err}
 use Rattle.std.proofs.lemmas.Result.{IfOk-weaker}
 use Rattle.roam_pending.specs.PlainEntry.{PlainEntry}
 use Rattle.roam_pending.specs.Shown.{shown}
-use Rattle.roam_book.specs.RealmState.{RealmState}
 use Rattle.roam_book.specs.OnReply.{return_reply}
 use Rattle.roam_book.specs.Judged.{IsVerdict, returns_octets}
 use Rattle.roam_book.proofs.ReplyLemmas.{long-turn, returned-turn, same-turn}

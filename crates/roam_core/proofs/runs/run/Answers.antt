@@ -1,11 +1,12 @@
 -- A run's events one after the other, and all of them at its end.
-use Rattle.std.proofs.Common.{◌≡◌, ◌<◌, ◌++◌, length, get_or, sym, ap, ◌∙◌, arith}
+use Rattle.std.specs.Prelude.{OnErr}
+use Rattle.std.proofs.Common.{◌≡◌, ◌<◌, ◌++◌, Result, Ok, Err, length, get_or, refl, sym, ap, ◌∙◌, arith}
 use Rattle.std.proofs.Math.ListN.{get_or-map}
 use Rattle.std.proofs.lemmas.List.{map-append, length-map}
 use Rattle.roam_route.specs.Shown.{shown_out}
 use Rattle.roam_book.specs.Turn.{shown_outs}
 use Rattle.roam_core.specs.Shown.{shown_event, shown_events}
-use Rattle.roam_core.proofs.RunLemmas.{answered, lost_one, has_run_all}
+use Rattle.roam_core.proofs.RunLemmas.{answered, lost_one, has_run_all, stands_after}
 use Rattle.roam_core.proofs.runs.run.Goals as goal
 use Rattle.roam_core.proofs.runs.run.Goals.{in-Ok+in_ok-append_all-in-Ok, in-Err+in_ok-note_lost-in-Err}
 
@@ -41,3 +42,25 @@ returns-clause-rejects g c =
 pub returns-clause-realms : goal.returns-clause-realms
 returns-clause-realms g c =
     (has_run_all _ _ _ _ _ _ _ _ (omega (arith, length-map c.args.events.now shown_event)) c.loop-place.invariant).realms
+
+-- what holds whatever the result is holds where it is an error
+whatever : {T E : Type 0} (r : Result T E) (P : Type 0) → P → OnErr r P
+whatever (Ok x) P holds = tt
+whatever (Err e) P holds = holds
+
+-- the packets of an event that was answered found no room: that event is one of them
+pub returns-in_err-append_all-in-Ok-clause-err : goal.returns-in_err-append_all-in-Ok-clause-err
+returns-in_err-append_all-in-Ok-clause-err g c =
+    let event = shown_event c.index-events-place.result in
+    let within : c.loop-place.place < length (shown_events c.args.events.now) = omega (arith, length-map c.args.events.now shown_event) in
+    let at = get_or-map shown_event c.args.events.now c.loop-place.place c.index-events-place.result ∙ ap shown_event (sym c.index-events-place.is) in
+    let answer = c.in-Ok.ensures.answer in
+    let run = answered _ _ _ _ _ _ _ _ _ _ _ _ event within at c.loop-place.invariant
+    c.in-Ok.ensures.whole c.in-Ok.ensures.shards c.in-Ok.ensures.config answer.packets answer.states in
+    whatever c.from_residual.result _ (stands_after _ _ _ _ _ _ _ _ _ run refl)
+
+-- the place of one that was lost found no room: the states are those before it
+pub returns-in_err-note_lost-in-Err-clause-err : goal.returns-in_err-note_lost-in-Err-clause-err
+returns-in_err-note_lost-in-Err-clause-err g c =
+    whatever c.from_residual-in_err-note_lost-in-Err.result _
+    (stands_after _ _ _ _ _ _ _ _ _ c.loop-place.invariant c.in-Err.ensures.answer)

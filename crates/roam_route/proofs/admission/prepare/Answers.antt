@@ -13,4 +13,4 @@ returns-clause-job g c =
     let test : is_served c.args.datagram.now.at c.in-Some.side c.in_ok-view.view.code ≡ true =
     rw (← c.code.ensures, ← c.is_served.ensures) c.if-not-is_served.false in
     prepared_of_served (shown c.args.config.now) (shown_arrival c.args.datagram.now) c.in_ok-view.view
-    c.in-Some.side c.served.result packet from test c.served.ensures
+    c.in-Some.side c.served.result packet from test c.served.ensures.answer

@@ -1,14 +1,10 @@
-use Rattle.std.proofs.Common.{◌≡◌, sym, ap, subst, arith}
+use Rattle.std.proofs.Common.{◌≡◌, sym, subst, arith}
 use Rattle.roam_conf.specs.Config.{ConfigView}
 use Rattle.roam_conf.specs.Shown.{shown}
 use Rattle.roam_route.specs.Events.{IsEvent}
 use Rattle.roam_route.specs.Shown.{shown_job}
-use Rattle.roam_book.specs.RealmConfig.{RealmConfig, realm_config}
-use Rattle.roam_book.specs.RealmState.{RealmState}
-use Rattle.roam_book.specs.Turn.{Gives}
-use Rattle.roam_book.specs.OneRealm.{RealmEvent, event_of, on_event}
-use Rattle.roam_book.specs.Sound.{state_of}
-use Rattle.roam_book.specs.BookView.{AreOctets, IsTakenFrom}
+use Rattle.roam_book.specs.OneRealm.{event_of, on_event}
+use Rattle.roam_book.specs.BookView.{AreOctets}
 use Rattle.roam_book.proofs.JobLemmas.{job_of_book}
 use Rattle.roam_book.proofs.BookLemmas.{kept-book, own-gives, own-realm}
 use Rattle.roam_book.proofs.book.Book.request.Goals as goal

@@ -1,10 +1,9 @@
-use Rattle.std.proofs.Common.{◌≡◌, List, sym, subst, ap, ◌∙◌}
-use Rattle.std.specs.Prelude.{Result, Ok}
+use Rattle.std.proofs.Common.{◌≡◌, List, sym, subst}
+use Rattle.std.specs.Prelude.{Ok}
 use Rattle.roam_conf.specs.Shown.{shown}
 use Rattle.roam_pending.specs.PlainEntry.{PlainEntry}
 use Rattle.roam_pending.specs.Realms.{entries_in}
 use Rattle.roam_book.specs.RealmConfig.{RealmConfig}
-use Rattle.roam_book.specs.RealmState.{RealmState}
 use Rattle.roam_book.specs.OnTick.{on_tick}
 use Rattle.roam_book.specs.Rooms.{IsRoomFor}
 use Rattle.roam_book.specs.Sound.{IsSound}

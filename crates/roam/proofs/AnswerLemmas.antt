@@ -1,0 +1,41 @@
+-- What the words get, from what the command that they ask for did.
+use Rattle.std.proofs.Common.{◌≡◌, ℕ, List, Option, Result, Ok, Err, IfErr, sym, arith}
+use Rattle.roam.specs.CommandLine.{to_simulate, words_of, AsksNothing}
+use Rattle.roam.specs.declared.text_file.TextFile.{TextFile}
+use Rattle.roam.specs.declared.report.Fault.{Fault}
+use Rattle.roam.specs.declared.report.Fault.TheVariants as fault
+use Rattle.roam.specs.Outcomes.{RunFails, Prevents}
+use Rattle.roam.specs.Report.{status_of}
+
+-- the faults of a run, where the words name its two files
+pub run-prevents : {T : Type 0} (words : List (List ℕ)) (configuration script : TextFile)
+    (old new : Option (List ℕ)) (r : Result T Fault) →
+    words_of (to_simulate configuration.path.now script.path.now) ≡ words →
+    IfErr r (RunFails configuration script old new) → IfErr r (Prevents words old new)
+run-prevents words configuration script old new (Ok x) worded fails = tt
+run-prevents words configuration script old new (Err fault.Usage) worded fails = absurd fails
+run-prevents words configuration script old new (Err (fault.Unreadable path)) worded fails = absurd fails
+run-prevents words configuration script old new (Err (fault.Refused path why)) worded fails =
+    ((to_simulate configuration.path.now script.path.now, worded, sym fails.0.named), fails.1)
+run-prevents words configuration script old new (Err (fault.FaultyLine path number)) worded fails =
+    ((configuration.path.now, rw fails.0.named worded), fails.2)
+run-prevents words configuration script old new (Err fault.Write) worded fails =
+    λ nothing. nothing (to_simulate configuration.path.now script.path.now) worded
+run-prevents words configuration script old new (Err fault.Memory) worded fails =
+    λ nothing. nothing (to_simulate configuration.path.now script.path.now) worded
+
+-- status 2 is that of the usage alone, which comes just where the words ask for nothing
+pub usage-status : (words : List (List ℕ)) (old new : Option (List ℕ)) (f : Fault) (status : ℕ) →
+    status ≡ status_of f → Prevents words old new f →
+    (status ≡ 2 → AsksNothing words) × (AsksNothing words → status ≡ 2)
+usage-status words old new fault.Usage status is prevents = (λ two. prevents.0, λ nothing. is)
+usage-status words old new (fault.Unreadable path) status is prevents =
+    (λ two. absurd (omega arith), λ nothing. absurd (nothing prevents.0.0 prevents.0.1))
+usage-status words old new (fault.Refused path why) status is prevents =
+    (λ two. absurd (omega arith), λ nothing. absurd (nothing prevents.0.0 prevents.0.1))
+usage-status words old new (fault.FaultyLine path number) status is prevents =
+    (λ two. absurd (omega arith), λ nothing. absurd (nothing (to_simulate prevents.0.0 path.now) prevents.0.1))
+usage-status words old new fault.Write status is prevents =
+    (λ two. absurd (omega arith), λ nothing. absurd (prevents nothing))
+usage-status words old new fault.Memory status is prevents =
+    (λ two. absurd (omega arith), λ nothing. absurd (prevents nothing))

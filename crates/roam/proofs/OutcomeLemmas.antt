@@ -1,0 +1,56 @@
+-- What a command's outcome is, from what its parts did.
+use Rattle.std.proofs.Common.{◌≡◌, ℕ, List, Option, Result, Ok, Err, OnOk, IfErr, string_bytes}
+use Rattle.std.proofs.KnownBytes.{Appends-kept}
+use Rattle.std.specs.Io.KnownBytes.{Appends, Keeps}
+use Rattle.roam_conf.specs.Config.{ConfigView}
+use Rattle.roam_conf.specs.Faults.{States, NoneHolds, every_fault}
+use Rattle.roam_sim.specs.Simulation.{IsAccepted, Simulates}
+use Rattle.roam.specs.declared.text_file.TextFile.{TextFile}
+use Rattle.roam.specs.declared.report.Fault.{Fault}
+use Rattle.roam.specs.declared.report.Fault.TheVariants as fault
+use Rattle.roam.specs.Outcomes.{summary_of, text_in, Checks, CheckFails}
+
+-- the summary was printed of the configuration that the file states
+pub printed-checks : {T E : Type 0} (file : TextFile) (text : List ℕ) (config : ConfigView)
+    (old new : Option (List ℕ)) (r : Result T E) →
+    text ≡ string_bytes file.text → States text config → NoneHolds text every_fault →
+    OnOk r (Appends old new (summary_of config)) → OnOk r (Checks (text_in file) old new)
+printed-checks file text config old new (Ok x) same stated faultless printed = record {
+  config = config;
+  read = record { stated = rw (← same) stated; faultless = rw (← same) faultless };
+  printed = printed;
+}
+printed-checks file text config old new (Err e) same stated faultless printed = tt
+
+-- a refused write comes after the configuration was accepted
+pub printed-fails : {T : Type 0} (file : TextFile) (text : List ℕ) (config : ConfigView)
+    (old new : Option (List ℕ)) (r : Result T Fault) →
+    text ≡ string_bytes file.text → States text config → NoneHolds text every_fault →
+    IfErr r (λ f. f ≡ fault.Write) → IfErr r (CheckFails file old new)
+printed-fails file text config old new (Ok x) same stated faultless refused = tt
+printed-fails file text config old new (Err e) same stated faultless refused =
+    let accepted : IsAccepted (string_bytes file.text) =
+    (config, record { stated = rw (← same) stated; faultless = rw (← same) faultless }) in
+    rw refused accepted
+
+-- the lines are still there once the writer has handed them on
+pub handed-on-runs : {T E : Type 0} (configuration script : TextFile) (read-configuration read-script : List ℕ)
+    (old mid new : Option (List ℕ)) (r : Result T E) →
+    read-configuration ≡ string_bytes configuration.text → read-script ≡ string_bytes script.text →
+    Simulates read-configuration read-script old mid → Keeps mid new →
+    OnOk r (Simulates (text_in configuration) (text_in script) old new)
+handed-on-runs configuration script read-configuration read-script old mid new (Ok x) same same-script simulates
+    kept =
+    let run = simulates.simulated in
+    let still : Simulates read-configuration read-script old new = record {
+      config = simulates.config;
+      read = simulates.read;
+      simulated = record {
+        events = run.events;
+        stated = run.stated;
+        written = Appends-kept old mid new _ run.written kept;
+      };
+    } in
+    rw (← same, ← same-script) still
+handed-on-runs configuration script read-configuration read-script old mid new (Err e) same same-script simulates
+    kept = tt

@@ -1,0 +1,4 @@
+pub mod CommandLine
+pub mod Outcomes
+pub mod Report
+pub mod Shown

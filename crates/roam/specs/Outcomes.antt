@@ -1,0 +1,95 @@
+-- What the commands print, and which fault comes when: over the files that were read, and what the output holds
+-- before a command and after it. Ours.
+use Rattle.std.specs.Prelude.{◌≡◌, ◌⊎◌, ℕ, List, ◌++◌, Option, Err, ⊤, Contains, length, codes, string_bytes}
+use Rattle.std.specs.Fmt.{decimal}
+use Rattle.std.specs.Io.KnownBytes.{Keeps, Appends}
+use Rattle.roam_conf.specs.Config.{ConfigView}
+use Rattle.roam_conf.specs.declared.fault.ConfFault.{ConfFault}
+use Rattle.roam_conf.specs.Faults.{IsFirstFault}
+use Rattle.roam_sim.specs.Script.{script_states}
+use Rattle.roam_sim.specs.Simulation.{IsConfiguration, IsAccepted, Simulates, SimulatesInPart}
+use Rattle.roam.specs.CommandLine.{Asked, to_check, to_simulate, words_of, files_of, configuration_of, AsksNothing}
+use Rattle.roam.specs.declared.text_file.TextFile.{TextFile}
+use Rattle.roam.specs.declared.report.Fault.{Fault}
+use Rattle.roam.specs.declared.report.Fault.TheVariants as fault
+
+-- how much there is in a configuration
+abbrev pub summary_of : ConfigView → List ℕ
+summary_of config =
+    codes "ok realms " ++ decimal (length config.realms) ++ codes " peers " ++ decimal (length config.peers) ++
+    codes " shards " ++ decimal config.shards ++ codes "\n"
+
+-- the text in a file that was read
+abbrev pub text_in : TextFile → List ℕ
+text_in file = string_bytes file.text
+
+-- a configuration's text is checked: the output gains the summary of what it states
+pub record Checks (text : List ℕ) (old new : Option (List ℕ)) : Type 0 where
+  pub config : ConfigView
+  pub read : IsConfiguration text config
+  pub printed : Appends old new (summary_of config)
+
+-- a configuration is refused: the fault is the first one in the file of that path
+pub record IsRefused (file : TextFile) (path : List ℕ) (why : ConfFault) : Type 0 where
+  pub named : path ≡ file.path.now
+  pub first : IsFirstFault (text_in file) why
+
+-- a line of a script is faulty: it is the first one in the file of that path
+pub record IsFaulty (file : TextFile) (path : List ℕ) (number : ℕ) : Type 0 where
+  pub named : path ≡ file.path.now
+  pub first : script_states (text_in file) ≡ Err number
+
+-- the faults of a check, each with what it says, and what of the output it leaves
+abbrev pub CheckFails : TextFile → Option (List ℕ) → Option (List ℕ) → Fault → Type 0
+CheckFails file old new fault.Usage = ⊥
+CheckFails file old new (fault.Unreadable path) = ⊥
+CheckFails file old new (fault.Refused path why) = IsRefused file path.now why × Keeps old new
+CheckFails file old new (fault.FaultyLine path number) = ⊥
+CheckFails file old new fault.Write = IsAccepted (text_in file)
+CheckFails file old new fault.Memory = Keeps old new
+
+-- the faults of a run: a faulty line comes only where the configuration is accepted; of a refused write nothing
+-- more is said, since the writer may refuse at any point; and want of memory
+-- leaves the output as it was, or with the lines of the packets for the events that weren't lost
+abbrev pub RunFails : TextFile → TextFile → Option (List ℕ) → Option (List ℕ) → Fault → Type 0
+RunFails configuration script old new fault.Usage = ⊥
+RunFails configuration script old new (fault.Unreadable path) = ⊥
+RunFails configuration script old new (fault.Refused path why) =
+    IsRefused configuration path.now why × Keeps old new
+RunFails configuration script old new (fault.FaultyLine path number) =
+    IsFaulty script path.now number × IsAccepted (text_in configuration) × Keeps old new
+RunFails configuration script old new fault.Write = ⊤
+RunFails configuration script old new fault.Memory =
+    Keeps old new ⊎ SimulatesInPart (text_in configuration) (text_in script) old new
+
+-- what is asked for was done, over texts in the files: which ones, nothing here can say
+abbrev pub IsDone : Asked → Option (List ℕ) → Option (List ℕ) → Type 0
+IsDone (to_check configuration) old new = (text : List ℕ) × Checks text old new
+IsDone (to_simulate configuration script) old new =
+    (text : List ℕ) × (script_text : List ℕ) × Simulates text script_text old new
+
+-- the words ask for something, and it was done
+pub record IsAnswered (words : List (List ℕ)) (old new : Option (List ℕ)) : Type 0 where
+  pub asked : Asked
+  pub worded : words_of asked ≡ words
+  pub done : IsDone asked old new
+
+-- the words name this file, or this one as the configuration, or this one as the script
+abbrev pub NamesFile : List (List ℕ) → List ℕ → Type 0
+NamesFile words path = (asked : Asked) × (words_of asked ≡ words) × Contains (files_of asked) path
+
+abbrev pub NamesConfiguration : List (List ℕ) → List ℕ → Type 0
+NamesConfiguration words path = (asked : Asked) × (words_of asked ≡ words) × (configuration_of asked ≡ path)
+
+abbrev pub NamesScript : List (List ℕ) → List ℕ → Type 0
+NamesScript words path = (configuration : List ℕ) × (words_of (to_simulate configuration path) ≡ words)
+
+-- why the words aren't answered, and that the output is as it was; but where a write was refused, or events
+-- were lost for want of memory, some of the lines may stand there
+abbrev pub Prevents : List (List ℕ) → Option (List ℕ) → Option (List ℕ) → Fault → Type 0
+Prevents words old new fault.Usage = AsksNothing words × Keeps old new
+Prevents words old new (fault.Unreadable path) = NamesFile words path.now × Keeps old new
+Prevents words old new (fault.Refused path why) = NamesConfiguration words path.now × Keeps old new
+Prevents words old new (fault.FaultyLine path number) = NamesScript words path.now × Keeps old new
+Prevents words old new fault.Write = ¬ (AsksNothing words)
+Prevents words old new fault.Memory = ¬ (AsksNothing words)

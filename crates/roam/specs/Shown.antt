@@ -1,0 +1,8 @@
+-- Commands as the definitions see them.
+use Rattle.roam.specs.CommandLine.{Asked, to_check, to_simulate}
+use Rattle.roam.specs.declared.command_line.Command.{Command}
+use Rattle.roam.specs.declared.command_line.Command.TheVariants as command
+
+abbrev pub shown : Command → Asked
+shown (command.Check configuration) = to_check configuration.now
+shown (command.Sim configuration script) = to_simulate configuration.now script.now

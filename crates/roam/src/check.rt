@@ -1,0 +1,51 @@
+//! Checking a configuration.
+
+ghost use Rattle.std.specs.Prelude.{◌≡◌, OnOk, IfErr};
+ghost use Rattle.std.specs.Io.KnownBytes.{Appends};
+ghost use Rattle.roam_conf.specs.Shown.{shown};
+ghost use Rattle.roam.specs.Outcomes.{summary_of, text_in, Checks, CheckFails};
+
+use crate::output::finish;
+use crate::report::Fault;
+use crate::text_file::TextFile;
+use roam_conf::Config;
+use std::alloc::Global;
+use std::io::Write;
+
+/// Prints how much there is in a configuration: `ok realms R peers P shards S`.
+///
+/// # Errors
+///
+/// `Write`.
+fn print_summary<W: Write>(writer: &mut W, config: &Config) -> Result<(), Fault<'static>>
+    ensures ok { OnOk result
+        (Appends (W.contents writer.old) (W.contents writer.new) (summary_of (shown config.now))) }
+    ensures err { IfErr result (λ fault. fault ≡ Fault.Write) }
+{
+    let realms = config.realms.len();
+    let peers = config.peers.len();
+    let shards = config.shards;
+    writeln!(writer, "ok realms {realms} peers {peers} shards {shards}").map_err(|_| Fault::Write)?;
+    finish(writer)
+}
+
+/// Reads a configuration, and prints how much there is in it.
+///
+/// # Errors
+///
+/// `Refused`, and nothing is printed; `Write`; `Memory`, and nothing is printed.
+pub fn check<'a, W: Write>(
+    alloc: Global,
+    configuration: &TextFile<'a>,
+    writer: &mut W,
+) -> Result<(), Fault<'a>>
+    ensures ok { OnOk result
+        (Checks (text_in configuration.now) (W.contents writer.old) (W.contents writer.new)) }
+    ensures err { IfErr result
+        (CheckFails configuration.now (W.contents writer.old) (W.contents writer.new)) }
+{
+    match Config::read(alloc, configuration.text.as_str()) {
+        Ok(config) => print_summary(writer, &config),
+        Err(fault) => Err(Fault::of_configuration(configuration.path, fault)),
+    }
+}

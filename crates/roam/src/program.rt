@@ -1,0 +1,91 @@
+//! What the program does, over any two writers.
+
+ghost use Rattle.std.specs.Prelude.{◌≡◌, ◌≤◌, ◌↔◌, map, OnOk, IfErr};
+ghost use Rattle.std.specs.Io.KnownBytes.{Appends, Keeps};
+ghost use Rattle.roam.specs.CommandLine.{AsksNothing};
+ghost use Rattle.roam.specs.Outcomes.{IsAnswered, Prevents};
+ghost use Rattle.roam.specs.Report.{text_of};
+
+use crate::check::check;
+use crate::command_line::Command;
+use crate::report::{Ending, Fault};
+use crate::simulation::simulate;
+use crate::text_file::TextFile;
+use std::convert::AsStr;
+use std::io::Write;
+use std::rt::Files;
+
+/// Does what the words ask for.
+fn run<'a, R: Files + AllocGlobal, S: AsStr, W: Write>(
+    rt: &R,
+    words: &'a [S],
+    out: &mut W,
+) -> Result<(), Fault<'a>>
+    ensures ok { OnOk result
+        (IsAnswered (map S.text words.now) (W.contents out.old) (W.contents out.new)) }
+    ensures err { IfErr result
+        (Prevents (map S.text words.now) (W.contents out.old) (W.contents out.new)) }
+{
+    match Command::from_words(words) {
+        None => Err(Fault::Usage),
+        Some(Command::Check { configuration }) => {
+            let configuration = TextFile::read(rt, configuration)?;
+            check(rt.alloc(), &configuration, out)
+        }
+        Some(
+            Command::Sim {
+                configuration,
+                script,
+            },
+        ) => {
+            let configuration = TextFile::read(rt, configuration)?;
+            let script = TextFile::read(rt, script)?;
+            simulate(rt.alloc(), &configuration, &script, out)
+        }
+    }
+}
+
+/// Does what the words ask for, and tells the fault that prevents it.
+fn answer<R: Files + AllocGlobal, S: AsStr, W: Write, E: Write>(
+    rt: &R,
+    words: &[S],
+    out: &mut W,
+    err: &mut E,
+) -> Ending
+    ensures status { result.status ≤ 3 }
+    ensures done { result.status ≡ 0
+        → IsAnswered (map S.text words.now) (W.contents out.old) (W.contents out.new) }
+    ensures silent { result.status ≡ 0 → err.new ≡ err.old }
+
+    // The usage is told just where the words ask for nothing, and then nothing else is done.
+    ensures usage { (result.status ≡ 2) ↔ (AsksNothing (map S.text words.now)) }
+    ensures usage_told { result.status ≡ 2 → OnOk result.told
+        (Appends (E.contents err.old) (E.contents err.new) (text_of Fault.Usage)) }
+    ensures untouched { result.status ≡ 2 → Keeps (W.contents out.old) (W.contents out.new) }
+{
+    match run(rt, words, out) {
+        Ok(()) => Ending {
+            status: 0,
+            told: Ok(()),
+        },
+        Err(fault) => fault.tell(err),
+    }
+}
+
+/// Does what the words after the program's name ask for, and answers the status with which the program ends: 0, or
+/// that of the fault that prevents it, whose text goes to `err`. Whether `err` takes it changes nothing.
+pub fn command<R: Files + AllocGlobal, S: AsStr, W: Write, E: Write>(
+    rt: &R,
+    words: &[S],
+    out: &mut W,
+    err: &mut E,
+) -> u8
+    ensures status { result ≤ 3 }
+    ensures done { result ≡ 0
+        → IsAnswered (map S.text words.now) (W.contents out.old) (W.contents out.new) }
+    ensures silent { result ≡ 0 → err.new ≡ err.old }
+    ensures usage { (result ≡ 2) ↔ (AsksNothing (map S.text words.now)) }
+    ensures untouched { result ≡ 2 → Keeps (W.contents out.old) (W.contents out.new) }
+{
+    answer(rt, words, out, err).status
+}

@@ -1,0 +1,442 @@
+//! Each way in which the program ends: its status, what it printed, and the text of its fault.
+
+use crate::program::command;
+use crate::report::Fault;
+use std::io::{ErrorKind, Write};
+use std::process::Abort;
+use std::rt::{Env, Files};
+use std::test::Fail;
+use std::{env, fs, io, process};
+
+const USAGE: &str = "usage: roam check CONF | roam sim CONF SCRIPT | roam serve CONF [MS]\n";
+
+const CONFIGURATION: &str = "shards = 1
+seed = \"0000000000000000000000000000000000000000000000000000000000000000\"
+auth = \"127.0.0.1:1812\"
+acct = \"127.0.0.1:1813\"
+trace_limit = 1000
+
+[[peer]]
+name = \"nas1\"
+ip = \"192.0.2.1\"
+secret = \"xyzzy5461\"
+coa = \"192.0.2.1:3799\"
+nas_ip = \"192.0.2.1\"
+nas_id = \"nas1\"
+
+[[realm]]
+name = \"a.example\"
+out = \"127.0.0.1:2000\"
+reverse = \"127.0.0.1:3000\"
+tries = 2
+wait = 1000
+hold = 5000
+max_pending = 300
+max_sessions = 100
+
+[[realm.server]]
+auth = \"198.51.100.1:1812\"
+acct = \"198.51.100.1:1813\"
+secret = \"h1\"
+";
+
+/// Another peer, and another realm with a server: a change of the configuration that stands before its realm.
+const SECOND_PEER: &str = "[[peer]]
+name = \"nas2\"
+ip = \"192.0.2.1\"
+secret = \"s\"
+
+[[realm]]
+name = \"a.example\"";
+
+const SECOND_REALM: &str = "[[realm]]
+name = \"A.EXAMPLE\"
+out = \"127.0.0.1:2001\"
+reverse = \"127.0.0.1:3001\"
+tries = 1
+wait = 1
+hold = 0
+max_pending = 1
+max_sessions = 0
+
+[[realm.server]]
+auth = \"198.51.100.2:1812\"
+acct = \"198.51.100.2:1813\"
+secret = \"h2\"
+
+[[realm]]
+name = \"a.example\"";
+
+/// An Accounting-Request, and the home server's response: an exchange that was worked out by hand.
+const EXCHANGE: &str = "# Start of a session
+A 0 acct 192.0.2.1:5000 0405002b40d7b5a889c55fa9032ba5d6be378f2e010d7540612e6578616d706c652806000000012c043031
+A 0 out:0 198.51.100.1:1813 0500001ea1e81fcd91eda44683d85e49b2655719210a0000000000000000
+";
+
+const EXCHANGED: &str =
+    "0 out:0 198.51.100.1:1813 040000358df41562121fde074fa4a8b4ea7c9990010d7540612e6578616d706c652806000000012c043031210a0000000000000000
+0 acct 192.0.2.1:5000 050500144511dc97de8dbcfd887f32eb5da70447
+";
+
+/// A configuration with another first peer and another first realm.
+const LARGER: &str = "shards = 5
+seed = \"000102030405060708090a0b0c0d0e0f101112131415161718191a1b1c1d1e1f\"
+auth = \"127.0.0.1:1812\"
+acct = \"127.0.0.1:1813\"
+trace_limit = 1
+
+[[peer]]
+name = \"nas1\"
+ip = \"192.0.2.1\"
+secret = \"s\"
+
+[[peer]]
+name = \"nas2\"
+ip = \"192.0.2.2\"
+secret = \"s\"
+
+[[realm]]
+name = \"a.example\"
+out = \"127.0.0.1:2000\"
+reverse = \"127.0.0.1:3000\"
+tries = 1
+wait = 1
+hold = 0
+max_pending = 1
+max_sessions = 0
+server = [{ auth = \"198.51.100.1:1812\", acct = \"198.51.100.1:1813\", secret = \"h\" }]
+
+[[realm]]
+name = \"b.example\"
+out = \"127.0.0.1:2001\"
+reverse = \"127.0.0.1:3001\"
+tries = 1
+wait = 1
+hold = 0
+max_pending = 1
+max_sessions = 0
+server = [{ auth = \"198.51.100.1:1812\", acct = \"198.51.100.1:1813\", secret = \"h\" }]
+
+[[realm]]
+name = \"c.example\"
+out = \"127.0.0.1:2002\"
+reverse = \"127.0.0.1:3002\"
+tries = 1
+wait = 1
+hold = 0
+max_pending = 1
+max_sessions = 0
+server = [{ auth = \"198.51.100.1:1812\", acct = \"198.51.100.1:1813\", secret = \"h\" }]
+";
+
+/// A writer that takes all, and refuses to hand it on.
+#[derive(Drop)]
+struct Stuck;
+
+impl Write for Stuck {
+    fn write(&mut self, buf: &[u8]) -> io::Result<usize> {
+        Ok(buf.len())
+    }
+
+    fn flush(&mut self) -> io::Result<()> {
+        Err(io::Error::from(ErrorKind::StorageFull))
+    }
+}
+
+/// Writes a file for this test alone, and answers its path.
+fn file<R: Files + Env + AllocGlobal>(
+    rt: &R,
+    process: u32,
+    name: &str,
+    contents: &[u8],
+) -> Result<String, Fail> {
+    let folder = env::temp_dir(rt)?;
+    let folder = folder.as_str();
+    let path = format!(in rt.alloc(); "{folder}/roam-{process}-{name}")?;
+    fs::write(rt, path.as_str(), contents)?;
+    Ok(path)
+}
+
+/// The program ends so: with this status, after it printed this, and this fault.
+fn expect<R: Files + AllocGlobal + Abort>(
+    rt: &R,
+    words: &[&str],
+    status: u8,
+    printed: &str,
+    told: &str,
+) {
+    let mut out = Vec::new(rt.alloc());
+    let mut err = Vec::new(rt.alloc());
+    let ended = command(rt, words, &mut out, &mut err);
+    assert!(rt;
+        out.as_slice() == printed.as_bytes(),
+        "{words:?} prints {out:?}"
+    );
+    assert!(rt;
+        err.as_slice() == told.as_bytes(),
+        "{words:?} tells {err:?}"
+    );
+    assert!(rt; ended == status, "{words:?} ends with {ended}");
+}
+
+/// Words that ask for nothing.
+const NO_COMMANDS: &[&[&str]] = &[
+    &[],
+    &[""],
+    &["check"],
+    &["check", "a", "b"],
+    &["Check", "a"],
+    &["check ", "a"],
+    &["sim"],
+    &["sim", "a"],
+    &["sim", "a", "b", "c"],
+    &["serve"],
+    &["serve", "a"],
+    &["serve", "a", "1000"],
+    &["--help"],
+    &["a", "b"],
+    &["a", "b", "c"],
+];
+
+#[test]
+fn other_words_give_the_usage(rt: HostRuntime) {
+    for words in NO_COMMANDS {
+        expect(&rt, words, 2, "", USAGE);
+    }
+}
+
+#[test]
+fn a_configuration_is_counted(rt: HostRuntime) -> Result<(), Fail> {
+    let process = process::id(rt.process());
+    let least = file(&rt, process, "least.conf", CONFIGURATION.as_bytes())?;
+    expect(
+        &rt,
+        &["check", least.as_str()],
+        0,
+        "ok realms 1 peers 1 shards 1\n",
+        "",
+    );
+    let larger = file(&rt, process, "larger.conf", LARGER.as_bytes())?;
+    expect(
+        &rt,
+        &["check", larger.as_str()],
+        0,
+        "ok realms 3 peers 2 shards 5\n",
+        "",
+    );
+    fs::remove_file(&rt, least.as_str())?;
+    fs::remove_file(&rt, larger.as_str())?;
+    Ok(())
+}
+
+/// A line of the configuration, what stands in its place, and the fault of what comes.
+const REFUSED: &[(&str, &str, &str)] = &[
+    ("shards = 1", "shards = ", "Syntax"),
+    ("seed = ", "# ", "Missing"),
+    ("wait = 1000", "wait = 0", "BadValue"),
+    (
+        "[[realm]]\nname = \"a.example\"",
+        SECOND_REALM,
+        "DuplicateRealm",
+    ),
+    (
+        "[[realm]]\nname = \"a.example\"",
+        SECOND_PEER,
+        "DuplicatePeer",
+    ),
+    ("127.0.0.1:2000", "127.0.0.1:1812", "DuplicateEndpoint"),
+    ("198.51.100.1:1813", "198.51.100.1:1812", "DuplicateServer"),
+    ("192.0.2.1:3799", "198.51.100.1:1812", "DuplicateLink"),
+];
+
+/// The text with the first `old` in it replaced.
+fn changed<R: AllocGlobal>(rt: &R, text: &str, old: &str, new: &str) -> Result<String, Fail> {
+    let (front, back) = text.split_once(old).ok_or("the text isn't there")?;
+    Ok(format!(in rt.alloc(); "{front}{new}{back}")?)
+}
+
+#[test]
+fn a_configuration_is_refused_by_name(rt: HostRuntime) -> Result<(), Fail> {
+    let process = process::id(rt.process());
+    for (old, new, name) in REFUSED {
+        let text = changed(&rt, CONFIGURATION, old, new)?;
+        let path = file(&rt, process, "refused.conf", text.as_bytes())?;
+        let path = path.as_str();
+        let told = format!(in rt.alloc(); "roam: {path}: {name}\n")?;
+        expect(&rt, &["check", path], 1, "", told.as_str());
+        // Its own text is no script, and that isn't looked at.
+        expect(&rt, &["sim", path, path], 1, "", told.as_str());
+        fs::remove_file(&rt, path)?;
+    }
+    Ok(())
+}
+
+/// A file can't be read, wherever its path stands. The script is read before the configuration is judged.
+fn expect_unreadable<R: Files + AllocGlobal + Abort>(
+    rt: &R,
+    accepted: &str,
+    refused: &str,
+    path: &str,
+) -> Result<(), Fail> {
+    let told = format!(in rt.alloc(); "roam: {path}: unreadable\n")?;
+    expect(rt, &["check", path], 1, "", told.as_str());
+    expect(rt, &["sim", path, "/nowhere"], 1, "", told.as_str());
+    expect(rt, &["sim", accepted, path], 1, "", told.as_str());
+    expect(rt, &["sim", refused, path], 1, "", told.as_str());
+    Ok(())
+}
+
+#[test]
+fn what_is_no_text_is_unreadable(rt: HostRuntime) -> Result<(), Fail> {
+    let process = process::id(rt.process());
+    let accepted = file(&rt, process, "good.conf", CONFIGURATION.as_bytes())?;
+    let refused = file(&rt, process, "bad.conf", b"shards = \n")?;
+    let binary = file(&rt, process, "binary", &[b'#', 0xff, b'\n'])?;
+    let folder = env::temp_dir(&rt)?;
+    expect_unreadable(&rt, accepted.as_str(), refused.as_str(), binary.as_str())?;
+    expect_unreadable(&rt, accepted.as_str(), refused.as_str(), folder.as_str())?;
+    expect_unreadable(&rt, accepted.as_str(), refused.as_str(), "/nowhere/at/all")?;
+    expect_unreadable(&rt, accepted.as_str(), refused.as_str(), "")?;
+    fs::remove_file(&rt, accepted.as_str())?;
+    fs::remove_file(&rt, refused.as_str())?;
+    fs::remove_file(&rt, binary.as_str())?;
+    Ok(())
+}
+
+/// What is wrong with a line of a script, and the line.
+const FAULTY: &[(&str, &str)] = &[
+    ("a leading zero", "T 00 0"),
+    ("a moment of 2 ^ 64", "T 18446744073709551616 0"),
+    ("a shard of 2 ^ 16", "T 0 65536"),
+    ("two spaces", "T  0 0"),
+    ("a space at the end", "T 0 0 "),
+    ("a line of spaces", "  "),
+    ("a carriage return", "T 0 0\r"),
+    ("another letter", "B 0 0"),
+    ("a missing field", "A 0 acct 192.0.2.1:5000"),
+    ("no place", "A 0 192.0.2.1:5000 00"),
+    ("a realm of 2 ^ 16", "A 0 out:65536 192.0.2.1:5000 00"),
+    ("no port", "A 0 acct 192.0.2.1 00"),
+    ("an empty field of octets", "A 0 acct 192.0.2.1:5000 "),
+    ("an odd number of digits", "A 0 acct 192.0.2.1:5000 000"),
+    ("a digit that is none", "A 0 acct 192.0.2.1:5000 0g"),
+];
+
+/// A script is refused for its fifth line, which follows an exchange.
+fn expect_faulty<R: Files + Env + AllocGlobal + Abort>(
+    rt: &R,
+    process: u32,
+    configuration: &str,
+    line: &str,
+) -> Result<(), Fail> {
+    let text = format!(in rt.alloc(); "{EXCHANGE}\n{line}\nT 0 0\n{line}\n")?;
+    let script = file(rt, process, "faulty.script", text.as_bytes())?;
+    let script = script.as_str();
+    let told = format!(in rt.alloc(); "roam: {script}: line 5\n")?;
+    expect(rt, &["sim", configuration, script], 1, "", told.as_str());
+    fs::remove_file(rt, script)?;
+    Ok(())
+}
+
+#[test]
+fn a_faulty_line_is_refused_by_its_number(rt: HostRuntime) -> Result<(), Fail> {
+    let process = process::id(rt.process());
+    let configuration = file(&rt, process, "faulty.conf", CONFIGURATION.as_bytes())?;
+    for (_, line) in FAULTY {
+        expect_faulty(&rt, process, configuration.as_str(), line)?;
+    }
+    let mut too_long = String::from_str(rt.alloc(), "A 0 acct 192.0.2.1:5000 ")?;
+    for _ in 0..65536u32 {
+        too_long.push_str("0a")?;
+    }
+    expect_faulty(&rt, process, configuration.as_str(), too_long.as_str())?;
+    fs::remove_file(&rt, configuration.as_str())?;
+    Ok(())
+}
+
+#[test]
+fn a_script_is_run(rt: HostRuntime) -> Result<(), Fail> {
+    let process = process::id(rt.process());
+    let configuration = file(&rt, process, "run.conf", CONFIGURATION.as_bytes())?;
+    for (text, printed) in [
+        (EXCHANGE, EXCHANGED),
+        ("", ""),
+        ("# T\n\n", ""),
+        ("T 0 0", ""),
+    ] {
+        let script = file(&rt, process, "run.script", text.as_bytes())?;
+        expect(
+            &rt,
+            &["sim", configuration.as_str(), script.as_str()],
+            0,
+            printed,
+            "",
+        );
+        fs::remove_file(&rt, script.as_str())?;
+    }
+    fs::remove_file(&rt, configuration.as_str())?;
+    Ok(())
+}
+
+/// How much room the output has, and the status: where all that is printed has room, it is 0.
+fn expect_refused<R: Files + AllocGlobal + Abort>(rt: &R, words: &[&str], printed: usize) {
+    let mut room = [0u8; 400];
+    for size in 0..=printed.min(400) {
+        let mut out = &mut room[..size];
+        let mut err = Vec::new(rt.alloc());
+        let status = command(rt, words, &mut out, &mut err);
+        let told = if size < printed {
+            "roam: write failed\n"
+        } else {
+            ""
+        };
+        assert!(rt;
+            err.as_slice() == told.as_bytes(),
+            "{words:?} at {size} tells {err:?}"
+        );
+        assert!(rt;
+            status == u8::from(size < printed),
+            "{words:?} at {size} ends with {status}"
+        );
+    }
+    let mut err = Vec::new(rt.alloc());
+    let status = command(rt, words, &mut Stuck, &mut err);
+    assert!(rt;
+        err.as_slice() == b"roam: write failed\n".as_slice(),
+        "{words:?} tells {err:?}"
+    );
+    assert!(rt; status == 1, "{words:?} ends with {status}");
+}
+
+#[test]
+fn a_refused_write_is_told(rt: HostRuntime) -> Result<(), Fail> {
+    let process = process::id(rt.process());
+    let configuration = file(&rt, process, "write.conf", CONFIGURATION.as_bytes())?;
+    let script = file(&rt, process, "write.script", EXCHANGE.as_bytes())?;
+    expect_refused(&rt, &["check", configuration.as_str()], 29);
+    expect_refused(
+        &rt,
+        &["sim", configuration.as_str(), script.as_str()],
+        EXCHANGED.len(),
+    );
+    fs::remove_file(&rt, configuration.as_str())?;
+    fs::remove_file(&rt, script.as_str())?;
+    Ok(())
+}
+
+/// The status where nothing can be told.
+fn status_untold<R: Files + AllocGlobal>(rt: &R, words: &[&str]) -> u8 {
+    let mut room = [0u8; 4];
+    let mut out = Vec::new(rt.alloc());
+    command(rt, words, &mut out, &mut room.as_mut_slice())
+}
+
+#[test]
+fn a_fault_that_cannot_be_told_keeps_its_status(rt: HostRuntime) {
+    assert!(rt; status_untold(&rt, &[]) == 2);
+    assert!(rt; status_untold(&rt, &["check", "/nowhere"]) == 1);
+    assert!(rt; Fault::Memory.tell(&mut Stuck).status == 3);
+    let mut err = Vec::new(rt.alloc());
+    assert!(rt; Fault::Memory.tell(&mut err).status == 3);
+    assert!(rt; err.as_slice() == b"roam: out of memory\n".as_slice());
+}

@@ -1,0 +1,201 @@
+//! Requests and replies whose growths are refused in turn, and what wants no memory.
+
+use crate::configurations::{TWO_REALMS, config};
+use crate::playing::{Play, events};
+use crate::trial::Trial;
+use roam_testing::Refusing;
+
+const REQUEST: Trial = Trial {
+    before: "
+# the first realm's request
+A 0 acct 192.0.2.1:5000 0405002b40d7b5a889c55fa9032ba5d6be378f2e010d7540612e6578616d706c652806000000012c043031
+#> 0 out:0 198.51.100.1:1813 040000358df41562121fde074fa4a8b4ea7c9990010d7540612e6578616d706c652806000000012c043031210a0000000000000000
+",
+    event: "A 1 acct 192.0.2.1:5000 0405002ba6bfe40714921a88e8ff49687914fd1a010d7540622e6578616d706c652806000000012c043031",
+    unchanged: "
+# the first realm's waits
+A 1 acct 192.0.2.1:5000 0405002b40d7b5a889c55fa9032ba5d6be378f2e010d7540612e6578616d706c652806000000012c043031
+# nothing waits in the second realm
+A 1 out:1 198.51.100.1:1813 05000014812826d1b70dccbeaff4b8b46b42f32b
+#> refused 14
+# nothing is due
+T 999 0
+",
+    after: "
+#> 1 out:1 198.51.100.1:1813 04000035419f0ec8efe1a970222e47c4a3ed59a9010d7540622e6578616d706c652806000000012c043031210a0000000000000000
+# it waits now
+A 2 acct 192.0.2.1:5000 0405002ba6bfe40714921a88e8ff49687914fd1a010d7540622e6578616d706c652806000000012c043031
+# the next Identifier and ticket are 1
+A 2 acct 192.0.2.1:5000 0406002bf6e4332b4f41adc44e758474848de467010d7540622e6578616d706c652806000000012c043031
+#> 1 out:1 198.51.100.1:1813 04010035b57c373b711450487fa5bc43ea0599b9010d7540622e6578616d706c652806000000012c043031210a0000000000000001
+# its response
+A 3 out:1 198.51.100.1:1813 05000014812826d1b70dccbeaff4b8b46b42f32b
+#> 1 acct 192.0.2.1:5000 05050014a9ed24a80f8d3089b4ae5e30bc003608
+# the first realm's response
+A 4 out:0 198.51.100.1:1813 05000014d5ca82d6200679484ad1cfdd8fa69a7d
+#> 0 acct 192.0.2.1:5000 050500144511dc97de8dbcfd887f32eb5da70447
+",
+};
+
+#[test]
+fn request_without_memory(rt: HostRuntime) {
+    REQUEST.refuse_each(&rt, rt.alloc(), TWO_REALMS, &[]);
+}
+
+const REPLY: Trial = Trial {
+    before: "
+# the first realm's request
+A 0 acct 192.0.2.1:5000 0405002b40d7b5a889c55fa9032ba5d6be378f2e010d7540612e6578616d706c652806000000012c043031
+#> 0 out:0 198.51.100.1:1813 040000358df41562121fde074fa4a8b4ea7c9990010d7540612e6578616d706c652806000000012c043031210a0000000000000000
+# the second realm's request
+A 1 acct 192.0.2.1:5000 0405002ba6bfe40714921a88e8ff49687914fd1a010d7540622e6578616d706c652806000000012c043031
+#> 1 out:1 198.51.100.1:1813 04000035419f0ec8efe1a970222e47c4a3ed59a9010d7540622e6578616d706c652806000000012c043031210a0000000000000000
+",
+    event: "A 2 out:1 198.51.100.1:1813 05000014812826d1b70dccbeaff4b8b46b42f32b",
+    unchanged: "
+# the first realm's waits
+A 3 acct 192.0.2.1:5000 0405002b40d7b5a889c55fa9032ba5d6be378f2e010d7540612e6578616d706c652806000000012c043031
+# the second realm's waits
+A 3 acct 192.0.2.1:5000 0405002ba6bfe40714921a88e8ff49687914fd1a010d7540622e6578616d706c652806000000012c043031
+# nothing is due
+T 999 0
+",
+    after: "
+#> 1 acct 192.0.2.1:5000 05050014a9ed24a80f8d3089b4ae5e30bc003608
+# it is held
+A 4 acct 192.0.2.1:5000 0405002ba6bfe40714921a88e8ff49687914fd1a010d7540622e6578616d706c652806000000012c043031
+#> 1 acct 192.0.2.1:5000 05050014a9ed24a80f8d3089b4ae5e30bc003608
+# nothing waits any more
+A 5 out:1 198.51.100.1:1813 05000014812826d1b70dccbeaff4b8b46b42f32b
+#> refused 14
+# the first realm's waits
+A 5 acct 192.0.2.1:5000 0405002b40d7b5a889c55fa9032ba5d6be378f2e010d7540612e6578616d706c652806000000012c043031
+# and is sent again, alone
+T 1001 0
+#> 0 out:0 198.51.100.1:1813 040000358df41562121fde074fa4a8b4ea7c9990010d7540612e6578616d706c652806000000012c043031210a0000000000000000
+",
+};
+
+#[test]
+fn reply_without_memory(rt: HostRuntime) {
+    REPLY.refuse_each(&rt, rt.alloc(), TWO_REALMS, &[]);
+}
+
+const HELD_REPLY: Trial = Trial {
+    before: "
+# the first realm's request
+A 0 acct 192.0.2.1:5000 0405002b40d7b5a889c55fa9032ba5d6be378f2e010d7540612e6578616d706c652806000000012c043031
+#> 0 out:0 198.51.100.1:1813 040000358df41562121fde074fa4a8b4ea7c9990010d7540612e6578616d706c652806000000012c043031210a0000000000000000
+# the second realm's request
+A 1 acct 192.0.2.1:5000 0405002ba6bfe40714921a88e8ff49687914fd1a010d7540622e6578616d706c652806000000012c043031
+#> 1 out:1 198.51.100.1:1813 04000035419f0ec8efe1a970222e47c4a3ed59a9010d7540622e6578616d706c652806000000012c043031210a0000000000000000
+# the second realm's response
+A 2 out:1 198.51.100.1:1813 05000014812826d1b70dccbeaff4b8b46b42f32b
+#> 1 acct 192.0.2.1:5000 05050014a9ed24a80f8d3089b4ae5e30bc003608
+",
+    event: "A 10 acct 192.0.2.1:5000 0405002ba6bfe40714921a88e8ff49687914fd1a010d7540622e6578616d706c652806000000012c043031",
+    unchanged: "
+# nothing waits any more
+A 11 out:1 198.51.100.1:1813 05000014812826d1b70dccbeaff4b8b46b42f32b
+#> refused 14
+# the first realm's waits
+A 11 acct 192.0.2.1:5000 0405002b40d7b5a889c55fa9032ba5d6be378f2e010d7540612e6578616d706c652806000000012c043031
+# nothing is due
+T 999 0
+",
+    after: "
+#> 1 acct 192.0.2.1:5000 05050014a9ed24a80f8d3089b4ae5e30bc003608
+# and again
+A 12 acct 192.0.2.1:5000 0405002ba6bfe40714921a88e8ff49687914fd1a010d7540622e6578616d706c652806000000012c043031
+#> 1 acct 192.0.2.1:5000 05050014a9ed24a80f8d3089b4ae5e30bc003608
+# the first realm's is sent again, the second realm's is held until 5002
+T 5001 0
+#> 0 out:0 198.51.100.1:1813 040000358df41562121fde074fa4a8b4ea7c9990010d7540612e6578616d706c652806000000012c043031210a0000000000000000
+# it is held
+A 5001 acct 192.0.2.1:5000 0405002ba6bfe40714921a88e8ff49687914fd1a010d7540622e6578616d706c652806000000012c043031
+#> 1 acct 192.0.2.1:5000 05050014a9ed24a80f8d3089b4ae5e30bc003608
+# it goes
+T 5002 0
+# it is new
+A 5003 acct 192.0.2.1:5000 0405002ba6bfe40714921a88e8ff49687914fd1a010d7540622e6578616d706c652806000000012c043031
+#> 1 out:1 198.51.100.1:1813 04010035b57c373b711450487fa5bc43ea0599b9010d7540622e6578616d706c652806000000012c043031210a0000000000000001
+",
+};
+
+#[test]
+fn held_reply_without_memory(rt: HostRuntime) {
+    HELD_REPLY.refuse_each(&rt, rt.alloc(), TWO_REALMS, &[]);
+}
+
+/// Events that are refused before a realm looks at them.
+const REFUSED: &[(&str, &str)] = &[
+    ("A 0 acct 192.0.2.1:5000 -", "#> refused 1"),
+    (
+        "A 0 acct 192.0.2.1:5000 0405002b40d7b5a889c55fa9032ba5d6be378f",
+        "#> refused 1",
+    ),
+    (
+        "A 0 acct 192.0.2.1:5000 0405002b40d7b5a889c55fa9032ba5d6be378f2e010d7540612e6578616d706c652806000000012c0430",
+        "#> refused 2",
+    ),
+    (
+        "A 0 acct 192.0.2.1:5000 0405002b40d7b5a889c55fa9032ba5d6be378f2e010e7540612e6578616d706c652806000000012c043031",
+        "#> refused 3",
+    ),
+    (
+        "A 0 acct 192.0.2.9:5000 0405002b40d7b5a889c55fa9032ba5d6be378f2e010d7540612e6578616d706c652806000000012c043031",
+        "#> refused 4",
+    ),
+    (
+        "A 0 out:2 198.51.100.1:1813 05000014d5ca82d6200679484ad1cfdd8fa69a7d",
+        "#> refused 4",
+    ),
+    (
+        "A 0 out:1 198.51.100.1:1814 05000014d5ca82d6200679484ad1cfdd8fa69a7d",
+        "#> refused 4",
+    ),
+    (
+        "A 0 out:0 198.51.100.1:1813 0405002b40d7b5a889c55fa9032ba5d6be378f2e010d7540612e6578616d706c652806000000012c043031",
+        "#> refused 5",
+    ),
+    (
+        "A 0 acct 192.0.2.1:5000 0505002b43fa704c86a1a1fa17120b2429e2a74a010d7540612e6578616d706c652806000000012c043031",
+        "#> refused 5",
+    ),
+    (
+        "A 0 acct 192.0.2.1:5000 0405002b41d7b5a889c55fa9032ba5d6be378f2e010d7540612e6578616d706c652806000000012c043031",
+        "#> refused 6",
+    ),
+    (
+        "A 0 acct 192.0.2.1:5000 0405003dd7595c506289b0493328329830d626d5010d7540612e6578616d706c652806000000012c043031501200000000000000000000000000000000",
+        "#> refused 7",
+    ),
+    (
+        "A 0 acct 192.0.2.1:5000 0405002b4f6db82b63b0793c8c196381988d376a010d7540632e6578616d706c652806000000012c043031",
+        "#> refused 9",
+    ),
+    (
+        "A 0 acct 192.0.2.1:5000 0405001a788951a2d7fbff5e483cafd55a618a59280600000007",
+        "#> refused 9",
+    ),
+    ("T 0 1", "#> refused 20"),
+    ("T 4611686018427387905 1", "#> refused 20"),
+    ("T 4611686018427387905 0", "#> refused 19"),
+];
+
+// A broker answers each event with its refusal.
+#[test]
+fn what_no_realm_looks_at_wants_no_memory(rt: HostRuntime) {
+    let config = config(&rt, rt.alloc(), TWO_REALMS, &[]);
+    let refusing = Refusing::new(rt.alloc());
+    let mut play = Play::new(&rt, rt.alloc(), &refusing, &config);
+    for (line, refusal) in REFUSED {
+        for event in events(&rt, &refusing, line).iter() {
+            refusing.refuse_nth(1);
+            play.meets_with_memory(&rt, event);
+            assert!(rt; refusing.growths() == 0);
+            refusing.refuse_nth(0);
+        }
+        play.row(&rt, refusal);
+    }
+}

@@ -1,0 +1,97 @@
+-- What stands last in a line or in a place has no separator in it.
+use Rattle.std.proofs.Common.{◌≡◌, ℕ, ◌-◌, ◌^◌, ◌⊎◌, inl, inr, true, false, Bool, cond, eqb, List, [], ◌∷◌, get_or, Option, Some, None, Result, Ok, Err, refl, sym, arith}
+use Rattle.std.proofs.lemmas.Bool.Decides.{nat_tests}
+use Rattle.std.proofs.lemmas.Grind.{common_steps}
+use Rattle.std.proofs.lemmas.List.Splits.{slice_split_none}
+use Rattle.std.proofs.lemmas.Slice.Eq.{bytes_eq-Decides}
+use Rattle.std.specs.List.{AllPass}
+use Rattle.std.specs.Result.{result_ok}
+use Rattle.std.specs.Prelude.{codes}
+use Rattle.hex.specs.Hex.{decode_of, is_hex_digit}
+use Rattle.hex.specs.declared.error.FromHexError.{FromHexError}
+use Rattle.hex.proofs.HexLemmas.{decode_of-ok}
+use Rattle.roam_conf.specs.Texts.{endpoint_in, parts}
+use Rattle.roam_conf.specs.declared.place.Place.{Place}
+use Rattle.roam_conf.specs.declared.endpoint.Endpoint.{Endpoint}
+use Rattle.roam_conf.proofs.TextLemmas.{decimal_part, one_part}
+use Rattle.roam_sim.specs.Script.{index_in, moment_in, place_in, datagram_in, realm_place, realm_place_of, arrival, arrival_of, tick, tick_of}
+
+no_realm : (socket realm : List ℕ) → index_in realm ≡ None → realm_place socket realm ≡ None
+no_realm socket realm is = grind (arith, common_steps)
+
+realm_place_at : (socket realm : List ℕ) (number : Option ℕ) (rest : List (List ℕ)) → index_in realm ≡ number → parts 58 realm ≡ rest → realm_place_of (socket ∷ rest) ≡ realm_place socket realm
+realm_place_at socket realm (Some n) rest is cut = rw (← cut, decimal_part 58 0 (2 ^ 16 - 1) realm n refl is) refl
+realm_place_at socket realm None [] is cut = sym (no_realm socket realm is)
+realm_place_at socket realm None (x ∷ []) is cut = rw (one_part 58 realm x cut) refl
+realm_place_at socket realm None (x ∷ y ∷ more) is cut = sym (no_realm socket realm is)
+
+-- what follows the colon is the index of a realm, or no place is read
+pub realm_place_of-parts : (socket realm : List ℕ) → realm_place_of (socket ∷ parts 58 realm) ≡ realm_place socket realm
+realm_place_of-parts socket realm = realm_place_at socket realm _ _ refl refl
+
+no_shard : (now : Option ℕ) → tick now None ≡ None
+no_shard None = refl
+no_shard (Some x) = refl
+
+tick_of_at : (now shard : List ℕ) (number : Option ℕ) (rest : List (List ℕ)) → index_in shard ≡ number → parts 32 shard ≡ rest → tick_of (now ∷ rest) ≡ tick (moment_in now) number
+tick_of_at now shard (Some n) rest is cut = rw (← cut, decimal_part 32 0 (2 ^ 16 - 1) shard n refl is, is) refl
+tick_of_at now shard None [] is cut = sym (no_shard _)
+tick_of_at now shard None (x ∷ []) is cut = rw (one_part 32 shard x cut, is) refl
+tick_of_at now shard None (x ∷ y ∷ more) is cut = sym (no_shard _)
+
+-- what follows the moment of a tick is the index of a shard, or no tick is read
+pub tick_of-parts : (now shard : List ℕ) → tick_of (now ∷ parts 32 shard) ≡ tick (moment_in now) (index_in shard)
+tick_of-parts now shard = tick_of_at now shard _ _ refl refl
+
+-- a hexadecimal digit is no space
+digit_apart : (octet : ℕ) → is_hex_digit octet ≡ true → eqb octet 32 ≡ false
+digit_apart octet digit = grind (arith, nat_tests)
+
+digits_part : (text octets : List ℕ) → decode_of text ≡ Ok octets → parts 32 text ≡ text ∷ []
+unfolding parts
+digits_part text octets decodes =
+    let digits : AllPass is_hex_digit text = (decode_of-ok text octets decodes).1 in
+    slice_split_none _ text (λ k d within. digit_apart (get_or text k d) (digits k d within))
+
+hyphen_part : parts 32 (codes "-") ≡ codes "-" ∷ []
+unfolding parts
+hyphen_part = refl
+
+result_ok-some : (r : Result (List ℕ) FromHexError) (octets : List ℕ) → result_ok r ≡ Some octets → r ≡ Ok octets
+result_ok-some (Ok x) octets is = cc
+result_ok-some (Err e) octets is = cc
+
+-- a text that passes the test is the hyphen, and the datagram of any other is decoded
+datagram_at : (text octets : List ℕ) (is_hyphen is_sized : Bool) → cond is_hyphen (Some []) (cond is_sized (result_ok (decode_of text)) None) ≡ Some octets → (is_hyphen ≡ true) ⊎ (decode_of text ≡ Ok octets)
+datagram_at text octets true is_sized is = inl refl
+datagram_at text octets false true is = inr (result_ok-some (decode_of text) octets is)
+datagram_at text octets false false is = cc
+
+-- a datagram is one field
+datagram_part : (text octets : List ℕ) → datagram_in text ≡ Some octets → parts 32 text ≡ text ∷ []
+unfolding datagram_in
+datagram_part text octets is =
+    elim (datagram_at text octets _ _ is) [
+      | inl hyphen ↦
+          let same : text ≡ codes "-" = (bytes_eq-Decides text (codes "-")).0 hyphen in
+          rw same hyphen_part
+      | inr decodes ↦ digits_part text octets decodes
+    ]
+
+no_octets : (now : Option ℕ) (at : Option Place) (from : Option Endpoint) → arrival now at from None ≡ None
+no_octets None at from = refl
+no_octets (Some x) None from = refl
+no_octets (Some x) (Some y) None = refl
+no_octets (Some x) (Some y) (Some z) = refl
+
+arrival_of_at : (now at from text : List ℕ) (octets : Option (List ℕ)) (rest : List (List ℕ)) → datagram_in text ≡ octets → parts 32 text ≡ rest → arrival_of (now ∷ at ∷ from ∷ rest) ≡ arrival (moment_in now) (place_in at) (endpoint_in from) octets
+arrival_of_at now at from text (Some octets) rest is cut = rw (← cut, datagram_part text octets is, is) refl
+arrival_of_at now at from text None [] is cut = sym (no_octets _ _ _)
+arrival_of_at now at from text None (x ∷ []) is cut = rw (one_part 32 text x cut, is) refl
+arrival_of_at now at from text None (x ∷ y ∷ more) is cut = sym (no_octets _ _ _)
+
+-- what follows the third field of an arrival is a datagram, or no arrival is read
+pub arrival_of-parts : (now at from text : List ℕ) → arrival_of (now ∷ at ∷ from ∷ parts 32 text) ≡ arrival (moment_in now) (place_in at) (endpoint_in from) (datagram_in text)
+arrival_of-parts now at from text = arrival_of_at now at from text _ _ refl refl
+
+pub ruleset last_fields = (realm_place_of-parts, tick_of-parts, arrival_of-parts)

@@ -1,0 +1,5 @@
+pub mod FieldLemmas
+pub mod PrintingLemmas
+pub mod ScriptLemmas
+pub mod SimulationLemmas
+mod StandardFacts

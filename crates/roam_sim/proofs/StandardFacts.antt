@@ -1,0 +1,35 @@
+-- Lines as the format's description has them.
+use Rattle.std.proofs.Common.{◌≡◌, [], ◌∷◌, Some, Err, refl}
+use Rattle.std.specs.Prelude.{codes}
+use Rattle.std.specs.Fmt.{digits}
+use Rattle.hex.specs.Hex.{decode_pairs, encode_with}
+use Rattle.roam_conf.specs.Texts.{is_decimal, decimal_in, parts, address_in, endpoint_in}
+use Rattle.roam_conf.specs.declared.place.Place.TheVariants as place
+use Rattle.roam_core.specs.Events.{arrives, ticks}
+use Rattle.roam_sim.specs.Script.{states, faulty, place_in, datagram_in, line_states, script_states}
+use Rattle.roam_sim.specs.Lines.{packet_line}
+
+-- a tick of shard 2
+tick_line : line_states (codes "T 1000 2") ≡ states (ticks 1000 2)
+unfolding line_states parts decimal_in is_decimal
+tick_line = refl
+
+-- a datagram of two octets, at the outgoing socket of realm 1
+arrival_line : line_states (codes "A 0 out:1 192.0.2.1:5000 0aFF") ≡ states (arrives 0 (record { at = place.Out 1; from = record { ip = 192 ∷ 0 ∷ 2 ∷ 1 ∷ []; port = 5000 }; octets = 10 ∷ 255 ∷ [] }))
+unfolding line_states parts decimal_in is_decimal place_in address_in endpoint_in datagram_in decode_pairs
+arrival_line = refl
+
+-- a carriage return is part of the last field
+carriage_return : line_states (codes "T 0 0\r") ≡ faulty
+unfolding line_states parts decimal_in is_decimal
+carriage_return = refl
+
+-- lines that are skipped are counted
+third_line : script_states (codes "# late\n\nT 0 00\nT 0 0") ≡ Err 3
+unfolding script_states line_states parts decimal_in is_decimal
+third_line = refl
+
+-- a packet that leaves for realm 0
+printed_packet : packet_line (Some 0) (place.Out 0) (record { ip = 198 ∷ 51 ∷ 100 ∷ 1 ∷ []; port = 1812 }) (1 ∷ 0 ∷ 0 ∷ 61 ∷ []) ≡ codes "0 out:0 198.51.100.1:1812 0100003d\n"
+unfolding digits encode_with
+printed_packet = refl

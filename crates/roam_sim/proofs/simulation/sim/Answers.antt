@@ -1,0 +1,22 @@
+use Rattle.std.proofs.Common.{inl, inr}
+use Rattle.roam_conf.specs.Shown.{shown}
+use Rattle.roam_sim.specs.Simulation.{IsConfiguration}
+use Rattle.roam_sim.proofs.SimulationLemmas.{simulates}
+use Rattle.roam_sim.proofs.simulation.sim.Goals as goal
+
+pub returns-clause-ok : goal.returns-clause-ok
+returns-clause-ok g c =
+    let known = g.W.Write.contents in
+    let read : IsConfiguration c.args.configuration.now (shown c.in_ok-config.config) =
+    record { stated = c.in_ok-config.ensures.ok; faultless = c.in_ok-config.ensures.faultless } in
+    simulates c.simulate.result c.args.configuration.now c.args.script.now (shown c.in_ok-config.config)
+    (known c.args.writer.now) (known c.simulate.new.writer) read c.simulate.ensures.ok
+
+pub returns-clause-memory : goal.returns-clause-memory
+returns-clause-memory g c = λ is.
+    let read : IsConfiguration c.args.configuration.now (shown c.in_ok-config.config) =
+    record { stated = c.in_ok-config.ensures.ok; faultless = c.in_ok-config.ensures.faultless } in
+    elim (c.simulate.ensures.memory is) [
+      | inl same ↦ inl same
+      | inr part ↦ inr (record { config = shown c.in_ok-config.config; read = read; simulated = part })
+    ]

@@ -1,0 +1,5 @@
+pub mod Faults
+pub mod Lines
+pub mod Script
+pub mod Shown
+pub mod Simulation

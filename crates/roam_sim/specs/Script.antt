@@ -1,0 +1,105 @@
+-- What a script states: its events in order, or the number of its first faulty line. Ours.
+use Rattle.std.specs.Prelude.{ℕ, ◌+◌, ◌-◌, ◌^◌, ◌==◌, ◌&&◌, ◌||◌, nat_lt, nat_le, if◌then◌else◌, List, [], ◌∷◌, length, slice_index, codes, Option, Some, None, option_map, Result, Ok, Err}
+use Rattle.std.specs.Result.{result_ok}
+use Rattle.std.specs.Str.{bytes_eq}
+use Rattle.hex.specs.Hex.{decode_of}
+use Rattle.roam_conf.specs.Texts.{decimal_in, endpoint_in, parts}
+use Rattle.roam_conf.specs.declared.endpoint.Endpoint.{Endpoint}
+use Rattle.roam_conf.specs.declared.place.Place.{Place}
+use Rattle.roam_conf.specs.declared.place.Place.TheVariants as place
+use Rattle.roam_core.specs.Events.{PlainEvent, arrives, ticks}
+
+-- what a line is: without meaning, an event, or faulty
+pub data LineMeaning : Type 0 where
+  skipped : LineMeaning
+  states : PlainEvent → LineMeaning
+  faulty : LineMeaning
+
+-- a moment in milliseconds, below 2 ^ 64; the index of a shard or of a realm, below 2 ^ 16
+abbrev pub moment_in : List ℕ → Option ℕ
+moment_in text = decimal_in 0 (2 ^ 64 - 1) text
+
+abbrev pub index_in : List ℕ → Option ℕ
+index_in text = decimal_in 0 (2 ^ 16 - 1) text
+
+-- a socket of a realm: which of the two, and the realm's index
+abbrev pub realm_place : List ℕ → List ℕ → Option Place
+realm_place socket realm =
+    if bytes_eq socket (codes "out") then option_map (λ r. place.Out r) (index_in realm)
+    else if bytes_eq socket (codes "reverse") then option_map (λ r. place.Reverse r) (index_in realm)
+    else None
+
+abbrev pub realm_place_of : List (List ℕ) → Option Place
+realm_place_of (socket ∷ realm ∷ []) = realm_place socket realm
+realm_place_of _ = None
+
+-- one of the broker's sockets; a colon (58) stands before a realm's index
+unfoldable pub place_in : List ℕ → Option Place
+place_in text =
+    if bytes_eq text (codes "auth") then Some place.Auth
+    else if bytes_eq text (codes "acct") then Some place.Acct
+    else realm_place_of (parts 58 text)
+
+-- the octets of a datagram: a hyphen for none, or else the hexadecimal digits of 1 to 65535 of them
+unfoldable pub datagram_in : List ℕ → Option (List ℕ)
+datagram_in text =
+    if bytes_eq text (codes "-") then Some []
+    else if nat_lt 0 (length text) && nat_le (length text) 131070 then result_ok (decode_of text)
+    else None
+
+-- an arrival, if all that it consists of is there
+abbrev pub arrival : Option ℕ → Option Place → Option Endpoint → Option (List ℕ) → Option PlainEvent
+arrival (Some now) (Some at) (Some from) (Some octets) =
+    Some (arrives now (record { at = at; from = from; octets = octets }))
+arrival _ _ _ _ = None
+
+-- what follows the letter of an arrival: `now place ip:port hex`
+abbrev pub arrival_of : List (List ℕ) → Option PlainEvent
+arrival_of (now ∷ at ∷ from ∷ octets ∷ []) =
+    arrival (moment_in now) (place_in at) (endpoint_in from) (datagram_in octets)
+arrival_of _ = None
+
+-- a tick, if both its numbers are there
+abbrev pub tick : Option ℕ → Option ℕ → Option PlainEvent
+tick (Some now) (Some shard) = Some (ticks now shard)
+tick _ _ = None
+
+-- what follows the letter of a tick: `now shard`
+abbrev pub tick_of : List (List ℕ) → Option PlainEvent
+tick_of (now ∷ shard ∷ []) = tick (moment_in now) (index_in shard)
+tick_of _ = None
+
+-- the event that the fields of a line state
+abbrev pub event_of : List (List ℕ) → Option PlainEvent
+event_of (letter ∷ fields) =
+    if bytes_eq letter (codes "A") then arrival_of fields
+    else if bytes_eq letter (codes "T") then tick_of fields
+    else None
+event_of [] = None
+
+abbrev pub meaning_of : Option PlainEvent → LineMeaning
+meaning_of (Some event) = states event
+meaning_of None = faulty
+
+-- a line without its line feed: skipped where it is empty or begins with a number sign (35), and else
+-- fields that are parted by one space (32)
+unfoldable pub line_states : List ℕ → LineMeaning
+line_states line =
+    if length line == 0 || slice_index line 0 == 35 then skipped
+    else meaning_of (event_of (parts 32 line))
+
+-- the line of this number, before the lines that follow it
+abbrev pub line_before : LineMeaning → ℕ → Result (List PlainEvent) ℕ → Result (List PlainEvent) ℕ
+line_before skipped number further = further
+line_before (states event) number (Ok events) = Ok (event ∷ events)
+line_before (states event) number (Err line) = Err line
+line_before faulty number further = Err number
+
+-- the events of the lines, the first of which has this number, or the number of the first faulty line
+abbrev pub lines_state : ℕ → List (List ℕ) → Result (List PlainEvent) ℕ
+lines_state number [] = Ok []
+lines_state number (line ∷ lines) = line_before (line_states line) number (lines_state (number + 1) lines)
+
+-- a script: its lines are the parts between line feeds (10), counted from 1
+unfoldable pub script_states : List ℕ → Result (List PlainEvent) ℕ
+script_states text = lines_state 1 (parts 10 text)

@@ -1,0 +1,51 @@
+-- What a simulation writes: the lines of the packets that a fresh broker sends for a script's events.
+-- Ours.
+use Rattle.std.specs.Prelude.{◌≡◌, ◌≢◌, ℕ, List, [], Option, Ok}
+use Rattle.std.specs.Io.KnownBytes.{Appends}
+use Rattle.roam_conf.specs.Config.{ConfigView}
+use Rattle.roam_conf.specs.Faults.{States, NoneHolds, every_fault}
+use Rattle.roam_route.specs.Admission.{PlainOut}
+use Rattle.roam_core.specs.Answers.{answers_to}
+use Rattle.roam_core.specs.BrokerView.{fresh}
+use Rattle.roam_core.specs.Events.{PlainEvent, kept}
+use Rattle.roam_sim.specs.Lines.{lines_of}
+use Rattle.roam_sim.specs.Script.{script_states}
+
+-- the packets that a broker sends for a list of events, where each realm begins fresh
+abbrev pub packets_sent : ConfigView → List PlainEvent → List PlainOut
+packets_sent config events = (answers_to config (fresh config) events).packets
+
+-- the script states a list of events, and the lines of the packets for them were written
+pub record IsSimulated (config : ConfigView) (script : List ℕ) (old new : Option (List ℕ)) : Type 0 where
+  pub events : List PlainEvent
+  pub stated : script_states script ≡ Ok events
+  pub written : Appends old new (lines_of (packets_sent config events))
+
+-- some of its events were lost, and the lines of the packets for the others were written
+pub record IsSimulatedInPart (config : ConfigView) (script : List ℕ) (old new : Option (List ℕ)) : Type 0 where
+  pub events : List PlainEvent
+  pub lost : List ℕ
+  pub stated : script_states script ≡ Ok events
+  pub some_lost : lost ≢ []
+  pub written : Appends old new (lines_of (packets_sent config (kept lost events)))
+
+-- the text states the configuration, and none of the faults of a configuration holds in it
+pub record IsConfiguration (text : List ℕ) (config : ConfigView) : Type 0 where
+  pub stated : States text config
+  pub faultless : NoneHolds text every_fault
+
+-- the text is that of some configuration
+abbrev pub IsAccepted : List ℕ → Type 0
+IsAccepted text = (config : ConfigView) × IsConfiguration text config
+
+-- both texts are read, and the lines are written
+pub record Simulates (configuration script : List ℕ) (old new : Option (List ℕ)) : Type 0 where
+  pub config : ConfigView
+  pub read : IsConfiguration configuration config
+  pub simulated : IsSimulated config script old new
+
+-- both texts are read, and the lines are written of all events but those that were lost
+pub record SimulatesInPart (configuration script : List ℕ) (old new : Option (List ℕ)) : Type 0 where
+  pub config : ConfigView
+  pub read : IsConfiguration configuration config
+  pub simulated : IsSimulatedInPart config script old new

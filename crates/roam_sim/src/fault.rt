@@ -1,0 +1,77 @@
+//! Why a simulation ends early.
+
+use crate::script::ScriptFault;
+use roam_conf::ConfFault;
+use roam_wire::NoMemory;
+use std::io;
+use thiserror::Error;
+
+/// Why a simulation ends early. Its text is what is printed of it.
+///
+/// The configuration is judged before the script, and both before anything is written.
+#[derive(Clone, Copy, Debug, PartialEq, Eq, Error)]
+pub enum SimFault {
+    /// The first fault of the configuration's text. Never `ConfFault::Memory`.
+    #[error("{0}")]
+    Config(ConfFault),
+    /// The script's first faulty line. Lines are counted from 1, those that are skipped too.
+    #[error("line {0}")]
+    Line(u64),
+    /// A write was refused; what was written before it stands.
+    #[error("write failed")]
+    Write,
+    /// Want of memory: nothing was written; or some events were lost, and the lines of the packets that
+    /// the others sent were written.
+    #[error("out of memory")]
+    Memory,
+}
+
+impl From<NoMemory> for SimFault {
+    ghost use Rattle.std.specs.Prelude.{◌≡◌};
+    ghost use Rattle.roam_sim.specs.declared.fault.SimFault.TheVariants.{Memory};
+
+    ghost from_gives = { λ _ given. given ≡ Memory };
+
+    fn from(_: NoMemory) -> SimFault {
+        SimFault::Memory
+    }
+}
+
+impl From<ConfFault> for SimFault {
+    ghost use Rattle.std.specs.Prelude.{◌≡◌};
+    ghost use Rattle.roam_sim.specs.Faults.{of_configuration};
+
+    ghost from_gives = { λ fault given. given ≡ of_configuration fault };
+
+    fn from(fault: ConfFault) -> SimFault {
+        match fault {
+            ConfFault::Memory => SimFault::Memory,
+            _ => SimFault::Config(fault),
+        }
+    }
+}
+
+impl From<ScriptFault> for SimFault {
+    ghost use Rattle.std.specs.Prelude.{◌≡◌};
+    ghost use Rattle.roam_sim.specs.Faults.{of_script};
+
+    ghost from_gives = { λ fault given. given ≡ of_script fault };
+
+    fn from(fault: ScriptFault) -> SimFault {
+        match fault {
+            ScriptFault::Line(number) => SimFault::Line(number),
+            ScriptFault::Memory => SimFault::Memory,
+        }
+    }
+}
+
+impl From<io::Error> for SimFault {
+    ghost use Rattle.std.specs.Prelude.{◌≡◌};
+    ghost use Rattle.roam_sim.specs.declared.fault.SimFault.TheVariants.{Write};
+
+    ghost from_gives = { λ _ given. given ≡ Write };
+
+    fn from(_: io::Error) -> SimFault {
+        SimFault::Write
+    }
+}

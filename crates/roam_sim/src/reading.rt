@@ -1,0 +1,223 @@
+//! Reading a script: an event a line.
+
+ghost use Rattle.std.specs.Prelude.{◌≡◌, Ok, Err, IfOk, MatchOption, None, ℕ, [], ◌∷◌, option_map};
+ghost use Rattle.std.specs.Result.{result_ok};
+ghost use Rattle.hex.specs.Hex.{decode_of};
+ghost use Rattle.roam_conf.specs.Texts.{endpoint_in, parts};
+ghost use Rattle.roam_sim.specs.Script as spec;
+ghost use Rattle.roam_core.specs.Shown.{shown_event, shown_events};
+ghost use Rattle.roam_sim.specs.Shown.{shown_line};
+
+use crate::script::{Line, ScriptFault};
+use hex::FromHexError;
+use roam_conf::{Endpoint, Place, decimal};
+use roam_core::Event;
+use roam_route::Datagram;
+use roam_wire::{NoMemory, Octets};
+use std::alloc::Allocator;
+
+/// The most hexadecimal digits of a datagram: two for each of 65,535 octets.
+const MOST_DIGITS: usize = 131_070;
+
+/// What stands before the first space, and after it.
+fn cut_at_space(text: &str) -> Option<(&str, &str)>
+    ensures { MatchOption result (parts 32 text.now ≡ text.now ∷ [])
+        (λ cut. parts 32 text.now ≡ cut.0.now ∷ parts 32 cut.1.now) }
+{
+    text.split_once(' ')
+}
+
+/// What stands before the first colon, and after it.
+fn cut_at_colon(text: &str) -> Option<(&str, &str)>
+    ensures { MatchOption result (parts 58 text.now ≡ text.now ∷ [])
+        (λ cut. parts 58 text.now ≡ cut.0.now ∷ parts 58 cut.1.now) }
+{
+    text.split_once(':')
+}
+
+/// A moment in milliseconds.
+fn moment(text: &str) -> Option<u64>
+    ensures { result ≡ spec.moment_in text.now }
+{
+    decimal(text, 0, u64::MAX)
+}
+
+/// The index of a shard or of a realm.
+fn index(text: &str) -> Option<u16>
+    ensures { result ≡ spec.index_in text.now }
+{
+    match decimal(text, 0, 65535) {
+        Some(number) => Some(number as u16),
+        None => None,
+    }
+}
+
+/// A socket of a realm, by its name and the realm's index.
+fn realm_place(socket: &str, realm: &str) -> Option<Place>
+    ensures { result ≡ spec.realm_place socket.now realm.now }
+{
+    if socket == "out" {
+        Some(Place::Out(index(realm)?))
+    } else if socket == "reverse" {
+        Some(Place::Reverse(index(realm)?))
+    } else {
+        None
+    }
+}
+
+/// One of the broker's sockets.
+#[tactic(auto, using(crate::proofs::FieldLemmas::last_fields), unfolding(crate::specs::Script::place_in))]
+fn place(text: &str) -> Option<Place>
+    ensures { result ≡ spec.place_in text.now }
+{
+    if text == "auth" {
+        return Some(Place::Auth);
+    }
+    if text == "acct" {
+        return Some(Place::Acct);
+    }
+    let (socket, realm) = cut_at_colon(text)?;
+    realm_place(socket, realm)
+}
+
+/// The octets that hexadecimal digits stand for, if they are such digits and no others.
+fn decoded<A: Allocator>(alloc: A, digits: &str) -> Result<Option<Octets<A>>, NoMemory>
+    ensures { IfOk result (λ o. o ≡ result_ok (decode_of digits.now)) }
+{
+    match hex::decode(alloc, digits) {
+        Ok(octets) => Ok(Some(Octets::from_vec(octets))),
+        Err(FromHexError::OutOfMemory) => Err(NoMemory),
+        Err(_) => Ok(None),
+    }
+}
+
+/// The octets of a datagram.
+#[tactic(auto, unfolding(crate::specs::Script::datagram_in))]
+fn datagram<A: Allocator>(alloc: A, text: &str) -> Result<Option<Octets<A>>, NoMemory>
+    ensures { IfOk result (λ o. o ≡ spec.datagram_in text.now) }
+{
+    if text == "-" {
+        return Ok(Some(Octets::from_vec(Vec::new(alloc))));
+    }
+    if text.is_empty() || text.len() > MOST_DIGITS {
+        return Ok(None);
+    }
+    decoded(alloc, text)
+}
+
+/// What follows the letter of a tick.
+#[tactic(auto, using(crate::proofs::FieldLemmas::last_fields))]
+fn tick<A: Allocator>(fields: &str) -> Option<Event<A>>
+    ensures { option_map shown_event result ≡ spec.tick_of (parts 32 fields.now) }
+{
+    let (now, shard) = cut_at_space(fields)?;
+    match (moment(now), index(shard)) {
+        (Some(now), Some(shard)) => Some(Event::Tick { now, shard }),
+        _ => None,
+    }
+}
+
+/// An arrival, by what stands in its four fields.
+fn arrival<A: Allocator>(
+    alloc: A,
+    now: &str,
+    at: &str,
+    from: &str,
+    octets: &str,
+) -> Result<Option<Event<A>>, NoMemory>
+    ensures { IfOk result (λ e. option_map shown_event e ≡ spec.arrival (spec.moment_in now.now)
+        (spec.place_in at.now) (endpoint_in from.now) (spec.datagram_in octets.now)) }
+{
+    match (moment(now), place(at), Endpoint::from_text(from)) {
+        (Some(now), Some(at), Some(from)) => match datagram(alloc, octets)? {
+            Some(octets) => {
+                let datagram = Datagram { at, from, octets };
+                Ok(Some(Event::Arrive { now, datagram }))
+            }
+            None => Ok(None),
+        },
+        _ => Ok(None),
+    }
+}
+
+/// The four fields that follow the letter of an arrival; the last is all that follows the third.
+fn four_fields(fields: &str) -> Option<(&str, &str, &str, &str)>
+    ensures { MatchOption result (spec.arrival_of (parts 32 fields.now) ≡ None)
+        (λ f. parts 32 fields.now ≡ f.0.now ∷ f.1.now ∷ f.2.now ∷ parts 32 f.3.now) }
+{
+    let (now, rest) = cut_at_space(fields)?;
+    let (at, rest) = cut_at_space(rest)?;
+    let (from, octets) = cut_at_space(rest)?;
+    Some((now, at, from, octets))
+}
+
+/// What follows the letter of an arrival.
+#[tactic(auto, using(crate::proofs::FieldLemmas::last_fields))]
+fn arrival_of<A: Allocator>(alloc: A, fields: &str) -> Result<Option<Event<A>>, NoMemory>
+    ensures { IfOk result (λ e. option_map shown_event e ≡ spec.arrival_of (parts 32 fields.now)) }
+{
+    match four_fields(fields) {
+        Some((now, at, from, octets)) => arrival(alloc, now, at, from, octets),
+        None => Ok(None),
+    }
+}
+
+/// The event of a line, if it states one.
+fn event<A: Allocator>(alloc: A, line: &str) -> Result<Option<Event<A>>, NoMemory>
+    ensures { IfOk result (λ e. option_map shown_event e ≡ spec.event_of (parts 32 line.now)) }
+{
+    match cut_at_space(line) {
+        Some((letter, fields)) => {
+            if letter == "A" {
+                arrival_of(alloc, fields)
+            } else if letter == "T" {
+                Ok(tick(fields))
+            } else {
+                Ok(None)
+            }
+        }
+        None => Ok(None),
+    }
+}
+
+/// What a line is, without its line feed.
+#[tactic(auto, unfolding(crate::specs::Script::line_states))]
+fn read_line<A: Allocator>(alloc: A, line: &str) -> Result<Line<A>, NoMemory>
+    ensures { IfOk result (λ l. shown_line l ≡ spec.line_states line.now) }
+{
+    if line.is_empty() || line.as_bytes()[0] == b'#' {
+        return Ok(Line::Skipped);
+    }
+    match event(alloc, line)? {
+        Some(event) => Ok(Line::Event(event)),
+        None => Ok(Line::Faulty),
+    }
+}
+
+/// The events that a script states, in its order.
+///
+/// Each line is an event: `A now place ip:port hex` is a datagram that arrives, `T now shard` a tick.
+/// Lines that are empty or begin with `#` are skipped, and the last line may lack its line feed.
+///
+/// # Errors
+///
+/// The number of the first faulty line, or want of memory.
+pub fn read_script<A: Allocator + Copy>(
+    alloc: A,
+    text: &str,
+) -> Result<Vec<Event<A>, A>, ScriptFault>
+    ensures ok { IfOk result (λ events. spec.script_states text.now ≡ Ok (shown_events events.items)) }
+    ensures line { (n : ℕ) → result ≡ Err (ScriptFault.Line n) → spec.script_states text.now ≡ Err n }
+{
+    let mut events = Vec::new(alloc);
+    let mut number = 0;
+    for line in text.split('\n') {
+        number += 1;
+        match read_line(alloc, line)? {
+            Line::Skipped => {}
+            Line::Event(event) => events.push(event).map_err(|_| ScriptFault::Memory)?,
+            Line::Faulty => return Err(ScriptFault::Line(number)),
+        }
+    }
+    Ok(events)
+}
