@@ -2,3 +2,4 @@ pub mod ForwardedLemmas
 pub mod BufferLemmas
 pub mod AccessLemmas
 pub mod LawLemmas
+pub mod ArrangedLemmas

@@ -1,2 +1,3 @@
 pub mod Forwarded
 pub mod ForwardedLaws
+pub mod Arranged

@@ -5,10 +5,12 @@
 //! and the ticket are arguments. A request's octets are copied once, and rewritten where they then lie.
 #![tactic(auto)]
 
+mod access;
 mod forwardable;
 mod forwarding;
 mod laws;
 mod length;
+mod places;
 
 pub use forwardable::can_be_forwarded;
 pub use forwarding::{forward, forward_reserved, rewrite};
