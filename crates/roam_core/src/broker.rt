@@ -8,8 +8,9 @@ ghost use Rattle.roam_route.specs.Shown.{shown_arrival, shown_job, shown_out};
 ghost use Rattle.roam_book.specs.BookView.{settings_of};
 ghost use Rattle.roam_book.specs.OneRealm.{event_of, on_event};
 ghost use Rattle.roam_book.specs.Turn.{Gives, packets_of, shown_outs, state_after};
-ghost use Rattle.roam_core.specs.Answers.{GivesAnswer, state_at, to_arrival, to_tick};
-ghost use Rattle.roam_core.specs.BrokerView.{fresh};
+ghost use Rattle.roam_core.specs.ManyRealms.{state_at, to_arrival, to_tick};
+ghost use Rattle.roam_core.specs.Steps.{GivesAnswer};
+ghost use Rattle.roam_core.specs.Openings.{fresh};
 ghost use Rattle.roam_core.specs.ShardRooms.{AllFit, Fits, most_of, most_of_all, tick_in, turn_in};
 
 use crate::event::Event;

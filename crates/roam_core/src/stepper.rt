@@ -3,7 +3,8 @@
 ghost use Rattle.std.specs.Prelude.{◌≡◌, ◌≤◌, List, length};
 ghost use Rattle.roam_conf.specs.Config.{ConfigView};
 ghost use Rattle.roam_book.specs.RealmState.{RealmState};
-ghost use Rattle.roam_core.specs.Answers.{GivesAnswer, answer_to};
+ghost use Rattle.roam_core.specs.ManyRealms.{answer_to};
+ghost use Rattle.roam_core.specs.Steps.{GivesAnswer};
 ghost use Rattle.roam_core.specs.Shown.{shown_event};
 
 use crate::event::Event;
