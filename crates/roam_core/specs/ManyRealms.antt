@@ -1,19 +1,16 @@
--- What the broker answers an event with, and how its realms then stand (ours): one state for each
--- realm, in the order of their indexes.
-use Rattle.std.specs.Prelude.{◌≡◌, ℕ, ◌+◌, ◌^◌, nat_lt, List, [], ◌∷◌, ◌++◌, slice_index_or, slice_set, take, Option, Some, None, Result, Ok, Err, if◌then◌else◌}
-use Rattle.roam_wire.specs.declared.refusal.NoMemory.{NoMemory}
+-- The written broker of many realms (ours): what it answers an event with, and how its realms then
+-- stand: one state for each realm, in the order of their indexes.
+use Rattle.std.specs.Prelude.{ℕ, ◌+◌, ◌^◌, nat_lt, List, [], ◌∷◌, ◌++◌, slice_index_or, slice_set, Option, Some, None, if◌then◌else◌}
 use Rattle.roam_wire.specs.declared.refusal.Refusal.{Refusal}
 use Rattle.roam_wire.specs.declared.refusal.Refusal.TheVariants as refusal
 use Rattle.roam_conf.specs.Config.{ConfigView}
 use Rattle.roam_route.specs.Admission.{PlainOut, Admission, refused, rejected, admitted, admission_by, is_served}
 use Rattle.roam_book.specs.RealmConfig.{realm_config}
-use Rattle.roam_book.specs.RealmState.{RealmState, opening}
-use Rattle.roam_book.specs.Turn.{Turn, refuses, sends, packets_of, state_after, shown_outs}
+use Rattle.roam_book.specs.RealmState.{RealmState}
+use Rattle.roam_book.specs.Turn.{Turn, refuses, sends, packets_of, state_after}
 use Rattle.roam_book.specs.OnTick.{on_tick}
 use Rattle.roam_book.specs.OneRealm.{event_of, on_event}
-use Rattle.roam_book.specs.declared.answer.Answer.{Answer}
-use Rattle.roam_book.specs.declared.start.Start.{Start}
-use Rattle.roam_core.specs.Events.{PlainEvent, arrives, ticks, is_in_shard, kept}
+use Rattle.roam_core.specs.Events.{PlainEvent, arrives, ticks, is_in_shard}
 
 -- a refusal sends nothing and leaves all states as they were
 pub data BrokerTurn : Type 0 where
@@ -21,9 +18,9 @@ pub data BrokerTurn : Type 0 where
   sends_all : List PlainOut → List RealmState → BrokerTurn
 
 -- what is sent, why nothing is, and the states that follow
-abbrev pub packets_sent : BrokerTurn → List PlainOut
-packets_sent (refuses_it why) = []
-packets_sent (sends_all packets states) = packets
+abbrev pub packets_in_turn : BrokerTurn → List PlainOut
+packets_in_turn (refuses_it why) = []
+packets_in_turn (sends_all packets states) = packets
 
 abbrev pub refusal_given : BrokerTurn → Option Refusal
 refusal_given (refuses_it why) = Some why
@@ -99,31 +96,4 @@ answers_to config states [] = record { packets = []; states = states }
 answers_to config states (e ∷ es) =
     let turn = answer_to config states e in
     let others = answers_to config (states_after states turn) es in
-    record { packets = packets_sent turn ++ others.packets; states = others.states }
-
--- the realms stand after some of the events: after the first `count` of the list, without those at the
--- lost places, which changed no state. What a run leaves whose outcome couldn't grow
-pub record StandsAfterSome (config : ConfigView) (old new : List RealmState) (events : List PlainEvent) : Type 0 where
-  pub count : ℕ
-  pub lost : List ℕ
-  pub stands : new ≡ (answers_to config old (kept lost (take count events))).states
-
--- how the realms begin, from the realm of this index on: each at its start
-abbrev pub openings_from : ConfigView → ℕ → List Start → List RealmState
-openings_from config realm [] = []
-openings_from config realm (start ∷ starts) =
-    opening (realm_config config realm) start ∷ openings_from config (realm + 1) starts
-
-abbrev pub openings : ConfigView → List Start → List RealmState
-openings config starts = openings_from config 0 starts
-
--- an answer and the states after it are those of a turn
-pub record IsAnswer {A : Type 0} (answer : Answer A) (old new : List RealmState) (turn : BrokerTurn) : Type 0 where
-  pub packets : shown_outs answer.outs.items ≡ packets_sent turn
-  pub refusal : answer.refusal ≡ refusal_given turn
-  pub states : new ≡ states_after old turn
-
--- what a call that may want memory gives: the turn, or nothing, and the states are as they were
-abbrev pub GivesAnswer : {A : Type 0} → Result (Answer A) NoMemory → List RealmState → List RealmState → BrokerTurn → Type 0
-GivesAnswer (Ok answer) old new turn = IsAnswer answer old new turn
-GivesAnswer (Err e) old new turn = new ≡ old
+    record { packets = packets_in_turn turn ++ others.packets; states = others.states }
