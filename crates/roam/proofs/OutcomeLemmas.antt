@@ -3,7 +3,7 @@ use Rattle.std.proofs.Common.{◌≡◌, ℕ, List, Option, Result, Ok, Err, OnO
 use Rattle.std.proofs.KnownBytes.{Appends-kept}
 use Rattle.std.specs.Io.KnownBytes.{Appends, Keeps}
 use Rattle.roam_conf.specs.Config.{ConfigView}
-use Rattle.roam_conf.specs.Faults.{States, NoneHolds, every_fault}
+use Rattle.roam_conf_reader.specs.Faults.{States, NoneHolds, every_fault}
 use Rattle.roam_sim.specs.Simulation.{IsAccepted, Simulates}
 use Rattle.roam.specs.declared.text_file.TextFile.{TextFile}
 use Rattle.roam.specs.declared.report.Fault.{Fault}

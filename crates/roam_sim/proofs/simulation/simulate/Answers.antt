@@ -1,6 +1,7 @@
 use Rattle.std.proofs.Common.{◌≡◌, length, vec_len, inr, arith}
+use Rattle.std.proofs.lemmas.List.{length-map}
 use Rattle.roam_conf.specs.Shown.{shown}
-use Rattle.roam_core.specs.Shown.{shown_events}
+use Rattle.roam_core.specs.Shown.{shown_event, shown_events}
 use Rattle.roam_book.specs.Turn.{shown_outs}
 use Rattle.roam_sim.proofs.SimulationLemmas.{is_simulated, is_simulated_in_part, none_lost, some_lost}
 use Rattle.roam_sim.proofs.simulation.simulate.Goals as goal
@@ -29,6 +30,8 @@ returns-clause-memory g c = λ _.
     let written = rw c.as_slice-2.ensures.value at c.in_ok-print_packets.ensures in
     let len : vec_len outcome.lost ≡ length outcome.lost.items = omega (arith, outcome.lost.ok.0) in
     let some = some_lost outcome.lost.items (vec_len outcome.lost) c.is_empty.result len c.is_empty.ensures c.if-is_empty.false in
+    let count = length-map c.in_ok-events.events.items shown_event in
+    let places = rw (c.as_slice.ensures.value, ← count) at c.in_ok-outcome.ensures.lost in
     inr (is_simulated_in_part (shown c.args.config.now) c.in_ok-broker.broker.config c.in_ok-broker.broker.states c.args.script.now events
     outcome.lost.items (shown_outs outcome.outs.items) (known c.args.writer.now) (known c.print_packets.new.writer)
-    c.in_ok-events.ensures.ok c.in_ok-broker.ensures.config c.in_ok-broker.ensures.states sent some written)
+    c.in_ok-events.ensures.ok c.in_ok-broker.ensures.config c.in_ok-broker.ensures.states sent some places written)
