@@ -84,13 +84,3 @@ packets-next c start es e =
     let turn = on_event c (state_then c start es) e in
     packets-append c (opening c start) es (e ∷ [])
     ∙ ap (λ (ps : List PlainOut). one_realm_packets c start es ++ ps) (append-nil (packets_of turn))
-
--- what was sent stays sent
-pub sent-later :
-    (c : RealmConfig) (start : Start) (es fs : List RealmEvent) (out : PlainOut)
-    → IsIn out (one_realm_packets c start es) → IsIn out (one_realm_packets c start (es ++ fs))
-sent-later c start es fs out h =
-    let more = one_realm_run c (state_then c start es) fs in
-    let both = packets-append c (opening c start) es fs in
-    subst (λ (ps : List PlainOut). IsIn out ps) (sym both)
-    (in-left out (one_realm_packets c start es) more.packets h)
