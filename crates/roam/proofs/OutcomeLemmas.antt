@@ -3,7 +3,7 @@ use Rattle.std.proofs.Common.{◌≡◌, ◌⊎◌, inl, inr, ℕ, List, Option,
 use Rattle.std.proofs.KnownBytes.{Appends-kept}
 use Rattle.std.specs.Io.KnownBytes.{Appends, Keeps}
 use Rattle.roam_conf.specs.Config.{ConfigView}
-use Rattle.roam_conf.specs.Faults.{States, NoneHolds, every_fault}
+use Rattle.roam_conf_reader.specs.Faults.{States, NoneHolds, every_fault}
 use Rattle.std.specs.Prelude.{IsErrOf, IsOk}
 use Rattle.roam_sim.specs.Script.{script_states}
 use Rattle.roam_sim.specs.Simulation.{IsAccepted, Simulates}

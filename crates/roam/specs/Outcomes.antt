@@ -4,8 +4,8 @@ use Rattle.std.specs.Prelude.{◌≡◌, ◌⊎◌, ℕ, List, ◌++◌, Option,
 use Rattle.std.specs.Fmt.{decimal}
 use Rattle.std.specs.Io.KnownBytes.{Keeps, Appends}
 use Rattle.roam_conf.specs.Config.{ConfigView}
-use Rattle.roam_conf.specs.declared.fault.ConfFault.{ConfFault}
-use Rattle.roam_conf.specs.Faults.{IsFirstFault}
+use Rattle.roam_conf_reader.specs.declared.fault.ConfFault.{ConfFault}
+use Rattle.roam_conf_reader.specs.Faults.{IsFirstFault}
 use Rattle.roam_sim.specs.Script.{script_states}
 use Rattle.roam_sim.specs.Simulation.{IsConfiguration, IsAccepted, Simulates, SimulatesInPart}
 use Rattle.roam.specs.CommandLine.{Asked, to_check, to_simulate, words_of, files_of, configuration_of, AsksNothing}

@@ -1,6 +1,6 @@
 -- The returned packet: its attributes, its size, its Message-Authenticator.
-use Rattle.std.proofs.Common.{take, drop, ◌≡◌, ◌≢◌, ℕ, ◌+◌, ◌<◌, ◌≤◌, Bool, true, false, inl, inr, ◌⊎◌, List, [], ◌∷◌, ◌++◌, length, map, filter, Option, Some, None, refl, sym, ap, subst, ◌∙◌, arith, length-append}
-use Rattle.std.specs.Prelude.{not, IsSomeAnd, if◌then◌else◌}
+use Rattle.std.proofs.Common.{take, drop, ◌≡◌, ◌≢◌, ℕ, ◌+◌, ◌<◌, ◌≤◌, Bool, true, false, inl, inr, List, [], ◌∷◌, ◌++◌, length, filter, Option, Some, refl, sym, ap, subst, ◌∙◌, arith}
+use Rattle.std.specs.Prelude.{IsSomeAnd, if◌then◌else◌}
 use Rattle.std.specs.List.{AllByRecursion}
 use Rattle.std.proofs.lemmas.Bool.{cases_Bool, eqb-true, ne_eqb}
 use Rattle.std.proofs.lemmas.List.Sums.{sum_by-cons}
@@ -13,7 +13,7 @@ use Rattle.roam_wire.specs.Attributes.{has_kind, count_of, first_value, only_kin
 use Rattle.roam_wire.specs.declared.attribute_type.TheConstants.{PROXY_STATE}
 use Rattle.roam_wire.specs.declared.attribute_type.TheConstants.{MESSAGE_AUTHENTICATOR}
 use Rattle.roam_auth.specs.MessageAuthenticator.{HasAtMostOneMessageAuthenticator, with_message_authenticator}
-use Rattle.roam_auth.proofs.ValueLemmas.{count_of-yes, count_of-no}
+use Rattle.roam_auth.proofs.ValueLemmas.{count_of-no}
 use Rattle.roam_auth.proofs.SealingLemmas.{count_of-append, length-attributes_text-append}
 use Rattle.roam_back.specs.ReplyCheck.{is_access_reply}
 use Rattle.roam_back.specs.Returned.{Returning, proxy_states, carried_attributes, unsealed, returned, returned_length}

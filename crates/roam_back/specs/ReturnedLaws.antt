@@ -1,6 +1,6 @@
 -- What holds of the returned packet, whatever the reply's code (RFC 2865, section 2.3). Each law is a
 -- clause of a function of src/laws.rt.
-use Rattle.std.specs.Prelude.{◌≡◌, ◌≤◌, List, [], ◌∷◌, IsTrue}
+use Rattle.std.specs.Prelude.{◌≡◌, ◌≤◌, [], ◌∷◌, IsTrue}
 use Rattle.roam_wire.specs.Packet.{Packet, IsPacket, packet_length, packet_text}
 use Rattle.roam_wire.specs.Reading.{ReadsAs}
 use Rattle.roam_auth.specs.Authenticators.{IsSignedReply}

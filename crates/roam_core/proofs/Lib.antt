@@ -4,11 +4,11 @@ pub mod SentLemmas
 pub mod AdmissionLemmas
 pub mod TickLemmas
 pub mod EventLemmas
+pub mod OriginRunLemmas
 pub mod IsolationLemmas
 pub mod RunLemmas
 pub mod BookLemmas
 pub mod ShardLemmas
-pub mod OriginRunLemmas
 pub mod OriginLemmas
 pub mod OriginRequestLemmas
 pub mod OriginReplyLemmas

@@ -15,14 +15,15 @@ use Rattle.roam_book.specs.Turn.{Turn, packets_of, state_after, in_time}
 use Rattle.roam_book.specs.OnRequest.{packet_to, packet_back, forwarded_octets, forwarded_entry}
 use Rattle.roam_book.specs.OneRealm.{RealmEvent, request_came, reply_came}
 use Rattle.roam_book.specs.declared.start.Start.{Start}
-use Rattle.roam_core.specs.Provenance.{IsReturned, packets_sent}
+use Rattle.roam_core.specs.Provenance.{IsReturned}
+use Rattle.roam_core.specs.Openings.{one_realm_packets}
 use Rattle.roam_core.proofs.OriginRunLemmas.{in-left, sent-later}
 
 -- octets were sent to a target, and are what a request is forwarded as there, under a ticket
 pub record WasForwarded (c : RealmConfig) (start : Start) (events : List RealmEvent)
     (q : PlainRequest) (ticket : ℕ) (target : Target) (octets : List ℕ) : Type 0 where
   pub octets_are : octets ≡ forwarded_octets c q ticket target
-  pub was_sent : IsIn (packet_to c target.link octets) (packets_sent c start events)
+  pub was_sent : IsIn (packet_to c target.link octets) (one_realm_packets c start events)
 
 -- a request waits for the reply to what was forwarded, or its reply was returned
 abbrev pub StandsFrom :
@@ -51,7 +52,7 @@ abbrev pub EachHasOrigin : RealmConfig → Start → List RealmEvent → List Pl
 EachHasOrigin c start events outs = AllByRecursion (HasOrigin c start events) outs
 
 abbrev pub WereSent : RealmConfig → Start → List RealmEvent → List PlainOut → Type 0
-WereSent c start events outs = AllByRecursion (λ out. IsIn out (packets_sent c start events)) outs
+WereSent c start events outs = AllByRecursion (λ out. IsIn out (one_realm_packets c start events)) outs
 
 -- a turn sends only packets that have their origin in the events, and leaves such entries
 pub record TurnKeeps (c : RealmConfig) (start : Start) (events : List RealmEvent)
@@ -132,7 +133,7 @@ pub forwarded-comes :
     (c : RealmConfig) (start : Start) (events : List RealmEvent) (now asked_at : ℕ)
     (q : PlainRequest) (ticket : ℕ) (target : Target) → IsIn (request_came asked_at q) events
     → IsIn (packet_to c target.link (forwarded_octets c q ticket target))
-    (packets_sent c start events)
+    (one_realm_packets c start events)
     → ComesFrom c start events (forwarded_entry c now q ticket target)
 forwarded-comes c start events now asked_at q ticket target came sent =
     record {

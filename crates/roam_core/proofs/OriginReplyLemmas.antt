@@ -26,7 +26,8 @@ use Rattle.roam_book.specs.OnRequest.{packet_to, packet_back}
 use Rattle.roam_book.specs.OnReply.{reply_fault, returned_octets, returning, return_reply, judge, to_standing, to_entry, on_reply}
 use Rattle.roam_book.specs.OneRealm.{RealmEvent, request_came, reply_came}
 use Rattle.roam_book.specs.declared.start.Start.{Start}
-use Rattle.roam_core.specs.Provenance.{IsReturned, packets_sent}
+use Rattle.roam_core.specs.Provenance.{IsReturned}
+use Rattle.roam_core.specs.Openings.{one_realm_packets}
 use Rattle.roam_core.proofs.OriginRunLemmas.{in-left}
 use Rattle.roam_core.proofs.OriginLemmas.{ComesFrom, EachComes, StandsFrom, TurnKeeps, WasForwarded, WereSent, each-later, in_time-keeps}
 
@@ -93,7 +94,7 @@ answered-returned c start before now asked_at q ticket l id sent reply came was 
   in_order = refl;
   came = came;
   was_sent =
-      subst (λ (octets : List ℕ). IsIn (packet_to c l octets) (packets_sent c start before))
+      subst (λ (octets : List ℕ). IsIn (packet_to c l octets) (one_realm_packets c start before))
       was.octets_are was.was_sent;
   identifier = at;
   signed =

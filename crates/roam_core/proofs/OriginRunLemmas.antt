@@ -9,7 +9,7 @@ use Rattle.roam_book.specs.RealmState.{RealmState, opening}
 use Rattle.roam_book.specs.Turn.{packets_of, state_after}
 use Rattle.roam_book.specs.OneRealm.{RealmEvent, on_event, one_realm_run}
 use Rattle.roam_book.specs.declared.start.Start.{Start}
-use Rattle.roam_core.specs.Provenance.{packets_sent}
+use Rattle.roam_core.specs.Openings.{one_realm_packets, state_then}
 
 -- an element of one of two lists is one of both in a row
 pub in-left : {X : Type 0} (x : X) (xs ys : List X) → IsIn x xs → IsIn x (xs ++ ys)
@@ -50,7 +50,7 @@ pub all-right :
 all-right P xs ys h = in-all P ys (λ x at. all-in P (xs ++ ys) x h (in-right x xs ys at))
 
 -- the run of two lists of events is the run of the first, and from its state the run of the second
-packets-append :
+pub packets-append :
     (c : RealmConfig) (s : RealmState) (es fs : List RealmEvent)
     → (one_realm_run c s (es ++ fs)).packets
     ≡ (one_realm_run c s es).packets ++ (one_realm_run c (one_realm_run c s es).state fs).packets
@@ -63,15 +63,11 @@ packets-append c s (e ∷ es) fs =
     ap (λ (ps : List PlainOut). sent ++ ps) (packets-append c next es fs)
     ∙ sym (append_assoc sent mid.packets others.packets)
 
-state-append :
+pub state-append :
     (c : RealmConfig) (s : RealmState) (es fs : List RealmEvent)
     → (one_realm_run c s (es ++ fs)).state ≡ (one_realm_run c (one_realm_run c s es).state fs).state
 state-append c s [] fs = refl
 state-append c s (e ∷ es) fs = state-append c (state_after s (on_event c s e)) es fs
-
--- the state that a realm is in after some events, from a start
-abbrev pub state_then : RealmConfig → Start → List RealmEvent → RealmState
-state_then c start events = (one_realm_run c (opening c start) events).state
 
 -- the state after one event more, and the packets that are sent then
 pub state-next :
@@ -82,19 +78,19 @@ state-next c start es e = state-append c (opening c start) es (e ∷ [])
 
 pub packets-next :
     (c : RealmConfig) (start : Start) (es : List RealmEvent) (e : RealmEvent)
-    → packets_sent c start (es ++ e ∷ [])
-    ≡ packets_sent c start es ++ packets_of (on_event c (state_then c start es) e)
+    → one_realm_packets c start (es ++ e ∷ [])
+    ≡ one_realm_packets c start es ++ packets_of (on_event c (state_then c start es) e)
 packets-next c start es e =
     let turn = on_event c (state_then c start es) e in
     packets-append c (opening c start) es (e ∷ [])
-    ∙ ap (λ (ps : List PlainOut). packets_sent c start es ++ ps) (append-nil (packets_of turn))
+    ∙ ap (λ (ps : List PlainOut). one_realm_packets c start es ++ ps) (append-nil (packets_of turn))
 
 -- what was sent stays sent
 pub sent-later :
     (c : RealmConfig) (start : Start) (es fs : List RealmEvent) (out : PlainOut)
-    → IsIn out (packets_sent c start es) → IsIn out (packets_sent c start (es ++ fs))
+    → IsIn out (one_realm_packets c start es) → IsIn out (one_realm_packets c start (es ++ fs))
 sent-later c start es fs out h =
     let more = one_realm_run c (state_then c start es) fs in
     let both = packets-append c (opening c start) es fs in
     subst (λ (ps : List PlainOut). IsIn out ps) (sym both)
-    (in-left out (packets_sent c start es) more.packets h)
+    (in-left out (one_realm_packets c start es) more.packets h)

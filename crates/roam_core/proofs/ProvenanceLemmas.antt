@@ -11,8 +11,9 @@ use Rattle.roam_book.specs.RealmState.{RealmState}
 use Rattle.roam_book.specs.Turn.{packets_of}
 use Rattle.roam_book.specs.OneRealm.{RealmEvent, request_came, reply_came, tick_came, on_event}
 use Rattle.roam_book.specs.declared.start.Start.{Start}
-use Rattle.roam_core.specs.Provenance.{IsReturned, packets_sent}
-use Rattle.roam_core.proofs.OriginRunLemmas.{all-in, all-right, each-in, in-right, packets-next, state_then, state-next}
+use Rattle.roam_core.specs.Provenance.{IsReturned}
+use Rattle.roam_core.specs.Openings.{one_realm_packets, state_then}
+use Rattle.roam_core.proofs.OriginRunLemmas.{all-in, all-right, each-in, in-right, packets-next, state-next}
 use Rattle.roam_core.proofs.OriginLemmas.{EachComes, EachHasOrigin, HasOrigin, TurnKeeps, WereSent, each-later, origin-later}
 use Rattle.roam_core.proofs.OriginRequestLemmas.{on_request-keeps}
 use Rattle.roam_core.proofs.OriginReplyLemmas.{on_reply-keeps}
@@ -22,7 +23,7 @@ use Rattle.roam_core.proofs.OriginTickLemmas.{on_tick-keeps}
 -- its origin in them
 pub record IsKnown (c : RealmConfig) (start : Start) (events : List RealmEvent) : Type 0 where
   pub entries : EachComes c start events (state_then c start events).entries
-  pub packets : EachHasOrigin c start events (packets_sent c start events)
+  pub packets : EachHasOrigin c start events (one_realm_packets c start events)
 
 -- one event keeps it, in a state whose entries come from the events before
 event-keeps :
@@ -48,11 +49,11 @@ known-next :
     → IsKnown c start before → IsKnown c start (before ++ e ∷ [])
 known-next c start before e known =
     let events = before ++ e ∷ [] in
-    let old = packets_sent c start before in
+    let old = one_realm_packets c start before in
     let turn = on_event c (state_then c start before) e in
     let packets = packets-next c start before e in
     let state = state-next c start before e in
-    let all = packets_sent c start events in
+    let all = one_realm_packets c start events in
     let AreSent : List PlainOut → Type 0 = WereSent c start events in
     let all_sent = subst AreSent packets (each-in all) in
     let sent = all-right (λ (out : PlainOut). IsIn out all) old (packets_of turn) all_sent in
@@ -79,8 +80,8 @@ known-all c start before (e ∷ es) known =
 -- each packet that leaves from another place than the outgoing socket is a returned one
 pub each-returned :
     (c : RealmConfig) (start : Start) (events : List RealmEvent) (out : PlainOut)
-    → IsIn out (packets_sent c start events) → out.from ≢ place.Out c.index
+    → IsIn out (one_realm_packets c start events) → out.from ≢ place.Out c.index
     → IsReturned c start events out
 each-returned c start events out at elsewhere =
     let known = known-all c start [] events (record { entries = tt; packets = tt }) in
-    all-in (HasOrigin c start events) (packets_sent c start events) out known.packets at elsewhere
+    all-in (HasOrigin c start events) (one_realm_packets c start events) out known.packets at elsewhere

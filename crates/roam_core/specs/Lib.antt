@@ -1,7 +1,10 @@
 pub mod Events
-pub mod Answers
+pub mod ManyRealms
+pub mod Openings
 pub mod Isolation
+pub mod Provenance
+pub mod Steps
+pub mod Runs
 pub mod Shown
 pub mod BrokerView
 pub mod ShardRooms
-pub mod Provenance

@@ -7,15 +7,12 @@ use Rattle.roam_route.specs.Admission.{PlainOut}
 use Rattle.roam_pending.specs.ListLaws.{IsIn}
 use Rattle.roam_pending.specs.PlainEntry.{PlainRequest}
 use Rattle.roam_book.specs.RealmConfig.{RealmConfig, link_secret}
-use Rattle.roam_book.specs.RealmState.{Target, opening}
+use Rattle.roam_book.specs.RealmState.{Target}
 use Rattle.roam_book.specs.OnRequest.{packet_to, packet_back, forwarded_octets}
 use Rattle.roam_book.specs.OnReply.{returned_octets}
-use Rattle.roam_book.specs.OneRealm.{RealmEvent, request_came, reply_came, one_realm_run}
+use Rattle.roam_book.specs.OneRealm.{RealmEvent, request_came, reply_came}
 use Rattle.roam_book.specs.declared.start.Start.{Start}
-
--- the packets that a realm sends for a list of events, from a start
-abbrev pub packets_sent : RealmConfig → Start → List RealmEvent → List PlainOut
-packets_sent c start events = (one_realm_run c (opening c start) events).packets
+use Rattle.roam_core.specs.Openings.{one_realm_packets}
 
 -- a packet is the returned one of a reply for a request of the list: the request came, and was
 -- forwarded to a link under some ticket; then a reply came from that link, with that packet's
@@ -34,7 +31,7 @@ pub record IsReturned (c : RealmConfig) (start : Start) (events : List RealmEven
   pub came : IsIn (request_came asked_at request) before
   pub was_sent :
       IsIn (packet_to c target.link (forwarded_octets c request ticket target))
-      (packets_sent c start before)
+      (one_realm_packets c start before)
   pub identifier : (packet_of reply).id ≡ target.id
   pub signed :
       is_signed_reply (link_secret c target.link)
@@ -48,5 +45,5 @@ pub record IsReturned (c : RealmConfig) (start : Start) (events : List RealmEven
 abbrev pub EachIsReturned : Type 0
 EachIsReturned =
     (c : RealmConfig) (start : Start) (events : List RealmEvent) (out : PlainOut)
-    → IsIn out (packets_sent c start events) → out.from ≢ place.Out c.index
+    → IsIn out (one_realm_packets c start events) → out.from ≢ place.Out c.index
     → IsReturned c start events out

@@ -9,7 +9,7 @@ use Rattle.roam_book.specs.OnTick.{on_tick}
 use Rattle.roam_book.specs.Rooms.{IsRoomFor}
 use Rattle.roam_book.specs.declared.room.Room.{Room}
 use Rattle.roam_core.specs.Events.{is_in_shard}
-use Rattle.roam_core.specs.Answers.{AllRealms}
+use Rattle.roam_core.specs.ManyRealms.{AllRealms}
 
 -- how many packets a realm sends at most, in the room that was made for it, if one was
 abbrev pub most_of : {A : Type 0} → Option (Room A) → ℕ

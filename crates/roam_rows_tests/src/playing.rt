@@ -4,6 +4,7 @@ use crate::row::{Row, Texts};
 use crate::{exchanges, held_replies, limits, realms, refused_requests, replies, servers, ticks};
 use roam_book::Answer;
 use roam_conf::Config;
+use roam_conf_reader::read_config;
 use roam_core::{Broker, Event, Stepper, run};
 use roam_route::Out;
 use roam_sim::{print_packet, read_script, sim};
@@ -90,7 +91,7 @@ fn runs(
 fn plays_one(rt: &impl Abort, alloc: Global, row: &Row) -> Result<(), Fail> {
     let texts = Texts::of(alloc, row)?;
     simulates(rt, alloc, row, &texts)?;
-    let config = Config::read(alloc, row.configuration.text())?;
+    let config = read_config(alloc, row.configuration.text())?;
     let events = read_script(alloc, texts.script.as_str())?;
     steps(rt, alloc, row, &config, &events, texts.answers.as_str())?;
     runs(rt, alloc, row, &config, &events, texts.packets.as_str())

@@ -8,9 +8,10 @@ use Rattle.std.specs.Io.KnownBytes.{Appends}
 use Rattle.roam_conf.specs.Config.{ConfigView}
 use Rattle.roam_route.specs.Admission.{PlainOut}
 use Rattle.roam_book.specs.RealmState.{RealmState}
-use Rattle.roam_core.specs.Answers.{answers_to}
-use Rattle.roam_core.specs.BrokerView.{fresh}
 use Rattle.roam_core.specs.Events.{PlainEvent, kept, kept_from}
+use Rattle.roam_core.specs.ManyRealms.{answers_to}
+use Rattle.roam_core.specs.Openings.{fresh}
+use Rattle.roam_core.specs.Runs.{ArePlaces}
 use Rattle.roam_sim.specs.Faults.{IsFaultOfText, of_script}
 use Rattle.roam_sim.specs.Lines.{lines_of}
 use Rattle.roam_sim.specs.declared.fault.SimFault.{SimFault}
@@ -47,11 +48,11 @@ is_simulated (Err e) config begun states script events lost packets old new stat
 
 -- some events were lost
 pub is_simulated_in_part : (config begun : ConfigView) (states : List RealmState) (script : List ℕ) (events : List PlainEvent) (lost : List ℕ) (packets : List PlainOut) (old new : Option (List ℕ))
-    → script_states script ≡ Ok events → begun ≡ config → states ≡ fresh config → packets ≡ (answers_to begun states (kept lost events)).packets → lost ≢ []
+    → script_states script ≡ Ok events → begun ≡ config → states ≡ fresh config → packets ≡ (answers_to begun states (kept lost events)).packets → lost ≢ [] → ArePlaces (length events) lost
     → Appends old new (lines_of packets) → IsSimulatedInPart config script old new
-is_simulated_in_part config begun states script events lost packets old new stated same opened gives some written =
+is_simulated_in_part config begun states script events lost packets old new stated same opened gives some places written =
     let from_kept = sent config begun states (kept lost events) packets same opened gives in
-    record { events = events; lost = lost; stated = stated; some_lost = some; written = rw from_kept at written }
+    record { events = events; lost = lost; stated = stated; some_lost = some; places = places; written = rw from_kept at written }
 
 -- whether a list of lost events is empty
 pub none_lost : (lost : List ℕ) (len : ℕ) (is_empty : Bool) → len ≡ length lost → is_empty ≡ eqb len 0 → is_empty ≡ true → lost ≡ []

@@ -1,7 +1,7 @@
 //! Why a simulation ends early.
 
 use crate::script::ScriptFault;
-use roam_conf::ConfFault;
+use roam_conf_reader::ConfFault;
 use roam_wire::NoMemory;
 use std::{error, fmt, io};
 

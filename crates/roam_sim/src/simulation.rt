@@ -3,9 +3,9 @@
 ghost use Rattle.std.specs.Prelude.{◌≡◌, ◌≢◌, ◌⊎◌, ◌↔◌, ℕ, [], Err, OnOk, IfErr, IsOk, IsErrOf};
 ghost use Rattle.std.specs.Io.KnownBytes.{Appends};
 ghost use Rattle.roam_book.specs.Turn.{shown_outs};
-ghost use Rattle.roam_conf.specs.Faults.{IsFirstFault};
+ghost use Rattle.roam_conf_reader.specs.Faults.{IsFirstFault};
 ghost use Rattle.roam_conf.specs.Shown.{shown};
-ghost use Rattle.roam_conf.specs.declared.fault.ConfFault.{ConfFault};
+ghost use Rattle.roam_conf_reader.specs.declared.fault.ConfFault.{ConfFault};
 ghost use Rattle.roam_sim.specs.Faults.{IsFaultOfText};
 ghost use Rattle.roam_sim.specs.Lines.{lines_of};
 ghost use Rattle.roam_sim.specs.Script.{script_states};
@@ -15,6 +15,7 @@ use crate::fault::SimFault;
 use crate::printing::print_packet;
 use crate::reading::read_script;
 use roam_conf::Config;
+use roam_conf_reader::read_config;
 use roam_core::{Broker, Outcome, run};
 use roam_route::Out;
 use std::alloc::{Allocator, Global};
@@ -120,6 +121,6 @@ pub fn sim<W: Write>(
     ensures memory { IsErrOf result SimFault.Memory → (writer.new ≡ writer.old)
         ⊎ SimulatesInPart configuration.now script.now (W.contents writer.old) (W.contents writer.new) }
 {
-    let config = Config::read(alloc, configuration)?;
+    let config = read_config(alloc, configuration)?;
     simulate(alloc, &config, script, writer)
 }

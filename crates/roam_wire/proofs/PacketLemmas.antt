@@ -1,7 +1,7 @@
 -- The octets of a packet, and the packet of octets.
 use Rattle.std.proofs.Common.{◌≡◌, ℕ, ◌+◌, ◌*◌, ◌/◌, ◌%◌, ◌<◌, ◌≤◌, List, [], ◌∷◌, ◌++◌, length, get_or, take, drop, subst, Option, Some, None, IsSome, refl, sym, ap, ◌∙◌, arith, length-drop, length-append}
 use Rattle.std.proofs.lemmas.List.{take-append-drop, take_at, drop_at, length-take, get_or-take, take_all}
-use Rattle.roam_wire.specs.Packet.{Attribute, IsAttribute, Packet, IsPacket, attributes_text, packet_text, packet_length}
+use Rattle.roam_wire.specs.Packet.{Attribute, Packet, IsPacket, attributes_text, packet_text, packet_length}
 use Rattle.roam_wire.specs.Reading.{IsPacketText, ReadsAs, attributes_of, packet_of, length_field, HasLength}
 use Rattle.roam_wire.proofs.AttributeLemmas.{AreOctets, AreOctets-drop, AreOctets-take, read_spells, attributes_of-attributes_text}
 

@@ -1,6 +1,7 @@
 use Rattle.std.proofs.Common.{inr}
+use Rattle.std.proofs.lemmas.List.{length-map}
 use Rattle.roam_conf.specs.Shown.{shown}
-use Rattle.roam_core.specs.Shown.{shown_events}
+use Rattle.roam_core.specs.Shown.{shown_event, shown_events}
 use Rattle.roam_book.specs.Turn.{shown_outs}
 use Rattle.roam_sim.proofs.SimulationLemmas.{is_simulated, is_simulated_in_part, script_fault, never, untouched}
 use Rattle.roam_sim.proofs.simulation.simulate.Goals as goal
@@ -23,10 +24,12 @@ returns-clause-memory g c = λ is.
     let outcome = c.in_ok-outcome.outcome in
     let events = shown_events c.in_ok-events.events.items in
     let sent = rw c.as_slice.ensures.value at c.in_ok-outcome.ensures.packets in
+    let count = length-map c.in_ok-events.events.items shown_event in
+    let places = rw (c.as_slice.ensures.value, ← count) at c.in_ok-outcome.ensures.lost in
     inr (is_simulated_in_part (shown c.args.config.now) c.in_ok-broker.broker.config c.in_ok-broker.broker.states c.args.script.now events
     outcome.lost.items (shown_outs outcome.outs.items) (known c.args.writer.now) (known c.print_outcome.new.writer)
     c.in_ok-events.ensures.ok c.in_ok-broker.ensures.config c.in_ok-broker.ensures.states sent
-    (c.print_outcome.ensures.some_lost is) (c.print_outcome.ensures.memory is))
+    (c.print_outcome.ensures.some_lost is) places (c.print_outcome.ensures.memory is))
 
 -- The script has a faulty line, or memory is wanting for its events.
 pub returns-in_err-events-clause-line : goal.returns-in_err-events-clause-line

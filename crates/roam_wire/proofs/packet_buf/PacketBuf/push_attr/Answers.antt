@@ -1,5 +1,4 @@
-use Rattle.std.proofs.Common.{◌≡◌, ◌+◌, length, arith, ◌∙◌, ap}
-use Rattle.roam_wire.specs.Packet.{Packet, attribute_text}
+use Rattle.std.proofs.Common.{◌≡◌, ◌+◌, length, arith}
 use Rattle.roam_wire.specs.Building.{with_attribute}
 use Rattle.roam_wire.proofs.BuildingLemmas.{AreTextOf, attribute_appended}
 use Rattle.roam_wire.proofs.packet_buf.PacketBuf.push_attr.Given.{Over}

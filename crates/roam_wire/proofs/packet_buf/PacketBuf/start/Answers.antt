@@ -1,6 +1,5 @@
 use Rattle.std.proofs.Common.{arith}
-use Rattle.roam_wire.specs.Building.{header_of}
-use Rattle.roam_wire.proofs.BuildingLemmas.{AreTextOf, header_alone}
+use Rattle.roam_wire.proofs.BuildingLemmas.{header_alone}
 use Rattle.roam_wire.proofs.packet_buf.PacketBuf.start.Goals as goal
 
 -- the octets of a header are those of a packet without attributes
