@@ -1,3 +1,4 @@
 pub mod ReplyCheck
 pub mod Returned
 pub mod ReturnedLaws
+pub mod Plain

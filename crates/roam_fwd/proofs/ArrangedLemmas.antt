@@ -1,17 +1,19 @@
 -- An Access-Request's octets with its attributes in the order in which they are forwarded.
-use Rattle.std.proofs.Common.{◌≡◌, ℕ, zero, suc, ◌+◌, ◌-◌, ◌/◌, ◌%◌, ◌≤◌, Bool, true, false, inl, inr, List, [], ◌∷◌, ◌++◌, length, take, drop, map, subst, refl, sym, ap, ◌∙◌, arith, length-append, length-drop, append_assoc}
+use Rattle.std.proofs.Common.{◌≡◌, ℕ, zero, suc, ◌+◌, ◌-◌, ◌/◌, ◌%◌, ◌<◌, ◌≤◌, Bool, true, false, inl, inr, List, [], ◌∷◌, ◌++◌, length, take, drop, map, subst, refl, sym, ap, ◌∙◌, arith, length-append, length-drop, append_assoc}
 use Rattle.std.specs.Prelude.{if◌then◌else◌, ◌==◌, slice_range, slice_index}
 use Rattle.std.specs.List.{AllByRecursion}
 use Rattle.std.proofs.lemmas.Bool.{cases_Bool, ne_eqb, eq-eqb}
 use Rattle.std.proofs.lemmas.List.{take_at, drop_at, drop-drop, take-append-drop, length-take, map-append}
 use Rattle.std.proofs.lemmas.List.Concat.{flat_map-append}
-use Rattle.roam_wire.specs.Packet.{Attribute, IsAttribute, Packet, IsPacket, attribute_text, attributes_text, packet_text, packet_length}
+use Rattle.roam_wire.specs.Packet.{AreOctets, Attribute, IsAttribute, Packet, IsPacket, attribute_text, attributes_text, packet_text, packet_length}
 use Rattle.roam_wire.specs.Attributes.{has_kind, count_of, without_kind}
 use Rattle.roam_wire.specs.Reading.{IsPacketText, packet_of}
 use Rattle.roam_wire.specs.declared.attribute_type.TheConstants.{CHAP_CHALLENGE, MESSAGE_AUTHENTICATOR}
 use Rattle.roam_wire.specs.declared.code.TheConstants.{ACCESS_REQUEST}
 use Rattle.roam_wire.proofs.PacketLemmas.{length-packet_text}
 use Rattle.roam_wire.proofs.BuildingLemmas.{AreTextOf, AreTextOf-packet_text}
+use Rattle.roam_wire.proofs.OctetLemmas.{AreOctets-zeros, AreOctets-take, AreOctets-drop}
+use Rattle.roam_auth.specs.Authenticators.{AreSixteenOctets}
 use Rattle.roam_auth.specs.MessageAuthenticator.{HasAtMostOneMessageAuthenticator, empty_message_authenticator, with_message_authenticator}
 use Rattle.roam_auth.specs.Sealing.{IsValuePlace}
 use Rattle.roam_auth.proofs.ValueLemmas.{IsSized, all_sized, count_of-yes, count_of-no}
@@ -263,20 +265,23 @@ header_written f len octets arranged h is =
     ∙ ap (λ (t : List ℕ). q.code ∷ f.id ∷ (packet_length p / 256) ∷ (packet_length p % 256) ∷ f.authenticator ++ t) behind
 
 -- it is a packet
-pub IsPacket-arranged : (f : Forwarding) (len : ℕ) (octets arranged : List ℕ) → HoldsAccess len octets → length f.authenticator ≡ 16 → arranged ≡ take 20 octets ++ attributes_text (arranged_attributes (packet_of (take len octets)) f.ticket) → length arranged ≡ length octets → IsPacket (arranged_packet f (packet_of (take len octets)))
-IsPacket-arranged f len octets arranged h size is same =
+pub IsPacket-arranged : (f : Forwarding) (len : ℕ) (octets arranged : List ℕ) → HoldsAccess len octets → f.id < 256 → AreSixteenOctets f.authenticator → arranged ≡ take 20 octets ++ attributes_text (arranged_attributes (packet_of (take len octets)) f.ticket) → length arranged ≡ length octets → IsPacket (arranged_packet f (packet_of (take len octets)))
+IsPacket-arranged f len octets arranged h id sixteen is same =
     let q : Packet = packet_of (take len octets) in
     let own : List Attribute = without_kind MESSAGE_AUTHENTICATOR q.attributes in
     let text : List ℕ = attributes_text (arranged_attributes q f.ticket) in
     let room = roomy len octets h in
     let twenty : length (take 20 octets) ≡ 20 = omega (arith, length-take 20 octets, room.header) in
     let limit = h.can_be_forwarded.size in
-    let empty_short : IsAttribute empty_message_authenticator = record { size = omega arith } in
+    let empty_short : IsAttribute empty_message_authenticator = record { kind = omega arith; octets = AreOctets-zeros 16; size = omega arith } in
     let own_short = all_without IsAttribute q.attributes h.packet.packet.attributes in
-    let challenge_short = IsAttribute-challenge (challenge_is_authenticator q.attributes) q.authenticator h.packet.packet.authenticator in
+    let challenge_short = IsAttribute-challenge (challenge_is_authenticator q.attributes) q.authenticator h.packet.packet.octets h.packet.packet.authenticator in
     let front_short = AllByRecursion-append IsAttribute (empty_message_authenticator ∷ own) (added_challenge q) (empty_short, own_short) challenge_short in
     record {
-      authenticator = size;
+      code = h.packet.packet.code;
+      id = id;
+      octets = sixteen.octets;
+      authenticator = sixteen.size;
       attributes = IsAttribute-with_ticket f ((empty_message_authenticator ∷ own) ++ added_challenge q) front_short;
       size = omega (arith, ap length is, length-append (take 20 octets) text, twenty, same, h.size, limit);
     }
@@ -335,8 +340,8 @@ held_access len octets h = record {
 }
 
 -- what is arranged is rewritten to the octets of the packet that is to be sealed
-pub unsealed_access : (f : Forwarding) (len : ℕ) (octets headed hidden : List ℕ) → HoldsAccess len octets → length f.authenticator ≡ 16 → AreTextOf (arranged_packet f (packet_of (take len octets))) headed → hidden ≡ packet_text (packet_anew UserPassword (from_key f (packet_of (take len octets))) (to_key f) (packet_of headed)) → AreTextOf (access_unsealed f (packet_of (take len octets))) hidden
-unsealed_access f len octets headed hidden h size text is =
+pub unsealed_access : (f : Forwarding) (len : ℕ) (octets headed hidden : List ℕ) → HoldsAccess len octets → f.id < 256 → AreSixteenOctets f.authenticator → AreTextOf (arranged_packet f (packet_of (take len octets))) headed → hidden ≡ packet_text (packet_anew UserPassword (from_key f (packet_of (take len octets))) (to_key f) (packet_of headed)) → AreTextOf (access_unsealed f (packet_of (take len octets))) hidden
+unsealed_access f len octets headed hidden h id sixteen text is =
     let q : Packet = packet_of (take len octets) in
     let limit = h.can_be_forwarded.size in
     let grown = forwarded_length-access q h.access in
@@ -345,7 +350,7 @@ unsealed_access f len octets headed hidden h size text is =
     is
     ∙ ap (λ (p : Packet). packet_text (packet_anew UserPassword (from_key f q) (to_key f) p)) text.packet
     ∙ ap packet_text (arranged-anew f q) in
-    subst (AreTextOf (access_unsealed f q)) (sym same) (AreTextOf-packet_text (access_unsealed f q) (IsPacket-access_unsealed f q (held_access len octets h) size short))
+    subst (AreTextOf (access_unsealed f q)) (sym same) (AreTextOf-packet_text (access_unsealed f q) (IsPacket-access_unsealed f q (held_access len octets h) id sixteen short))
 
 -- and sealed
 pub sealed_access : (f : Forwarding) (q : Packet) (hidden sealed : List ℕ) → q.code ≡ ACCESS_REQUEST → AreTextOf (access_unsealed f q) hidden → sealed ≡ packet_text (with_message_authenticator f.to_secret f.authenticator (packet_of hidden)) → sealed ≡ packet_text (forwarded f q)
@@ -355,7 +360,13 @@ sealed_access f q hidden sealed access text is =
     ∙ ap packet_text (sym (forwarded-access f q access))
 
 -- the octets with the header written are those of the arranged packet
-pub headed_text : (f : Forwarding) (len : ℕ) (octets arranged headed : List ℕ) → HoldsAccess len octets → length f.authenticator ≡ 16 → arranged ≡ take 20 octets ++ attributes_text (arranged_attributes (packet_of (take len octets)) f.ticket) → length arranged ≡ length octets → headed ≡ slice_index arranged 0 ∷ f.id ∷ (length arranged / 256) ∷ (length arranged % 256) ∷ f.authenticator ++ drop 20 arranged → AreTextOf (arranged_packet f (packet_of (take len octets))) headed
-headed_text f len octets arranged headed h size is same headed-is =
+pub headed_text : (f : Forwarding) (len : ℕ) (octets arranged headed : List ℕ) → HoldsAccess len octets → f.id < 256 → AreSixteenOctets f.authenticator → arranged ≡ take 20 octets ++ attributes_text (arranged_attributes (packet_of (take len octets)) f.ticket) → length arranged ≡ length octets → headed ≡ slice_index arranged 0 ∷ f.id ∷ (length arranged / 256) ∷ (length arranged % 256) ∷ f.authenticator ++ drop 20 arranged → AreTextOf (arranged_packet f (packet_of (take len octets))) headed
+headed_text f len octets arranged headed h id sixteen is same headed-is =
     let p : Packet = arranged_packet f (packet_of (take len octets)) in
-    subst (AreTextOf p) (sym (headed-is ∙ header_written f len octets arranged h is)) (AreTextOf-packet_text p (IsPacket-arranged f len octets arranged h size is same))
+    subst (AreTextOf p) (sym (headed-is ∙ header_written f len octets arranged h is)) (AreTextOf-packet_text p (IsPacket-arranged f len octets arranged h id sixteen is same))
+
+-- sixteen octets that stand behind four others are octets
+pub sixteen_there : (a b c d : ℕ) (field rest headed : List ℕ) → headed ≡ a ∷ b ∷ c ∷ d ∷ field ++ rest → AreOctets headed → length field ≡ 16 → AreSixteenOctets field
+sixteen_there a b c d field rest headed is octets size =
+    let there : take 16 (drop 4 headed) ≡ field = ap (λ (t : List ℕ). take 16 (drop 4 t)) is ∙ take_at field rest 16 size in
+    record { size = size; octets = subst AreOctets there (AreOctets-take 16 (drop 4 headed) (AreOctets-drop 4 headed octets)) }

@@ -73,7 +73,7 @@ pub(crate) fn rewrite_access(
     from_secret: &[u8],
     to_secret: &[u8],
     id: u8,
-    authenticator: [u8; 16],
+    authenticator: &[u8; 16],
     ticket: u64,
 )
     requires packet { IsPacketText (take len octets.old) }
@@ -87,22 +87,22 @@ pub(crate) fn rewrite_access(
           from_secret = from_secret.now;
           to_secret = to_secret.now;
           id = id;
-          authenticator = authenticator;
+          authenticator = authenticator.now;
           ticket = ticket;
         })
         (packet_of (take len octets.old))) }
 {
     let requesters = front_packet(octets, len).authenticator();
     arrange(octets, len, ticket);
-    put_header(octets, id, &authenticator);
+    put_header(octets, id, authenticator);
     let from = HidingKey {
         secret: from_secret,
         authenticator: &requesters,
     };
     let to = HidingKey {
         secret: to_secret,
-        authenticator: &authenticator,
+        authenticator,
     };
     rehide_packet(octets, Hidden::UserPassword, from, to);
-    seal(octets, to_secret, authenticator);
+    seal(octets, to_secret, *authenticator);
 }

@@ -77,7 +77,7 @@ pub fn rewrite(
             from_secret,
             to_secret,
             id,
-            authenticator,
+            &authenticator,
             ticket,
         );
     } else {

@@ -1,7 +1,7 @@
 //! The places of a packet's octets: what is read there, and what is written.
 
 ghost use Rattle.std.specs.Prelude.{◌≡◌, ◌+◌, ◌/◌, ◌%◌, ◌≤◌, ◌∷◌, ◌++◌, length, take, drop, slice_index, slice_range};
-ghost use Rattle.roam_wire.specs.Packet.{attribute_text};
+ghost use Rattle.roam_wire.specs.Packet.{AreOctets, attribute_text};
 ghost use Rattle.roam_wire.specs.Reading.{IsPacketText, packet_of};
 ghost use Rattle.roam_wire.specs.declared.attribute_type.TheConstants.{CHAP_CHALLENGE};
 ghost use Rattle.roam_auth.specs.MessageAuthenticator.{empty_message_authenticator};
@@ -30,8 +30,9 @@ pub(crate) fn front_packet(octets: &[u8], len: usize) -> View<'_>
 pub(crate) fn put_header(octets: &mut [u8], id: u8, authenticator: &[u8; 16])
     requires at_least_header { 20 ≤ length octets.old }
     requires at_most_4096 { length octets.old ≤ 4096 }
-    ensures { octets.new ≡ slice_index octets.old 0 ∷ id ∷ (length octets.old / 256)
+    ensures header { octets.new ≡ slice_index octets.old 0 ∷ id ∷ (length octets.old / 256)
         ∷ (length octets.old % 256) ∷ authenticator.now ++ drop 20 octets.old }
+    ensures octets { AreOctets octets.new }
 {
     let size = octets.len();
     octets[1] = id;

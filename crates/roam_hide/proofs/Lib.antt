@@ -1,5 +1,6 @@
 pub mod HidingLemmas
 pub mod SaltedLemmas
 pub mod SaltedFunctionLemmas
+pub mod OctetLemmas
 pub mod StandardFacts
 pub mod PacketAnewLemmas
