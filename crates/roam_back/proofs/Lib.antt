@@ -3,3 +3,4 @@ pub mod KeptLemmas
 pub mod SignedLemmas
 pub mod ReturnedLemmas
 pub mod EveryCodeLemmas
+pub mod PlainLemmas

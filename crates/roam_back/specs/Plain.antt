@@ -8,7 +8,7 @@ use Rattle.roam_back.specs.Returned.{proxy_states}
 
 -- whether an attribute of a reply is returned: no Proxy-State is, and no Message-Authenticator of an
 -- Access reply, in which another one stands first
-abbrev pub is_carried : Bool → Attribute → Bool
+unfoldable pub is_carried : Bool → Attribute → Bool
 is_carried access a = not (a.kind == PROXY_STATE) && not (access && a.kind == MESSAGE_AUTHENTICATOR)
 
 -- the Message-Authenticator that stands first in an Access reply

@@ -5,6 +5,7 @@
 //! what it is returned with, is handed in.
 #![tactic(auto)]
 
+mod appending;
 mod laws;
 mod reply_check;
 mod returning;

@@ -20,7 +20,7 @@ use roam_wire::{Refusal, View};
 const ZERO_OCTETS: [u8; 16] = [0; 16];
 
 /// Whether a code is Access-Accept, Access-Reject or Access-Challenge (RFC 2865, section 4).
-fn is_access_reply(code: u8) -> bool
+pub(crate) fn is_access_reply(code: u8) -> bool
     ensures { result ≡ is_access_reply code }
 {
     code == ACCESS_ACCEPT || code == ACCESS_REJECT || code == ACCESS_CHALLENGE
