@@ -97,7 +97,7 @@ short_rest r reply request packet =
     let own = short_kept (λ (a : Attribute). not (has_kind MESSAGE_AUTHENTICATOR a)) (without_kind PROXY_STATE reply.attributes) (short_kept (λ (a : Attribute). not (has_kind PROXY_STATE a)) reply.attributes packet.attributes) in
     either_list (AllByRecursion IsAttribute) (reply.code == ACCESS_ACCEPT) _ _ (short_salted r request (without_kind MESSAGE_AUTHENTICATOR (without_kind PROXY_STATE reply.attributes)) own) own
 
-count_of-rest : (r : Returning) (reply request : Packet) → count_of MESSAGE_AUTHENTICATOR (access_rest r reply request) ≡ 0
+pub count_of-rest : (r : Returning) (reply request : Packet) → count_of MESSAGE_AUTHENTICATOR (access_rest r reply request) ≡ 0
 count_of-rest r reply request =
     let own = without_kind PROXY_STATE reply.attributes in
     let none = count_of-without_itself MESSAGE_AUTHENTICATOR own in
@@ -207,7 +207,7 @@ only-carried r reply request =
 
 -- ---- the returned packet
 
-abbrev seal_of : Returning → Packet → Packet → List ℕ
+abbrev pub seal_of : Returning → Packet → Packet → List ℕ
 seal_of r reply request = message_authenticator r.client_secret request.authenticator (unsealed r reply request)
 
 length-seal_of : (r : Returning) (reply request : Packet) → length (seal_of r reply request) ≡ 16

@@ -4,3 +4,4 @@ pub mod SignedLemmas
 pub mod ReturnedLemmas
 pub mod EveryCodeLemmas
 pub mod PlainLemmas
+pub mod CarriedLemmas

@@ -98,7 +98,7 @@ plain-others reply request other =
     ∙ ap (λ (l : List Attribute). l ++ proxy_states request) (carried-none reply.attributes)
 
 -- an Access-Accept is an Access reply
-accept_is_access : (reply : Packet) → (reply.code == ACCESS_ACCEPT) ≡ true → is_access_reply reply.code ≡ true
+pub accept_is_access : (reply : Packet) → (reply.code == ACCESS_ACCEPT) ≡ true → is_access_reply reply.code ≡ true
 accept_is_access reply accept = rw accept refl
 
 unsealed-accept : (r : Returning) (reply request : Packet) → (reply.code == ACCESS_ACCEPT) ≡ true → unsealed r reply request ≡ with_header reply request (map (with_salted_anew r request) (plain_attributes reply request))

@@ -2,3 +2,4 @@ pub mod ReplyCheck
 pub mod Returned
 pub mod ReturnedLaws
 pub mod Plain
+pub mod CarriedLaws

@@ -118,7 +118,7 @@ length-challenge true value size =
     omega (arith, size, length-append (attribute_text (record { kind = CHAP_CHALLENGE; value = value })) [])
 length-challenge false value size = refl
 
-count_of-challenge : (b : Bool) (value : List ℕ) → count_of MESSAGE_AUTHENTICATOR (challenge_if b value) ≡ 0
+pub count_of-challenge : (b : Bool) (value : List ℕ) → count_of MESSAGE_AUTHENTICATOR (challenge_if b value) ≡ 0
 count_of-challenge true value = refl
 count_of-challenge false value = refl
 

@@ -3,3 +3,4 @@ pub mod BufferLemmas
 pub mod AccessLemmas
 pub mod LawLemmas
 pub mod ArrangedLemmas
+pub mod CarriedLemmas

@@ -14,5 +14,5 @@ mod places;
 
 pub use forwardable::can_be_forwarded;
 pub use forwarding::{forward, forward_reserved, rewrite};
-pub use laws::{forwarded_authenticator, forwarded_marks, forwarded_packet};
+pub use laws::{forwarded_authenticator, forwarded_carries, forwarded_marks, forwarded_packet};
 pub use length::forwarded_len;

@@ -8,13 +8,13 @@ use Rattle.roam_hide.specs.Hiding.{Key, HasWholeBlocks, hidden_anew}
 use Rattle.roam_hide.specs.SaltedFunctions.{tunnel_anew, vendor_anew}
 
 -- an attribute with a User-Password hidden anew (RFC 2865, section 5.2)
-abbrev pub with_password_anew : Key → Key → Attribute → Attribute
-with_password_anew from to a =
+abbrev pub password_hidden_anew : Key → Key → Attribute → Attribute
+password_hidden_anew from to a =
     record a { value = if a.kind == USER_PASSWORD then hidden_anew from to a.value else a.value }
 
 -- an attribute with its salted strings hidden anew (RFC 2868, section 3.5; RFC 2548, section 2.4)
-abbrev pub with_salted_anew : Key → Key → Attribute → Attribute
-with_salted_anew from to a =
+abbrev pub salted_hidden_anew : Key → Key → Attribute → Attribute
+salted_hidden_anew from to a =
     record a {
       value =
           if a.kind == TUNNEL_PASSWORD then tunnel_anew from to a.value
@@ -24,8 +24,8 @@ with_salted_anew from to a =
 
 -- one of the two
 abbrev pub attribute_anew : Hidden → Key → Key → Attribute → Attribute
-attribute_anew UserPassword from to a = with_password_anew from to a
-attribute_anew SaltedStrings from to a = with_salted_anew from to a
+attribute_anew UserPassword from to a = password_hidden_anew from to a
+attribute_anew SaltedStrings from to a = salted_hidden_anew from to a
 
 -- the packet with each attribute so
 abbrev pub packet_anew : Hidden → Key → Key → Packet → Packet
