@@ -1,6 +1,7 @@
 //! The configurations of the rows.
 
 use roam_conf::Config;
+use roam_conf_reader::read_config;
 use std::alloc::Global;
 use std::process::Abort;
 
@@ -81,5 +82,5 @@ pub(crate) fn config(
     for (old, new) in changes {
         text = changed(rt, alloc, text.as_str(), old, new);
     }
-    Config::read(alloc, text.as_str()).expect(rt, "the configuration is accepted")
+    read_config(alloc, text.as_str()).expect(rt, "the configuration is accepted")
 }

@@ -3,7 +3,7 @@
 use Rattle.std.specs.Prelude.{◌≡◌, ◌≢◌, ℕ, List, [], length, Option, Ok}
 use Rattle.std.specs.Io.KnownBytes.{Appends}
 use Rattle.roam_conf.specs.Config.{ConfigView}
-use Rattle.roam_conf.specs.Faults.{States, NoneHolds, every_fault}
+use Rattle.roam_conf_reader.specs.Faults.{States, NoneHolds, every_fault}
 use Rattle.roam_route.specs.Admission.{PlainOut}
 use Rattle.roam_core.specs.Events.{PlainEvent, kept}
 use Rattle.roam_core.specs.ManyRealms.{answers_to}

@@ -1,6 +1,7 @@
 //! Simulations: a worked exchange, the faults and their order, and want of memory.
 
-use roam_conf::{ConfFault, Config};
+use roam_conf::Config;
+use roam_conf_reader::{ConfFault, read_config};
 use roam_sim::{SimFault, sim, simulate};
 use roam_testing::Refusing;
 use std::alloc::Global;
@@ -128,7 +129,7 @@ fn is_cut_short(written: &[u8]) -> bool {
 // refused in the run loses an event.
 #[test]
 fn each_growth_refused_is_told(rt: HostRuntime) -> Result<(), Fail> {
-    let config = Config::read(rt.alloc(), CONFIGURATION)?;
+    let config = read_config(rt.alloc(), CONFIGURATION)?;
     let refusing = Refusing::new(rt.alloc());
     let mut some_lost = false;
     for n in refusing.each_growth() {
