@@ -135,6 +135,9 @@ returned_length-others r reply request other =
 -- it is a packet where it isn't too long
 pub IsPacket-restored : (reply request : Packet) → IsPacket reply → IsPacket request → packet_length (restored reply request) ≤ 4096 → IsPacket (restored reply request)
 IsPacket-restored reply request a b short = record {
+  code = a.code;
+  id = b.id;
+  octets = b.octets;
   authenticator = b.authenticator;
   attributes = short_joined (without_kind PROXY_STATE reply.attributes) (only_kind PROXY_STATE request.attributes) (short_kept _ reply.attributes a.attributes) (short_kept _ request.attributes b.attributes);
   size = short;

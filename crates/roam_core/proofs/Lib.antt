@@ -4,7 +4,7 @@ pub mod SentLemmas
 pub mod AdmissionLemmas
 pub mod TickLemmas
 pub mod EventLemmas
-pub mod OriginRunLemmas
+pub mod RealmRunLemmas
 pub mod IsolationLemmas
 pub mod RunLemmas
 pub mod BookLemmas
@@ -14,3 +14,4 @@ pub mod OriginRequestLemmas
 pub mod OriginReplyLemmas
 pub mod OriginTickLemmas
 pub mod ProvenanceLemmas
+pub mod TicketLemmas

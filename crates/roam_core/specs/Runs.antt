@@ -18,7 +18,8 @@ pub record ArePlaces (count : ℕ) (places : List ℕ) : Type 0 where
 
 -- the realms stand after some of the events: after the first `count` of the list, without those at the
 -- lost places, which changed no state. What a run leaves whose outcome couldn't grow
-pub record StandsAfterSome (config : ConfigView) (old new : List RealmState) (events : List PlainEvent) : Type 0 where
+pub record StandsAfterSome (config : ConfigView) (old new : List RealmState)
+    (events : List PlainEvent) : Type 0 where
   pub count : ℕ
   pub some : count ≤ length events
   pub lost : List ℕ

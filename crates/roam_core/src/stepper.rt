@@ -24,7 +24,8 @@ pub trait Stepper<A: Allocator> {
     /// refused: nothing is sent then, and all states are as they were. What is refused before it comes
     /// to a realm wants no memory.
     fn step(&mut self, event: &Event<A>) -> Result<Answer<A>, NoMemory>
-        ensures answer { GivesAnswer result (states self.old) (states self.new) (answer_to (config self.old) (states self.old) (shown_event event.now)) }
+        ensures answer { GivesAnswer result (states self.old) (states self.new)
+            (answer_to (config self.old) (states self.old) (shown_event event.now)) }
         ensures config { config self.new ≡ config self.old }
         ensures memory { IsErr result → EventWantsMemory (config self.old) (shown_event event.now) }
 

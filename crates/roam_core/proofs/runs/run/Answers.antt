@@ -36,6 +36,10 @@ pub returns-clause-isolated_from_start : goal.returns-clause-isolated_from_start
 returns-clause-isolated_from_start g c starts begin =
     (has_run_all _ _ _ _ _ _ _ _ (omega (arith, length-map c.args.events.now shown_event)) c.loop-place.invariant).from_start starts begin
 
+pub returns-clause-provenance : goal.returns-clause-provenance
+returns-clause-provenance g c starts begin =
+    (has_run_all _ _ _ _ _ _ _ _ (omega (arith, length-map c.args.events.now shown_event)) c.loop-place.invariant).provenance starts begin
+
 pub returns-clause-lost : goal.returns-clause-lost
 returns-clause-lost g c =
     subst (λ (count : ℕ). ArePlaces count c.loop-place.lost.items) (length-map c.args.events.now shown_event)
