@@ -2,9 +2,10 @@
 //! their Message-Authenticator.
 
 ghost use Rattle.std.specs.Prelude.{◌≡◌, ◌⊎◌, ◌↔◌, ◌≤◌, IsTrue, IsOk, IfErr, IsErrOf, length};
+ghost use Rattle.std.specs.Result.{result_err};
 ghost use Rattle.roam_auth.specs.Authenticators.{IsSignedReply};
 ghost use Rattle.roam_auth.specs.MessageAuthenticator.{IsWellSealed};
-ghost use Rattle.roam_back.specs.ReplyCheck.{is_access_reply, answers, sealing_authenticators, HasSealForEap, IsRightlySealed, IsTaken};
+ghost use Rattle.roam_back.specs.ReplyCheck.{is_access_reply, answers, sealing_authenticators, HasSealForEap, IsRightlySealed, IsTaken, reply_fault};
 
 use roam_auth::{message_ok, response_ok};
 use roam_wire::attribute_type::{EAP_MESSAGE, MESSAGE_AUTHENTICATOR};
@@ -85,6 +86,7 @@ pub fn check_reply(reply: &View<'_>, forwarded: &View<'_>, secret: &[u8]) -> Res
     requires at_least_one_octet { 1 ≤ length secret.now }
     requires at_most_64_octets { length secret.now ≤ 64 }
     ensures taken { IsOk result ↔ IsTaken secret.now reply.now forwarded.now }
+    ensures fault { result_err result ≡ reply_fault secret.now reply.now forwarded.now }
 
     // Each cause is looked at once those before it don't hold.
     ensures wrong_reply { IsErrOf result Refusal.WrongReply

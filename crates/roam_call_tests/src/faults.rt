@@ -1,7 +1,7 @@
 //! The faults of simulations, in their order. Want of memory is shown by `roam_rows`.
 
 use crate::configuration::TWO_SERVERS;
-use roam_conf::ConfFault;
+use roam_conf_reader::ConfFault;
 use roam_sim::{SimFault, sim};
 use std::alloc::Global;
 

@@ -5,6 +5,7 @@ use crate::configuration::TWO_SERVERS;
 use crate::realm::Realm;
 use roam_book::Answer;
 use roam_conf::Config;
+use roam_conf_reader::read_config;
 use roam_sim::{print_packet, read_script};
 use roam_testing::Refusing;
 use std::alloc::{Allocator, Global};
@@ -102,7 +103,7 @@ fn answered(rt: &impl Abort, alloc: Global, over: &Refusing<Global>, config: &Co
 }
 
 fn is_answered(rt: &impl Abort, alloc: Global) -> bool {
-    let config = Config::read(alloc, TWO_SERVERS).expect(rt, "a configuration");
+    let config = read_config(alloc, TWO_SERVERS).expect(rt, "a configuration");
     let over = Refusing::new(alloc);
     answered(rt, alloc, &over, &config).as_slice() == LAST_TICKET.as_bytes()
 }

@@ -2,7 +2,7 @@
 
 use crate::configuration::TWO_SERVERS;
 use crate::realm::Realm;
-use roam_conf::Config;
+use roam_conf_reader::read_config;
 use roam_sim::read_script;
 use roam_testing::Refusing;
 use std::alloc::Global;
@@ -37,7 +37,7 @@ fn ticks_in_room<'r>(
 
 /// Two ticks behind the events.
 fn counts(rt: &impl Abort, alloc: Global) -> [[u64; 3]; 2] {
-    let config = Config::read(alloc, TWO_SERVERS).expect(rt, "a configuration");
+    let config = read_config(alloc, TWO_SERVERS).expect(rt, "a configuration");
     let over = Refusing::new(alloc);
     let mut realm = Realm::new(&over, &config, 0).expect(rt, "memory");
     for event in read_script(&over, EVENTS).expect(rt, "a script").iter() {

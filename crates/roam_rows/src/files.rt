@@ -3,6 +3,7 @@
 use crate::player::{Over, Player};
 use crate::row::{Row, RowFault};
 use roam_conf::Config;
+use roam_conf_reader::read_config;
 use roam_core::Event;
 use roam_sim::read_script;
 use std::io::ErrorKind;
@@ -31,7 +32,7 @@ impl<'p, 'r> Player<'p, 'r> {
     /// Plays a row in each way.
     fn plays_row(&mut self, row: &Row<Over<'r>>, configuration: &str, script: &str) {
         self.tally.count_row(row.steps.len());
-        let Ok(config) = Config::read(self.rt.alloc(), configuration) else {
+        let Ok(config) = read_config(self.rt.alloc(), configuration) else {
             return self.tell(row.line, "configuration", "one that is accepted", "another");
         };
         self.over.refuse_nth(0);

@@ -1,3 +1,4 @@
+pub mod OctetLemmas
 pub mod WalkLemmas
 pub mod AttributeLemmas
 pub mod PacketLemmas

@@ -2,7 +2,7 @@
 
 ghost use Rattle.std.specs.Prelude.{◌≡◌, ◌⊎◌, ◌↔◌, ◌<◌, ◌≤◌, length, take, drop, option_map, IfOk, IfErr, IsOkAnd, IsErrOf};
 ghost use Rattle.roam_wire.specs.Packet.{Packet, IsPacket, packet_text};
-ghost use Rattle.roam_wire.specs.Reading.{length_field, HasLength, ReadsAs, Reads, reading};
+ghost use Rattle.roam_wire.specs.Reading.{length_field, HasLength, IsPacketText, ReadsAs, Reads, packet_of, reading};
 ghost use Rattle.roam_wire.specs.Attributes.{first_value, count_of};
 
 use crate::attributes::Attrs;
@@ -95,6 +95,15 @@ impl<'a> View<'a> {
         Ok(View { octets })
     }
 
+    /// The packet of octets that are known to be a packet's, as those that were built or kept. Nothing is
+    /// read.
+    pub fn of_packet(octets: &'a [u8]) -> View<'a>
+        requires { IsPacketText octets.now }
+        ensures { result ≡ packet_of octets.entry.now }
+    {
+        View { octets }
+    }
+
     /// The packet's Code.
     pub fn code(&self) -> u8
         ensures { result ≡ self.now.code }
@@ -120,6 +129,7 @@ impl<'a> View<'a> {
     pub fn attributes(&self) -> Attrs<'a>
         ensures all { result ≡ self.now.attributes }
         ensures few { length result ≤ 2038 }
+        ensures packet { IsPacket self.now }
     {
         Attrs::over(behind_header(self.octets))
     }

@@ -1,0 +1,4 @@
+pub mod ArrayLemmas
+pub mod EachLemmas
+pub mod FaultLemmas
+pub mod UniqueLemmas
