@@ -7,7 +7,7 @@ ghost use Rattle.roam_book.specs.declared.start.Start.{Start};
 ghost use Rattle.roam_core.specs.ManyRealms.{answers_to};
 ghost use Rattle.roam_core.specs.Openings.{openings};
 ghost use Rattle.roam_core.specs.ProvenanceLaws.{HasProvenance};
-ghost use Rattle.roam_core.specs.Runs.{ArePlaces, StandsAfterSome};
+ghost use Rattle.roam_core.specs.Runs.{ArePlaces, StandsAfterSome, WereGiven};
 ghost use Rattle.roam_core.specs.Events.{kept, local_rejects};
 ghost use Rattle.roam_core.specs.Isolation.{IsIsolated, IsIsolatedFromStart, HasRealm, packets_for_none};
 ghost use Rattle.roam_core.specs.Shown.{shown_events};
@@ -75,7 +75,10 @@ pub fn run<A: Allocator + Copy, S: Stepper<A>>(
     ensures isolated { IfOk result (λ o. IsIsolated (S.config stepper.old) (S.states stepper.old)
         (kept o.lost.items (shown_events events.now)) (shown_outs o.outs.items)) }
 
-    // The lost events: each is noted in its turn, and once.
+    // The events are given in their order, each once; those are lost, and noted by their places, that met
+    // want of memory there.
+    ensures given { IfOk result (λ o. WereGiven S.steps 0 o.lost.items stepper.old
+        (shown_events events.now) stepper.new) }
     ensures lost { IfOk result (λ o. ArePlaces (length events.now) o.lost.items) }
 
     // All packets, and the states at the end: the written answers to the events that weren't lost.
