@@ -2,8 +2,8 @@
 -- ends. Ours.
 use Rattle.std.specs.Prelude.{ℕ, List, ◌++◌, codes}
 use Rattle.std.specs.Fmt.{decimal}
-use Rattle.roam_conf.specs.declared.fault.ConfFault.{ConfFault}
-use Rattle.roam_conf.specs.declared.fault.ConfFault.TheVariants as conf
+use Rattle.roam_conf_reader.specs.declared.fault.ConfFault.{ConfFault}
+use Rattle.roam_conf_reader.specs.declared.fault.ConfFault.TheVariants as conf
 use Rattle.roam.specs.declared.report.Fault.{Fault}
 use Rattle.roam.specs.declared.report.Fault.TheVariants as fault
 

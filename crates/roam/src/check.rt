@@ -9,6 +9,7 @@ use crate::output::finish;
 use crate::report::Fault;
 use crate::text_file::TextFile;
 use roam_conf::Config;
+use roam_conf_reader::read_config;
 use std::alloc::Global;
 use std::io::Write;
 
@@ -44,7 +45,7 @@ pub fn check<'a, W: Write>(
     ensures err { IfErr result
         (CheckFails configuration.now (W.contents writer.old) (W.contents writer.new)) }
 {
-    match Config::read(alloc, configuration.text.as_str()) {
+    match read_config(alloc, configuration.text.as_str()) {
         Ok(config) => print_summary(writer, &config),
         Err(fault) => Err(Fault::of_configuration(configuration.path, fault)),
     }

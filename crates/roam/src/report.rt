@@ -4,7 +4,7 @@ ghost use Rattle.std.specs.Prelude.{◌≡◌, ◌⊎◌, OnOk};
 ghost use Rattle.std.specs.Io.KnownBytes.{Appends};
 ghost use Rattle.roam.specs.Report as spec;
 
-use roam_conf::ConfFault;
+use roam_conf_reader::ConfFault;
 use std::io;
 use std::io::{ErrorKind, Write};
 

@@ -1,20 +1,19 @@
 -- Each test is true just where its fact holds.
-use Rattle.std.proofs.Common.{◌≡◌, ◌↔◌, ℕ, Bool, true, false, inl, inr, List, Option, Some, None, IsTrue, refl, sym, ap, subst, ◌∙◌, arith}
+use Rattle.std.proofs.Common.{◌≡◌, ℕ, Bool, true, false, inl, inr, List, Option, Some, None, refl, sym, ap, subst, ◌∙◌}
 use Rattle.std.specs.Prelude.{Any, ◌||◌, ◌&&◌, ◌==◌, length, IsSomeAnd, ◌⊎◌}
-use Rattle.std.specs.List.{list_any}
 use Rattle.std.specs.Option.{option_map_or}
 use Rattle.std.specs.Str.{bytes_eq}
 use Rattle.std.proofs.lemmas.Slice.Eq.{bytes_eq-Decides}
 use Rattle.std.proofs.lemmas.List.Folds.{Any-from_list_any, list_any-from_Any}
-use Rattle.std.proofs.lemmas.Bool.{eqb-true, eq-eqb, cases_Bool}
+use Rattle.std.proofs.lemmas.Bool.{eqb-true, eq-eqb}
 use Rattle.roam_wire.specs.Packet.{Packet}
 use Rattle.roam_wire.specs.Attributes.{count_of, first_value}
 use Rattle.roam_wire.specs.declared.attribute_type.TheConstants.{MESSAGE_AUTHENTICATOR}
 use Rattle.roam_auth.specs.Authenticators.{response_authenticator, request_authenticator}
-use Rattle.roam_auth.specs.MessageAuthenticator.{HasOneMessageAuthenticator, message_authenticator, IsWellSealed}
+use Rattle.roam_auth.specs.MessageAuthenticator.{message_authenticator, IsWellSealed}
 use Rattle.roam_auth.specs.Deciding.{is_seal_over_one, is_well_sealed}
 use Rattle.roam_auth.specs.DecidingLaws.{SignedReplyIsDecided, SignedRequestIsDecided, WellSealedIsDecided}
-use Rattle.roam_auth.proofs.SealLemmas.{length-message_authenticator}
+use Rattle.roam_auth.proofs.DigestLemmas.{sixteen-message_authenticator, length-message_authenticator}
 
 pub signed_reply_decided : SignedReplyIsDecided
 signed_reply_decided secret request_authenticator p = bytes_eq-Decides p.authenticator (response_authenticator secret request_authenticator p)

@@ -1,9 +1,10 @@
 -- Octets in pieces, as digests take them.
-use Rattle.std.proofs.Common.{◌≡◌, ℕ, ◌+◌, ◌-◌, ◌<◌, ◌≤◌, List, ◌++◌, length, map, take, drop, replicate, refl, ap, ◌∙◌, arith, length-append, length-drop}
+use Rattle.std.proofs.Common.{◌≡◌, ℕ, ◌+◌, ◌-◌, ◌<◌, ◌≤◌, List, ◌++◌, length, map, take, drop, replicate, refl, ap, ◌∙◌, arith, length-append, length-drop, subst, sym}
 use Rattle.std.specs.Prelude.{slice_index, slice_set}
 use Rattle.std.proofs.lemmas.List.{drop_at, drop-replicate, length-map, length-replicate, length-take, get_or_default}
 use Rattle.std.proofs.lemmas.List.Edits.{map_over_more}
 use Rattle.roam_wire.specs.Packet.{Packet, IsPacket, attributes_text, packet_text}
+use Rattle.roam_wire.specs.Reading.{IsPacketText, packet_of}
 use Rattle.roam_auth.specs.Hmac.{padded_key}
 use Rattle.roam_auth.specs.Authenticators.{with_authenticator}
 
@@ -12,6 +13,14 @@ pub packet_text-with_authenticator : (a : List ℕ) (p : Packet) → IsPacket p 
     take 4 (packet_text p) ++ a ++ drop 20 (packet_text p) ≡ packet_text (with_authenticator a p)
 packet_text-with_authenticator a p h =
     rw (drop_at p.authenticator (attributes_text p.attributes) 16 h.authenticator) refl
+
+-- an Authenticator that is written into a packet's octets
+pub field_written : (a octets : List ℕ) → IsPacketText octets →
+    take 4 octets ++ a ++ drop 20 octets ≡ packet_text (with_authenticator a (packet_of octets))
+field_written a octets h =
+    let p : Packet = packet_of octets in
+    subst (λ (o : List ℕ). take 4 o ++ a ++ drop 20 o ≡ packet_text (with_authenticator a p)) (sym h.spelt)
+    (packet_text-with_authenticator a p h.packet)
 
 -- the pieces that a Response Authenticator takes in
 pub signed_pieces : (a secret before field behind octets : List ℕ) (p : Packet) → IsPacket p →

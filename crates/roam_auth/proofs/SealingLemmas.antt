@@ -1,5 +1,5 @@
 -- Where a Message-Authenticator stands, and a packet with another one written there.
-use Rattle.std.proofs.Common.{◌≡◌, ℕ, ◌+◌, ◌/◌, ◌%◌, ◌≤◌, inl, inr, List, [], ◌∷◌, ◌++◌, length, map, take, drop, true, false, refl, sym, ap, subst, ◌∙◌, arith, length-append, append_assoc}
+use Rattle.std.proofs.Common.{◌≡◌, ℕ, ◌+◌, ◌/◌, ◌%◌, ◌≤◌, inl, inr, List, [], ◌∷◌, ◌++◌, length, map, take, drop, false, refl, sym, ap, subst, ◌∙◌, arith, length-append, append_assoc}
 use Rattle.std.proofs.lemmas.List.{take_at, drop_at, drop-drop, append-nil, map-append}
 use Rattle.std.proofs.lemmas.List.Concat.{flat_map-append}
 use Rattle.std.proofs.lemmas.List.Sums.{sum_by-append}
@@ -8,7 +8,7 @@ use Rattle.std.specs.List.{AllByRecursion}
 use Rattle.roam_wire.specs.Packet.{Attribute, Packet, IsPacket, attribute_text, attributes_text, packet_text, packet_length}
 use Rattle.roam_wire.specs.Attributes.{has_kind, count_of}
 use Rattle.roam_wire.specs.declared.attribute_type.TheConstants.{MESSAGE_AUTHENTICATOR}
-use Rattle.roam_auth.specs.MessageAuthenticator.{HasNoMessageAuthenticator, HasAtMostOneMessageAuthenticator, attribute_with_value, with_value}
+use Rattle.roam_auth.specs.MessageAuthenticator.{HasAtMostOneMessageAuthenticator, attribute_with_value, with_value}
 use Rattle.roam_auth.specs.Sealing.{IsValuePlace}
 use Rattle.roam_auth.proofs.ValueLemmas.{seal_count-yes, seal_count-no, map_none, all_sized, IsSized, packet_length-with_value}
 

@@ -18,7 +18,6 @@ fn value_place(view: &View<'_>) -> Option<usize>
     ensures { MatchOption result (HasNoMessageAuthenticator view.now)
         (λ at. IsValuePlace at view.now.attributes) }
 {
-    let _octets = view.octets();
     let mut at = 20;
     for attribute in view.attributes() {
         if attribute.kind == MESSAGE_AUTHENTICATOR {
@@ -35,10 +34,7 @@ fn place_in(octets: &[u8]) -> Option<usize>
     ensures { MatchOption result (HasNoMessageAuthenticator (packet_of octets.now))
         (λ at. IsValuePlace at (packet_of octets.now).attributes) }
 {
-    match View::read(octets) {
-        Ok(view) => value_place(&view),
-        Err(_) => None,
-    }
+    value_place(&View::of_packet(octets))
 }
 
 /// The Message-Authenticator of the packet of these octets, if it has one.
@@ -50,10 +46,7 @@ fn digest_of(octets: &[u8], secret: &[u8], authenticator: [u8; 16]) -> Option<[u
     ensures some { IfSome result (λ digest. digest
         ≡ message_authenticator secret.now authenticator (packet_of octets.now)) }
 {
-    match View::read(octets) {
-        Ok(view) => message_auth(&view, secret, authenticator),
-        Err(_) => None,
-    }
+    message_auth(&View::of_packet(octets), secret, authenticator)
 }
 
 /// Writes sixteen octets.
@@ -91,10 +84,8 @@ pub fn sign_request(octets: &mut [u8], secret: &[u8])
     ensures { octets.new ≡ packet_text (with_authenticator
         (request_authenticator secret.now (packet_of octets.old)) (packet_of octets.old)) }
 {
-    if let Ok(view) = View::read(octets) {
-        let digest = request_auth(&view, secret);
-        put_sixteen(octets, 4, &digest);
-    }
+    let digest = request_auth(&View::of_packet(octets), secret);
+    put_sixteen(octets, 4, &digest);
 }
 
 /// Fills in the Authenticator of a reply to a request of this Authenticator (RFC 2865, section 3), in
@@ -107,8 +98,6 @@ pub fn sign_reply(octets: &mut [u8], request_authenticator: [u8; 16], secret: &[
         (response_authenticator secret.now request_authenticator (packet_of octets.old))
         (packet_of octets.old)) }
 {
-    if let Ok(view) = View::read(octets) {
-        let digest = response_auth(&view, request_authenticator, secret);
-        put_sixteen(octets, 4, &digest);
-    }
+    let digest = response_auth(&View::of_packet(octets), request_authenticator, secret);
+    put_sixteen(octets, 4, &digest);
 }

@@ -1,10 +1,19 @@
--- The Authenticators over which a reply may be sealed.
-use Rattle.std.proofs.Common.{◌≡◌, ◌↔◌, ◌⊎◌, inl, inr, ℕ, Bool, true, false, List, [], ◌∷◌, IsTrue, refl}
+-- The Authenticators over which a reply may be sealed, and the fault of a reply that isn't taken.
+use Rattle.std.proofs.Common.{◌≡◌, ◌↔◌, ◌<◌, inl, inr, ℕ, Bool, true, false, List, [], ◌∷◌, Option, Some, None, IsTrue, refl, arith, eqb, ltb}
+use Rattle.std.specs.Prelude.{not, ◌&&◌, ◌||◌, if◌then◌else◌}
+use Rattle.std.proofs.lemmas.Bool.Decides.{nat_tests}
+use Rattle.roam_wire.specs.Attributes.{count_of}
+use Rattle.roam_wire.specs.declared.attribute_type.TheConstants.{EAP_MESSAGE, MESSAGE_AUTHENTICATOR}
+use Rattle.roam_wire.specs.declared.refusal.Refusal.{Refusal}
+use Rattle.roam_wire.specs.declared.refusal.Refusal.TheVariants as refusal
 use Rattle.roam_wire.specs.Packet.{Packet}
-use Rattle.roam_auth.specs.Authenticators.{zero_octets}
+use Rattle.roam_auth.specs.Authenticators.{zero_octets, IsSignedReply}
+use Rattle.roam_auth.specs.Deciding.{is_signed_reply, is_well_sealed}
+use Rattle.roam_auth.proofs.DecidingLemmas.{signed_reply_decided, well_sealed_decided}
 use Rattle.roam_auth.specs.MessageAuthenticator.{IsWellSealed}
 use Rattle.roam_auth.proofs.SealLemmas.{IsWellSealed-two}
-use Rattle.roam_back.specs.ReplyCheck.{is_access_reply, sealing_authenticators}
+use Rattle.roam_wire.specs.Codes.{is_access_reply}
+use Rattle.roam_back.specs.ReplyCheck.{answers, sealing_authenticators, IsRightlySealed, has_seal_for_eap, is_rightly_sealed, reply_fault, TakenHasNoFault}
 
 -- an accounting or reverse reply may be sealed over zeros too
 sealing_authenticators-others : (reply forwarded : Packet) → is_access_reply reply.code ≡ false → sealing_authenticators reply forwarded ≡ forwarded.authenticator ∷ zero_octets ∷ []
@@ -21,3 +30,65 @@ well_sealed_over_zeros secret reply forwarded over_request over_zeros other wron
         | inr second ↦ zeros.1 second
       ],
     )
+
+-- ---- why a reply isn't taken
+
+-- a test that isn't true
+is_false : (b : Bool) → (IsTrue b → ⊥) → b ≡ false
+is_false true h = absurd (h refl)
+is_false false h = refl
+
+-- two tests are true just where both facts hold
+both_decided : {P Q : Type 0} (a b : Bool) → (IsTrue a ↔ P) → (IsTrue b ↔ Q) → IsTrue (a && b) ↔ (P × Q)
+both_decided true b first second = (λ h. (first.0 refl, second.0 h), λ h. second.1 h.1)
+both_decided false b first second = (λ h. absurd (cc), λ h. absurd (cc (first.1 h.0)))
+
+-- the test of the seal for an EAP-Message shows it, and the other way round
+eap_shown : (access : Bool) (eap seals : ℕ) → IsTrue (not access || eqb eap 0 || ltb 0 seals)
+    ↔ (IsTrue access → 0 < eap → 0 < seals)
+eap_shown true eap seals = (λ h. λ is some. grind (arith, nat_tests, h), λ h. grind (arith, nat_tests, h refl))
+eap_shown false eap seals = (λ h. λ is some. absurd (cc), λ h. refl)
+
+-- the test of the seal shows it, and the other way round
+rightly_sealed_decided : (secret : List ℕ) (reply forwarded : Packet) →
+    IsTrue (is_rightly_sealed secret reply forwarded) ↔ IsRightlySealed secret reply forwarded
+rightly_sealed_decided secret reply forwarded =
+    let well = is_well_sealed secret (sealing_authenticators reply forwarded) reply in
+    let eap = eap_shown (is_access_reply reply.code) (count_of EAP_MESSAGE reply.attributes) (count_of MESSAGE_AUTHENTICATOR reply.attributes) in
+    let both = both_decided well (has_seal_for_eap reply) (well_sealed_decided secret (sealing_authenticators reply forwarded) reply) eap in
+    (λ h. record { well_sealed = (both.0 h).0; eap = (both.0 h).1 }, λ h. both.1 (h.well_sealed, h.eap))
+
+-- the fault by the three tests
+abbrev pub fault_by : Bool → Bool → Bool → Option Refusal
+fault_by code signed sealed =
+    if not code then Some refusal.WrongReply
+    else if not signed then Some refusal.BadReply
+    else if not sealed then Some refusal.BadReplyMessageAuthenticator
+    else None
+
+-- there is none just where all three are true
+none_by : (code signed sealed : Bool) → (fault_by code signed sealed ≡ None) ↔ (IsTrue code × (IsTrue signed × IsTrue sealed))
+none_by true true true = (λ h. (refl, (refl, refl)), λ h. refl)
+none_by true true false = (λ h. absurd (cc), λ h. absurd (cc h.1.1))
+none_by true false sealed = (λ h. absurd (cc), λ h. absurd (cc h.1.0))
+none_by false signed sealed = (λ h. absurd (cc), λ h. absurd (cc h.0))
+
+pub taken_has_no_fault : TakenHasNoFault
+taken_has_no_fault secret reply forwarded =
+    let code = answers forwarded.code reply.code in
+    let signed = is_signed_reply secret forwarded.authenticator reply in
+    let sealed = is_rightly_sealed secret reply forwarded in
+    let tests = none_by code signed sealed in
+    let signed_so = signed_reply_decided secret forwarded.authenticator reply in
+    let sealed_so = rightly_sealed_decided secret reply forwarded in (
+      λ h. record { code = (tests.0 h).0; signed = signed_so.0 (tests.0 h).1.0; sealed = sealed_so.0 (tests.0 h).1.1 },
+      λ h. tests.1 (h.code, (signed_so.1 h.signed, sealed_so.1 h.sealed)),
+    )
+
+-- where the other two tests are true, the fault is the seal's
+pub bad_seal-fault : (secret : List ℕ) (reply forwarded : Packet) → IsTrue (answers forwarded.code reply.code) → IsSignedReply secret forwarded.authenticator reply → (IsRightlySealed secret reply forwarded → ⊥) → Some refusal.BadReplyMessageAuthenticator ≡ reply_fault secret reply forwarded
+bad_seal-fault secret reply forwarded code signed h =
+    let sealed = is_rightly_sealed secret reply forwarded in
+    let yes : is_signed_reply secret forwarded.authenticator reply ≡ true = (signed_reply_decided secret forwarded.authenticator reply).1 signed in
+    let no : sealed ≡ false = is_false sealed (λ t. h ((rightly_sealed_decided secret reply forwarded).0 t)) in
+    rw (code, yes, no) refl

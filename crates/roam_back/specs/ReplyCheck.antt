@@ -1,15 +1,16 @@
--- Which replies are taken (RFC 2865, section 2.3).
-use Rattle.std.specs.Prelude.{◌==◌, ◌||◌, ◌&&◌, ◌<◌, ℕ, Bool, List, [], ◌∷◌, IsTrue, if◌then◌else◌}
+-- Which replies are taken (RFC 2865, section 2.3), as facts, and as tests for definitions that choose by
+-- them: a law says that the tests find no fault just where the facts hold.
+use Rattle.std.specs.Prelude.{◌≡◌, ◌==◌, ◌||◌, ◌&&◌, ◌<◌, ◌↔◌, ℕ, Bool, List, [], ◌∷◌, IsTrue, Option, Some, None, if◌then◌else◌, nat_lt, not}
 use Rattle.roam_wire.specs.Packet.{Packet}
 use Rattle.roam_wire.specs.Attributes.{count_of}
+use Rattle.roam_wire.specs.Codes.{is_access_reply}
 use Rattle.roam_wire.specs.declared.attribute_type.TheConstants.{EAP_MESSAGE, MESSAGE_AUTHENTICATOR}
-use Rattle.roam_wire.specs.declared.code.TheConstants.{ACCESS_REQUEST, ACCESS_ACCEPT, ACCESS_REJECT, ACCESS_CHALLENGE, ACCOUNTING_REQUEST, ACCOUNTING_RESPONSE, DISCONNECT_REQUEST, DISCONNECT_ACK, DISCONNECT_NAK, COA_REQUEST, COA_ACK, COA_NAK}
+use Rattle.roam_wire.specs.declared.code.TheConstants.{ACCESS_REQUEST, ACCOUNTING_REQUEST, ACCOUNTING_RESPONSE, DISCONNECT_REQUEST, DISCONNECT_ACK, DISCONNECT_NAK, COA_REQUEST, COA_ACK, COA_NAK}
+use Rattle.roam_wire.specs.declared.refusal.Refusal.{Refusal}
+use Rattle.roam_wire.specs.declared.refusal.Refusal.TheVariants as refusal
 use Rattle.roam_auth.specs.Authenticators.{zero_octets, IsSignedReply}
+use Rattle.roam_auth.specs.Deciding.{is_signed_reply, is_well_sealed}
 use Rattle.roam_auth.specs.MessageAuthenticator.{IsWellSealed}
-
--- Access-Accept, Access-Reject or Access-Challenge (RFC 2865, section 4)
-abbrev pub is_access_reply : ℕ → Bool
-is_access_reply code = code == ACCESS_ACCEPT || code == ACCESS_REJECT || code == ACCESS_CHALLENGE
 
 -- whether a reply's code answers a request's (RFC 2865 section 4, RFC 2866 section 4, RFC 5176
 -- section 2.3)
@@ -45,3 +46,32 @@ pub record IsTaken (secret : List ℕ) (reply forwarded : Packet) : Type 0 where
   pub code : IsTrue (answers forwarded.code reply.code)
   pub signed : IsSignedReply secret forwarded.authenticator reply
   pub sealed : IsRightlySealed secret reply forwarded
+
+-- The same as tests.
+
+-- whether an Access reply with an EAP-Message has a Message-Authenticator (RFC 3579, section 3.1)
+abbrev pub has_seal_for_eap : Packet → Bool
+has_seal_for_eap reply =
+    not (is_access_reply reply.code)
+    || count_of EAP_MESSAGE reply.attributes == 0
+    || nat_lt 0 (count_of MESSAGE_AUTHENTICATOR reply.attributes)
+
+-- whether a reply is rightly sealed for a forwarded request (RFC 3579, sections 3.1 and 3.2)
+abbrev pub is_rightly_sealed : List ℕ → Packet → Packet → Bool
+is_rightly_sealed secret reply forwarded =
+    is_well_sealed secret (sealing_authenticators reply forwarded) reply && has_seal_for_eap reply
+
+-- why a reply to a forwarded request isn't taken, if it isn't: for its code, its Response
+-- Authenticator, or its Message-Authenticator, in this order
+abbrev pub reply_fault : List ℕ → Packet → Packet → Option Refusal
+reply_fault secret reply forwarded =
+    if not (answers forwarded.code reply.code) then Some refusal.WrongReply
+    else if not (is_signed_reply secret forwarded.authenticator reply) then Some refusal.BadReply
+    else if not (is_rightly_sealed secret reply forwarded)
+    then Some refusal.BadReplyMessageAuthenticator
+    else None
+
+-- a reply has no fault just where it is taken
+abbrev pub TakenHasNoFault : Type 0
+TakenHasNoFault = (secret : List ℕ) (reply forwarded : Packet) →
+    (reply_fault secret reply forwarded ≡ None) ↔ IsTaken secret reply forwarded

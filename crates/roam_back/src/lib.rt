@@ -9,6 +9,6 @@ mod laws;
 mod reply_check;
 mod returning;
 
-pub use laws::{returned_authenticators, returned_reads, returned_to_the_requester};
+pub use laws::{returned_authenticators, returned_reads, returned_to_the_requester, taken_replies};
 pub use reply_check::check_reply;
 pub use returning::back;

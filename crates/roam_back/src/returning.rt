@@ -1,26 +1,26 @@
 //! The packet that is returned for a reply (RFC 2865, section 2.3).
 
 ghost use Rattle.std.specs.Prelude.{◌≡◌, ◌⊎◌, ◌↔◌, ◌+◌, ◌/◌, ◌%◌, ◌<◌, ◌≤◌, false, ◌∷◌, ◌++◌, length, take, drop, vec_len, vec_capacity, IsOk, IfErr, OnOk, OnErr, IsErrOf};
-ghost use Rattle.roam_wire.specs.Packet.{IsAttribute, attribute_text, attributes_text, packet_text};
+ghost use Rattle.roam_wire.specs.Packet.{IsAttribute, IsPacket, attribute_text, attributes_text, packet_text};
 ghost use Rattle.roam_wire.specs.Reading.{IsPacketText, packet_of};
 ghost use Rattle.roam_wire.specs.Attributes.{only_kind, without_kind};
 ghost use Rattle.roam_wire.specs.Shown.{shown};
 ghost use Rattle.roam_auth.specs.Authenticators.{signed_reply};
 ghost use Rattle.roam_auth.specs.MessageAuthenticator.{HasAtMostOneMessageAuthenticator, with_message_authenticator};
-ghost use Rattle.roam_back.specs.ReplyCheck.{is_access_reply};
+ghost use Rattle.roam_wire.specs.Codes.{is_access_reply};
 ghost use Rattle.roam_back.specs.Returned.{Returning, unsealed, returned, returned_length};
 
 use roam_auth::{seal, sign_reply};
 use roam_wire::attribute_type::PROXY_STATE;
-use roam_wire::{Attr, Refusal, View};
+use roam_wire::{Attr, MAX_PACKET_LENGTH, Refusal, View};
 use std::alloc::Allocator;
 
 /// How many octets a packet's attributes take without its Proxy-States. One pass.
 fn carried_len(reply: &View<'_>) -> usize
     ensures all { result ≡ length (attributes_text (without_kind PROXY_STATE reply.now.attributes)) }
     ensures few { result ≤ 4076 }
+    ensures packet { IsPacket reply.now }
 {
-    let _octets = reply.octets();
     let mut size = 0;
     for attribute in reply.attributes() {
         if attribute.kind != PROXY_STATE {
@@ -34,8 +34,8 @@ fn carried_len(reply: &View<'_>) -> usize
 fn proxy_states_len(request: &View<'_>) -> usize
     ensures all { result ≡ length (attributes_text (only_kind PROXY_STATE request.now.attributes)) }
     ensures few { result ≤ 4076 }
+    ensures packet { IsPacket request.now }
 {
-    let _octets = request.octets();
     let mut size = 0;
     for attribute in request.attributes() {
         if attribute.kind == PROXY_STATE {
@@ -53,6 +53,8 @@ fn returned_len(reply: &View<'_>, request: &View<'_>) -> usize
         + length (attributes_text (without_kind PROXY_STATE reply.now.attributes))
         + length (attributes_text (only_kind PROXY_STATE request.now.attributes)) }
     ensures returned { (r : Returning) → result ≡ returned_length r reply.now request.now }
+    ensures reply { IsPacket reply.now }
+    ensures request { IsPacket request.now }
 {
     20 + carried_len(reply) + proxy_states_len(request)
 }
@@ -97,7 +99,6 @@ fn append_carried<A: Allocator>(out: &mut Vec<u8, A>, reply: &View<'_>)
         ≡ out.old.items ++ attributes_text (without_kind PROXY_STATE reply.now.attributes) }
     ensures capacity { vec_capacity out.old ≤ vec_capacity out.new }
 {
-    let _octets = reply.octets();
     for next in reply.attributes() {
         if next.kind != PROXY_STATE {
             append_attribute(out, next);
@@ -114,7 +115,6 @@ fn append_proxy_states<A: Allocator>(out: &mut Vec<u8, A>, request: &View<'_>)
         ≡ out.old.items ++ attributes_text (only_kind PROXY_STATE request.now.attributes) }
     ensures capacity { vec_capacity out.old ≤ vec_capacity out.new }
 {
-    let _octets = request.octets();
     for next in request.attributes() {
         if next.kind == PROXY_STATE {
             append_attribute(out, next);
@@ -195,7 +195,8 @@ fn seal_and_sign_from<A: Allocator>(
 /// the reply is of an accounting or reverse code: an Access reply isn't returned yet.
 ///
 /// Refused in this order: `ReplyTooLong` where the packet would pass 4096 octets, looked at before
-/// memory is asked for; `NoMemory`. A refusal leaves the buffer's octets as they were.
+/// memory is asked for; `NoMemory`. A refusal leaves the buffer as it was, and its
+/// capacity.
 pub fn back<A: Allocator>(
     reply: &View<'_>,
     request: &View<'_>,
@@ -217,6 +218,7 @@ pub fn back<A: Allocator>(
           client_secret = client_secret.now;
         }) reply.now request.now)) }
     ensures err { OnErr result (out.new.items ≡ out.old.items) }
+    ensures capacity { OnErr result (vec_capacity out.new ≡ vec_capacity out.old) }
 
     // The size is looked at before memory is asked for.
     ensures reply_too_long { IsErrOf result Refusal.ReplyTooLong
@@ -235,10 +237,8 @@ pub fn back<A: Allocator>(
           client_secret = client_secret.now;
         }) reply.now request.now }
 {
-    let _reply_octets = reply.octets();
-    let _request_octets = request.octets();
     let size = returned_len(reply, request);
-    if size > 4096 {
+    if size > MAX_PACKET_LENGTH {
         return Err(Refusal::ReplyTooLong);
     }
     out.reserve(size).map_err(|_| Refusal::NoMemory)?;

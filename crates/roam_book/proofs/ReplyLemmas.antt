@@ -11,7 +11,8 @@ use Rattle.roam_wire.specs.declared.refusal.Refusal.TheVariants as refusal
 use Rattle.roam_auth.specs.Authenticators.{IsSignedReply}
 use Rattle.roam_auth.specs.Deciding.{is_signed_reply, is_well_sealed}
 use Rattle.roam_auth.proofs.DecidingLemmas.{signed_reply_decided, well_sealed_decided}
-use Rattle.roam_back.specs.ReplyCheck.{is_access_reply, answers, sealing_authenticators, IsRightlySealed}
+use Rattle.roam_wire.specs.Codes.{is_access_reply}
+use Rattle.roam_back.specs.ReplyCheck.{answers, sealing_authenticators, IsRightlySealed}
 use Rattle.roam_back.specs.Returned.{returned_length}
 use Rattle.roam_conf.specs.declared.place.Link.{Link}
 use Rattle.roam_pending.specs.PlainEntry.{PlainRequest, PlainStanding, PlainEntry, waiting, done, same_link, stands_at, waits_at}
@@ -22,7 +23,7 @@ use Rattle.roam_pending.proofs.OrderLemmas.{list-changed}
 use Rattle.roam_book.specs.RealmConfig.{RealmConfig, IsLink}
 use Rattle.roam_book.specs.RealmState.{RealmState}
 use Rattle.roam_book.specs.Turn.{Turn, Answers, refuses}
-use Rattle.roam_book.specs.OnReply.{has_seal_for_eap, is_rightly_sealed, reply_fault, return_reply, returned_octets, returning}
+use Rattle.roam_book.specs.OnReply.{return_reply, returned_octets, returning}
 use Rattle.roam_book.specs.Sound.{IsEntry, IsSound, LanesTell, StandsWell}
 use Rattle.roam_book.specs.Judged.{once_done, returns_octets}
 use Rattle.roam_book.specs.ReplyPlans.{IsReplyPlan}
@@ -32,8 +33,6 @@ use Rattle.roam_book.specs.declared.answer.Answer.{Answer}
 use Rattle.roam_book.specs.declared.numbers.Numbers.{Numbers}
 use Rattle.roam_book.proofs.LaneLemmas.{tells-done}
 use Rattle.roam_book.proofs.SoundLemmas.{kept-put, kept-ticket, same_link-equal}
-
--- Why a reply isn't taken
 
 -- a test that isn't true
 is_false : (b : Bool) → (b ≡ true → ⊥) → b ≡ false
@@ -47,52 +46,6 @@ and_left false b h = h
 and_right : (a b : Bool) → (a && b) ≡ true → b ≡ true
 and_right true b h = h
 and_right false b h = absurd (let k : false ≡ true = h in cc)
-
--- the test of the seal for an EAP-Message shows it
-eap_shown : (access : Bool) (eap seals : ℕ) → (not access || eqb eap 0 || ltb 0 seals) ≡ true
-    → access ≡ true → 0 < eap → 0 < seals
-eap_shown true eap seals h is some = grind (arith, nat_tests, h)
-eap_shown false eap seals h is some = absurd (let k : false ≡ true = is in cc)
-
-sealed_shown : (secret : List ℕ) (reply forwarded : Packet)
-    → is_rightly_sealed secret reply forwarded ≡ true → IsRightlySealed secret reply forwarded
-sealed_shown secret reply forwarded h =
-    let well = is_well_sealed secret (sealing_authenticators reply forwarded) reply in
-    record {
-      well_sealed = (well_sealed_decided secret (sealing_authenticators reply forwarded) reply).0 (and_left well (has_seal_for_eap reply) h);
-      eap = eap_shown (is_access_reply reply.code) (count_of EAP_MESSAGE reply.attributes) (count_of MESSAGE_AUTHENTICATOR reply.attributes) (and_right well (has_seal_for_eap reply) h);
-    }
-
--- the refusal that was found is the reply's fault
-pub fault-found : (secret : List ℕ) (reply forwarded : Packet) (why : Refusal)
-    → (why ≡ refusal.WrongReply → IsTrue (answers forwarded.code reply.code) → ⊥)
-    → (why ≡ refusal.BadReply → IsTrue (answers forwarded.code reply.code)
-    × (IsSignedReply secret forwarded.authenticator reply → ⊥))
-    → (why ≡ refusal.BadReplyMessageAuthenticator → IsTrue (answers forwarded.code reply.code)
-    × IsSignedReply secret forwarded.authenticator reply
-    × (IsRightlySealed secret reply forwarded → ⊥))
-    → (why ≡ refusal.WrongReply) ⊎ (why ≡ refusal.BadReply) ⊎ (why ≡ refusal.BadReplyMessageAuthenticator)
-    → Some why ≡ reply_fault secret reply forwarded
-fault-found secret reply forwarded why wrong bad unsealed causes =
-    let code = answers forwarded.code reply.code in
-    let signed = is_signed_reply secret forwarded.authenticator reply in
-    let sealed = is_rightly_sealed secret reply forwarded in
-    let decided = signed_reply_decided secret forwarded.authenticator reply in
-    elim causes [
-      | inl is ↦
-          let no : code ≡ false = is_false code (wrong is) in
-          rw no (ap Some is)
-      | inr (inl is) ↦
-          let yes : code ≡ true = (bad is).0 in
-          let no : signed ≡ false = is_false signed (λ t. (bad is).1 (decided.0 t)) in
-          rw (yes, no) (ap Some is)
-      | inr (inr is) ↦
-          let facts = unsealed is in
-          let yes : code ≡ true = facts.0 in
-          let well : signed ≡ true = decided.1 facts.1 in
-          let no : sealed ≡ false = is_false sealed (λ t. facts.2 (sealed_shown secret reply forwarded t)) in
-          rw (yes, well, no) (ap Some is)
-    ]
 
 -- The turn that a reply is
 

@@ -1,15 +1,12 @@
 -- What a reply does to its realm: it is returned to the sender of the request, and held (RFC 2865,
 -- section 2.3; how long it is held is ours).
-use Rattle.std.specs.Prelude.{ℕ, ◌+◌, ◌&&◌, ◌||◌, ◌==◌, not, nat_lt, Bool, List, [], ◌∷◌, Option, Some, None, if◌then◌else◌}
+use Rattle.std.specs.Prelude.{ℕ, ◌+◌, nat_lt, List, [], ◌∷◌, Option, Some, None, if◌then◌else◌}
 use Rattle.roam_wire.specs.Packet.{Packet, packet_text}
 use Rattle.roam_wire.specs.Reading.{packet_of}
-use Rattle.roam_wire.specs.Attributes.{count_of}
-use Rattle.roam_wire.specs.declared.attribute_type.TheConstants.{EAP_MESSAGE, MESSAGE_AUTHENTICATOR}
 use Rattle.roam_wire.specs.declared.refusal.Refusal.{Refusal}
 use Rattle.roam_wire.specs.declared.refusal.Refusal.TheVariants as refusal
-use Rattle.roam_auth.specs.Deciding.{is_signed_reply, is_well_sealed}
 use Rattle.roam_conf.specs.declared.place.Link.{Link}
-use Rattle.roam_back.specs.ReplyCheck.{is_access_reply, answers, sealing_authenticators}
+pub use Rattle.roam_back.specs.ReplyCheck.{reply_fault}
 use Rattle.roam_back.specs.Returned.{Returning, returned, returned_length}
 use Rattle.roam_pending.specs.PlainEntry.{PlainRequest, PlainStanding, PlainEntry, waiting, done}
 use Rattle.roam_pending.specs.EntryList.{find_link, put}
@@ -18,27 +15,6 @@ use Rattle.roam_book.specs.RealmConfig.{RealmConfig, link_secret, requester_secr
 use Rattle.roam_book.specs.RealmState.{RealmState, with_entries}
 use Rattle.roam_book.specs.Turn.{Turn, refuses, sends, in_time}
 use Rattle.roam_book.specs.OnRequest.{packet_back}
-
--- whether an Access reply with an EAP-Message has a Message-Authenticator (RFC 3579, section 3.1)
-abbrev pub has_seal_for_eap : Packet → Bool
-has_seal_for_eap reply =
-    not (is_access_reply reply.code)
-    || count_of EAP_MESSAGE reply.attributes == 0
-    || nat_lt 0 (count_of MESSAGE_AUTHENTICATOR reply.attributes)
-
--- whether a reply is rightly sealed for a forwarded packet (RFC 3579, sections 3.1 and 3.2)
-abbrev pub is_rightly_sealed : List ℕ → Packet → Packet → Bool
-is_rightly_sealed secret reply forwarded =
-    is_well_sealed secret (sealing_authenticators reply forwarded) reply && has_seal_for_eap reply
-
--- why a reply to a forwarded packet isn't taken, if it isn't: for its code, its Response Authenticator,
--- or its Message-Authenticator, in this order
-abbrev pub reply_fault : List ℕ → Packet → Packet → Option Refusal
-reply_fault secret reply forwarded =
-    if not (answers forwarded.code reply.code) then Some refusal.WrongReply
-    else if not (is_signed_reply secret forwarded.authenticator reply) then Some refusal.BadReply
-    else if not (is_rightly_sealed secret reply forwarded) then Some refusal.BadReplyMessageAuthenticator
-    else None
 
 -- what a reply from a link is returned with
 abbrev pub returning : RealmConfig → PlainRequest → Link → Packet → Returning

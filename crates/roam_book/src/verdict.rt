@@ -59,10 +59,7 @@ fn fault_of(reply: &View<'_>, forwarded: &View<'_>, secret: &[u8]) -> Option<Ref
     ensures fault { result ≡ reply_fault secret.now reply.now forwarded.now }
     ensures taken { IfNone result (IsTaken secret.now reply.now forwarded.now) }
 {
-    match check_reply(reply, forwarded, secret) {
-        Ok(()) => None,
-        Err(why) => Some(why),
-    }
+    check_reply(reply, forwarded, secret).err()
 }
 
 /// The packet that is returned for a reply that was taken.

@@ -1,7 +1,4 @@
-pub mod ArrayLemmas
-pub mod EachLemmas
 pub mod EqualLemmas
-pub mod FaultLemmas
 pub mod LinkLemmas
+pub mod OneLinkLemmas
 pub mod TextLemmas
-pub mod UniqueLemmas

@@ -1,5 +1,5 @@
 -- The link that a look-up finds is one whose endpoint was asked for; where it finds none, there is none.
-use Rattle.std.proofs.Common.{◌≡◌, ℕ, ◌+◌, ◌-◌, ◌≤◌, suc, zero, Bool, true, false, cond, List, [], ◌∷◌, Option, Some, None, option_map, refl, sym, ap, ◌∙◌, inl, inr, arith}
+use Rattle.std.proofs.Common.{◌≡◌, ℕ, ◌+◌, ◌-◌, ◌≤◌, suc, Bool, true, List, [], ◌∷◌, Option, Some, None, option_map, refl, ap, inl, inr, arith}
 use Rattle.std.proofs.lemmas.Bool.{cases_Bool, false≢true}
 use Rattle.std.proofs.lemmas.Option.{same_Some}
 use Rattle.std.specs.List.{position_from, slice_get}
@@ -9,7 +9,7 @@ use Rattle.roam_conf.specs.declared.place.Link.{Link}
 use Rattle.roam_conf.specs.declared.place.Link.TheVariants.{Auth, Acct, Coa}
 use Rattle.roam_conf.specs.Config.{ServerView, PeerView, RealmView, ConfigView}
 use Rattle.roam_conf.specs.Duplicates.{same_endpoint}
-use Rattle.roam_conf.specs.Lookup.{endpoint_of, link_at, acct_or_coa_at, coa_at, is_there, is_coa, first_place, link_in, endpoint_in_realm}
+use Rattle.roam_conf.specs.Lookup.{endpoint_of, link_at, is_there, is_coa, first_place, link_in, endpoint_in_realm}
 use Rattle.roam_conf.proofs.EqualLemmas.{endpoint_decides}
 
 -- the place that is found holds an element that passes
@@ -77,7 +77,7 @@ found_by realm peers e None (Some i) c p q r link is = rw (← same_Some (Acct i
 found_by realm peers e None None (Some i) p q r link is = rw (← same_Some (Coa i) link is) (coa_found realm peers e i r)
 found_by realm peers e None None None p q r link is = cc
 
-link_found : (peers : List PeerView) (realm : RealmView) (e : Endpoint) (link : Link) → link_at peers realm e ≡ Some link → endpoint_of peers realm link ≡ Some e
+pub link_found : (peers : List PeerView) (realm : RealmView) (e : Endpoint) (link : Link) → link_at peers realm e ≡ Some link → endpoint_of peers realm link ≡ Some e
 unfolding link_at
 link_found peers realm e link is = found_by realm peers e _ _ _ refl refl refl link is
 

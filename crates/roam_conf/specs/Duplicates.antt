@@ -1,10 +1,8 @@
 -- What may not stand twice in a configuration. Ours.
-use Rattle.std.specs.Prelude.{ℕ, ◌==◌, ◌&&◌, ◌||◌, Bool, false, List, [], ◌∷◌, Option, Some, None, if◌then◌else◌}
+use Rattle.std.specs.Prelude.{ℕ, ◌==◌, ◌&&◌, ◌||◌, Bool, false, List, [], ◌∷◌, Option, Some}
 use Rattle.std.specs.List.{list_any, filter_map, flat_map}
 use Rattle.std.specs.Str.{bytes_eq, str_eq_ignore_ascii_case}
 use Rattle.roam_conf.specs.declared.endpoint.Endpoint.{Endpoint}
-use Rattle.roam_conf.specs.declared.fault.ConfFault.{ConfFault}
-use Rattle.roam_conf.specs.declared.fault.ConfFault.TheVariants.{DuplicateRealm, DuplicatePeer, DuplicateEndpoint, DuplicateServer, DuplicateLink}
 use Rattle.roam_conf.specs.Config.{ServerView, PeerView, RealmView}
 
 -- two elements, at different places of the list, are the same by the test
@@ -72,13 +70,3 @@ unfoldable pub has_duplicate_link : List PeerView → List RealmView → Bool
 has_duplicate_link peers realms =
     has_pair same_endpoint (coa_endpoints peers)
     || list_any (λ realm. some_server_at (coa_endpoints peers) realm.servers) realms
-
--- the first of the five that is there
-unfoldable pub first_duplicate : Endpoint → Endpoint → List PeerView → List RealmView → Option ConfFault
-first_duplicate auth acct peers realms =
-    if has_duplicate_realm realms then Some DuplicateRealm
-    else if has_duplicate_peer peers then Some DuplicatePeer
-    else if has_duplicate_endpoint auth acct realms then Some DuplicateEndpoint
-    else if has_duplicate_server realms then Some DuplicateServer
-    else if has_duplicate_link peers realms then Some DuplicateLink
-    else None

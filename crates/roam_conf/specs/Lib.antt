@@ -1,12 +1,8 @@
 pub mod Config
-pub mod Document
 pub mod Duplicates
-pub mod Faults
+pub mod Letters
 pub mod Lookup
 pub mod Parts
-pub mod Reading
+pub mod Secrets
 pub mod Shown
-pub mod StatedParts
-pub mod Tables
 pub mod Texts
-pub mod Values

@@ -1,6 +1,6 @@
 //! Where a packet comes from or goes to: an IPv4 address and a UDP port.
 
-use crate::texts;
+use crate::texts::{address, cut_at_colon, decimal};
 
 /// An IPv4 address and a UDP port.
 #[derive(Clone, Copy, Debug, PartialEq, Eq, Hash)]
@@ -16,10 +16,18 @@ impl Endpoint {
 
     /// The endpoint that a text states: four numbers from 0 to 255 joined by dots, a colon and a port
     /// from 1 to 65535, none of them with leading zeros.
+    #[tactic(auto, using(crate::proofs::TextLemmas::shown_parts), unfolding(crate::specs::Texts::endpoint_in))]
     pub fn from_text(text: &str) -> Option<Endpoint>
         ensures value { result ≡ endpoint_in text.now }
         ensures port { IfSome result (λ e. 1 ≤ e.port) }
     {
-        texts::endpoint(text)
+        let (ip, port) = cut_at_colon(text)?;
+        match (address(ip), decimal(port, 1, 65535)) {
+            (Some(ip), Some(port)) => Some(Endpoint {
+                ip,
+                port: port as u16,
+            }),
+            _ => None,
+        }
     }
 }

@@ -5,7 +5,7 @@ ghost use Rattle.roam_conf.specs.Duplicates.{same_endpoint};
 ghost use Rattle.roam_conf.specs.Lookup.{realm_named, peer_with_ip, server_with_ip, first_place, is_there, is_coa};
 ghost use Rattle.roam_conf.specs.Parts.{shown_server, shown_peer, shown_realm};
 
-use crate::duplicates::{is_same_endpoint, is_same_name};
+use crate::sameness::{is_same_endpoint, is_same_name};
 use crate::{Endpoint, Link, Peer, Realm, Server};
 
 /// The first realm of the name, without ASCII case.

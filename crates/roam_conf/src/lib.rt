@@ -1,31 +1,27 @@
-//! The configuration of the broker.
+//! The configuration of the broker: its parts with their ranges, and the look-ups in it.
+//!
+//! Nothing here reads a document: `roam_conf_reader` does.
 #![tactic(auto)]
 
 mod config;
-mod document;
-mod duplicates;
 mod endpoint;
 mod equality;
-mod fault;
 mod finding;
-mod keys;
 mod laws;
 mod lookup;
 mod peer;
 mod place;
 mod realm;
+mod sameness;
 mod server;
-mod stated;
-mod tables;
 mod texts;
-mod values;
 
 pub use config::Config;
 pub use endpoint::Endpoint;
-pub use fault::ConfFault;
-pub use laws::link_of_finds_its_endpoint;
+pub use laws::{link_of_finds_each_link, link_of_finds_its_endpoint};
 pub use peer::Peer;
 pub use place::{Link, Place};
 pub use realm::Realm;
+pub use sameness::{is_same_endpoint, is_same_name};
 pub use server::Server;
-pub use texts::decimal;
+pub use texts::{address, decimal};

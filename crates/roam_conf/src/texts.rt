@@ -3,9 +3,7 @@
 ghost use Rattle.std.specs.Prelude.{◌≡◌, ◌≤◌, IfSome, MatchOption, [], ◌∷◌};
 ghost use Rattle.std.specs.Char.{is_ascii_digit};
 ghost use Rattle.std.specs.List.{list_all};
-ghost use Rattle.roam_conf.specs.Texts.{is_decimal, decimal_in, parts, four_octets, all_four, address_in, endpoint_in};
-
-use crate::Endpoint;
+ghost use Rattle.roam_conf.specs.Texts.{is_decimal, decimal_in, parts, four_octets, all_four, address_in};
 
 /// Whether each octet is a decimal digit.
 fn are_digits(octets: &[u8]) -> bool
@@ -67,7 +65,7 @@ fn cut_at_dot(text: &str) -> Option<(&str, &str)>
 }
 
 /// What stands before the first colon, and after it.
-fn cut_at_colon(text: &str) -> Option<(&str, &str)>
+pub(crate) fn cut_at_colon(text: &str) -> Option<(&str, &str)>
     ensures { MatchOption result (parts 58 text.now ≡ text.now ∷ [])
         (λ cut. parts 58 text.now ≡ cut.0.now ∷ parts 58 cut.1.now) }
 {
@@ -87,27 +85,11 @@ fn four_octets(first: &str, second: &str, third: &str, fourth: &str) -> Option<[
 
 /// An IPv4 address: four numbers from 0 to 255 without leading zeros, joined by dots.
 #[tactic(auto, using(crate::proofs::TextLemmas::shown_parts), unfolding(crate::specs::Texts::address_in))]
-pub(crate) fn address(text: &str) -> Option<[u8; 4]>
+pub fn address(text: &str) -> Option<[u8; 4]>
     ensures { result ≡ address_in text.now }
 {
     let (first, rest) = cut_at_dot(text)?;
     let (second, rest) = cut_at_dot(rest)?;
     let (third, fourth) = cut_at_dot(rest)?;
     four_octets(first, second, third, fourth)
-}
-
-/// An address, a colon and a port from 1 to 65535 without leading zeros.
-#[tactic(auto, using(crate::proofs::TextLemmas::shown_parts), unfolding(crate::specs::Texts::endpoint_in))]
-pub(crate) fn endpoint(text: &str) -> Option<Endpoint>
-    ensures value { result ≡ endpoint_in text.now }
-    ensures port { IfSome result (λ e. 1 ≤ e.port) }
-{
-    let (ip, port) = cut_at_colon(text)?;
-    match (address(ip), decimal(port, 1, 65535)) {
-        (Some(ip), Some(port)) => Some(Endpoint {
-            ip,
-            port: port as u16,
-        }),
-        _ => None,
-    }
 }

@@ -5,7 +5,7 @@ use crate::documents::{
     Change, PEER, REALM, TOP, expect_fault, expect_fault_after, expect_fault_of_each,
     expect_faults_after, fault_of, joined,
 };
-use roam_conf::{ConfFault, Config};
+use roam_conf_reader::{ConfFault, read_config};
 use std::alloc::Global;
 use std::process::Abort;
 use std::test::Fail;
@@ -216,7 +216,7 @@ fn document_of(alloc: Global, peers: u16, realms: u16) -> Result<String, Fail> {
 #[test]
 fn the_largest_configuration(rt: HostRuntime) -> Result<(), Fail> {
     let text = document_of(rt.alloc(), 256, 256)?;
-    let config = Config::read(rt.alloc(), text.as_str())?;
+    let config = read_config(rt.alloc(), text.as_str())?;
     assert_eq!(rt; config.peers.len(), 256);
     assert_eq!(rt; config.realms.len(), 256);
     assert_eq!(rt; config.realm_index(b"R255.example"), Some(255));

@@ -1,6 +1,7 @@
 //! The sample documents, what a change makes of them, and the fault that each has.
 
-use roam_conf::{ConfFault, Config, Endpoint};
+use roam_conf::{Config, Endpoint};
+use roam_conf_reader::{ConfFault, read_config};
 use std::alloc::Global;
 use std::process::Abort;
 use std::test::Fail;
@@ -130,12 +131,12 @@ pub fn sample_with(alloc: Global, old: &str, new: &str) -> Result<String, Fail> 
 /// The configuration that a document of these parts states.
 pub fn config_of(alloc: Global, parts: &[&str]) -> Result<Config, Fail> {
     let text = joined(alloc, parts)?;
-    Ok(Config::read(alloc, text.as_str())?)
+    Ok(read_config(alloc, text.as_str())?)
 }
 
 /// The fault of a text, or `None` where it is accepted.
 pub fn fault_of(alloc: Global, text: &str) -> Option<ConfFault> {
-    match Config::read(alloc, text) {
+    match read_config(alloc, text) {
         Ok(_) => None,
         Err(fault) => Some(fault),
     }

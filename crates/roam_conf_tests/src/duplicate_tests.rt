@@ -4,7 +4,7 @@ use crate::documents::{
     Change, PEER, REALM, SECOND_PEER, SECOND_REALM, SERVER, THIRD_PEER, TOP, changed, expect_fault,
     expect_faults_after, joined,
 };
-use roam_conf::ConfFault;
+use roam_conf_reader::ConfFault;
 use std::alloc::Global;
 use std::process::Abort;
 use std::test::Fail;

@@ -4,7 +4,7 @@ use crate::documents::{
     Change, PEER, REALM, SAMPLE, SEED, SERVER, TOP, expect_fault, expect_fault_of_each,
     expect_faults_after,
 };
-use roam_conf::ConfFault;
+use roam_conf_reader::ConfFault;
 use std::alloc::Global;
 use std::process::Abort;
 use std::test::Fail;

@@ -5,6 +5,7 @@ use crate::documents::{
     config_of, home_server, sample_with,
 };
 use roam_conf::{Config, Endpoint, Peer, Realm, Server};
+use roam_conf_reader::read_config;
 use std::alloc::Global;
 use std::process::Abort;
 use std::test::Fail;
@@ -133,7 +134,7 @@ fn two_servers_of_a_realm_are_read(rt: HostRuntime) -> Result<(), Fail> {
 #[test]
 fn one_pending_request_is_allowed(rt: HostRuntime) -> Result<(), Fail> {
     let text = sample_with(rt.alloc(), "max_pending = 300", "max_pending = 1")?;
-    let config = Config::read(rt.alloc(), text.as_str())?;
+    let config = read_config(rt.alloc(), text.as_str())?;
     assert!(rt; config.realms.len() == 1);
     assert!(rt; config.realms.first().expect(&rt, "a realm").max_pending == 1);
     Ok(())
@@ -186,7 +187,7 @@ fn check_others(
 ) -> Result<(), Fail> {
     for &(old, new) in changes {
         let text = sample_with(alloc, old, new)?;
-        let other = Config::read(alloc, text.as_str())?;
+        let other = read_config(alloc, text.as_str())?;
         assert!(rt; *config != other, "{new}");
     }
     Ok(())

@@ -12,8 +12,11 @@ use Rattle.roam_book.specs.OnTick.{on_tick}
 use Rattle.roam_book.specs.declared.answer.Answer.{Answer}
 use Rattle.roam_book.specs.declared.room.Room.{Room}
 use Rattle.roam_book.specs.declared.start.Start.{Start}
-use Rattle.roam_core.specs.Answers.{GivesAnswer, no_state, state_at, turn_of_one, openings_from}
-use Rattle.roam_core.specs.BrokerView.{states_of, IsBookOf, AreBooks, IsBroker, first_start, fresh}
+use Rattle.roam_core.specs.ManyRealms.{no_state, state_at, turn_of_one}
+use Rattle.roam_core.specs.Openings.{openings_from}
+use Rattle.roam_core.specs.Steps.{GivesAnswer}
+use Rattle.roam_core.specs.BrokerView.{states_of, IsBookOf, AreBooks, IsBroker}
+use Rattle.roam_core.specs.Openings.{first_start, fresh}
 use Rattle.roam_core.specs.ShardRooms.{turn_in}
 
 -- the book at an index

@@ -17,7 +17,7 @@ use Rattle.roam_pending.specs.DueOrder.{due_list}
 use Rattle.roam_book.specs.OneRealm.{RealmEvent, tick_came, event_of, on_event, one_realm_run}
 use Rattle.roam_core.specs.Events.{PlainEvent, arrives, ticks, given_by, is_in_shard, given_to_realm, reject_of, rejects_by}
 use Rattle.roam_core.specs.Isolation.{packets_for, packets_for_none, HasRealm}
-use Rattle.roam_core.specs.Answers.{BrokerTurn, refuses_it, packets_sent, states_after, no_state, state_at, turn_of_one, to_arrival, tick_from, tick_all, answer_to}
+use Rattle.roam_core.specs.ManyRealms.{BrokerTurn, refuses_it, packets_in_turn, states_after, no_state, state_at, turn_of_one, to_arrival, tick_from, tick_all, answer_to}
 use Rattle.roam_core.proofs.PacketLemmas.{none_of_others, all_of_own, none_without_realm, all_have_realms, alone_for_none, alone_for_no_realm, alone_has_realm, same_index, other_index}
 use Rattle.roam_core.proofs.SentLemmas.{SendsFor, on_event_for, absent_is_silent}
 use Rattle.roam_core.proofs.AdmissionLemmas.{RejectsForNone, rejects_for_none}
@@ -28,7 +28,7 @@ decide a b = elim (cases_Bool (eqb a b)) [ inl t ↦ inl (grind (arith, nat_test
 
 -- for a realm, a turn of the broker is what the written broker of that realm does with what it is given
 pub record IsOwnTurn (config : ConfigView) (states : List RealmState) (realm : ℕ) (given : List RealmEvent) (turn : BrokerTurn) : Type 0 where
-  pub packets : packets_for realm (packets_sent turn) ≡ (one_realm_run (realm_config config realm) (state_at states realm) given).packets
+  pub packets : packets_for realm (packets_in_turn turn) ≡ (one_realm_run (realm_config config realm) (state_at states realm) given).packets
   pub state : state_at (states_after states turn) realm ≡ (one_realm_run (realm_config config realm) (state_at states realm) given).state
 
 -- a turn of the realm itself
@@ -157,12 +157,12 @@ event-length config states (ticks now shard) =
     tick-length config states now shard (nat_lt shard config.shards) (nat_lt (2 ^ 62) now)
 
 -- packets for no realm are the local rejects
-turn_rejects : (states : List RealmState) (realm : ℕ) (turn : Turn) → SendsFor realm turn → packets_for_none (packets_sent (turn_of_one states realm turn)) ≡ []
+turn_rejects : (states : List RealmState) (realm : ℕ) (turn : Turn) → SendsFor realm turn → packets_for_none (packets_in_turn (turn_of_one states realm turn)) ≡ []
 unfolding SendsFor
 turn_rejects states realm (refuses why) own = refl
 turn_rejects states realm (sends packets state) own = none_without_realm realm (realm + 1) packets own
 
-arrival_rejects : (config : ConfigView) (states : List RealmState) (now : ℕ) (given : Admission) → RejectsForNone given → packets_for_none (packets_sent (to_arrival config states now given)) ≡ reject_of given
+arrival_rejects : (config : ConfigView) (states : List RealmState) (now : ℕ) (given : Admission) → RejectsForNone given → packets_for_none (packets_in_turn (to_arrival config states now given)) ≡ reject_of given
 unfolding RejectsForNone
 arrival_rejects config states now (refused why) none = refl
 arrival_rejects config states now (rejected out) none = alone_for_none out none
@@ -171,13 +171,13 @@ arrival_rejects config states now (admitted job) none =
     let s = state_at states job.realm in
     turn_rejects states job.realm (on_event c s (event_of now job)) (on_event_for c s (event_of now job))
 
-tick_rejects : (config : ConfigView) (states : List RealmState) (now shard : ℕ) (there late : Bool) → packets_for_none (packets_sent (if there then if late then refuses_it refusal.Moment else tick_all config states now shard else refuses_it refusal.NoShard)) ≡ []
+tick_rejects : (config : ConfigView) (states : List RealmState) (now shard : ℕ) (there late : Bool) → packets_for_none (packets_in_turn (if there then if late then refuses_it refusal.Moment else tick_all config states now shard else refuses_it refusal.NoShard)) ≡ []
 tick_rejects config states now shard true true = refl
 tick_rejects config states now shard true false =
     none_without_realm 0 (0 + length states) (tick_from config now shard 0 states).packets (tick_from_for config now shard 0 states)
 tick_rejects config states now shard false late = refl
 
-pub event_rejects : (config : ConfigView) (states : List RealmState) (e : PlainEvent) → packets_for_none (packets_sent (answer_to config states e)) ≡ rejects_by config e
+pub event_rejects : (config : ConfigView) (states : List RealmState) (e : PlainEvent) → packets_for_none (packets_in_turn (answer_to config states e)) ≡ rejects_by config e
 event_rejects config states (arrives now a) =
     arrival_rejects config states now (admission_by is_served config a) (rejects_for_none is_served config a)
 event_rejects config states (ticks now shard) =
@@ -185,13 +185,13 @@ event_rejects config states (ticks now shard) =
 
 -- each packet is for a realm that is there, or for none: one that isn't there has no servers, and its
 -- turn sends nothing
-turn_realms : (count : ℕ) (states : List RealmState) (realm : ℕ) (turn : Turn) → SendsFor realm turn → realm < count → AllByRecursion (HasRealm count) (packets_sent (turn_of_one states realm turn))
+turn_realms : (count : ℕ) (states : List RealmState) (realm : ℕ) (turn : Turn) → SendsFor realm turn → realm < count → AllByRecursion (HasRealm count) (packets_in_turn (turn_of_one states realm turn))
 unfolding SendsFor
 turn_realms count states realm (refuses why) own within = tt
 turn_realms count states realm (sends packets state) own within =
     all_have_realms realm (realm + 1) count packets (omega arith) own
 
-silent_turn : (count : ℕ) (states : List RealmState) (realm : ℕ) (turn : Turn) → packets_of turn ≡ [] → AllByRecursion (HasRealm count) (packets_sent (turn_of_one states realm turn))
+silent_turn : (count : ℕ) (states : List RealmState) (realm : ℕ) (turn : Turn) → packets_of turn ≡ [] → AllByRecursion (HasRealm count) (packets_in_turn (turn_of_one states realm turn))
 silent_turn count states realm (refuses why) silent = tt
 silent_turn count states realm (sends packets state) silent =
     subst (λ (l : List PlainOut). AllByRecursion (HasRealm count) l) (sym silent) tt
@@ -202,7 +202,7 @@ absent_turn config states realm e stateless absent =
     ap (λ (s : RealmState). packets_of (on_event c s e)) (get_or_past states realm no_state stateless)
     ∙ absent_is_silent c e (ap (λ (r : RealmView). r.servers) (get_or_past config.realms realm no_realm absent))
 
-admitted_realms : (config : ConfigView) (states : List RealmState) (realm : ℕ) (e : RealmEvent) (there : Bool) → nat_lt realm (length config.realms) ≡ there → length states ≡ length config.realms → AllByRecursion (HasRealm (length config.realms)) (packets_sent (turn_of_one states realm (on_event (realm_config config realm) (state_at states realm) e)))
+admitted_realms : (config : ConfigView) (states : List RealmState) (realm : ℕ) (e : RealmEvent) (there : Bool) → nat_lt realm (length config.realms) ≡ there → length states ≡ length config.realms → AllByRecursion (HasRealm (length config.realms)) (packets_in_turn (turn_of_one states realm (on_event (realm_config config realm) (state_at states realm) e)))
 admitted_realms config states realm e true test whole =
     turn_realms (length config.realms) states realm (on_event (realm_config config realm) (state_at states realm) e)
     (on_event_for (realm_config config realm) (state_at states realm) e) (grind (arith, nat_tests, test))
@@ -211,20 +211,20 @@ admitted_realms config states realm e false test whole =
     silent_turn (length config.realms) states realm (on_event (realm_config config realm) (state_at states realm) e)
     (absent_turn config states realm e (omega (arith, past, whole)) past)
 
-arrival_realms : (config : ConfigView) (states : List RealmState) (now : ℕ) (given : Admission) → RejectsForNone given → length states ≡ length config.realms → AllByRecursion (HasRealm (length config.realms)) (packets_sent (to_arrival config states now given))
+arrival_realms : (config : ConfigView) (states : List RealmState) (now : ℕ) (given : Admission) → RejectsForNone given → length states ≡ length config.realms → AllByRecursion (HasRealm (length config.realms)) (packets_in_turn (to_arrival config states now given))
 unfolding RejectsForNone
 arrival_realms config states now (refused why) none whole = tt
 arrival_realms config states now (rejected out) none whole = alone_has_realm (length config.realms) out none
 arrival_realms config states now (admitted job) none whole =
     admitted_realms config states job.realm (event_of now job) (nat_lt job.realm (length config.realms)) refl whole
 
-tick_realms : (config : ConfigView) (states : List RealmState) (now shard : ℕ) (there late : Bool) → length states ≡ length config.realms → AllByRecursion (HasRealm (length config.realms)) (packets_sent (if there then if late then refuses_it refusal.Moment else tick_all config states now shard else refuses_it refusal.NoShard))
+tick_realms : (config : ConfigView) (states : List RealmState) (now shard : ℕ) (there late : Bool) → length states ≡ length config.realms → AllByRecursion (HasRealm (length config.realms)) (packets_in_turn (if there then if late then refuses_it refusal.Moment else tick_all config states now shard else refuses_it refusal.NoShard))
 tick_realms config states now shard true true whole = tt
 tick_realms config states now shard true false whole =
     all_have_realms 0 (0 + length states) (length config.realms) (tick_from config now shard 0 states).packets (omega arith) (tick_from_for config now shard 0 states)
 tick_realms config states now shard false late whole = tt
 
-pub event_realms : (config : ConfigView) (states : List RealmState) (e : PlainEvent) → length states ≡ length config.realms → AllByRecursion (HasRealm (length config.realms)) (packets_sent (answer_to config states e))
+pub event_realms : (config : ConfigView) (states : List RealmState) (e : PlainEvent) → length states ≡ length config.realms → AllByRecursion (HasRealm (length config.realms)) (packets_in_turn (answer_to config states e))
 event_realms config states (arrives now a) whole =
     arrival_realms config states now (admission_by is_served config a) (rejects_for_none is_served config a) whole
 event_realms config states (ticks now shard) whole =

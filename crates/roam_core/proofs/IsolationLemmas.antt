@@ -1,30 +1,19 @@
 -- The isolation of realms, over the written answers to a list of events.
-use Rattle.std.proofs.Common.{◌≡◌, List, [], ◌∷◌, ◌++◌, length, refl, sym, ap, ◌∙◌, append_assoc, arith}
+use Rattle.std.proofs.Common.{◌≡◌, ℕ, zero, suc, ◌+◌, ◌<◌, List, [], ◌∷◌, length, refl, sym, ap, ◌∙◌, arith}
 use Rattle.std.specs.List.{AllByRecursion}
 use Rattle.roam_conf.specs.Config.{ConfigView}
 use Rattle.roam_route.specs.Admission.{PlainOut}
 use Rattle.roam_book.specs.RealmConfig.{RealmConfig, realm_config}
-use Rattle.roam_book.specs.RealmState.{RealmState}
-use Rattle.roam_book.specs.Turn.{Turn, packets_of, state_after}
-use Rattle.roam_book.specs.OneRealm.{RealmEvent, on_event, one_realm_run}
+use Rattle.roam_book.specs.RealmState.{RealmState, opening}
+use Rattle.roam_book.specs.OneRealm.{RealmEvent, one_realm_run}
 use Rattle.roam_core.specs.Events.{PlainEvent, given_to_realm, events_of_realm, rejects_by, local_rejects}
-use Rattle.roam_core.specs.Isolation.{packets_for, packets_for_none, HasRealm, EachRealmIsIsolated, EachRealmStandsAlone, SameInTwoWorlds}
-use Rattle.roam_core.specs.Answers.{BrokerTurn, packets_sent, states_after, state_at, answer_to, answers_to}
+use Rattle.roam_core.specs.Isolation.{packets_for, packets_for_none, HasRealm, IsIsolated, IsIsolatedFromStart, EachIsIsolatedFromStart, EachRealmIsIsolated, EachRealmStandsAlone, EachRealmOpens, SameInTwoWorlds, SameInTwoWorldsFromStart}
+use Rattle.roam_core.specs.ManyRealms.{BrokerTurn, packets_in_turn, states_after, state_at, answer_to, answers_to}
+use Rattle.roam_core.specs.Openings.{openings, openings_from, start_of}
+use Rattle.roam_book.specs.declared.start.Start.{Start}
 use Rattle.roam_core.proofs.PacketLemmas.{joined, packets_for-append, packets_for_none-append, have_realms-append}
+use Rattle.roam_core.proofs.RealmRunLemmas.{packets-append, state-append}
 use Rattle.roam_core.proofs.EventLemmas.{event_turn, event-length, event_rejects, event_realms}
-
--- a realm's run over two lists of events
-run_packets-append : (c : RealmConfig) (s : RealmState) (es fs : List RealmEvent) → (one_realm_run c s (es ++ fs)).packets ≡ (one_realm_run c s es).packets ++ (one_realm_run c (one_realm_run c s es).state fs).packets
-run_packets-append c s [] fs = refl
-run_packets-append c s (e ∷ es) fs =
-    let turn : Turn = on_event c s e in
-    let next : RealmState = state_after s turn in
-    ap (λ (l : List PlainOut). packets_of turn ++ l) (run_packets-append c next es fs)
-    ∙ sym (append_assoc (packets_of turn) (one_realm_run c next es).packets (one_realm_run c (one_realm_run c next es).state fs).packets)
-
-run_state-append : (c : RealmConfig) (s : RealmState) (es fs : List RealmEvent) → (one_realm_run c s (es ++ fs)).state ≡ (one_realm_run c (one_realm_run c s es).state fs).state
-run_state-append c s [] fs = refl
-run_state-append c s (e ∷ es) fs = run_state-append c (state_after s (on_event c s e)) es fs
 
 pub answers-length : (config : ConfigView) (states : List RealmState) (es : List PlainEvent) → length (answers_to config states es).states ≡ length states
 answers-length config states [] = refl
@@ -43,11 +32,11 @@ isolated config states (e ∷ es) some realm within =
     let rest : List RealmEvent = events_of_realm config realm es in
     let now = event_turn config states realm e some within in
     let later = isolated config next es some realm (omega (arith, event-length config states e)) in
-    packets_for-append realm (packets_sent turn) (answers_to config next es).packets
-    ∙ joined (packets_for realm (packets_sent turn)) (packets_for realm (answers_to config next es).packets)
+    packets_for-append realm (packets_in_turn turn) (answers_to config next es).packets
+    ∙ joined (packets_for realm (packets_in_turn turn)) (packets_for realm (answers_to config next es).packets)
     (one_realm_run c s given).packets (one_realm_run c (one_realm_run c s given).state rest).packets
     now.packets (later ∙ ap (λ (t : RealmState). (one_realm_run c t rest).packets) now.state)
-    ∙ sym (run_packets-append c s given rest)
+    ∙ sym (packets-append c s given rest)
 
 -- how it then stands
 pub stands_alone : EachRealmStandsAlone
@@ -59,7 +48,7 @@ stands_alone config states (e ∷ es) realm some within =
     let rest : List RealmEvent = events_of_realm config realm es in
     stands_alone config (states_after states (answer_to config states e)) es realm some (omega (arith, event-length config states e))
     ∙ ap (λ (t : RealmState). (one_realm_run c t rest).state) (event_turn config states realm e some within).state
-    ∙ sym (run_state-append c s given rest)
+    ∙ sym (state-append c s given rest)
 
 same_run : (c d : RealmConfig) (s t : RealmState) (es fs : List RealmEvent) → c ≡ d → s ≡ t → es ≡ fs → (one_realm_run c s es).packets ≡ (one_realm_run d t fs).packets
 same_run c d s t es fs configs states events =
@@ -79,8 +68,8 @@ rejects_alone config states [] = refl
 rejects_alone config states (e ∷ es) =
     let turn : BrokerTurn = answer_to config states e in
     let others : List PlainOut = (answers_to config (states_after states turn) es).packets in
-    packets_for_none-append (packets_sent turn) others
-    ∙ joined (packets_for_none (packets_sent turn)) (packets_for_none others) (rejects_by config e) (local_rejects config es)
+    packets_for_none-append (packets_in_turn turn) others
+    ∙ joined (packets_for_none (packets_in_turn turn)) (packets_for_none others) (rejects_by config e) (local_rejects config es)
     (event_rejects config states e) (rejects_alone config (states_after states turn) es)
 
 pub each_has_realm : (config : ConfigView) (states : List RealmState) (es : List PlainEvent) → length states ≡ length config.realms → AllByRecursion (HasRealm (length config.realms)) (answers_to config states es).packets
@@ -88,6 +77,44 @@ each_has_realm config states [] whole = tt
 each_has_realm config states (e ∷ es) whole =
     let turn : BrokerTurn = answer_to config states e in
     let next : List RealmState = states_after states turn in
-    have_realms-append (length config.realms) (packets_sent turn) (answers_to config next es).packets
+    have_realms-append (length config.realms) (packets_in_turn turn) (answers_to config next es).packets
     (event_realms config states e whole)
     (each_has_realm config next es (event-length config states e ∙ whole))
+
+-- how the realms begin
+openings-length : (config : ConfigView) (first : ℕ) (starts : List Start) → length (openings_from config first starts) ≡ length starts
+openings-length config first [] = refl
+openings-length config first (s ∷ ss) = ap suc (openings-length config (first + 1) ss)
+
+opening-at : (config : ConfigView) (realm first : ℕ) (starts : List Start) (k : ℕ) → realm ≡ first + k → k < length starts → state_at (openings_from config first starts) k ≡ opening (realm_config config realm) (start_of starts k)
+opening-at config realm first [] k is within = absurd (omega arith)
+opening-at config realm first (s ∷ ss) zero is within =
+    let same : realm ≡ first = omega arith in
+    ap (λ (r : ℕ). opening (realm_config config r) s) (sym same)
+opening-at config realm first (s ∷ ss) (suc k) is within =
+    opening-at config realm (first + 1) ss k (omega arith) (omega arith)
+
+pub each_opens : EachRealmOpens
+each_opens config starts realm within = opening-at config realm 0 starts realm (omega arith) within
+
+-- what is isolated in some states is isolated from the starts at which they are the openings
+pub from_start : (config : ConfigView) (states : List RealmState) (starts : List Start) (events : List PlainEvent) (packets : List PlainOut) → states ≡ openings config starts → IsIsolated config states events packets → IsIsolatedFromStart config starts events packets
+from_start config states starts events packets begin isolated_then realm within =
+    let count : length states ≡ length starts = ap (λ (l : List RealmState). length l) begin ∙ openings-length config 0 starts in
+    let at : state_at states realm ≡ opening (realm_config config realm) (start_of starts realm) =
+    ap (λ (l : List RealmState). state_at l realm) begin ∙ each_opens config starts realm within in
+    isolated_then realm (omega (arith, count))
+    ∙ ap (λ (s : RealmState). (one_realm_run (realm_config config realm) s (events_of_realm config realm events)).packets) at
+
+pub isolated_from_start : EachIsIsolatedFromStart
+isolated_from_start config starts events some =
+    let states = openings config starts in
+    from_start config states starts events (answers_to config states events).packets refl (isolated config states events some)
+
+pub same_in_two_worlds_from_start : SameInTwoWorldsFromStart
+same_in_two_worlds_from_start realm one other ss ts es fs some_one some_other here there configs starts events =
+    let same_opening = ap (λ (c : RealmConfig). opening c (start_of ss realm)) configs
+    ∙ ap (λ (s : Start). opening (realm_config other realm) s) starts in
+    let states = each_opens one ss realm here ∙ same_opening ∙ sym (each_opens other ts realm there) in
+    same_in_two_worlds realm one other (openings one ss) (openings other ts) es fs some_one some_other
+    (omega (arith, here, openings-length one 0 ss)) (omega (arith, there, openings-length other 0 ts)) configs states events

@@ -5,30 +5,51 @@ use Rattle.std.specs.List.{list_any, AllByRecursion}
 use Rattle.std.proofs.lemmas.List.{append-nil}
 use Rattle.std.proofs.lemmas.Bool.Decides.{nat_tests}
 use Rattle.roam_core.specs.Events.{PlainEvent, kept, kept_from}
+use Rattle.roam_core.specs.Runs.{AreRising, ArePlaces}
 
 -- each lost place is below n
-abbrev pub Below : ℕ → List ℕ → Type 0
+abbrev Below : ℕ → List ℕ → Type 0
 Below n lost = AllByRecursion (λ l. l < n) lost
 
-pub Below-more : (n : ℕ) (lost : List ℕ) → Below n lost → Below (n + 1) lost
+Below-more : (n : ℕ) (lost : List ℕ) → Below n lost → Below (n + 1) lost
 Below-more n [] below = tt
 Below-more n (l ∷ lost) below = (omega (arith, below.0), Below-more n lost below.1)
 
-pub Below-append : (n : ℕ) (lost : List ℕ) → Below n lost → Below (n + 1) (lost ++ n ∷ [])
+Below-append : (n : ℕ) (lost : List ℕ) → Below n lost → Below (n + 1) (lost ++ n ∷ [])
 Below-append n [] below = (omega arith, tt)
 Below-append n (l ∷ lost) below = (omega (arith, below.0), Below-append n lost below.1)
 
-absent : (n : ℕ) (lost : List ℕ) → Below n lost → list_any (λ l. l == n) lost ≡ false
+-- a place above all others comes after them
+all-above : (l n : ℕ) (lost : List ℕ) → l < n → AllByRecursion (λ q. l < q) lost → AllByRecursion (λ q. l < q) (lost ++ n ∷ [])
+all-above l n [] lt above = (lt, tt)
+all-above l n (x ∷ lost) lt above = (above.0, all-above l n lost lt above.1)
+
+rising-append : (n : ℕ) (lost : List ℕ) → Below n lost → AreRising lost → AreRising (lost ++ n ∷ [])
+rising-append n [] below rising = (tt, tt)
+rising-append n (l ∷ lost) below rising =
+    (all-above l n lost below.0 rising.0, rising-append n lost below.1 rising.1)
+
+-- the places of so many events, with one event more: it isn't lost, or it is
+pub places-more : (n : ℕ) (lost : List ℕ) → ArePlaces n lost → ArePlaces (n + 1) lost
+places-more n lost are = record { there = Below-more n lost are.there; rising = are.rising }
+
+pub places-append : (n : ℕ) (lost : List ℕ) → ArePlaces n lost → ArePlaces (n + 1) (lost ++ n ∷ [])
+places-append n lost are = record {
+  there = Below-append n lost are.there;
+  rising = rising-append n lost are.there are.rising;
+}
+
+pub absent : (n : ℕ) (lost : List ℕ) → Below n lost → list_any (λ l. l == n) lost ≡ false
 absent n [] below = refl
 absent n (l ∷ lost) below =
     let lt : l < n = below.0 in grind (arith, nat_tests, absent n lost below.1)
 
-present : (n : ℕ) (lost : List ℕ) → list_any (λ l. l == n) (lost ++ n ∷ []) ≡ true
+pub present : (n : ℕ) (lost : List ℕ) → list_any (λ l. l == n) (lost ++ n ∷ []) ≡ true
 present n [] = grind (arith, nat_tests)
 present n (l ∷ lost) = grind (arith, nat_tests, present n lost)
 
 -- a place that is lost makes no other one lost
-other_place : (i n : ℕ) (lost : List ℕ) → i < n → list_any (λ l. l == i) (lost ++ n ∷ []) ≡ list_any (λ l. l == i) lost
+pub other_place : (i n : ℕ) (lost : List ℕ) → i < n → list_any (λ l. l == i) (lost ++ n ∷ []) ≡ list_any (λ l. l == i) lost
 other_place i n [] lt = grind (arith, nat_tests)
 other_place i n (l ∷ lost) lt = ap (λ b. (l == i) || b) (other_place i n lost lt)
 
@@ -48,8 +69,8 @@ one_more i n lost (x ∷ es) e h =
     appended (list_any (λ l. l == i) lost) (kept_from (i + 1) lost es) (kept_from (i + 1) lost (es ++ e ∷ [])) (if list_any (λ l. l == n) lost then [] else e ∷ []) x (one_more (i + 1) n lost es e (omega arith))
 
 -- one event more that was answered
-pub kept-done : (n : ℕ) (lost : List ℕ) (es : List PlainEvent) (e : PlainEvent) → n ≡ length es → Below n lost → kept lost (es ++ e ∷ []) ≡ kept lost es ++ e ∷ []
-kept-done n lost es e h below = one_more 0 n lost es e (omega arith) ∙ rw (absent n lost below) refl
+pub kept-done : (n : ℕ) (lost : List ℕ) (es : List PlainEvent) (e : PlainEvent) → n ≡ length es → ArePlaces n lost → kept lost (es ++ e ∷ []) ≡ kept lost es ++ e ∷ []
+kept-done n lost es e h are = one_more 0 n lost es e (omega arith) ∙ rw (absent n lost are.there) refl
 
 -- one event more that was lost
 pub kept-lost : (n : ℕ) (lost : List ℕ) (es : List PlainEvent) (e : PlainEvent) → n ≡ length es → kept (lost ++ n ∷ []) (es ++ e ∷ []) ≡ kept lost es

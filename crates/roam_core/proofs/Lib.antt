@@ -4,13 +4,15 @@ pub mod SentLemmas
 pub mod AdmissionLemmas
 pub mod TickLemmas
 pub mod EventLemmas
+pub mod RealmRunLemmas
 pub mod IsolationLemmas
+pub mod GivenLemmas
 pub mod RunLemmas
 pub mod BookLemmas
 pub mod ShardLemmas
-pub mod OriginRunLemmas
 pub mod OriginLemmas
 pub mod OriginRequestLemmas
 pub mod OriginReplyLemmas
 pub mod OriginTickLemmas
 pub mod ProvenanceLemmas
+pub mod TicketLemmas

@@ -6,23 +6,28 @@ use Rattle.roam_conf.specs.Config.{ConfigView}
 use Rattle.roam_route.specs.Admission.{PlainOut}
 use Rattle.roam_book.specs.RealmState.{RealmState}
 use Rattle.roam_core.specs.Events.{PlainEvent, kept, local_rejects}
-use Rattle.roam_core.specs.Isolation.{IsIsolated, packets_for_none, HasRealm}
-use Rattle.roam_core.specs.Answers.{StandsAfterSome, packets_sent, states_after, answer_to, answers_to}
-use Rattle.roam_core.proofs.KeptLemmas.{Below, Below-more, Below-append, kept-done, kept-lost}
-use Rattle.roam_core.proofs.IsolationLemmas.{answers-length, isolated, rejects_alone, each_has_realm}
+use Rattle.roam_core.specs.Isolation.{IsIsolated, IsIsolatedFromStart, packets_for_none, HasRealm}
+use Rattle.roam_core.specs.ManyRealms.{packets_in_turn, states_after, answer_to, answers_to}
+use Rattle.roam_book.specs.declared.start.Start.{Start}
+use Rattle.roam_core.specs.Openings.{openings}
+use Rattle.roam_core.specs.ProvenanceLaws.{HasProvenance}
+use Rattle.roam_core.specs.Runs.{ArePlaces, StandsAfterSome}
+use Rattle.roam_core.proofs.KeptLemmas.{places-more, places-append, kept-done, kept-lost}
+use Rattle.roam_core.proofs.ProvenanceLemmas.{has_provenance}
+use Rattle.roam_core.proofs.IsolationLemmas.{answers-length, from_start, isolated, rejects_alone, each_has_realm}
 
 states-append : (config : ConfigView) (states : List RealmState) (es : List PlainEvent) (e : PlainEvent) → (answers_to config states (es ++ e ∷ [])).states ≡ states_after (answers_to config states es).states (answer_to config (answers_to config states es).states e)
 states-append config states [] e = refl
 states-append config states (x ∷ es) e =
     states-append config (states_after states (answer_to config states x)) es e
 
-packets-append : (config : ConfigView) (states : List RealmState) (es : List PlainEvent) (e : PlainEvent) → (answers_to config states (es ++ e ∷ [])).packets ≡ (answers_to config states es).packets ++ packets_sent (answer_to config (answers_to config states es).states e)
-packets-append config states [] e = append-nil (packets_sent (answer_to config states e))
+packets-append : (config : ConfigView) (states : List RealmState) (es : List PlainEvent) (e : PlainEvent) → (answers_to config states (es ++ e ∷ [])).packets ≡ (answers_to config states es).packets ++ packets_in_turn (answer_to config (answers_to config states es).states e)
+packets-append config states [] e = append-nil (packets_in_turn (answer_to config states e))
 packets-append config states (x ∷ es) e =
-    let first : List PlainOut = packets_sent (answer_to config states x) in
+    let first : List PlainOut = packets_in_turn (answer_to config states x) in
     let next : List RealmState = states_after states (answer_to config states x) in
     ap (λ (l : List PlainOut). first ++ l) (packets-append config next es e)
-    ∙ sym (append_assoc first (answers_to config next es).packets (packets_sent (answer_to config (answers_to config next es).states e)))
+    ∙ sym (append_assoc first (answers_to config next es).packets (packets_in_turn (answer_to config (answers_to config next es).states e)))
 
 -- a broker with a state for each realm, and a shard
 pub record IsWhole (config : ConfigView) (states : List RealmState) : Type 0 where
@@ -31,7 +36,7 @@ pub record IsWhole (config : ConfigView) (states : List RealmState) : Type 0 whe
 
 -- what was sent and lost after n events, and how the broker then stands
 pub record HasRun (config : ConfigView) (first : List RealmState) (events : List PlainEvent) (n : ℕ) (lost : List ℕ) (packets : List PlainOut) (now : ConfigView) (states : List RealmState) : Type 0 where
-  pub below : Below n lost
+  pub places : ArePlaces n lost
   pub packets_are : packets ≡ (answers_to config first (kept lost (take n events))).packets
   pub states_are : states ≡ (answers_to config first (kept lost (take n events))).states
   pub config_is : now ≡ config
@@ -49,14 +54,14 @@ still_whole config first events n lost packets now states run whole some = recor
 pub answered : (config : ConfigView) (first : List RealmState) (events : List PlainEvent) (n : ℕ) (lost : List ℕ) (packets more : List PlainOut) (now next : ConfigView) (states new : List RealmState) (e d : PlainEvent)
     → n < length events → get_or events n d ≡ e → HasRun config first events n lost packets now states
     → length states ≡ length now.realms → 1 ≤ now.shards → next ≡ now
-    → more ≡ packets_sent (answer_to now states e) → new ≡ states_after states (answer_to now states e)
+    → more ≡ packets_in_turn (answer_to now states e) → new ≡ states_after states (answer_to now states e)
     → HasRun config first events (n + 1) lost (packets ++ more) next new
 answered config first events n lost packets more now next states new e d within at run whole some stays sent changed =
     let front : take (n + 1) events ≡ take n events ++ e ∷ [] = take_more events n d within ∙ rw at refl in
-    let kept_is : kept lost (take (n + 1) events) ≡ kept lost (take n events) ++ e ∷ [] = rw front (kept-done n lost (take n events) e (omega (arith, length-take n events)) run.below) in
+    let kept_is : kept lost (take (n + 1) events) ≡ kept lost (take n events) ++ e ∷ [] = rw front (kept-done n lost (take n events) e (omega (arith, length-take n events)) run.places) in
     let before : List PlainEvent = kept lost (take n events) in
     record {
-      below = Below-more n lost run.below;
+      places = places-more n lost run.places;
       packets_are = rw (kept_is, packets-append config first before e, sent, run.config_is, ← run.states_are, ← run.packets_are) refl;
       states_are = rw (kept_is, states-append config first before e, changed, run.config_is, ← run.states_are) refl;
       config_is = stays ∙ run.config_is;
@@ -72,7 +77,7 @@ lost_one config first events n lost packets now next states new e d within at ru
     let front : take (n + 1) events ≡ take n events ++ e ∷ [] = take_more events n d within ∙ rw at refl in
     let kept_is : kept (lost ++ n ∷ []) (take (n + 1) events) ≡ kept lost (take n events) = rw front (kept-lost n lost (take n events) e (omega (arith, length-take n events))) in
     record {
-      below = Below-append n lost run.below;
+      places = places-append n lost run.places;
       packets_are = rw kept_is run.packets_are;
       states_are = rw kept_is (same ∙ run.states_are);
       config_is = stays ∙ run.config_is;
@@ -81,7 +86,10 @@ lost_one config first events n lost packets now next states new e d within at ru
 
 -- at the end
 pub record HasRunAll (config : ConfigView) (first : List RealmState) (events : List PlainEvent) (lost : List ℕ) (packets : List PlainOut) (states : List RealmState) : Type 0 where
+  pub places : ArePlaces (length events) lost
   pub isolated : IsIsolated config first (kept lost events) packets
+  pub provenance : (starts : List Start) → first ≡ openings config starts → HasProvenance config starts (kept lost events) packets
+  pub from_start : (starts : List Start) → first ≡ openings config starts → IsIsolatedFromStart config starts (kept lost events) packets
   pub all_sent : packets ≡ (answers_to config first (kept lost events)).packets
   pub all_stand : states ≡ (answers_to config first (kept lost events)).states
   pub rejects : packets_for_none packets ≡ local_rejects config (kept lost events)
@@ -102,8 +110,12 @@ has_run_all config first events n lost packets now states is run =
     let all : take n events ≡ events = take_all n events (omega (arith, is)) in
     let whole : 0 < length events → IsWhole config first = λ some. run.whole (omega (arith, is, some)) in
     let sent : packets ≡ (answers_to config first (kept lost events)).packets = run.packets_are ∙ rw all refl in
+    let alone = subst (λ (l : List PlainOut). IsIsolated config first (kept lost events) l) (sym sent) (isolated_at_end config first events lost whole) in
     record {
-      isolated = subst (λ (l : List PlainOut). IsIsolated config first (kept lost events) l) (sym sent) (isolated_at_end config first events lost whole);
+      places = subst (λ (k : ℕ). ArePlaces k lost) is run.places;
+      isolated = alone;
+      provenance = λ starts begin. has_provenance config starts (kept lost events) packets (from_start config first starts (kept lost events) packets begin alone);
+      from_start = λ starts begin. from_start config first starts (kept lost events) packets begin alone;
       all_sent = sent;
       all_stand = run.states_are ∙ rw all refl;
       rejects = ap packets_for_none sent ∙ rejects_alone config first (kept lost events);
@@ -111,9 +123,11 @@ has_run_all config first events n lost packets now states is run =
     }
 
 -- at any moment: the states are those after some of the events
-pub stands_after : (config : ConfigView) (first : List RealmState) (events : List PlainEvent) (n : ℕ) (lost : List ℕ) (packets : List PlainOut) (now : ConfigView) (states new : List RealmState) → HasRun config first events n lost packets now states → new ≡ states → StandsAfterSome config first new events
-stands_after config first events n lost packets now states new run same = record {
+pub stands_after : (config : ConfigView) (first : List RealmState) (events : List PlainEvent) (n : ℕ) (lost : List ℕ) (packets : List PlainOut) (now : ConfigView) (states new : List RealmState) → n ≤ length events → HasRun config first events n lost packets now states → new ≡ states → StandsAfterSome config first new events
+stands_after config first events n lost packets now states new some run same = record {
   count = n;
+  some = some;
   lost = lost;
+  places = run.places;
   stands = same ∙ run.states_are;
 }

@@ -21,7 +21,7 @@ use Rattle.roam_book.specs.OnRequest.{packet_back, admit, make_way, at_target, n
 use Rattle.roam_book.specs.OnReply.{return_reply, judge, to_standing, to_entry, reply_fault, on_reply}
 use Rattle.roam_book.specs.OnTick.{Progress, silent, fail_over, without_entry, due_standing, due_entry, due_one, due_each, as_turn, on_tick}
 use Rattle.roam_book.specs.OneRealm.{RealmEvent, request_came, reply_came, tick_came, on_event}
-use Rattle.roam_core.specs.Answers.{no_state}
+use Rattle.roam_core.specs.ManyRealms.{no_state}
 use Rattle.roam_core.proofs.PacketLemmas.{IsFor, AllFor, AllFor-append}
 
 -- what holds of both ways holds of the one that is taken

@@ -14,7 +14,8 @@ use Rattle.roam_book.specs.OnTick.{on_tick}
 use Rattle.roam_book.specs.declared.answer.Answer.{Answer}
 use Rattle.roam_book.specs.declared.room.Room.{Room}
 use Rattle.roam_core.specs.Events.{is_in_shard}
-use Rattle.roam_core.specs.Answers.{AllRealms, IsAnswer, no_state, state_at, tick_of, tick_from, to_tick}
+use Rattle.roam_core.specs.ManyRealms.{AllRealms, no_state, state_at, tick_of, tick_from, to_tick}
+use Rattle.roam_core.specs.Steps.{IsAnswer}
 use Rattle.roam_core.specs.BrokerView.{states_of}
 use Rattle.roam_core.specs.ShardRooms.{most_of, most_of_all, Fits, AllFit, IsRealmRoom, AreRooms, turn_in, tick_in}
 

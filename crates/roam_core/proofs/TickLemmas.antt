@@ -9,7 +9,7 @@ use Rattle.roam_book.specs.Turn.{sends, packets_of, state_after}
 use Rattle.roam_book.specs.OnTick.{on_tick}
 use Rattle.roam_core.specs.Events.{is_in_shard}
 use Rattle.roam_core.specs.Isolation.{packets_for}
-use Rattle.roam_core.specs.Answers.{state_at, tick_of, tick_from}
+use Rattle.roam_core.specs.ManyRealms.{state_at, tick_of, tick_from}
 use Rattle.roam_core.proofs.PacketLemmas.{AllFor, AllFor-append, AllFor-wider, joined, packets_for-append, none_of_others, all_of_own}
 use Rattle.roam_core.proofs.SentLemmas.{SendsFor, either, nothing_for, on_tick_for}
 

@@ -1,10 +1,8 @@
 -- What a contract sees of a broker over books, and what its books keep (ours).
-use Rattle.std.specs.Prelude.{◌≡◌, ℕ, ◌+◌, ◌≤◌, List, [], ◌∷◌, length, map, replicate}
+use Rattle.std.specs.Prelude.{◌≡◌, ℕ, ◌+◌, ◌≤◌, List, [], ◌∷◌, length, map}
 use Rattle.roam_conf.specs.Config.{ConfigView}
 use Rattle.roam_book.specs.BookView.{BookView}
 use Rattle.roam_book.specs.RealmState.{RealmState}
-use Rattle.roam_book.specs.declared.start.Start.{Start}
-use Rattle.roam_core.specs.Answers.{openings}
 
 -- a broker: its configuration, and the state of each realm, in the order of their indexes
 pub record BrokerView : Type 0 where
@@ -30,11 +28,3 @@ pub record IsBroker (config : ConfigView) (books : List BookView) : Type 0 where
   pub each : AreBooks config 0 books
   pub count : length books ≡ length config.realms
   pub some_shard : 1 ≤ config.shards
-
--- where each realm of a fresh broker begins: at place 0 of its random words, and ticket 0
-abbrev pub first_start : Start
-first_start = record { place = 0; ticket = 0 }
-
--- how the realms of a fresh broker stand
-abbrev pub fresh : ConfigView → List RealmState
-fresh config = openings config (replicate (length config.realms) first_start)

@@ -1,18 +1,21 @@
--- The isolation of realms (ours). For every list of events, in any interleaving, with losses and
--- repeats (a lost datagram isn't in the list, a repeated one is in it twice), and for every realm: the
--- packets that the broker sends for that realm are, in order and octet for octet, those that the
--- written broker of one realm sends when it is given that realm's events alone, with its configuration
--- (`realm_config`), its moments (they stand in the events) and its random words (what they are taken
--- from is the seed and the index there, and the stream position in its state).
+-- The isolation of realms (ours). The headline is `IsIsolatedFromStart`: for every list of arrivals and
+-- timer events, in any interleaving, with losses and repeats (a lost datagram isn't in the list, a
+-- repeated one is in it twice), and for every realm, the packets that the broker sends for that realm
+-- are, in order and octet for octet, those that the written broker of one realm sends when it is given
+-- that realm's events alone, with its configuration (`realm_config`), its moments (they stand in the
+-- events) and its random words (what they are taken from is the seed and the index there, and the
+-- stream position in its state).
 use Rattle.std.specs.Prelude.{◌≡◌, ℕ, ◌<◌, ◌≤◌, ◌==◌, Bool, true, false, List, Option, Some, None, length}
 use Rattle.std.specs.List.{filter}
 use Rattle.roam_conf.specs.Config.{ConfigView}
 use Rattle.roam_route.specs.Admission.{PlainOut}
 use Rattle.roam_book.specs.RealmConfig.{realm_config}
-use Rattle.roam_book.specs.RealmState.{RealmState}
+use Rattle.roam_book.specs.RealmState.{RealmState, opening}
 use Rattle.roam_book.specs.OneRealm.{one_realm_run}
+use Rattle.roam_book.specs.declared.start.Start.{Start}
 use Rattle.roam_core.specs.Events.{PlainEvent, events_of_realm}
-use Rattle.roam_core.specs.Answers.{state_at, answers_to}
+use Rattle.roam_core.specs.ManyRealms.{state_at, answers_to}
+use Rattle.roam_core.specs.Openings.{openings, start_of, one_realm_packets}
 
 -- a packet's realm is this one
 abbrev pub is_realm : ℕ → Option ℕ → Bool
@@ -32,16 +35,33 @@ packets_for realm packets = filter (λ out. is_realm realm out.realm) packets
 abbrev pub packets_for_none : List PlainOut → List PlainOut
 packets_for_none packets = filter (λ out. is_none out.realm) packets
 
--- each realm is isolated: begun in these states, the packets for a realm are those of its own written
--- broker, which is given its part of the configuration, its state and its events, and nothing else. The
--- events are those that weren't lost for want of memory: `run` names them by `kept`
+-- the headline: begun at these starts, one for each realm, the packets for a realm are those of its own
+-- written broker from its start, which is given its part of the configuration and its events, and
+-- nothing else. The events are those that weren't lost for want of memory: `run` names them by `kept`
+abbrev pub IsIsolatedFromStart :
+    ConfigView → List Start → List PlainEvent → List PlainOut → Type 0
+IsIsolatedFromStart config starts events packets =
+    (realm : ℕ) → realm < length starts
+    → packets_for realm packets
+    ≡ one_realm_packets (realm_config config realm) (start_of starts realm)
+    (events_of_realm config realm events)
+
+-- the same, begun in any states
 abbrev pub IsIsolated : ConfigView → List RealmState → List PlainEvent → List PlainOut → Type 0
 IsIsolated config states events packets =
     (realm : ℕ) → realm < length states
     → packets_for realm packets
-    ≡ (one_realm_run (realm_config config realm) (state_at states realm) (events_of_realm config realm events)).packets
+    ≡ (one_realm_run (realm_config config realm) (state_at states realm)
+    (events_of_realm config realm events)).packets
 
--- isolation itself, of the written answers: for all configurations with a shard, states and events
+-- isolation itself, of the written answers: for all configurations with a shard, starts and events,
+-- and for all states
+abbrev pub EachIsIsolatedFromStart : Type 0
+EachIsIsolatedFromStart =
+    (config : ConfigView) (starts : List Start) (events : List PlainEvent)
+    → 1 ≤ config.shards
+    → IsIsolatedFromStart config starts events (answers_to config (openings config starts) events).packets
+
 abbrev pub EachRealmIsIsolated : Type 0
 EachRealmIsIsolated =
     (config : ConfigView) (states : List RealmState) (events : List PlainEvent)
@@ -54,7 +74,15 @@ EachRealmStandsAlone =
     (config : ConfigView) (states : List RealmState) (events : List PlainEvent) (realm : ℕ)
     → 1 ≤ config.shards → realm < length states
     → state_at (answers_to config states events).states realm
-    ≡ (one_realm_run (realm_config config realm) (state_at states realm) (events_of_realm config realm events)).state
+    ≡ (one_realm_run (realm_config config realm) (state_at states realm)
+    (events_of_realm config realm events)).state
+
+-- what `openings` says of one realm: it begins at its own start, and at nothing else
+abbrev pub EachRealmOpens : Type 0
+EachRealmOpens =
+    (config : ConfigView) (starts : List Start) (realm : ℕ) → realm < length starts
+    → state_at (openings config starts) realm
+    ≡ opening (realm_config config realm) (start_of starts realm)
 
 -- none, or a realm's index below this
 abbrev pub IsRealmBelow : ℕ → Option ℕ → Type 0
@@ -74,4 +102,16 @@ SameInTwoWorlds =
     → realm_config one realm ≡ realm_config other realm
     → state_at ss realm ≡ state_at ts realm
     → events_of_realm one realm es ≡ events_of_realm other realm fs
-    → packets_for realm (answers_to one ss es).packets ≡ packets_for realm (answers_to other ts fs).packets
+    → packets_for realm (answers_to one ss es).packets
+    ≡ packets_for realm (answers_to other ts fs).packets
+
+-- the same, from starts
+abbrev pub SameInTwoWorldsFromStart : Type 0
+SameInTwoWorldsFromStart =
+    (realm : ℕ) (one other : ConfigView) (ss ts : List Start) (es fs : List PlainEvent)
+    → 1 ≤ one.shards → 1 ≤ other.shards → realm < length ss → realm < length ts
+    → realm_config one realm ≡ realm_config other realm
+    → start_of ss realm ≡ start_of ts realm
+    → events_of_realm one realm es ≡ events_of_realm other realm fs
+    → packets_for realm (answers_to one (openings one ss) es).packets
+    ≡ packets_for realm (answers_to other (openings other ts) fs).packets

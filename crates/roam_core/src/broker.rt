@@ -1,15 +1,16 @@
 //! The broker over a list of books, one for each realm.
 
-ghost use Rattle.std.specs.Prelude.{◌≡◌, ◌+◌, ◌<◌, ◌≤◌, ◌++◌, [], ◌∷◌, Some, None, length, slice_set, IfOk, vec_len, vec_capacity};
+ghost use Rattle.std.specs.Prelude.{◌≡◌, ◌+◌, ◌<◌, ◌≤◌, ◌++◌, [], ◌∷◌, Some, None, length, slice_set, IfOk, IsErr, vec_len, vec_capacity};
 ghost use Rattle.roam_conf.specs.Shown.{shown};
 ghost use Rattle.roam_route.specs.Admission.{admitted, admission_by, is_served};
 ghost use Rattle.roam_route.specs.Events.{IsEvent};
-ghost use Rattle.roam_route.specs.Shown.{shown_arrival, shown_job, shown_out};
+ghost use Rattle.roam_route.specs.Shown.{WantsMemory, shown_arrival, shown_job, shown_out};
 ghost use Rattle.roam_book.specs.BookView.{settings_of};
 ghost use Rattle.roam_book.specs.OneRealm.{event_of, on_event};
 ghost use Rattle.roam_book.specs.Turn.{Gives, packets_of, shown_outs, state_after};
-ghost use Rattle.roam_core.specs.Answers.{GivesAnswer, state_at, to_arrival, to_tick};
-ghost use Rattle.roam_core.specs.BrokerView.{fresh};
+ghost use Rattle.roam_core.specs.ManyRealms.{state_at, to_arrival, to_tick};
+ghost use Rattle.roam_core.specs.Steps.{GivesAnswer};
+ghost use Rattle.roam_core.specs.Openings.{fresh};
 ghost use Rattle.roam_core.specs.ShardRooms.{AllFit, Fits, most_of, most_of_all, tick_in, turn_in};
 
 use crate::event::Event;
@@ -137,6 +138,8 @@ impl<'c, A: Allocator + Copy> Broker<'c, A> {
             (to_arrival self.old.config self.old.states now
             (admission_by is_served self.old.config (shown_arrival datagram.now))) }
         ensures config { self.new.config ≡ self.old.config }
+        ensures memory { IsErr result
+            → WantsMemory (admission_by is_served self.old.config (shown_arrival datagram.now)) }
         ensures whole { length self.old.states ≡ length self.old.config.realms }
         ensures shards { 1 ≤ self.old.config.shards }
     {
@@ -199,6 +202,8 @@ impl<'c, A: Allocator + Copy> Broker<'c, A> {
         ensures turn { GivesAnswer result self.old.states self.new.states
             (to_tick self.old.config self.old.states now shard) }
         ensures config { self.new.config ≡ self.old.config }
+        ensures there { IsErr result → shard < self.old.config.shards }
+        ensures in_time { IsErr result → now ≤ LATEST }
         ensures whole { length self.old.states ≡ length self.old.config.realms }
         ensures shards { 1 ≤ self.old.config.shards }
     {

@@ -12,6 +12,6 @@ mod stepper;
 
 pub use broker::Broker;
 pub use event::Event;
-pub use laws::{isolated_realms, provenance, two_worlds};
+pub use laws::{isolated_realms, provenance, realms_open, two_worlds};
 pub use runs::{Outcome, run};
 pub use stepper::Stepper;

@@ -1,11 +1,15 @@
 //! A run of the broker over a list of events.
 
-ghost use Rattle.std.specs.Prelude.{◌≡◌, ◌++◌, ◌∷◌, [], IfOk, OnErr, OnOk, length};
+ghost use Rattle.std.specs.Prelude.{◌≡◌, ◌++◌, ◌∷◌, [], IfOk, List, OnErr, OnOk, length};
 ghost use Rattle.std.specs.List.{AllByRecursion};
 ghost use Rattle.roam_book.specs.Turn.{shown_outs};
-ghost use Rattle.roam_core.specs.Answers.{StandsAfterSome, answers_to};
+ghost use Rattle.roam_book.specs.declared.start.Start.{Start};
+ghost use Rattle.roam_core.specs.ManyRealms.{answers_to};
+ghost use Rattle.roam_core.specs.Openings.{openings};
+ghost use Rattle.roam_core.specs.ProvenanceLaws.{HasProvenance};
+ghost use Rattle.roam_core.specs.Runs.{ArePlaces, StandsAfterSome, WereGiven};
 ghost use Rattle.roam_core.specs.Events.{kept, local_rejects};
-ghost use Rattle.roam_core.specs.Isolation.{IsIsolated, HasRealm, packets_for_none};
+ghost use Rattle.roam_core.specs.Isolation.{IsIsolated, IsIsolatedFromStart, HasRealm, packets_for_none};
 ghost use Rattle.roam_core.specs.Shown.{shown_events};
 
 use crate::event::Event;
@@ -54,8 +58,28 @@ pub fn run<A: Allocator + Copy, S: Stepper<A>>(
     stepper: &mut S,
     events: &[Event<A>],
 ) -> Result<Outcome<A>, NoMemory>
+    // The headline: for a fresh broker, and for one begun at any other starts.
+    ensures isolated_from_start { (starts : List Start)
+        → S.states stepper.old ≡ openings (S.config stepper.old) starts
+        → IfOk result (λ o. IsIsolatedFromStart (S.config stepper.old) starts
+        (kept o.lost.items (shown_events events.now)) (shown_outs o.outs.items)) }
+
+    // And each of those packets has its origin in the realm's own events, as the forwarded or the
+    // returned packet of one of them.
+    ensures provenance { (starts : List Start)
+        → S.states stepper.old ≡ openings (S.config stepper.old) starts
+        → IfOk result (λ o. HasProvenance (S.config stepper.old) starts
+        (kept o.lost.items (shown_events events.now)) (shown_outs o.outs.items)) }
+
+    // Each realm is isolated from whatever states they are in.
     ensures isolated { IfOk result (λ o. IsIsolated (S.config stepper.old) (S.states stepper.old)
         (kept o.lost.items (shown_events events.now)) (shown_outs o.outs.items)) }
+
+    // The events are given in their order, each once; those are lost, and noted by their places, that met
+    // want of memory there.
+    ensures given { IfOk result (λ o. WereGiven S.steps 0 o.lost.items stepper.old
+        (shown_events events.now) stepper.new) }
+    ensures lost { IfOk result (λ o. ArePlaces (length events.now) o.lost.items) }
 
     // All packets, and the states at the end: the written answers to the events that weren't lost.
     ensures packets { IfOk result (λ o. shown_outs o.outs.items ≡ (answers_to (S.config stepper.old)

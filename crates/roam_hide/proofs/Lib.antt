@@ -1,4 +1,5 @@
 pub mod HidingLemmas
 pub mod SaltedLemmas
 pub mod SaltedFunctionLemmas
+pub mod OctetLemmas
 pub mod StandardFacts

@@ -1,6 +1,7 @@
 //! The configuration, arrivals in rows, and what each gives.
 
 use roam_conf::{Config, Endpoint, Link, Place};
+use roam_conf_reader::read_config;
 use roam_route::{Datagram, Prepared, Side, prepare};
 use roam_wire::{Octets, Refusal};
 use std::alloc::{Allocator, Global};
@@ -128,7 +129,7 @@ pub fn octets(rt: &impl Abort, alloc: Global, text: &str) -> Vec<u8> {
 
 /// The configuration.
 pub fn config(alloc: Global) -> Result<Config, Fail> {
-    Ok(Config::read(alloc, CONFIG).map_err(|_| "the configuration isn't accepted")?)
+    Ok(read_config(alloc, CONFIG).map_err(|_| "the configuration isn't accepted")?)
 }
 
 /// A job's octets are those of the datagram up to Length.

@@ -1,6 +1,6 @@
 -- Why a simulation ends early. Ours.
-use Rattle.roam_conf.specs.declared.fault.ConfFault.{ConfFault}
-use Rattle.roam_conf.specs.declared.fault.ConfFault.TheVariants.{Memory}
+use Rattle.roam_conf_reader.specs.declared.fault.ConfFault.{ConfFault}
+use Rattle.roam_conf_reader.specs.declared.fault.ConfFault.TheVariants.{Memory}
 use Rattle.roam_sim.specs.declared.script.ScriptFault.{ScriptFault}
 use Rattle.roam_sim.specs.declared.script.ScriptFault.TheVariants as script
 use Rattle.roam_sim.specs.declared.fault.SimFault.{SimFault}

@@ -1,13 +1,14 @@
 -- What a simulation writes: the lines of the packets that a fresh broker sends for a script's events.
 -- Ours.
-use Rattle.std.specs.Prelude.{◌≡◌, ◌≢◌, ℕ, List, [], Option, Ok}
+use Rattle.std.specs.Prelude.{◌≡◌, ◌≢◌, ℕ, List, [], length, Option, Ok}
 use Rattle.std.specs.Io.KnownBytes.{Appends}
 use Rattle.roam_conf.specs.Config.{ConfigView}
-use Rattle.roam_conf.specs.Faults.{States, NoneHolds, every_fault}
+use Rattle.roam_conf_reader.specs.Faults.{States, NoneHolds, every_fault}
 use Rattle.roam_route.specs.Admission.{PlainOut}
-use Rattle.roam_core.specs.Answers.{answers_to}
-use Rattle.roam_core.specs.BrokerView.{fresh}
 use Rattle.roam_core.specs.Events.{PlainEvent, kept}
+use Rattle.roam_core.specs.ManyRealms.{answers_to}
+use Rattle.roam_core.specs.Openings.{fresh}
+use Rattle.roam_core.specs.Runs.{ArePlaces}
 use Rattle.roam_sim.specs.Lines.{lines_of}
 use Rattle.roam_sim.specs.Script.{script_states}
 
@@ -21,12 +22,14 @@ pub record IsSimulated (config : ConfigView) (script : List ℕ) (old new : Opti
   pub stated : script_states script ≡ Ok events
   pub written : Appends old new (lines_of (packets_sent config events))
 
--- some of its events were lost, and the lines of the packets for the others were written
+-- some of its events were lost, each noted by its place and once, and the lines of the packets for the
+-- others were written
 pub record IsSimulatedInPart (config : ConfigView) (script : List ℕ) (old new : Option (List ℕ)) : Type 0 where
   pub events : List PlainEvent
   pub lost : List ℕ
   pub stated : script_states script ≡ Ok events
   pub some_lost : lost ≢ []
+  pub places : ArePlaces (length events) lost
   pub written : Appends old new (lines_of (packets_sent config (kept lost events)))
 
 -- the text states the configuration, and none of the faults of a configuration holds in it

@@ -7,6 +7,7 @@
 use crate::callers::{admit, is_signed_by_peer, user_name};
 use roam_back::{back, check_reply};
 use roam_conf::{Config, Endpoint, Link, Peer, Place, Server};
+use roam_conf_reader::read_config;
 use roam_fwd::{can_be_forwarded, forward};
 use roam_ids::Lane;
 use roam_route::{Datagram, Job, Prepared, Side, prepare};
@@ -128,7 +129,7 @@ fn parties(config: &Config) -> Option<(&Peer, &Server)> {
 #[test]
 fn a_request_goes_to_the_home_server(rt: HostRuntime) -> Result<(), Fail> {
     let alloc = rt.alloc();
-    let config = Config::read(alloc, CONFIG)?;
+    let config = read_config(alloc, CONFIG)?;
     let start = octets(&rt, alloc, START);
     let job = job_of(alloc, &config, Place::Acct, ACCESS_SERVER, start).ok_or("a job")?;
     assert!(rt; job.realm == 0 && job.side == Side::Peer(0));
@@ -145,7 +146,7 @@ fn a_request_goes_to_the_home_server(rt: HostRuntime) -> Result<(), Fail> {
 #[test]
 fn its_reply_goes_to_the_access_server(rt: HostRuntime) -> Result<(), Fail> {
     let alloc = rt.alloc();
-    let config = Config::read(alloc, CONFIG)?;
+    let config = read_config(alloc, CONFIG)?;
     let response = octets(&rt, alloc, RESPONSE);
     let job = job_of(alloc, &config, Place::Out(0), HOME_SERVER, response).ok_or("a job")?;
     assert!(rt; job.realm == 0 && job.side == Side::Link(Link::Acct(0)));
@@ -161,7 +162,7 @@ fn its_reply_goes_to_the_access_server(rt: HostRuntime) -> Result<(), Fail> {
 
 #[test]
 fn the_request_names_its_user_and_is_signed(rt: HostRuntime) -> Result<(), Fail> {
-    let config = Config::read(rt.alloc(), CONFIG)?;
+    let config = read_config(rt.alloc(), CONFIG)?;
     let start = octets(&rt, rt.alloc(), START);
     assert!(rt; user_name(&start) == Some(b"u@a.example".as_slice()));
     let view = View::read(&start)?;

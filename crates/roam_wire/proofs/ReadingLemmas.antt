@@ -1,10 +1,10 @@
 -- What reading a datagram answers, by the tests that it makes.
-use Rattle.std.proofs.Common.{◌≡◌, ◌<◌, ◌≤◌, ℕ, true, false, List, length, drop, Option, Some, None, IsSome, refl, sym, ◌∙◌, ap, arith}
+use Rattle.std.proofs.Common.{◌≡◌, ◌<◌, ◌≤◌, ℕ, true, false, List, length, drop, Option, Some, None, IsSome, refl, arith}
 use Rattle.std.specs.Prelude.{nat_lt, Result, Ok, Err}
 use Rattle.std.specs.Option.{option_map_or}
 use Rattle.std.proofs.lemmas.Bool.Decides.{nat_tests}
 use Rattle.roam_wire.specs.Packet.{Attribute, Packet}
-use Rattle.roam_wire.specs.Reading.{HasLength, length_field, has_length, attributes_of, packet_of, front_of, reading}
+use Rattle.roam_wire.specs.Reading.{HasLength, has_length, attributes_of, packet_of, front_of, reading}
 use Rattle.roam_wire.specs.declared.refusal.Refusal.{Refusal}
 use Rattle.roam_wire.specs.declared.refusal.Refusal.TheVariants as refusal
 

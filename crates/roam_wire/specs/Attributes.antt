@@ -1,5 +1,5 @@
 -- The attributes of one Type in a list (RFC 2865, section 5).
-use Rattle.std.specs.Prelude.{ℕ, ◌==◌, Bool, List, [], ◌∷◌, Option, Some, None, if◌then◌else◌, map, filter, length, count_by, find, option_map, not}
+use Rattle.std.specs.Prelude.{ℕ, ◌==◌, Bool, List, Option, filter, count_by, find, option_map, not}
 use Rattle.roam_wire.specs.Packet.{Attribute}
 
 -- whether an attribute has this Type

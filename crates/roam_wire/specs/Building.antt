@@ -1,6 +1,6 @@
 -- A packet that is built attribute by attribute (RFC 2865, section 5).
 use Rattle.std.specs.Prelude.{ℕ, List, [], ◌∷◌, ◌++◌}
-use Rattle.roam_wire.specs.Packet.{Attribute, Packet}
+use Rattle.roam_wire.specs.Packet.{Packet}
 
 -- a packet without attributes
 abbrev pub header_of : ℕ → ℕ → List ℕ → Packet

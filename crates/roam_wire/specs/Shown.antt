@@ -1,5 +1,4 @@
 -- An attribute that is looked at, without where it lies.
-use Rattle.std.specs.Prelude.{List, ℕ, Option}
 use Rattle.roam_wire.specs.Packet.{Attribute}
 use Rattle.roam_wire.specs.declared.attributes.Attr.{Attr}
 

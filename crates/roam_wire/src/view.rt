@@ -2,10 +2,11 @@
 
 ghost use Rattle.std.specs.Prelude.{◌≡◌, ◌⊎◌, ◌↔◌, ◌<◌, ◌≤◌, length, take, drop, option_map, IfOk, IfErr, IsOkAnd, IsErrOf};
 ghost use Rattle.roam_wire.specs.Packet.{Packet, IsPacket, packet_text};
-ghost use Rattle.roam_wire.specs.Reading.{length_field, HasLength, ReadsAs, Reads, reading};
+ghost use Rattle.roam_wire.specs.Reading.{length_field, HasLength, IsPacketText, ReadsAs, Reads, packet_of, reading};
 ghost use Rattle.roam_wire.specs.Attributes.{first_value, count_of};
 
 use crate::attributes::Attrs;
+use crate::packet_size::MAX_PACKET_LENGTH;
 use crate::refusal::Refusal;
 use crate::walk::are_attributes;
 use std::marker::Model;
@@ -85,7 +86,7 @@ impl<'a> View<'a> {
             return Err(Refusal::Short);
         }
         let length = length_at(datagram);
-        if length < 20 || length > 4096 || length > datagram.len() {
+        if length < 20 || length > MAX_PACKET_LENGTH || length > datagram.len() {
             return Err(Refusal::BadLength);
         }
         let octets = front_of(datagram, length);
@@ -93,6 +94,15 @@ impl<'a> View<'a> {
             return Err(Refusal::BadAttribute);
         }
         Ok(View { octets })
+    }
+
+    /// The packet of octets that are known to be a packet's, as those that were built or kept. Nothing is
+    /// read.
+    pub fn of_packet(octets: &'a [u8]) -> View<'a>
+        requires { IsPacketText octets.now }
+        ensures { result ≡ packet_of octets.entry.now }
+    {
+        View { octets }
     }
 
     /// The packet's Code.
@@ -120,6 +130,7 @@ impl<'a> View<'a> {
     pub fn attributes(&self) -> Attrs<'a>
         ensures all { result ≡ self.now.attributes }
         ensures few { length result ≤ 2038 }
+        ensures packet { IsPacket self.now }
     {
         Attrs::over(behind_header(self.octets))
     }

@@ -1,5 +1,4 @@
 use Rattle.std.proofs.Common.{◌≤◌, vec_len, vec_capacity}
-use Rattle.std.specs.Prelude.{not}
 use Rattle.roam_wire.specs.Attributes.{has_kind}
 use Rattle.roam_wire.specs.declared.attribute_type.TheConstants.{PROXY_STATE}
 use Rattle.roam_back.proofs.KeptLemmas.{IsAppending}

@@ -9,7 +9,8 @@ use Rattle.roam_book.specs.RealmConfig.{RealmConfig, realm_config}
 use Rattle.roam_book.specs.RealmState.{RealmState}
 use Rattle.roam_book.specs.Turn.{Turn}
 use Rattle.roam_book.specs.OneRealm.{event_of, on_event}
-use Rattle.roam_core.specs.Answers.{GivesAnswer, state_at, turn_of_one}
+use Rattle.roam_core.specs.ManyRealms.{state_at, turn_of_one}
+use Rattle.roam_core.specs.Steps.{GivesAnswer}
 use Rattle.roam_core.specs.BrokerView.{BrokerView, states_of, IsBookOf}
 use Rattle.roam_core.proofs.BookLemmas.{own-book, broker-set, book-gives}
 use Rattle.roam_core.proofs.broker.Broker.give.Goals as goal

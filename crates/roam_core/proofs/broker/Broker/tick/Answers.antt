@@ -2,7 +2,7 @@
 use Rattle.std.proofs.Common.{List, ap, subst, ◌∙◌, arith}
 use Rattle.roam_conf.specs.Shown.{shown}
 use Rattle.roam_book.specs.BookView.{BookView}
-use Rattle.roam_core.specs.Answers.{AllRealms}
+use Rattle.roam_core.specs.ManyRealms.{AllRealms}
 use Rattle.roam_core.specs.BrokerView.{BrokerView, states_of}
 use Rattle.roam_core.specs.ShardRooms.{AreRooms}
 use Rattle.roam_core.proofs.ShardLemmas.{all-fit, tick-in, ticked}

@@ -3,7 +3,7 @@ use Rattle.std.specs.Vec.Iter.{into_iter_items}
 use Rattle.std.proofs.Common.{◌≡◌, ◌++◌, refl, sym, ap, subst, ◌∙◌, arith, length, set}
 use Rattle.roam_conf.specs.Config.{ConfigView}
 use Rattle.roam_book.specs.Turn.{packets_of, shown_outs, state_after}
-use Rattle.roam_core.specs.Answers.{state_at}
+use Rattle.roam_core.specs.ManyRealms.{state_at}
 use Rattle.roam_core.specs.ShardRooms.{most_of_all, turn_in}
 use Rattle.roam_core.proofs.ShardLemmas.{ticking-start, ticking-next, ticking-turn, ticking-end, nothing-left}
 use Rattle.roam_core.proofs.broker.Broker.tick_in.Goals as goal

@@ -6,7 +6,7 @@ use Rattle.roam_route.specs.Admission.{PlainOut}
 use Rattle.roam_route.specs.Shown.{shown_out}
 use Rattle.roam_book.specs.BookView.{BookView}
 use Rattle.roam_book.specs.Turn.{packets_of, shown_outs, state_after}
-use Rattle.roam_core.specs.Answers.{state_at}
+use Rattle.roam_core.specs.ManyRealms.{state_at}
 use Rattle.roam_core.specs.BrokerView.{BrokerView, states_of}
 use Rattle.roam_core.specs.ShardRooms.{turn_in}
 use Rattle.roam_core.proofs.BookLemmas.{broker-set, tick-of-book, state-of-tick}

@@ -1,4 +1,4 @@
-use Rattle.std.proofs.Common.{◌≡◌, sym, ◌∙◌, refl, arith, rules}
+use Rattle.std.proofs.Common.{sym, ◌∙◌, rules}
 use Rattle.roam_wire.proofs.WalkLemmas.{IsSome-behind, first_and_others, none_left}
 use Rattle.roam_wire.proofs.attributes.AttrsIterator.next.Goals as goal
 

@@ -1,6 +1,5 @@
-use Rattle.std.proofs.Common.{◌≡◌, ◌≤◌, ℕ, sym, ◌∙◌, ap, List, length, arith, false, IsSome, refl, subst, drop, take}
-use Rattle.roam_wire.specs.Packet.{Packet}
-use Rattle.roam_wire.specs.Reading.{ReadsAs, Reads, HasLength, IsPacketText, packet_of, length_field, attributes_of}
+use Rattle.std.proofs.Common.{◌≡◌, sym, ◌∙◌, arith, false, IsSome, refl, drop}
+use Rattle.roam_wire.specs.Reading.{ReadsAs, HasLength, IsPacketText, packet_of, attributes_of}
 use Rattle.roam_wire.proofs.PacketLemmas.{front, IsPacketText-front, ReadsAs-follows}
 use Rattle.roam_wire.proofs.ReadingLemmas.{reading-short, reading-bad_length, reading-bad_attribute, reading-ok}
 use Rattle.std.proofs.lemmas.Bool.Decides.{nat_tests}

@@ -1,6 +1,0 @@
-use Rattle.roam_conf.proofs.ArrayLemmas.{all_known-keys}
-use Rattle.roam_conf.proofs.tables.has_only.Goals as goal
-
-pub loop-key-init : goal.loop-key-init
-loop-key-init c =
-    (tt, tt, rw (c.into_iter-key-iterator.ensures.into_iter_gives, c.keys-key-items.ensures.rest) (all_known-keys _ c.args.table.now.entries))

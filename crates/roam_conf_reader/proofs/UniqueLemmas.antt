@@ -1,0 +1,94 @@
+-- A document states one configuration at most.
+use Rattle.std.proofs.Common.{◌≡◌, List, [], ◌∷◌, Option, Some, None, refl, sym, ◌∙◌}
+use Rattle.std.proofs.lemmas.Option.{same_Some}
+use Rattle.toml.specs.Data.{table, Items, no_items, item, Members}
+use Rattle.roam_conf.specs.Config.{ServerView, PeerView, RealmView, ConfigView}
+use Rattle.roam_conf_reader.specs.Document.{StatesEach, StatesTables, StatesServer, StatesPeer, StatesRealm, StatesConfig}
+
+-- two values that one option states are one
+same_value : {V : Type 0} (o : Option V) (a b : V) → o ≡ Some a → o ≡ Some b → a ≡ b
+same_value o a b p q = same_Some a b (sym p ∙ q)
+
+pub each_unique : {V : Type 0} (States : Members → V → Type 0) → ((members : Members) (a b : V) → States members a → States members b → a ≡ b) → (items : Items) (xs ys : List V) → StatesEach States items xs → StatesEach States items ys → xs ≡ ys
+each_unique States unique no_items [] [] p q = refl
+each_unique States unique no_items [] (y ∷ ys) p q = absurd q
+each_unique States unique no_items (x ∷ xs) ys p q = absurd p
+each_unique States unique (item (table ms) items) [] ys p q = absurd p
+each_unique States unique (item (table ms) items) (x ∷ xs) [] p q = absurd q
+each_unique States unique (item (table ms) items) (x ∷ xs) (y ∷ ys) p q =
+    let here : x ≡ y = unique ms x y p.0 q.0 in
+    let rest : xs ≡ ys = each_unique States unique items xs ys p.1 q.1 in
+    cc
+each_unique States unique (item found items) xs ys p q = absurd p
+
+tables_unique : {V : Type 0} (States : Members → V → Type 0) → ((members : Members) (a b : V) → States members a → States members b → a ≡ b) → (items : Option Items) (xs ys : List V) → StatesTables States items xs → StatesTables States items ys → xs ≡ ys
+tables_unique States unique None xs ys p q = absurd p
+tables_unique States unique (Some items) xs ys p q = each_unique States unique items xs ys p q
+
+pub server_unique : (members : Members) (a b : ServerView) → StatesServer members a → StatesServer members b → a ≡ b
+server_unique ms a b p q =
+    let auth = same_value _ a.auth b.auth p.auth q.auth in
+    let acct = same_value _ a.acct b.acct p.acct q.acct in
+    let secret = same_value _ a.secret b.secret p.secret q.secret in
+    λ i. record { auth = auth i; acct = acct i; secret = secret i }
+
+pub peer_unique : (members : Members) (a b : PeerView) → StatesPeer members a → StatesPeer members b → a ≡ b
+peer_unique ms a b p q =
+    let name = same_value _ a.name b.name p.name q.name in
+    let ip = same_value _ a.ip b.ip p.ip q.ip in
+    let secret = same_value _ a.secret b.secret p.secret q.secret in
+    let coa = same_value _ a.coa b.coa p.coa q.coa in
+    let nas_ip = same_value _ a.nas_ip b.nas_ip p.nas_ip q.nas_ip in
+    let nas_id = same_value _ a.nas_id b.nas_id p.nas_id q.nas_id in
+    let require_seal = same_value _ a.require_seal b.require_seal p.require_seal q.require_seal in
+    λ i. record {
+      name = name i;
+      ip = ip i;
+      secret = secret i;
+      coa = coa i;
+      nas_ip = nas_ip i;
+      nas_id = nas_id i;
+      require_seal = require_seal i;
+    }
+
+pub realm_unique : (members : Members) (a b : RealmView) → StatesRealm members a → StatesRealm members b → a ≡ b
+realm_unique ms a b p q =
+    let name = same_value _ a.name b.name p.name q.name in
+    let out = same_value _ a.out b.out p.out q.out in
+    let reverse = same_value _ a.reverse b.reverse p.reverse q.reverse in
+    let tries = same_value _ a.tries b.tries p.tries q.tries in
+    let wait = same_value _ a.wait b.wait p.wait q.wait in
+    let hold = same_value _ a.hold b.hold p.hold q.hold in
+    let max_pending = same_value _ a.max_pending b.max_pending p.max_pending q.max_pending in
+    let max_sessions = same_value _ a.max_sessions b.max_sessions p.max_sessions q.max_sessions in
+    let servers = tables_unique StatesServer server_unique _ a.servers b.servers p.servers q.servers in
+    λ i. record {
+      name = name i;
+      out = out i;
+      reverse = reverse i;
+      tries = tries i;
+      wait = wait i;
+      hold = hold i;
+      max_pending = max_pending i;
+      max_sessions = max_sessions i;
+      servers = servers i;
+    }
+
+pub config_unique : (members : Members) (a b : ConfigView) → StatesConfig members a → StatesConfig members b → a ≡ b
+config_unique ms a b p q =
+    let shards = same_value _ a.shards b.shards p.shards q.shards in
+    let seed = same_value _ a.seed b.seed p.seed_octets q.seed_octets in
+    let auth = same_value _ a.auth b.auth p.auth q.auth in
+    let acct = same_value _ a.acct b.acct p.acct q.acct in
+    let trace_limit = same_value _ a.trace_limit b.trace_limit p.trace_limit q.trace_limit in
+    let peers = tables_unique StatesPeer peer_unique _ a.peers b.peers p.peers q.peers in
+    let realms = tables_unique StatesRealm realm_unique _ a.realms b.realms p.realms q.realms in
+    λ i. record {
+      shards = shards i;
+      seed = seed i;
+      auth = auth i;
+      acct = acct i;
+      trace_limit = trace_limit i;
+      peers = peers i;
+      realms = realms i;
+    }

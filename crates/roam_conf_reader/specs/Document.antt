@@ -1,0 +1,123 @@
+-- What a TOML document states, table by table and key by key: the configuration format. Ours.
+use Rattle.std.specs.Prelude.{◌≡◌, ℕ, codes, ◌&&◌, ◌||◌, not, Bool, true, false, List, [], ◌∷◌, Option, Some, None, is_some}
+use Rattle.std.specs.List.{list_any, list_all}
+use Rattle.std.specs.Str.{bytes_eq}
+use Rattle.toml.specs.Data.{Data, array, table, Items, no_items, item, Members, no_members, member, get_member}
+use Rattle.roam_conf_reader.specs.declared.values.Letters.TheVariants.{Any, PeerName, RealmName}
+use Rattle.roam_conf.specs.Config.{ServerView, PeerView, RealmView, ConfigView}
+use Rattle.roam_conf_reader.specs.Values.{number, letters_of, text, address, endpoint, seed, flag, array_of, value_at, optional_at}
+
+-- the required keys of the four tables
+abbrev pub server_required : List (List ℕ)
+server_required = codes "auth" ∷ codes "acct" ∷ codes "secret" ∷ []
+
+abbrev pub peer_required : List (List ℕ)
+peer_required = codes "name" ∷ codes "ip" ∷ codes "secret" ∷ []
+
+abbrev pub realm_required : List (List ℕ)
+realm_required =
+    codes "name" ∷ codes "out" ∷ codes "reverse" ∷ codes "tries" ∷ codes "wait" ∷ codes "hold"
+    ∷ codes "max_pending" ∷ codes "max_sessions" ∷ codes "server" ∷ []
+
+abbrev pub top_required : List (List ℕ)
+top_required =
+    codes "shards" ∷ codes "seed" ∷ codes "auth" ∷ codes "acct" ∷ codes "trace_limit"
+    ∷ codes "peer" ∷ codes "realm" ∷ []
+
+-- the keys that a peer's table may have besides; the other tables have required keys only
+abbrev pub peer_optional : List (List ℕ)
+peer_optional = codes "coa" ∷ codes "nas_ip" ∷ codes "nas_id" ∷ codes "require_seal" ∷ []
+
+-- the key is one of these
+abbrev pub is_one_of : List (List ℕ) → List ℕ → Bool
+is_one_of keys key = list_any (bytes_eq key) keys
+
+-- each key of the table is one of these
+abbrev pub has_only : List (List ℕ) → List (List ℕ) → Members → Bool
+has_only required optional no_members = true
+has_only required optional (member key found rest) =
+    (is_one_of required key || is_one_of optional key) && has_only required optional rest
+
+-- the items are tables that state these values, one each and in this order
+abbrev pub StatesEach : {V : Type 0} → (Members → V → Type 0) → Items → List V → Type 0
+StatesEach States no_items [] = Unit {0}
+StatesEach States (item (table members) items) (value ∷ values) = States members value × StatesEach States items values
+StatesEach States _ _ = ⊥
+
+-- the same of an array, where there is one
+abbrev pub StatesTables : {V : Type 0} → (Members → V → Type 0) → Option Items → List V → Type 0
+StatesTables States None values = ⊥
+StatesTables States (Some items) values = StatesEach States items values
+
+-- a table of the array `server` of a realm
+pub record StatesServer (members : Members) (server : ServerView) : Type 0 where
+  pub auth : value_at endpoint (codes "auth") members ≡ Some server.auth
+  pub acct : value_at endpoint (codes "acct") members ≡ Some server.acct
+  pub secret : value_at (text 64 (letters_of Any)) (codes "secret") members ≡ Some server.secret
+  pub no_other_key : has_only server_required [] members ≡ true
+
+-- a table of the array `peer`
+pub record StatesPeer (members : Members) (peer : PeerView) : Type 0 where
+  pub name : value_at (text 64 (letters_of PeerName)) (codes "name") members ≡ Some peer.name
+  pub ip : value_at address (codes "ip") members ≡ Some peer.ip
+  pub secret : value_at (text 64 (letters_of Any)) (codes "secret") members ≡ Some peer.secret
+  pub coa : optional_at endpoint (codes "coa") members ≡ Some peer.coa
+  pub nas_ip : optional_at address (codes "nas_ip") members ≡ Some peer.nas_ip
+  pub nas_id : optional_at (text 253 (letters_of Any)) (codes "nas_id") members ≡ Some peer.nas_id
+  pub require_seal : flag (get_member (codes "require_seal") members) ≡ Some peer.require_seal
+  pub no_other_key : has_only peer_required peer_optional members ≡ true
+
+-- a table of the array `realm`; `wait` and `hold` are in milliseconds
+pub record StatesRealm (members : Members) (realm : RealmView) : Type 0 where
+  pub name : value_at (text 253 (letters_of RealmName)) (codes "name") members ≡ Some realm.name
+  pub out : value_at endpoint (codes "out") members ≡ Some realm.out
+  pub reverse : value_at endpoint (codes "reverse") members ≡ Some realm.reverse
+  pub tries : value_at (number 1 10) (codes "tries") members ≡ Some realm.tries
+  pub wait : value_at (number 1 60000) (codes "wait") members ≡ Some realm.wait
+  pub hold : value_at (number 0 60000) (codes "hold") members ≡ Some realm.hold
+  pub max_pending : value_at (number 1 4096) (codes "max_pending") members ≡ Some realm.max_pending
+  pub max_sessions : value_at (number 0 65536) (codes "max_sessions") members ≡ Some realm.max_sessions
+  pub servers : StatesTables StatesServer (value_at (array_of 8) (codes "server") members) realm.servers
+  pub no_other_key : has_only realm_required [] members ≡ true
+
+-- the whole document
+pub record StatesConfig (members : Members) (config : ConfigView) : Type 0 where
+  pub shards : value_at (number 1 64) (codes "shards") members ≡ Some config.shards
+  pub seed_octets : value_at seed (codes "seed") members ≡ Some config.seed
+  pub auth : value_at endpoint (codes "auth") members ≡ Some config.auth
+  pub acct : value_at endpoint (codes "acct") members ≡ Some config.acct
+  pub trace_limit : value_at (number 1 1000000) (codes "trace_limit") members ≡ Some config.trace_limit
+  pub peers : StatesTables StatesPeer (value_at (array_of 256) (codes "peer") members) config.peers
+  pub realms : StatesTables StatesRealm (value_at (array_of 256) (codes "realm") members) config.realms
+  pub no_other_key : has_only top_required [] members ≡ true
+
+-- each of the keys stands in the table
+abbrev pub has_all : List (List ℕ) → Members → Bool
+has_all keys members = list_all (λ key. is_some (get_member key members)) keys
+
+-- some item that is a table passes the test; an item of another type isn't looked into
+abbrev pub some_table : (Members → Bool) → Items → Bool
+some_table test no_items = false
+some_table test (item (table members) items) = test members || some_table test items
+some_table test (item _ items) = some_table test items
+
+-- the same of what a key has, if that is an array; another type isn't looked into
+abbrev pub within : (Members → Bool) → Option Data → Bool
+within test (Some (array items)) = some_table test items
+within test _ = false
+
+-- one of the required keys is absent from the table
+abbrev pub misses : List (List ℕ) → Members → Bool
+misses required members = not (has_all required members)
+
+-- the same of a realm's table, or of one of its servers'
+unfoldable pub realm_misses : Members → Bool
+realm_misses members =
+    misses realm_required members || within (misses server_required) (get_member (codes "server") members)
+
+-- the same of the document, or of a table within it
+unfoldable pub document_misses : Members → Bool
+document_misses members =
+    misses top_required members
+    || within (misses peer_required) (get_member (codes "peer") members)
+    || within realm_misses (get_member (codes "realm") members)

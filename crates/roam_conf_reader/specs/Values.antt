@@ -1,0 +1,75 @@
+-- What a single TOML value states: a number, a text, an address, an endpoint, a seed, an array. Ours.
+use Rattle.std.specs.Prelude.{ℕ, suc, pos, ◌&&◌, nat_le, Bool, true, false, if◌then◌else◌, List, length, Option, Some, None, option_map, option_and_then}
+use Rattle.std.specs.List.{list_all}
+use Rattle.std.specs.Result.{result_ok}
+use Rattle.hex.specs.Hex.{decode_sized}
+use Rattle.toml.specs.Data.{Data, string, integer, boolean, array, Items, no_items, item, Members, get_member}
+use Rattle.roam_conf.specs.declared.endpoint.Endpoint.{Endpoint}
+use Rattle.roam_conf_reader.specs.declared.values.Letters.{Letters}
+use Rattle.roam_conf_reader.specs.declared.values.Letters.TheVariants.{Any, PeerName, RealmName}
+use Rattle.roam_conf.specs.Letters.{is_peer_letter, is_realm_letter}
+use Rattle.roam_conf.specs.Texts.{address_in, endpoint_in}
+
+-- an integer from `least` to `most`
+unfoldable pub number : ℕ → ℕ → Data → Option ℕ
+number least most (integer (pos n)) = if nat_le least n && nat_le n most then Some n else None
+number least most _ = None
+
+-- the octets that a text may have: any, those of a peer's name, those of a realm's name
+abbrev pub letters_of : Letters → ℕ → Bool
+letters_of Any = λ octet. true
+letters_of PeerName = is_peer_letter
+letters_of RealmName = is_realm_letter
+
+-- 1 to `most` octets, each of which `letters` admits
+unfoldable pub text_fits : ℕ → (ℕ → Bool) → List ℕ → Bool
+text_fits most letters octets =
+    nat_le 1 (length octets) && nat_le (length octets) most && list_all letters octets
+
+-- a text of 1 to `most` octets, each of which `letters` admits
+unfoldable pub text : ℕ → (ℕ → Bool) → Data → Option (List ℕ)
+text most letters (string octets) = if text_fits most letters octets then Some octets else None
+text most letters _ = None
+
+-- a text that is an address
+unfoldable pub address : Data → Option (List ℕ)
+address (string octets) = address_in octets
+address _ = None
+
+-- a text that is an endpoint
+unfoldable pub endpoint : Data → Option Endpoint
+endpoint (string octets) = endpoint_in octets
+endpoint _ = None
+
+-- a text of 64 hexadecimal digits, of either case: 32 octets
+unfoldable pub seed : Data → Option (List ℕ)
+seed (string digits) = result_ok (decode_sized digits 32)
+seed _ = None
+
+-- a boolean, false where it is absent
+unfoldable pub flag : Option Data → Option Bool
+flag None = Some false
+flag (Some (boolean b)) = Some b
+flag (Some _) = None
+
+-- how many items an array has
+abbrev pub item_count : Items → ℕ
+item_count no_items = 0
+item_count (item found items) = suc (item_count items)
+
+-- an array of 1 to `most` items
+unfoldable pub array_of : ℕ → Data → Option Items
+array_of most (array items) = if nat_le 1 (item_count items) && nat_le (item_count items) most then Some items else None
+array_of most _ = None
+
+-- what a required key states
+abbrev pub value_at : {V : Type 0} → (Data → Option V) → List ℕ → Members → Option V
+value_at reads key members = option_and_then reads (get_member key members)
+
+-- what an optional key states: None where it is absent
+abbrev pub if_there : {V : Type 0} → (Data → Option V) → Option Data → Option (Option V)
+if_there reads None = Some None
+if_there reads (Some found) = option_map (λ value. Some value) (reads found)
+
+abbrev pub optional_at : {V : Type 0} → (Data → Option V) → List ℕ → Members → Option (Option V)
+optional_at reads key members = if_there reads (get_member key members)

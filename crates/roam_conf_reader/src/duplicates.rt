@@ -1,0 +1,262 @@
+//! What may not stand twice in a configuration.
+//!
+//! Each search compares all pairs. The lists are short: at most 256 peers, 256 realms, 514 sockets
+//! of the broker, and 16 endpoints of one realm's servers.
+
+ghost use Rattle.std.specs.Prelude.{◌≡◌, ◌≤◌, ◌+◌, ◌||◌, ◌⊎◌, Some, None, IfOk, IfErr, MatchResult, length, map, drop};
+ghost use Rattle.std.specs.List.{list_any};
+ghost use Rattle.roam_conf.specs.Duplicates.{has_pair, same_endpoint, is_among, same_realm, same_if_there, same_peer, own_endpoints, server_endpoints, coa_endpoints, some_server_at, has_duplicate_realm, has_duplicate_peer, has_duplicate_endpoint, has_duplicate_server, has_duplicate_link};
+ghost use Rattle.roam_conf.specs.Parts.{shown_server, shown_peer, shown_realm};
+ghost use Rattle.roam_conf_reader.specs.Faults.{first_duplicate};
+ghost use Rattle.roam_conf_reader.specs.Reading.{IsMemoryFault};
+
+use crate::ConfFault;
+use roam_conf::{Endpoint, Peer, Realm, Server, is_same_endpoint, is_same_name};
+use std::alloc::Global;
+
+/// The items from a place on.
+fn from_place<T>(items: &[T], place: usize) -> &[T]
+    requires { place ≤ length items.now }
+    ensures { result.now ≡ drop place items.now }
+{
+    items.split_at(place).1
+}
+
+/// Whether the endpoint is one of these.
+fn is_among(endpoints: &[Endpoint], endpoint: Endpoint) -> bool
+    ensures { result ≡ is_among endpoints.now endpoint }
+{
+    endpoints
+        .iter()
+        .any(|other| is_same_endpoint(endpoint, *other))
+}
+
+/// Whether two of the endpoints are equal.
+fn has_equal_endpoints(endpoints: &[Endpoint]) -> bool
+    ensures { result ≡ has_pair same_endpoint endpoints.now }
+{
+    for i in 0..endpoints.len() {
+        if is_among(from_place(endpoints, i + 1), endpoints[i]) {
+            return true;
+        }
+    }
+    false
+}
+
+fn has_name_of(realm: &Realm, others: &[Realm]) -> bool
+    ensures { result ≡ list_any (same_realm (shown_realm realm.now)) (map shown_realm others.now) }
+{
+    for other in others {
+        if is_same_name(realm.name.as_bytes(), other.name.as_bytes()) {
+            return true;
+        }
+    }
+    false
+}
+
+/// Whether two realms have equal names.
+#[tactic(auto, unfolding(roam_conf::specs::Duplicates::has_duplicate_realm))]
+fn has_duplicate_realm(realms: &[Realm]) -> bool
+    ensures { result ≡ has_duplicate_realm (map shown_realm realms.now) }
+{
+    for i in 0..realms.len() {
+        if has_name_of(&realms[i], from_place(realms, i + 1)) {
+            return true;
+        }
+    }
+    false
+}
+
+fn have_same_ip(a: Option<[u8; 4]>, b: Option<[u8; 4]>) -> bool
+    ensures { result ≡ same_if_there a b }
+{
+    match (a, b) {
+        (Some(a), Some(b)) => a == b,
+        _ => false,
+    }
+}
+
+fn have_same_id(a: &Peer, b: &Peer) -> bool
+    ensures { result ≡ same_if_there (shown_peer a.now).nas_id (shown_peer b.now).nas_id }
+{
+    match (&a.nas_id, &b.nas_id) {
+        (Some(a), Some(b)) => a.as_str() == b.as_str(),
+        _ => false,
+    }
+}
+
+fn is_same_peer(a: &Peer, b: &Peer) -> bool
+    ensures { result ≡ same_peer (shown_peer a.now) (shown_peer b.now) }
+{
+    a.name.as_str() == b.name.as_str()
+        || a.ip == b.ip
+        || have_same_ip(a.nas_ip, b.nas_ip)
+        || have_same_id(a, b)
+}
+
+fn is_among_peers(peer: &Peer, others: &[Peer]) -> bool
+    ensures { result ≡ list_any (same_peer (shown_peer peer.now)) (map shown_peer others.now) }
+{
+    for other in others {
+        if is_same_peer(peer, other) {
+            return true;
+        }
+    }
+    false
+}
+
+/// Whether two peers are equal in their name, address, NAS-IP-Address or NAS-Identifier.
+#[tactic(auto, unfolding(roam_conf::specs::Duplicates::has_duplicate_peer))]
+fn has_duplicate_peer(peers: &[Peer]) -> bool
+    ensures { result ≡ has_duplicate_peer (map shown_peer peers.now) }
+{
+    for i in 0..peers.len() {
+        if is_among_peers(&peers[i], from_place(peers, i + 1)) {
+            return true;
+        }
+    }
+    false
+}
+
+/// The endpoints of the broker's own sockets.
+fn own_endpoints(
+    alloc: Global,
+    auth: Endpoint,
+    acct: Endpoint,
+    realms: &[Realm],
+) -> Result<Vec<Endpoint>, ConfFault>
+    ensures ok { IfOk result (λ v. v.items ≡ own_endpoints auth acct (map shown_realm realms.now)) }
+    ensures causes { IsMemoryFault result }
+{
+    let mut endpoints = Vec::new(alloc);
+    endpoints.push(auth)?;
+    endpoints.push(acct)?;
+    for realm in realms {
+        endpoints.push(realm.out)?;
+        endpoints.push(realm.reverse)?;
+    }
+    Ok(endpoints)
+}
+
+/// The endpoints of a realm's servers.
+fn server_endpoints(alloc: Global, servers: &[Server]) -> Result<Vec<Endpoint>, ConfFault>
+    ensures ok { IfOk result (λ v. v.items ≡ server_endpoints (map shown_server servers.now)) }
+    ensures causes { IsMemoryFault result }
+{
+    let mut endpoints = Vec::new(alloc);
+    for server in servers {
+        endpoints.push(server.auth)?;
+        endpoints.push(server.acct)?;
+    }
+    Ok(endpoints)
+}
+
+/// The endpoints of those peers that take reverse requests.
+fn coa_endpoints(alloc: Global, peers: &[Peer]) -> Result<Vec<Endpoint>, ConfFault>
+    ensures ok { IfOk result (λ v. v.items ≡ coa_endpoints (map shown_peer peers.now)) }
+    ensures causes { IsMemoryFault result }
+{
+    let mut endpoints = Vec::new(alloc);
+    for peer in peers {
+        if let Some(coa) = peer.coa {
+            endpoints.push(coa)?;
+        }
+    }
+    Ok(endpoints)
+}
+
+/// Whether one of the servers is at one of the endpoints.
+fn some_server_at(endpoints: &[Endpoint], servers: &[Server]) -> bool
+    ensures { result ≡ some_server_at endpoints.now (map shown_server servers.now) }
+{
+    for server in servers {
+        if is_among(endpoints, server.auth) || is_among(endpoints, server.acct) {
+            return true;
+        }
+    }
+    false
+}
+
+fn some_realm_at(endpoints: &[Endpoint], realms: &[Realm]) -> bool
+    ensures { result ≡ list_any (λ realm. some_server_at endpoints.now realm.servers)
+        (map shown_realm realms.now) }
+{
+    for realm in realms {
+        if some_server_at(endpoints, realm.servers.as_slice()) {
+            return true;
+        }
+    }
+    false
+}
+
+/// Whether two of the broker's own sockets are at one endpoint.
+#[tactic(auto, unfolding(roam_conf::specs::Duplicates::has_duplicate_endpoint))]
+fn has_duplicate_endpoint(
+    alloc: Global,
+    auth: Endpoint,
+    acct: Endpoint,
+    realms: &[Realm],
+) -> Result<bool, ConfFault>
+    ensures ok { IfOk result (λ b. b ≡ has_duplicate_endpoint auth acct (map shown_realm realms.now)) }
+    ensures causes { IsMemoryFault result }
+{
+    let endpoints = own_endpoints(alloc, auth, acct, realms)?;
+    Ok(has_equal_endpoints(endpoints.as_slice()))
+}
+
+/// Whether two endpoints of one realm's servers are equal.
+#[tactic(auto, unfolding(roam_conf::specs::Duplicates::has_duplicate_server))]
+fn has_duplicate_server(alloc: Global, realms: &[Realm]) -> Result<bool, ConfFault>
+    ensures ok { IfOk result (λ b. b ≡ has_duplicate_server (map shown_realm realms.now)) }
+    ensures causes { IsMemoryFault result }
+{
+    for realm in realms {
+        let endpoints = server_endpoints(alloc, realm.servers.as_slice())?;
+        if has_equal_endpoints(endpoints.as_slice()) {
+            return Ok(true);
+        }
+    }
+    Ok(false)
+}
+
+/// Whether two peers take reverse requests at one endpoint, or a peer at a server's.
+#[tactic(auto, unfolding(roam_conf::specs::Duplicates::has_duplicate_link))]
+fn has_duplicate_link(alloc: Global, peers: &[Peer], realms: &[Realm]) -> Result<bool, ConfFault>
+    ensures ok { IfOk result
+        (λ b. b ≡ has_duplicate_link (map shown_peer peers.now) (map shown_realm realms.now)) }
+    ensures causes { IsMemoryFault result }
+{
+    let coas = coa_endpoints(alloc, peers)?;
+    Ok(has_equal_endpoints(coas.as_slice()) || some_realm_at(coas.as_slice(), realms))
+}
+
+/// The first duplicate that is there, in the order of the faults.
+#[tactic(auto, unfolding(crate::specs::Faults::first_duplicate))]
+pub(crate) fn first_duplicate(
+    alloc: Global,
+    auth: Endpoint,
+    acct: Endpoint,
+    peers: &[Peer],
+    realms: &[Realm],
+) -> Result<Option<ConfFault>, ConfFault>
+    ensures ok { IfOk result
+        (λ f. f ≡ first_duplicate auth acct (map shown_peer peers.now) (map shown_realm realms.now)) }
+    ensures causes { IsMemoryFault result }
+{
+    if has_duplicate_realm(realms) {
+        return Ok(Some(ConfFault::DuplicateRealm));
+    }
+    if has_duplicate_peer(peers) {
+        return Ok(Some(ConfFault::DuplicatePeer));
+    }
+    if has_duplicate_endpoint(alloc, auth, acct, realms)? {
+        return Ok(Some(ConfFault::DuplicateEndpoint));
+    }
+    if has_duplicate_server(alloc, realms)? {
+        return Ok(Some(ConfFault::DuplicateServer));
+    }
+    if has_duplicate_link(alloc, peers, realms)? {
+        return Ok(Some(ConfFault::DuplicateLink));
+    }
+    Ok(None)
+}

@@ -1,0 +1,72 @@
+//! Why a configuration is refused.
+
+ghost use Rattle.std.specs.Prelude.{◌≡◌};
+ghost use Rattle.roam_conf_reader.specs.declared.fault.ConfFault.TheVariants.{Memory};
+
+use std::alloc::{AllocError, AllocFailed};
+use std::error::Error;
+use std::fmt;
+
+/// The first fault of a configuration, in the order of this list; `Memory` may come at any point.
+///
+/// Its text is its name.
+#[derive(Clone, Copy, Debug, PartialEq, Eq)]
+pub enum ConfFault {
+    /// The text is no TOML document.
+    Syntax,
+    /// A required key is absent from a table.
+    Missing,
+    /// A value has the wrong type or is out of its range, or a key is unknown.
+    BadValue,
+    /// Two realms have names that are equal without ASCII case.
+    DuplicateRealm,
+    /// Two peers have equal names, addresses, NAS-IP-Addresses or NAS-Identifiers.
+    DuplicatePeer,
+    /// Two of the broker's own sockets are at one endpoint.
+    DuplicateEndpoint,
+    /// Two endpoints of one realm's servers are equal.
+    DuplicateServer,
+    /// A peer's `coa` endpoint is another peer's or a server's.
+    DuplicateLink,
+    /// A growth of memory was refused, which says nothing of the text.
+    Memory,
+}
+
+/// The name of a fault.
+fn name_of(fault: ConfFault) -> &'static str {
+    match fault {
+        ConfFault::Syntax => "Syntax",
+        ConfFault::Missing => "Missing",
+        ConfFault::BadValue => "BadValue",
+        ConfFault::DuplicateRealm => "DuplicateRealm",
+        ConfFault::DuplicatePeer => "DuplicatePeer",
+        ConfFault::DuplicateEndpoint => "DuplicateEndpoint",
+        ConfFault::DuplicateServer => "DuplicateServer",
+        ConfFault::DuplicateLink => "DuplicateLink",
+        ConfFault::Memory => "Memory",
+    }
+}
+
+impl fmt::Display for ConfFault {
+    fn fmt<W: fmt::Write>(&self, f: &mut fmt::Formatter<W>) -> fmt::Result {
+        f.write_str(name_of(*self))
+    }
+}
+
+impl Error for ConfFault {}
+
+impl From<AllocError> for ConfFault {
+    ghost from_gives = { λ _ fault. fault ≡ Memory };
+
+    fn from(_: AllocError) -> ConfFault {
+        ConfFault::Memory
+    }
+}
+
+impl<T: Drop> From<AllocFailed<T>> for ConfFault {
+    ghost from_gives = { λ _ fault. fault ≡ Memory };
+
+    fn from(_: AllocFailed<T>) -> ConfFault {
+        ConfFault::Memory
+    }
+}

@@ -1,0 +1,103 @@
+//! What the keys of a table state: nothing where a key is absent or has no fitting value.
+
+ghost use Rattle.std.specs.Prelude.{◌≡◌, ◌≤◌, IfSome, option_map};
+ghost use Rattle.std.specs.Option.{option_copied};
+ghost use Rattle.toml.specs.Data.{get_member};
+ghost use Rattle.toml.specs.View.{table_view, array_view};
+ghost use Rattle.roam_conf_reader.specs.Values as spec;
+ghost use Rattle.roam_conf_reader.specs.Values.{letters_of, value_at, optional_at};
+
+use crate::values::{self, Letters, value};
+use roam_conf::Endpoint;
+use toml::Table;
+use toml::value::Array;
+
+/// An integer from `least` to `most`.
+pub(crate) fn number(table: &Table, key: &str, least: u32, most: u32) -> Option<u32>
+    ensures value { result ≡ value_at (spec.number least most) key.now (table_view table.now) }
+    ensures bounds { IfSome result (λ n. (least ≤ n) × (n ≤ most)) }
+{
+    values::number_of(value(table, key)?, least, most)
+}
+
+pub(crate) fn address(table: &Table, key: &str) -> Option<[u8; 4]>
+    ensures { result ≡ value_at spec.address key.now (table_view table.now) }
+{
+    values::address_of(value(table, key)?)
+}
+
+pub(crate) fn endpoint(table: &Table, key: &str) -> Option<Endpoint>
+    ensures { result ≡ value_at spec.endpoint key.now (table_view table.now) }
+{
+    values::endpoint_of(value(table, key)?)
+}
+
+/// 32 octets, written as 64 hexadecimal digits.
+pub(crate) fn seed(table: &Table, key: &str) -> Option<[u8; 32]>
+    ensures { result ≡ value_at spec.seed key.now (table_view table.now) }
+{
+    values::seed_of(value(table, key)?)
+}
+
+/// An array of 1 to `most` items.
+pub(crate) fn array<'a>(table: &'a Table, key: &str, most: usize) -> Option<&'a Array>
+    ensures { option_map (λ a. array_view a.now) result
+        ≡ value_at (spec.array_of most) key.now (table_view table.now) }
+{
+    values::array_of(value(table, key)?, most)
+}
+
+/// A text of 1 to `most` octets, all of them among the letters.
+pub(crate) fn text<'a>(
+    table: &'a Table,
+    key: &str,
+    most: usize,
+    letters: Letters,
+) -> Option<&'a str>
+    ensures { option_copied result
+        ≡ value_at (spec.text most (letters_of letters)) key.now (table_view table.now) }
+{
+    values::text_of(value(table, key)?, most, letters)
+}
+
+/// An address, or `Some(None)` where the key is absent.
+pub(crate) fn optional_address(table: &Table, key: &str) -> Option<Option<[u8; 4]>>
+    ensures { result ≡ optional_at spec.address key.now (table_view table.now) }
+{
+    match value(table, key) {
+        Some(value) => Some(Some(values::address_of(value)?)),
+        None => Some(None),
+    }
+}
+
+/// An endpoint, or `Some(None)` where the key is absent.
+pub(crate) fn optional_endpoint(table: &Table, key: &str) -> Option<Option<Endpoint>>
+    ensures { result ≡ optional_at spec.endpoint key.now (table_view table.now) }
+{
+    match value(table, key) {
+        Some(value) => Some(Some(values::endpoint_of(value)?)),
+        None => Some(None),
+    }
+}
+
+/// A text of 1 to `most` octets, or `Some(None)` where the key is absent.
+pub(crate) fn optional_text<'a>(table: &'a Table, key: &str, most: usize) -> Option<Option<&'a str>>
+    ensures { option_map (λ text. option_copied text) result
+        ≡ optional_at (spec.text most (letters_of Letters.Any)) key.now (table_view table.now) }
+{
+    match value(table, key) {
+        Some(value) => Some(Some(values::text_of(value, most, Letters::Any)?)),
+        None => Some(None),
+    }
+}
+
+/// A boolean, false where the key is absent.
+#[tactic(auto, unfolding(crate::specs::Values::flag))]
+pub(crate) fn flag(table: &Table, key: &str) -> Option<bool>
+    ensures { result ≡ spec.flag (get_member key.now (table_view table.now)) }
+{
+    match value(table, key) {
+        Some(value) => value.as_bool(),
+        None => Some(false),
+    }
+}

@@ -1,0 +1,20 @@
+//! Reading the configuration of the broker from the text of a TOML document.
+//!
+//! Nothing that routes, forwards or keeps entries stands on this crate: a configuration that was read
+//! is a value of `roam_conf`.
+#![tactic(auto)]
+
+mod config;
+mod document;
+mod duplicates;
+mod fault;
+mod keys;
+mod peer;
+mod realm;
+mod server;
+mod stated;
+mod tables;
+mod values;
+
+pub use config::read_config;
+pub use fault::ConfFault;

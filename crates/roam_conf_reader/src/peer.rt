@@ -1,0 +1,104 @@
+//! The peers that tables state.
+
+ghost use Rattle.std.specs.Prelude.{◌≡◌, Err, IfOk, IfSome, List, None, map, option_map, string_bytes};
+ghost use Rattle.std.specs.Option.{option_copied};
+ghost use Rattle.toml.specs.View.{array_view, table_view};
+ghost use Rattle.roam_conf.specs.Config.{PeerView};
+ghost use Rattle.roam_conf.specs.Parts.{shown_peer};
+ghost use Rattle.roam_conf_reader.specs.Document.{StatesEach, StatesPeer};
+ghost use Rattle.roam_conf_reader.specs.Reading.{IsValueFault, IsMemoryFault};
+ghost use Rattle.roam_conf_reader.specs.Texts.{peer_in};
+
+use crate::tables::{PEER_KEYS, PEER_OPTIONAL_KEYS, has_only};
+use crate::values::Letters;
+use crate::{ConfFault, keys};
+use roam_conf::{Endpoint, Peer};
+use std::alloc::Global;
+use toml::Table;
+use toml::value::Array;
+
+/// What a table states of a peer. Its texts still stand in the document.
+#[derive(Clone, Copy)]
+struct PeerText<'a> {
+    name: &'a str,
+    ip: [u8; 4],
+    secret: &'a str,
+    coa: Option<Endpoint>,
+    nas_ip: Option<[u8; 4]>,
+    nas_id: Option<&'a str>,
+    require_seal: bool,
+}
+
+/// What a table states of a peer; nothing where one of its values is bad.
+fn peer_text(table: &Table) -> Option<PeerText<'_>>
+    ensures some { IfSome result (λ text. StatesPeer (table_view table.now) (peer_in text)) }
+    ensures none { result ≡ None → (p : PeerView) → ¬ (StatesPeer (table_view table.now) p) }
+{
+    if !has_only(table, &PEER_KEYS, &PEER_OPTIONAL_KEYS) {
+        return None;
+    }
+    Some(PeerText {
+        name: keys::text(table, "name", 64, Letters::PeerName)?,
+        ip: keys::address(table, "ip")?,
+        secret: keys::text(table, "secret", 64, Letters::Any)?,
+        coa: keys::optional_endpoint(table, "coa")?,
+        nas_ip: keys::optional_address(table, "nas_ip")?,
+        nas_id: keys::optional_text(table, "nas_id", 253)?,
+        require_seal: keys::flag(table, "require_seal")?,
+    })
+}
+
+/// A copy of a text that may be absent.
+fn copied(alloc: Global, text: Option<&str>) -> Result<Option<String>, ConfFault>
+    ensures ok { IfOk result (λ o. option_map string_bytes o ≡ option_copied text.entry) }
+    ensures causes { IsMemoryFault result }
+{
+    match text {
+        Some(text) => Ok(Some(String::from_str(alloc, text)?)),
+        None => Ok(None),
+    }
+}
+
+/// The peer that a table states. Memory is asked for only where the table states one.
+fn from_table(alloc: Global, table: &Table) -> Result<Peer, ConfFault>
+    ensures ok { IfOk result (λ p. StatesPeer (table_view table.now) (shown_peer p)) }
+    ensures bad { result ≡ Err ConfFault.BadValue
+        → (p : PeerView) → ¬ (StatesPeer (table_view table.now) p) }
+    ensures memory { result ≡ Err ConfFault.Memory
+        → (p : PeerView) × StatesPeer (table_view table.now) p }
+    ensures causes { IsValueFault result }
+{
+    let Some(text) = peer_text(table) else {
+        return Err(ConfFault::BadValue);
+    };
+    Ok(Peer {
+        name: String::from_str(alloc, text.name)?,
+        ip: text.ip,
+        secret: String::from_str(alloc, text.secret)?,
+        coa: text.coa,
+        nas_ip: text.nas_ip,
+        nas_id: copied(alloc, text.nas_id)?,
+        require_seal: text.require_seal,
+    })
+}
+
+/// The peers that the tables of an array state, in its order.
+pub(crate) fn all_from(alloc: Global, items: &Array) -> Result<Vec<Peer>, ConfFault>
+    ensures ok { IfOk result
+        (λ v. StatesEach StatesPeer (array_view items.now) (map shown_peer v.items)) }
+    ensures bad { result ≡ Err ConfFault.BadValue
+        → (vs : List PeerView) → ¬ (StatesEach StatesPeer (array_view items.now) vs) }
+    ensures causes { IsValueFault result }
+{
+    let mut all = Vec::new(alloc);
+    for value in items {
+        match value.as_table() {
+            Some(table) => {
+                let peer = from_table(alloc, table)?;
+                all.push(peer)?;
+            }
+            None => return Err(ConfFault::BadValue),
+        }
+    }
+    Ok(all)
+}

@@ -1,0 +1,80 @@
+//! The home servers that tables state.
+
+ghost use Rattle.std.specs.Prelude.{◌≡◌, Err, IfOk, IfSome, List, None, map};
+ghost use Rattle.toml.specs.View.{array_view, table_view};
+ghost use Rattle.roam_conf.specs.Config.{ServerView};
+ghost use Rattle.roam_conf.specs.Parts.{shown_server};
+ghost use Rattle.roam_conf_reader.specs.Document.{StatesEach, StatesServer};
+ghost use Rattle.roam_conf_reader.specs.Reading.{IsValueFault};
+ghost use Rattle.roam_conf_reader.specs.Texts.{server_in};
+
+use crate::tables::{SERVER_KEYS, has_only};
+use crate::values::Letters;
+use crate::{ConfFault, keys};
+use roam_conf::{Endpoint, Server};
+use std::alloc::Global;
+use toml::Table;
+use toml::value::Array;
+
+/// What a table states of a home server. Its secret still stands in the document.
+#[derive(Clone, Copy)]
+struct ServerText<'a> {
+    auth: Endpoint,
+    acct: Endpoint,
+    secret: &'a str,
+}
+
+/// What a table states of a home server; nothing where one of its values is bad.
+fn server_text(table: &Table) -> Option<ServerText<'_>>
+    ensures some { IfSome result (λ text. StatesServer (table_view table.now) (server_in text)) }
+    ensures none { result ≡ None → (s : ServerView) → ¬ (StatesServer (table_view table.now) s) }
+{
+    if !has_only(table, &SERVER_KEYS, &[]) {
+        return None;
+    }
+    Some(ServerText {
+        auth: keys::endpoint(table, "auth")?,
+        acct: keys::endpoint(table, "acct")?,
+        secret: keys::text(table, "secret", 64, Letters::Any)?,
+    })
+}
+
+/// The home server that a table states. Memory is asked for only where the table states one.
+fn from_table(alloc: Global, table: &Table) -> Result<Server, ConfFault>
+    ensures ok { IfOk result (λ s. StatesServer (table_view table.now) (shown_server s)) }
+    ensures bad { result ≡ Err ConfFault.BadValue
+        → (s : ServerView) → ¬ (StatesServer (table_view table.now) s) }
+    ensures memory { result ≡ Err ConfFault.Memory
+        → (s : ServerView) × StatesServer (table_view table.now) s }
+    ensures causes { IsValueFault result }
+{
+    let Some(text) = server_text(table) else {
+        return Err(ConfFault::BadValue);
+    };
+    Ok(Server {
+        auth: text.auth,
+        acct: text.acct,
+        secret: String::from_str(alloc, text.secret)?,
+    })
+}
+
+/// The home servers that the tables of an array state, in its order.
+pub(crate) fn all_from(alloc: Global, items: &Array) -> Result<Vec<Server>, ConfFault>
+    ensures ok { IfOk result
+        (λ v. StatesEach StatesServer (array_view items.now) (map shown_server v.items)) }
+    ensures bad { result ≡ Err ConfFault.BadValue
+        → (vs : List ServerView) → ¬ (StatesEach StatesServer (array_view items.now) vs) }
+    ensures causes { IsValueFault result }
+{
+    let mut all = Vec::new(alloc);
+    for value in items {
+        match value.as_table() {
+            Some(table) => {
+                let server = from_table(alloc, table)?;
+                all.push(server)?;
+            }
+            None => return Err(ConfFault::BadValue),
+        }
+    }
+    Ok(all)
+}

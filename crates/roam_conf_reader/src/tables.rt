@@ -1,0 +1,153 @@
+//! Which keys the tables of a document have.
+
+ghost use Rattle.std.specs.Prelude.{◌≡◌, codes};
+ghost use Rattle.toml.specs.Data.{get_member};
+ghost use Rattle.toml.specs.View.{table_view, array_view};
+ghost use Rattle.roam_conf_reader.specs.Document as spec;
+ghost use Rattle.roam_conf_reader.specs.Document.{misses, some_table, within};
+ghost use Rattle.roam_conf_reader.specs.Tables.{shown_keys};
+
+use crate::values::value;
+use toml::Table;
+use toml::value::Array;
+
+/// The keys of a home server's table.
+pub(crate) const SERVER_KEYS: [&str; 3] = ["auth", "acct", "secret"];
+
+/// The keys that a peer's table must have.
+pub(crate) const PEER_KEYS: [&str; 3] = ["name", "ip", "secret"];
+
+/// The keys that a peer's table may have besides.
+pub(crate) const PEER_OPTIONAL_KEYS: [&str; 4] = ["coa", "nas_ip", "nas_id", "require_seal"];
+
+/// The keys of a realm's table.
+pub(crate) const REALM_KEYS: [&str; 9] = [
+    "name",
+    "out",
+    "reverse",
+    "tries",
+    "wait",
+    "hold",
+    "max_pending",
+    "max_sessions",
+    "server",
+];
+
+/// The keys of the document itself.
+pub(crate) const TOP_KEYS: [&str; 7] = [
+    "shards",
+    "seed",
+    "auth",
+    "acct",
+    "trace_limit",
+    "peer",
+    "realm",
+];
+
+fn is_one_of(keys: &[&str], key: &str) -> bool
+    ensures { result ≡ spec.is_one_of (shown_keys keys.now) key.now }
+{
+    for known in keys {
+        if key == *known {
+            return true;
+        }
+    }
+    false
+}
+
+/// Whether each key of the table is one of these.
+pub(crate) fn has_only(table: &Table, required: &[&str], optional: &[&str]) -> bool
+    ensures { result ≡ spec.has_only (shown_keys required.now) (shown_keys optional.now)
+        (table_view table.now) }
+{
+    for key in table.keys() {
+        if !is_one_of(required, key.as_str()) && !is_one_of(optional, key.as_str()) {
+            return false;
+        }
+    }
+    true
+}
+
+/// Whether the table has each of these keys.
+fn has_all(table: &Table, keys: &[&str]) -> bool
+    ensures { result ≡ spec.has_all (shown_keys keys.now) (table_view table.now) }
+{
+    for key in keys {
+        if value(table, key).is_none() {
+            return false;
+        }
+    }
+    true
+}
+
+/// Whether one of the items is a table that misses one of these keys.
+fn some_misses(items: &Array, keys: &[&str]) -> bool
+    ensures { result ≡ some_table (misses (shown_keys keys.now)) (array_view items.now) }
+{
+    for value in items {
+        if let Some(table) = value.as_table() {
+            if !has_all(table, keys) {
+                return true;
+            }
+        }
+    }
+    false
+}
+
+/// The same of what a key of a table has, if that is an array.
+fn some_misses_within(table: &Table, key: &str, keys: &[&str]) -> bool
+    ensures { result ≡ within (misses (shown_keys keys.now)) (get_member key.now (table_view table.now)) }
+{
+    match value(table, key) {
+        Some(value) => match value.as_array() {
+            Some(items) => some_misses(items, keys),
+            None => false,
+        },
+        None => false,
+    }
+}
+
+/// Whether a realm's table, or the table of one of its servers, misses a key.
+#[tactic(auto, unfolding(crate::specs::Document::realm_misses))]
+fn realm_misses(table: &Table) -> bool
+    ensures { result ≡ spec.realm_misses (table_view table.now) }
+{
+    !has_all(table, &REALM_KEYS) || some_misses_within(table, "server", &SERVER_KEYS)
+}
+
+/// Whether one of the items is a realm's table that misses a key.
+fn some_realm_misses(items: &Array) -> bool
+    ensures { result ≡ some_table spec.realm_misses (array_view items.now) }
+{
+    for value in items {
+        if let Some(table) = value.as_table() {
+            if realm_misses(table) {
+                return true;
+            }
+        }
+    }
+    false
+}
+
+/// The same of the document's realms, if they are an array.
+fn realms_miss(table: &Table) -> bool
+    ensures { result ≡ within spec.realm_misses (get_member (codes "realm") (table_view table.now)) }
+{
+    match value(table, "realm") {
+        Some(value) => match value.as_array() {
+            Some(items) => some_realm_misses(items),
+            None => false,
+        },
+        None => false,
+    }
+}
+
+/// Whether a required key is absent anywhere in the document.
+#[tactic(auto, unfolding(crate::specs::Document::document_misses))]
+pub(crate) fn document_misses(table: &Table) -> bool
+    ensures { result ≡ spec.document_misses (table_view table.now) }
+{
+    !has_all(table, &TOP_KEYS)
+        || some_misses_within(table, "peer", &PEER_KEYS)
+        || realms_miss(table)
+}

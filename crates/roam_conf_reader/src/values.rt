@@ -1,0 +1,124 @@
+//! What a single value of the document states, and what a key of a table does.
+
+ghost use Rattle.std.specs.Prelude.{◌≡◌, ◌≤◌, ◌⊎◌, ℕ, Some, None, Ok, Err, IfOk, IfErr, IfSome, IsTrue, MatchResult, MatchOption, option_map, string_bytes, length, vec_len, true};
+ghost use Rattle.std.specs.Bool.{OnTrue};
+ghost use Rattle.std.specs.List.{list_all};
+ghost use Rattle.std.specs.Option.{option_copied};
+ghost use Rattle.toml.specs.Data.{get_member};
+ghost use Rattle.toml.specs.View.{view, table_view, array_view};
+ghost use Rattle.roam_conf_reader.specs.Values as spec;
+ghost use Rattle.roam_conf_reader.specs.Values.{letters_of, text_fits, value_at, optional_at};
+
+use hex::FromHex;
+use roam_conf::{Endpoint, address};
+use toml::value::Array;
+use toml::{Table, Value};
+
+/// The octets that a text may have.
+#[derive(Clone, Copy)]
+pub(crate) enum Letters {
+    Any,
+    /// ASCII letters and digits, `.`, `-` and `_`.
+    PeerName,
+    /// ASCII letters and digits, `.` and `-`.
+    RealmName,
+}
+
+impl Letters {
+    #[tactic(auto, unfolding(roam_conf::specs::Letters::is_peer_letter, roam_conf::specs::Letters::is_realm_letter))]
+    fn admits(self, octet: u8) -> bool
+        ensures { result ≡ letters_of self octet }
+    {
+        match self {
+            Letters::Any => true,
+            Letters::PeerName => {
+                octet.is_ascii_alphanumeric() || octet == b'.' || octet == b'-' || octet == b'_'
+            }
+            Letters::RealmName => octet.is_ascii_alphanumeric() || octet == b'.' || octet == b'-',
+        }
+    }
+
+    fn admits_all(self, octets: &[u8]) -> bool
+        ensures { result ≡ list_all (letters_of self) octets.now }
+    {
+        octets.iter().all(|octet| self.admits(*octet))
+    }
+}
+
+/// The value at a key.
+pub(crate) fn value<'a>(table: &'a Table, key: &str) -> Option<&'a Value>
+    ensures { option_map (λ v. view v.now) result ≡ get_member key.now (table_view table.now) }
+{
+    table.get(key)
+}
+
+/// Whether the octets are 1 to `most`, all of them among the letters.
+#[tactic(auto, unfolding(crate::specs::Values::text_fits))]
+fn text_fits(octets: &[u8], most: usize, letters: Letters) -> bool
+    ensures { result ≡ text_fits most (letters_of letters) octets.now }
+{
+    if octets.is_empty() || octets.len() > most {
+        return false;
+    }
+    letters.admits_all(octets)
+}
+
+/// A text of 1 to `most` octets.
+#[tactic(auto, unfolding(crate::specs::Values::text))]
+pub(crate) fn text_of(value: &Value, most: usize, letters: Letters) -> Option<&str>
+    ensures { option_copied result ≡ spec.text most (letters_of letters) (view value.now) }
+{
+    let text = value.as_str()?;
+    if text_fits(text.as_bytes(), most, letters) {
+        Some(text)
+    } else {
+        None
+    }
+}
+
+#[tactic(auto, unfolding(crate::specs::Values::number))]
+pub(crate) fn number_of(value: &Value, least: u32, most: u32) -> Option<u32>
+    ensures value { result ≡ spec.number least most (view value.now) }
+    ensures bounds { IfSome result (λ n. (least ≤ n) × (n ≤ most)) }
+{
+    let n = u32::try_from(value.as_integer()?).ok()?;
+    if least <= n && n <= most {
+        Some(n)
+    } else {
+        None
+    }
+}
+
+#[tactic(auto, unfolding(crate::specs::Values::address))]
+pub(crate) fn address_of(value: &Value) -> Option<[u8; 4]>
+    ensures { result ≡ spec.address (view value.now) }
+{
+    address(value.as_str()?)
+}
+
+#[tactic(auto, unfolding(crate::specs::Values::endpoint))]
+pub(crate) fn endpoint_of(value: &Value) -> Option<Endpoint>
+    ensures { result ≡ spec.endpoint (view value.now) }
+{
+    Endpoint::from_text(value.as_str()?)
+}
+
+#[tactic(auto, unfolding(crate::specs::Values::seed))]
+pub(crate) fn seed_of(value: &Value) -> Option<[u8; 32]>
+    ensures { result ≡ spec.seed (view value.now) }
+{
+    <[u8; 32] as FromHex>::from_hex(value.as_str()?).ok()
+}
+
+/// An array of 1 to `most` items.
+#[tactic(auto, using(crate::proofs::ArrayLemmas::item_count_of), unfolding(crate::specs::Values::array_of))]
+pub(crate) fn array_of(value: &Value, most: usize) -> Option<&Array>
+    ensures { option_map (λ a. array_view a.now) result ≡ spec.array_of most (view value.now) }
+{
+    let array = value.as_array()?;
+    if array.is_empty() || array.len() > most {
+        None
+    } else {
+        Some(array)
+    }
+}

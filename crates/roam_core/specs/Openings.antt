@@ -1,0 +1,40 @@
+-- How the realms begin, and what each does from there (ours).
+use Rattle.std.specs.Prelude.{ℕ, ◌+◌, List, [], ◌∷◌, length, replicate, slice_index_or}
+use Rattle.roam_conf.specs.Config.{ConfigView}
+use Rattle.roam_route.specs.Admission.{PlainOut}
+use Rattle.roam_book.specs.RealmConfig.{RealmConfig, realm_config}
+use Rattle.roam_book.specs.RealmState.{RealmState, opening}
+use Rattle.roam_book.specs.OneRealm.{RealmEvent, one_realm_run}
+use Rattle.roam_book.specs.declared.start.Start.{Start}
+
+-- where a realm of a fresh broker begins: at place 0 of its random words, and ticket 0
+abbrev pub first_start : Start
+first_start = record { place = 0; ticket = 0 }
+
+-- the start of the realm of an index
+abbrev pub start_of : List Start → ℕ → Start
+start_of starts realm = slice_index_or starts realm first_start
+
+-- how the realms begin, from the realm of this index on: each at its start
+abbrev pub openings_from : ConfigView → ℕ → List Start → List RealmState
+openings_from config realm [] = []
+openings_from config realm (start ∷ starts) =
+    opening (realm_config config realm) start ∷ openings_from config (realm + 1) starts
+
+abbrev pub openings : ConfigView → List Start → List RealmState
+openings config starts = openings_from config 0 starts
+
+-- where the realms of a fresh broker begin, and how they stand there
+abbrev pub fresh_starts : ConfigView → List Start
+fresh_starts config = replicate (length config.realms) first_start
+
+abbrev pub fresh : ConfigView → List RealmState
+fresh config = openings config (fresh_starts config)
+
+-- what the written broker of one realm sends for a list of its events, from a start, and the state
+-- that it is in then
+abbrev pub one_realm_packets : RealmConfig → Start → List RealmEvent → List PlainOut
+one_realm_packets c start events = (one_realm_run c (opening c start) events).packets
+
+abbrev pub state_then : RealmConfig → Start → List RealmEvent → RealmState
+state_then c start events = (one_realm_run c (opening c start) events).state

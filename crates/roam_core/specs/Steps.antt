@@ -1,0 +1,32 @@
+-- What a call that answers one event gives (ours).
+use Rattle.std.specs.Prelude.{◌≡◌, ◌<◌, ◌≤◌, ◌^◌, List, Result, Ok, Err}
+use Rattle.roam_wire.specs.declared.refusal.NoMemory.{NoMemory}
+use Rattle.roam_conf.specs.Config.{ConfigView}
+use Rattle.roam_route.specs.Admission.{admission_by, is_served}
+use Rattle.roam_route.specs.Shown.{WantsMemory}
+use Rattle.roam_book.specs.RealmState.{RealmState}
+use Rattle.roam_book.specs.Turn.{shown_outs}
+use Rattle.roam_book.specs.declared.answer.Answer.{Answer}
+use Rattle.roam_core.specs.Events.{PlainEvent, arrives, ticks}
+use Rattle.roam_core.specs.ManyRealms.{BrokerTurn, packets_in_turn, refusal_given, states_after}
+
+-- an answer and the states after it are those of a turn
+pub record IsAnswer {A : Type 0} (answer : Answer A) (old new : List RealmState)
+    (turn : BrokerTurn) : Type 0 where
+  pub packets : shown_outs answer.outs.items ≡ packets_in_turn turn
+  pub refusal : answer.refusal ≡ refusal_given turn
+  pub states : new ≡ states_after old turn
+
+-- what a call that may want memory gives: the turn, or nothing, and the states are as they were
+abbrev pub GivesAnswer :
+    {A : Type 0} → Result (Answer A) NoMemory → List RealmState → List RealmState → BrokerTurn
+    → Type 0
+GivesAnswer (Ok answer) old new turn = IsAnswer answer old new turn
+GivesAnswer (Err e) old new turn = new ≡ old
+
+-- memory is wanted for an arrival that isn't refused before it comes to its realm, and for a tick of a
+-- shard that is there, at a moment that isn't above 2^62 milliseconds. What is refused before that is
+-- refused for its cause, whatever memory there is
+abbrev pub EventWantsMemory : ConfigView → PlainEvent → Type 0
+EventWantsMemory config (arrives now a) = WantsMemory (admission_by is_served config a)
+EventWantsMemory config (ticks now shard) = (shard < config.shards) × (now ≤ 2 ^ 62)

@@ -1,0 +1,2 @@
+pub mod RandomWords
+pub mod Laws

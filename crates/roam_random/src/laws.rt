@@ -1,0 +1,18 @@
+//! Laws of the random words, for callers' proofs. They do nothing when they run.
+
+ghost use Rattle.roam_random.specs.Laws.{AuthenticatorsHave16Octets, NextPositionsAreInTheStream, PositionsCountModuloTheStream};
+
+/// A Request Authenticator has 16 octets.
+pub fn authenticators_have_16_octets()
+    ensures { AuthenticatorsHave16Octets }
+{}
+
+/// The next position is below 2^68, whatever the position.
+pub fn next_positions_are_in_the_stream()
+    ensures { NextPositionsAreInTheStream }
+{}
+
+/// Positions that are equal modulo 2^68 have the same words, and the same next position.
+pub fn positions_count_modulo_the_stream()
+    ensures { PositionsCountModuloTheStream }
+{}

@@ -1,0 +1,14 @@
+//! The random words of a realm (RFC 2865, section 3: the Request Authenticator of an Access-Request).
+//!
+//! Nothing here keeps a generator: a word is a function of the seed, the stream's number and a position
+//! in the stream, so whoever draws words keeps that position, and nothing else.
+#![tactic(auto)]
+
+mod laws;
+mod words;
+
+pub use laws::{
+    authenticators_have_16_octets, next_positions_are_in_the_stream,
+    positions_count_modulo_the_stream,
+};
+pub use words::{next_position, request_authenticator};
