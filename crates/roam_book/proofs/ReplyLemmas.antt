@@ -11,7 +11,8 @@ use Rattle.roam_wire.specs.declared.refusal.Refusal.TheVariants as refusal
 use Rattle.roam_auth.specs.Authenticators.{IsSignedReply}
 use Rattle.roam_auth.specs.Deciding.{is_signed_reply, is_well_sealed}
 use Rattle.roam_auth.proofs.DecidingLemmas.{signed_reply_decided, well_sealed_decided}
-use Rattle.roam_back.specs.ReplyCheck.{is_access_reply, answers, sealing_authenticators, IsRightlySealed}
+use Rattle.roam_wire.specs.Codes.{is_access_reply}
+use Rattle.roam_back.specs.ReplyCheck.{answers, sealing_authenticators, IsRightlySealed}
 use Rattle.roam_back.specs.Returned.{returned_length}
 use Rattle.roam_conf.specs.declared.place.Link.{Link}
 use Rattle.roam_pending.specs.PlainEntry.{PlainRequest, PlainStanding, PlainEntry, waiting, done, same_link, stands_at, waits_at}
