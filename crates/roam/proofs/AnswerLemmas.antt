@@ -1,11 +1,29 @@
 -- What the words get, from what the command that they ask for did.
-use Rattle.std.proofs.Common.{◌≡◌, ℕ, List, Option, Result, Ok, Err, IfErr, sym, arith}
-use Rattle.roam.specs.CommandLine.{to_simulate, words_of, AsksNothing}
+use Rattle.std.proofs.Common.{◌≡◌, ◌⊎◌, inl, inr, ℕ, List, Option, Result, Ok, Err, IfErr, Bor, Contains, sym, arith}
+use Rattle.std.proofs.KnownBytes.{Keeps-refl}
+use Rattle.std.specs.Io.KnownBytes.{Keeps}
+use Rattle.roam_sim.specs.Simulation.{SimulatesInPart}
+use Rattle.roam.specs.CommandLine.{Asked, to_check, to_simulate, words_of, files_of, AsksNothing}
 use Rattle.roam.specs.declared.text_file.TextFile.{TextFile}
 use Rattle.roam.specs.declared.report.Fault.{Fault}
 use Rattle.roam.specs.declared.report.Fault.TheVariants as fault
-use Rattle.roam.specs.Outcomes.{RunFails, Prevents}
+use Rattle.roam.specs.Outcomes.{text_in, CheckFails, RunFails, IsAnsweredInPart, Prevents}
 use Rattle.roam.specs.Report.{status_of}
+
+-- some events were lost, or the output is as it was
+in_part : (words : List (List ℕ)) (configuration script : TextFile) (old new : Option (List ℕ)) →
+    words_of (to_simulate configuration.path.now script.path.now) ≡ words →
+    Keeps old new ⊎ SimulatesInPart (text_in configuration) (text_in script) old new →
+    Keeps old new ⊎ IsAnsweredInPart words old new
+in_part words configuration script old new worded (inl kept) = inl kept
+in_part words configuration script old new worded (inr part) = inr (record {
+  configuration = configuration.path.now;
+  script = script.path.now;
+  worded = worded;
+  configuration_text = text_in configuration;
+  script_text = text_in script;
+  done = part;
+})
 
 -- the faults of a run, where the words name its two files
 pub run-prevents : {T : Type 0} (words : List (List ℕ)) (configuration script : TextFile)
@@ -21,8 +39,10 @@ run-prevents words configuration script old new (Err (fault.FaultyLine path numb
     ((configuration.path.now, rw fails.0.named worded), fails.2)
 run-prevents words configuration script old new (Err fault.Write) worded fails =
     λ nothing. nothing (to_simulate configuration.path.now script.path.now) worded
-run-prevents words configuration script old new (Err fault.Memory) worded fails =
-    λ nothing. nothing (to_simulate configuration.path.now script.path.now) worded
+run-prevents words configuration script old new (Err fault.Memory) worded fails = (
+  (λ nothing. nothing (to_simulate configuration.path.now script.path.now) worded),
+  in_part words configuration script old new worded fails,
+)
 
 -- status 2 is that of the usage alone, which comes just where the words ask for nothing
 pub usage-status : (words : List (List ℕ)) (old new : Option (List ℕ)) (f : Fault) (status : ℕ) →
@@ -38,4 +58,4 @@ usage-status words old new (fault.FaultyLine path number) status is prevents =
 usage-status words old new fault.Write status is prevents =
     (λ two. absurd (omega arith), λ nothing. absurd (prevents nothing))
 usage-status words old new fault.Memory status is prevents =
-    (λ two. absurd (omega arith), λ nothing. absurd (prevents nothing))
+    (λ two. absurd (omega arith), λ nothing. absurd (prevents.0 nothing))

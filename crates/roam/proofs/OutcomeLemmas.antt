@@ -1,14 +1,18 @@
 -- What a command's outcome is, from what its parts did.
-use Rattle.std.proofs.Common.{◌≡◌, ℕ, List, Option, Result, Ok, Err, OnOk, IfErr, string_bytes}
+use Rattle.std.proofs.Common.{◌≡◌, ◌⊎◌, inl, inr, ℕ, List, Option, Result, Ok, Err, OnOk, IfErr, refl, string_bytes}
 use Rattle.std.proofs.KnownBytes.{Appends-kept}
 use Rattle.std.specs.Io.KnownBytes.{Appends, Keeps}
 use Rattle.roam_conf.specs.Config.{ConfigView}
 use Rattle.roam_conf_reader.specs.Faults.{States, NoneHolds, every_fault}
+use Rattle.std.specs.Prelude.{IsErrOf, IsOk}
+use Rattle.roam_sim.specs.Script.{script_states}
 use Rattle.roam_sim.specs.Simulation.{IsAccepted, Simulates}
+use Rattle.roam_sim.specs.declared.fault.SimFault.{SimFault}
+use Rattle.roam_sim.specs.declared.fault.SimFault.TheVariants as sim
 use Rattle.roam.specs.declared.text_file.TextFile.{TextFile}
 use Rattle.roam.specs.declared.report.Fault.{Fault}
 use Rattle.roam.specs.declared.report.Fault.TheVariants as fault
-use Rattle.roam.specs.Outcomes.{summary_of, text_in, Checks, CheckFails}
+use Rattle.roam.specs.Outcomes.{summary_of, text_in, Checks, CheckFails, RunFails, AreRead}
 
 -- the summary was printed of the configuration that the file states
 pub printed-checks : {T E : Type 0} (file : TextFile) (text : List ℕ) (config : ConfigView)
@@ -54,3 +58,33 @@ handed-on-runs configuration script read-configuration read-script old mid new (
     rw (← same, ← same-script) still
 handed-on-runs configuration script read-configuration read-script old mid new (Err e) same same-script simulates
     kept = tt
+
+-- a write that is refused after the lines were written: both texts were read
+pub runs-fails : {T : Type 0} (configuration script : TextFile) (read-configuration read-script : List ℕ)
+    (old mid new : Option (List ℕ)) (r : Result T Fault) →
+    read-configuration ≡ string_bytes configuration.text → read-script ≡ string_bytes script.text →
+    Simulates read-configuration read-script old mid →
+    IfErr r (λ f. f ≡ fault.Write) → IfErr r (RunFails configuration script old new)
+runs-fails configuration script read-configuration read-script old mid new (Ok x) same same-script simulates
+    refused = tt
+runs-fails configuration script read-configuration read-script old mid new (Err e) same same-script simulates
+    refused =
+    let read : AreRead read-configuration read-script = record {
+      accepted = (simulates.config, simulates.read);
+      faultless = rw simulates.simulated.stated refl;
+    } in
+    rw refused (inr (rw (same, same-script) at read))
+
+-- a line that is refused: both texts were read
+pub write-fails : (configuration script : TextFile) (read-configuration read-script : List ℕ)
+    (old new : Option (List ℕ)) (r : Result Unit SimFault) →
+    read-configuration ≡ string_bytes configuration.text → read-script ≡ string_bytes script.text →
+    r ≡ Err sim.Write → (IsErrOf r sim.Write → IsAccepted read-configuration) →
+    (IsErrOf r sim.Write → IsOk (script_states read-script)) →
+    Keeps old new ⊎ AreRead (text_in configuration) (text_in script)
+write-fails configuration script read-configuration read-script old new r same same-script is accepted faultless =
+    let read : AreRead read-configuration read-script = record {
+      accepted = accepted is;
+      faultless = faultless is;
+    } in
+    inr (rw (same, same-script) at read)

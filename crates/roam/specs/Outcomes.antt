@@ -1,6 +1,6 @@
 -- What the commands print, and which fault comes when: over the files that were read, and what the output holds
 -- before a command and after it. Ours.
-use Rattle.std.specs.Prelude.{◌≡◌, ◌⊎◌, ℕ, List, ◌++◌, Option, Err, ⊤, Contains, length, codes, string_bytes}
+use Rattle.std.specs.Prelude.{◌≡◌, ◌⊎◌, ℕ, List, ◌++◌, Option, Err, IsOk, OnOk, Contains, length, codes, string_bytes}
 use Rattle.std.specs.Fmt.{decimal}
 use Rattle.std.specs.Io.KnownBytes.{Keeps, Appends}
 use Rattle.roam_conf.specs.Config.{ConfigView}
@@ -9,7 +9,9 @@ use Rattle.roam_conf_reader.specs.Faults.{IsFirstFault}
 use Rattle.roam_sim.specs.Script.{script_states}
 use Rattle.roam_sim.specs.Simulation.{IsConfiguration, IsAccepted, Simulates, SimulatesInPart}
 use Rattle.roam.specs.CommandLine.{Asked, to_check, to_simulate, words_of, files_of, configuration_of, AsksNothing}
+use Rattle.roam.specs.Report.{status_of, text_of}
 use Rattle.roam.specs.declared.text_file.TextFile.{TextFile}
+use Rattle.roam.specs.declared.report.Ending.{Ending}
 use Rattle.roam.specs.declared.report.Fault.{Fault}
 use Rattle.roam.specs.declared.report.Fault.TheVariants as fault
 
@@ -48,9 +50,14 @@ CheckFails file old new (fault.FaultyLine path number) = ⊥
 CheckFails file old new fault.Write = IsAccepted (text_in file)
 CheckFails file old new fault.Memory = Keeps old new
 
--- the faults of a run: a faulty line comes only where the configuration is accepted; of a refused write nothing
--- more is said, since the writer may refuse at any point; and want of memory
--- leaves the output as it was, or with the lines of the packets for the events that weren't lost
+-- both texts are read: the configuration is accepted, and the script has no faulty line
+pub record AreRead (configuration script : List ℕ) : Type 0 where
+  pub accepted : IsAccepted configuration
+  pub faultless : IsOk (script_states script)
+
+-- the faults of a run: a faulty line comes only where the configuration is accepted; a refused write only where
+-- both files are read, or with the output as it was; and want of memory leaves the output as it was, or with
+-- the lines of the packets for the events that weren't lost
 abbrev pub RunFails : TextFile → TextFile → Option (List ℕ) → Option (List ℕ) → Fault → Type 0
 RunFails configuration script old new fault.Usage = ⊥
 RunFails configuration script old new (fault.Unreadable path) = ⊥
@@ -58,7 +65,8 @@ RunFails configuration script old new (fault.Refused path why) =
     IsRefused configuration path.now why × Keeps old new
 RunFails configuration script old new (fault.FaultyLine path number) =
     IsFaulty script path.now number × IsAccepted (text_in configuration) × Keeps old new
-RunFails configuration script old new fault.Write = ⊤
+RunFails configuration script old new fault.Write =
+    Keeps old new ⊎ AreRead (text_in configuration) (text_in script)
 RunFails configuration script old new fault.Memory =
     Keeps old new ⊎ SimulatesInPart (text_in configuration) (text_in script) old new
 
@@ -84,12 +92,36 @@ NamesConfiguration words path = (asked : Asked) × (words_of asked ≡ words) ×
 abbrev pub NamesScript : List (List ℕ) → List ℕ → Type 0
 NamesScript words path = (configuration : List ℕ) × (words_of (to_simulate configuration path) ≡ words)
 
--- why the words aren't answered, and that the output is as it was; but where a write was refused, or events
--- were lost for want of memory, some of the lines may stand there
+-- the words ask for a simulation, and over some texts in its files it was done for all events but those that
+-- were lost for want of memory
+pub record IsAnsweredInPart (words : List (List ℕ)) (old new : Option (List ℕ)) : Type 0 where
+  pub configuration : List ℕ
+  pub script : List ℕ
+  pub worded : words_of (to_simulate configuration script) ≡ words
+  pub configuration_text : List ℕ
+  pub script_text : List ℕ
+  pub done : SimulatesInPart configuration_text script_text old new
+
+-- why the words aren't answered, and what of the output that leaves. It is as it was; but where events were lost
+-- for want of memory it has the lines of the others; and of a refused write nothing is said of what went out
 abbrev pub Prevents : List (List ℕ) → Option (List ℕ) → Option (List ℕ) → Fault → Type 0
 Prevents words old new fault.Usage = AsksNothing words × Keeps old new
 Prevents words old new (fault.Unreadable path) = NamesFile words path.now × Keeps old new
 Prevents words old new (fault.Refused path why) = NamesConfiguration words path.now × Keeps old new
 Prevents words old new (fault.FaultyLine path number) = NamesScript words path.now × Keeps old new
 Prevents words old new fault.Write = ¬ (AsksNothing words)
-Prevents words old new fault.Memory = ¬ (AsksNothing words)
+Prevents words old new fault.Memory =
+    ¬ (AsksNothing words) × (Keeps old new ⊎ IsAnsweredInPart words old new)
+
+-- a fault prevents the answer, and the status is its own
+pub record IsPrevented (words : List (List ℕ)) (old new : Option (List ℕ)) (status : ℕ) : Type 0 where
+  pub fault : Fault
+  pub status_is : status_of fault ≡ status
+  pub prevents : Prevents words old new fault
+
+-- and its text was told, where that could be
+pub record IsToldFault (words : List (List ℕ)) (old new : Option (List ℕ)) (ending : Ending) (told_old told_new : Option (List ℕ)) : Type 0 where
+  pub fault : Fault
+  pub status_is : status_of fault ≡ ending.status
+  pub prevents : Prevents words old new fault
+  pub told : OnOk ending.told (Appends told_old told_new (text_of fault))

@@ -1,10 +1,9 @@
 //! What the program does, over any two writers.
 
-ghost use Rattle.std.specs.Prelude.{◌≡◌, ◌≤◌, ◌↔◌, map, OnOk, IfErr};
-ghost use Rattle.std.specs.Io.KnownBytes.{Appends, Keeps};
+ghost use Rattle.std.specs.Prelude.{◌≡◌, ◌≢◌, ◌≤◌, ◌↔◌, map, OnOk, IfErr};
+ghost use Rattle.std.specs.Io.KnownBytes.{Keeps};
 ghost use Rattle.roam.specs.CommandLine.{AsksNothing};
-ghost use Rattle.roam.specs.Outcomes.{IsAnswered, Prevents};
-ghost use Rattle.roam.specs.Report.{text_of};
+ghost use Rattle.roam.specs.Outcomes.{IsAnswered, IsPrevented, IsToldFault, Prevents};
 
 use crate::check::check;
 use crate::command_line::Command;
@@ -56,12 +55,10 @@ fn answer<R: Files + AllocGlobal, S: AsStr, W: Write, E: Write>(
     ensures done { result.status ≡ 0
         → IsAnswered (map S.text words.now) (W.contents out.old) (W.contents out.new) }
     ensures silent { result.status ≡ 0 → err.new ≡ err.old }
-
-    // The usage is told just where the words ask for nothing, and then nothing else is done.
+    ensures fault { result.status ≢ 0
+        → IsToldFault (map S.text words.now) (W.contents out.old) (W.contents out.new) result
+        (E.contents err.old) (E.contents err.new) }
     ensures usage { (result.status ≡ 2) ↔ (AsksNothing (map S.text words.now)) }
-    ensures usage_told { result.status ≡ 2 → OnOk result.told
-        (Appends (E.contents err.old) (E.contents err.new) (text_of Fault.Usage)) }
-    ensures untouched { result.status ≡ 2 → Keeps (W.contents out.old) (W.contents out.new) }
 {
     match run(rt, words, out) {
         Ok(()) => Ending {
@@ -74,6 +71,9 @@ fn answer<R: Files + AllocGlobal, S: AsStr, W: Write, E: Write>(
 
 /// Does what the words after the program's name ask for, and answers the status with which the program ends: 0, or
 /// that of the fault that prevents it, whose text goes to `err`. Whether `err` takes it changes nothing.
+///
+/// Each fault says what it leaves of `out`: all is as it was, but for what went out before a refused write, and
+/// for the lines of a simulation that lost events for want of memory.
 pub fn command<R: Files + AllocGlobal, S: AsStr, W: Write, E: Write>(
     rt: &R,
     words: &[S],
@@ -84,6 +84,10 @@ pub fn command<R: Files + AllocGlobal, S: AsStr, W: Write, E: Write>(
     ensures done { result ≡ 0
         → IsAnswered (map S.text words.now) (W.contents out.old) (W.contents out.new) }
     ensures silent { result ≡ 0 → err.new ≡ err.old }
+
+    // Any other status is that of the fault which prevents the answer; 2 comes just where nothing is asked for.
+    ensures fault { result ≢ 0
+        → IsPrevented (map S.text words.now) (W.contents out.old) (W.contents out.new) result }
     ensures usage { (result ≡ 2) ↔ (AsksNothing (map S.text words.now)) }
     ensures untouched { result ≡ 2 → Keeps (W.contents out.old) (W.contents out.new) }
 {

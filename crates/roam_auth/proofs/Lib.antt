@@ -1,4 +1,5 @@
 pub mod PieceLemmas
+pub mod DigestLemmas
 pub mod ValueLemmas
 pub mod SealLemmas
 pub mod StandardFacts

@@ -11,6 +11,7 @@ use Rattle.roam_wire.specs.declared.attribute_type.TheConstants.{MESSAGE_AUTHENT
 use Rattle.roam_auth.specs.Authenticators.{zero_octets, with_authenticator}
 use Rattle.roam_auth.specs.Hmac.{hmac_md5}
 use Rattle.roam_auth.specs.MessageAuthenticator.{HasOneMessageAuthenticator, HasAtMostOneMessageAuthenticator, attribute_with_value, with_value, zeroed_text, message_authenticator, with_message_authenticator, IsSealedOver, IsWellSealed}
+use Rattle.roam_auth.proofs.DigestLemmas.{length-message_authenticator}
 use Rattle.roam_auth.proofs.ValueLemmas.{packet_length-with_value, count_of-with_value, first_value-with_value, first_value-none, HasOne-with_value, with_value-again}
 
 -- ---- the digest in pieces
@@ -78,15 +79,6 @@ sealed_pieces key a before field octets all p h text front middle attributes =
     ∙ hashed_packet a p h)
 
 -- ---- the Message-Authenticator
-
-pub length-hmac_md5 : (key message : List ℕ) → length (hmac_md5 key message) ≡ 16
-unfolding hmac_md5
-length-hmac_md5 key message = length-md5 _
-
-pub length-message_authenticator : (secret authenticator : List ℕ) (p : Packet) →
-    length (message_authenticator secret authenticator p) ≡ 16
-unfolding message_authenticator
-length-message_authenticator secret authenticator p = length-hmac_md5 _ _
 
 -- it doesn't depend on the Value that stood in its place
 pub message_authenticator-with_value : (secret authenticator value : List ℕ) (p : Packet) →

@@ -5,10 +5,11 @@ use Rattle.std.specs.List.{AllByRecursion}
 use Rattle.std.proofs.lemmas.Bool.{cases_Bool, both_ways, eqb-true, ne_eqb}
 use Rattle.std.proofs.lemmas.List.{map-append}
 use Rattle.std.proofs.lemmas.List.Sums.{sum_by-cons}
-use Rattle.roam_wire.specs.Packet.{Attribute, IsAttribute, Packet, IsPacket, attribute_text, attributes_text, packet_length}
+use Rattle.roam_wire.specs.Packet.{AreOctets, Attribute, IsAttribute, Packet, IsPacket, attribute_text, attributes_text, packet_length}
 use Rattle.roam_wire.specs.Attributes.{has_kind, count_of, first_value}
 use Rattle.roam_wire.specs.declared.attribute_type.TheConstants.{MESSAGE_AUTHENTICATOR}
-use Rattle.roam_auth.specs.MessageAuthenticator.{HasNoMessageAuthenticator, HasOneMessageAuthenticator, HasAtMostOneMessageAuthenticator, attribute_with_value, attributes_with_value, with_value}
+use Rattle.roam_auth.specs.Authenticators.{AreSixteenOctets}
+use Rattle.roam_auth.specs.MessageAuthenticator.{HasNoMessageAuthenticator, HasOneMessageAuthenticator, HasAtMostOneMessageAuthenticator, attribute_with_value, attributes_with_value, with_value, StandsFirst}
 
 -- ---- Message-Authenticators, in short
 
@@ -166,17 +167,24 @@ length-with_value value (a ∷ all) size h =
     )
 
 -- and each attribute stays short
-pub IsAttribute-with_value : (value : List ℕ) (all : List Attribute) → length value ≡ 16 →
+pub IsAttribute-with_value : (value : List ℕ) (all : List Attribute) → AreSixteenOctets value →
     AllByRecursion IsAttribute all → AllByRecursion IsAttribute (attributes_with_value value all)
-IsAttribute-with_value value [] size h = tt
-IsAttribute-with_value value (a ∷ all) size h =
+IsAttribute-with_value value [] sixteen h = tt
+IsAttribute-with_value value (a ∷ all) sixteen h =
+    let size = sixteen.size in
     let limit = h.0.size in
+    let own = h.0.octets in
     let here : length (attribute_with_value value a).value ≤ 253 =
     elim (cases_Bool (is_seal a)) [
       | inl seal ↦ rw seal (omega arith)
       | inr other ↦ rw other limit
     ] in
-    (record { size = here }, IsAttribute-with_value value all size h.1)
+    let octets : AreOctets (attribute_with_value value a).value =
+    elim (cases_Bool (is_seal a)) [
+      | inl seal ↦ rw seal sixteen.octets
+      | inr other ↦ rw other own
+    ] in
+    (record { kind = h.0.kind; octets = octets; size = here }, IsAttribute-with_value value all sixteen h.1)
 
 -- as many attributes of each Type stand there
 pub count_of-with_value : (kind : ℕ) (value : List ℕ) (all : List Attribute) →
@@ -295,14 +303,17 @@ pub packet_length-with_value : (value : List ℕ) (p : Packet) → length value 
 packet_length-with_value value p size h =
     ap (λ n. 20 + n) (length-with_value value p.attributes size (all_sized p h))
 
-pub IsPacket-with_value : (value : List ℕ) (p : Packet) → length value ≡ 16 →
+pub IsPacket-with_value : (value : List ℕ) (p : Packet) → AreSixteenOctets value →
     HasAtMostOneMessageAuthenticator p → IsPacket p → IsPacket (with_value value p)
-IsPacket-with_value value p size h packet =
+IsPacket-with_value value p sixteen h packet =
     let limit = packet.size in
-    let same = packet_length-with_value value p size h in
+    let same = packet_length-with_value value p sixteen.size h in
     record {
+      code = packet.code;
+      id = packet.id;
+      octets = packet.octets;
       authenticator = packet.authenticator;
-      attributes = IsAttribute-with_value value p.attributes size packet.attributes;
+      attributes = IsAttribute-with_value value p.attributes sixteen packet.attributes;
       size = omega arith;
     }
 
@@ -315,3 +326,7 @@ HasOne-with_value value p size h =
       one = count_of-with_value MESSAGE_AUTHENTICATOR value p.attributes ∙ h.one;
       size = subst FirstIsSized (sym there) size;
     }
+
+-- the first attribute stays a Message-Authenticator
+pub StandsFirst-with_value : (value : List ℕ) (p : Packet) → StandsFirst p → StandsFirst (with_value value p)
+StandsFirst-with_value value p h = (value, attributes_with_value value h.1, ap (attributes_with_value value) h.2)

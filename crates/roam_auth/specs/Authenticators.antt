@@ -1,12 +1,17 @@
 -- Response and Request Authenticators (RFC 2865, section 3; RFC 2866, section 3; RFC 5176,
 -- section 2.3).
-use Rattle.std.specs.Prelude.{◌≡◌, ℕ, List, ◌++◌, replicate}
-use Rattle.roam_wire.specs.Packet.{Packet, packet_text}
+use Rattle.std.specs.Prelude.{◌≡◌, ℕ, List, ◌++◌, length, replicate}
+use Rattle.roam_wire.specs.Packet.{AreOctets, Packet, packet_text}
 use Rattle.md5.specs.Md5.{md5}
 
 -- sixteen zero octets, which stand for an Authenticator that isn't computed yet
 abbrev pub zero_octets : List ℕ
 zero_octets = replicate 16 0
+
+-- sixteen octets, as an Authenticator has and a digest (RFC 2865, section 3; RFC 1321)
+pub record AreSixteenOctets (field : List ℕ) : Type 0 where
+  pub size : length field ≡ 16
+  pub octets : AreOctets field
 
 -- the packet with these octets in its Authenticator field
 abbrev pub with_authenticator : List ℕ → Packet → Packet

@@ -3,7 +3,7 @@ use Rattle.std.specs.Prelude.{◌≡◌, ◌≢◌, ◌⊎◌, ◌↔◌, ℕ, L
 use Rattle.roam_wire.specs.Packet.{Attribute, Packet, IsPacket, packet_length}
 use Rattle.roam_wire.specs.Attributes.{first_value, count_of}
 use Rattle.roam_wire.specs.declared.attribute_type.TheConstants.{MESSAGE_AUTHENTICATOR}
-use Rattle.roam_auth.specs.Authenticators.{zero_octets, with_authenticator, IsSignedReply, signed_reply, IsSignedRequest, signed_request}
+use Rattle.roam_auth.specs.Authenticators.{AreSixteenOctets, zero_octets, with_authenticator, response_authenticator, request_authenticator, IsSignedReply, signed_reply, IsSignedRequest, signed_request}
 use Rattle.roam_auth.specs.MessageAuthenticator.{HasNoMessageAuthenticator, HasAtMostOneMessageAuthenticator, attributes_with_value, with_value, message_authenticator, with_message_authenticator, IsWellSealed}
 
 -- a sealed packet is well sealed, for the secret and the Authenticator with which it was sealed
@@ -86,3 +86,33 @@ SigningKeepsSeal =
     (secret : List ℕ) (authenticators : List (List ℕ)) (field : List ℕ) (p : Packet) →
     IsWellSealed secret authenticators p →
     IsWellSealed secret authenticators (with_authenticator field p)
+
+-- a packet with other sixteen octets for its Authenticator is a packet
+abbrev pub OtherFieldKeepsPacket : Type 0
+OtherFieldKeepsPacket = (field : List ℕ) (p : Packet) → AreSixteenOctets field → IsPacket p →
+    IsPacket (with_authenticator field p)
+
+-- a Response Authenticator has sixteen octets (RFC 2865, section 3)
+abbrev pub ResponseAuthenticatorIsSixteen : Type 0
+ResponseAuthenticatorIsSixteen = (secret request_authenticator : List ℕ) (p : Packet) →
+    AreSixteenOctets (response_authenticator secret request_authenticator p)
+
+-- so has a Request Authenticator (RFC 2866, section 3)
+abbrev pub RequestAuthenticatorIsSixteen : Type 0
+RequestAuthenticatorIsSixteen = (secret : List ℕ) (p : Packet) →
+    AreSixteenOctets (request_authenticator secret p)
+
+-- and a Message-Authenticator (RFC 3579, section 3.2)
+abbrev pub MessageAuthenticatorIsSixteen : Type 0
+MessageAuthenticatorIsSixteen = (secret authenticator : List ℕ) (p : Packet) →
+    AreSixteenOctets (message_authenticator secret authenticator p)
+
+-- so a packet that is signed as a reply is a packet
+abbrev pub SignedReplyIsPacket : Type 0
+SignedReplyIsPacket = (secret request_authenticator : List ℕ) (p : Packet) → IsPacket p →
+    IsPacket (signed_reply secret request_authenticator p)
+
+-- and so is one that is signed as a request
+abbrev pub SignedRequestIsPacket : Type 0
+SignedRequestIsPacket = (secret : List ℕ) (p : Packet) → IsPacket p →
+    IsPacket (signed_request secret p)

@@ -1,5 +1,5 @@
 -- The Message-Authenticator (RFC 3579, section 3.2).
-use Rattle.std.specs.Prelude.{◌≡◌, ◌⊎◌, ℕ, List, Some, length, map, if◌then◌else◌, IsSomeAnd, Any}
+use Rattle.std.specs.Prelude.{◌≡◌, ◌⊎◌, ℕ, List, ◌∷◌, Some, length, map, if◌then◌else◌, IsSomeAnd, Any}
 use Rattle.roam_wire.specs.Packet.{Attribute, Packet, attributes_text, packet_text}
 use Rattle.roam_wire.specs.Attributes.{has_kind, count_of, first_value}
 use Rattle.roam_wire.specs.declared.attribute_type.TheConstants.{MESSAGE_AUTHENTICATOR}
@@ -20,6 +20,13 @@ pub record HasOneMessageAuthenticator (p : Packet) : Type 0 where
 -- the packet has at most one Message-Authenticator, of 16 octets (RFC 3579, section 3.2)
 abbrev pub HasAtMostOneMessageAuthenticator : Packet → Type 0
 HasAtMostOneMessageAuthenticator p = HasNoMessageAuthenticator p ⊎ HasOneMessageAuthenticator p
+
+-- the packet's first attribute is a Message-Authenticator (ours: it is put there, so that who checks
+-- it need not look further)
+abbrev pub StandsFirst : Packet → Type 0
+StandsFirst p =
+    (value : List ℕ) × (rest : List Attribute)
+    × (p.attributes ≡ record { kind = MESSAGE_AUTHENTICATOR; value = value } ∷ rest)
 
 -- the attribute with this Value where it is a Message-Authenticator, and as it is where it isn't
 abbrev pub attribute_with_value : List ℕ → Attribute → Attribute

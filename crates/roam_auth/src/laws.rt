@@ -1,7 +1,7 @@
 //! Laws of sealing and signing. These functions do nothing: their contracts hold of all packets.
 
 ghost use Rattle.roam_auth.specs.DecidingLaws.{SignedReplyIsDecided, SignedRequestIsDecided, WellSealedIsDecided};
-ghost use Rattle.roam_auth.specs.Laws.{SealedIsWellSealed, SealingKeepsLength, SealingKeepsPacket, UnsealedStays, WellSealedForEither, ZeroedAgain, ValueDoesNotCount, FieldDoesNotCount, CountsStay, OthersStay, ValueStandsInPlace, SignedReplyIsSigned, SignedRequestIsSigned, SigningKeepsSeal};
+ghost use Rattle.roam_auth.specs.Laws.{SealedIsWellSealed, SealingKeepsLength, SealingKeepsPacket, UnsealedStays, WellSealedForEither, ZeroedAgain, ValueDoesNotCount, FieldDoesNotCount, CountsStay, OthersStay, ValueStandsInPlace, SignedReplyIsSigned, SignedRequestIsSigned, SigningKeepsSeal, OtherFieldKeepsPacket, ResponseAuthenticatorIsSixteen, RequestAuthenticatorIsSixteen, MessageAuthenticatorIsSixteen, SignedReplyIsPacket, SignedRequestIsPacket};
 
 /// What a packet with its Message-Authenticator in its place is.
 pub fn sealing()
@@ -34,4 +34,15 @@ pub fn signing()
     ensures reply { SignedReplyIsSigned }
     ensures request { SignedRequestIsSigned }
     ensures seal { SigningKeepsSeal }
+    ensures reply_packet { SignedReplyIsPacket }
+    ensures request_packet { SignedRequestIsPacket }
+{}
+
+/// Each digest has sixteen octets, and a packet with other sixteen octets for its Authenticator is a
+/// packet.
+pub fn digests()
+    ensures response { ResponseAuthenticatorIsSixteen }
+    ensures request { RequestAuthenticatorIsSixteen }
+    ensures message { MessageAuthenticatorIsSixteen }
+    ensures field { OtherFieldKeepsPacket }
 {}

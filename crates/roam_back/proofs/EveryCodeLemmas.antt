@@ -5,21 +5,23 @@ use Rattle.std.specs.List.{AllByRecursion}
 use Rattle.std.proofs.lemmas.Bool.{cases_Bool}
 use Rattle.std.proofs.lemmas.List.Sums.{sum_by-cons}
 use Rattle.std.proofs.lemmas.List.Elements.{filter-append}
-use Rattle.md5.proofs.StandardFacts.{length-md5}
-use Rattle.roam_wire.specs.Packet.{Attribute, IsAttribute, Packet, IsPacket, packet_length}
+use Rattle.roam_wire.specs.Packet.{AreOctets, Attribute, IsAttribute, Packet, IsPacket, packet_length}
 use Rattle.roam_wire.specs.Attributes.{has_kind, count_of, only_kind, without_kind}
 use Rattle.roam_wire.specs.declared.attribute_type.TheConstants.{PROXY_STATE, TUNNEL_PASSWORD, VENDOR_SPECIFIC}
 use Rattle.roam_wire.specs.declared.code.TheConstants.{ACCESS_ACCEPT}
 use Rattle.roam_wire.specs.declared.attribute_type.TheConstants.{MESSAGE_AUTHENTICATOR}
 use Rattle.roam_auth.specs.Authenticators.{response_authenticator, IsSignedReply}
-use Rattle.roam_auth.specs.MessageAuthenticator.{HasOneMessageAuthenticator, HasAtMostOneMessageAuthenticator, IsWellSealed, attribute_with_value, empty_message_authenticator, message_authenticator}
-use Rattle.roam_auth.proofs.ValueLemmas.{count_of-yes, packet_length-with_value, HasOne-with_value}
-use Rattle.roam_auth.proofs.SealLemmas.{length-message_authenticator, IsWellSealed-sealed, IsWellSealed-with_authenticator}
+use Rattle.roam_auth.specs.MessageAuthenticator.{HasOneMessageAuthenticator, HasAtMostOneMessageAuthenticator, IsWellSealed, attribute_with_value, empty_message_authenticator, message_authenticator, StandsFirst}
+use Rattle.roam_auth.proofs.ValueLemmas.{count_of-yes, packet_length-with_value, HasOne-with_value, StandsFirst-with_value}
+use Rattle.roam_auth.proofs.SealLemmas.{IsWellSealed-sealed, IsWellSealed-with_authenticator}
+use Rattle.roam_auth.proofs.DigestLemmas.{IsPacket-signed_reply, length-message_authenticator}
 use Rattle.roam_auth.proofs.SealingLemmas.{count_of-append}
+use Rattle.roam_wire.proofs.OctetLemmas.{AreOctets-zeros}
 use Rattle.roam_hide.specs.Hiding.{Key}
 use Rattle.roam_hide.specs.SaltedFunctions.{tunnel_anew, vendor_anew}
 use Rattle.roam_hide.proofs.SaltedFunctionLemmas.{tunnel_anew_is, vendor_anew_is, length_tunnel_anew, length_vendor_anew}
-use Rattle.roam_back.specs.ReplyCheck.{is_access_reply}
+use Rattle.roam_hide.proofs.OctetLemmas.{AreOctets-tunnel_anew, AreOctets-vendor_anew}
+use Rattle.roam_wire.specs.Codes.{is_access_reply}
 use Rattle.roam_back.specs.Returned.{Returning, proxy_states, with_salted_anew, carried_attributes, unsealed, sealed, returned, returned_length}
 use Rattle.roam_back.proofs.SignedLemmas.{IsPacket-sealed}
 use Rattle.roam_back.proofs.ReturnedLemmas.{other_kind, count_of-without_itself, count_of-only, short_kept, short_joined, carried-others, AtMostOne-others}
@@ -38,12 +40,24 @@ salted_size r request a =
     let to : Key = record { secret = r.client_secret; first = request.authenticator } in
     same_size (a.kind == TUNNEL_PASSWORD) (a.kind == VENDOR_SPECIFIC) (tunnel_anew from to a.value) (vendor_anew from to a.value) a.value (length_tunnel_anew from to a.value (tunnel_anew from to a.value) (tunnel_anew_is from to a.value)) (length_vendor_anew from to a.value (vendor_anew from to a.value) (vendor_anew_is from to a.value))
 
+-- and is octets
+either_octets : (tunnel vendor : Bool) (x y z : List ℕ) → AreOctets x → AreOctets y → AreOctets z → AreOctets (if tunnel then x else if vendor then y else z)
+either_octets true vendor x y z first second third = first
+either_octets false true x y z first second third = second
+either_octets false false x y z first second third = third
+
+salted_octets : (r : Returning) (request : Packet) (a : Attribute) → AreOctets a.value → AreOctets (with_salted_anew r request a).value
+salted_octets r request a h =
+    let from : Key = record { secret = r.home_secret; first = r.forwarded_authenticator } in
+    let to : Key = record { secret = r.client_secret; first = request.authenticator } in
+    either_octets (a.kind == TUNNEL_PASSWORD) (a.kind == VENDOR_SPECIFIC) (tunnel_anew from to a.value) (vendor_anew from to a.value) a.value (AreOctets-tunnel_anew from to a.value h) (AreOctets-vendor_anew from to a.value h) h
+
 short_salted : (r : Returning) (request : Packet) (all : List Attribute) → AllByRecursion IsAttribute all → AllByRecursion IsAttribute (map (with_salted_anew r request) all)
 short_salted r request [] h = tt
 short_salted r request (a ∷ all) h =
     let limit = h.0.size in
     let size = salted_size r request a in
-    (record { size = omega (arith, limit, size) }, short_salted r request all h.1)
+    (record { kind = h.0.kind; octets = salted_octets r request a h.0.octets; size = omega (arith, limit, size) }, short_salted r request all h.1)
 
 count_of-salted : (kind : ℕ) (r : Returning) (request : Packet) (all : List Attribute) → count_of kind (map (with_salted_anew r request) all) ≡ count_of kind all
 count_of-salted kind r request [] = refl
@@ -95,13 +109,16 @@ count_of-rest r reply request =
 short_carried : (r : Returning) (reply request : Packet) → IsPacket reply → AllByRecursion IsAttribute (carried_attributes r reply request)
 short_carried r reply request packet =
     elim (cases_Bool (is_access_reply reply.code)) [
-      | inl access ↦ subst (AllByRecursion IsAttribute) (sym (carried-access r reply request access)) (record { size = omega arith }, short_rest r reply request packet)
+      | inl access ↦ subst (AllByRecursion IsAttribute) (sym (carried-access r reply request access)) (record { kind = omega arith; octets = AreOctets-zeros 16; size = omega arith }, short_rest r reply request packet)
       | inr other ↦ subst (AllByRecursion IsAttribute) (sym (carried-others r reply request other)) (short_kept (λ (a : Attribute). not (has_kind PROXY_STATE a)) reply.attributes packet.attributes)
     ]
 
 IsPacket-unsealed : (r : Returning) (reply request : Packet) → IsPacket reply → IsPacket request → returned_length r reply request ≤ 4096 → IsPacket (unsealed r reply request)
 unfolding returned_length
 IsPacket-unsealed r reply request a b short = record {
+  code = a.code;
+  id = b.id;
+  octets = b.octets;
   authenticator = b.authenticator;
   attributes = short_joined (carried_attributes r reply request) (proxy_states request) (short_carried r reply request a) (short_kept (has_kind PROXY_STATE) request.attributes b.attributes);
   size = short;
@@ -197,10 +214,10 @@ length-seal_of : (r : Returning) (reply request : Packet) → length (seal_of r 
 length-seal_of r reply request = length-message_authenticator r.client_secret request.authenticator (unsealed r reply request)
 
 pub IsPacket-returned : (r : Returning) (reply request : Packet) → IsPacket reply → IsPacket request → HasAtMostOneMessageAuthenticator reply → returned_length r reply request ≤ 4096 → IsPacket (returned r reply request)
-unfolding returned response_authenticator
+unfolding returned
 IsPacket-returned r reply request a b h short =
     let packet : IsPacket (sealed r reply request) = IsPacket-sealed r.client_secret request.authenticator (unsealed r reply request) (AtMostOne-unsealed r reply request h) (IsPacket-unsealed r reply request a b short) in
-    record { authenticator = length-md5 _; attributes = packet.attributes; size = packet.size }
+    IsPacket-signed_reply r.client_secret request.authenticator (sealed r reply request) packet
 
 pub packet_length-returned : (r : Returning) (reply request : Packet) → HasAtMostOneMessageAuthenticator reply → packet_length (returned r reply request) ≡ returned_length r reply request
 unfolding returned returned_length
@@ -221,6 +238,17 @@ unfolding returned
 HasOne-returned r reply request access =
     let one = HasOne-with_value (seal_of r reply request) (unsealed r reply request) (length-seal_of r reply request) (HasOne-access r reply request access) in
     record { one = one.one; size = one.size }
+
+-- the Message-Authenticator of an Access reply stands first
+pub first-returned : (r : Returning) (reply request : Packet) → is_access_reply reply.code ≡ true → StandsFirst (returned r reply request)
+unfolding returned
+first-returned r reply request access =
+    let rest = access_rest r reply request in
+    let p : List Attribute → Packet = λ all. record { code = reply.code; id = request.id; authenticator = request.authenticator; attributes = all ++ proxy_states request } in
+    let h : StandsFirst (p (empty_message_authenticator ∷ rest)) = (_, rest ++ proxy_states request, refl) in
+    let before : StandsFirst (unsealed r reply request) = subst (λ (all : List Attribute). StandsFirst (p all)) (sym (carried-access r reply request access)) h in
+    let after = StandsFirst-with_value (seal_of r reply request) (unsealed r reply request) before in
+    (after.0, after.1, after.2)
 
 pub code-returned : (r : Returning) (reply request : Packet) → (returned r reply request).code ≡ reply.code
 unfolding returned

@@ -4,8 +4,8 @@ use Rattle.std.specs.Prelude.{◌≡◌, ◌≤◌, [], ◌∷◌, IsTrue}
 use Rattle.roam_wire.specs.Packet.{Packet, IsPacket, packet_length, packet_text}
 use Rattle.roam_wire.specs.Reading.{ReadsAs}
 use Rattle.roam_auth.specs.Authenticators.{IsSignedReply}
-use Rattle.roam_auth.specs.MessageAuthenticator.{HasOneMessageAuthenticator, HasAtMostOneMessageAuthenticator, IsWellSealed}
-use Rattle.roam_back.specs.ReplyCheck.{is_access_reply}
+use Rattle.roam_auth.specs.MessageAuthenticator.{HasOneMessageAuthenticator, HasAtMostOneMessageAuthenticator, IsWellSealed, StandsFirst}
+use Rattle.roam_wire.specs.Codes.{is_access_reply}
 use Rattle.roam_back.specs.Returned.{Returning, proxy_states, returned, returned_length}
 
 -- a reply to a request, both read, that can be returned: it has at most one Message-Authenticator, of
@@ -49,6 +49,12 @@ abbrev pub AccessIsSealed : Type 0
 AccessIsSealed = (r : Returning) (reply request : Packet) →
     IsTrue (is_access_reply reply.code) →
     HasOneMessageAuthenticator (returned r reply request)
+
+-- which is its first attribute (ours)
+abbrev pub AccessHasSealFirst : Type 0
+AccessHasSealFirst = (r : Returning) (reply request : Packet) →
+    IsTrue (is_access_reply reply.code) →
+    StandsFirst (returned r reply request)
 
 -- the code is the reply's
 abbrev pub CodeIsTheReplys : Type 0

@@ -2,7 +2,7 @@
 //! nothing: their contracts hold of all replies and requests.
 
 ghost use Rattle.roam_back.specs.ReplyCheck.{TakenHasNoFault};
-ghost use Rattle.roam_back.specs.ReturnedLaws.{ReturnedIsPacket, ReturnedReads, ReturnedHasLength, ReturnedIsSigned, ReturnedIsWellSealed, AccessIsSealed, CodeIsTheReplys, IdentifierIsTheRequests, ProxyStatesAreTheRequests};
+ghost use Rattle.roam_back.specs.ReturnedLaws.{ReturnedIsPacket, ReturnedReads, ReturnedHasLength, ReturnedIsSigned, ReturnedIsWellSealed, AccessIsSealed, AccessHasSealFirst, CodeIsTheReplys, IdentifierIsTheRequests, ProxyStatesAreTheRequests};
 
 /// The tests of a reply find no fault just where it is taken (RFC 2865, section 2.3).
 pub fn taken_replies()
@@ -21,6 +21,7 @@ pub fn returned_authenticators()
     ensures signed { ReturnedIsSigned }
     ensures well_sealed { ReturnedIsWellSealed }
     ensures access { AccessIsSealed }
+    ensures access_first { AccessHasSealFirst }
 {}
 
 /// It has the reply's code, the request's Identifier, and the request's Proxy-States (RFC 2865,

@@ -38,7 +38,7 @@ IsWaiting-forwarded c q ticket target h link id =
     let request : Packet = packet_of q.octets in
     let other = other_code c q h in
     let is : IsPacket (forwarded f request) =
-    IsPacket-forwarded f request h.packet.packet h.can_be_forwarded other in
+    IsPacket-forwarded f request id h.packet.packet h.can_be_forwarded other in
     let again = packet_of-packet_text (forwarded f request) is in
     let size = length-packet_text (forwarded f request) is in
     let same = length-forwarded f request h.can_be_forwarded other in

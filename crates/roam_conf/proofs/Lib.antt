@@ -1,3 +1,4 @@
 pub mod EqualLemmas
 pub mod LinkLemmas
+pub mod OneLinkLemmas
 pub mod TextLemmas

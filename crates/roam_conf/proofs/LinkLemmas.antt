@@ -77,7 +77,7 @@ found_by realm peers e None (Some i) c p q r link is = rw (← same_Some (Acct i
 found_by realm peers e None None (Some i) p q r link is = rw (← same_Some (Coa i) link is) (coa_found realm peers e i r)
 found_by realm peers e None None None p q r link is = cc
 
-link_found : (peers : List PeerView) (realm : RealmView) (e : Endpoint) (link : Link) → link_at peers realm e ≡ Some link → endpoint_of peers realm link ≡ Some e
+pub link_found : (peers : List PeerView) (realm : RealmView) (e : Endpoint) (link : Link) → link_at peers realm e ≡ Some link → endpoint_of peers realm link ≡ Some e
 unfolding link_at
 link_found peers realm e link is = found_by realm peers e _ _ _ refl refl refl link is
 

@@ -1,5 +1,5 @@
 -- Look-ups in a configuration. Ours.
-use Rattle.std.specs.Prelude.{ℕ, ◌||◌, Bool, false, List, Option, Some, None, option_map, option_and_then, slice_get}
+use Rattle.std.specs.Prelude.{ℕ, ◌<◌, ◌||◌, Bool, false, List, [], length, Option, Some, None, option_map, option_and_then, slice_get}
 use Rattle.std.specs.List.{position_from}
 use Rattle.std.specs.Option.{option_or}
 use Rattle.std.specs.Str.{bytes_eq, str_eq_ignore_ascii_case}
@@ -65,3 +65,18 @@ home_in config realm ip = option_and_then (λ r. server_with_ip r.servers ip) (s
 
 abbrev pub endpoint_in_realm : ConfigView → ℕ → Link → Option Endpoint
 endpoint_in_realm config realm link = option_and_then (λ r. endpoint_of config.peers r link) (slice_get config.realms realm)
+
+-- the servers of a realm, where there is one
+abbrev pub servers_of : Option RealmView → List ServerView
+servers_of None = []
+servers_of (Some realm) = realm.servers
+
+-- the servers of a realm by its index; none where that realm isn't configured
+abbrev pub servers_in : ConfigView → ℕ → List ServerView
+servers_in config realm = servers_of (slice_get config.realms realm)
+
+-- the server or the peer that a link names is configured
+abbrev pub IsLinkIn : ConfigView → ℕ → Link → Type 0
+IsLinkIn config realm (Auth server) = server < length (servers_in config realm)
+IsLinkIn config realm (Acct server) = server < length (servers_in config realm)
+IsLinkIn config realm (Coa peer) = peer < length config.peers

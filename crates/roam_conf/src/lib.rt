@@ -18,7 +18,7 @@ mod texts;
 
 pub use config::Config;
 pub use endpoint::Endpoint;
-pub use laws::link_of_finds_its_endpoint;
+pub use laws::{link_of_finds_each_link, link_of_finds_its_endpoint};
 pub use peer::Peer;
 pub use place::{Link, Place};
 pub use realm::Realm;

@@ -42,8 +42,8 @@ impl Realm {
 }
 
 impl Config {
-    ghost use Rattle.std.specs.Prelude.{◌≡◌, ◌%◌, ◌<◌, IfSome, vec_len};
-    ghost use Rattle.roam_conf.specs.Lookup.{realm_named, peer_with_ip, link_in, home_in};
+    ghost use Rattle.std.specs.Prelude.{◌≡◌, ◌%◌, ◌<◌, IfSome, length, vec_len};
+    ghost use Rattle.roam_conf.specs.Lookup.{realm_named, peer_with_ip, link_in, home_in, servers_in, IsLinkIn};
     ghost use Rattle.roam_conf.specs.Shown.{shown};
 
     /// The index of the realm of the name, compared without ASCII case and matched whole.
@@ -70,19 +70,25 @@ impl Config {
 
     /// The link of a realm that the endpoint is; `None` also where the realm isn't configured.
     pub fn link_of(&self, realm: u16, endpoint: Endpoint) -> Option<Link>
-        ensures { result ≡ link_in (shown self.now) realm endpoint }
+        ensures value { result ≡ link_in (shown self.now) realm endpoint }
+        ensures bound { IfSome result (IsLinkIn (shown self.now) realm) }
     {
-        let realm = self.realms.get(usize::from(realm))?;
-        realm.link_at(self.peers.as_slice(), endpoint)
+        match self.realms.get(usize::from(realm)) {
+            Some(realm) => realm.link_at(self.peers.as_slice(), endpoint),
+            None => None,
+        }
     }
 
     /// The first server of a realm, in the order of use, that has the address in its `auth` or its
     /// `acct` endpoint; `None` also where the realm isn't configured.
     pub fn home_of(&self, realm: u16, ip: [u8; 4]) -> Option<u8>
-        ensures { result ≡ home_in (shown self.now) realm ip }
+        ensures value { result ≡ home_in (shown self.now) realm ip }
+        ensures bound { IfSome result (λ server. server < length (servers_in (shown self.now) realm)) }
     {
-        let realm = self.realms.get(usize::from(realm))?;
-        realm.home_of(ip)
+        match self.realms.get(usize::from(realm)) {
+            Some(realm) => realm.home_of(ip),
+            None => None,
+        }
     }
 
     /// The shard that holds a realm: its index modulo the number of shards.

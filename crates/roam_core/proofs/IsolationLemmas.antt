@@ -1,19 +1,18 @@
 -- The isolation of realms, over the written answers to a list of events.
-use Rattle.std.proofs.Common.{◌≡◌, ℕ, zero, suc, ◌+◌, ◌<◌, List, [], ◌∷◌, ◌++◌, length, refl, sym, ap, ◌∙◌, append_assoc, arith}
+use Rattle.std.proofs.Common.{◌≡◌, ℕ, zero, suc, ◌+◌, ◌<◌, List, [], ◌∷◌, length, refl, sym, ap, ◌∙◌, arith}
 use Rattle.std.specs.List.{AllByRecursion}
 use Rattle.roam_conf.specs.Config.{ConfigView}
 use Rattle.roam_route.specs.Admission.{PlainOut}
 use Rattle.roam_book.specs.RealmConfig.{RealmConfig, realm_config}
 use Rattle.roam_book.specs.RealmState.{RealmState, opening}
-use Rattle.roam_book.specs.Turn.{Turn, packets_of, state_after}
-use Rattle.roam_book.specs.OneRealm.{RealmEvent, on_event, one_realm_run}
+use Rattle.roam_book.specs.OneRealm.{RealmEvent, one_realm_run}
 use Rattle.roam_core.specs.Events.{PlainEvent, given_to_realm, events_of_realm, rejects_by, local_rejects}
 use Rattle.roam_core.specs.Isolation.{packets_for, packets_for_none, HasRealm, IsIsolated, IsIsolatedFromStart, EachIsIsolatedFromStart, EachRealmIsIsolated, EachRealmStandsAlone, EachRealmOpens, SameInTwoWorlds, SameInTwoWorldsFromStart}
 use Rattle.roam_core.specs.ManyRealms.{BrokerTurn, packets_in_turn, states_after, state_at, answer_to, answers_to}
 use Rattle.roam_core.specs.Openings.{openings, openings_from, start_of}
 use Rattle.roam_book.specs.declared.start.Start.{Start}
 use Rattle.roam_core.proofs.PacketLemmas.{joined, packets_for-append, packets_for_none-append, have_realms-append}
-use Rattle.roam_core.proofs.OriginRunLemmas.{packets-append, state-append}
+use Rattle.roam_core.proofs.RealmRunLemmas.{packets-append, state-append}
 use Rattle.roam_core.proofs.EventLemmas.{event_turn, event-length, event_rejects, event_realms}
 
 pub answers-length : (config : ConfigView) (states : List RealmState) (es : List PlainEvent) → length (answers_to config states es).states ≡ length states

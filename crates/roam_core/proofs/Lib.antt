@@ -4,8 +4,9 @@ pub mod SentLemmas
 pub mod AdmissionLemmas
 pub mod TickLemmas
 pub mod EventLemmas
-pub mod OriginRunLemmas
+pub mod RealmRunLemmas
 pub mod IsolationLemmas
+pub mod GivenLemmas
 pub mod RunLemmas
 pub mod BookLemmas
 pub mod ShardLemmas
@@ -14,3 +15,4 @@ pub mod OriginRequestLemmas
 pub mod OriginReplyLemmas
 pub mod OriginTickLemmas
 pub mod ProvenanceLemmas
+pub mod TicketLemmas

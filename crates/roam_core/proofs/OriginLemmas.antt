@@ -1,10 +1,7 @@
 -- What is known of each entry and of each packet after some events: where it comes from.
-use Rattle.std.proofs.Common.{◌≡◌, ℕ, ◌^◌, List, ◌∷◌, ◌++◌, refl, ap, ◌∙◌, ltb, inl, inr, append_assoc}
-use Rattle.std.specs.Prelude.{◌≢◌}
+use Rattle.std.proofs.Common.{◌≡◌, ℕ, ◌^◌, List, [], ◌∷◌, ◌++◌, sym, ap, subst, ◌∙◌, ltb, inl, inr, append_assoc}
 use Rattle.std.specs.List.{AllByRecursion}
 use Rattle.std.proofs.lemmas.Bool.{cases_Bool}
-use Rattle.roam_conf.specs.declared.place.Link.{Link}
-use Rattle.roam_conf.specs.declared.place.Place.TheVariants as place
 use Rattle.roam_route.specs.Admission.{PlainOut}
 use Rattle.roam_pending.specs.ListLaws.{IsIn}
 use Rattle.roam_pending.specs.PlainEntry.{PlainRequest, PlainStanding, PlainEntry, waiting, done}
@@ -12,47 +9,22 @@ use Rattle.roam_pending.proofs.TestLemmas.{all-weaker}
 use Rattle.roam_book.specs.RealmConfig.{RealmConfig}
 use Rattle.roam_book.specs.RealmState.{RealmState, Target}
 use Rattle.roam_book.specs.Turn.{Turn, packets_of, state_after, in_time}
-use Rattle.roam_book.specs.OnRequest.{packet_to, packet_back, forwarded_octets, forwarded_entry}
-use Rattle.roam_book.specs.OneRealm.{RealmEvent, request_came, reply_came}
+use Rattle.roam_book.specs.OnRequest.{packet_back}
+use Rattle.roam_book.specs.OneRealm.{RealmEvent, request_came, reply_came, tick_came, on_event}
 use Rattle.roam_book.specs.declared.start.Start.{Start}
-use Rattle.roam_core.specs.Provenance.{IsReturned}
-use Rattle.roam_core.specs.Openings.{one_realm_packets}
-use Rattle.roam_core.proofs.OriginRunLemmas.{in-left, sent-later}
+use Rattle.roam_core.specs.Openings.{state_then}
+use Rattle.roam_core.specs.Provenance.{IsRequestOf, IsSentBy, IsForwarded, IsReturned, HasOrigin, StandsFrom, ComesFrom}
+use Rattle.roam_core.proofs.RealmRunLemmas.{state-next}
 
--- octets were sent to a target, and are what a request is forwarded as there, under a ticket
-pub record WasForwarded (c : RealmConfig) (start : Start) (events : List RealmEvent)
-    (q : PlainRequest) (ticket : ℕ) (target : Target) (octets : List ℕ) : Type 0 where
-  pub octets_are : octets ≡ forwarded_octets c q ticket target
-  pub was_sent : IsIn (packet_to c target.link octets) (one_realm_packets c start events)
-
--- a request waits for the reply to what was forwarded, or its reply was returned
-abbrev pub StandsFrom :
-    RealmConfig → Start → List RealmEvent → PlainRequest → ℕ → PlainStanding → Type 0
-StandsFrom c start events q ticket (waiting l id forwarded sends_left deadline) =
-    WasForwarded c start events q ticket (record { link = l; id = id }) forwarded
-StandsFrom c start events q ticket (done reply deadline) =
-    IsReturned c start events (packet_back c q.key reply)
-
--- an entry's request came, and it stands so
-pub record ComesFrom (c : RealmConfig) (start : Start) (events : List RealmEvent)
-    (e : PlainEntry) : Type 0 where
-  pub asked_at : ℕ
-  pub came : IsIn (request_came asked_at e.request) events
-  pub standing : StandsFrom c start events e.request e.ticket e.standing
-
--- a packet leaves from the realm's outgoing socket, or is a returned one
-abbrev pub HasOrigin : RealmConfig → Start → List RealmEvent → PlainOut → Type 0
-HasOrigin c start events out = out.from ≢ place.Out c.index → IsReturned c start events out
-
--- of all: that they come from the events, have their origin there, were sent
+-- of all: that they come from the events, have their origin there, were sent by an event's turn
 abbrev pub EachComes : RealmConfig → Start → List RealmEvent → List PlainEntry → Type 0
 EachComes c start events es = AllByRecursion (ComesFrom c start events) es
 
 abbrev pub EachHasOrigin : RealmConfig → Start → List RealmEvent → List PlainOut → Type 0
 EachHasOrigin c start events outs = AllByRecursion (HasOrigin c start events) outs
 
-abbrev pub WereSent : RealmConfig → Start → List RealmEvent → List PlainOut → Type 0
-WereSent c start events outs = AllByRecursion (λ out. IsIn out (one_realm_packets c start events)) outs
+abbrev pub AreSentBy : RealmConfig → Start → List RealmEvent → RealmEvent → List PlainOut → Type 0
+AreSentBy c start before e outs = AllByRecursion (IsSentBy c start before e) outs
 
 -- a turn sends only packets that have their origin in the events, and leaves such entries
 pub record TurnKeeps (c : RealmConfig) (start : Start) (events : List RealmEvent)
@@ -62,47 +34,76 @@ pub record TurnKeeps (c : RealmConfig) (start : Start) (events : List RealmEvent
 
 -- What is known stays known when more events come
 
-pub returned-later :
-    (c : RealmConfig) (start : Start) (es fs : List RealmEvent) (out : PlainOut)
-    → IsReturned c start es out → IsReturned c start (es ++ fs) out
-returned-later c start es fs out h =
-    let reply = reply_came h.answered_at h.target.link h.reply in
-    record {
-      before = h.before;
-      after = h.after ++ fs;
-      request = h.request;
-      asked_at = h.asked_at;
-      ticket = h.ticket;
-      target = h.target;
-      reply = h.reply;
-      answered_at = h.answered_at;
-      in_order =
-          ap (λ (l : List RealmEvent). l ++ fs) h.in_order
-          ∙ append_assoc h.before (reply ∷ h.after) fs;
-      came = h.came;
-      was_sent = h.was_sent;
-      identifier = h.identifier;
-      signed = h.signed;
-      is_returned = h.is_returned;
-    }
+abbrev pub request-later :
+    (c : RealmConfig) (start : Start) (es fs : List RealmEvent) (q : PlainRequest) (ticket : ℕ)
+    → IsRequestOf c start es q ticket → IsRequestOf c start (es ++ fs) q ticket
+request-later c start es fs q ticket h = record {
+  first = h.first;
+  asked_at = h.asked_at;
+  rest = h.rest ++ fs;
+  in_order =
+      ap (λ (l : List RealmEvent). l ++ fs) h.in_order
+      ∙ append_assoc h.first (request_came h.asked_at q ∷ h.rest) fs;
+  given = h.given;
+}
 
-stands-later :
+pub forwarded-later :
+    (c : RealmConfig) (start : Start) (es fs : List RealmEvent) (q : PlainRequest) (ticket : ℕ)
+    (target : Target) → IsForwarded c start es q ticket target
+    → IsForwarded c start (es ++ fs) q ticket target
+forwarded-later c start es fs q ticket target h = record {
+  request = request-later c start es fs q ticket h.request;
+  sent = elim h.sent [
+    | inl own ↦ inl own
+    | inr over ↦ inr (record {
+      between = over.between;
+      now = over.now;
+      after = over.after ++ fs;
+      in_order =
+          ap (λ (l : List RealmEvent). l ++ fs) over.in_order
+          ∙ append_assoc over.between (tick_came over.now ∷ over.after) fs;
+      held = over.held;
+      sent = over.sent;
+    })
+  ];
+}
+
+pub returned-later :
+    (c : RealmConfig) (start : Start) (es fs : List RealmEvent) (q : PlainRequest) (ticket : ℕ)
+    (out : PlainOut) → IsReturned c start es q ticket out
+    → IsReturned c start (es ++ fs) q ticket out
+returned-later c start es fs q ticket out h = record {
+  before = h.before;
+  answered_at = h.answered_at;
+  target = h.target;
+  reply = h.reply;
+  after = h.after ++ fs;
+  in_order =
+      ap (λ (l : List RealmEvent). l ++ fs) h.in_order
+      ∙ append_assoc h.before (reply_came h.answered_at h.target.link h.reply ∷ h.after) fs;
+  forwarded = h.forwarded;
+  identifier = h.identifier;
+  taken = h.taken;
+  is_returned = h.is_returned;
+  sent = h.sent;
+}
+
+pub stands-later :
     (c : RealmConfig) (start : Start) (es fs : List RealmEvent) (q : PlainRequest) (ticket : ℕ)
     (s : PlainStanding) → StandsFrom c start es q ticket s
     → StandsFrom c start (es ++ fs) q ticket s
 stands-later c start es fs q ticket (waiting l id forwarded sends_left deadline) h = record {
   octets_are = h.octets_are;
-  was_sent = sent-later c start es fs (packet_to c l forwarded) h.was_sent;
+  forwarded = forwarded-later c start es fs q ticket (record { link = l; id = id }) h.forwarded;
 }
 stands-later c start es fs q ticket (done reply deadline) h =
-    returned-later c start es fs (packet_back c q.key reply) h
+    returned-later c start es fs q ticket (packet_back c q.key reply) h
 
 comes-later :
     (c : RealmConfig) (start : Start) (es fs : List RealmEvent) (e : PlainEntry)
     → ComesFrom c start es e → ComesFrom c start (es ++ fs) e
 comes-later c start es fs e h = record {
-  asked_at = h.asked_at;
-  came = in-left (request_came h.asked_at e.request) es fs h.came;
+  request = request-later c start es fs e.request e.ticket h.request;
   standing = stands-later c start es fs e.request e.ticket e.standing h.standing;
 }
 
@@ -113,43 +114,63 @@ each-later c start es fs entries h =
     all-weaker (ComesFrom c start es) (ComesFrom c start (es ++ fs)) entries
     (comes-later c start es fs) h
 
+has-origin-later :
+    (c : RealmConfig) (start : Start) (es fs : List RealmEvent) (out : PlainOut)
+    → HasOrigin c start es out → HasOrigin c start (es ++ fs) out
+has-origin-later c start es fs out (inl h) = inl (record {
+  request = h.request;
+  ticket = h.ticket;
+  target = h.target;
+  forwarded = forwarded-later c start es fs h.request h.ticket h.target h.forwarded;
+  is_forwarded = h.is_forwarded;
+})
+has-origin-later c start es fs out (inr h) = inr (record {
+  request = h.request;
+  ticket = h.ticket;
+  returned = returned-later c start es fs h.request h.ticket out h.returned;
+})
+
 pub origin-later :
     (c : RealmConfig) (start : Start) (es fs : List RealmEvent) (outs : List PlainOut)
     → EachHasOrigin c start es outs → EachHasOrigin c start (es ++ fs) outs
 origin-later c start es fs outs h =
     all-weaker (HasOrigin c start es) (HasOrigin c start (es ++ fs)) outs
-    (λ out of elsewhere. returned-later c start es fs out (of elsewhere)) h
+    (has-origin-later c start es fs) h
 
 -- What requests, replies and ticks share
 
--- a packet to a link leaves from the outgoing socket
-pub to_link-origin :
-    (c : RealmConfig) (start : Start) (events : List RealmEvent) (l : Link) (octets : List ℕ)
-    → HasOrigin c start events (packet_to c l octets)
-to_link-origin c start events l octets elsewhere = absurd (elsewhere refl)
+-- the turn of an event that comes after others, in the state that they leave
+pub record IsTurnAfter (c : RealmConfig) (start : Start) (before : List RealmEvent)
+    (e : RealmEvent) (s : RealmState) (turn : Turn) : Type 0 where
+  pub state : state_then c start before ≡ s
+  pub does : on_event c s e ≡ turn
 
--- a request that came, and was forwarded to a target
-pub forwarded-comes :
-    (c : RealmConfig) (start : Start) (events : List RealmEvent) (now asked_at : ℕ)
-    (q : PlainRequest) (ticket : ℕ) (target : Target) → IsIn (request_came asked_at q) events
-    → IsIn (packet_to c target.link (forwarded_octets c q ticket target))
-    (one_realm_packets c start events)
-    → ComesFrom c start events (forwarded_entry c now q ticket target)
-forwarded-comes c start events now asked_at q ticket target came sent =
-    record {
-      asked_at = asked_at;
-      came = came;
-      standing = record { octets_are = refl; was_sent = sent };
-    }
+-- what that turn sends; the state that it leaves
+pub sent-by :
+    (c : RealmConfig) (start : Start) (before : List RealmEvent) (e : RealmEvent) (s : RealmState)
+    (turn : Turn) (out : PlainOut) → IsTurnAfter c start before e s turn
+    → IsIn out (packets_of turn) → IsSentBy c start before e out
+sent-by c start before e s turn out is at =
+    let same = ap (λ (t : RealmState). on_event c t e) is.state ∙ is.does in
+    subst (λ (t : Turn). IsIn out (packets_of t)) (sym same) at
+
+pub state-by :
+    (c : RealmConfig) (start : Start) (before : List RealmEvent) (e : RealmEvent) (s : RealmState)
+    (turn : Turn) → IsTurnAfter c start before e s turn
+    → state_then c start (before ++ e ∷ []) ≡ state_after s turn
+state-by c start before e s turn is =
+    state-next c start before e
+    ∙ ap (λ (t : RealmState). state_after t (on_event c t e)) is.state
+    ∙ ap (λ (t : Turn). state_after s t) is.does
 
 -- an event at a moment that is out of range changes nothing
 pub in_time-keeps :
-    (c : RealmConfig) (start : Start) (events : List RealmEvent) (now : ℕ) (old : RealmState)
-    (turn : Turn) → EachComes c start events old.entries
-    → (WereSent c start events (packets_of turn) → TurnKeeps c start events old turn)
-    → WereSent c start events (packets_of (in_time now turn))
+    (c : RealmConfig) (start : Start) (before events : List RealmEvent) (e : RealmEvent) (now : ℕ)
+    (old : RealmState) (turn : Turn) → EachComes c start events old.entries
+    → (AreSentBy c start before e (packets_of turn) → TurnKeeps c start events old turn)
+    → AreSentBy c start before e (packets_of (in_time now turn))
     → TurnKeeps c start events old (in_time now turn)
-in_time-keeps c start events now old turn kept does sent =
+in_time-keeps c start before events e now old turn kept does sent =
     elim (cases_Bool (ltb (2 ^ 62) now)) [
       | inl late ↦ rw late (record { packets = tt; entries = kept })
       | inr n ↦ rw n (does (rw n at sent))

@@ -1,101 +1,152 @@
 -- A tick keeps what is known: an entry is forwarded again or anew, or it goes.
-use Rattle.std.proofs.Common.{◌≡◌, ℕ, ◌+◌, List, Bool, [], ◌∷◌, Option, Some, None, refl, ltb, inl, inr}
+use Rattle.std.proofs.Common.{◌≡◌, ℕ, ◌+◌, List, Bool, [], ◌∷◌, ◌++◌, Option, Some, None, refl, sym, ap, subst, ltb, inl, inr}
 use Rattle.std.specs.Prelude.{not}
+use Rattle.std.specs.List.{AllByRecursion}
 use Rattle.std.proofs.lemmas.Bool.{cases_Bool}
+use Rattle.roam_pending.specs.ListLaws.{IsIn}
 use Rattle.roam_pending.specs.declared.due.Due.{Due}
 use Rattle.roam_pending.specs.DueOrder.{due_list}
 use Rattle.roam_pending.specs.PlainEntry.{PlainRequest, PlainStanding, PlainEntry, waiting, done, has_ticket}
 use Rattle.roam_pending.specs.EntryList.{find_ticket, without}
 use Rattle.roam_pending.specs.Realms.{sent_again, waits_on}
-use Rattle.roam_pending.proofs.TestLemmas.{all-append, all-filter, all-find}
+use Rattle.roam_pending.proofs.TestLemmas.{all-append, all-filter, all-find, all-weaker}
 use Rattle.roam_pending.proofs.OrderLemmas.{all-put}
 use Rattle.roam_book.specs.RealmConfig.{RealmConfig, later_targets}
 use Rattle.roam_book.specs.RealmState.{RealmState, Target, first_target}
 use Rattle.roam_book.specs.Turn.{packets_of}
-use Rattle.roam_book.specs.OnRequest.{forwarded_entry}
+use Rattle.roam_book.specs.OnRequest.{forwarded_entry, packet_to}
 use Rattle.roam_book.specs.OnTick.{Progress, fail_over, without_entry, due_standing, due_entry, due_one, due_each, as_turn, on_tick}
-use Rattle.roam_book.specs.OneRealm.{RealmEvent}
+use Rattle.roam_book.specs.OneRealm.{RealmEvent, tick_came}
 use Rattle.roam_book.specs.declared.start.Start.{Start}
-use Rattle.roam_core.proofs.OriginRunLemmas.{all-left, all-right}
-use Rattle.roam_core.proofs.OriginLemmas.{ComesFrom, EachComes, EachHasOrigin, StandsFrom, TurnKeeps, WereSent, forwarded-comes, in_time-keeps, to_link-origin}
+use Rattle.roam_core.specs.Openings.{state_then}
+use Rattle.roam_core.specs.Provenance.{IsRequestOf, IsSentBy, IsHeld, IsForwarded, StandsFrom, ComesFrom, forwarded_packet}
+use Rattle.roam_core.proofs.RealmRunLemmas.{all-in, all-left, all-right, in-all}
+use Rattle.roam_core.proofs.OriginLemmas.{EachComes, EachHasOrigin, AreSentBy, TurnKeeps, request-later, stands-later, in_time-keeps}
 
--- what was sent so far has its origin in the events, and the entries come from them
-pub record ProgressKeeps (c : RealmConfig) (start : Start) (events : List RealmEvent)
-    (p : Progress) : Type 0 where
-  pub packets : EachHasOrigin c start events p.packets
-  pub entries : EachComes c start events p.state.entries
+-- of a tick at this moment, which comes after some events
+module _ (c : RealmConfig) (start : Start) (before : List RealmEvent) (now : ℕ) where
+  -- an entry while the tick is done: one of its request and ticket was held before the tick
+  pub record IsKnown (e : PlainEntry) : Type 0 where
+    pub request : IsRequestOf c start before e.request e.ticket
+    pub held : IsHeld c start before e.request e.ticket
+    pub standing : StandsFrom c start (before ++ tick_came now ∷ []) e.request e.ticket e.standing
 
--- of a tick at this moment
-module _ (c : RealmConfig) (start : Start) (events : List RealmEvent) (now : ℕ) where
-  -- an entry that waits on waits for the reply to the same octets
-  stands-on :
-      (q : PlainRequest) (ticket deadline : ℕ) (standing : PlainStanding)
-      → StandsFrom c start events q ticket standing
-      → StandsFrom c start events q ticket (waits_on deadline standing)
-  stands-on q ticket deadline (waiting l id forwarded sends_left old) h = h
-  stands-on q ticket deadline (done reply old) h = h
+  -- what was sent so far has its origin in the events, and the entries are known
+  pub record ProgressKeeps (p : Progress) : Type 0 where
+    pub packets : EachHasOrigin c start (before ++ tick_came now ∷ []) p.packets
+    pub entries : AllByRecursion IsKnown p.state.entries
 
-  again-comes :
-      (e : PlainEntry) (deadline : ℕ) → ComesFrom c start events e
-      → ComesFrom c start events (sent_again deadline e)
-  again-comes e deadline h = record {
-    asked_at = h.asked_at;
-    came = h.came;
-    standing = stands-on e.request e.ticket deadline e.standing h.standing;
-  }
+  -- what the tick sends for a held entry, to another target
+  over-forwarded :
+      (e : PlainEntry) (target : Target) → IsKnown e
+      → IsSentBy c start before (tick_came now) (forwarded_packet c e.request e.ticket target)
+      → IsForwarded c start (before ++ tick_came now ∷ []) e.request e.ticket target
+  over-forwarded e target known sent =
+      let r = known.request in
+      let out = forwarded_packet c e.request e.ticket target in
+      let held = subst (λ (l : List RealmEvent). IsHeld c start l e.request e.ticket) r.in_order known.held in
+      let there = subst (λ (l : List RealmEvent). IsSentBy c start l (tick_came now) out) r.in_order sent in
+      record {
+        request = request-later c start before (tick_came now ∷ []) e.request e.ticket r;
+        sent = inr (record {
+          between = r.rest;
+          now = now;
+          after = [];
+          in_order = refl;
+          held = held;
+          sent = there;
+        });
+      }
 
   fail_over-keeps :
       (s : RealmState) (e : PlainEntry) (target : Option Target)
-      → EachComes c start events s.entries → ComesFrom c start events e
-      → WereSent c start events (fail_over c now s e target).packets
-      → ProgressKeeps c start events (fail_over c now s e target)
-  fail_over-keeps s e None kept comes sent = record { packets = tt; entries = kept }
-  fail_over-keeps s e (Some target) kept comes sent =
-      let q = e.request in
-      let at = comes.asked_at in
-      let anew = forwarded_entry c now q e.ticket target in
-      let anew_comes = forwarded-comes c start events now at q e.ticket target comes.came sent.0 in
+      → AllByRecursion IsKnown s.entries → IsKnown e
+      → AreSentBy c start before (tick_came now) (fail_over c now s e target).packets
+      → ProgressKeeps (fail_over c now s e target)
+  fail_over-keeps s e None kept known sent = record { packets = tt; entries = kept }
+  fail_over-keeps s e (Some target) kept known sent =
+      let forwarded = over-forwarded e target known sent.0 in
+      let anew = forwarded_entry c now e.request e.ticket target in
+      let anew_known : IsKnown anew = record {
+        request = known.request;
+        held = known.held;
+        standing = record { octets_are = refl; forwarded = forwarded };
+      } in
       record {
-        packets = (to_link-origin c start events target.link _, tt);
-        entries = all-put (ComesFrom c start events) anew s.entries anew_comes kept;
+        packets = (
+          inl (record {
+            request = e.request;
+            ticket = e.ticket;
+            target = target;
+            forwarded = forwarded;
+            is_forwarded = refl;
+          }),
+          tt,
+        );
+        entries = all-put IsKnown anew s.entries anew_known kept;
       }
+
+  -- an entry that waits on waits for the reply to the same octets
+  stands-on :
+      (q : PlainRequest) (ticket deadline : ℕ) (standing : PlainStanding)
+      → StandsFrom c start (before ++ tick_came now ∷ []) q ticket standing
+      → StandsFrom c start (before ++ tick_came now ∷ []) q ticket (waits_on deadline standing)
+  stands-on q ticket deadline (waiting l id forwarded sends_left old) h = h
+  stands-on q ticket deadline (done reply old) h = h
+
+  again-known : (e : PlainEntry) (deadline : ℕ) → IsKnown e → IsKnown (sent_again deadline e)
+  again-known e deadline h = record {
+    request = h.request;
+    held = h.held;
+    standing = stands-on e.request e.ticket deadline e.standing h.standing;
+  }
 
   due_standing-keeps :
       (s : RealmState) (e : PlainEntry) (standing : PlainStanding)
-      → EachComes c start events s.entries → ComesFrom c start events e
-      → WereSent c start events (due_standing c now s e standing).packets
-      → ProgressKeeps c start events (due_standing c now s e standing)
-  due_standing-keeps s e (done reply deadline) kept comes sent =
+      → AllByRecursion IsKnown s.entries → IsKnown e
+      → StandsFrom c start (before ++ tick_came now ∷ []) e.request e.ticket standing
+      → AreSentBy c start before (tick_came now) (due_standing c now s e standing).packets
+      → ProgressKeeps (due_standing c now s e standing)
+  due_standing-keeps s e (done reply deadline) kept known stands sent =
       let stays : PlainEntry → Bool = λ x. not (has_ticket e.ticket x) in
-      record { packets = tt; entries = all-filter (ComesFrom c start events) stays s.entries kept }
-  due_standing-keeps s e (waiting l id forwarded sends_left deadline) kept comes sent =
+      record { packets = tt; entries = all-filter IsKnown stays s.entries kept }
+  due_standing-keeps s e (waiting l id forwarded sends_left deadline) kept known stands sent =
       let again = sent_again (now + c.realm.wait) e in
-      let again_comes = again-comes e (now + c.realm.wait) comes in
+      let again_known = again-known e (now + c.realm.wait) known in
       let stays : PlainEntry → Bool = λ x. not (has_ticket e.ticket x) in
-      let others = all-filter (ComesFrom c start events) stays s.entries kept in
+      let others = all-filter IsKnown stays s.entries kept in
       let next = first_target c s.cursors (without e.ticket s.entries) (later_targets c l) in
       elim (cases_Bool (ltb 0 sends_left)) [
         | inl y ↦ rw y (record {
-          packets = (to_link-origin c start events l forwarded, tt);
-          entries = all-put (ComesFrom c start events) again s.entries again_comes kept;
+          packets = (
+            inl (record {
+              request = e.request;
+              ticket = e.ticket;
+              target = record { link = l; id = id };
+              forwarded = stands.forwarded;
+              is_forwarded = ap (λ (octets : List ℕ). packet_to c l octets) stands.octets_are;
+            }),
+            tt,
+          );
+          entries = all-put IsKnown again s.entries again_known kept;
         })
-        | inr n ↦ rw n (fail_over-keeps (without_entry s e) e next others comes (rw n at sent))
+        | inr n ↦ rw n (fail_over-keeps (without_entry s e) e next others known (rw n at sent))
       ]
 
   due_entry-keeps :
       (s : RealmState) (ticket : ℕ) (found : Option PlainEntry)
-      → find_ticket ticket s.entries ≡ found → EachComes c start events s.entries
-      → WereSent c start events (due_entry c now s found).packets
-      → ProgressKeeps c start events (due_entry c now s found)
+      → find_ticket ticket s.entries ≡ found → AllByRecursion IsKnown s.entries
+      → AreSentBy c start before (tick_came now) (due_entry c now s found).packets
+      → ProgressKeeps (due_entry c now s found)
   due_entry-keeps s ticket None at kept sent = record { packets = tt; entries = kept }
   due_entry-keeps s ticket (Some e) at kept sent =
-      let comes = all-find (ComesFrom c start events) (has_ticket ticket) s.entries e at kept in
-      due_standing-keeps s e e.standing kept comes sent
+      let known = all-find IsKnown (has_ticket ticket) s.entries e at kept in
+      due_standing-keeps s e e.standing kept known known.standing sent
 
   due_each-keeps :
-      (dues : List Due) (s : RealmState) → EachComes c start events s.entries
-      → WereSent c start events (due_each c now s dues).packets
-      → ProgressKeeps c start events (due_each c now s dues)
+      (dues : List Due) (s : RealmState) → AllByRecursion IsKnown s.entries
+      → AreSentBy c start before (tick_came now) (due_each c now s dues).packets
+      → ProgressKeeps (due_each c now s dues)
   due_each-keeps [] s kept sent = record { packets = tt; entries = kept }
   due_each-keeps (d ∷ ds) s kept sent =
       let first = due_one c now s d in
@@ -110,20 +161,46 @@ module _ (c : RealmConfig) (start : Start) (events : List RealmEvent) (now : ℕ
         entries = others.entries;
       }
 
+  -- once the tick is done, its entries come from the events
+  known-comes : (e : PlainEntry) → IsKnown e → ComesFrom c start (before ++ tick_came now ∷ []) e
+  known-comes e h = record {
+    request = request-later c start before (tick_came now ∷ []) e.request e.ticket h.request;
+    standing = h.standing;
+  }
+
   -- the dues of a tick, as a turn
   turn-keeps :
-      (s : RealmState) (dues : List Due) → EachComes c start events s.entries
-      → WereSent c start events (due_each c now s dues).packets
-      → TurnKeeps c start events s (as_turn (due_each c now s dues))
+      (s : RealmState) (dues : List Due) → AllByRecursion IsKnown s.entries
+      → AreSentBy c start before (tick_came now) (due_each c now s dues).packets
+      → TurnKeeps c start (before ++ tick_came now ∷ []) s (as_turn (due_each c now s dues))
   turn-keeps s dues kept sent =
       let keeps = due_each-keeps dues s kept sent in
-      record { packets = keeps.packets; entries = keeps.entries }
+      let all = due_each c now s dues in
+      record {
+        packets = keeps.packets;
+        entries = all-weaker IsKnown (ComesFrom c start (before ++ tick_came now ∷ []))
+            all.state.entries known-comes keeps.entries;
+      }
+
+  -- before the tick, each entry is held
+  held-known : (e : PlainEntry) → ComesFrom c start before e
+      → IsIn e (state_then c start before).entries → IsKnown e
+  held-known e comes at = record {
+    request = comes.request;
+    held = record { entry = e; held = at; same_request = refl; same_ticket = refl };
+    standing = stands-later c start before (tick_came now ∷ []) e.request e.ticket e.standing comes.standing;
+  }
 
   pub on_tick-keeps :
-      (s : RealmState) → EachComes c start events s.entries
-      → WereSent c start events (packets_of (on_tick c now s))
-      → TurnKeeps c start events s (on_tick c now s)
-  on_tick-keeps s kept sent =
+      (s : RealmState) → state_then c start before ≡ s → EachComes c start before s.entries
+      → EachComes c start (before ++ tick_came now ∷ []) s.entries
+      → AreSentBy c start before (tick_came now) (packets_of (on_tick c now s))
+      → TurnKeeps c start (before ++ tick_came now ∷ []) s (on_tick c now s)
+  on_tick-keeps s is kept still sent =
+      let events = before ++ tick_came now ∷ [] in
       let dues = due_list now s.entries in
       let turn = as_turn (due_each c now s dues) in
-      in_time-keeps c start events now s turn kept (turn-keeps s dues kept) sent
+      let known = in-all IsKnown s.entries (λ e at. held-known e
+      (all-in (ComesFrom c start before) s.entries e kept at)
+      (subst (λ (t : RealmState). IsIn e t.entries) (sym is) at)) in
+      in_time-keeps c start before events (tick_came now) now s turn still (turn-keeps s dues known) sent

@@ -10,8 +10,10 @@ use Rattle.roam_core.specs.Isolation.{IsIsolated, IsIsolatedFromStart, packets_f
 use Rattle.roam_core.specs.ManyRealms.{packets_in_turn, states_after, answer_to, answers_to}
 use Rattle.roam_book.specs.declared.start.Start.{Start}
 use Rattle.roam_core.specs.Openings.{openings}
+use Rattle.roam_core.specs.ProvenanceLaws.{HasProvenance}
 use Rattle.roam_core.specs.Runs.{ArePlaces, StandsAfterSome}
 use Rattle.roam_core.proofs.KeptLemmas.{places-more, places-append, kept-done, kept-lost}
+use Rattle.roam_core.proofs.ProvenanceLemmas.{has_provenance}
 use Rattle.roam_core.proofs.IsolationLemmas.{answers-length, from_start, isolated, rejects_alone, each_has_realm}
 
 states-append : (config : ConfigView) (states : List RealmState) (es : List PlainEvent) (e : PlainEvent) → (answers_to config states (es ++ e ∷ [])).states ≡ states_after (answers_to config states es).states (answer_to config (answers_to config states es).states e)
@@ -86,6 +88,7 @@ lost_one config first events n lost packets now next states new e d within at ru
 pub record HasRunAll (config : ConfigView) (first : List RealmState) (events : List PlainEvent) (lost : List ℕ) (packets : List PlainOut) (states : List RealmState) : Type 0 where
   pub places : ArePlaces (length events) lost
   pub isolated : IsIsolated config first (kept lost events) packets
+  pub provenance : (starts : List Start) → first ≡ openings config starts → HasProvenance config starts (kept lost events) packets
   pub from_start : (starts : List Start) → first ≡ openings config starts → IsIsolatedFromStart config starts (kept lost events) packets
   pub all_sent : packets ≡ (answers_to config first (kept lost events)).packets
   pub all_stand : states ≡ (answers_to config first (kept lost events)).states
@@ -111,6 +114,7 @@ has_run_all config first events n lost packets now states is run =
     record {
       places = subst (λ (k : ℕ). ArePlaces k lost) is run.places;
       isolated = alone;
+      provenance = λ starts begin. has_provenance config starts (kept lost events) packets (from_start config first starts (kept lost events) packets begin alone);
       from_start = λ starts begin. from_start config first starts (kept lost events) packets begin alone;
       all_sent = sent;
       all_stand = run.states_are ∙ rw all refl;

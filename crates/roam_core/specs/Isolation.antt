@@ -38,18 +38,21 @@ packets_for_none packets = filter (λ out. is_none out.realm) packets
 -- the headline: begun at these starts, one for each realm, the packets for a realm are those of its own
 -- written broker from its start, which is given its part of the configuration and its events, and
 -- nothing else. The events are those that weren't lost for want of memory: `run` names them by `kept`
-abbrev pub IsIsolatedFromStart : ConfigView → List Start → List PlainEvent → List PlainOut → Type 0
+abbrev pub IsIsolatedFromStart :
+    ConfigView → List Start → List PlainEvent → List PlainOut → Type 0
 IsIsolatedFromStart config starts events packets =
     (realm : ℕ) → realm < length starts
     → packets_for realm packets
-    ≡ one_realm_packets (realm_config config realm) (start_of starts realm) (events_of_realm config realm events)
+    ≡ one_realm_packets (realm_config config realm) (start_of starts realm)
+    (events_of_realm config realm events)
 
 -- the same, begun in any states
 abbrev pub IsIsolated : ConfigView → List RealmState → List PlainEvent → List PlainOut → Type 0
 IsIsolated config states events packets =
     (realm : ℕ) → realm < length states
     → packets_for realm packets
-    ≡ (one_realm_run (realm_config config realm) (state_at states realm) (events_of_realm config realm events)).packets
+    ≡ (one_realm_run (realm_config config realm) (state_at states realm)
+    (events_of_realm config realm events)).packets
 
 -- isolation itself, of the written answers: for all configurations with a shard, starts and events,
 -- and for all states
@@ -71,13 +74,15 @@ EachRealmStandsAlone =
     (config : ConfigView) (states : List RealmState) (events : List PlainEvent) (realm : ℕ)
     → 1 ≤ config.shards → realm < length states
     → state_at (answers_to config states events).states realm
-    ≡ (one_realm_run (realm_config config realm) (state_at states realm) (events_of_realm config realm events)).state
+    ≡ (one_realm_run (realm_config config realm) (state_at states realm)
+    (events_of_realm config realm events)).state
 
 -- what `openings` says of one realm: it begins at its own start, and at nothing else
 abbrev pub EachRealmOpens : Type 0
 EachRealmOpens =
     (config : ConfigView) (starts : List Start) (realm : ℕ) → realm < length starts
-    → state_at (openings config starts) realm ≡ opening (realm_config config realm) (start_of starts realm)
+    → state_at (openings config starts) realm
+    ≡ opening (realm_config config realm) (start_of starts realm)
 
 -- none, or a realm's index below this
 abbrev pub IsRealmBelow : ℕ → Option ℕ → Type 0
@@ -97,7 +102,8 @@ SameInTwoWorlds =
     → realm_config one realm ≡ realm_config other realm
     → state_at ss realm ≡ state_at ts realm
     → events_of_realm one realm es ≡ events_of_realm other realm fs
-    → packets_for realm (answers_to one ss es).packets ≡ packets_for realm (answers_to other ts fs).packets
+    → packets_for realm (answers_to one ss es).packets
+    ≡ packets_for realm (answers_to other ts fs).packets
 
 -- the same, from starts
 abbrev pub SameInTwoWorldsFromStart : Type 0

@@ -1,10 +1,14 @@
+-- What a sceptic reads, in this order: what an event gives to a realm, how realms begin, isolation and
+-- where packets come from. Then the written broker of many realms, and what calls say of it.
 pub mod Events
-pub mod ManyRealms
 pub mod Openings
 pub mod Isolation
 pub mod Provenance
+pub mod ProvenanceLaws
+pub mod ManyRealms
 pub mod Steps
 pub mod Runs
 pub mod Shown
+-- What proofs of the broker over books need: no definition above rests on it.
 pub mod BrokerView
 pub mod ShardRooms

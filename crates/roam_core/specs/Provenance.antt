@@ -1,49 +1,130 @@
--- Provenance (ours): where each packet that goes back to a requester comes from.
-use Rattle.std.specs.Prelude.{◌≡◌, ◌≢◌, ℕ, true, List, ◌∷◌, ◌++◌}
+-- Provenance (ours): where each packet of a realm comes from, and each of its entries. In all of this `c`
+-- is what the realm reads of the configuration, `start` where it begins, and `events` a list of its own
+-- events, in order.
+use Rattle.std.specs.Prelude.{◌≡◌, ◌⊎◌, ◌+◌, ℕ, List, [], ◌∷◌, ◌++◌, None}
 use Rattle.roam_wire.specs.Reading.{packet_of}
-use Rattle.roam_auth.specs.Deciding.{is_signed_reply}
-use Rattle.roam_conf.specs.declared.place.Place.TheVariants as place
 use Rattle.roam_route.specs.Admission.{PlainOut}
 use Rattle.roam_pending.specs.ListLaws.{IsIn}
-use Rattle.roam_pending.specs.PlainEntry.{PlainRequest}
+use Rattle.roam_pending.specs.PlainEntry.{PlainEntry, PlainRequest, PlainStanding, waiting, done}
 use Rattle.roam_book.specs.RealmConfig.{RealmConfig, link_secret}
 use Rattle.roam_book.specs.RealmState.{Target}
+use Rattle.roam_book.specs.Turn.{packets_of}
 use Rattle.roam_book.specs.OnRequest.{packet_to, packet_back, forwarded_octets}
+use Rattle.roam_back.specs.ReplyCheck.{reply_fault}
 use Rattle.roam_book.specs.OnReply.{returned_octets}
-use Rattle.roam_book.specs.OneRealm.{RealmEvent, request_came, reply_came}
+use Rattle.roam_book.specs.OneRealm.{RealmEvent, request_came, reply_came, tick_came, on_event}
 use Rattle.roam_book.specs.declared.start.Start.{Start}
-use Rattle.roam_core.specs.Openings.{one_realm_packets}
+use Rattle.roam_core.specs.Openings.{state_then}
 
--- a packet is the returned one of a reply for a request of the list: the request came, and was
--- forwarded to a link under some ticket; then a reply came from that link, with that packet's
--- Identifier, signed for that packet's Authenticator with the link's secret (RFC 2865, section 3)
-pub record IsReturned (c : RealmConfig) (start : Start) (events : List RealmEvent)
-    (out : PlainOut) : Type 0 where
-  pub before : List RealmEvent
-  pub after : List RealmEvent
-  pub request : PlainRequest
+-- an event that comes after others is given a ticket: it is the next one there, and then it is taken
+pub record TakesTicket (c : RealmConfig) (start : Start) (before : List RealmEvent) (e : RealmEvent)
+    (ticket : ℕ) : Type 0 where
+  pub next : (state_then c start before).ticket ≡ ticket
+  pub taken : (state_then c start (before ++ e ∷ [])).ticket ≡ ticket + 1
+
+-- a request of the list, by its ticket: that very one, since a ticket is given once (`TicketIsGivenOnce`)
+pub record IsRequestOf (c : RealmConfig) (start : Start) (events : List RealmEvent)
+    (q : PlainRequest) (ticket : ℕ) : Type 0 where
+  pub first : List RealmEvent
   pub asked_at : ℕ
-  pub ticket : ℕ
+  pub rest : List RealmEvent
+  pub in_order : events ≡ first ++ request_came asked_at q ∷ rest
+  pub given : TakesTicket c start first (request_came asked_at q) ticket
+
+-- a packet is among those that an event's own turn sends, after the events before it
+abbrev pub IsSentBy : RealmConfig → Start → List RealmEvent → RealmEvent → PlainOut → Type 0
+IsSentBy c start before e out = IsIn out (packets_of (on_event c (state_then c start before) e))
+
+-- after these events an entry of this ticket is held, with this request
+pub record IsHeld (c : RealmConfig) (start : Start) (events : List RealmEvent) (q : PlainRequest)
+    (ticket : ℕ) : Type 0 where
+  pub entry : PlainEntry
+  pub held : IsIn entry (state_then c start events).entries
+  pub same_request : entry.request ≡ q
+  pub same_ticket : entry.ticket ≡ ticket
+
+-- a request fails over: a later tick, until which its entry is held, sends a packet
+pub record FailsOver (c : RealmConfig) (start : Start) (first : List RealmEvent) (asked_at : ℕ)
+    (q : PlainRequest) (rest : List RealmEvent) (ticket : ℕ) (out : PlainOut) : Type 0 where
+  pub between : List RealmEvent
+  pub now : ℕ
+  pub after : List RealmEvent
+  pub in_order : rest ≡ between ++ tick_came now ∷ after
+  pub held : IsHeld c start (first ++ request_came asked_at q ∷ between) q ticket
+  pub sent : IsSentBy c start (first ++ request_came asked_at q ∷ between) (tick_came now) out
+
+-- the packet that is sent to a target for a request, under its ticket
+abbrev pub forwarded_packet : RealmConfig → PlainRequest → ℕ → Target → PlainOut
+forwarded_packet c q ticket target = packet_to c target.link (forwarded_octets c q ticket target)
+
+-- a request of the list was forwarded to a target: in its own turn, or when it failed over
+pub record IsForwarded (c : RealmConfig) (start : Start) (events : List RealmEvent)
+    (q : PlainRequest) (ticket : ℕ) (target : Target) : Type 0 where
+  pub request : IsRequestOf c start events q ticket
+  pub sent :
+      IsSentBy c start request.first (request_came request.asked_at q)
+      (forwarded_packet c q ticket target)
+      ⊎ FailsOver c start request.first request.asked_at q request.rest ticket
+      (forwarded_packet c q ticket target)
+
+-- a packet is the returned one of a request of the list: the request was forwarded to a link; then a
+-- reply came from that link, with the forwarded packet's Identifier; it is taken, for its code, its
+-- Response Authenticator and its Message-Authenticator (RFC 2865, section 3; RFC 3579, section 3.2); and
+-- its turn sent this packet to the sender of the request
+pub record IsReturned (c : RealmConfig) (start : Start) (events : List RealmEvent)
+    (q : PlainRequest) (ticket : ℕ) (out : PlainOut) : Type 0 where
+  pub before : List RealmEvent
+  pub answered_at : ℕ
   pub target : Target
   pub reply : List ℕ
-  pub answered_at : ℕ
+  pub after : List RealmEvent
   pub in_order : events ≡ before ++ reply_came answered_at target.link reply ∷ after
-  pub came : IsIn (request_came asked_at request) before
-  pub was_sent :
-      IsIn (packet_to c target.link (forwarded_octets c request ticket target))
-      (one_realm_packets c start before)
+  pub forwarded : IsForwarded c start before q ticket target
   pub identifier : (packet_of reply).id ≡ target.id
-  pub signed :
-      is_signed_reply (link_secret c target.link)
-      (packet_of (forwarded_octets c request ticket target)).authenticator
-      (packet_of reply) ≡ true
+  pub taken :
+      reply_fault (link_secret c target.link) (packet_of reply)
+      (packet_of (forwarded_octets c q ticket target)) ≡ None
   pub is_returned :
-      out ≡ packet_back c request.key (returned_octets c request target.link
-      (packet_of (forwarded_octets c request ticket target)) (packet_of reply))
+      out ≡ packet_back c q.key (returned_octets c q target.link
+      (packet_of (forwarded_octets c q ticket target)) (packet_of reply))
+  pub sent : IsSentBy c start before (reply_came answered_at target.link reply) out
 
--- each packet that leaves from another place than the realm's outgoing socket is a returned one
-abbrev pub EachIsReturned : Type 0
-EachIsReturned =
-    (c : RealmConfig) (start : Start) (events : List RealmEvent) (out : PlainOut)
-    → IsIn out (one_realm_packets c start events) → out.from ≢ place.Out c.index
-    → IsReturned c start events out
+-- a packet is the forwarded one of a request of the list: of which, under which ticket, to which link
+pub record IsForwardedPacket (c : RealmConfig) (start : Start) (events : List RealmEvent)
+    (out : PlainOut) : Type 0 where
+  pub request : PlainRequest
+  pub ticket : ℕ
+  pub target : Target
+  pub forwarded : IsForwarded c start events request ticket target
+  pub is_forwarded : out ≡ forwarded_packet c request ticket target
+
+-- it is the returned one of a request of the list
+pub record IsReturnedPacket (c : RealmConfig) (start : Start) (events : List RealmEvent)
+    (out : PlainOut) : Type 0 where
+  pub request : PlainRequest
+  pub ticket : ℕ
+  pub returned : IsReturned c start events request ticket out
+
+-- each packet is one of the two: there are no others
+abbrev pub HasOrigin : RealmConfig → Start → List RealmEvent → PlainOut → Type 0
+HasOrigin c start events out =
+    IsForwardedPacket c start events out ⊎ IsReturnedPacket c start events out
+
+-- how an entry stands: it waits for the reply to what was forwarded to its link, or its reply was returned
+pub record WaitsFor (c : RealmConfig) (start : Start) (events : List RealmEvent) (q : PlainRequest)
+    (ticket : ℕ) (target : Target) (octets : List ℕ) : Type 0 where
+  pub octets_are : octets ≡ forwarded_octets c q ticket target
+  pub forwarded : IsForwarded c start events q ticket target
+
+abbrev pub StandsFrom :
+    RealmConfig → Start → List RealmEvent → PlainRequest → ℕ → PlainStanding → Type 0
+StandsFrom c start events q ticket (waiting l id forwarded sends_left deadline) =
+    WaitsFor c start events q ticket (record { link = l; id = id }) forwarded
+StandsFrom c start events q ticket (done reply deadline) =
+    IsReturned c start events q ticket (packet_back c q.key reply)
+
+-- an entry is that of a request of the list, and stands so
+pub record ComesFrom (c : RealmConfig) (start : Start) (events : List RealmEvent)
+    (e : PlainEntry) : Type 0 where
+  pub request : IsRequestOf c start events e.request e.ticket
+  pub standing : StandsFrom c start events e.request e.ticket e.standing

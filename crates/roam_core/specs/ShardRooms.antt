@@ -32,12 +32,14 @@ AllFit now (s ∷ ss) (room ∷ rooms) = Fits now s.entries room × AllFit now s
 AllFit now _ _ = ⊥
 
 -- a realm has a room just where it takes part in a tick
-pub record IsRealmRoom {A : Type 0} (now : ℕ) (takes_part : Bool) (entries : List PlainEntry) (room : Option (Room A)) : Type 0 where
+pub record IsRealmRoom {A : Type 0} (now : ℕ) (takes_part : Bool) (entries : List PlainEntry)
+    (room : Option (Room A)) : Type 0 where
   pub part : is_some room ≡ takes_part
   pub fits : Fits now entries room
 
 -- the rooms of the realms from this index on, for a shard's tick
-abbrev pub AreRooms : {A : Type 0} → ConfigView → ℕ → ℕ → ℕ → List RealmState → List (Option (Room A)) → Type 0
+abbrev pub AreRooms :
+    {A : Type 0} → ConfigView → ℕ → ℕ → ℕ → List RealmState → List (Option (Room A)) → Type 0
 AreRooms config now shard realm [] [] = Unit {0}
 AreRooms config now shard realm (s ∷ ss) (room ∷ rooms) =
     IsRealmRoom now (is_in_shard config shard realm) s.entries room
@@ -50,7 +52,8 @@ turn_in config now realm s None = sends [] s
 turn_in config now realm s (Some room) = on_tick (realm_config config realm) now s
 
 -- the realms from this index on, each in its room
-abbrev pub tick_in : {A : Type 0} → ConfigView → ℕ → ℕ → List RealmState → List (Option (Room A)) → AllRealms
+abbrev pub tick_in :
+    {A : Type 0} → ConfigView → ℕ → ℕ → List RealmState → List (Option (Room A)) → AllRealms
 tick_in config now realm [] rooms = record { packets = []; states = [] }
 tick_in config now realm (s ∷ ss) [] = record { packets = []; states = s ∷ ss }
 tick_in config now realm (s ∷ ss) (room ∷ rooms) =

@@ -11,13 +11,16 @@ use Rattle.roam_core.specs.Events.{PlainEvent, arrives, ticks}
 use Rattle.roam_core.specs.ManyRealms.{BrokerTurn, packets_in_turn, refusal_given, states_after}
 
 -- an answer and the states after it are those of a turn
-pub record IsAnswer {A : Type 0} (answer : Answer A) (old new : List RealmState) (turn : BrokerTurn) : Type 0 where
+pub record IsAnswer {A : Type 0} (answer : Answer A) (old new : List RealmState)
+    (turn : BrokerTurn) : Type 0 where
   pub packets : shown_outs answer.outs.items ≡ packets_in_turn turn
   pub refusal : answer.refusal ≡ refusal_given turn
   pub states : new ≡ states_after old turn
 
 -- what a call that may want memory gives: the turn, or nothing, and the states are as they were
-abbrev pub GivesAnswer : {A : Type 0} → Result (Answer A) NoMemory → List RealmState → List RealmState → BrokerTurn → Type 0
+abbrev pub GivesAnswer :
+    {A : Type 0} → Result (Answer A) NoMemory → List RealmState → List RealmState → BrokerTurn
+    → Type 0
 GivesAnswer (Ok answer) old new turn = IsAnswer answer old new turn
 GivesAnswer (Err e) old new turn = new ≡ old
 

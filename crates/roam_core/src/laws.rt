@@ -2,7 +2,7 @@
 //! configurations, states and events.
 
 ghost use Rattle.roam_core.specs.Isolation.{EachIsIsolatedFromStart, EachRealmIsIsolated, EachRealmOpens, EachRealmStandsAlone, SameInTwoWorlds, SameInTwoWorldsFromStart};
-ghost use Rattle.roam_core.specs.Provenance.{EachIsReturned};
+ghost use Rattle.roam_core.specs.ProvenanceLaws.{EachEntryHasOrigin, EachPacketHasOrigin, OneRequestHasTicket, TicketIsGivenOnce};
 
 /// Whatever the events, what the broker sends for a realm, and how the realm then stands, is what the
 /// written broker of that one realm does with the realm's own events.
@@ -23,8 +23,12 @@ pub fn two_worlds()
     ensures from_states { SameInTwoWorlds }
 {}
 
-/// Each packet that goes back to a requester is the returned packet of a reply that was signed for a
-/// packet which was sent for that very request, to the link from which the reply came.
+/// Each packet of a realm is the forwarded one of a request of the realm's events, or the returned one of
+/// a reply that was taken for such a packet; and each entry is of such a request. The ticket says of which:
+/// it is given to one event.
 pub fn provenance()
-    ensures { EachIsReturned }
+    ensures packets { EachPacketHasOrigin }
+    ensures entries { EachEntryHasOrigin }
+    ensures tickets { TicketIsGivenOnce }
+    ensures requests { OneRequestHasTicket }
 {}

@@ -6,7 +6,8 @@ ghost use Rattle.roam_book.specs.Turn.{shown_outs};
 ghost use Rattle.roam_book.specs.declared.start.Start.{Start};
 ghost use Rattle.roam_core.specs.ManyRealms.{answers_to};
 ghost use Rattle.roam_core.specs.Openings.{openings};
-ghost use Rattle.roam_core.specs.Runs.{ArePlaces, StandsAfterSome};
+ghost use Rattle.roam_core.specs.ProvenanceLaws.{HasProvenance};
+ghost use Rattle.roam_core.specs.Runs.{ArePlaces, StandsAfterSome, WereGiven};
 ghost use Rattle.roam_core.specs.Events.{kept, local_rejects};
 ghost use Rattle.roam_core.specs.Isolation.{IsIsolated, IsIsolatedFromStart, HasRealm, packets_for_none};
 ghost use Rattle.roam_core.specs.Shown.{shown_events};
@@ -63,11 +64,21 @@ pub fn run<A: Allocator + Copy, S: Stepper<A>>(
         → IfOk result (λ o. IsIsolatedFromStart (S.config stepper.old) starts
         (kept o.lost.items (shown_events events.now)) (shown_outs o.outs.items)) }
 
-    // The same from whatever states the realms are in.
+    // And each of those packets has its origin in the realm's own events, as the forwarded or the
+    // returned packet of one of them.
+    ensures provenance { (starts : List Start)
+        → S.states stepper.old ≡ openings (S.config stepper.old) starts
+        → IfOk result (λ o. HasProvenance (S.config stepper.old) starts
+        (kept o.lost.items (shown_events events.now)) (shown_outs o.outs.items)) }
+
+    // Each realm is isolated from whatever states they are in.
     ensures isolated { IfOk result (λ o. IsIsolated (S.config stepper.old) (S.states stepper.old)
         (kept o.lost.items (shown_events events.now)) (shown_outs o.outs.items)) }
 
-    // The lost events: each is noted in its turn, and once.
+    // The events are given in their order, each once; those are lost, and noted by their places, that met
+    // want of memory there.
+    ensures given { IfOk result (λ o. WereGiven S.steps 0 o.lost.items stepper.old
+        (shown_events events.now) stepper.new) }
     ensures lost { IfOk result (λ o. ArePlaces (length events.now) o.lost.items) }
 
     // All packets, and the states at the end: the written answers to the events that weren't lost.

@@ -1,18 +1,21 @@
 -- The forwarded packet of an Access-Request: its size, and its one Message-Authenticator.
-use Rattle.std.proofs.Common.{◌≡◌, ℕ, zero, suc, ◌+◌, ◌*◌, ◌≤◌, Bool, true, false, ◌⊎◌, inl, inr, List, [], ◌∷◌, ◌++◌, length, map, subst, refl, sym, ap, ◌∙◌, arith, length-append}
+use Rattle.std.proofs.Common.{◌≡◌, ℕ, zero, suc, ◌+◌, ◌*◌, ◌<◌, ◌≤◌, Bool, true, false, ◌⊎◌, inl, inr, List, [], ◌∷◌, ◌++◌, length, map, subst, refl, sym, ap, ◌∙◌, arith, length-append}
 use Rattle.std.specs.Prelude.{if◌then◌else◌, ◌==◌}
 use Rattle.std.specs.List.{AllByRecursion}
 use Rattle.std.proofs.lemmas.Bool.{cases_Bool, eqb-true, eq-eqb}
-use Rattle.roam_wire.specs.Packet.{Attribute, IsAttribute, Packet, IsPacket, attribute_text, attributes_text, packet_length}
+use Rattle.roam_wire.specs.Packet.{AreOctets, Attribute, IsAttribute, Packet, IsPacket, attribute_text, attributes_text, packet_length}
 use Rattle.roam_wire.specs.Attributes.{has_kind, count_of, without_kind}
 use Rattle.roam_wire.specs.declared.attribute_type.TheConstants.{USER_PASSWORD, CHAP_CHALLENGE}
 use Rattle.roam_wire.specs.declared.code.TheConstants.{ACCESS_REQUEST}
 use Rattle.roam_wire.specs.declared.attribute_type.TheConstants.{MESSAGE_AUTHENTICATOR}
 use Rattle.roam_auth.specs.MessageAuthenticator.{HasOneMessageAuthenticator, HasAtMostOneMessageAuthenticator, empty_message_authenticator, with_message_authenticator}
+use Rattle.roam_wire.proofs.OctetLemmas.{AreOctets-zeros}
+use Rattle.roam_auth.specs.Authenticators.{AreSixteenOctets}
 use Rattle.roam_auth.proofs.ValueLemmas.{IsSized, all_sized, count_of-yes, count_of-no}
 use Rattle.roam_auth.proofs.SealingLemmas.{count_of-append, length-attributes_text-append}
 use Rattle.roam_hide.specs.Hiding.{Key, HasWholeBlocks, hidden_anew}
 use Rattle.roam_hide.proofs.HidingLemmas.{hidden_anew_hides}
+use Rattle.roam_hide.proofs.OctetLemmas.{AreOctets-hidden_anew}
 use Rattle.roam_fwd.specs.Forwarded.{Forwarding, with_password_anew, challenge_is_authenticator, added_challenge, access_attributes, access_growth, forwarded, forwarded_length, HasPasswordBlocks}
 use Rattle.roam_fwd.proofs.ForwardedLemmas.{with_ticket, length-with_ticket, IsAttribute-with_ticket, count_of-with_ticket}
 
@@ -31,6 +34,16 @@ length-value f q a h =
     let to : Key = record { secret = f.to_secret; first = f.authenticator } in
     length-anew (a.kind == USER_PASSWORD) from to a.value (λ found. h.whole_blocks (eqb-true a.kind USER_PASSWORD found))
 
+AreOctets-anew : (b : Bool) (from to : Key) (old : List ℕ) → AreOctets old → AreOctets (if b then hidden_anew from to old else old)
+AreOctets-anew true from to old h = AreOctets-hidden_anew from to old h
+AreOctets-anew false from to old h = h
+
+AreOctets-value : (f : Forwarding) (q : Packet) (a : Attribute) → IsAttribute a → AreOctets (with_password_anew f q a).value
+AreOctets-value f q a h =
+    let from : Key = record { secret = f.from_secret; first = q.authenticator } in
+    let to : Key = record { secret = f.to_secret; first = f.authenticator } in
+    AreOctets-anew (a.kind == USER_PASSWORD) from to a.value h.octets
+
 -- so the attributes have
 length-passwords : (f : Forwarding) (q : Packet) (all : List Attribute) → AllByRecursion HasPasswordBlocks all → length (attributes_text (map (with_password_anew f q) all)) ≡ length (attributes_text all)
 length-passwords f q [] h = refl
@@ -45,7 +58,7 @@ IsAttribute-passwords f q [] blocks h = tt
 IsAttribute-passwords f q (a ∷ all) blocks h =
     let limit = h.0.size in
     let here = length-value f q a blocks.0 in
-    (record { size = omega (arith, limit, here) }, IsAttribute-passwords f q all blocks.1 h.1)
+    (record { kind = h.0.kind; octets = AreOctets-value f q a h.0; size = omega (arith, limit, here) }, IsAttribute-passwords f q all blocks.1 h.1)
 
 -- ---- without Message-Authenticators
 
@@ -109,9 +122,9 @@ count_of-challenge : (b : Bool) (value : List ℕ) → count_of MESSAGE_AUTHENTI
 count_of-challenge true value = refl
 count_of-challenge false value = refl
 
-IsAttribute-challenge : (b : Bool) (value : List ℕ) → length value ≡ 16 → AllByRecursion IsAttribute (challenge_if b value)
-IsAttribute-challenge true value size = (record { size = omega (arith, size) }, tt)
-IsAttribute-challenge false value size = tt
+IsAttribute-challenge : (b : Bool) (value : List ℕ) → AreOctets value → length value ≡ 16 → AllByRecursion IsAttribute (challenge_if b value)
+IsAttribute-challenge true value octets size = (record { kind = omega arith; octets = octets; size = omega (arith, size) }, tt)
+IsAttribute-challenge false value octets size = tt
 
 -- ---- all attributes
 
@@ -170,17 +183,20 @@ length-access_unsealed f q h =
     let ticket = length-with_ticket f (access_attributes f q) in
     omega (arith, all, ticket)
 
-pub IsPacket-access_unsealed : (f : Forwarding) (q : Packet) → IsForwardableAccess q → length f.authenticator ≡ 16 → packet_length q + 10 + access_growth q ≤ 4096 → IsPacket (access_unsealed f q)
-IsPacket-access_unsealed f q h size limit =
+pub IsPacket-access_unsealed : (f : Forwarding) (q : Packet) → IsForwardableAccess q → f.id < 256 → AreSixteenOctets f.authenticator → packet_length q + 10 + access_growth q ≤ 4096 → IsPacket (access_unsealed f q)
+IsPacket-access_unsealed f q h id sixteen limit =
     let own : List Attribute = without_kind MESSAGE_AUTHENTICATOR q.attributes in
     let carried : List Attribute = map (with_password_anew f q) own in
     let b : Bool = challenge_is_authenticator q.attributes in
     let blocks = all_without HasPasswordBlocks q.attributes h.passwords in
     let short = IsAttribute-passwords f q own blocks (all_without IsAttribute q.attributes h.packet.attributes) in
-    let seal_short : IsAttribute empty_message_authenticator = record { size = omega arith } in
-    let all = AllByRecursion-append IsAttribute (empty_message_authenticator ∷ carried) (added_challenge q) (seal_short, short) (IsAttribute-challenge b q.authenticator h.packet.authenticator) in
+    let seal_short : IsAttribute empty_message_authenticator = record { kind = omega arith; octets = AreOctets-zeros 16; size = omega arith } in
+    let all = AllByRecursion-append IsAttribute (empty_message_authenticator ∷ carried) (added_challenge q) (seal_short, short) (IsAttribute-challenge b q.authenticator h.packet.octets h.packet.authenticator) in
     record {
-      authenticator = size;
+      code = h.packet.code;
+      id = id;
+      octets = sixteen.octets;
+      authenticator = sixteen.size;
       attributes = IsAttribute-with_ticket f (access_attributes f q) all;
       size = omega (arith, length-access_unsealed f q h, limit);
     }

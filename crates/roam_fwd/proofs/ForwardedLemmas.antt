@@ -1,20 +1,21 @@
 -- The octets of a forwarded packet: the ticket behind the request's, another header, sealed, signed.
-use Rattle.std.proofs.Common.{◌≡◌, ◌≢◌, ℕ, ◌+◌, ◌/◌, ◌%◌, ◌≤◌, false, inl, inr, Option, List, [], ◌∷◌, ◌++◌, length, take, drop, subst, refl, sym, ap, ◌∙◌, arith, length-append}
+use Rattle.std.proofs.Common.{◌≡◌, ◌≢◌, ℕ, zero, suc, ◌+◌, ◌/◌, ◌%◌, ◌<◌, ◌≤◌, false, inl, inr, Option, List, [], ◌∷◌, ◌++◌, length, take, drop, subst, refl, sym, ap, ◌∙◌, arith, length-append}
 use Rattle.std.specs.Prelude.{slice_index, IsSomeAnd}
+use Rattle.std.specs.Int.{w64, to_be_bytes}
 use Rattle.std.specs.List.{AllByRecursion}
 use Rattle.std.proofs.lemmas.Bool.{cases_Bool, ne_eqb}
 use Rattle.std.proofs.lemmas.List.{drop_at, flat_map_more, length-take}
-use Rattle.roam_wire.specs.Packet.{Attribute, IsAttribute, Packet, IsPacket, attribute_text, attributes_text, packet_text, packet_length}
+use Rattle.roam_wire.specs.Packet.{AreOctets, Attribute, IsAttribute, Packet, IsPacket, attribute_text, attributes_text, packet_text, packet_length}
 use Rattle.roam_wire.specs.Attributes.{has_kind, count_of, first_value}
 use Rattle.roam_wire.specs.Reading.{IsPacketText, packet_of}
 use Rattle.roam_wire.specs.declared.attribute_type.TheConstants.{MESSAGE_AUTHENTICATOR}
 use Rattle.roam_wire.specs.declared.code.TheConstants.{ACCESS_REQUEST}
-use Rattle.roam_wire.proofs.PacketLemmas.{length-packet_text}
-use Rattle.roam_wire.proofs.BuildingLemmas.{AreTextOf, AreTextOf-packet_text}
+use Rattle.roam_wire.proofs.OctetLemmas.{AreOctets-zeros}
+use Rattle.roam_wire.proofs.LawLemmas.{length-packet_text, AreTextOf, AreTextOf-packet_text}
 use Rattle.roam_auth.specs.Authenticators.{zero_octets, with_authenticator, request_authenticator}
 use Rattle.roam_auth.specs.MessageAuthenticator.{HasAtMostOneMessageAuthenticator, message_authenticator, with_message_authenticator}
 use Rattle.roam_auth.proofs.ValueLemmas.{IsPacket-with_value}
-use Rattle.roam_auth.proofs.SealLemmas.{length-message_authenticator}
+use Rattle.roam_auth.proofs.DigestLemmas.{sixteen-message_authenticator, length-message_authenticator}
 use Rattle.roam_auth.proofs.SealingLemmas.{count_of-append}
 use Rattle.roam_fwd.specs.Forwarded.{Forwarding, ticket_state, unsealed, forwarded, forwarded_length, CanBeForwarded}
 
@@ -30,9 +31,21 @@ length-with_ticket f all =
     ap length (sym (flat_map_more attribute_text [] all (ticket_state f.ticket)))
     ∙ length-append (attributes_text all) (attribute_text (ticket_state f.ticket))
 
+-- the eight octets of a ticket
+AreOctets-ticket : (n : ℕ) → AreOctets (to_be_bytes w64 n)
+AreOctets-ticket n zero = omega arith
+AreOctets-ticket n (suc zero) = omega arith
+AreOctets-ticket n (suc (suc zero)) = omega arith
+AreOctets-ticket n (suc (suc (suc zero))) = omega arith
+AreOctets-ticket n (suc (suc (suc (suc zero)))) = omega arith
+AreOctets-ticket n (suc (suc (suc (suc (suc zero))))) = omega arith
+AreOctets-ticket n (suc (suc (suc (suc (suc (suc zero)))))) = omega arith
+AreOctets-ticket n (suc (suc (suc (suc (suc (suc (suc zero))))))) = omega arith
+AreOctets-ticket n (suc (suc (suc (suc (suc (suc (suc (suc i)))))))) = omega arith
+
 -- the ticket is an attribute, as those before it are
 pub IsAttribute-with_ticket : (f : Forwarding) (all : List Attribute) → AllByRecursion IsAttribute all → AllByRecursion IsAttribute (with_ticket f all)
-IsAttribute-with_ticket f [] h = (record { size = omega arith }, tt)
+IsAttribute-with_ticket f [] h = (record { kind = omega arith; octets = AreOctets-ticket f.ticket; size = omega arith }, tt)
 IsAttribute-with_ticket f (a ∷ all) h = (h.0, IsAttribute-with_ticket f all h.1)
 
 -- the first Value of a Type stays where an attribute of another Type is added behind
@@ -67,8 +80,11 @@ unfolding forwarded_length
 forwarded_length-is q other = rw (ne_eqb q.code ACCESS_REQUEST other) (omega arith)
 
 -- it is a packet where it isn't too long
-pub IsPacket-with_ticket : (f : Forwarding) (q : Packet) → IsPacket q → packet_length q + 10 ≤ 4096 → IsPacket (with_ticket_and_zeros f q)
-IsPacket-with_ticket f q packet short = record {
+pub IsPacket-with_ticket : (f : Forwarding) (q : Packet) → f.id < 256 → IsPacket q → packet_length q + 10 ≤ 4096 → IsPacket (with_ticket_and_zeros f q)
+IsPacket-with_ticket f q id packet short = record {
+  code = packet.code;
+  id = id;
+  octets = AreOctets-zeros 16;
   authenticator = refl;
   attributes = IsAttribute-with_ticket f q.attributes packet.attributes;
   size = omega (arith, length-with_ticket f q.attributes);
@@ -109,7 +125,7 @@ pub sealed_text : (secret authenticator octets written : List ℕ) (p : Packet) 
 sealed_text secret authenticator octets written p text packet at_most is =
     let value : List ℕ = message_authenticator secret authenticator p in
     let q : Packet = with_message_authenticator secret authenticator p in
-    let is_packet : IsPacket q = IsPacket-with_value value p (length-message_authenticator secret authenticator p) at_most packet in
+    let is_packet : IsPacket q = IsPacket-with_value value p (sixteen-message_authenticator secret authenticator p) at_most packet in
     let same : written ≡ packet_text q =
     is ∙ ap (λ (x : Packet). packet_text (with_message_authenticator secret authenticator x)) text.packet in
     subst (AreTextOf q) (sym same) (AreTextOf-packet_text q is_packet)
@@ -161,21 +177,21 @@ length-ticketed len ticket octets ticketed h is =
     (omega (arith, size, here), omega (arith, size, here, short))
 
 -- with the ticket and the header they are the packet's before it is sealed
-pub unsealed_text : (f : Forwarding) (len : ℕ) (octets ticketed written : List ℕ) → CanBeRewritten len octets → ticketed ≡ take len octets ++ attribute_text (ticket_state f.ticket) → written ≡ slice_index ticketed 0 ∷ f.id ∷ (length ticketed / 256) ∷ (length ticketed % 256) ∷ zero_octets ++ drop 20 ticketed → AreTextOf (with_ticket_and_zeros f (packet_of (take len octets))) written
-unsealed_text f len octets ticketed written h ticketed-is written-is =
+pub unsealed_text : (f : Forwarding) (len : ℕ) (octets ticketed written : List ℕ) → f.id < 256 → CanBeRewritten len octets → ticketed ≡ take len octets ++ attribute_text (ticket_state f.ticket) → written ≡ slice_index ticketed 0 ∷ f.id ∷ (length ticketed / 256) ∷ (length ticketed % 256) ∷ zero_octets ++ drop 20 ticketed → AreTextOf (with_ticket_and_zeros f (packet_of (take len octets))) written
+unsealed_text f len octets ticketed written id h ticketed-is written-is =
     let q : Packet = packet_of (take len octets) in
     let p : Packet = with_ticket_and_zeros f q in
-    let is_packet = IsPacket-with_ticket f q h.packet.packet (short_enough len octets h) in
+    let is_packet = IsPacket-with_ticket f q id h.packet.packet (short_enough len octets h) in
     let front : ticketed ≡ packet_text q ++ attribute_text (ticket_state f.ticket) =
     ticketed-is ∙ ap (λ (t : List ℕ). t ++ attribute_text (ticket_state f.ticket)) h.packet.spelt in
     let text : written ≡ packet_text p = written-is ∙ header_over f q ticketed h.packet.packet front in
     subst (AreTextOf p) (sym text) (AreTextOf-packet_text p is_packet)
 
 -- sealed with the link's secret
-pub resealed_text : (f : Forwarding) (len : ℕ) (octets before written : List ℕ) → CanBeRewritten len octets → AreTextOf (with_ticket_and_zeros f (packet_of (take len octets))) before → written ≡ packet_text (with_message_authenticator f.to_secret zero_octets (packet_of before)) → AreTextOf (sealed_request f (packet_of (take len octets))) written
-resealed_text f len octets before written h text is =
+pub resealed_text : (f : Forwarding) (len : ℕ) (octets before written : List ℕ) → f.id < 256 → CanBeRewritten len octets → AreTextOf (with_ticket_and_zeros f (packet_of (take len octets))) before → written ≡ packet_text (with_message_authenticator f.to_secret zero_octets (packet_of before)) → AreTextOf (sealed_request f (packet_of (take len octets))) written
+resealed_text f len octets before written id h text is =
     let q : Packet = packet_of (take len octets) in
-    sealed_text f.to_secret zero_octets before written (with_ticket_and_zeros f q) text (IsPacket-with_ticket f q h.packet.packet (short_enough len octets h)) (HasAtMostOne-with_ticket f q h.can_be_forwarded.message_authenticator) is
+    sealed_text f.to_secret zero_octets before written (with_ticket_and_zeros f q) text (IsPacket-with_ticket f q id h.packet.packet (short_enough len octets h)) (HasAtMostOne-with_ticket f q h.can_be_forwarded.message_authenticator) is
 
 -- and signed with it, they are the forwarded packet's
 pub forwarded_text : (f : Forwarding) (len : ℕ) (octets before written : List ℕ) → CanBeRewritten len octets → AreTextOf (sealed_request f (packet_of (take len octets))) before → written ≡ packet_text (with_authenticator (request_authenticator f.to_secret (packet_of before)) (packet_of before)) → written ≡ packet_text (forwarded f (packet_of (take len octets)))

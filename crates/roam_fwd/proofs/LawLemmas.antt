@@ -1,24 +1,20 @@
 -- Laws of the forwarded packet.
-use Rattle.std.proofs.Common.{◌≡◌, ◌≢◌, ℕ, ◌+◌, ◌≤◌, Bool, true, false, inl, inr, List, [], ◌∷◌, ◌++◌, length, map, subst, refl, sym, ap, ◌∙◌, arith}
+use Rattle.std.proofs.Common.{◌≡◌, ◌≢◌, ℕ, ◌+◌, ◌<◌, ◌≤◌, Bool, true, false, inl, inr, List, [], ◌∷◌, ◌++◌, length, map, subst, refl, sym, ap, ◌∙◌, arith}
 use Rattle.std.specs.Prelude.{if◌then◌else◌, ◌==◌}
 use Rattle.std.proofs.lemmas.Bool.{cases_Bool, both_ways, eqb-true, eq-eqb}
 use Rattle.std.proofs.lemmas.List.{map-append}
-use Rattle.md5.proofs.StandardFacts.{length-md5}
 use Rattle.roam_wire.specs.Packet.{Attribute, Packet, IsPacket, packet_length}
 use Rattle.roam_wire.specs.declared.code.TheConstants.{ACCESS_REQUEST}
-use Rattle.roam_auth.specs.Authenticators.{zero_octets, request_authenticator, IsSignedRequest, signed_request}
-use Rattle.roam_auth.specs.MessageAuthenticator.{HasOneMessageAuthenticator, message_authenticator, attribute_with_value, IsWellSealed}
-use Rattle.roam_auth.proofs.ValueLemmas.{packet_length-with_value, IsPacket-with_value, HasOne-with_value}
-use Rattle.roam_auth.proofs.SealLemmas.{length-message_authenticator, IsWellSealed-sealed, IsWellSealed-with_authenticator}
+use Rattle.roam_auth.specs.Authenticators.{AreSixteenOctets, zero_octets, request_authenticator, IsSignedRequest, signed_request}
+use Rattle.roam_auth.specs.MessageAuthenticator.{HasOneMessageAuthenticator, message_authenticator, attribute_with_value, IsWellSealed, StandsFirst}
+use Rattle.roam_auth.proofs.ValueLemmas.{packet_length-with_value, IsPacket-with_value, HasOne-with_value, StandsFirst-with_value}
+use Rattle.roam_auth.proofs.SealLemmas.{IsWellSealed-sealed, IsWellSealed-with_authenticator}
+use Rattle.roam_auth.proofs.DigestLemmas.{IsPacket-signed_request, sixteen-message_authenticator, length-message_authenticator}
 use Rattle.roam_fwd.specs.Forwarded.{Forwarding, access_growth, ticket_state, carried_attributes, unsealed, sealed, forwarded, forwarded_length, CanBeForwarded}
 use Rattle.roam_fwd.proofs.ForwardedLemmas.{with_ticket_and_zeros, length-with_ticket, IsPacket-with_ticket, HasAtMostOne-with_ticket, forwarded_length-is, sealed_request, forwarded-is}
 use Rattle.roam_fwd.proofs.AccessLemmas.{IsForwardableAccess, access_unsealed, length-access_unsealed, IsPacket-access_unsealed, HasOne-access_unsealed, forwarded-access, forwarded_length-access}
 
 -- ---- a request that isn't an Access-Request
-
-pub length-request_authenticator : (secret : List ℕ) (p : Packet) → length (request_authenticator secret p) ≡ 16
-unfolding request_authenticator
-length-request_authenticator secret p = length-md5 _
 
 -- sealing leaves the length
 length-sealed : (f : Forwarding) (q : Packet) → CanBeForwarded q → packet_length (sealed_request f q) ≡ packet_length (with_ticket_and_zeros f q)
@@ -31,18 +27,14 @@ length-forwarded f q can other =
     let ticket : packet_length (with_ticket_and_zeros f q) ≡ packet_length q + 10 = omega (arith, length-with_ticket f q.attributes) in
     ap packet_length (forwarded-is f q other) ∙ length-sealed f q can ∙ ticket ∙ sym (forwarded_length-is q other)
 
-pub IsPacket-forwarded : (f : Forwarding) (q : Packet) → IsPacket q → CanBeForwarded q → q.code ≢ ACCESS_REQUEST → IsPacket (forwarded f q)
-IsPacket-forwarded f q packet can other =
+pub IsPacket-forwarded : (f : Forwarding) (q : Packet) → f.id < 256 → IsPacket q → CanBeForwarded q → q.code ≢ ACCESS_REQUEST → IsPacket (forwarded f q)
+IsPacket-forwarded f q id packet can other =
     let p : Packet = with_ticket_and_zeros f q in
     let limit = can.size in
     let short : packet_length q + 10 ≤ 4096 = omega (arith, limit, forwarded_length-is q other) in
     let is_sealed : IsPacket (sealed_request f q) =
-    IsPacket-with_value (message_authenticator f.to_secret zero_octets p) p (length-message_authenticator f.to_secret zero_octets p) (HasAtMostOne-with_ticket f q can.message_authenticator) (IsPacket-with_ticket f q packet short) in
-    let is_signed : IsPacket (signed_request f.to_secret (sealed_request f q)) = record {
-      authenticator = length-request_authenticator f.to_secret (sealed_request f q);
-      attributes = is_sealed.attributes;
-      size = is_sealed.size;
-    } in
+    IsPacket-with_value (message_authenticator f.to_secret zero_octets p) p (sixteen-message_authenticator f.to_secret zero_octets p) (HasAtMostOne-with_ticket f q can.message_authenticator) (IsPacket-with_ticket f q id packet short) in
+    let is_signed = IsPacket-signed_request f.to_secret (sealed_request f q) is_sealed in
     subst IsPacket (sym (forwarded-is f q other)) is_signed
 
 -- a packet that is signed is a signed request
@@ -81,13 +73,13 @@ length-forwarded_access f q packet can access =
     ∙ length-access_unsealed f q (access_parts q packet can access)
     ∙ sym (forwarded_length-access q access)
 
-IsPacket-forwarded_access : (f : Forwarding) (q : Packet) → IsPacket q → CanBeForwarded q → q.code ≡ ACCESS_REQUEST → length f.authenticator ≡ 16 → IsPacket (forwarded f q)
-IsPacket-forwarded_access f q packet can access size =
+IsPacket-forwarded_access : (f : Forwarding) (q : Packet) → f.id < 256 → IsPacket q → CanBeForwarded q → q.code ≡ ACCESS_REQUEST → AreSixteenOctets f.authenticator → IsPacket (forwarded f q)
+IsPacket-forwarded_access f q id packet can access sixteen =
     let p : Packet = access_unsealed f q in
     let limit = can.size in
     let short : packet_length q + 10 + access_growth q ≤ 4096 = omega (arith, limit, forwarded_length-access q access) in
-    let before = IsPacket-access_unsealed f q (access_parts q packet can access) size short in
-    let after = IsPacket-with_value (message_authenticator f.to_secret f.authenticator p) p (length-message_authenticator f.to_secret f.authenticator p) (inr (HasOne-access_unsealed f q)) before in
+    let before = IsPacket-access_unsealed f q (access_parts q packet can access) id sixteen short in
+    let after = IsPacket-with_value (message_authenticator f.to_secret f.authenticator p) p (sixteen-message_authenticator f.to_secret f.authenticator p) (inr (HasOne-access_unsealed f q)) before in
     subst IsPacket (sym (forwarded-access f q access)) after
 
 IsWellSealed-forwarded_access : (f : Forwarding) (q : Packet) → q.code ≡ ACCESS_REQUEST → IsWellSealed f.to_secret (f.authenticator ∷ []) (forwarded f q)
@@ -117,13 +109,13 @@ length-forwarded_any f q packet can =
       | inr is_other ↦ length-forwarded f q can (other_code q is_other)
     ]
 
-pub IsPacket-forwarded_any : (f : Forwarding) (q : Packet) → IsPacket q → CanBeForwarded q → (q.code ≡ ACCESS_REQUEST → length f.authenticator ≡ 16) → IsPacket (forwarded f q)
-IsPacket-forwarded_any f q packet can size =
+pub IsPacket-forwarded_any : (f : Forwarding) (q : Packet) → f.id < 256 → IsPacket q → CanBeForwarded q → (q.code ≡ ACCESS_REQUEST → AreSixteenOctets f.authenticator) → IsPacket (forwarded f q)
+IsPacket-forwarded_any f q id packet can sixteen =
     elim (cases_Bool (q.code == ACCESS_REQUEST)) [
       | inl is_access ↦
           let access = eqb-true q.code ACCESS_REQUEST is_access in
-          IsPacket-forwarded_access f q packet can access (size access)
-      | inr is_other ↦ IsPacket-forwarded f q packet can (other_code q is_other)
+          IsPacket-forwarded_access f q id packet can access (sixteen access)
+      | inr is_other ↦ IsPacket-forwarded f q id packet can (other_code q is_other)
     ]
 
 -- the Authenticator over which it is sealed
@@ -178,3 +170,11 @@ ticket-forwarded f q =
     let before : List Attribute = map (attribute_with_value value) (carried_attributes f q) in
     let stays : (sealed f q).attributes ≡ before ++ ticket_state f.ticket ∷ [] = ticket_stays value f (carried_attributes f q) in
     (before, either_attributes (q.code == ACCESS_REQUEST) (sealed f q) (signed_request f.to_secret (sealed f q)) (before ++ ticket_state f.ticket ∷ []) stays stays)
+
+-- ---- the Message-Authenticator of an Access-Request stands first
+
+pub first-forwarded : (f : Forwarding) (q : Packet) → q.code ≡ ACCESS_REQUEST → StandsFirst (forwarded f q)
+first-forwarded f q access =
+    let p : Packet = access_unsealed f q in
+    let seal = message_authenticator f.to_secret f.authenticator p in
+    subst StandsFirst (sym (forwarded-access f q access)) (StandsFirst-with_value seal p (_, _, refl))

@@ -1,16 +1,16 @@
 -- Laws of the forwarded packet (ours).
-use Rattle.std.specs.Prelude.{◌≡◌, ◌≢◌, ◌==◌, if◌then◌else◌, List, [], ◌∷◌, ◌++◌, length}
+use Rattle.std.specs.Prelude.{◌≡◌, ◌≢◌, ◌==◌, if◌then◌else◌, List, [], ◌∷◌, ◌++◌, ◌<◌}
 use Rattle.roam_wire.specs.Packet.{Attribute, Packet, IsPacket, packet_length}
 use Rattle.roam_wire.specs.declared.code.TheConstants.{ACCESS_REQUEST}
-use Rattle.roam_auth.specs.Authenticators.{zero_octets, IsSignedRequest}
-use Rattle.roam_auth.specs.MessageAuthenticator.{HasOneMessageAuthenticator, IsWellSealed}
+use Rattle.roam_auth.specs.Authenticators.{AreSixteenOctets, zero_octets, IsSignedRequest}
+use Rattle.roam_auth.specs.MessageAuthenticator.{HasOneMessageAuthenticator, IsWellSealed, StandsFirst}
 use Rattle.roam_fwd.specs.Forwarded.{Forwarding, ticket_state, forwarded, forwarded_length, CanBeForwarded}
 
--- the forwarded packet of a packet that can be forwarded is a packet; an Access-Request has to be
--- given an Authenticator of 16 octets
+-- the forwarded packet of a packet that can be forwarded is a packet; its Identifier has to be an
+-- octet, and an Access-Request has to be given an Authenticator of sixteen
 abbrev pub ForwardedIsPacket : Type 0
-ForwardedIsPacket = (f : Forwarding) (request : Packet) → IsPacket request →
-    CanBeForwarded request → (request.code ≡ ACCESS_REQUEST → length f.authenticator ≡ 16) →
+ForwardedIsPacket = (f : Forwarding) (request : Packet) → f.id < 256 → IsPacket request →
+    CanBeForwarded request → (request.code ≡ ACCESS_REQUEST → AreSixteenOctets f.authenticator) →
     IsPacket (forwarded f request)
 
 -- it has the length that is stated for it
@@ -35,6 +35,11 @@ ForwardedIsSigned = (f : Forwarding) (request : Packet) → request.code ≢ ACC
 abbrev pub AccessHasSeal : Type 0
 AccessHasSeal = (f : Forwarding) (request : Packet) → request.code ≡ ACCESS_REQUEST →
     HasOneMessageAuthenticator (forwarded f request)
+
+-- which is its first attribute (ours)
+abbrev pub AccessHasSealFirst : Type 0
+AccessHasSealFirst = (f : Forwarding) (request : Packet) → request.code ≡ ACCESS_REQUEST →
+    StandsFirst (forwarded f request)
 
 -- and the new Authenticator
 abbrev pub AccessHasAuthenticator : Type 0

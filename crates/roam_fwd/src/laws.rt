@@ -1,6 +1,6 @@
 //! Laws of the forwarded packet. These functions do nothing: their contracts hold of all packets.
 
-ghost use Rattle.roam_fwd.specs.ForwardedLaws.{ForwardedIsPacket, ForwardedHasLength, ForwardedIsWellSealed, ForwardedIsSigned, AccessHasSeal, AccessHasAuthenticator, ForwardedKeepsCode, ForwardedHasIdentifier, TicketIsLast};
+ghost use Rattle.roam_fwd.specs.ForwardedLaws.{ForwardedIsPacket, ForwardedHasLength, ForwardedIsWellSealed, ForwardedIsSigned, AccessHasSeal, AccessHasSealFirst, AccessHasAuthenticator, ForwardedKeepsCode, ForwardedHasIdentifier, TicketIsLast};
 
 /// What a forwarded packet is, for every code.
 pub fn forwarded_packet()
@@ -13,6 +13,7 @@ pub fn forwarded_packet()
 pub fn forwarded_authenticator()
     ensures signed { ForwardedIsSigned }
     ensures access_seal { AccessHasSeal }
+    ensures access_seal_first { AccessHasSealFirst }
     ensures access_authenticator { AccessHasAuthenticator }
 {}
 

@@ -1,4 +1,7 @@
 pub mod HidingLemmas
 pub mod SaltedLemmas
+pub mod UnderwayLemmas
+pub mod AnewLemmas
 pub mod SaltedFunctionLemmas
+pub mod OctetLemmas
 pub mod StandardFacts

@@ -254,7 +254,7 @@ read_spells (suc n) (b ∷ bs) all bound h =
 
 -- ---- the value of a Vendor-Specific
 
-behind_microsoft_spelt : (value octets : List ℕ) → behind_microsoft value ≡ Some octets
+pub behind_microsoft_spelt : (value octets : List ℕ) → behind_microsoft value ≡ Some octets
     → value ≡ microsoft ++ octets
 behind_microsoft_spelt [] octets h = absurd (cc)
 behind_microsoft_spelt (a ∷ []) octets h = absurd (cc)
@@ -278,7 +278,7 @@ microsoft_subs_spelt value subs h =
     (read_spells (length octets) octets subs (omega arith) read))
 
 -- whether a value has Microsoft's sub-attributes
-vendor_or_not : (value : List ℕ)
+pub vendor_or_not : (value : List ℕ)
     → ((subs : List Attribute) × (microsoft_subs value ≡ Some subs)) ⊎ (microsoft_subs value ≡ None)
 vendor_or_not value = some_or_none (microsoft_subs value)
   where

@@ -1,5 +1,5 @@
 -- How a User-Password is hidden, 16 octets at a time (RFC 2865, section 5.2).
-use Rattle.std.specs.Prelude.{◌≡◌, ℕ, zero, suc, ◌*◌, ◌/◌, ◌%◌, ◌<◌, ◌≤◌, List, [], ◌++◌, length, take, drop, bit_xor}
+use Rattle.std.specs.Prelude.{◌≡◌, ◌==◌, ◌&&◌, nat_le, Bool, ℕ, zero, suc, ◌*◌, ◌/◌, ◌%◌, ◌<◌, ◌≤◌, List, [], ◌++◌, length, take, drop, bit_xor}
 use Rattle.std.specs.Simd.Lanes.{zip2}
 use Rattle.md5.specs.Md5.{md5}
 
@@ -47,6 +47,11 @@ pub record HasWholeBlocks (text : List ℕ) : Type 0 where
 -- a User-Password has 16, 32, .. or 128 octets (RFC 2865, section 5.2)
 abbrev pub IsPasswordSize : ℕ → Type 0
 IsPasswordSize size = (16 ≤ size) × (size ≤ 128) × (size % 16 ≡ 0)
+
+-- the same as a test of a Value, for definitions that choose by it
+abbrev pub password_fits : List ℕ → Bool
+password_fits value =
+    nat_le 16 (length value) && nat_le (length value) 128 && length value % 16 == 0
 
 -- a key with this secret, whose first block this digest covers
 pub record Opens (key : Key) (secret digest : List ℕ) : Type 0 where

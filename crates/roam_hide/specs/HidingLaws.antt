@@ -1,6 +1,6 @@
 -- What follows from the definition of hiding. Each is the contract of a function of src/laws.rt.
-use Rattle.std.specs.Prelude.{◌≡◌, ℕ, ◌%◌, List, length}
-use Rattle.roam_hide.specs.Hiding.{Key, IsHidden, IsHiddenAnew, hidden_text, plain_text, hidden_anew}
+use Rattle.std.specs.Prelude.{◌≡◌, ◌↔◌, ℕ, ◌%◌, IsTrue, List, length}
+use Rattle.roam_hide.specs.Hiding.{Key, IsHidden, IsHiddenAnew, IsPasswordSize, password_fits, hidden_text, plain_text, hidden_anew}
 
 -- this is the one text of which the fact holds
 pub record IsTheOne (Fact : List ℕ → Type 0) (text : List ℕ) : Type 0 where
@@ -30,3 +30,8 @@ SameKeyChangesNothing = (key : Key) (old new : List ℕ) → IsHiddenAnew key ke
 abbrev pub FirstKeyBringsBack : Type 0
 FirstKeyBringsBack = (from to : Key) (old new back : List ℕ)
     → IsHiddenAnew from to old new → IsHiddenAnew to from new back → back ≡ old
+
+-- the test of a password's size is true just where it may have that size
+abbrev pub PasswordSizeIsDecided : Type 0
+PasswordSizeIsDecided = (value : List ℕ)
+    → IsTrue (password_fits value) ↔ IsPasswordSize (length value)

@@ -1,8 +1,8 @@
 -- What follows from the definitions of salted values. Each is the contract of a function of
 -- src/laws.rt.
 use Rattle.std.specs.Prelude.{◌≡◌, ℕ, List, length}
-use Rattle.roam_wire.specs.Packet.{Attribute, attributes_text}
-use Rattle.roam_hide.specs.Hiding.{Key, IsHiddenAnew}
+use Rattle.roam_wire.specs.Packet.{AreOctets, Attribute, attributes_text}
+use Rattle.roam_hide.specs.Hiding.{Key, IsHiddenAnew, hidden_anew}
 use Rattle.roam_hide.specs.HidingLaws.{IsTheOne}
 use Rattle.roam_hide.specs.SaltedValues.{IsTunnelAnew, IsVendorAnew}
 use Rattle.roam_hide.specs.SaltedFunctions.{tunnel_anew, vendor_anew}
@@ -34,3 +34,16 @@ TunnelAnewKeepsSize = (from to : Key) (old new : List ℕ)
 abbrev pub VendorAnewKeepsSize : Type 0
 VendorAnewKeepsSize = (from to : Key) (old new : List ℕ)
     → IsVendorAnew from to old new → length new ≡ length old
+
+-- what octets are hidden anew to is octets
+abbrev pub HiddenAnewIsOctets : Type 0
+HiddenAnewIsOctets = (from to : Key) (old : List ℕ) → AreOctets old
+    → AreOctets (hidden_anew from to old)
+
+abbrev pub TunnelAnewIsOctets : Type 0
+TunnelAnewIsOctets = (from to : Key) (old : List ℕ) → AreOctets old
+    → AreOctets (tunnel_anew from to old)
+
+abbrev pub VendorAnewIsOctets : Type 0
+VendorAnewIsOctets = (from to : Key) (old : List ℕ) → AreOctets old
+    → AreOctets (vendor_anew from to old)

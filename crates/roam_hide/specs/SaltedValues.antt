@@ -3,6 +3,7 @@
 use Rattle.std.specs.Prelude.{◌≡◌, ◌≢◌, ℕ, ◌≤◌, ◌⊎◌, List, [], ◌∷◌, ◌++◌, length, take, drop, slice_index, Any}
 use Rattle.std.specs.List.{AllZip}
 use Rattle.roam_wire.specs.Packet.{Attribute, Packet, attributes_text}
+use Rattle.roam_wire.specs.declared.attribute_type.TheConstants.{TUNNEL_PASSWORD, VENDOR_SPECIFIC}
 use Rattle.roam_hide.specs.Hiding.{Key, HasWholeBlocks, IsHiddenAnew}
 
 -- A string behind a salt: the digest of its first block reads the Request Authenticator, then the
@@ -75,9 +76,10 @@ HasKey octets = (subs : List Attribute) × (octets ≡ attributes_text subs) × 
 abbrev pub HoldsKey : List ℕ → Type 0
 HoldsKey value = (subs : List Attribute) × (value ≡ microsoft_value subs) × AnyKey subs
 
--- a Tunnel-Password (type 69), whatever its size, or a Vendor-Specific (type 26) that holds a key
+-- a Tunnel-Password, whatever its size, or a Vendor-Specific that holds a key
 abbrev pub IsSaltedAttribute : Attribute → Type 0
-IsSaltedAttribute a = (a.kind ≡ 69) ⊎ ((a.kind ≡ 26) × HoldsKey a.value)
+IsSaltedAttribute a =
+    (a.kind ≡ TUNNEL_PASSWORD) ⊎ ((a.kind ≡ VENDOR_SPECIFIC) × HoldsKey a.value)
 
 -- the packet has an attribute with a salted string (ours)
 abbrev pub IsSalted : Packet → Type 0

@@ -1,8 +1,8 @@
 //! What follows from the definitions of hiding and of salted values: each function's contract is
 //! one law, and it does nothing.
 
-ghost use Rattle.roam_hide.specs.HidingLaws.{OneHiddenText, OnePlainText, OneTextAnew, SameKeyChangesNothing, FirstKeyBringsBack};
-ghost use Rattle.roam_hide.specs.SaltedLaws.{OneListOfSubAttributes, OneTunnelAnew, OneVendorAnew, HiddenAnewKeepsSize, TunnelAnewKeepsSize, VendorAnewKeepsSize};
+ghost use Rattle.roam_hide.specs.HidingLaws.{OneHiddenText, OnePlainText, OneTextAnew, SameKeyChangesNothing, FirstKeyBringsBack, PasswordSizeIsDecided};
+ghost use Rattle.roam_hide.specs.SaltedLaws.{OneListOfSubAttributes, OneTunnelAnew, OneVendorAnew, HiddenAnewKeepsSize, TunnelAnewKeepsSize, VendorAnewKeepsSize, HiddenAnewIsOctets, TunnelAnewIsOctets, VendorAnewIsOctets};
 
 /// A plain text of whole blocks has just one hidden text.
 pub fn one_hidden_text()
@@ -49,4 +49,16 @@ pub fn sizes_stay()
     ensures hidden { HiddenAnewKeepsSize }
     ensures tunnel { TunnelAnewKeepsSize }
     ensures vendor { VendorAnewKeepsSize }
+{}
+
+/// What octets are hidden anew to is octets.
+pub fn octets_stay()
+    ensures hidden { HiddenAnewIsOctets }
+    ensures tunnel { TunnelAnewIsOctets }
+    ensures vendor { VendorAnewIsOctets }
+{}
+
+/// The test of a password's size is true just where it may have that size.
+pub fn password_size_decided()
+    ensures { PasswordSizeIsDecided }
 {}

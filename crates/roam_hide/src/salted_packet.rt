@@ -5,6 +5,7 @@ ghost use Rattle.roam_wire.specs.Shown.{shown};
 ghost use Rattle.roam_hide.specs.SaltedValues.{IsSalted, IsSaltedAttribute};
 
 use crate::vendor_specific::holds_key;
+use roam_wire::attribute_type::{TUNNEL_PASSWORD, VENDOR_SPECIFIC};
 use roam_wire::{Attr, View};
 
 /// Whether an attribute is a Tunnel-Password, or holds a key of Microsoft's.
@@ -12,8 +13,8 @@ fn is_salted(attribute: &Attr<'_>) -> bool
     ensures { IsTrue result ↔ IsSaltedAttribute (shown attribute.now) }
 {
     match attribute.kind {
-        69 => true,
-        26 => holds_key(attribute.value),
+        TUNNEL_PASSWORD => true,
+        VENDOR_SPECIFIC => holds_key(attribute.value),
         _ => false,
     }
 }

@@ -10,12 +10,18 @@ ghost use Rattle.roam_hide.specs.SaltedValues.{AreSubAttributes, HasFirst, HasKe
 use crate::hiding_key::HidingKey;
 use crate::salted_value::rehide_value;
 
+/// The Type of Microsoft's key for sending (RFC 2548, section 2.4.2).
+const MS_MPPE_SEND_KEY: u8 = 16;
+
+/// The Type of Microsoft's key for receiving (RFC 2548, section 2.4.3).
+const MS_MPPE_RECV_KEY: u8 = 17;
+
 /// Whether a sub-attribute of Microsoft is MS-MPPE-Send-Key or MS-MPPE-Recv-Key (RFC 2548, section
 /// 2.4).
 pub(crate) fn is_key_type(kind: u8) -> bool
     ensures { IsTrue result ↔ IsKeyType kind }
 {
-    kind == 16 || kind == 17
+    kind == MS_MPPE_SEND_KEY || kind == MS_MPPE_RECV_KEY
 }
 
 /// What stands behind the sub-attribute at the front; none where its Length is missing, below 2 or

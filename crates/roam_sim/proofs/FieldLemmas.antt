@@ -1,15 +1,15 @@
 -- What stands last in a line or in a place has no separator in it.
-use Rattle.std.proofs.Common.{◌≡◌, ℕ, ◌-◌, ◌^◌, ◌⊎◌, inl, inr, true, false, Bool, cond, eqb, List, [], ◌∷◌, get_or, Option, Some, None, Result, Ok, Err, refl, sym, arith}
+use Rattle.std.proofs.Common.{◌≡◌, ℕ, ◌-◌, ◌^◌, ◌⊎◌, inl, inr, true, false, Bool, cond, eqb, List, [], ◌∷◌, length, get_or, Option, Some, None, Result, Ok, Err, refl, sym, arith}
 use Rattle.std.proofs.lemmas.Bool.Decides.{nat_tests}
 use Rattle.std.proofs.lemmas.Grind.{common_steps}
 use Rattle.std.proofs.lemmas.List.Splits.{slice_split_none}
 use Rattle.std.proofs.lemmas.Slice.Eq.{bytes_eq-Decides}
 use Rattle.std.specs.List.{AllPass}
 use Rattle.std.specs.Result.{result_ok}
-use Rattle.std.specs.Prelude.{codes}
+use Rattle.std.specs.Prelude.{codes, IsOk, IsTrue, ◌↔◌, ◌%◌}
 use Rattle.hex.specs.Hex.{decode_of, is_hex_digit}
 use Rattle.hex.specs.declared.error.FromHexError.{FromHexError}
-use Rattle.hex.proofs.HexLemmas.{decode_of-ok}
+use Rattle.hex.proofs.HexLemmas.{decode_of-digits, decode_of-ok}
 use Rattle.roam_conf.specs.Texts.{endpoint_in, parts}
 use Rattle.roam_conf.specs.declared.place.Place.{Place}
 use Rattle.roam_conf.specs.declared.endpoint.Endpoint.{Endpoint}
@@ -93,5 +93,19 @@ arrival_of_at now at from text None (x ∷ y ∷ more) is cut = sym (no_octets _
 -- what follows the third field of an arrival is a datagram, or no arrival is read
 pub arrival_of-parts : (now at from text : List ℕ) → arrival_of (now ∷ at ∷ from ∷ parts 32 text) ≡ arrival (moment_in now) (place_in at) (endpoint_in from) (datagram_in text)
 arrival_of-parts now at from text = arrival_of_at now at from text _ _ refl refl
+
+decodes_from_some : (text octets : List ℕ) → decode_of text ≡ Ok octets → IsOk (decode_of text)
+decodes_from_some text octets is = rw is refl
+
+ok_value : (r : Result (List ℕ) FromHexError) → IsOk r → (octets : List ℕ) × (r ≡ Ok octets)
+ok_value (Ok octets) is = (octets, refl)
+ok_value (Err e) is = cc is
+
+-- an even number of digits decodes, and nothing else does
+pub even_digits : (text : List ℕ) (is_digits : Bool) → length text % 2 ≡ 0 → (IsTrue is_digits ↔ AllPass is_hex_digit text) → IsTrue is_digits ↔ IsOk (decode_of text)
+even_digits text is_digits even is = (
+  (λ yes. let r = decode_of-digits text even (is.0 yes) in decodes_from_some text r.0 r.1),
+  (λ decodes. let r = ok_value (decode_of text) decodes in is.1 ((decode_of-ok text r.0 r.1).1)),
+)
 
 pub ruleset last_fields = (realm_place_of-parts, tick_of-parts, arrival_of-parts)

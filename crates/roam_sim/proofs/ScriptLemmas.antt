@@ -1,5 +1,5 @@
 -- A script that is read line by line.
-use Rattle.std.proofs.Common.{◌≡◌, ℕ, ◌+◌, ◌≤◌, true, eqb, List, [], ◌∷◌, ◌++◌, length, Option, Some, None, Result, Ok, Err, Bor, refl, sym, ap, ◌∙◌, append_assoc, append-nil, arith}
+use Rattle.std.proofs.Common.{◌≡◌, ℕ, ◌+◌, ◌≤◌, Bool, true, false, eqb, List, [], ◌∷◌, ◌++◌, length, Option, Some, None, Result, Ok, Err, Bor, refl, sym, ap, ◌∙◌, append_assoc, append-nil, arith}
 use Rattle.std.proofs.lemmas.Iterator.{YieldsList}
 use Rattle.std.proofs.lemmas.Iterator.Splits.{YieldsList-from_str_split}
 use Rattle.std.proofs.lemmas.List.Splits.{length-slice_split}
@@ -9,7 +9,9 @@ use Rattle.std.specs.Str.Pattern.{FindsChar}
 use Rattle.std.specs.declared.str.Split.{Split}
 use Rattle.roam_conf.specs.Texts.{parts}
 use Rattle.roam_core.specs.Events.{PlainEvent}
-use Rattle.roam_sim.specs.Script.{LineMeaning, skipped, states, faulty, line_states, line_before, lines_state, script_states}
+use Rattle.roam_sim.specs.declared.script.ScriptFault.{ScriptFault}
+use Rattle.roam_sim.specs.declared.script.ScriptFault.TheVariants as script
+use Rattle.roam_sim.specs.Script.{LineMeaning, StatesEvent, skipped, states, faulty, line_states, line_before, lines_state, script_states}
 
 -- what a step of `split` does
 abbrev pub Cuts : Split ℕ → Option (Bor (List ℕ)) → Split ℕ → Type 0
@@ -95,3 +97,67 @@ read_event text next number events event taken =
 -- it is faulty
 pub read_faulty : (text : List ℕ) (next : Split ℕ) (number : ℕ) (events : List PlainEvent) → IsTaken text next number events faulty → script_states text ≡ Err (number + 1)
 read_faulty text next number events taken = taken.stated
+
+-- the lines so far stated some events, and the list has them all unless memory was wanting
+pub record IsReadOn (text : List ℕ) (it : Split ℕ) (number : ℕ) (events : List PlainEvent) (is_short : Bool) : Type 0 where
+  pub stated : List PlainEvent
+  pub read : IsRead text it number stated
+  pub all : is_short ≡ false → events ≡ stated
+
+-- the line is skipped
+pub on_skipped : (text : List ℕ) (it next : Split ℕ) (number : ℕ) (events : List PlainEvent) (is_short : Bool) (line : Bor (List ℕ))
+    → IsReadOn text it number events is_short → Cuts it (Some line) next → line_states line.now ≡ skipped → IsReadOn text next (number + 1) events is_short
+on_skipped text it next number events is_short line is step means = record {
+  stated = is.stated;
+  read = read_skipped text next number is.stated (read_line text it next number is.stated line skipped is.read step means);
+  all = is.all;
+}
+
+-- it states an event, which the list takes
+pub on_event : (text : List ℕ) (it next : Split ℕ) (number : ℕ) (events : List PlainEvent) (is_short : Bool) (line : Bor (List ℕ)) (event : PlainEvent)
+    → IsReadOn text it number events is_short → Cuts it (Some line) next → line_states line.now ≡ states event → IsReadOn text next (number + 1) (events ++ event ∷ []) is_short
+on_event text it next number events is_short line event is step means = record {
+  stated = is.stated ++ event ∷ [];
+  read = read_event text next number is.stated event (read_line text it next number is.stated line (states event) is.read step means);
+  all = λ enough. ap (λ l. l ++ event ∷ []) (is.all enough);
+}
+
+-- it states an event, and memory is wanting: what the list holds doesn't matter any more
+pub on_lost : (text : List ℕ) (it next : Split ℕ) (number : ℕ) (events after : List PlainEvent) (is_short : Bool) (line : Bor (List ℕ)) (event : PlainEvent)
+    → IsReadOn text it number events is_short → Cuts it (Some line) next → line_states line.now ≡ states event → IsReadOn text next (number + 1) after true
+on_lost text it next number events after is_short line event is step means = record {
+  stated = is.stated ++ event ∷ [];
+  read = read_event text next number is.stated event (read_line text it next number is.stated line (states event) is.read step means);
+  all = λ enough. cc;
+}
+
+lost_at : (text : List ℕ) (it next : Split ℕ) (number : ℕ) (events after : List PlainEvent) (is_short : Bool) (line : Bor (List ℕ)) (meaning : LineMeaning)
+    → IsReadOn text it number events is_short → Cuts it (Some line) next → line_states line.now ≡ meaning → StatesEvent meaning → IsReadOn text next (number + 1) after true
+lost_at text it next number events after is_short line skipped is step means event = absurd event
+lost_at text it next number events after is_short line (states e) is step means event = on_lost text it next number events after is_short line e is step means
+lost_at text it next number events after is_short line faulty is step means event = absurd event
+
+pub on_want : (text : List ℕ) (it next : Split ℕ) (number : ℕ) (events : List PlainEvent) (is_short : Bool) (line : Bor (List ℕ))
+    → IsReadOn text it number events is_short → Cuts it (Some line) next → StatesEvent (line_states line.now) → IsReadOn text next (number + 1) events true
+on_want text it next number events is_short line is step event =
+    lost_at text it next number events events is_short line (line_states line.now) is step refl event
+
+-- it is faulty: its number is answered, and no other line's
+pub on_faulty : {T : Type 0} (text : List ℕ) (it next : Split ℕ) (number n : ℕ) (events : List PlainEvent) (is_short : Bool) (line : Bor (List ℕ)) (r : Result T ScriptFault)
+    → IsReadOn text it number events is_short → Cuts it (Some line) next → line_states line.now ≡ faulty → r ≡ Err (script.Line (number + 1))
+    → (r ≡ Err (script.Line n) → script_states text ≡ Err n) × (script_states text ≡ Err n → r ≡ Err (script.Line n))
+on_faulty text it next number n events is_short line r is step means answered =
+    let stated : script_states text ≡ Err (number + 1) =
+    read_faulty text next number is.stated (read_line text it next number is.stated line faulty is.read step means) in (
+      (λ same. let equal : number + 1 ≡ n = cc in stated ∙ ap Err equal),
+      (λ same. let equal : number + 1 ≡ n = cc in answered ∙ ap (λ l. Err (script.Line l)) equal),
+    )
+
+-- all lines were read, and none is faulty
+pub on_end : (text : List ℕ) (it next : Split ℕ) (number : ℕ) (events : List PlainEvent) (is_short : Bool)
+    → IsReadOn text it number events is_short → Cuts it None next → (stated : List PlainEvent) × (script_states text ≡ Ok stated) × (is_short ≡ false → events ≡ stated)
+on_end text it next number events is_short is step = (is.stated, read_end text it next number is.stated is.read step, is.all)
+
+-- nothing was read yet
+pub on_start : (text : List ℕ) (made it : Split ℕ) (events : List PlainEvent) → it ≡ made → events ≡ [] → split_text made ≡ text → split_has_more made ≡ true → split_pattern made ≡ 10 → IsReadOn text it 0 events false
+on_start text made it events same none is more pattern = record { stated = events; read = read_start text made it events same none is more pattern; all = λ _. refl }

@@ -15,6 +15,11 @@ pub data LineMeaning : Type 0 where
   states : PlainEvent → LineMeaning
   faulty : LineMeaning
 
+-- it is an event
+abbrev pub StatesEvent : LineMeaning → Type 0
+StatesEvent (states event) = Unit {0}
+StatesEvent _ = ⊥
+
 -- a moment in milliseconds, below 2 ^ 64; the index of a shard or of a realm, below 2 ^ 16
 abbrev pub moment_in : List ℕ → Option ℕ
 moment_in text = decimal_in 0 (2 ^ 64 - 1) text

@@ -3,28 +3,36 @@
 use crate::script::ScriptFault;
 use roam_conf_reader::ConfFault;
 use roam_wire::NoMemory;
-use std::io;
-use thiserror::Error;
+use std::{error, fmt, io};
 
 /// Why a simulation ends early. Its text is what is printed of it.
 ///
 /// The configuration is judged before the script, and both before anything is written.
-#[derive(Clone, Copy, Debug, PartialEq, Eq, Error)]
+#[derive(Clone, Copy, Debug, PartialEq, Eq)]
 pub enum SimFault {
     /// The first fault of the configuration's text. Never `ConfFault::Memory`.
-    #[error("{0}")]
     Config(ConfFault),
     /// The script's first faulty line. Lines are counted from 1, those that are skipped too.
-    #[error("line {0}")]
     Line(u64),
     /// A write was refused; what was written before it stands.
-    #[error("write failed")]
     Write,
     /// Want of memory: nothing was written; or some events were lost, and the lines of the packets that
     /// the others sent were written.
-    #[error("out of memory")]
     Memory,
 }
+
+impl fmt::Display for SimFault {
+    fn fmt<W: fmt::Write>(&self, f: &mut fmt::Formatter<W>) -> fmt::Result {
+        match *self {
+            SimFault::Config(fault) => write!(f, "{fault}"),
+            SimFault::Line(number) => write!(f, "line {number}"),
+            SimFault::Write => f.write_str("write failed"),
+            SimFault::Memory => f.write_str("out of memory"),
+        }
+    }
+}
+
+impl error::Error for SimFault {}
 
 impl From<NoMemory> for SimFault {
     ghost use Rattle.std.specs.Prelude.{◌≡◌};

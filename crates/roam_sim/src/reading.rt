@@ -1,15 +1,15 @@
 //! Reading a script: an event a line.
 
-ghost use Rattle.std.specs.Prelude.{◌≡◌, Ok, Err, IfOk, MatchOption, None, ℕ, [], ◌∷◌, option_map};
+ghost use Rattle.std.specs.Prelude.{◌≡◌, ◌↔◌, Ok, Err, IfOk, OnErr, IsOk, IsErrOf, IsSome, IsTrue, MatchOption, None, ℕ, [], ◌∷◌, option_map};
+ghost use Rattle.std.specs.List.{AllPass};
 ghost use Rattle.std.specs.Result.{result_ok};
-ghost use Rattle.hex.specs.Hex.{decode_of};
+ghost use Rattle.hex.specs.Hex.{decode_of, is_hex_digit};
 ghost use Rattle.roam_conf.specs.Texts.{endpoint_in, parts};
 ghost use Rattle.roam_sim.specs.Script as spec;
 ghost use Rattle.roam_core.specs.Shown.{shown_event, shown_events};
 ghost use Rattle.roam_sim.specs.Shown.{shown_line};
 
 use crate::script::{Line, ScriptFault};
-use hex::FromHexError;
 use roam_conf::{Endpoint, Place, decimal};
 use roam_core::Event;
 use roam_route::Datagram;
@@ -80,21 +80,45 @@ fn place(text: &str) -> Option<Place>
     realm_place(socket, realm)
 }
 
-/// The octets that hexadecimal digits stand for, if they are such digits and no others.
-fn decoded<A: Allocator>(alloc: A, digits: &str) -> Result<Option<Octets<A>>, NoMemory>
-    ensures { IfOk result (λ o. o ≡ result_ok (decode_of digits.now)) }
+/// Whether octets are hexadecimal digits.
+fn are_digits(octets: &[u8]) -> bool
+    ensures { IsTrue result ↔ AllPass is_hex_digit octets.now }
 {
+    for octet in octets {
+        if !octet.is_ascii_hexdigit() {
+            return false;
+        }
+    }
+    true
+}
+
+/// Whether a text is an even number of hexadecimal digits.
+fn is_decodable(text: &str) -> bool
+    ensures { IsTrue result ↔ IsOk (decode_of text.now) }
+{
+    text.len() % 2 == 0 && are_digits(text.as_bytes())
+}
+
+/// The octets that hexadecimal digits stand for, if they are such digits and no others. That is looked
+/// at before memory is asked for.
+fn decoded<A: Allocator>(alloc: A, digits: &str) -> Result<Option<Octets<A>>, NoMemory>
+    ensures ok { IfOk result (λ o. o ≡ result_ok (decode_of digits.now)) }
+    ensures memory { OnErr result (IsOk (decode_of digits.now)) }
+{
+    if !is_decodable(digits) {
+        return Ok(None);
+    }
     match hex::decode(alloc, digits) {
         Ok(octets) => Ok(Some(Octets::from_vec(octets))),
-        Err(FromHexError::OutOfMemory) => Err(NoMemory),
-        Err(_) => Ok(None),
+        Err(_) => Err(NoMemory),
     }
 }
 
 /// The octets of a datagram.
 #[tactic(auto, unfolding(crate::specs::Script::datagram_in))]
 fn datagram<A: Allocator>(alloc: A, text: &str) -> Result<Option<Octets<A>>, NoMemory>
-    ensures { IfOk result (λ o. o ≡ spec.datagram_in text.now) }
+    ensures ok { IfOk result (λ o. o ≡ spec.datagram_in text.now) }
+    ensures memory { OnErr result (IsSome (spec.datagram_in text.now)) }
 {
     if text == "-" {
         return Ok(Some(Octets::from_vec(Vec::new(alloc))));
@@ -125,8 +149,10 @@ fn arrival<A: Allocator>(
     from: &str,
     octets: &str,
 ) -> Result<Option<Event<A>>, NoMemory>
-    ensures { IfOk result (λ e. option_map shown_event e ≡ spec.arrival (spec.moment_in now.now)
+    ensures ok { IfOk result (λ e. option_map shown_event e ≡ spec.arrival (spec.moment_in now.now)
         (spec.place_in at.now) (endpoint_in from.now) (spec.datagram_in octets.now)) }
+    ensures memory { OnErr result (IsSome (spec.arrival (spec.moment_in now.now)
+        (spec.place_in at.now) (endpoint_in from.now) (spec.datagram_in octets.now))) }
 {
     match (moment(now), place(at), Endpoint::from_text(from)) {
         (Some(now), Some(at), Some(from)) => match datagram(alloc, octets)? {
@@ -154,7 +180,8 @@ fn four_fields(fields: &str) -> Option<(&str, &str, &str, &str)>
 /// What follows the letter of an arrival.
 #[tactic(auto, using(crate::proofs::FieldLemmas::last_fields))]
 fn arrival_of<A: Allocator>(alloc: A, fields: &str) -> Result<Option<Event<A>>, NoMemory>
-    ensures { IfOk result (λ e. option_map shown_event e ≡ spec.arrival_of (parts 32 fields.now)) }
+    ensures ok { IfOk result (λ e. option_map shown_event e ≡ spec.arrival_of (parts 32 fields.now)) }
+    ensures memory { OnErr result (IsSome (spec.arrival_of (parts 32 fields.now))) }
 {
     match four_fields(fields) {
         Some((now, at, from, octets)) => arrival(alloc, now, at, from, octets),
@@ -164,7 +191,8 @@ fn arrival_of<A: Allocator>(alloc: A, fields: &str) -> Result<Option<Event<A>>, 
 
 /// The event of a line, if it states one.
 fn event<A: Allocator>(alloc: A, line: &str) -> Result<Option<Event<A>>, NoMemory>
-    ensures { IfOk result (λ e. option_map shown_event e ≡ spec.event_of (parts 32 line.now)) }
+    ensures ok { IfOk result (λ e. option_map shown_event e ≡ spec.event_of (parts 32 line.now)) }
+    ensures memory { OnErr result (IsSome (spec.event_of (parts 32 line.now))) }
 {
     match cut_at_space(line) {
         Some((letter, fields)) => {
@@ -180,10 +208,11 @@ fn event<A: Allocator>(alloc: A, line: &str) -> Result<Option<Event<A>>, NoMemor
     }
 }
 
-/// What a line is, without its line feed.
+/// What a line is, without its line feed. Memory is wanted for a line that states an event alone.
 #[tactic(auto, unfolding(crate::specs::Script::line_states))]
 fn read_line<A: Allocator>(alloc: A, line: &str) -> Result<Line<A>, NoMemory>
-    ensures { IfOk result (λ l. shown_line l ≡ spec.line_states line.now) }
+    ensures ok { IfOk result (λ l. shown_line l ≡ spec.line_states line.now) }
+    ensures memory { OnErr result (spec.StatesEvent (spec.line_states line.now)) }
 {
     if line.is_empty() || line.as_bytes()[0] == b'#' {
         return Ok(Line::Skipped);
@@ -201,23 +230,35 @@ fn read_line<A: Allocator>(alloc: A, line: &str) -> Result<Line<A>, NoMemory>
 ///
 /// # Errors
 ///
-/// The number of the first faulty line, or want of memory.
+/// The number of the first faulty line, whether memory is wanting or not; else want of memory.
 pub fn read_script<A: Allocator + Copy>(
     alloc: A,
     text: &str,
 ) -> Result<Vec<Event<A>, A>, ScriptFault>
     ensures ok { IfOk result (λ events. spec.script_states text.now ≡ Ok (shown_events events.items)) }
-    ensures line { (n : ℕ) → result ≡ Err (ScriptFault.Line n) → spec.script_states text.now ≡ Err n }
+    ensures line { (n : ℕ)
+        → IsErrOf result (ScriptFault.Line n) ↔ (spec.script_states text.now ≡ Err n) }
+    ensures memory { IsErrOf result ScriptFault.Memory → IsOk (spec.script_states text.now) }
 {
     let mut events = Vec::new(alloc);
     let mut number = 0;
+    let mut is_short = false;
     for line in text.split('\n') {
         number += 1;
-        match read_line(alloc, line)? {
-            Line::Skipped => {}
-            Line::Event(event) => events.push(event).map_err(|_| ScriptFault::Memory)?,
-            Line::Faulty => return Err(ScriptFault::Line(number)),
+        match read_line(alloc, line) {
+            Ok(Line::Skipped) => {}
+            Ok(Line::Event(event)) => {
+                if events.push(event).is_err() {
+                    is_short = true;
+                }
+            }
+            Ok(Line::Faulty) => return Err(ScriptFault::Line(number)),
+            Err(NoMemory) => is_short = true,
         }
     }
-    Ok(events)
+    if is_short {
+        Err(ScriptFault::Memory)
+    } else {
+        Ok(events)
+    }
 }

@@ -1,7 +1,6 @@
 //! Lines of a script, and why a script isn't read.
 
 use roam_core::Event;
-use roam_wire::NoMemory;
 use std::alloc::Allocator;
 
 /// What a line of a script is.
@@ -16,21 +15,10 @@ pub(crate) enum Line<A: Allocator> {
 }
 
 /// Why a script isn't read.
-#[derive(Clone, Copy, Debug, PartialEq, Eq)]
+#[derive(Clone, Copy, Debug)]
 pub enum ScriptFault {
     /// The first faulty line. Lines are counted from 1, those that are skipped too.
     Line(u64),
-    /// Want of memory.
+    /// Want of memory, of a script without a faulty line.
     Memory,
-}
-
-impl From<NoMemory> for ScriptFault {
-    ghost use Rattle.std.specs.Prelude.{◌≡◌};
-    ghost use Rattle.roam_sim.specs.declared.script.ScriptFault.TheVariants.{Memory};
-
-    ghost from_gives = { λ _ r. r ≡ Memory };
-
-    fn from(_: NoMemory) -> ScriptFault {
-        ScriptFault::Memory
-    }
 }

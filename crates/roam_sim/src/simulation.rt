@@ -1,6 +1,6 @@
 //! Simulations: from a configuration and a script to the lines of the packets.
 
-ghost use Rattle.std.specs.Prelude.{◌≡◌, ◌≢◌, ◌⊎◌, ℕ, Err, OnOk, IfErr, IsOk, IsErrOf};
+ghost use Rattle.std.specs.Prelude.{◌≡◌, ◌≢◌, ◌⊎◌, ◌↔◌, ℕ, [], Err, OnOk, IfErr, IsOk, IsErrOf};
 ghost use Rattle.std.specs.Io.KnownBytes.{Appends};
 ghost use Rattle.roam_book.specs.Turn.{shown_outs};
 ghost use Rattle.roam_conf_reader.specs.Faults.{IsFirstFault};
@@ -16,7 +16,7 @@ use crate::printing::print_packet;
 use crate::reading::read_script;
 use roam_conf::Config;
 use roam_conf_reader::read_config;
-use roam_core::{Broker, run};
+use roam_core::{Broker, Outcome, run};
 use roam_route::Out;
 use std::alloc::{Allocator, Global};
 use std::io;
@@ -34,6 +34,27 @@ fn print_packets<A: Allocator, W: Write>(writer: &mut W, packets: &[Out<A>]) -> 
     Ok(())
 }
 
+/// Prints what a run gave: the lines of its packets, and then want of memory where events were lost.
+fn print_outcome<A: Allocator, W: Write>(
+    writer: &mut W,
+    outcome: &Outcome<A>,
+) -> Result<(), SimFault>
+    ensures ok { OnOk result (Appends (W.contents writer.old) (W.contents writer.new)
+        (lines_of (shown_outs outcome.now.outs.items))) }
+    ensures all { OnOk result (outcome.now.lost.items ≡ []) }
+    ensures no_text { IfErr result (λ fault. ¬ (IsFaultOfText fault)) }
+    ensures memory { IsErrOf result SimFault.Memory → Appends (W.contents writer.old)
+        (W.contents writer.new) (lines_of (shown_outs outcome.now.outs.items)) }
+    ensures some_lost { IsErrOf result SimFault.Memory → outcome.now.lost.items ≢ [] }
+{
+    print_packets(writer, outcome.outs.as_slice())?;
+    if outcome.lost.is_empty() {
+        Ok(())
+    } else {
+        Err(SimFault::Memory)
+    }
+}
+
 /// Simulates a broker of this configuration: a fresh one is given the events of the script, one after
 /// the other, and then a line is printed for each packet that it sent, in their order.
 ///
@@ -42,9 +63,10 @@ fn print_packets<A: Allocator, W: Write>(writer: &mut W, packets: &[Out<A>]) -> 
 ///
 /// # Errors
 ///
-/// `Line` for the script's first faulty line, before anything is written; `Write` where a write is
-/// refused, and then some of the lines may have been written; `Memory` for want of memory: either nothing
-/// was written, or events were lost, and the lines of the packets for the other events were written.
+/// `Line` for the script's first faulty line, whether memory is wanting or not, before anything is
+/// written; `Write` where a write is refused, and then some of the lines may have been written; `Memory`
+/// for want of memory: either nothing was written, or events were lost, and the lines of the packets for
+/// the other events were written.
 pub fn simulate<A: Allocator + Copy, W: Write>(
     alloc: A,
     config: &Config,
@@ -54,8 +76,13 @@ pub fn simulate<A: Allocator + Copy, W: Write>(
     ensures ok { OnOk result (IsSimulated (shown config.now) script.now
         (W.contents writer.old) (W.contents writer.new)) }
     ensures config { (fault : ConfFault) → result ≢ Err (SimFault.Config fault) }
-    ensures line { (n : ℕ) → IsErrOf result (SimFault.Line n) → script_states script.now ≡ Err n }
+
+    // The script is judged first. Where it is faulty nothing else is answered, and nothing is written.
+    ensures line { (n : ℕ)
+        → IsErrOf result (SimFault.Line n) ↔ (script_states script.now ≡ Err n) }
     ensures untouched { IfErr result (λ fault. IsFaultOfText fault → writer.new ≡ writer.old) }
+
+    // Then the lines are written.
     ensures write { IsErrOf result SimFault.Write → IsOk (script_states script.now) }
     ensures memory { IsErrOf result SimFault.Memory → (writer.new ≡ writer.old)
         ⊎ IsSimulatedInPart (shown config.now) script.now (W.contents writer.old) (W.contents writer.new) }
@@ -63,12 +90,7 @@ pub fn simulate<A: Allocator + Copy, W: Write>(
     let events = read_script(alloc, script)?;
     let mut broker = Broker::new(alloc, config)?;
     let outcome = run(alloc, &mut broker, events.as_slice())?;
-    print_packets(writer, outcome.outs.as_slice())?;
-    if outcome.lost.is_empty() {
-        Ok(())
-    } else {
-        Err(SimFault::Memory)
-    }
+    print_outcome(writer, &outcome)
 }
 
 /// Simulates the broker of a configuration's text, as `simulate` does.

@@ -6,23 +6,10 @@ use Rattle.std.proofs.lemmas.Bool.Decides.{nat_tests}
 use Rattle.std.proofs.lemmas.Option.{cond_some, option_and_then_some}
 use Rattle.std.proofs.lemmas.Bool.{cases_lt}
 use Rattle.std.proofs.lemmas.List.{get_or-take, get_or_past, take-append-drop, take_at, drop_at, length-take, get_or-drop}
-use Rattle.roam_wire.specs.Packet.{Attribute, IsAttribute, attribute_text, attributes_text}
+use Rattle.roam_wire.specs.Packet.{Attribute, IsAttribute, AreOctets, attribute_text, attributes_text}
 use Rattle.roam_wire.specs.Reading.{attribute_at, with_first, attributes_within, attributes_of}
+use Rattle.roam_wire.proofs.OctetLemmas.{AreOctets-take, AreOctets-drop}
 use Rattle.roam_wire.proofs.WalkLemmas.{length-behind, attributes_of-cons}
-
--- each element is an octet
-abbrev pub AreOctets : List ℕ → Type 0
-AreOctets octets = (i : ℕ) → get_or octets i 0 < 256
-
-pub AreOctets-drop : (n : ℕ) (octets : List ℕ) → AreOctets octets → AreOctets (drop n octets)
-AreOctets-drop n octets h i = rw get_or-drop (h (n + i))
-
-pub AreOctets-take : (n : ℕ) (octets : List ℕ) → AreOctets octets → AreOctets (take n octets)
-AreOctets-take n octets h i =
-    elim (cases_lt i n) [
-      | inl lt ↦ rw (get_or-take n octets i 0 lt) (h i)
-      | inr le ↦ rw (get_or_past (take n octets) i 0 (omega (arith, length-take n octets))) (omega arith)
-    ]
 
 -- an attribute and what follows it are these octets
 pub record IsFront (octets : List ℕ) (x : Attribute × List ℕ) : Type 0 where
@@ -45,7 +32,7 @@ attribute_at_front (kind ∷ n ∷ rest) x fits h =
     let rest_fits : AreOctets rest = λ i. fits (suc (suc i)) in
     let front : IsFront (kind ∷ n ∷ rest) (a, drop (n - 2) rest) = record {
       spelt = sym spelt;
-      attribute = record { size = omega arith };
+      attribute = record { kind = fits 0; octets = AreOctets-take (n - 2) rest rest_fits; size = omega arith };
       behind = AreOctets-drop (n - 2) rest rest_fits;
     } in
     subst (IsFront (kind ∷ n ∷ rest)) found.1 front

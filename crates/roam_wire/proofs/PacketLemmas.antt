@@ -1,9 +1,10 @@
 -- The octets of a packet, and the packet of octets.
-use Rattle.std.proofs.Common.{◌≡◌, ℕ, ◌+◌, ◌*◌, ◌/◌, ◌%◌, ◌<◌, ◌≤◌, List, [], ◌∷◌, ◌++◌, length, get_or, take, drop, subst, Option, Some, None, IsSome, refl, sym, ap, ◌∙◌, arith, length-drop, length-append}
+use Rattle.std.proofs.Common.{suc, ◌≡◌, ℕ, ◌+◌, ◌*◌, ◌/◌, ◌%◌, ◌<◌, ◌≤◌, List, [], ◌∷◌, ◌++◌, length, get_or, take, drop, subst, Option, Some, None, IsSome, refl, sym, ap, ◌∙◌, arith, length-drop, length-append}
 use Rattle.std.proofs.lemmas.List.{take-append-drop, take_at, drop_at, length-take, get_or-take, take_all}
-use Rattle.roam_wire.specs.Packet.{Attribute, Packet, IsPacket, attributes_text, packet_text, packet_length}
+use Rattle.roam_wire.specs.Packet.{AreOctets, Attribute, Packet, IsPacket, attributes_text, packet_text, packet_length}
 use Rattle.roam_wire.specs.Reading.{IsPacketText, ReadsAs, attributes_of, packet_of, length_field, HasLength}
-use Rattle.roam_wire.proofs.AttributeLemmas.{AreOctets, AreOctets-drop, AreOctets-take, read_spells, attributes_of-attributes_text}
+use Rattle.roam_wire.proofs.OctetLemmas.{AreOctets-take, AreOctets-drop}
+use Rattle.roam_wire.proofs.AttributeLemmas.{read_spells, attributes_of-attributes_text}
 
 -- a packet is read again from its octets
 pub packet_of-packet_text : (p : Packet) → IsPacket p → packet_of (packet_text p) ≡ p
@@ -40,7 +41,8 @@ header_and_attributes a b c e rest all fits low high field found =
     let octet : e < 256 = fits 3 in
     let p : Packet = record { code = a; id = b; authenticator = take 16 rest; attributes = all } in
     let is_p : packet_of (a ∷ b ∷ c ∷ e ∷ rest) ≡ p = rw found refl in
-    let packet : IsPacket p = record { authenticator = omega (arith, length-take 16 rest); attributes = read.attributes; size = omega arith } in
+    let behind : AreOctets rest = λ i. fits (suc (suc (suc (suc i)))) in
+    let packet : IsPacket p = record { code = fits 0; id = fits 1; octets = AreOctets-take 16 rest behind; authenticator = omega (arith, length-take 16 rest); attributes = read.attributes; size = omega arith } in
     let high_octet : packet_length p / 256 ≡ c = omega arith in
     let low_octet : packet_length p % 256 ≡ e = omega arith in
     let tail : take 16 rest ++ attributes_text all ≡ rest = rw (← read.spelt) (take-append-drop 16 rest) in

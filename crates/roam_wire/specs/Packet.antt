@@ -1,5 +1,5 @@
--- A packet, and its octets (RFC 2865, sections 3 and 5). Octets are numbers below 256.
-use Rattle.std.specs.Prelude.{◌≡◌, ℕ, ◌+◌, ◌/◌, ◌%◌, ◌≤◌, List, ◌∷◌, ◌++◌, length}
+-- A packet, and its octets (RFC 2865, sections 3 and 5).
+use Rattle.std.specs.Prelude.{◌≡◌, ℕ, ◌+◌, ◌/◌, ◌%◌, ◌<◌, ◌≤◌, List, ◌∷◌, ◌++◌, length, slice_index}
 use Rattle.std.specs.List.{flat_map, AllByRecursion}
 
 -- an attribute: its Type, and its Value (RFC 2865, section 5)
@@ -33,12 +33,21 @@ packet_text p =
     p.code ∷ p.id ∷ (packet_length p / 256) ∷ (packet_length p % 256) ∷ p.authenticator
     ++ attributes_text p.attributes
 
--- an attribute's Value has at most 253 octets (RFC 2865, section 5)
+-- each of them is an octet, a number below 256
+abbrev pub AreOctets : List ℕ → Type 0
+AreOctets octets = (i : ℕ) → slice_index octets i < 256
+
+-- an attribute is octets, and its Value has at most 253 of them (RFC 2865, section 5)
 pub record IsAttribute (a : Attribute) : Type 0 where
+  pub kind : a.kind < 256
+  pub octets : AreOctets a.value
   pub size : length a.value ≤ 253
 
--- a packet has an Authenticator of 16 octets, and at most 4096 octets in all (RFC 2865, section 3)
+-- a packet is octets: an Authenticator of 16, and at most 4096 in all (RFC 2865, section 3)
 pub record IsPacket (p : Packet) : Type 0 where
+  pub code : p.code < 256
+  pub id : p.id < 256
+  pub octets : AreOctets p.authenticator
   pub authenticator : length p.authenticator ≡ 16
   pub attributes : AllByRecursion IsAttribute p.attributes
   pub size : packet_length p ≤ 4096

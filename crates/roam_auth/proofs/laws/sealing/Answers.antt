@@ -1,6 +1,7 @@
 use Rattle.roam_auth.specs.MessageAuthenticator.{message_authenticator}
 use Rattle.roam_auth.proofs.ValueLemmas.{packet_length-with_value, IsPacket-with_value, with_value-none}
-use Rattle.roam_auth.proofs.SealLemmas.{IsWellSealed-sealed, IsWellSealed-two, length-message_authenticator}
+use Rattle.roam_auth.proofs.SealLemmas.{IsWellSealed-sealed, IsWellSealed-two}
+use Rattle.roam_auth.proofs.DigestLemmas.{sixteen-message_authenticator, length-message_authenticator}
 use Rattle.roam_auth.proofs.laws.sealing.Goals as goal
 
 pub returns-clause-well_sealed : goal.returns-clause-well_sealed
@@ -14,7 +15,7 @@ returns-clause-length c = λ secret authenticator p h.
 pub returns-clause-packet : goal.returns-clause-packet
 returns-clause-packet c = λ secret authenticator p h packet.
     IsPacket-with_value (message_authenticator secret authenticator p) p
-    (length-message_authenticator secret authenticator p) h packet
+    (sixteen-message_authenticator secret authenticator p) h packet
 
 pub returns-clause-unsealed : goal.returns-clause-unsealed
 returns-clause-unsealed c = λ secret authenticator p none.

@@ -1,6 +1,7 @@
 use Rattle.std.proofs.Common.{refl}
 use Rattle.roam_auth.specs.Authenticators.{response_authenticator, request_authenticator}
 use Rattle.roam_auth.proofs.SealLemmas.{IsWellSealed-with_authenticator}
+use Rattle.roam_auth.proofs.DigestLemmas.{IsPacket-signed_reply, IsPacket-signed_request}
 use Rattle.roam_auth.proofs.laws.signing.Goals as goal
 
 pub returns-clause-reply : goal.returns-clause-reply
@@ -13,3 +14,9 @@ returns-clause-request c = λ secret p. refl
 
 pub returns-clause-seal : goal.returns-clause-seal
 returns-clause-seal c = IsWellSealed-with_authenticator
+
+pub returns-clause-reply_packet : goal.returns-clause-reply_packet
+returns-clause-reply_packet c = IsPacket-signed_reply
+
+pub returns-clause-request_packet : goal.returns-clause-request_packet
+returns-clause-request_packet c = IsPacket-signed_request

@@ -1,4 +1,4 @@
-use Rattle.roam_back.proofs.EveryCodeLemmas.{IsSignedReply-returned, IsWellSealed-returned, HasOne-returned}
+use Rattle.roam_back.proofs.EveryCodeLemmas.{IsSignedReply-returned, IsWellSealed-returned, HasOne-returned, first-returned}
 use Rattle.roam_back.proofs.laws.returned_authenticators.Goals as goal
 
 pub returns-clause-signed : goal.returns-clause-signed
@@ -9,3 +9,6 @@ returns-clause-well_sealed c = IsWellSealed-returned
 
 pub returns-clause-access : goal.returns-clause-access
 returns-clause-access c = HasOne-returned
+
+pub returns-clause-access_first : goal.returns-clause-access_first
+returns-clause-access_first c = first-returned

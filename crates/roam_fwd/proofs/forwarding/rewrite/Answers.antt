@@ -1,4 +1,4 @@
-use Rattle.std.proofs.Common.{ℕ, List, take, subst, sym}
+use Rattle.std.proofs.Common.{arith, ℕ, List, take, subst, sym}
 use Rattle.roam_wire.specs.Reading.{packet_of}
 use Rattle.roam_auth.specs.MessageAuthenticator.{HasAtMostOneMessageAuthenticator}
 use Rattle.roam_fwd.specs.Forwarded.{Forwarding}
@@ -36,7 +36,7 @@ seal-requires-clause-packet c =
       authenticator = c.args.authenticator;
       ticket = c.args.ticket;
     } in
-    let unsealed_is = unsealed_text f len octets c.put_ticket.new.octets c.put_header.new.octets h c.put_ticket.ensures c.put_header.ensures in
+    let unsealed_is = unsealed_text f len octets c.put_ticket.new.octets c.put_header.new.octets (omega (arith, c.ranges.id)) h c.put_ticket.ensures c.put_header.ensures in
     unsealed_is.text
 
 -- with at most one Message-Authenticator
@@ -57,7 +57,7 @@ seal-requires-clause-at_most_one c =
       authenticator = c.args.authenticator;
       ticket = c.args.ticket;
     } in
-    let unsealed_is = unsealed_text f len octets c.put_ticket.new.octets c.put_header.new.octets h c.put_ticket.ensures c.put_header.ensures in
+    let unsealed_is = unsealed_text f len octets c.put_ticket.new.octets c.put_header.new.octets (omega (arith, c.ranges.id)) h c.put_ticket.ensures c.put_header.ensures in
     subst HasAtMostOneMessageAuthenticator (sym unsealed_is.packet) (HasAtMostOne-with_ticket f (packet_of (take len octets)) c.requires.can_be_forwarded.message_authenticator)
 
 -- what is signed is a packet
@@ -78,8 +78,8 @@ sign_request-requires-clause-packet c =
       authenticator = c.args.authenticator;
       ticket = c.args.ticket;
     } in
-    let unsealed_is = unsealed_text f len octets c.put_ticket.new.octets c.put_header.new.octets h c.put_ticket.ensures c.put_header.ensures in
-    let sealed_is = resealed_text f len octets c.put_header.new.octets c.seal.new.octets h unsealed_is c.seal.ensures in
+    let unsealed_is = unsealed_text f len octets c.put_ticket.new.octets c.put_header.new.octets (omega (arith, c.ranges.id)) h c.put_ticket.ensures c.put_header.ensures in
+    let sealed_is = resealed_text f len octets c.put_header.new.octets c.seal.new.octets (omega (arith, c.ranges.id)) h unsealed_is c.seal.ensures in
     sealed_is.text
 
 -- and the forwarded packet is left
@@ -100,6 +100,6 @@ returns c =
       authenticator = c.args.authenticator;
       ticket = c.args.ticket;
     } in
-    let unsealed_is = unsealed_text f len octets c.put_ticket.new.octets c.put_header.new.octets h c.put_ticket.ensures c.put_header.ensures in
-    let sealed_is = resealed_text f len octets c.put_header.new.octets c.seal.new.octets h unsealed_is c.seal.ensures in
+    let unsealed_is = unsealed_text f len octets c.put_ticket.new.octets c.put_header.new.octets (omega (arith, c.ranges.id)) h c.put_ticket.ensures c.put_header.ensures in
+    let sealed_is = resealed_text f len octets c.put_header.new.octets c.seal.new.octets (omega (arith, c.ranges.id)) h unsealed_is c.seal.ensures in
     forwarded_text f len octets c.seal.new.octets c.sign_request.new.octets h sealed_is c.sign_request.ensures

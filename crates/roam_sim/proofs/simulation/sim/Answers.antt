@@ -20,3 +20,7 @@ returns-clause-memory g c = λ is.
       | inl same ↦ inl same
       | inr part ↦ inr (record { config = shown c.in_ok-config.config; read = read; simulated = part })
     ]
+
+-- The script is at fault where the simulation says so.
+pub returns-clause-line : goal.returns-clause-line
+returns-clause-line g c = λ n is. (c.simulate.ensures.line n).0 is

@@ -1,0 +1,169 @@
+-- A ticket is given to one event: no event takes the next ticket back.
+use Rattle.std.proofs.Common.{◌≡◌, ◌≤◌, ℕ, ◌^◌, List, [], ◌∷◌, ◌++◌, Option, Some, None, refl, sym, ap, subst, ◌∙◌, eqb, ltb, arith, append_assoc, length}
+use Rattle.std.specs.Prelude.{nat_eq}
+use Rattle.std.specs.Cmp.Lexicographic.{pointwise}
+use Rattle.std.proofs.lemmas.List.{append-nil}
+use Rattle.roam_wire.specs.Packet.{Packet}
+use Rattle.roam_wire.specs.Reading.{packet_of}
+use Rattle.roam_wire.specs.declared.refusal.Refusal.{Refusal}
+use Rattle.roam_back.specs.Returned.{returned_length}
+use Rattle.roam_conf.specs.declared.place.Link.{Link}
+use Rattle.roam_pending.specs.declared.due.Due.{Due}
+use Rattle.roam_pending.specs.DueOrder.{due_list}
+use Rattle.roam_pending.specs.PlainEntry.{PlainRequest, PlainStanding, PlainEntry, waiting, done}
+use Rattle.roam_pending.specs.EntryList.{find_client, find_link, find_ticket, first_done, without, without_client}
+use Rattle.roam_book.specs.RealmConfig.{RealmConfig, later_targets, link_secret, targets}
+use Rattle.roam_book.specs.RealmState.{RealmState, Target, first_target}
+use Rattle.roam_book.specs.Turn.{Turn, state_after, in_time}
+use Rattle.roam_book.specs.OnRequest.{make_way, at_target, new_request, of_key}
+use Rattle.roam_back.specs.ReplyCheck.{reply_fault}
+use Rattle.roam_book.specs.OnReply.{returning, judge, to_standing, to_entry}
+use Rattle.roam_book.specs.OnTick.{Progress, fail_over, without_entry, due_standing, due_entry, due_one, due_each, as_turn}
+use Rattle.roam_book.specs.OneRealm.{RealmEvent, request_came, reply_came, tick_came, on_event}
+use Rattle.roam_book.specs.declared.start.Start.{Start}
+use Rattle.roam_core.specs.Openings.{state_then}
+use Rattle.roam_core.specs.Provenance.{TakesTicket}
+use Rattle.roam_core.specs.ProvenanceLaws.{OneRequestHasTicket, TicketIsGivenOnce}
+use Rattle.roam_core.proofs.RealmRunLemmas.{state-next}
+use Rattle.roam_core.proofs.SentLemmas.{either}
+
+-- a turn doesn't lower the next ticket
+abbrev Rises : RealmState → Turn → Type 0
+Rises old turn = old.ticket ≤ (state_after old turn).ticket
+
+stays : (s : RealmState) → s.ticket ≤ s.ticket
+stays s = omega arith
+
+make_way-rises : (c : RealmConfig) (now : ℕ) (s : RealmState) (es : List PlainEntry) (q : PlainRequest) (target : Target) (way : Option ℕ) → Rises s (make_way c now s es q target way)
+make_way-rises c now s es q target None = stays s
+make_way-rises c now s es q target (Some ticket) = omega arith
+
+at_target-rises : (c : RealmConfig) (now : ℕ) (s : RealmState) (es : List PlainEntry) (q : PlainRequest) (target : Option Target) → Rises s (at_target c now s es q target)
+at_target-rises c now s es q None = stays s
+at_target-rises c now s es q (Some target) =
+    either (Rises s) (ltb (length es) c.realm.max_pending) _ _ (omega arith)
+    (make_way-rises c now s es q target (first_done es))
+
+new_request-rises : (c : RealmConfig) (now : ℕ) (s : RealmState) (es : List PlainEntry) (q : PlainRequest) → Rises s (new_request c now s es q)
+new_request-rises c now s es q =
+    either (Rises s) (eqb s.ticket (2 ^ 63)) _ _ (stays s)
+    (at_target-rises c now s es q (first_target c s.cursors es (targets c (packet_of q.octets).code)))
+
+of_key-rises : (c : RealmConfig) (now : ℕ) (s : RealmState) (q : PlainRequest) (found : Option PlainEntry) → Rises s (of_key c now s q found)
+of_key-rises c now s q None = new_request-rises c now s (without_client q.key s.entries) q
+of_key-rises c now s q (Some e) =
+    either (Rises s) (pointwise nat_eq e.request.octets q.octets) _ _ (stays s)
+    (new_request-rises c now s (without_client q.key s.entries) q)
+
+in_time-rises : (now : ℕ) (s : RealmState) (turn : Turn) → Rises s turn → Rises s (in_time now turn)
+in_time-rises now s turn h = either (Rises s) (ltb (2 ^ 62) now) _ _ (stays s) h
+
+-- a reply gives no ticket
+judge-rises : (c : RealmConfig) (now : ℕ) (s : RealmState) (e : PlainEntry) (l : Link) (forwarded reply : Packet) (why : Option Refusal) → Rises s (judge c now s e l forwarded reply why)
+judge-rises c now s e l forwarded reply (Some why) = stays s
+judge-rises c now s e l forwarded reply None =
+    either (Rises s) (ltb 4096 (returned_length (returning c e.request l forwarded) reply (packet_of e.request.octets))) _ _
+    (stays s) (stays s)
+
+to_standing-rises : (c : RealmConfig) (now : ℕ) (s : RealmState) (e : PlainEntry) (reply : Packet) (standing : PlainStanding) → Rises s (to_standing c now s e reply standing)
+to_standing-rises c now s e reply (waiting l id forwarded sends_left deadline) =
+    judge-rises c now s e l (packet_of forwarded) reply (reply_fault (link_secret c l) reply (packet_of forwarded))
+to_standing-rises c now s e reply (done old deadline) = stays s
+
+to_entry-rises : (c : RealmConfig) (now : ℕ) (s : RealmState) (reply : Packet) (found : Option PlainEntry) → Rises s (to_entry c now s reply found)
+to_entry-rises c now s reply None = stays s
+to_entry-rises c now s reply (Some e) = to_standing-rises c now s e reply e.standing
+
+-- nor does a tick
+abbrev Keeps : RealmState → Progress → Type 0
+Keeps old p = p.state.ticket ≡ old.ticket
+
+fail_over-keeps : (c : RealmConfig) (now : ℕ) (s : RealmState) (e : PlainEntry) (target : Option Target) → Keeps s (fail_over c now s e target)
+fail_over-keeps c now s e None = refl
+fail_over-keeps c now s e (Some target) = refl
+
+due_standing-keeps : (c : RealmConfig) (now : ℕ) (s : RealmState) (e : PlainEntry) (standing : PlainStanding) → Keeps s (due_standing c now s e standing)
+due_standing-keeps c now s e (done reply deadline) = refl
+due_standing-keeps c now s e (waiting l id forwarded sends_left deadline) =
+    either (Keeps s) (ltb 0 sends_left) _ _ refl
+    (fail_over-keeps c now (without_entry s e) e (first_target c s.cursors (without e.ticket s.entries) (later_targets c l)))
+
+due_entry-keeps : (c : RealmConfig) (now : ℕ) (s : RealmState) (found : Option PlainEntry) → Keeps s (due_entry c now s found)
+due_entry-keeps c now s None = refl
+due_entry-keeps c now s (Some e) = due_standing-keeps c now s e e.standing
+
+due_each-keeps : (c : RealmConfig) (now : ℕ) (s : RealmState) (dues : List Due) → Keeps s (due_each c now s dues)
+due_each-keeps c now s [] = refl
+due_each-keeps c now s (d ∷ ds) =
+    due_each-keeps c now (due_one c now s d).state ds ∙ due_entry-keeps c now s (find_ticket d.ticket s.entries)
+
+tick-rises : (c : RealmConfig) (now : ℕ) (s : RealmState) (dues : List Due) → Rises s (as_turn (due_each c now s dues))
+tick-rises c now s dues = omega (arith, due_each-keeps c now s dues)
+
+event-rises : (c : RealmConfig) (s : RealmState) (e : RealmEvent) → Rises s (on_event c s e)
+event-rises c s (request_came now q) =
+    in_time-rises now s (of_key c now s q (find_client q.key s.entries)) (of_key-rises c now s q (find_client q.key s.entries))
+event-rises c s (reply_came now l octets) =
+    let found = find_link l (packet_of octets).id s.entries in
+    in_time-rises now s (to_entry c now s (packet_of octets) found) (to_entry-rises c now s (packet_of octets) found)
+event-rises c s (tick_came now) =
+    let dues = due_list now s.entries in
+    in_time-rises now s (as_turn (due_each c now s dues)) (tick-rises c now s dues)
+
+-- so events that follow leave it no lower
+next-rises : (c : RealmConfig) (start : Start) (es : List RealmEvent) (e : RealmEvent) → (state_then c start es).ticket ≤ (state_then c start (es ++ e ∷ [])).ticket
+next-rises c start es e =
+    let same = ap (λ (s : RealmState). s.ticket) (state-next c start es e) in
+    omega (arith, same, event-rises c (state_then c start es) e)
+
+all-rise : (c : RealmConfig) (start : Start) (es fs : List RealmEvent) → (state_then c start es).ticket ≤ (state_then c start (es ++ fs)).ticket
+all-rise c start es [] = subst (λ (l : List RealmEvent). (state_then c start es).ticket ≤ (state_then c start l).ticket) (sym (append-nil es)) (stays (state_then c start es))
+all-rise c start es (f ∷ fs) =
+    let rest = all-rise c start (es ++ f ∷ []) fs in
+    let same = append_assoc es (f ∷ []) fs in
+    let there = subst (λ (l : List RealmEvent). (state_then c start (es ++ f ∷ [])).ticket ≤ (state_then c start l).ticket) same rest in
+    omega (arith, next-rises c start es f, there)
+
+-- of two places of a list one is the other, or comes after it
+data Places (xs ys : List RealmEvent) (e f : RealmEvent) : Type 0 where
+  one : xs ≡ ys → e ≡ f → Places xs ys e f
+  later : (mid : List RealmEvent) → ys ≡ xs ++ e ∷ mid → Places xs ys e f
+  earlier : (mid : List RealmEvent) → xs ≡ ys ++ f ∷ mid → Places xs ys e f
+
+further : (x y : RealmEvent) (xs ys : List RealmEvent) (e f : RealmEvent) → x ≡ y → Places xs ys e f → Places (x ∷ xs) (y ∷ ys) e f
+further x y xs ys e f same (one is at) = one (cc) at
+further x y xs ys e f same (later mid is) = later mid (cc)
+further x y xs ys e f same (earlier mid is) = earlier mid (cc)
+
+places : (xs ws ys bs : List RealmEvent) (e f : RealmEvent) → xs ++ e ∷ ws ≡ ys ++ f ∷ bs → Places xs ys e f
+places [] ws [] bs e f same = one refl (cc)
+places [] ws (y ∷ ys) bs e f same = later ys (cc)
+places (x ∷ xs) ws [] bs e f same = earlier xs (cc)
+places (x ∷ xs) ws (y ∷ ys) bs e f same = further x y xs ys e f (cc) (places xs ws ys bs e f (cc))
+
+-- a ticket that was given to an event is given to no later one
+not-later : (c : RealmConfig) (start : Start) (xs ys mid : List RealmEvent) (e f : RealmEvent) (ticket : ℕ) → TakesTicket c start xs e ticket → TakesTicket c start ys f ticket → ys ≡ xs ++ e ∷ mid → ⊥
+not-later c start xs ys mid e f ticket here there is =
+    let all = all-rise c start (xs ++ e ∷ []) mid in
+    let same = append_assoc xs (e ∷ []) mid ∙ sym is in
+    let up = subst (λ (l : List RealmEvent). (state_then c start (xs ++ e ∷ [])).ticket ≤ (state_then c start l).ticket) same all in
+    absurd (omega (arith, here.taken, there.next, up))
+
+decided : (c : RealmConfig) (start : Start) (xs ys : List RealmEvent) (e f : RealmEvent) (ticket : ℕ) → TakesTicket c start xs e ticket → TakesTicket c start ys f ticket → Places xs ys e f → (xs ≡ ys) × (e ≡ f)
+decided c start xs ys e f ticket here there (one is at) = (is, at)
+decided c start xs ys e f ticket here there (later mid is) = absurd (not-later c start xs ys mid e f ticket here there is)
+decided c start xs ys e f ticket here there (earlier mid is) = absurd (not-later c start ys xs mid f e ticket there here is)
+
+pub ticket_is_given_once : TicketIsGivenOnce
+ticket_is_given_once c start events xs ws ys bs e f ticket one_way other_way here there =
+    decided c start xs ys e f ticket here there (places xs ws ys bs e f (sym one_way ∙ other_way))
+
+same-request : (a b : ℕ) (q r : PlainRequest) → request_came a q ≡ request_came b r → q ≡ r
+same-request a b q r same = cc
+
+pub one_request_has_ticket : OneRequestHasTicket
+one_request_has_ticket c start events q r ticket a b =
+    let same = ticket_is_given_once c start events a.first a.rest b.first b.rest
+    (request_came a.asked_at q) (request_came b.asked_at r) ticket
+    a.in_order b.in_order a.given b.given in
+    same-request a.asked_at b.asked_at q r same.1

@@ -1,0 +1,14 @@
+use Rattle.std.proofs.Common.{length, ◌-◌, ◌≡◌, List}
+use Rattle.roam_wire.specs.Packet.{Attribute, attributes_text}
+use Rattle.roam_hide.specs.HidingKeys.{password_key}
+use Rattle.roam_hide.specs.AttributesAnew.{salted_strings_anew}
+use Rattle.roam_hide.proofs.UnderwayLemmas.{IsUnderway, IsMade}
+use Rattle.roam_hide.proofs.in_attributes.rehide_salted_strings.Given as goal
+
+-- the attributes before `at` are hidden anew
+abbrev pub invariant-loop-at : goal.invariant-loop-at
+invariant-loop-at l = (all : List Attribute) → l.fn.octets ≡ attributes_text all
+    → IsUnderway (IsMade (salted_strings_anew (password_key l.fn.from) (password_key l.fn.to))) all l.octets l.at
+
+abbrev pub decreases-loop-at : goal.decreases-loop-at
+decreases-loop-at l = length l.initial.octets - l.at

@@ -1,0 +1,62 @@
+//! A program that plays the rows of a folder over the broker, and says which differ. It is a test alone.
+//!
+//! It reads three folders where it runs: `rows/` has worked rows, `random/` random ones, and `configurations/` those
+//! that the rows name; `faulty-lines` has lines that are none of a script. What a row is stands in `row`; it is played
+//! with memory in `playing`, and with growths refused in `growths` and `losses`.
+#![tactic(auto)]
+
+mod answers;
+mod faulty;
+mod files;
+mod growths;
+mod losses;
+mod player;
+mod playing;
+mod row;
+mod tally;
+
+use crate::player::Player;
+use roam_testing::Refusing;
+use std::process::ExitCode;
+use std::{fs, io};
+
+/// The names of the files in a folder, in order.
+fn names(rt: &HostRuntime, folder: &str) -> io::Result<Vec<String>> {
+    let mut names = Vec::new(rt.alloc());
+    for entry in fs::read_dir(rt, folder)? {
+        names.push(String::from_str(rt.alloc(), entry?.file_name())?)?;
+    }
+    names.sort()?;
+    Ok(names)
+}
+
+/// Plays the rows of all files of a folder.
+fn plays_folder(player: &mut Player<'_, '_>, folder: &str) -> io::Result<()> {
+    let rt = player.rt;
+    for name in names(rt, folder)?.iter() {
+        player.file = format!(in rt.alloc(); "{folder}/{name}")?;
+        let text = fs::read_to_string(rt, player.file.as_str())?;
+        player.plays_text(text.as_str())?;
+    }
+    Ok(())
+}
+
+/// Plays all rows, and says how many. Whether all is as they say.
+fn plays_all(rt: &HostRuntime) -> io::Result<bool> {
+    let refusing = Refusing::new(rt.alloc());
+    let mut player = Player::new(rt, &refusing);
+    plays_folder(&mut player, "rows")?;
+    plays_folder(&mut player, "random")?;
+    player.file = String::from_str(rt.alloc(), "faulty-lines")?;
+    let faulty = fs::read_to_string(rt, "faulty-lines")?;
+    player.finds_faults(faulty.as_str())?;
+    player.tally.print(rt)?;
+    Ok(player.tally.is_clean())
+}
+
+fn main(rt: HostRuntime) -> ExitCode {
+    match plays_all(&rt) {
+        Ok(is_clean) => ExitCode::from(u8::from(!is_clean)),
+        Err(_) => ExitCode::from(2),
+    }
+}

@@ -1,0 +1,120 @@
+//! What plays rows: it compares answers with the row, and tells what differs.
+
+use crate::answers::{WANTING, first_difference, print_answer};
+use crate::row::Step;
+use crate::tally::Tally;
+use roam_conf::Config;
+use roam_core::{Broker, Event, Stepper};
+use roam_testing::Refusing;
+use std::alloc::Global;
+use std::io;
+use std::io::Write;
+
+/// The allocator over which brokers and events grow.
+pub(crate) type Over<'r> = &'r Refusing<Global>;
+
+/// The broker that plays.
+pub(crate) type Playing<'c, 'r> = Broker<'c, Over<'r>>;
+
+/// How many differences are told. The others are counted alone.
+const MOST_TOLD: u64 = 20;
+
+/// Plays rows, and never gives up: what it can't keep or print is a difference too.
+#[derive(Drop)]
+pub(crate) struct Player<'p, 'r> {
+    pub(crate) rt: &'p HostRuntime,
+    pub(crate) over: Over<'r>,
+    pub(crate) tally: Tally,
+    /// The file of the row that is played.
+    pub(crate) file: String,
+    /// What was answered last, as lines.
+    pub(crate) got: Vec<u8>,
+}
+
+impl<'p, 'r> Player<'p, 'r> {
+    pub(crate) fn new(rt: &'p HostRuntime, over: Over<'r>) -> Player<'p, 'r> {
+        Player {
+            rt,
+            over,
+            tally: Tally::new(),
+            file: String::new(rt.alloc()),
+            got: Vec::new(rt.alloc()),
+        }
+    }
+
+    /// Prints a difference.
+    fn print_difference(&self, line: usize, how: &str, wanted: &str, got: &str) -> io::Result<()> {
+        let rt = self.rt;
+        rt.print(self.file.as_str())?;
+        rt.print(" line ")?;
+        rt.print(line)?;
+        for part in [": ", how, ": wanted ", wanted, ", got ", got] {
+            rt.print(part)?;
+        }
+        rt.println("")
+    }
+
+    /// Counts a difference, and tells it.
+    pub(crate) fn tell(&mut self, line: usize, how: &str, wanted: &str, got: &str) {
+        if self.tally.count_difference() <= MOST_TOLD {
+            let told = self.print_difference(line, how, wanted, got);
+            self.needs(told);
+        }
+    }
+
+    /// Counts what couldn't be kept or printed.
+    pub(crate) fn needs(&mut self, done: io::Result<()>) {
+        if done.is_err() {
+            self.tally.count_difference();
+        }
+    }
+
+    /// Whether what was answered last is what is wanted. Tells where it isn't.
+    pub(crate) fn is_answer(&mut self, line: usize, how: &str, wanted: &[u8]) -> bool {
+        if wanted == self.got.as_slice() {
+            return true;
+        }
+        self.tell_answer(line, how, wanted);
+        false
+    }
+
+    /// Tells the first line in which what was answered last differs from what is wanted.
+    pub(crate) fn tell_answer(&mut self, line: usize, how: &str, wanted: &[u8]) {
+        let wanted = std::str::from_utf8(wanted).unwrap_or("no text");
+        let text = std::mem::replace(&mut self.got, Vec::new(self.rt.alloc()));
+        let got = std::str::from_utf8(text.as_slice()).unwrap_or("no text");
+        let (wanted, got) = first_difference(wanted, got);
+        self.tell(line, how, wanted, got);
+    }
+
+    /// A fresh broker of a configuration, for which there is memory.
+    pub(crate) fn fresh<'c>(&mut self, config: &'c Config) -> Option<Playing<'c, 'r>> {
+        self.over.refuse_nth(0);
+        let broker = Broker::new(self.over, config).ok();
+        if broker.is_none() {
+            self.tell(0, "a fresh broker", "a broker", "want of memory");
+        }
+        broker
+    }
+
+    /// Gives an event to a broker.
+    pub(crate) fn give(&mut self, broker: &mut Playing<'_, 'r>, event: &Event<Over<'r>>) {
+        self.got.clear();
+        let printed = match broker.step(event) {
+            Ok(answer) => print_answer(&mut self.got, &answer),
+            Err(_) => self.got.write_all(WANTING.as_bytes()),
+        };
+        self.needs(printed);
+    }
+
+    /// Gives an event to a broker. Whether it is answered as the row says.
+    pub(crate) fn steps(
+        &mut self,
+        broker: &mut Playing<'_, 'r>,
+        step: &Step<Over<'r>>,
+        how: &str,
+    ) -> bool {
+        self.give(broker, &step.event);
+        self.is_answer(step.line, how, step.answer.as_bytes())
+    }
+}

@@ -1,0 +1,89 @@
+//! Playing a row with memory: event by event, as a simulation, and in one run.
+
+use crate::answers::print_packets;
+use crate::player::{Over, Player};
+use crate::row::Row;
+use roam_conf::Config;
+use roam_core::{Event, run};
+use roam_sim::sim;
+use std::io::Write;
+
+impl<'p, 'r> Player<'p, 'r> {
+    /// Tells how many growths an event asked for.
+    fn tell_growths(&mut self, line: usize, most: u64, growths: u64) {
+        let mut wanted = Vec::new(self.rt.alloc());
+        let printed = write!(&mut wanted, "at most {most}");
+        self.needs(printed);
+        self.got.clear();
+        let printed = write!(&mut self.got, "{growths}");
+        self.needs(printed);
+        self.tell_answer(line, "growths", wanted.as_slice());
+    }
+
+    /// Looks at how many growths an event asked for, where the row says how many that may be.
+    fn is_within(&mut self, line: usize, most: Option<u64>) {
+        let growths = self.over.growths();
+        if let Some(most) = most {
+            if growths > most {
+                self.tell_growths(line, most, growths);
+            }
+        }
+    }
+
+    /// Gives a row's events to a broker, one after the other. Whether each is answered as the row says.
+    pub(crate) fn plays_steps(&mut self, row: &Row<Over<'r>>, config: &Config) -> bool {
+        let Some(mut broker) = self.fresh(config) else {
+            return false;
+        };
+        for step in row.steps.iter() {
+            self.over.refuse_nth(0);
+            let is_answered = self.steps(&mut broker, step, "step");
+            self.is_within(step.line, step.most_growths);
+            if !is_answered {
+                return false;
+            }
+        }
+        true
+    }
+
+    /// Simulates a row: the lines that are written are those of its packets.
+    pub(crate) fn plays_sim(
+        &mut self,
+        row: &Row<Over<'r>>,
+        configuration: &str,
+        script: &str,
+    ) -> bool {
+        self.got.clear();
+        let how = match sim(self.rt.alloc(), configuration, script, &mut self.got) {
+            Ok(()) => "sim",
+            Err(_) => "sim, which ends early",
+        };
+        self.is_answer(row.line, how, row.packets.as_bytes())
+    }
+
+    /// Runs a row's events: none is lost, and the packets are those of the row.
+    pub(crate) fn plays_run(
+        &mut self,
+        row: &Row<Over<'r>>,
+        config: &Config,
+        events: &[Event<Over<'r>>],
+    ) -> bool {
+        let Some(mut broker) = self.fresh(config) else {
+            return false;
+        };
+        self.got.clear();
+        let how = match run(self.over, &mut broker, events) {
+            Ok(outcome) => {
+                let printed = print_packets(&mut self.got, &outcome.outs);
+                self.needs(printed);
+                if outcome.lost.is_empty() {
+                    "run"
+                } else {
+                    "run, which loses an event"
+                }
+            }
+            Err(_) => "run, which wants memory",
+        };
+        self.is_answer(row.line, how, row.packets.as_bytes())
+    }
+}

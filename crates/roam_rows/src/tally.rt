@@ -1,0 +1,71 @@
+//! How much was played, and how much of it differed.
+
+use std::io;
+
+/// How much was played, and how much of it differed.
+#[derive(Clone, Copy)]
+pub(crate) struct Tally {
+    rows: u64,
+    events: u64,
+    /// The growths that were refused.
+    growths: u64,
+    /// The faulty lines that were looked at.
+    faulty_lines: u64,
+    /// What wasn't as the rows say.
+    differences: u64,
+}
+
+impl Tally {
+    pub(crate) fn new() -> Tally {
+        Tally {
+            rows: 0,
+            events: 0,
+            growths: 0,
+            faulty_lines: 0,
+            differences: 0,
+        }
+    }
+
+    /// Counts a row and its events.
+    pub(crate) fn count_row(&mut self, events: usize) {
+        self.rows = self.rows.saturating_add(1);
+        self.events = self.events.saturating_add(events as u64);
+    }
+
+    /// Counts a refused growth.
+    pub(crate) fn count_growth(&mut self) {
+        self.growths = self.growths.saturating_add(1);
+    }
+
+    /// Counts a faulty line.
+    pub(crate) fn count_faulty_line(&mut self) {
+        self.faulty_lines = self.faulty_lines.saturating_add(1);
+    }
+
+    /// Counts a difference: how many there are with it.
+    pub(crate) fn count_difference(&mut self) -> u64 {
+        self.differences = self.differences.saturating_add(1);
+        self.differences
+    }
+
+    /// Whether all is as the rows say.
+    pub(crate) fn is_clean(&self) -> bool {
+        self.differences == 0
+    }
+
+    /// Prints the line of counts.
+    pub(crate) fn print(&self, rt: &impl Print) -> io::Result<()> {
+        let counts = [
+            (self.rows, " rows, "),
+            (self.events, " events, "),
+            (self.growths, " refused growths, "),
+            (self.faulty_lines, " faulty lines, "),
+            (self.differences, " differences\n"),
+        ];
+        for (count, what) in counts {
+            rt.print(count)?;
+            rt.print(what)?;
+        }
+        Ok(())
+    }
+}

@@ -1,0 +1,121 @@
+"""The configurations of the rows, each under the name that the rows say."""
+
+TOP = '''shards = {shards}
+seed = "{seed}"
+auth = "127.0.0.1:1812"
+acct = "127.0.0.1:1813"
+trace_limit = {trace_limit}
+
+[[peer]]
+name = "nas1"
+ip = "192.0.2.1"
+secret = "xyzzy5461"
+coa = "192.0.2.1:3799"
+nas_ip = "192.0.2.1"
+nas_id = "nas1"
+'''
+REALM = '''
+[[realm]]
+name = "{name}"
+out = "127.0.0.1:{out}"
+reverse = "127.0.0.1:{reverse}"
+tries = {tries}
+wait = {wait}
+hold = {hold}
+max_pending = {max_pending}
+max_sessions = 100
+'''
+SERVER = '''
+[[realm.server]]
+auth = "{ip}:1812"
+acct = "{ip}:1813"
+secret = "{secret}"
+'''
+
+
+def server(ip, secret):
+    return SERVER.format(ip=ip, secret=secret)
+
+
+def servers(count):
+    """The first so many home servers."""
+    return [server(f"198.51.100.{n}", f"h{n}") for n in range(1, count + 1)]
+
+
+def realm(name, servers, tries=2, wait=1000, hold=5000, max_pending=300):
+    """A realm as a function of its index."""
+    def table(index):
+        return REALM.format(name=name, out=2000 + index, reverse=3000 + index, tries=tries, wait=wait,
+                            hold=hold, max_pending=max_pending) + "".join(servers)
+    return table
+
+
+def configuration(*realms, shards=1, trace_limit=1000, ip="127.0.0.1"):
+    """A configuration of these realms, whose own sockets have this address."""
+    text = TOP.format(shards=shards, seed="0" * 64, trace_limit=trace_limit)
+    text += "".join(table(index) for index, table in enumerate(realms))
+    return text.replace('"127.0.0.1:', f'"{ip}:')
+
+
+def one(count=1, **keys):
+    """One realm with so many servers."""
+    return configuration(realm("a.example", servers(count), **keys))
+
+
+def many(names, count=1, shards=1, **keys):
+    """Realms of these letters that share so many servers."""
+    return configuration(*(realm(f"{n}.example", servers(count), **keys) for n in names), shards=shards)
+
+
+def small(names, count, shards=1, **keys):
+    """Realms with short names, for random scripts."""
+    return configuration(*(realm(n, servers(count), **keys) for n in names), shards=shards)
+
+
+# Another world for the second realm: other endpoints, another first realm with a secret of its own at the same
+# server, and realms behind.
+OTHER_WORLD = configuration(
+    realm("x.example", [server("198.51.100.1", "zz")], tries=1, wait=10, hold=0, max_pending=1),
+    realm("b.example", servers(2)),
+    realm("c.example", [server("198.51.100.2", "h2")], tries=3, wait=500, hold=10, max_pending=20),
+    realm("d.example", servers(1)),
+    realm("e.example", [server("203.0.113.7", "h1")], tries=1, wait=100, hold=60000, max_pending=4096),
+    shards=3, trace_limit=7, ip="127.0.0.9")
+
+CONFIGURATIONS = {
+    "one-server": one(),
+    "no-hold": one(hold=0),
+    "short-hold": one(2, hold=1000),
+    "four-tries": one(tries=4, wait=10),
+    "one-place": one(max_pending=1),
+    "two-places": one(max_pending=2),
+    "256-places": one(max_pending=256),
+    "two-servers": one(2),
+    "two-servers-of-many-places": one(2, max_pending=4096),
+    "one-try-at-two-servers": one(2, tries=1, max_pending=4096),
+    "one-try-at-three-servers": one(3, tries=1, wait=1),
+    "two-realms": many("ab"),
+    "two-shards": configuration(realm("a.example", servers(1)),
+                                realm("b.example", servers(1), wait=500, tries=3), shards=2),
+    "two-shards-and-one-realm": configuration(realm("a.example", servers(1), max_pending=1), shards=2),
+    "few-places": configuration(realm("a.example", servers(1), max_pending=1),
+                                realm("b.example", servers(1), max_pending=2)),
+    "a-shard-without-realms": many("ab", shards=3),
+    "three-realms": many("abc", 2, tries=1),
+    "three-realms-in-two-shards": many("abc", 2, tries=1, shards=2),
+    "three-secrets-of-one-server": configuration(
+        *(realm(f"{n}.example", [server("198.51.100.1", f"h{i}")]) for i, n in enumerate("abc", 1))),
+    "three-realms-and-a-short-hold": configuration(
+        realm("a.example", servers(2), hold=1000), realm("b.example", servers(2), hold=1000),
+        realm("c.example", servers(1), hold=1000)),
+    "one-world": configuration(realm("a.example", servers(1)), realm("b.example", servers(2))),
+    "other-world": OTHER_WORLD,
+    "small": small("a", 1, wait=10, hold=20, max_pending=4),
+    "small-and-shared": configuration(
+        realm("a", servers(1), wait=10, hold=5, max_pending=2),
+        realm("b", servers(1), wait=15, hold=0, tries=1, max_pending=3)),
+    "small-in-two-shards": configuration(
+        realm("a", servers(2), wait=10, hold=30, tries=1, max_pending=4),
+        realm("b", servers(3), wait=5, hold=20, tries=2, max_pending=3),
+        realm("c", servers(2)[::-1], wait=20, hold=10, tries=3, max_pending=5), shards=2),
+}
