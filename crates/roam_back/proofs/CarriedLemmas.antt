@@ -1,5 +1,5 @@
 -- What the returned packet carries of the reply.
-use Rattle.std.proofs.Common.{◌≡◌, ◌≢◌, ℕ, ◌+◌, Bool, true, false, inl, inr, List, [], ◌∷◌, ◌++◌, map, refl, sym, ap, subst, ◌∙◌, arith}
+use Rattle.std.proofs.Common.{◌≡◌, ◌≢◌, ℕ, Bool, true, false, inl, inr, List, [], ◌∷◌, ◌++◌, map, refl, ap, ◌∙◌, arith}
 use Rattle.std.specs.Prelude.{if◌then◌else◌, ◌==◌, not}
 use Rattle.std.specs.List.{AllZip}
 use Rattle.std.proofs.lemmas.Bool.{cases_Bool, eq-eqb, ne_eqb}
@@ -10,14 +10,14 @@ use Rattle.roam_wire.specs.declared.attribute_type.TheConstants.{PROXY_STATE, ME
 use Rattle.roam_wire.specs.declared.code.TheConstants.{ACCESS_ACCEPT}
 use Rattle.roam_auth.specs.Authenticators.{zero_octets}
 use Rattle.roam_auth.specs.MessageAuthenticator.{attribute_with_value}
-use Rattle.roam_auth.proofs.ValueLemmas.{stands_in_place, count_of-no}
+use Rattle.roam_auth.proofs.ValueLemmas.{stands_in_place}
 use Rattle.roam_auth.proofs.SealingLemmas.{count_of-append}
 use Rattle.roam_hide.specs.Hiding.{Key}
 use Rattle.roam_hide.specs.SaltedFunctions.{tunnel_anew, vendor_anew}
 use Rattle.roam_hide.specs.SaltedValues.{IsTunnelAnew, IsVendorAnew}
 use Rattle.roam_hide.proofs.SaltedFunctionLemmas.{tunnel_anew_is, vendor_anew_is}
-use Rattle.roam_back.specs.ReplyCheck.{is_access_reply}
-use Rattle.roam_back.specs.Returned.{Returning, proxy_states, with_salted_anew, carried_attributes, unsealed, returned}
+use Rattle.roam_wire.specs.Codes.{is_access_reply}
+use Rattle.roam_back.specs.Returned.{Returning, proxy_states, with_salted_anew, carried_attributes, returned}
 use Rattle.roam_back.specs.CarriedLaws.{own_attributes, IsCarried}
 use Rattle.roam_back.proofs.ReturnedLemmas.{count_of-only, other_kind, carried-others}
 use Rattle.roam_back.proofs.EveryCodeLemmas.{carried-access, count_of-rest, access_rest, seal_of, seal_apart}

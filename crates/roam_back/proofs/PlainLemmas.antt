@@ -4,19 +4,18 @@ use Rattle.std.specs.Prelude.{◌==◌, if◌then◌else◌}
 use Rattle.std.specs.List.{AllByRecursion}
 use Rattle.std.proofs.lemmas.Bool.{cases_Bool, eqb-true}
 use Rattle.std.proofs.lemmas.List.{take_at, drop_at, map-append}
-use Rattle.std.proofs.lemmas.List.Concat.{flat_map-append}
 use Rattle.roam_wire.specs.Packet.{Attribute, IsAttribute, Packet, IsPacket, attribute_text, attributes_text, packet_length, packet_text}
 use Rattle.roam_wire.specs.Reading.{IsPacketText, packet_of}
 use Rattle.roam_wire.specs.Attributes.{has_kind, only_kind, without_kind}
 use Rattle.roam_wire.specs.declared.attribute_type.TheConstants.{PROXY_STATE, MESSAGE_AUTHENTICATOR}
 use Rattle.roam_wire.specs.declared.code.TheConstants.{ACCESS_ACCEPT}
-use Rattle.roam_wire.proofs.BuildingLemmas.{AreTextOf, AreTextOf-packet_text}
+use Rattle.roam_wire.proofs.LawLemmas.{AreTextOf, AreTextOf-packet_text}
 use Rattle.roam_wire.proofs.OctetLemmas.{AreOctets-zeros}
 use Rattle.roam_auth.proofs.SealingLemmas.{length-attributes_text-append}
 use Rattle.roam_hide.specs.declared.packet_values.Hidden.TheVariants.{SaltedStrings}
 use Rattle.roam_hide.specs.Hiding.{Key}
 use Rattle.roam_hide.specs.PacketAnew.{packet_anew, CanBeHiddenAnew}
-use Rattle.roam_back.specs.ReplyCheck.{is_access_reply}
+use Rattle.roam_wire.specs.Codes.{is_access_reply}
 use Rattle.roam_back.specs.Returned.{Returning, proxy_states, with_salted_anew, carried_attributes, unsealed, returned_length}
 use Rattle.roam_back.specs.Plain.{is_carried, first_seal, plain_attributes, plain_packet}
 use Rattle.roam_back.proofs.ReturnedLemmas.{short_kept, short_joined, carried-others}

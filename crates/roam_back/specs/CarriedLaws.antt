@@ -8,7 +8,7 @@ use Rattle.roam_wire.specs.declared.attribute_type.TheConstants.{PROXY_STATE, ME
 use Rattle.roam_wire.specs.declared.code.TheConstants.{ACCESS_ACCEPT}
 use Rattle.roam_hide.specs.Hiding.{Key}
 use Rattle.roam_hide.specs.SaltedValues.{IsTunnelAnew, IsVendorAnew}
-use Rattle.roam_back.specs.ReplyCheck.{is_access_reply}
+use Rattle.roam_wire.specs.Codes.{is_access_reply}
 use Rattle.roam_back.specs.Returned.{Returning, proxy_states, returned}
 
 -- the reply's attributes but for Proxy-States and Message-Authenticator

@@ -8,14 +8,31 @@ ghost use Rattle.roam_wire.specs.Shown.{shown};
 ghost use Rattle.roam_back.specs.Returned.{Returning, returned_length};
 ghost use Rattle.roam_back.specs.Plain.{is_carried, first_seal, plain_packet};
 
-use crate::reply_check::is_access_reply;
 use roam_wire::attribute_type::{MESSAGE_AUTHENTICATOR, PROXY_STATE};
+use roam_wire::code::is_access_reply;
 use roam_wire::{Attr, View};
 use std::alloc::Allocator;
 
 /// A Message-Authenticator that is still to be filled in (RFC 3579, section 3.2).
 const EMPTY_SEAL: [u8; 18] = [
-    MESSAGE_AUTHENTICATOR, 18, 0, 0, 0, 0, 0, 0, 0, 0, 0, 0, 0, 0, 0, 0, 0, 0,
+    MESSAGE_AUTHENTICATOR,
+    18,
+    0,
+    0,
+    0,
+    0,
+    0,
+    0,
+    0,
+    0,
+    0,
+    0,
+    0,
+    0,
+    0,
+    0,
+    0,
+    0,
 ];
 
 /// Whether an attribute of a reply is returned: no Proxy-State is, and no Message-Authenticator of an

@@ -12,7 +12,7 @@ use crate::appending::{append_plain, returned_len};
 use roam_auth::{seal, sign_reply};
 use roam_hide::{Hidden, HidingKey, rehide_packet};
 use roam_wire::code::ACCESS_ACCEPT;
-use roam_wire::{Refusal, View};
+use roam_wire::{MAX_PACKET_LENGTH, Refusal, View};
 use std::alloc::Allocator;
 
 /// Hides the salted strings of an Access-Accept anew, in place.
@@ -137,7 +137,8 @@ fn finish_from<A: Allocator>(
 /// which the reply came, `client_secret` is the requester's; secrets have 1 to 64 octets.
 ///
 /// Refused in this order: `ReplyTooLong` where the packet would pass 4096 octets, looked at before
-/// memory is asked for; `NoMemory`. A refusal leaves the buffer's octets as they were.
+/// memory is asked for; `NoMemory`. A refusal leaves the buffer as it was, and its
+/// capacity.
 pub fn back<A: Allocator>(
     reply: &View<'_>,
     request: &View<'_>,
@@ -158,6 +159,7 @@ pub fn back<A: Allocator>(
           client_secret = client_secret.now;
         }) reply.now request.now)) }
     ensures err { OnErr result (out.new.items ≡ out.old.items) }
+    ensures capacity { OnErr result (vec_capacity out.new ≡ vec_capacity out.old) }
 
     // The size is looked at before memory is asked for.
     ensures reply_too_long { IsErrOf result Refusal.ReplyTooLong
@@ -177,7 +179,7 @@ pub fn back<A: Allocator>(
         }) reply.now request.now }
 {
     let size = returned_len(reply, request);
-    if size > 4096 {
+    if size > MAX_PACKET_LENGTH {
         return Err(Refusal::ReplyTooLong);
     }
     out.reserve(size).map_err(|_| Refusal::NoMemory)?;

@@ -1,16 +1,18 @@
 -- A text's parts, and the decimal number that it is.
-use Rattle.std.proofs.Common.{◌≡◌, ℕ, ◌<◌, ◌^◌, true, false, cond, eqb, leb, ◌&&◌, List, [], ◌∷◌, length, get_or, Option, Some, None, Ok, Err, MatchOption, Bor, refl, sym, arith, rules}
+use Rattle.std.proofs.Common.{◌≡◌, ℕ, ◌<◌, ◌≤◌, ◌^◌, true, false, cond, eqb, leb, ◌&&◌, List, [], ◌∷◌, length, get_or, Option, Some, None, Ok, Err, MatchOption, Bor, refl, sym, ap, arith, rules}
 use Rattle.std.proofs.lemmas.Bool.Decides.{nat_tests}
 use Rattle.std.proofs.lemmas.Grind.{common_steps}
 use Rattle.std.proofs.lemmas.List.Splits.{slice_split_none, slice_split_first, join_with_byte-slice_split}
 use Rattle.std.proofs.lemmas.List.Recursion.{and_at}
+use Rattle.std.proofs.lemmas.Option.{same_Some}
 use Rattle.std.proofs.lemmas.Str.Parse.{IsNumeralModel, numerals_by_value, parse_digits}
 use Rattle.std.proofs.lemmas.Str.Pattern.{IsSplitOnceResult, split_parts, split_once_first}
 use Rattle.std.specs.Char.{is_ascii_digit}
 use Rattle.std.specs.List.{list_all, All}
 use Rattle.std.specs.Result.{OkIff}
 use Rattle.std.specs.Str.Parse.{ParsesUnsigned, digits_value}
-use Rattle.roam_conf.specs.Texts.{is_decimal, decimal_in, parts, four_octets, all_four, address_in, address_and_port, endpoint_from}
+use Rattle.roam_conf.specs.declared.endpoint.Endpoint.{Endpoint}
+use Rattle.roam_conf.specs.Texts.{is_decimal, decimal_in, parts, four_octets, all_four, address_in, address_and_port, endpoint_from, endpoint_in}
 
 own : IsNumeralModel (λ ds. list_all is_ascii_digit ds ≡ true) (digits_value 10)
 own = numerals_by_value _ (search rules)
@@ -110,5 +112,26 @@ address_and_port_at ip port None (x ∷ y ∷ more) is cut = sym (no_port _)
 -- what follows the colon is the port or none
 pub address_and_port-parts : (ip port : List ℕ) → address_and_port (ip ∷ parts 58 port) ≡ endpoint_from (address_in ip) (decimal_in 1 65535 port)
 address_and_port-parts ip port = address_and_port_at ip port _ _ refl refl
+
+decimal_in-least : (least most : ℕ) (text : List ℕ) (n : ℕ) → decimal_in least most text ≡ Some n → least ≤ n
+unfolding decimal_in
+decimal_in-least least most text n is = grind (arith, nat_tests)
+
+port_of : (ip : Option (List ℕ)) (port : Option ℕ) (e : Endpoint) → endpoint_from ip port ≡ Some e → ((n : ℕ) → port ≡ Some n → 1 ≤ n) → 1 ≤ e.port
+port_of None port e is least = cc
+port_of (Some ip) None e is least = cc
+port_of (Some ip) (Some n) e is least =
+    let same : n ≡ e.port = ap (λ (x : Endpoint). x.port) (same_Some (record { ip = ip; port = n }) e is) in
+    rw same at (least n refl)
+
+port_in : (texts : List (List ℕ)) (e : Endpoint) → address_and_port texts ≡ Some e → 1 ≤ e.port
+port_in (ip ∷ port ∷ []) e is =
+    port_of (address_in ip) (decimal_in 1 65535 port) e is (decimal_in-least 1 65535 port)
+port_in texts e is = cc
+
+-- the port of an endpoint that a text states isn't 0
+pub endpoint_in-port : (text : List ℕ) (e : Endpoint) → endpoint_in text ≡ Some e → 1 ≤ e.port
+unfolding endpoint_in
+endpoint_in-port text e is = port_in (parts 58 text) e is
 
 pub ruleset shown_parts = (four_octets-parts, address_and_port-parts)

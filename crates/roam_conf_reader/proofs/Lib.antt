@@ -1,4 +1,5 @@
 pub mod ArrayLemmas
 pub mod EachLemmas
 pub mod FaultLemmas
+pub mod RangeLemmas
 pub mod UniqueLemmas

@@ -24,16 +24,19 @@ top_required =
     codes "shards" ∷ codes "seed" ∷ codes "auth" ∷ codes "acct" ∷ codes "trace_limit"
     ∷ codes "peer" ∷ codes "realm" ∷ []
 
--- the keys that a table may have: only a peer's has optional ones
-abbrev pub peer_keys : List (List ℕ)
-peer_keys =
-    codes "name" ∷ codes "ip" ∷ codes "secret"
-    ∷ codes "coa" ∷ codes "nas_ip" ∷ codes "nas_id" ∷ codes "require_seal" ∷ []
+-- the keys that a peer's table may have besides; the other tables have required keys only
+abbrev pub peer_optional : List (List ℕ)
+peer_optional = codes "coa" ∷ codes "nas_ip" ∷ codes "nas_id" ∷ codes "require_seal" ∷ []
+
+-- the key is one of these
+abbrev pub is_one_of : List (List ℕ) → List ℕ → Bool
+is_one_of keys key = list_any (bytes_eq key) keys
 
 -- each key of the table is one of these
-abbrev pub has_only : List (List ℕ) → Members → Bool
-has_only keys no_members = true
-has_only keys (member key found rest) = list_any (bytes_eq key) keys && has_only keys rest
+abbrev pub has_only : List (List ℕ) → List (List ℕ) → Members → Bool
+has_only required optional no_members = true
+has_only required optional (member key found rest) =
+    (is_one_of required key || is_one_of optional key) && has_only required optional rest
 
 -- the items are tables that state these values, one each and in this order
 abbrev pub StatesEach : {V : Type 0} → (Members → V → Type 0) → Items → List V → Type 0
@@ -51,7 +54,7 @@ pub record StatesServer (members : Members) (server : ServerView) : Type 0 where
   pub auth : value_at endpoint (codes "auth") members ≡ Some server.auth
   pub acct : value_at endpoint (codes "acct") members ≡ Some server.acct
   pub secret : value_at (text 64 (letters_of Any)) (codes "secret") members ≡ Some server.secret
-  pub no_other_key : has_only server_required members ≡ true
+  pub no_other_key : has_only server_required [] members ≡ true
 
 -- a table of the array `peer`
 pub record StatesPeer (members : Members) (peer : PeerView) : Type 0 where
@@ -62,7 +65,7 @@ pub record StatesPeer (members : Members) (peer : PeerView) : Type 0 where
   pub nas_ip : optional_at address (codes "nas_ip") members ≡ Some peer.nas_ip
   pub nas_id : optional_at (text 253 (letters_of Any)) (codes "nas_id") members ≡ Some peer.nas_id
   pub require_seal : flag (get_member (codes "require_seal") members) ≡ Some peer.require_seal
-  pub no_other_key : has_only peer_keys members ≡ true
+  pub no_other_key : has_only peer_required peer_optional members ≡ true
 
 -- a table of the array `realm`; `wait` and `hold` are in milliseconds
 pub record StatesRealm (members : Members) (realm : RealmView) : Type 0 where
@@ -75,7 +78,7 @@ pub record StatesRealm (members : Members) (realm : RealmView) : Type 0 where
   pub max_pending : value_at (number 1 4096) (codes "max_pending") members ≡ Some realm.max_pending
   pub max_sessions : value_at (number 0 65536) (codes "max_sessions") members ≡ Some realm.max_sessions
   pub servers : StatesTables StatesServer (value_at (array_of 8) (codes "server") members) realm.servers
-  pub no_other_key : has_only realm_required members ≡ true
+  pub no_other_key : has_only realm_required [] members ≡ true
 
 -- the whole document
 pub record StatesConfig (members : Members) (config : ConfigView) : Type 0 where
@@ -86,7 +89,7 @@ pub record StatesConfig (members : Members) (config : ConfigView) : Type 0 where
   pub trace_limit : value_at (number 1 1000000) (codes "trace_limit") members ≡ Some config.trace_limit
   pub peers : StatesTables StatesPeer (value_at (array_of 256) (codes "peer") members) config.peers
   pub realms : StatesTables StatesRealm (value_at (array_of 256) (codes "realm") members) config.realms
-  pub no_other_key : has_only top_required members ≡ true
+  pub no_other_key : has_only top_required [] members ≡ true
 
 -- each of the keys stands in the table
 abbrev pub has_all : List (List ℕ) → Members → Bool
@@ -103,18 +106,18 @@ abbrev pub within : (Members → Bool) → Option Data → Bool
 within test (Some (array items)) = some_table test items
 within test _ = false
 
--- a required key is absent from the table, or from a table within it
-unfoldable pub server_misses : Members → Bool
-server_misses members = not (has_all server_required members)
+-- one of the required keys is absent from the table
+abbrev pub misses : List (List ℕ) → Members → Bool
+misses required members = not (has_all required members)
 
-unfoldable pub peer_misses : Members → Bool
-peer_misses members = not (has_all peer_required members)
-
+-- the same of a realm's table, or of one of its servers'
 unfoldable pub realm_misses : Members → Bool
-realm_misses members = not (has_all realm_required members) || within server_misses (get_member (codes "server") members)
+realm_misses members =
+    misses realm_required members || within (misses server_required) (get_member (codes "server") members)
 
+-- the same of the document, or of a table within it
 unfoldable pub document_misses : Members → Bool
 document_misses members =
-    not (has_all top_required members)
-    || within peer_misses (get_member (codes "peer") members)
+    misses top_required members
+    || within (misses peer_required) (get_member (codes "peer") members)
     || within realm_misses (get_member (codes "realm") members)

@@ -3,4 +3,5 @@ pub mod Faults
 pub mod Reading
 pub mod StatedParts
 pub mod Tables
+pub mod Texts
 pub mod Values

@@ -1,45 +1,85 @@
 //! The peers that tables state.
 
-ghost use Rattle.std.specs.Prelude.{◌≡◌, Err, IfOk, List, map, vec_len};
+ghost use Rattle.std.specs.Prelude.{◌≡◌, Err, IfOk, List, MatchOption, map, option_map, string_bytes};
+ghost use Rattle.std.specs.Option.{option_copied};
 ghost use Rattle.toml.specs.View.{array_view, table_view};
 ghost use Rattle.roam_conf.specs.Config.{PeerView};
-ghost use Rattle.roam_conf_reader.specs.Document.{StatesEach, StatesPeer};
 ghost use Rattle.roam_conf.specs.Parts.{shown_peer};
-ghost use Rattle.roam_conf_reader.specs.Reading.{IsValueFault};
+ghost use Rattle.roam_conf_reader.specs.Document.{StatesEach, StatesPeer};
+ghost use Rattle.roam_conf_reader.specs.Reading.{IsValueFault, IsMemoryFault};
+ghost use Rattle.roam_conf_reader.specs.Texts.{peer_in};
 
-use crate::tables::{TableKind, has_only};
+use crate::tables::{PEER_KEYS, PEER_OPTIONAL_KEYS, has_only};
 use crate::values::Letters;
 use crate::{ConfFault, keys};
-use roam_conf::Peer;
+use roam_conf::{Endpoint, Peer};
 use std::alloc::Global;
 use toml::Table;
 use toml::value::Array;
 
-/// The peer that a table states.
-pub(crate) fn from_table(alloc: Global, table: &Table) -> Result<Peer, ConfFault>
+/// What a table states of a peer. Its texts still stand in the document.
+#[derive(Clone, Copy)]
+struct PeerText<'a> {
+    name: &'a str,
+    ip: [u8; 4],
+    secret: &'a str,
+    coa: Option<Endpoint>,
+    nas_ip: Option<[u8; 4]>,
+    nas_id: Option<&'a str>,
+    require_seal: bool,
+}
+
+/// What a table states of a peer; nothing where one of its values is bad.
+fn peer_text(table: &Table) -> Option<PeerText<'_>>
+    ensures { MatchOption result
+        ((p : PeerView) → ¬ (StatesPeer (table_view table.now) p))
+        (λ text. StatesPeer (table_view table.now) (peer_in text)) }
+{
+    if !has_only(table, &PEER_KEYS, &PEER_OPTIONAL_KEYS) {
+        return None;
+    }
+    Some(PeerText {
+        name: keys::text(table, "name", 64, Letters::PeerName)?,
+        ip: keys::address(table, "ip")?,
+        secret: keys::text(table, "secret", 64, Letters::Any)?,
+        coa: keys::optional_endpoint(table, "coa")?,
+        nas_ip: keys::optional_address(table, "nas_ip")?,
+        nas_id: keys::optional_text(table, "nas_id", 253)?,
+        require_seal: keys::flag(table, "require_seal")?,
+    })
+}
+
+/// A copy of a text that may be absent.
+fn copied(alloc: Global, text: Option<&str>) -> Result<Option<String>, ConfFault>
+    ensures ok { IfOk result (λ o. option_map string_bytes o ≡ option_copied text.entry) }
+    ensures causes { IsMemoryFault result }
+{
+    match text {
+        Some(text) => Ok(Some(String::from_str(alloc, text)?)),
+        None => Ok(None),
+    }
+}
+
+/// The peer that a table states. Memory is asked for only where the table states one.
+fn from_table(alloc: Global, table: &Table) -> Result<Peer, ConfFault>
     ensures ok { IfOk result (λ p. StatesPeer (table_view table.now) (shown_peer p)) }
     ensures bad { result ≡ Err ConfFault.BadValue
         → (p : PeerView) → ¬ (StatesPeer (table_view table.now) p) }
+    ensures memory { result ≡ Err ConfFault.Memory
+        → (p : PeerView) × StatesPeer (table_view table.now) p }
     ensures causes { IsValueFault result }
 {
-    let name = keys::text(alloc, table, "name", 64, Letters::PeerName)?;
-    let ip = keys::address(table, "ip")?;
-    let secret = keys::text(alloc, table, "secret", 64, Letters::Any)?;
-    let coa = keys::optional_endpoint(table, "coa")?;
-    let nas_ip = keys::optional_address(table, "nas_ip")?;
-    let nas_id = keys::optional_text(alloc, table, "nas_id", 253)?;
-    let require_seal = keys::flag(table, "require_seal")?;
-    if !has_only(table, TableKind::Peer) {
+    let Some(text) = peer_text(table) else {
         return Err(ConfFault::BadValue);
-    }
+    };
     Ok(Peer {
-        name,
-        ip,
-        secret,
-        coa,
-        nas_ip,
-        nas_id,
-        require_seal,
+        name: String::from_str(alloc, text.name)?,
+        ip: text.ip,
+        secret: String::from_str(alloc, text.secret)?,
+        coa: text.coa,
+        nas_ip: text.nas_ip,
+        nas_id: copied(alloc, text.nas_id)?,
+        require_seal: text.require_seal,
     })
 }
 
@@ -50,7 +90,6 @@ pub(crate) fn all_from(alloc: Global, items: &Array) -> Result<Vec<Peer>, ConfFa
     ensures bad { result ≡ Err ConfFault.BadValue
         → (vs : List PeerView) → ¬ (StatesEach StatesPeer (array_view items.now) vs) }
     ensures causes { IsValueFault result }
-    ensures count { IfOk result (λ v. vec_len v ≡ vec_len items.now) }
 {
     let mut all = Vec::new(alloc);
     for value in items {

@@ -1,50 +1,82 @@
 //! The realms that tables state.
 
-ghost use Rattle.std.specs.Prelude.{◌≡◌, Err, IfOk, List, map, vec_len};
+ghost use Rattle.std.specs.Prelude.{◌≡◌, codes, Err, IfOk, List, MatchOption, Some, map};
 ghost use Rattle.toml.specs.View.{array_view, table_view};
 ghost use Rattle.roam_conf.specs.Config.{RealmView};
-ghost use Rattle.roam_conf_reader.specs.Document.{StatesEach, StatesRealm};
 ghost use Rattle.roam_conf.specs.Parts.{shown_realm};
+ghost use Rattle.roam_conf_reader.specs.declared.realm.RealmText.{RealmText};
+ghost use Rattle.roam_conf_reader.specs.Document.{StatesEach, StatesRealm};
 ghost use Rattle.roam_conf_reader.specs.Reading.{IsValueFault};
+ghost use Rattle.roam_conf_reader.specs.Texts.{StatesBesideServers};
+ghost use Rattle.roam_conf_reader.specs.Values.{array_of, value_at};
 
-use crate::tables::{TableKind, has_only};
+use crate::tables::{REALM_KEYS, has_only};
 use crate::values::Letters;
 use crate::{ConfFault, keys, server};
-use roam_conf::Realm;
+use roam_conf::{Endpoint, Realm};
 use std::alloc::Global;
 use toml::Table;
 use toml::value::Array;
 
-/// The realm that a table states.
-pub(crate) fn from_table(alloc: Global, table: &Table) -> Result<Realm, ConfFault>
+/// What a table states of a realm. Its name and its servers' tables still stand in the document.
+#[derive(Clone, Copy)]
+struct RealmText<'a> {
+    name: &'a str,
+    out: Endpoint,
+    reverse: Endpoint,
+    tries: u8,
+    wait: u32,
+    hold: u32,
+    max_pending: u16,
+    max_sessions: u32,
+    servers: &'a Array,
+}
+
+/// What a table states of a realm; nothing where one of its own values is bad.
+fn realm_text(table: &Table) -> Option<RealmText<'_>>
+    ensures { MatchOption result
+        ((r : RealmView) → ¬ (StatesRealm (table_view table.now) r))
+        (λ text. StatesBesideServers (table_view table.now) text × (value_at (array_of 8)
+        (codes "server") (table_view table.now) ≡ Some (array_view text.servers.now))) }
+{
+    if !has_only(table, &REALM_KEYS, &[]) {
+        return None;
+    }
+    Some(RealmText {
+        name: keys::text(table, "name", 253, Letters::RealmName)?,
+        out: keys::endpoint(table, "out")?,
+        reverse: keys::endpoint(table, "reverse")?,
+        tries: keys::number(table, "tries", 1, 10)? as u8,
+        wait: keys::number(table, "wait", 1, 60000)?,
+        hold: keys::number(table, "hold", 0, 60000)?,
+        max_pending: keys::number(table, "max_pending", 1, 4096)? as u16,
+        max_sessions: keys::number(table, "max_sessions", 0, 65536)?,
+        servers: keys::array(table, "server", 8)?,
+    })
+}
+
+/// The realm that a table states. Memory is asked for only where the table's own values are good.
+fn from_table(alloc: Global, table: &Table) -> Result<Realm, ConfFault>
     ensures ok { IfOk result (λ r. StatesRealm (table_view table.now) (shown_realm r)) }
     ensures bad { result ≡ Err ConfFault.BadValue
         → (r : RealmView) → ¬ (StatesRealm (table_view table.now) r) }
+    ensures memory { result ≡ Err ConfFault.Memory
+        → (text : RealmText) × StatesBesideServers (table_view table.now) text }
     ensures causes { IsValueFault result }
 {
-    let name = keys::text(alloc, table, "name", 253, Letters::RealmName)?;
-    let out = keys::endpoint(table, "out")?;
-    let reverse = keys::endpoint(table, "reverse")?;
-    let tries = keys::number(table, "tries", 1, 10)?;
-    let wait = keys::number(table, "wait", 1, 60000)?;
-    let hold = keys::number(table, "hold", 0, 60000)?;
-    let max_pending = keys::number(table, "max_pending", 1, 4096)?;
-    let max_sessions = keys::number(table, "max_sessions", 0, 65536)?;
-    let tables = keys::array(table, "server", 8)?;
-    let servers = server::all_from(alloc, tables)?;
-    if !has_only(table, TableKind::Realm) {
+    let Some(text) = realm_text(table) else {
         return Err(ConfFault::BadValue);
-    }
+    };
     Ok(Realm {
-        name,
-        out,
-        reverse,
-        tries: tries as u8,
-        wait,
-        hold,
-        max_pending: max_pending as u16,
-        max_sessions,
-        servers,
+        name: String::from_str(alloc, text.name)?,
+        out: text.out,
+        reverse: text.reverse,
+        tries: text.tries,
+        wait: text.wait,
+        hold: text.hold,
+        max_pending: text.max_pending,
+        max_sessions: text.max_sessions,
+        servers: server::all_from(alloc, text.servers)?,
     })
 }
 
@@ -55,7 +87,6 @@ pub(crate) fn all_from(alloc: Global, items: &Array) -> Result<Vec<Realm>, ConfF
     ensures bad { result ≡ Err ConfFault.BadValue
         → (vs : List RealmView) → ¬ (StatesEach StatesRealm (array_view items.now) vs) }
     ensures causes { IsValueFault result }
-    ensures count { IfOk result (λ v. vec_len v ≡ vec_len items.now) }
 {
     let mut all = Vec::new(alloc);
     for value in items {

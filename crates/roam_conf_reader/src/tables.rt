@@ -1,124 +1,92 @@
 //! Which keys the tables of a document have.
 
-ghost use Rattle.std.specs.Prelude.{◌≡◌, codes, is_some};
-ghost use Rattle.std.specs.List.{list_any};
-ghost use Rattle.std.specs.Str.{bytes_eq};
+ghost use Rattle.std.specs.Prelude.{◌≡◌, codes};
 ghost use Rattle.toml.specs.Data.{get_member};
 ghost use Rattle.toml.specs.View.{table_view, array_view};
-ghost use Rattle.roam_conf_reader.specs.Document.{has_only, server_misses, peer_misses, realm_misses, document_misses, some_table, within, has_all, realm_required, top_required};
-ghost use Rattle.roam_conf_reader.specs.Tables.{keys_of};
+ghost use Rattle.roam_conf_reader.specs.Document as spec;
+ghost use Rattle.roam_conf_reader.specs.Document.{misses, some_table, within};
+ghost use Rattle.roam_conf_reader.specs.Tables.{shown_keys};
 
 use crate::values::value;
 use toml::Table;
 use toml::value::Array;
 
-/// One of the four tables of a document.
-#[derive(Clone, Copy)]
-pub(crate) enum TableKind {
-    Top,
-    Peer,
-    Realm,
-    Server,
-}
+/// The keys of a home server's table.
+pub(crate) const SERVER_KEYS: [&str; 3] = ["auth", "acct", "secret"];
 
-impl TableKind {
-    /// Whether a table of this kind may have the key.
-    fn knows(self, key: &str) -> bool
-        ensures { result ≡ list_any (bytes_eq key.now) (keys_of self) }
-    {
-        match self {
-            TableKind::Top => is_top_key(key),
-            TableKind::Peer => is_peer_key(key),
-            TableKind::Realm => is_realm_key(key),
-            TableKind::Server => is_server_key(key),
+/// The keys that a peer's table must have.
+pub(crate) const PEER_KEYS: [&str; 3] = ["name", "ip", "secret"];
+
+/// The keys that a peer's table may have besides.
+pub(crate) const PEER_OPTIONAL_KEYS: [&str; 4] = ["coa", "nas_ip", "nas_id", "require_seal"];
+
+/// The keys of a realm's table.
+pub(crate) const REALM_KEYS: [&str; 9] = [
+    "name",
+    "out",
+    "reverse",
+    "tries",
+    "wait",
+    "hold",
+    "max_pending",
+    "max_sessions",
+    "server",
+];
+
+/// The keys of the document itself.
+pub(crate) const TOP_KEYS: [&str; 7] = [
+    "shards",
+    "seed",
+    "auth",
+    "acct",
+    "trace_limit",
+    "peer",
+    "realm",
+];
+
+fn is_one_of(keys: &[&str], key: &str) -> bool
+    ensures { result ≡ spec.is_one_of (shown_keys keys.now) key.now }
+{
+    for known in keys {
+        if key == *known {
+            return true;
         }
     }
+    false
 }
 
-fn is_server_key(key: &str) -> bool
-    ensures { result ≡ list_any (bytes_eq key.now) (keys_of TableKind.Server) }
-{
-    match key {
-        "auth" | "acct" | "secret" => true,
-        _ => false,
-    }
-}
-
-fn is_peer_key(key: &str) -> bool
-    ensures { result ≡ list_any (bytes_eq key.now) (keys_of TableKind.Peer) }
-{
-    match key {
-        "name" | "ip" | "secret" | "coa" | "nas_ip" | "nas_id" | "require_seal" => true,
-        _ => false,
-    }
-}
-
-fn is_realm_key(key: &str) -> bool
-    ensures { result ≡ list_any (bytes_eq key.now) (keys_of TableKind.Realm) }
-{
-    match key {
-        "name"
-        | "out"
-        | "reverse"
-        | "tries"
-        | "wait"
-        | "hold"
-        | "max_pending"
-        | "max_sessions"
-        | "server" => true,
-        _ => false,
-    }
-}
-
-fn is_top_key(key: &str) -> bool
-    ensures { result ≡ list_any (bytes_eq key.now) (keys_of TableKind.Top) }
-{
-    match key {
-        "shards" | "seed" | "auth" | "acct" | "trace_limit" | "peer" | "realm" => true,
-        _ => false,
-    }
-}
-
-/// Whether each key of the table is one that its kind may have.
-pub(crate) fn has_only(table: &Table, kind: TableKind) -> bool
-    ensures { result ≡ has_only (keys_of kind) (table_view table.now) }
+/// Whether each key of the table is one of these.
+pub(crate) fn has_only(table: &Table, required: &[&str], optional: &[&str]) -> bool
+    ensures { result ≡ spec.has_only (shown_keys required.now) (shown_keys optional.now)
+        (table_view table.now) }
 {
     for key in table.keys() {
-        if !kind.knows(key.as_str()) {
+        if !is_one_of(required, key.as_str()) && !is_one_of(optional, key.as_str()) {
             return false;
         }
     }
     true
 }
 
-/// Whether the table has the key.
-fn has(table: &Table, key: &str) -> bool
-    ensures { result ≡ is_some (get_member key.now (table_view table.now)) }
+/// Whether the table has each of these keys.
+fn has_all(table: &Table, keys: &[&str]) -> bool
+    ensures { result ≡ spec.has_all (shown_keys keys.now) (table_view table.now) }
 {
-    value(table, key).is_some()
+    for key in keys {
+        if value(table, key).is_none() {
+            return false;
+        }
+    }
+    true
 }
 
-#[tactic(auto, unfolding(crate::specs::Document::server_misses))]
-fn server_misses(table: &Table) -> bool
-    ensures { result ≡ server_misses (table_view table.now) }
-{
-    !(has(table, "auth") && has(table, "acct") && has(table, "secret"))
-}
-
-#[tactic(auto, unfolding(crate::specs::Document::peer_misses))]
-fn peer_misses(table: &Table) -> bool
-    ensures { result ≡ peer_misses (table_view table.now) }
-{
-    !(has(table, "name") && has(table, "ip") && has(table, "secret"))
-}
-
-/// Whether one of the items is a server's table that misses a required key.
-fn some_server_misses(items: &Array) -> bool
-    ensures { result ≡ some_table server_misses (array_view items.now) }
+/// Whether one of the items is a table that misses one of these keys.
+fn some_misses(items: &Array, keys: &[&str]) -> bool
+    ensures { result ≡ some_table (misses (shown_keys keys.now)) (array_view items.now) }
 {
     for value in items {
         if let Some(table) = value.as_table() {
-            if server_misses(table) {
+            if !has_all(table, keys) {
                 return true;
             }
         }
@@ -126,71 +94,30 @@ fn some_server_misses(items: &Array) -> bool
     false
 }
 
-/// The same of what a key has, if that is an array.
-fn servers_miss(table: &Table, key: &str) -> bool
-    ensures { result ≡ within server_misses (get_member key.now (table_view table.now)) }
+/// The same of what a key of a table has, if that is an array.
+fn some_misses_within(table: &Table, key: &str, keys: &[&str]) -> bool
+    ensures { result ≡ within (misses (shown_keys keys.now)) (get_member key.now (table_view table.now)) }
 {
     match value(table, key) {
         Some(value) => match value.as_array() {
-            Some(items) => some_server_misses(items),
+            Some(items) => some_misses(items, keys),
             None => false,
         },
         None => false,
     }
 }
 
-/// Whether one of the items is a peer's table that misses a required key.
-fn some_peer_misses(items: &Array) -> bool
-    ensures { result ≡ some_table peer_misses (array_view items.now) }
-{
-    for value in items {
-        if let Some(table) = value.as_table() {
-            if peer_misses(table) {
-                return true;
-            }
-        }
-    }
-    false
-}
-
-/// The same of what a key has, if that is an array.
-fn peers_miss(table: &Table, key: &str) -> bool
-    ensures { result ≡ within peer_misses (get_member key.now (table_view table.now)) }
-{
-    match value(table, key) {
-        Some(value) => match value.as_array() {
-            Some(items) => some_peer_misses(items),
-            None => false,
-        },
-        None => false,
-    }
-}
-
-/// Whether the table has the keys that a realm's needs.
-fn has_realm_keys(table: &Table) -> bool
-    ensures { result ≡ has_all realm_required (table_view table.now) }
-{
-    has(table, "name")
-        && has(table, "out")
-        && has(table, "reverse")
-        && has(table, "tries")
-        && has(table, "wait")
-        && has(table, "hold")
-        && has(table, "max_pending")
-        && has(table, "max_sessions")
-        && has(table, "server")
-}
-
+/// Whether a realm's table, or the table of one of its servers, misses a key.
 #[tactic(auto, unfolding(crate::specs::Document::realm_misses))]
 fn realm_misses(table: &Table) -> bool
-    ensures { result ≡ realm_misses (table_view table.now) }
+    ensures { result ≡ spec.realm_misses (table_view table.now) }
 {
-    !has_realm_keys(table) || servers_miss(table, "server")
+    !has_all(table, &REALM_KEYS) || some_misses_within(table, "server", &SERVER_KEYS)
 }
 
-/// Whether one of the items is a realm's table that misses a required key.
+/// Whether one of the items is a realm's table that misses a key.
 fn some_realm_misses(items: &Array) -> bool
-    ensures { result ≡ some_table realm_misses (array_view items.now) }
+    ensures { result ≡ some_table spec.realm_misses (array_view items.now) }
 {
     for value in items {
         if let Some(table) = value.as_table() {
@@ -202,11 +129,11 @@ fn some_realm_misses(items: &Array) -> bool
     false
 }
 
-/// The same of what a key has, if that is an array.
-fn realms_miss(table: &Table, key: &str) -> bool
-    ensures { result ≡ within realm_misses (get_member key.now (table_view table.now)) }
+/// The same of the document's realms, if they are an array.
+fn realms_miss(table: &Table) -> bool
+    ensures { result ≡ within spec.realm_misses (get_member (codes "realm") (table_view table.now)) }
 {
-    match value(table, key) {
+    match value(table, "realm") {
         Some(value) => match value.as_array() {
             Some(items) => some_realm_misses(items),
             None => false,
@@ -215,23 +142,12 @@ fn realms_miss(table: &Table, key: &str) -> bool
     }
 }
 
-/// Whether the table has the keys that a document needs.
-fn has_top_keys(table: &Table) -> bool
-    ensures { result ≡ has_all top_required (table_view table.now) }
-{
-    has(table, "shards")
-        && has(table, "seed")
-        && has(table, "auth")
-        && has(table, "acct")
-        && has(table, "trace_limit")
-        && has(table, "peer")
-        && has(table, "realm")
-}
-
 /// Whether a required key is absent anywhere in the document.
 #[tactic(auto, unfolding(crate::specs::Document::document_misses))]
 pub(crate) fn document_misses(table: &Table) -> bool
-    ensures { result ≡ document_misses (table_view table.now) }
+    ensures { result ≡ spec.document_misses (table_view table.now) }
 {
-    !has_top_keys(table) || peers_miss(table, "peer") || realms_miss(table, "realm")
+    !has_all(table, &TOP_KEYS)
+        || some_misses_within(table, "peer", &PEER_KEYS)
+        || realms_miss(table)
 }

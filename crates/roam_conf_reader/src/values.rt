@@ -55,9 +55,7 @@ pub(crate) fn value<'a>(table: &'a Table, key: &str) -> Option<&'a Value>
 /// Whether the octets are 1 to `most`, all of them among the letters.
 #[tactic(auto, unfolding(crate::specs::Values::text_fits))]
 fn text_fits(octets: &[u8], most: usize, letters: Letters) -> bool
-    ensures value { result ≡ text_fits most (letters_of letters) octets.now }
-    ensures bounds { OnTrue result ((1 ≤ length octets.now) × (length octets.now ≤ most)) }
-    ensures letters { OnTrue result (list_all (letters_of letters) octets.now ≡ true) }
+    ensures { result ≡ text_fits most (letters_of letters) octets.now }
 {
     if octets.is_empty() || octets.len() > most {
         return false;
@@ -68,9 +66,7 @@ fn text_fits(octets: &[u8], most: usize, letters: Letters) -> bool
 /// A text of 1 to `most` octets.
 #[tactic(auto, unfolding(crate::specs::Values::text))]
 pub(crate) fn text_of(value: &Value, most: usize, letters: Letters) -> Option<&str>
-    ensures value { option_copied result ≡ spec.text most (letters_of letters) (view value.now) }
-    ensures bounds { IfSome result (λ t. (1 ≤ length t.now) × (length t.now ≤ most)) }
-    ensures letters { IfSome result (λ t. list_all (letters_of letters) t.now ≡ true) }
+    ensures { option_copied result ≡ spec.text most (letters_of letters) (view value.now) }
 {
     let text = value.as_str()?;
     if text_fits(text.as_bytes(), most, letters) {
@@ -102,8 +98,7 @@ pub(crate) fn address_of(value: &Value) -> Option<[u8; 4]>
 
 #[tactic(auto, unfolding(crate::specs::Values::endpoint))]
 pub(crate) fn endpoint_of(value: &Value) -> Option<Endpoint>
-    ensures value { result ≡ spec.endpoint (view value.now) }
-    ensures port { IfSome result (λ e. 1 ≤ e.port) }
+    ensures { result ≡ spec.endpoint (view value.now) }
 {
     Endpoint::from_text(value.as_str()?)
 }
@@ -118,8 +113,7 @@ pub(crate) fn seed_of(value: &Value) -> Option<[u8; 32]>
 /// An array of 1 to `most` items.
 #[tactic(auto, using(crate::proofs::ArrayLemmas::item_count_of), unfolding(crate::specs::Values::array_of))]
 pub(crate) fn array_of(value: &Value, most: usize) -> Option<&Array>
-    ensures value { option_map (λ a. array_view a.now) result ≡ spec.array_of most (view value.now) }
-    ensures count { IfSome result (λ a. (1 ≤ vec_len a.now) × (vec_len a.now ≤ most)) }
+    ensures { option_map (λ a. array_view a.now) result ≡ spec.array_of most (view value.now) }
 {
     let array = value.as_array()?;
     if array.is_empty() || array.len() > most {

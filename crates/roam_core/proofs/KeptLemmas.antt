@@ -39,17 +39,17 @@ places-append n lost are = record {
   rising = rising-append n lost are.there are.rising;
 }
 
-absent : (n : ℕ) (lost : List ℕ) → Below n lost → list_any (λ l. l == n) lost ≡ false
+pub absent : (n : ℕ) (lost : List ℕ) → Below n lost → list_any (λ l. l == n) lost ≡ false
 absent n [] below = refl
 absent n (l ∷ lost) below =
     let lt : l < n = below.0 in grind (arith, nat_tests, absent n lost below.1)
 
-present : (n : ℕ) (lost : List ℕ) → list_any (λ l. l == n) (lost ++ n ∷ []) ≡ true
+pub present : (n : ℕ) (lost : List ℕ) → list_any (λ l. l == n) (lost ++ n ∷ []) ≡ true
 present n [] = grind (arith, nat_tests)
 present n (l ∷ lost) = grind (arith, nat_tests, present n lost)
 
 -- a place that is lost makes no other one lost
-other_place : (i n : ℕ) (lost : List ℕ) → i < n → list_any (λ l. l == i) (lost ++ n ∷ []) ≡ list_any (λ l. l == i) lost
+pub other_place : (i n : ℕ) (lost : List ℕ) → i < n → list_any (λ l. l == i) (lost ++ n ∷ []) ≡ list_any (λ l. l == i) lost
 other_place i n [] lt = grind (arith, nat_tests)
 other_place i n (l ∷ lost) lt = ap (λ b. (l == i) || b) (other_place i n lost lt)
 

@@ -6,6 +6,7 @@ pub mod TickLemmas
 pub mod EventLemmas
 pub mod RealmRunLemmas
 pub mod IsolationLemmas
+pub mod GivenLemmas
 pub mod RunLemmas
 pub mod BookLemmas
 pub mod ShardLemmas

@@ -46,11 +46,15 @@ abbrev pub local_rejects : ConfigView → List PlainEvent → List PlainOut
 local_rejects config [] = []
 local_rejects config (e ∷ es) = rejects_by config e ++ local_rejects config es
 
+-- a place is among the lost ones
+abbrev pub is_lost : ℕ → List ℕ → Bool
+is_lost place lost = list_any (λ l. l == place) lost
+
 -- the events whose places, from this one on, aren't among the lost ones
 abbrev pub kept_from : ℕ → List ℕ → List PlainEvent → List PlainEvent
 kept_from place lost [] = []
 kept_from place lost (e ∷ es) =
-    if list_any (λ l. l == place) lost
+    if is_lost place lost
     then kept_from (place + 1) lost es
     else e ∷ kept_from (place + 1) lost es
 

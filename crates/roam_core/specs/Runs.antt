@@ -1,9 +1,9 @@
 -- What a run says of the events that it lost, and of the realms where its outcome couldn't grow (ours).
-use Rattle.std.specs.Prelude.{◌≡◌, ℕ, ◌<◌, ◌≤◌, List, [], ◌∷◌, length, take}
+use Rattle.std.specs.Prelude.{◌≡◌, ℕ, ◌+◌, ◌<◌, ◌≤◌, Bool, not, List, [], ◌∷◌, length, take}
 use Rattle.std.specs.List.{AllByRecursion}
 use Rattle.roam_conf.specs.Config.{ConfigView}
 use Rattle.roam_book.specs.RealmState.{RealmState}
-use Rattle.roam_core.specs.Events.{PlainEvent, kept}
+use Rattle.roam_core.specs.Events.{PlainEvent, is_lost, kept}
 use Rattle.roam_core.specs.ManyRealms.{answers_to}
 
 -- each place is below all later ones
@@ -15,6 +15,16 @@ AreRising (p ∷ ps) = AllByRecursion (λ q. p < q) ps × AreRising ps
 pub record ArePlaces (count : ℕ) (places : List ℕ) : Type 0 where
   pub there : AllByRecursion (λ p. p < count) places
   pub rising : AreRising places
+
+-- some events, from this place on, were given to a broker in their order: those at the lost places met
+-- want of memory there, and all others were answered. `steps` is what each step says of itself: from one
+-- broker, with an event, whether it is answered, to the next broker
+abbrev pub WereGiven :
+    {X : Type 0} → (X → PlainEvent → Bool → X → Type 0) → ℕ → List ℕ → X → List PlainEvent → X → Type 0
+WereGiven steps place lost first [] last = first ≡ last
+WereGiven {X = X} steps place lost first (e ∷ es) last =
+    (next : X) × steps first e (not (is_lost place lost)) next
+    × WereGiven steps (place + 1) lost next es last
 
 -- the realms stand after some of the events: after the first `count` of the list, without those at the
 -- lost places, which changed no state. What a run leaves whose outcome couldn't grow

@@ -1,8 +1,8 @@
 -- An Access-Request's octets with its attributes in the order in which they are forwarded.
-use Rattle.std.proofs.Common.{◌≡◌, ℕ, zero, suc, ◌+◌, ◌-◌, ◌/◌, ◌%◌, ◌<◌, ◌≤◌, Bool, true, false, inl, inr, List, [], ◌∷◌, ◌++◌, length, take, drop, map, subst, refl, sym, ap, ◌∙◌, arith, length-append, length-drop, append_assoc}
-use Rattle.std.specs.Prelude.{if◌then◌else◌, ◌==◌, slice_range, slice_index}
+use Rattle.std.proofs.Common.{◌≡◌, ℕ, suc, ◌+◌, ◌-◌, ◌/◌, ◌%◌, ◌<◌, ◌≤◌, Bool, true, false, inl, inr, List, [], ◌∷◌, ◌++◌, length, take, drop, map, subst, refl, sym, ap, ◌∙◌, arith, length-append, length-drop, append_assoc}
+use Rattle.std.specs.Prelude.{if◌then◌else◌, slice_range, slice_index}
 use Rattle.std.specs.List.{AllByRecursion}
-use Rattle.std.proofs.lemmas.Bool.{cases_Bool, ne_eqb, eq-eqb}
+use Rattle.std.proofs.lemmas.Bool.{cases_Bool, ne_eqb}
 use Rattle.std.proofs.lemmas.List.{take_at, drop_at, drop-drop, take-append-drop, length-take, map-append}
 use Rattle.std.proofs.lemmas.List.Concat.{flat_map-append}
 use Rattle.roam_wire.specs.Packet.{AreOctets, Attribute, IsAttribute, Packet, IsPacket, attribute_text, attributes_text, packet_text, packet_length}
@@ -10,14 +10,14 @@ use Rattle.roam_wire.specs.Attributes.{has_kind, count_of, without_kind}
 use Rattle.roam_wire.specs.Reading.{IsPacketText, packet_of}
 use Rattle.roam_wire.specs.declared.attribute_type.TheConstants.{CHAP_CHALLENGE, MESSAGE_AUTHENTICATOR}
 use Rattle.roam_wire.specs.declared.code.TheConstants.{ACCESS_REQUEST}
-use Rattle.roam_wire.proofs.PacketLemmas.{length-packet_text}
-use Rattle.roam_wire.proofs.BuildingLemmas.{AreTextOf, AreTextOf-packet_text}
+use Rattle.roam_wire.proofs.LawLemmas.{length-packet_text}
+use Rattle.roam_wire.proofs.LawLemmas.{AreTextOf, AreTextOf-packet_text}
 use Rattle.roam_wire.proofs.OctetLemmas.{AreOctets-zeros, AreOctets-take, AreOctets-drop}
 use Rattle.roam_auth.specs.Authenticators.{AreSixteenOctets}
 use Rattle.roam_auth.specs.MessageAuthenticator.{HasAtMostOneMessageAuthenticator, empty_message_authenticator, with_message_authenticator}
 use Rattle.roam_auth.specs.Sealing.{IsValuePlace}
 use Rattle.roam_auth.proofs.ValueLemmas.{IsSized, all_sized, count_of-yes, count_of-no}
-use Rattle.roam_auth.proofs.SealingLemmas.{count_of-append, length-attributes_text-append}
+use Rattle.roam_auth.proofs.SealingLemmas.{count_of-append}
 use Rattle.roam_hide.specs.declared.packet_values.Hidden.TheVariants.{UserPassword}
 use Rattle.roam_hide.specs.Hiding.{Key}
 use Rattle.roam_hide.specs.PacketAnew.{attribute_anew, packet_anew, CanBeHiddenAnew}

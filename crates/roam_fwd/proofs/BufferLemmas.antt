@@ -3,7 +3,7 @@ use Rattle.std.proofs.Common.{◌≡◌, ℕ, ◌+◌, ◌-◌, ◌≤◌, List,
 use Rattle.std.proofs.lemmas.List.{take_at, drop_at, take_all, drop_all, append-nil, length-take, length-replicate}
 use Rattle.roam_wire.specs.Packet.{Packet, IsPacket, packet_text, packet_length}
 use Rattle.roam_wire.specs.Reading.{IsPacketText, packet_of}
-use Rattle.roam_wire.proofs.PacketLemmas.{packet_of-packet_text, IsPacketText-packet_text, length-packet_text}
+use Rattle.roam_wire.proofs.LawLemmas.{packet_of-packet_text, IsPacketText-packet_text, length-packet_text}
 use Rattle.roam_fwd.specs.Forwarded.{forwarded_length, CanBeForwarded}
 
 -- all octets from the start on

@@ -3,28 +3,16 @@
 ghost use Rattle.std.specs.Prelude.{◌≡◌, ◌≤◌, ◌↔◌, IsTrue};
 ghost use Rattle.std.specs.List.{AllByRecursion};
 ghost use Rattle.roam_hide.specs.Hiding.{HasWholeBlocks};
-ghost use Rattle.roam_auth.specs.MessageAuthenticator.{HasOneMessageAuthenticator, HasAtMostOneMessageAuthenticator};
+ghost use Rattle.roam_auth.specs.MessageAuthenticator.{HasAtMostOneMessageAuthenticator};
 ghost use Rattle.roam_fwd.specs.Forwarded.{forwarded_length, HasPasswordBlocks, CanBeForwarded};
 
 use crate::length::forwarded_len;
-use roam_wire::View;
+use roam_auth::has_one_message_authenticator;
 use roam_wire::attribute_type::{MESSAGE_AUTHENTICATOR, USER_PASSWORD};
 use roam_wire::code::ACCESS_REQUEST;
+use roam_wire::{MAX_PACKET_LENGTH, View};
 
-/// The most octets that a packet has (RFC 2865, section 3).
-const LARGEST: usize = 4096;
-
-/// Whether just one Message-Authenticator stands there, of 16 octets (RFC 3579, section 3.2).
-fn has_one_message_authenticator(request: &View<'_>) -> bool
-    ensures { IsTrue result ↔ HasOneMessageAuthenticator request.now }
-{
-    request.count(MESSAGE_AUTHENTICATOR) == 1
-        && request
-            .first(MESSAGE_AUTHENTICATOR)
-            .is_some_and(|value| value.len() == 16)
-}
-
-/// Whether at most one stands there, of 16 octets.
+/// Whether at most one Message-Authenticator stands there, of 16 octets (RFC 3579, section 3.2).
 fn has_at_most_one_message_authenticator(request: &View<'_>) -> bool
     ensures { IsTrue result ↔ HasAtMostOneMessageAuthenticator request.now }
 {
@@ -36,7 +24,7 @@ fn fits_sealed(request: &View<'_>) -> bool
     ensures { IsTrue result ↔ (HasAtMostOneMessageAuthenticator request.now
         × (forwarded_length request.now ≤ 4096)) }
 {
-    has_at_most_one_message_authenticator(request) && forwarded_len(request) <= LARGEST
+    has_at_most_one_message_authenticator(request) && forwarded_len(request) <= MAX_PACKET_LENGTH
 }
 
 /// Whether there is one block at least, and whole blocks alone.

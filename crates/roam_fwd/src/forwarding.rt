@@ -9,7 +9,7 @@ ghost use Rattle.roam_fwd.specs.Forwarded.{forwarded, forwarded_length, CanBeFor
 use crate::access::rewrite_access;
 use crate::length::forwarded_len;
 use crate::places::{front_packet, put_header, put_ticket};
-use roam_auth::{seal, sign_request};
+use roam_auth::{ZERO_OCTETS, seal, sign_request};
 use roam_wire::code::ACCESS_REQUEST;
 use roam_wire::{NoMemory, View};
 use std::alloc::Allocator;
@@ -34,8 +34,8 @@ fn rewrite_signed(octets: &mut [u8], len: usize, to_secret: &[u8], id: u8, ticke
         (packet_of (take len octets.old))) }
 {
     put_ticket(octets, len, ticket);
-    put_header(octets, id, &[0; 16]);
-    seal(octets, to_secret, [0; 16]);
+    put_header(octets, id, &ZERO_OCTETS);
+    seal(octets, to_secret, ZERO_OCTETS);
     sign_request(octets, to_secret);
 }
 
@@ -155,7 +155,8 @@ pub fn forward_reserved<A: Allocator>(
 }
 
 /// Appends the packet that is forwarded for a request (RFC 2865, section 2.3) to a buffer. All the room
-/// is asked for first; without it the buffer stays as it was. The request's octets are copied once.
+/// is asked for first; without it the buffer stays as it was,
+/// with its capacity. The request's octets are copied once.
 ///
 /// `authenticator` counts for an Access-Request alone, and so does the requester's secret.
 pub fn forward<A: Allocator>(
@@ -182,6 +183,7 @@ pub fn forward<A: Allocator>(
         })
         request.now)) }
     ensures err { OnErr result (out.new.items ≡ out.old.items) }
+    ensures capacity { OnErr result (vec_capacity out.new ≡ vec_capacity out.old) }
 
     // It fails only where the room was missing.
     ensures succeeds { vec_len out.old + forwarded_length request.now ≤ vec_capacity out.old

@@ -15,4 +15,4 @@ mod places;
 pub use forwardable::can_be_forwarded;
 pub use forwarding::{forward, forward_reserved, rewrite};
 pub use laws::{forwarded_authenticator, forwarded_carries, forwarded_marks, forwarded_packet};
-pub use length::forwarded_len;
+pub use length::{MAX_GROWTH, forwarded_len};

@@ -13,7 +13,24 @@ use roam_wire::attribute_type::{CHAP_CHALLENGE, MESSAGE_AUTHENTICATOR, PROXY_STA
 
 /// A Message-Authenticator that is still to be filled in (RFC 3579, section 3.2).
 const EMPTY_SEAL: [u8; 18] = [
-    MESSAGE_AUTHENTICATOR, 18, 0, 0, 0, 0, 0, 0, 0, 0, 0, 0, 0, 0, 0, 0, 0, 0,
+    MESSAGE_AUTHENTICATOR,
+    18,
+    0,
+    0,
+    0,
+    0,
+    0,
+    0,
+    0,
+    0,
+    0,
+    0,
+    0,
+    0,
+    0,
+    0,
+    0,
+    0,
 ];
 
 /// The packet whose octets are the first ones.

@@ -1,5 +1,5 @@
 -- A packet whose hidden values are hidden anew (RFC 2865, section 2.3).
-use Rattle.std.specs.Prelude.{◌≡◌, ◌==◌, ℕ, List, map, if◌then◌else◌}
+use Rattle.std.specs.Prelude.{◌≡◌, ◌==◌, map, if◌then◌else◌}
 use Rattle.roam_wire.specs.Packet.{Attribute, Packet}
 use Rattle.roam_wire.specs.declared.attribute_type.TheConstants.{USER_PASSWORD, TUNNEL_PASSWORD, VENDOR_SPECIFIC}
 use Rattle.roam_hide.specs.declared.packet_values.Hidden.{Hidden}

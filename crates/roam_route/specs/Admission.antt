@@ -1,6 +1,6 @@
 -- What an arrival gives: a refusal, a local reject, or an event of a realm (RFC 2865 sections 2.3 and
 -- 3, RFC 2866, RFC 5176; the order of the checks is ours).
-use Rattle.std.specs.Prelude.{ℕ, ◌==◌, ◌&&◌, ◌||◌, not, nat_lt, nat_le, Bool, true, false, List, [], ◌∷◌, Option, Some, None, option_map, option_and_then, slice_get, Result, Ok, Err, if◌then◌else◌}
+use Rattle.std.specs.Prelude.{ℕ, ◌==◌, ◌&&◌, ◌||◌, not, nat_lt, nat_le, Bool, true, false, List, [], ◌∷◌, Option, Some, None, option_map, slice_get, Result, Ok, Err, if◌then◌else◌}
 use Rattle.std.specs.Option.{option_map_or}
 use Rattle.roam_wire.specs.Packet.{Packet, packet_text}
 use Rattle.roam_wire.specs.Attributes.{count_of}
@@ -12,8 +12,9 @@ use Rattle.roam_wire.specs.declared.refusal.Refusal.{Refusal}
 use Rattle.roam_wire.specs.declared.refusal.Refusal.TheVariants as refusal
 use Rattle.roam_auth.specs.Authenticators.{zero_octets}
 use Rattle.roam_auth.specs.Deciding.{is_signed_request, is_well_sealed}
-use Rattle.roam_conf.specs.Config.{ConfigView, RealmView}
-use Rattle.roam_conf.specs.Lookup.{peer_with_ip, link_in, home_in}
+use Rattle.roam_conf.specs.Config.{ConfigView}
+use Rattle.roam_conf.specs.Lookup.{peer_with_ip, link_in, home_in, servers_in}
+use Rattle.roam_conf.specs.Secrets as secrets
 use Rattle.roam_conf.specs.declared.endpoint.Endpoint.{Endpoint}
 use Rattle.roam_conf.specs.declared.place.Link.{Link}
 use Rattle.roam_conf.specs.declared.place.Link.TheVariants as link
@@ -61,20 +62,12 @@ sender config a place.Acct = option_map (λ i. side.Peer i) (peer_with_ip config
 sender config a (place.Out realm) = option_map (λ l. side.Link l) (link_in config realm a.from)
 sender config a (place.Reverse realm) = option_map (λ i. side.Home i) (home_in config realm a.from.ip)
 
--- the secret of a peer; of a realm's home server (the empty list where there is no such one)
+-- the secret shared with a peer; with a realm's home server
 abbrev pub peer_secret : ConfigView → ℕ → List ℕ
-peer_secret config i = option_map_or (λ p. p.secret) (slice_get config.peers i) []
+peer_secret config i = secrets.peer_secret config.peers i
 
 abbrev pub home_secret : ConfigView → ℕ → ℕ → List ℕ
-home_secret config realm i =
-    option_map_or (λ s. s.secret)
-    (option_and_then (λ (r : RealmView). slice_get r.servers i) (slice_get config.realms realm)) []
-
--- the secret shared with a link of a realm
-abbrev pub link_secret : ConfigView → ℕ → Link → List ℕ
-link_secret config realm (link.Auth server) = home_secret config realm server
-link_secret config realm (link.Acct server) = home_secret config realm server
-link_secret config realm (link.Coa peer) = peer_secret config peer
+home_secret config realm i = secrets.server_secret (servers_in config realm) i
 
 -- the codes that a link sends (RFC 2865 section 4, RFC 2866 section 4, RFC 5176 section 2.3)
 abbrev pub is_code_of_link : Link → ℕ → Bool
@@ -183,7 +176,7 @@ admission_by takes config a = read_admission takes config a (reading a.octets)
 abbrev pub admission : ConfigView → Arrival → Admission
 admission config a = admission_by is_taken config a
 
--- the codes that are served by now: accounting requests and responses. All others are refused as
+-- the codes that are served so far: accounting requests and responses. All others are refused as
 -- WrongCode until they are served
 abbrev pub is_served : Place → Side → ℕ → Bool
 is_served at s code =

@@ -15,7 +15,7 @@ arrival_of job = record { at = job.place; from = job.from; octets = job.octets }
 abbrev pub IsEvent : ConfigView → PlainJob → Type 0
 IsEvent config job = admission_by is_served config (arrival_of job) ≡ admitted job
 
--- what is prepared is such a job; by now no local reject comes
+-- what is prepared is such a job; so far no local reject comes
 abbrev pub IsPrepared : {A : Type 0} → ConfigView → Prepared A → Type 0
 IsPrepared config (prepared.Job j) = IsEvent config (shown_job j)
 IsPrepared config (prepared.Reject out) = ⊥

@@ -1,5 +1,5 @@
 -- The Access-Reject that the broker itself answers (RFC 2865, section 4.3; when is ours).
-use Rattle.std.specs.Prelude.{ℕ, ◌==◌, ◌&&◌, ◌||◌, not, nat_lt, nat_le, ◌%◌, Bool, false, List, ◌∷◌, length, is_some}
+use Rattle.std.specs.Prelude.{ℕ, ◌==◌, ◌&&◌, ◌||◌, not, nat_lt, Bool, false, List, ◌∷◌, is_some}
 use Rattle.std.specs.Option.{option_map_or}
 use Rattle.roam_wire.specs.Packet.{Packet, packet_length}
 use Rattle.roam_wire.specs.Attributes.{count_of, first_value, only_kind}
@@ -7,12 +7,9 @@ use Rattle.roam_wire.specs.declared.attribute_type.TheConstants.{USER_PASSWORD, 
 use Rattle.roam_wire.specs.declared.code.TheConstants.{ACCESS_REJECT}
 use Rattle.roam_auth.specs.Authenticators.{signed_reply}
 use Rattle.roam_auth.specs.MessageAuthenticator.{empty_message_authenticator, with_message_authenticator}
+use Rattle.roam_hide.specs.Hiding.{password_fits}
 use Rattle.roam_conf.specs.Config.{ConfigView}
 use Rattle.roam_route.specs.UserName.{realm_of}
-
--- whether a User-Password has 16, 32, .. or 128 octets (RFC 2865, section 5.2)
-abbrev pub password_fits : List ℕ → Bool
-password_fits value = nat_le 16 (length value) && nat_le (length value) 128 && length value % 16 == 0
 
 -- whether an Access-Request's passwords can't be carried: both User-Password and CHAP-Password, two
 -- User-Passwords, or one of another size (RFC 2865, sections 4.1 and 5.2)

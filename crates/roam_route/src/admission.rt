@@ -1,6 +1,7 @@
 //! What an arrival gives: a refusal, or the event of a realm.
 
 ghost use Rattle.std.specs.Prelude.{◌≡◌, ℕ, ◌<◌, true, vec_len, IfOk, IsErrOf};
+ghost use Rattle.roam_wire.specs.declared.code.TheConstants.{ACCOUNTING_REQUEST};
 ghost use Rattle.roam_conf.specs.Shown.{shown};
 ghost use Rattle.roam_route.specs.Admission.{admission_by, forwarded_for, given_to, is_served, named, packet_admission, peer_secret, request_admission};
 ghost use Rattle.roam_route.specs.Events.{IsPrepared};
@@ -86,7 +87,7 @@ fn accounting_request<A: Allocator + Copy>(
 ) -> Result<Prepared<A>, Refusal>
     requires known { peer < vec_len config.now.peers }
     requires place { datagram.now.at ≡ Place.Acct }
-    requires code { view.now.code ≡ 4 }
+    requires code { view.now.code ≡ ACCOUNTING_REQUEST }
     ensures answer { Answers result (request_admission (shown config.now)
         (peer_secret (shown config.now) peer) (shown_arrival datagram.now) (Side.Peer peer) view.now) }
     ensures memory { IsErrOf result Refusal.NoMemory
@@ -133,7 +134,7 @@ fn served<A: Allocator + Copy>(
 /// `TooLong` whose cause holds. `NoMemory` comes where a growth was refused, and nowhere else: memory
 /// is wanted only for what passes.
 ///
-/// By now accounting packets alone are served: a packet of any other code is refused as `WrongCode`
+/// So far accounting packets alone are served: a packet of any other code is refused as `WrongCode`
 /// where the checks before it pass, and no local reject comes.
 #[tactic(auto, unfolding(crate::specs::Admission::admission_by))]
 pub fn prepare<A: Allocator + Copy>(

@@ -18,4 +18,4 @@ pub use datagram::{Datagram, Out};
 pub use job::{Job, Prepared, Side};
 pub use laws::{events, names};
 pub use nas::{NasName, nas_of};
-pub use user_name::realm_of;
+pub use user_name::{realm_of, realm_part};

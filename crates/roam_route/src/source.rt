@@ -94,7 +94,7 @@ fn is_taken(at: Place, side: Side, code: u8) -> bool
     }
 }
 
-/// Whether a code is taken at a place from a sender, and served by now: accounting alone is.
+/// Whether a code is taken at a place from a sender, and served so far: accounting alone is.
 pub(crate) fn is_served(at: Place, side: Side, code: u8) -> bool
     ensures { result ≡ is_served at side code }
 {

@@ -1,5 +1,5 @@
 use Rattle.std.proofs.Common.{arith, ap, ◌∙◌}
-use Rattle.roam_back.specs.ReplyCheck.{is_access_reply}
+use Rattle.roam_wire.specs.Codes.{is_access_reply}
 use Rattle.roam_back.proofs.PlainLemmas.{packet_length-plain, returned_length-plain}
 use Rattle.roam_back.proofs.appending.returned_len.Goals as goal
 

@@ -1,6 +1,6 @@
-use Rattle.std.proofs.Common.{◌≡◌, ◌∙◌, sym, subst}
+use Rattle.std.proofs.Common.{◌∙◌, sym, subst}
 use Rattle.roam_wire.specs.Reading.{packet_of}
-use Rattle.roam_wire.proofs.BuildingLemmas.{AreTextOf}
+use Rattle.roam_wire.proofs.LawLemmas.{AreTextOf}
 use Rattle.roam_auth.specs.MessageAuthenticator.{HasAtMostOneMessageAuthenticator}
 use Rattle.roam_back.specs.Returned.{Returning, unsealed}
 use Rattle.roam_back.proofs.ReturnedLemmas.{returned_text}

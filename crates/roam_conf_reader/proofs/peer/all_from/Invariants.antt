@@ -1,4 +1,4 @@
-use Rattle.std.proofs.Common.{◌≡◌, map, drop, vec_len}
+use Rattle.std.proofs.Common.{map, drop}
 use Rattle.toml.specs.View.{items_view}
 use Rattle.roam_conf_reader.specs.Document.{StatesPeer}
 use Rattle.roam_conf.specs.Parts.{shown_peer}
@@ -8,4 +8,3 @@ use Rattle.roam_conf_reader.proofs.peer.all_from.Given as goal
 abbrev pub invariant-loop-value : goal.invariant-loop-value
 invariant-loop-value l =
     Pushed StatesPeer (items_view l.fn.items.items) (items_view (drop l.value-index l.items.items)) (map shown_peer l.all.items)
-    × (vec_len l.all ≡ l.value-index)

@@ -7,6 +7,7 @@ use Rattle.roam_route.specs.Shown.{shown_out}
 use Rattle.roam_book.specs.Turn.{shown_outs}
 use Rattle.roam_core.specs.Shown.{shown_event, shown_events}
 use Rattle.roam_core.specs.Runs.{ArePlaces}
+use Rattle.roam_core.proofs.GivenLemmas.{given-all, given-answered, given-lost}
 use Rattle.roam_core.proofs.RunLemmas.{answered, lost_one, has_run_all, stands_after}
 use Rattle.roam_core.proofs.runs.run.Goals as goal
 use Rattle.roam_core.proofs.runs.run.Goals.{in-Ok+in_ok-append_all-in-Ok, in-Err+in_ok-note_lost-in-Err}
@@ -23,39 +24,52 @@ loop-place-preserved g c =
           let all : shown_outs (c.loop-place.outs.items ++ w.in-Ok.answer.outs.items) ≡ shown_outs c.loop-place.outs.items ++ shown_outs w.in-Ok.answer.outs.items =
           map-append shown_out c.loop-place.outs.items w.in-Ok.answer.outs.items in
           rw (w.outs-is, w.lost-is, w.in_ok-append_all-in-Ok.ensures, all)
-          (answered _ _ _ _ _ _ _ _ _ _ _ _ _ within at c.loop-place.invariant
-          w.in-Ok.ensures.whole w.in-Ok.ensures.shards w.in-Ok.ensures.config
-          w.in-Ok.ensures.answer.packets w.in-Ok.ensures.answer.states)
+          (record {
+            has_run = answered _ _ _ _ _ _ _ _ _ _ _ _ _ within at c.loop-place.invariant.has_run
+                w.in-Ok.ensures.whole w.in-Ok.ensures.shards w.in-Ok.ensures.config
+                w.in-Ok.ensures.answer.packets w.in-Ok.ensures.answer.states;
+            given = given-answered g.S.Stepper.steps events c.loop-place.place c.loop-place.lost.items _ _ _ event event
+                within at c.loop-place.invariant.has_run.places c.loop-place.invariant.given w.in-Ok.ensures.step;
+          })
       | in-Err+in_ok-note_lost-in-Err w ↦
           rw (w.outs-is, w.lost-is, w.in_ok-note_lost-in-Err.ensures)
-          (lost_one _ _ _ _ _ _ _ _ _ _ event event within at c.loop-place.invariant
-          w.in-Err.ensures.whole w.in-Err.ensures.shards w.in-Err.ensures.config w.in-Err.ensures.answer)
+          (record {
+            has_run = lost_one _ _ _ _ _ _ _ _ _ _ event event within at c.loop-place.invariant.has_run
+                w.in-Err.ensures.whole w.in-Err.ensures.shards w.in-Err.ensures.config w.in-Err.ensures.answer;
+            given = given-lost g.S.Stepper.steps events c.loop-place.place c.loop-place.lost.items _ _ _ event event
+                within at c.loop-place.invariant.given w.in-Err.ensures.step;
+          })
     ]
 
 pub returns-clause-isolated_from_start : goal.returns-clause-isolated_from_start
 returns-clause-isolated_from_start g c starts begin =
-    (has_run_all _ _ _ _ _ _ _ _ (omega (arith, length-map c.args.events.now shown_event)) c.loop-place.invariant).from_start starts begin
+    (has_run_all _ _ _ _ _ _ _ _ (omega (arith, length-map c.args.events.now shown_event)) c.loop-place.invariant.has_run).from_start starts begin
 
 pub returns-clause-provenance : goal.returns-clause-provenance
 returns-clause-provenance g c starts begin =
-    (has_run_all _ _ _ _ _ _ _ _ (omega (arith, length-map c.args.events.now shown_event)) c.loop-place.invariant).provenance starts begin
+    (has_run_all _ _ _ _ _ _ _ _ (omega (arith, length-map c.args.events.now shown_event)) c.loop-place.invariant.has_run).provenance starts begin
+
+pub returns-clause-given : goal.returns-clause-given
+returns-clause-given g c =
+    given-all g.S.Stepper.steps (shown_events c.args.events.now) c.loop-place.place c.loop-place.lost.items _ _
+    (omega (arith, length-map c.args.events.now shown_event)) c.loop-place.invariant.given
 
 pub returns-clause-lost : goal.returns-clause-lost
 returns-clause-lost g c =
     subst (λ (count : ℕ). ArePlaces count c.loop-place.lost.items) (length-map c.args.events.now shown_event)
-    (has_run_all _ _ _ _ _ _ _ _ (omega (arith, length-map c.args.events.now shown_event)) c.loop-place.invariant).places
+    (has_run_all _ _ _ _ _ _ _ _ (omega (arith, length-map c.args.events.now shown_event)) c.loop-place.invariant.has_run).places
 
 pub returns-clause-isolated : goal.returns-clause-isolated
 returns-clause-isolated g c =
-    (has_run_all _ _ _ _ _ _ _ _ (omega (arith, length-map c.args.events.now shown_event)) c.loop-place.invariant).isolated
+    (has_run_all _ _ _ _ _ _ _ _ (omega (arith, length-map c.args.events.now shown_event)) c.loop-place.invariant.has_run).isolated
 
 pub returns-clause-rejects : goal.returns-clause-rejects
 returns-clause-rejects g c =
-    (has_run_all _ _ _ _ _ _ _ _ (omega (arith, length-map c.args.events.now shown_event)) c.loop-place.invariant).rejects
+    (has_run_all _ _ _ _ _ _ _ _ (omega (arith, length-map c.args.events.now shown_event)) c.loop-place.invariant.has_run).rejects
 
 pub returns-clause-realms : goal.returns-clause-realms
 returns-clause-realms g c =
-    (has_run_all _ _ _ _ _ _ _ _ (omega (arith, length-map c.args.events.now shown_event)) c.loop-place.invariant).realms
+    (has_run_all _ _ _ _ _ _ _ _ (omega (arith, length-map c.args.events.now shown_event)) c.loop-place.invariant.has_run).realms
 
 -- what holds whatever the result is holds where it is an error
 whatever : {T E : Type 0} (r : Result T E) (P : Type 0) → P → OnErr r P
@@ -69,7 +83,7 @@ returns-in_err-append_all-in-Ok-clause-err g c =
     let within : c.loop-place.place < length (shown_events c.args.events.now) = omega (arith, length-map c.args.events.now shown_event) in
     let at = get_or-map shown_event c.args.events.now c.loop-place.place c.index-events-place.result ∙ ap shown_event (sym c.index-events-place.is) in
     let answer = c.in-Ok.ensures.answer in
-    let run = answered _ _ _ _ _ _ _ _ _ _ _ _ event within at c.loop-place.invariant
+    let run = answered _ _ _ _ _ _ _ _ _ _ _ _ event within at c.loop-place.invariant.has_run
     c.in-Ok.ensures.whole c.in-Ok.ensures.shards c.in-Ok.ensures.config answer.packets answer.states in
     whatever c.from_residual.result _ (stands_after _ _ _ _ _ _ _ _ _ (omega (arith, within)) run refl)
 
@@ -78,4 +92,4 @@ pub returns-in_err-note_lost-in-Err-clause-err : goal.returns-in_err-note_lost-i
 returns-in_err-note_lost-in-Err-clause-err g c =
     let within : c.loop-place.place < length (shown_events c.args.events.now) = omega (arith, length-map c.args.events.now shown_event) in
     whatever c.from_residual-in_err-note_lost-in-Err.result _
-    (stands_after _ _ _ _ _ _ _ _ _ (omega (arith, within)) c.loop-place.invariant c.in-Err.ensures.answer)
+    (stands_after _ _ _ _ _ _ _ _ _ (omega (arith, within)) c.loop-place.invariant.has_run c.in-Err.ensures.answer)

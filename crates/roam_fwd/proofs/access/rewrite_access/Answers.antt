@@ -1,8 +1,8 @@
 use Rattle.std.proofs.Common.{◌≡◌, ◌∙◌, ◌<◌, ℕ, List, take, length, inr, sym, ap, subst, arith, rules}
 use Rattle.std.specs.List.{AllByRecursion}
-use Rattle.roam_wire.specs.Packet.{Attribute, Packet, packet_text}
+use Rattle.roam_wire.specs.Packet.{Packet, packet_text}
 use Rattle.roam_wire.specs.Reading.{packet_of}
-use Rattle.roam_wire.proofs.BuildingLemmas.{AreTextOf}
+use Rattle.roam_wire.proofs.LawLemmas.{AreTextOf}
 use Rattle.roam_auth.specs.Authenticators.{AreSixteenOctets}
 use Rattle.roam_auth.specs.MessageAuthenticator.{HasAtMostOneMessageAuthenticator}
 use Rattle.roam_hide.specs.declared.packet_values.Hidden.TheVariants.{UserPassword}

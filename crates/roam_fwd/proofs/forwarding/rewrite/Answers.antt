@@ -1,5 +1,3 @@
-use Rattle.std.proofs.Common.{◌≡◌, ◌≢◌, ◌∙◌, sym, ap}
-use Rattle.roam_wire.specs.Packet.{Packet}
 use Rattle.roam_fwd.proofs.BufferLemmas.{rewritten_within}
 use Rattle.roam_fwd.proofs.forwarding.rewrite.Goals as goal
 

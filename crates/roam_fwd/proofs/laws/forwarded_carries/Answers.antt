@@ -1,4 +1,4 @@
-use Rattle.roam_wire.proofs.PacketLemmas.{ReadsAs-packet_text}
+use Rattle.roam_wire.proofs.LawLemmas.{ReadsAs-packet_text}
 use Rattle.roam_fwd.specs.Forwarded.{forwarded}
 use Rattle.roam_fwd.proofs.LawLemmas.{IsPacket-forwarded_any}
 use Rattle.roam_fwd.proofs.CarriedLemmas.{access_carries, others_carried}

@@ -1,4 +1,4 @@
-use Rattle.std.proofs.Common.{◌≡◌, ◌+◌, length, arith}
+use Rattle.std.proofs.Common.{◌≡◌, length, arith}
 use Rattle.roam_hide.proofs.PacketAnewLemmas.{underway_start, next_hidden, underway_step, underway_done}
 use Rattle.roam_hide.proofs.packet_values.rehide_attributes.Goals as goal
 

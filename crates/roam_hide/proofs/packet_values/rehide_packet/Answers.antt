@@ -1,4 +1,4 @@
-use Rattle.std.proofs.Common.{◌≡◌, ◌∙◌, sym, ap, refl, List, ℕ, length, take, drop, ◌-◌, arith, map}
+use Rattle.std.proofs.Common.{◌≡◌, List, ℕ, length, take, drop, ◌-◌, arith, map}
 use Rattle.roam_wire.specs.Packet.{Attribute}
 use Rattle.roam_wire.specs.Reading.{packet_of}
 use Rattle.roam_hide.specs.HidingKeys.{password_key}

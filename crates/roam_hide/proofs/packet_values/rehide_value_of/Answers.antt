@@ -1,8 +1,4 @@
-use Rattle.std.proofs.Common.{◌≡◌, ◌∙◌, sym, ap, refl, List, ℕ}
-use Rattle.roam_wire.specs.Packet.{Attribute}
-use Rattle.roam_hide.specs.declared.packet_values.Hidden.{Hidden}
 use Rattle.roam_hide.specs.HidingKeys.{password_key}
-use Rattle.roam_hide.specs.PacketAnew.{attribute_anew}
 use Rattle.roam_hide.proofs.SaltedFunctionLemmas.{is_hidden_anew, is_tunnel_anew, is_vendor_anew}
 use Rattle.roam_hide.proofs.packet_values.rehide_value_of.Goals as goal
 

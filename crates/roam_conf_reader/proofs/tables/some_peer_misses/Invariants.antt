@@ -1,8 +1,0 @@
-use Rattle.std.proofs.Common.{◌≡◌, drop}
-use Rattle.toml.specs.View.{items_view}
-use Rattle.roam_conf_reader.specs.Document.{peer_misses, some_table}
-use Rattle.roam_conf_reader.proofs.tables.some_peer_misses.Given as goal
-
-abbrev pub invariant-loop-value : goal.invariant-loop-value
-invariant-loop-value l =
-    some_table peer_misses (items_view (drop l.value-index l.items.items)) ≡ some_table peer_misses (items_view l.fn.items.items)
