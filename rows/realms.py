@@ -30,7 +30,8 @@ row.arrive(3, ra[1], [sent(forward(ra[1], 1, 1))], "the first realm's ticket 1")
 row.tick(1003, [sent(forward(ra[0], 0, 0)), sent(forward(ra[1], 1, 1)),
                 sent(forward(rb[0], 0, 0), realm=1), sent(forward(rb[1], 1, 1), realm=1)],
          "the first realm's by ticket, then the second's, although the second's were earlier")
-row.reply(1500, response(forward(rb[0], 0, 0), b""), [given_back(back(rb[0]), realm=1)], "the second realm's ticket 0 is answered", realm=1)
+row.reply(1500, response(forward(rb[0], 0, 0), b""), [given_back(back(rb[0]), realm=1)],
+          "the second realm's ticket 0 is answered", realm=1)
 row.tick(2003, [], "the three others are given up")
 row.reply(2004, response(forward(ra[0], 0, 0), b""), 14, "too late")
 row.arrive(2005, rb[0], [given_back(back(rb[0]), realm=1)], "what is held stays")
@@ -55,7 +56,8 @@ row.arrive(0, ra[1], 13, "busy there")
 row.arrive(0, rb[0], [sent(forward(rb[0], 0, 0), realm=1)], "the second realm has two places")
 row.arrive(0, rb[1], [sent(forward(rb[1], 1, 1), realm=1)], "and takes two")
 row.arrive(0, request(3, B), 13, "busy there too")
-row.reply(1, response(forward(rb[0], 0, 0), b""), [given_back(back(rb[0]), realm=1)], "one of the second realm is answered", realm=1)
+row.reply(1, response(forward(rb[0], 0, 0), b""), [given_back(back(rb[0]), realm=1)],
+          "one of the second realm is answered", realm=1)
 row.arrive(2, ra[1], 13, "the first realm is still busy")
 row.arrive(2, request(3, B), [sent(forward(request(3, B), 2, 2), realm=1)], "the second realm takes another")
 

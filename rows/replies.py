@@ -44,7 +44,8 @@ row.arrive(0, q5, [sent(f0)], "an Accounting-Request without a seal")
 cls = b"\x19\x04cc"
 m1 = seal(5, 0, f0[4:20], cls, T(0), H1)
 w1 = seal(5, 5, q5[4:20], cls, b"", P)
-row.reply(1, response(f0, m1), [given_back(back(q5, w1))], "a response with a seal over the request, between two attributes; it is sealed anew in its place")
+row.reply(1, response(f0, m1), [given_back(back(q5, w1))],
+          "a response with a seal over the request, between two attributes; it is sealed anew in its place")
 row.arrive(2, q6, [sent(forward(q6, 1, 1))], "another one")
 g = forward(q6, 1, 1)
 m2 = seal(5, 1, Z, cls, cls, H1)
@@ -53,7 +54,8 @@ row.reply(3, response(g, m2), [given_back(back(q6, w2))], "a response with a sea
 sealed7 = request(7, seal(4, 7, Z, NAME, START + SESSION, P))
 g7 = request(2, seal(4, 2, Z, NAME, START + SESSION + T(2), H1), H1)
 row.arrive(4, sealed7, [sent(g7)], "a request with a seal after its name; it is sealed anew in its place")
-row.reply(5, response(g7, b"\x21\x03\xaa" + cls), [given_back(back(sealed7, cls))], "a response without a seal and with a strange Proxy-State")
+row.reply(5, response(g7, b"\x21\x03\xaa" + cls), [given_back(back(sealed7, cls))],
+          "a response without a seal and with a strange Proxy-State")
 
 qp = request(5, A + ps)
 fp = forward(qp, 0, 0)
@@ -88,4 +90,5 @@ f = forward(q, 0, 0)
 row.arrive(0, q, [sent(f)], "an Accounting-Request with two Proxy-States")
 row.reply(1, response(f, b"\x21\x03\xcc" + T(0) + b"\x19\x03\xee" + b"\x21\x02"),
           [given_back(back(q, b"\x19\x03\xee" + ps + b"\x21\x03\xbb"))],
-          "a response with another, the broker's own, a Class and an empty one: the Class goes first, and then the request's")
+          "a response with another, the broker's own, a Class and an empty one: the Class goes first, "
+          "and then the request's")

@@ -13,7 +13,8 @@ row.arrive(0, q5, 5, "an Accounting-Request at the authentication place", place=
 row.arrive(0, q5, 4, "from an address that is no access server's", source="192.0.2.9:5000")
 row.arrive(0, q5, 4, "at a place of no realm", place="out:1", source=S1)
 row.arrive(0, q5, 5, "a request from the home server", place="out:0", source=S1)
-row.arrive(0, q5, 5, "a request at the realm's endpoint for reverse requests", place="reverse:0", source="198.51.100.1:40000")
+row.arrive(0, q5, 5,
+           "a request at the realm's endpoint for reverse requests", place="reverse:0", source="198.51.100.1:40000")
 good80 = seal(4, 5, Z, A, b"", P)[len(A):]
 row.arrive(0, request(5, A + good80 + good80), 7, "two Message-Authenticators")
 row.arrive(0, request(5, A + b"\x50\x11" + bytes(15)), 7, "one of 15 octets")
@@ -22,7 +23,8 @@ row.arrive(0, request(5, A + mac, b"no"), 6, "a wrong digest and a wrong one: th
 row.arrive(0, request(5, mac), 7, "a wrong one and no realm: it is looked at first")
 big = filled(4087, A)
 row.arrive(0, request(5, big), 10, "an Accounting-Request of 4087 octets")
-row.arrive(0, request(5, b"\x01\x0du@b.example" + filled(4087 - 13)), 9, "the same size of no realm: that is looked at first")
+row.arrive(0, request(5, b"\x01\x0du@b.example" + filled(4087 - 13)), 9,
+           "the same size of no realm: that is looked at first")
 row.arrive(0, b"", 1, "no octets")
 row.arrive(0, q5[:19], 1, "19 octets")
 row.arrive(0, q5[:-1], 2, "an octet short of its Length")

@@ -30,6 +30,11 @@ def is_said_elsewhere(path, text):
     return path.suffix == ".row" and text.startswith(("# Given", "# Written by hand"))
 
 
+def sent_for(realm, path):
+    """The lines of the packets that a file's rows send for a realm."""
+    return [line for line in path.read_text().split("\n") if line.startswith(f"#> {realm} ")]
+
+
 def main(words):
     files = written()
     stale = {path: text for path, text in files.items() if not path.exists() or path.read_text() != text}
@@ -49,6 +54,9 @@ def main(words):
         except Differs as differs:
             print(differs)
             problems += 1
+    if sent_for(1, DATA / "rows" / "one-world.row") != sent_for(1, DATA / "rows" / "other-world.row"):
+        print("the second realm isn't the same in two worlds")
+        problems += 1
     return 1 if problems else 0
 
 

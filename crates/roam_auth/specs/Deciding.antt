@@ -22,7 +22,8 @@ is_signed_request secret p = bytes_eq p.authenticator (request_authenticator sec
 -- whether a Value is the packet's Message-Authenticator over one of these Authenticators
 abbrev pub is_seal_over_one : List ℕ → List (List ℕ) → Packet → List ℕ → Bool
 is_seal_over_one secret authenticators p value =
-    list_any (λ authenticator. bytes_eq value (message_authenticator secret authenticator p)) authenticators
+    list_any (λ authenticator. bytes_eq value (message_authenticator secret authenticator p))
+    authenticators
 
 -- whether a packet is well sealed for a secret and some Authenticators (ours, over RFC 3579, section
 -- 3.2)
@@ -30,4 +31,5 @@ abbrev pub is_well_sealed : List ℕ → List (List ℕ) → Packet → Bool
 is_well_sealed secret authenticators p =
     count_of MESSAGE_AUTHENTICATOR p.attributes == 0
     || (count_of MESSAGE_AUTHENTICATOR p.attributes == 1
-    && option_map_or (is_seal_over_one secret authenticators p) (first_value MESSAGE_AUTHENTICATOR p.attributes) false)
+    && option_map_or (is_seal_over_one secret authenticators p)
+    (first_value MESSAGE_AUTHENTICATOR p.attributes) false)

@@ -7,7 +7,8 @@ use Rattle.roam_auth.specs.Deciding.{is_signed_reply, is_signed_request, is_well
 
 abbrev pub SignedReplyIsDecided : Type 0
 SignedReplyIsDecided = (secret request_authenticator : List ℕ) (p : Packet) →
-    IsTrue (is_signed_reply secret request_authenticator p) ↔ IsSignedReply secret request_authenticator p
+    IsTrue (is_signed_reply secret request_authenticator p)
+    ↔ IsSignedReply secret request_authenticator p
 
 abbrev pub SignedRequestIsDecided : Type 0
 SignedRequestIsDecided = (secret : List ℕ) (p : Packet) →

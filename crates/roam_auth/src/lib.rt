@@ -18,6 +18,7 @@ mod response;
 pub use hmac::hmac_md5;
 pub use in_place::{seal, sign_reply, sign_request};
 pub use laws::{deciding, digests, sealing, signing, zeroing};
-pub use message::{message_auth, message_ok};
+pub use message::{has_one_message_authenticator, message_auth, message_ok};
+pub use pieces::ZERO_OCTETS;
 pub use request::{request_auth, request_ok};
 pub use response::{response_auth, response_ok};

@@ -9,16 +9,13 @@ ghost use Rattle.roam_auth.specs.Authenticators.{zero_octets};
 ghost use Rattle.roam_auth.specs.MessageAuthenticator.{HasOneMessageAuthenticator, IsWellSealed, attribute_with_value, zeroed_text, message_authenticator};
 
 use crate::hmac::{inner_hasher, outer_digest};
-use crate::pieces::before_authenticator;
+use crate::pieces::{ZERO_OCTETS, before_authenticator};
 use md5::{Digest, Md5};
 use roam_wire::attribute_type::MESSAGE_AUTHENTICATOR;
 use roam_wire::{Attr, Attrs, View};
 
-/// What a Message-Authenticator counts as while it is computed (RFC 3579, section 3.2).
-const ZERO_OCTETS: [u8; 16] = [0; 16];
-
-/// Whether just one Message-Authenticator stands there, of 16 octets.
-fn has_one_message_authenticator(view: &View<'_>) -> bool
+/// Whether just one Message-Authenticator stands there, of 16 octets (RFC 3579, section 3.2).
+pub fn has_one_message_authenticator(view: &View<'_>) -> bool
     ensures { IsTrue result ↔ HasOneMessageAuthenticator view.now }
 {
     view.count(MESSAGE_AUTHENTICATOR) == 1

@@ -2,6 +2,10 @@
 
 ghost use Rattle.std.specs.Prelude.{◌≡◌, ◌≤◌, List, ℕ, ◌++◌, ◌∷◌, length, take, drop};
 
+/// Sixteen zero octets, which stand for an Authenticator or a Message-Authenticator that isn't computed
+/// yet (RFC 2866, section 3; RFC 3579, section 3.2).
+pub const ZERO_OCTETS: [u8; 16] = [0; 16];
+
 /// Code, Identifier and Length: what stands before the Authenticator.
 pub fn before_authenticator(octets: &[u8]) -> &[u8]
     requires { 20 ≤ length octets.now }

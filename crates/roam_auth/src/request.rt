@@ -4,6 +4,7 @@
 ghost use Rattle.std.specs.Prelude.{◌≡◌, ◌↔◌, ◌≤◌, IsTrue, length};
 ghost use Rattle.roam_auth.specs.Authenticators.{request_authenticator, IsSignedRequest};
 
+use crate::pieces::ZERO_OCTETS;
 use crate::response::response_auth;
 use roam_wire::View;
 
@@ -16,7 +17,7 @@ pub fn request_auth(view: &View<'_>, secret: &[u8]) -> [u8; 16]
     requires at_most_64 { length secret.now ≤ 64 }
     ensures { result ≡ request_authenticator secret.now view.now }
 {
-    response_auth(view, [0; 16], secret)
+    response_auth(view, ZERO_OCTETS, secret)
 }
 
 /// Whether an accounting or reverse request is signed: whether its Authenticator field is its

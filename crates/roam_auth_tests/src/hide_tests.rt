@@ -3,12 +3,11 @@
 //! ChaCha20 under the zero key. Where no RFC is named, both sides were computed apart, with
 //! Python's hashlib, from a plain text that the comment tells.
 
+use crate::octets::{octets, octets_mut};
 use roam_hide::{
     HidingKey, password_fits, rehide_password, rehide_salted, rehide_tunnel, rehide_vendor, salted,
 };
 use roam_wire::View;
-use std::alloc::Global;
-use std::process::Abort;
 
 const P_AUTHENTICATOR: [u8; 16] = [
     0x0f, 0x40, 0x3f, 0x94, 0x73, 0x97, 0x80, 0x57, 0xbd, 0x83, 0xd5, 0xcb, 0x98, 0xf4, 0x22, 0x7a,
@@ -34,33 +33,20 @@ fn h<'a>() -> HidingKey<'a> {
     }
 }
 
-/// The octets that a text of hexadecimal digits spells.
-fn octets(rt: &impl Abort, alloc: Global, text: &str) -> Vec<u8> {
-    hex::decode(alloc, text).expect(rt, "hexadecimal digits")
-}
-
-/// A password that is hidden by P, and by H.
-fn check_password(rt: &impl Abort, alloc: Global, by_p: &str, by_h: &str) {
-    let mut value = octets(rt, alloc, by_p);
-    assert!(rt; password_fits(value.len()), "{by_p}");
-    rehide_password(&mut value, p(), h());
-    assert!(rt; value == octets(rt, alloc, by_h), "{by_p}");
-}
-
-/// A password that is hidden by P, and by P again.
-fn check_same_key(rt: &impl Abort, alloc: Global, by_p: &str) {
-    let mut value = octets(rt, alloc, by_p);
-    assert!(rt; password_fits(value.len()), "{by_p}");
-    rehide_password(&mut value, p(), p());
-    assert!(rt; value == octets(rt, alloc, by_p), "{by_p}");
-}
-
-/// A password that is hidden by H, and by P.
-fn check_password_back(rt: &impl Abort, alloc: Global, by_h: &str, by_p: &str) {
-    let mut value = octets(rt, alloc, by_h);
-    assert!(rt; password_fits(value.len()), "{by_h}");
-    rehide_password(&mut value, h(), p());
-    assert!(rt; value == octets(rt, alloc, by_p), "{by_h}");
+/// Whether a password that is hidden by one key is this, hidden by the other.
+fn is_password_anew(
+    by_one: &str,
+    one: HidingKey<'_>,
+    by_other: &str,
+    other: HidingKey<'_>,
+) -> bool {
+    let (mut room, mut expected) = ([0; 160], [0; 160]);
+    let value = octets_mut(by_one, &mut room);
+    if !password_fits(value.len()) {
+        return false;
+    }
+    rehide_password(value, one, other);
+    *value == *octets(by_other, &mut expected)
 }
 
 /// Passwords as hidden by P, and by H.
@@ -82,46 +68,45 @@ const PASSWORDS: [(&str, &str); 3] = [
     ),
 ];
 
-/// Each password is hidden by P and by H, and back.
-fn check_passwords(rt: &impl Abort, alloc: Global, passwords: &[(&str, &str)]) {
-    for &(by_p, by_h) in passwords {
-        check_password(rt, alloc, by_p, by_h);
-        check_password_back(rt, alloc, by_h, by_p);
-        check_same_key(rt, alloc, by_p);
-    }
-}
-
 #[test]
 fn passwords_are_hidden_anew(rt: HostRuntime) {
-    check_passwords(&rt, rt.alloc(), &PASSWORDS);
-}
-
-/// Passwords of these sizes fit, or don't.
-fn check_sizes(rt: &impl Abort, sizes: &[usize], fit: bool) {
-    for len in sizes {
-        assert!(rt; password_fits(*len) == fit, "{len}");
+    for (by_p, by_h) in PASSWORDS {
+        let anew = [
+            is_password_anew(by_p, p(), by_h, h()),
+            is_password_anew(by_h, h(), by_p, p()),
+            is_password_anew(by_p, p(), by_p, p()),
+        ];
+        assert!(rt; anew == [true; 3], "{by_p}");
     }
 }
+
+/// Sizes of passwords, and whether they fit.
+const SIZES: [(usize, bool); 14] = [
+    (0, false),
+    (1, false),
+    (15, false),
+    (16, true),
+    (17, false),
+    (24, false),
+    (31, false),
+    (32, true),
+    (112, true),
+    (120, false),
+    (127, false),
+    (128, true),
+    (129, false),
+    (144, false),
+];
 
 #[test]
 fn passwords_of_these_sizes_fit(rt: HostRuntime) {
-    check_sizes(&rt, &[16, 32, 48, 64, 80, 96, 112, 128], true);
-    check_sizes(&rt, &[0, 1, 15, 17, 24, 31, 120, 127, 129, 144], false);
+    for (size, fits) in SIZES {
+        assert!(rt; password_fits(size) == fits, "{size}");
+    }
 }
 
-// An octet 10 for the length, "tunnelpass" and five zero octets, salt 8001.
-#[test]
-fn salted_strings_are_hidden_anew(rt: HostRuntime) {
-    let mut string = octets(&rt, rt.alloc(), "fc50ccfc9e7381f17368dfe1fb771c90");
-    assert_eq!(rt; string.len(), 16);
-    rehide_salted(&mut string, [0x80, 0x01], h(), p());
-    assert_eq!(rt;
-        string.as_slice(),
-        octets(&rt, rt.alloc(), "cd3ba3160b74f387a6755c09e6838723").as_slice()
-    );
-}
-
-/// The same string behind tag and salt; then values that stay.
+/// An octet 10 for the length, "tunnelpass" and five zero octets, behind a tag and the salt 8001; then
+/// values that stay.
 const TUNNEL_PASSWORDS: [(&str, &str); 9] = [
     (
         "018001fc50ccfc9e7381f17368dfe1fb771c90",
@@ -151,38 +136,54 @@ const TUNNEL_PASSWORDS: [(&str, &str); 9] = [
     ),
 ];
 
-/// Each value of the home server is this to the access server.
-fn check_tunnel_passwords(rt: &impl Abort, alloc: Global, values: &[(&str, &str)]) {
-    for &(from_home_server, to_access_server) in values {
-        let mut value = octets(rt, alloc, from_home_server);
-        let expected = octets(rt, alloc, to_access_server);
-        rehide_tunnel(&mut value, h(), p());
-        assert!(rt; value == expected, "{from_home_server}");
-    }
+/// Whether a Tunnel-Password of the home server is this to the access server.
+fn is_tunnel_anew(from_home_server: &str, to_access_server: &str) -> bool {
+    let (mut room, mut expected) = ([0; 160], [0; 160]);
+    let value = octets_mut(from_home_server, &mut room);
+    rehide_tunnel(value, h(), p());
+    *value == *octets(to_access_server, &mut expected)
 }
 
 #[test]
 fn tunnel_passwords_are_hidden_anew(rt: HostRuntime) {
-    check_tunnel_passwords(&rt, rt.alloc(), &TUNNEL_PASSWORDS);
+    for (from_home_server, to_access_server) in TUNNEL_PASSWORDS {
+        assert!(rt;
+            is_tunnel_anew(from_home_server, to_access_server),
+            "{from_home_server}"
+        );
+    }
 }
 
-// MS-MPPE-Send-Key: salt 8002, an octet 20 for the length, the octets 0 to 19, and 11 zero octets.
-// A sub-attribute of type 7. MS-MPPE-Recv-Key: salt 9003, an octet 8, the octets 100 to 107, and
-// seven zero octets.
+/// Whether the string of the first of these alone is hidden anew.
+fn is_salted_anew() -> bool {
+    let (mut room, mut expected) = ([0; 160], [0; 160]);
+    let string = octets_mut("fc50ccfc9e7381f17368dfe1fb771c90", &mut room);
+    if string.len() != 16 {
+        return false;
+    }
+    rehide_salted(string, [0x80, 0x01], h(), p());
+    *string == *octets("cd3ba3160b74f387a6755c09e6838723", &mut expected)
+}
+
+/// A Vendor-Specific and what it is to the access server: MS-MPPE-Send-Key with salt 8002, an octet 20
+/// for the length, the octets 0 to 19, and 11 zero octets; a sub-attribute of type 7; MS-MPPE-Recv-Key
+/// with salt 9003, an octet 8, the octets 100 to 107, and seven zero octets.
+const KEYS: (&str, &str) = (
+    "0000013710248002ba88142c27f43b597425dfbb9ec7ee71f461d1586ad42db1232728a67a5afcdf07060000000411149003cf9675e428efa07cc4ae56761d759d50",
+    "000001371024800285cd30df5ac7d7f026efc662eeeae2156e0d688a7b93ee8dee5b3523d74f03e6070600000004111490037c647020c50a43a9738b183625cfa273",
+);
+
+/// Whether a Vendor-Specific of the home server is this to the access server.
+fn is_vendor_anew(from_home_server: &str, to_access_server: &str) -> bool {
+    let (mut room, mut expected) = ([0; 160], [0; 160]);
+    let value = octets_mut(from_home_server, &mut room);
+    rehide_vendor(value, h(), p());
+    *value == *octets(to_access_server, &mut expected)
+}
+
 #[test]
-fn both_keys_of_a_vendor_specific_are_hidden_anew(rt: HostRuntime) {
-    let mut value = octets(
-        &rt,
-        rt.alloc(),
-        "0000013710248002ba88142c27f43b597425dfbb9ec7ee71f461d1586ad42db1232728a67a5afcdf07060000000411149003cf9675e428efa07cc4ae56761d759d50",
-    );
-    rehide_vendor(&mut value, h(), p());
-    let to_access_server = octets(
-        &rt,
-        rt.alloc(),
-        "000001371024800285cd30df5ac7d7f026efc662eeeae2156e0d688a7b93ee8dee5b3523d74f03e6070600000004111490037c647020c50a43a9738b183625cfa273",
-    );
-    assert_eq!(rt; value.as_slice(), to_access_server.as_slice());
+fn salted_strings_are_hidden_anew(rt: HostRuntime) {
+    assert!(rt; [is_salted_anew(), is_vendor_anew(KEYS.0, KEYS.1)] == [true; 2]);
 }
 
 /// Vendor-Specifics that stay as they are.
@@ -213,19 +214,11 @@ const OTHER_VENDOR_SPECIFICS: [&str; 18] = [
     "00000137",
 ];
 
-/// None of the values changes.
-fn check_others(rt: &impl Abort, alloc: Global, values: &[&str]) {
-    for &text in values {
-        let mut value = octets(rt, alloc, text);
-        let expected = octets(rt, alloc, text);
-        rehide_vendor(&mut value, p(), h());
-        assert!(rt; value == expected, "{text}");
-    }
-}
-
 #[test]
 fn other_vendor_specifics_stay(rt: HostRuntime) {
-    check_others(&rt, rt.alloc(), &OTHER_VENDOR_SPECIFICS);
+    for text in OTHER_VENDOR_SPECIFICS {
+        assert!(rt; is_vendor_anew(text, text), "{text}");
+    }
 }
 
 /// CoA-Requests, and whether they are salted.
@@ -284,16 +277,18 @@ const PACKETS: [(&str, bool); 13] = [
     ),
 ];
 
-/// Each packet is salted, or not.
-fn check_packets(rt: &impl Abort, alloc: Global, packets: &[(&str, bool)]) {
-    for &(text, want) in packets {
-        let datagram = octets(rt, alloc, text);
-        let view = View::read(&datagram).ok().expect(rt, "a packet");
-        assert!(rt; salted(&view) == want, "{text}");
+/// Whether a packet is salted: none where it isn't one.
+fn is_salted(text: &str) -> Option<bool> {
+    let mut room = [0; 160];
+    match View::read(octets(text, &mut room)) {
+        Ok(view) => Some(salted(&view)),
+        Err(_) => None,
     }
 }
 
 #[test]
 fn salted_packets_are_told(rt: HostRuntime) {
-    check_packets(&rt, rt.alloc(), &PACKETS);
+    for (text, want) in PACKETS {
+        assert!(rt; is_salted(text) == Some(want), "{text}");
+    }
 }

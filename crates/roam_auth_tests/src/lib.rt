@@ -1,7 +1,9 @@
-//! Authenticators and hidden attributes, against vectors from outside.
+//! Digests, seals and hidden values, against octets from outside.
 #![tactic(auto)]
 
 #[cfg(test)]
 mod auth_tests;
 #[cfg(test)]
 mod hide_tests;
+#[cfg(test)]
+mod octets;

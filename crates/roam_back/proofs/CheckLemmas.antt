@@ -12,7 +12,8 @@ use Rattle.roam_auth.specs.Deciding.{is_signed_reply, is_well_sealed}
 use Rattle.roam_auth.proofs.DecidingLemmas.{signed_reply_decided, well_sealed_decided}
 use Rattle.roam_auth.specs.MessageAuthenticator.{IsWellSealed}
 use Rattle.roam_auth.proofs.SealLemmas.{IsWellSealed-two}
-use Rattle.roam_back.specs.ReplyCheck.{is_access_reply, answers, sealing_authenticators, IsRightlySealed, has_seal_for_eap, is_rightly_sealed, reply_fault, TakenHasNoFault}
+use Rattle.roam_wire.specs.Codes.{is_access_reply}
+use Rattle.roam_back.specs.ReplyCheck.{answers, sealing_authenticators, IsRightlySealed, has_seal_for_eap, is_rightly_sealed, reply_fault, TakenHasNoFault}
 
 -- an accounting or reverse reply may be sealed over zeros too
 sealing_authenticators-others : (reply forwarded : Packet) → is_access_reply reply.code ≡ false → sealing_authenticators reply forwarded ≡ forwarded.authenticator ∷ zero_octets ∷ []

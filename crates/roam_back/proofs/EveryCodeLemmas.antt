@@ -21,7 +21,7 @@ use Rattle.roam_hide.specs.Hiding.{Key}
 use Rattle.roam_hide.specs.SaltedFunctions.{tunnel_anew, vendor_anew}
 use Rattle.roam_hide.proofs.SaltedFunctionLemmas.{tunnel_anew_is, vendor_anew_is, length_tunnel_anew, length_vendor_anew}
 use Rattle.roam_hide.proofs.OctetLemmas.{AreOctets-tunnel_anew, AreOctets-vendor_anew}
-use Rattle.roam_back.specs.ReplyCheck.{is_access_reply}
+use Rattle.roam_wire.specs.Codes.{is_access_reply}
 use Rattle.roam_back.specs.Returned.{Returning, proxy_states, with_salted_anew, carried_attributes, unsealed, sealed, returned, returned_length}
 use Rattle.roam_back.proofs.SignedLemmas.{IsPacket-sealed}
 use Rattle.roam_back.proofs.ReturnedLemmas.{other_kind, count_of-without_itself, count_of-only, short_kept, short_joined, carried-others, AtMostOne-others}

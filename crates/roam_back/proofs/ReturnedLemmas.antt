@@ -7,7 +7,7 @@ use Rattle.std.proofs.lemmas.List.Sums.{sum_by-cons}
 use Rattle.std.proofs.lemmas.List.{take_at, drop_at}
 use Rattle.roam_wire.specs.Packet.{Attribute, IsAttribute, Packet, IsPacket, attributes_text, packet_length, packet_text}
 use Rattle.roam_wire.specs.Reading.{IsPacketText, packet_of}
-use Rattle.roam_wire.proofs.PacketLemmas.{IsPacketText-packet_text, packet_of-packet_text}
+use Rattle.roam_wire.proofs.LawLemmas.{IsPacketText-packet_text, packet_of-packet_text}
 use Rattle.roam_auth.specs.Authenticators.{signed_reply}
 use Rattle.roam_wire.specs.Attributes.{has_kind, count_of, first_value, only_kind, without_kind}
 use Rattle.roam_wire.specs.declared.attribute_type.TheConstants.{PROXY_STATE}
@@ -15,7 +15,7 @@ use Rattle.roam_wire.specs.declared.attribute_type.TheConstants.{MESSAGE_AUTHENT
 use Rattle.roam_auth.specs.MessageAuthenticator.{HasAtMostOneMessageAuthenticator, with_message_authenticator}
 use Rattle.roam_auth.proofs.ValueLemmas.{count_of-no}
 use Rattle.roam_auth.proofs.SealingLemmas.{count_of-append, length-attributes_text-append}
-use Rattle.roam_back.specs.ReplyCheck.{is_access_reply}
+use Rattle.roam_wire.specs.Codes.{is_access_reply}
 use Rattle.roam_back.specs.Returned.{Returning, proxy_states, carried_attributes, unsealed, returned, returned_length}
 
 -- ---- counts of the attributes that are kept

@@ -2,7 +2,7 @@
 use Rattle.std.proofs.Common.{◌≡◌, ℕ, List, ◌∙◌, ap}
 use Rattle.roam_wire.specs.Packet.{Packet, IsPacket, packet_text}
 use Rattle.roam_wire.specs.Reading.{IsPacketText, packet_of}
-use Rattle.roam_wire.proofs.PacketLemmas.{IsPacketText-packet_text, packet_of-packet_text}
+use Rattle.roam_wire.proofs.LawLemmas.{IsPacketText-packet_text, packet_of-packet_text}
 use Rattle.roam_auth.specs.MessageAuthenticator.{HasAtMostOneMessageAuthenticator, message_authenticator, with_message_authenticator}
 use Rattle.roam_auth.proofs.ValueLemmas.{IsPacket-with_value}
 use Rattle.roam_auth.proofs.DigestLemmas.{sixteen-message_authenticator, length-message_authenticator}

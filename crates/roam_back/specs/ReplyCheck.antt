@@ -3,17 +3,14 @@
 use Rattle.std.specs.Prelude.{◌≡◌, ◌==◌, ◌||◌, ◌&&◌, ◌<◌, ◌↔◌, ℕ, Bool, List, [], ◌∷◌, IsTrue, Option, Some, None, if◌then◌else◌, nat_lt, not}
 use Rattle.roam_wire.specs.Packet.{Packet}
 use Rattle.roam_wire.specs.Attributes.{count_of}
+use Rattle.roam_wire.specs.Codes.{is_access_reply}
 use Rattle.roam_wire.specs.declared.attribute_type.TheConstants.{EAP_MESSAGE, MESSAGE_AUTHENTICATOR}
-use Rattle.roam_wire.specs.declared.code.TheConstants.{ACCESS_REQUEST, ACCESS_ACCEPT, ACCESS_REJECT, ACCESS_CHALLENGE, ACCOUNTING_REQUEST, ACCOUNTING_RESPONSE, DISCONNECT_REQUEST, DISCONNECT_ACK, DISCONNECT_NAK, COA_REQUEST, COA_ACK, COA_NAK}
+use Rattle.roam_wire.specs.declared.code.TheConstants.{ACCESS_REQUEST, ACCOUNTING_REQUEST, ACCOUNTING_RESPONSE, DISCONNECT_REQUEST, DISCONNECT_ACK, DISCONNECT_NAK, COA_REQUEST, COA_ACK, COA_NAK}
 use Rattle.roam_wire.specs.declared.refusal.Refusal.{Refusal}
 use Rattle.roam_wire.specs.declared.refusal.Refusal.TheVariants as refusal
 use Rattle.roam_auth.specs.Authenticators.{zero_octets, IsSignedReply}
 use Rattle.roam_auth.specs.Deciding.{is_signed_reply, is_well_sealed}
 use Rattle.roam_auth.specs.MessageAuthenticator.{IsWellSealed}
-
--- Access-Accept, Access-Reject or Access-Challenge (RFC 2865, section 4)
-abbrev pub is_access_reply : ℕ → Bool
-is_access_reply code = code == ACCESS_ACCEPT || code == ACCESS_REJECT || code == ACCESS_CHALLENGE
 
 -- whether a reply's code answers a request's (RFC 2865 section 4, RFC 2866 section 4, RFC 5176
 -- section 2.3)
@@ -70,7 +67,8 @@ abbrev pub reply_fault : List ℕ → Packet → Packet → Option Refusal
 reply_fault secret reply forwarded =
     if not (answers forwarded.code reply.code) then Some refusal.WrongReply
     else if not (is_signed_reply secret forwarded.authenticator reply) then Some refusal.BadReply
-    else if not (is_rightly_sealed secret reply forwarded) then Some refusal.BadReplyMessageAuthenticator
+    else if not (is_rightly_sealed secret reply forwarded)
+    then Some refusal.BadReplyMessageAuthenticator
     else None
 
 -- a reply has no fault just where it is taken

@@ -8,7 +8,7 @@ use Rattle.roam_auth.specs.Authenticators.{with_authenticator, response_authenti
 use Rattle.roam_auth.specs.MessageAuthenticator.{empty_message_authenticator, with_message_authenticator}
 use Rattle.roam_hide.specs.Hiding.{Key}
 use Rattle.roam_hide.specs.SaltedFunctions.{tunnel_anew, vendor_anew}
-use Rattle.roam_back.specs.ReplyCheck.{is_access_reply}
+use Rattle.roam_wire.specs.Codes.{is_access_reply}
 
 -- what a reply is returned with: the Authenticator of the forwarded request, the secret shared with
 -- the link from which the reply came, and the one shared with the requester (ours)

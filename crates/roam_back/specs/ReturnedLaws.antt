@@ -5,7 +5,7 @@ use Rattle.roam_wire.specs.Packet.{Packet, IsPacket, packet_length, packet_text}
 use Rattle.roam_wire.specs.Reading.{ReadsAs}
 use Rattle.roam_auth.specs.Authenticators.{IsSignedReply}
 use Rattle.roam_auth.specs.MessageAuthenticator.{HasOneMessageAuthenticator, HasAtMostOneMessageAuthenticator, IsWellSealed, StandsFirst}
-use Rattle.roam_back.specs.ReplyCheck.{is_access_reply}
+use Rattle.roam_wire.specs.Codes.{is_access_reply}
 use Rattle.roam_back.specs.Returned.{Returning, proxy_states, returned, returned_length}
 
 -- a reply to a request, both read, that can be returned: it has at most one Message-Authenticator, of

@@ -5,26 +5,15 @@ ghost use Rattle.std.specs.Prelude.{◌≡◌, ◌⊎◌, ◌↔◌, ◌≤◌, 
 ghost use Rattle.std.specs.Result.{result_err};
 ghost use Rattle.roam_auth.specs.Authenticators.{IsSignedReply};
 ghost use Rattle.roam_auth.specs.MessageAuthenticator.{IsWellSealed};
-ghost use Rattle.roam_back.specs.ReplyCheck.{is_access_reply, answers, sealing_authenticators, HasSealForEap, IsRightlySealed, IsTaken, reply_fault};
+ghost use Rattle.roam_back.specs.ReplyCheck.{answers, sealing_authenticators, HasSealForEap, IsRightlySealed, IsTaken, reply_fault};
 
-use roam_auth::{message_ok, response_ok};
+use roam_auth::{ZERO_OCTETS, message_ok, response_ok};
 use roam_wire::attribute_type::{EAP_MESSAGE, MESSAGE_AUTHENTICATOR};
 use roam_wire::code::{
-    ACCESS_ACCEPT, ACCESS_CHALLENGE, ACCESS_REJECT, ACCESS_REQUEST, ACCOUNTING_REQUEST,
-    ACCOUNTING_RESPONSE, COA_ACK, COA_NAK, COA_REQUEST, DISCONNECT_ACK, DISCONNECT_NAK,
-    DISCONNECT_REQUEST,
+    ACCESS_REQUEST, ACCOUNTING_REQUEST, ACCOUNTING_RESPONSE, COA_ACK, COA_NAK, COA_REQUEST,
+    DISCONNECT_ACK, DISCONNECT_NAK, DISCONNECT_REQUEST, is_access_reply,
 };
 use roam_wire::{Refusal, View};
-
-/// What the Authenticator counts as in the second seal that an accounting or reverse reply may have.
-const ZERO_OCTETS: [u8; 16] = [0; 16];
-
-/// Whether a code is Access-Accept, Access-Reject or Access-Challenge (RFC 2865, section 4).
-fn is_access_reply(code: u8) -> bool
-    ensures { result ≡ is_access_reply code }
-{
-    code == ACCESS_ACCEPT || code == ACCESS_REJECT || code == ACCESS_CHALLENGE
-}
 
 /// Whether a reply's code answers a request's (RFC 2865 section 4, RFC 2866 section 4, RFC 5176
 /// section 2.3).

@@ -7,12 +7,12 @@ ghost use Rattle.roam_wire.specs.Attributes.{only_kind, without_kind};
 ghost use Rattle.roam_wire.specs.Shown.{shown};
 ghost use Rattle.roam_auth.specs.Authenticators.{signed_reply};
 ghost use Rattle.roam_auth.specs.MessageAuthenticator.{HasAtMostOneMessageAuthenticator, with_message_authenticator};
-ghost use Rattle.roam_back.specs.ReplyCheck.{is_access_reply};
+ghost use Rattle.roam_wire.specs.Codes.{is_access_reply};
 ghost use Rattle.roam_back.specs.Returned.{Returning, unsealed, returned, returned_length};
 
 use roam_auth::{seal, sign_reply};
 use roam_wire::attribute_type::PROXY_STATE;
-use roam_wire::{Attr, Refusal, View};
+use roam_wire::{Attr, MAX_PACKET_LENGTH, Refusal, View};
 use std::alloc::Allocator;
 
 /// How many octets a packet's attributes take without its Proxy-States. One pass.
@@ -195,7 +195,8 @@ fn seal_and_sign_from<A: Allocator>(
 /// the reply is of an accounting or reverse code: an Access reply isn't returned yet.
 ///
 /// Refused in this order: `ReplyTooLong` where the packet would pass 4096 octets, looked at before
-/// memory is asked for; `NoMemory`. A refusal leaves the buffer's octets as they were.
+/// memory is asked for; `NoMemory`. A refusal leaves the buffer as it was, and its
+/// capacity.
 pub fn back<A: Allocator>(
     reply: &View<'_>,
     request: &View<'_>,
@@ -217,6 +218,7 @@ pub fn back<A: Allocator>(
           client_secret = client_secret.now;
         }) reply.now request.now)) }
     ensures err { OnErr result (out.new.items ≡ out.old.items) }
+    ensures capacity { OnErr result (vec_capacity out.new ≡ vec_capacity out.old) }
 
     // The size is looked at before memory is asked for.
     ensures reply_too_long { IsErrOf result Refusal.ReplyTooLong
@@ -236,7 +238,7 @@ pub fn back<A: Allocator>(
         }) reply.now request.now }
 {
     let size = returned_len(reply, request);
-    if size > 4096 {
+    if size > MAX_PACKET_LENGTH {
         return Err(Refusal::ReplyTooLong);
     }
     out.reserve(size).map_err(|_| Refusal::NoMemory)?;

@@ -6,7 +6,7 @@ use Rattle.roam_conf.specs.Config.{ConfigView}
 use Rattle.roam_conf.specs.Shown.{shown}
 use Rattle.roam_conf.specs.declared.config.Config.{Config}
 use Rattle.roam_pending.specs.PlainEntry.{PlainEntry}
-use Rattle.roam_pending.specs.EntryList.{Held}
+use Rattle.roam_pending.specs.EntryList.{Held, IsEntryList}
 use Rattle.roam_pending.specs.Realms.{entries_in, keeps_in}
 use Rattle.roam_pending.proofs.TestLemmas.{same}
 use Rattle.roam_book.specs.RealmConfig.{RealmConfig, link_count, realm_config}
@@ -27,6 +27,12 @@ pub held-entries : (p : Held) (realm : ℕ) (c : RealmConfig) (config : ConfigVi
 held-entries p realm c config is own =
     ap (λ (x : RealmConfig). entries_in p x.index) is ∙ own-entries p realm own
 
+-- a list keeps its own realm
+pub held-kept : (p : Held) (realm : ℕ) (c : RealmConfig) (config : ConfigView)
+    → c ≡ realm_config config realm → p.realm ≡ realm → keeps_in p c.index ≡ true
+held-kept p realm c config is own =
+    ap (λ (x : RealmConfig). keeps_in p x.index) is ∙ same realm p.realm (sym own)
+
 -- the same realm is kept
 pub own-realm : (old new : Held) (realm : ℕ) → old.realm ≡ realm → keeps_in new ≡ keeps_in old
     → new.realm ≡ realm
@@ -39,8 +45,9 @@ own-realm old new realm own keeps =
 pub kept-book : {A : Type 0} (config : Config) (realm : ℕ) (old new : Held) (m : Numbers A)
     (c : RealmConfig) → realm < vec_len config.realms → old.realm ≡ realm
     → c ≡ realm_config (shown config) realm → keeps_in new ≡ keeps_in old
-    → IsSound c (entries_in new c.index) m → IsBook config realm new m
-kept-book config realm old new m c configured own is keeps sound =
+    → IsSound c (entries_in new c.index) m → IsEntryList (entries_in new c.index)
+    → IsBook config realm new m
+kept-book config realm old new m c configured own is keeps sound list =
     let now = own-realm old new realm own keeps in
     let of : RealmConfig = realm_config (shown config) realm in
     let here : IsSound of (entries_in new realm) m = subst (λ (x : RealmConfig). IsSound x (entries_in new x.index) m) is sound in
@@ -48,6 +55,7 @@ kept-book config realm old new m c configured own is keeps sound =
       configured = configured;
       own_entries = now;
       sound = subst (λ (es : List PlainEntry). IsSound of es m) (own-entries new realm now) here;
+      list = subst IsEntryList (held-entries new realm c (shown config) is now) list;
     }
 
 -- what a call of the realm gives, the book gives
@@ -68,6 +76,19 @@ own-gives f r view config realm old new n m c v is own now h =
     let after : Gives r (state_of old.entries n) (state_of new.entries m) (f of (state_of old.entries n)) =
     subst (λ (es : List PlainEntry). Gives r (state_of old.entries n) (state_of es m) (f of (state_of old.entries n))) (own-entries new realm now) before in
     subst (λ (b : BookView). Gives r b.state (state_of new.entries m) (f (settings_of b) b.state)) (sym v) after
+
+-- what the realm gives that a book lends for an event, under the settings that it has then
+pub realm-gives : {A : Type 0} (f : RealmConfig → RealmState → Turn)
+    (r : Result (Answer A) NoMemory) (view : BookView) (config : ConfigView) (realm : ℕ)
+    (old new : Held) (n m : Numbers A) (c k : RealmConfig) → k ≡ c
+    → view ≡ record { config = config; realm = realm; state = state_of old.entries n }
+    → c ≡ realm_config config realm → old.realm ≡ realm → keeps_in new ≡ keeps_in old
+    → Gives r (state_of (entries_in old c.index) n) (state_of (entries_in new k.index) m)
+    (f c (state_of (entries_in old c.index) n))
+    → Gives r view.state (state_of new.entries m) (f (settings_of view) view.state)
+realm-gives f r view config realm old new n m c k at v is own keeps h =
+    own-gives f r view config realm old new n m c v is own (own-realm old new realm own keeps)
+    (subst (λ (x : RealmConfig). Gives r (state_of (entries_in old c.index) n) (state_of (entries_in new x.index) m) (f c (state_of (entries_in old c.index) n))) at h)
 
 -- and no memory is wanted where the realm's call wants none
 pub own-succeeds : {A : Type 0} (f : RealmConfig → RealmState → Turn)
@@ -102,4 +123,5 @@ new-book config realm held n c start configured own none is ticket most place be
         lane_count = count;
         lanes_tell = free;
       }));
+      list = rw none (record { in_order = tt; distinct_keys = tt });
     }

@@ -9,18 +9,18 @@ use Rattle.roam_conf.specs.declared.place.Link.TheVariants as link
 use Rattle.roam_pending.specs.declared.entry.Standing.TheVariants as standing
 use Rattle.roam_pending.specs.declared.entry.Waiting.{Waiting}
 use Rattle.roam_pending.specs.PlainEntry.{PlainRequest, PlainStanding, PlainEntry, waiting, done, is_done, stands_done}
-use Rattle.roam_pending.specs.EntryList.{IsInOrder, find_ticket, without, put}
+use Rattle.roam_pending.specs.EntryList.{IsEntryList, IsInOrder, find_ticket, without, put}
 use Rattle.roam_pending.specs.Realms.{sent_again, waits_on, with_standing}
 use Rattle.roam_pending.specs.Shown.{shown_standing}
-use Rattle.roam_pending.proofs.OrderLemmas.{list-without}
+use Rattle.roam_pending.proofs.OrderLemmas.{list-changed, list-without}
 use Rattle.roam_pending.proofs.ChangeLemmas.{find-passes, find-put, find-put_other, find-without, find-without_other, put-without}
 use Rattle.roam_route.specs.Admission.{PlainOut}
 use Rattle.roam_route.specs.Shown.{shown_out}
-use Rattle.roam_route.specs.declared.datagram.Out.{Out}
 use Rattle.roam_ids.specs.LaneState.{LaneState}
 use Rattle.roam_book.specs.declared.fate.Fate.{Fate}
 use Rattle.roam_book.specs.declared.fate.Fate.TheVariants as fate
 use Rattle.roam_book.specs.declared.numbers.Numbers.{Numbers}
+use Rattle.roam_book.specs.declared.sending.Sent.{Sent}
 use Rattle.roam_book.specs.declared.service.Service.TheVariants as service
 use Rattle.roam_book.specs.RealmConfig.{RealmConfig, IsLink, link_place, later_targets}
 use Rattle.roam_book.specs.RealmState.{Target, next_toward, first_target}
@@ -90,11 +90,11 @@ entry-again c n e d h = record {
 
 pub again :
     {A : Type 0} (c : RealmConfig) (now : ℕ) (es : List PlainEntry) (e : PlainEntry) (n : Numbers A)
-    (l : Link) (id : ℕ) (forwarded : List ℕ) (sends_left deadline : ℕ) (out : Out A)
+    (l : Link) (id : ℕ) (forwarded : List ℕ) (sends_left deadline : ℕ) (sent : Sent A)
     → e.standing ≡ waiting l id forwarded sends_left deadline → 0 < sends_left
-    → shown_out out ≡ packet_to c l forwarded → IsHeld c es e n
-    → IsFate c now es e n (fate.SentAgain out) (due_standing c now (state_of es n) e e.standing)
-again c now es e n l id forwarded sends_left deadline out stands some sent held =
+    → shown_out sent.out ≡ packet_to c l forwarded → IsHeld c es e n
+    → IsFate c now es e n (fate.SentAgain sent) (due_standing c now (state_of es n) e e.standing)
+again c now es e n l id forwarded sends_left deadline sent stands some is held =
     let d = now + c.realm.wait in
     let left : ltb 0 sends_left ≡ true = grind (arith, nat_tests) in
     let here = entry-again c n.ticket e d
@@ -103,9 +103,9 @@ again c now es e n l id forwarded sends_left deadline out stands some sent held 
     let tells = tells-again c es n.lanes.items e.ticket e d held.sound.lanes_tell held.found in
     let sound = sound-changed c es (put (sent_again d e) es) n n held.sound (same-numbers n) each
     tells in
-    subst (λ (p : PlainStanding). IsFate c now es e n (fate.SentAgain out)
+    subst (λ (p : PlainStanding). IsFate c now es e n (fate.SentAgain sent)
     (due_standing c now (state_of es n) e p)) (sym stands)
-    (rw left (record { packets = ap (λ (p : PlainOut). p ∷ []) sent; state = refl; sound = sound }))
+    (rw left (record { packets = ap (λ (p : PlainOut). p ∷ []) is; state = refl; sound = sound }))
 
 -- An entry that isn't sent again: its Identifier was given back
 
@@ -181,9 +181,9 @@ target_at l i = record { link = l; id = i }
 
 -- a request was forwarded to a link
 pub record IsSent {A : Type 0} (c : RealmConfig) (now : ℕ) (es : List PlainEntry) (q : PlainRequest)
-    (t : ℕ) (l : Link) (old new : Numbers A) (o : Out A) (w : Waiting A) : Type 0 where
+    (t : ℕ) (l : Link) (old new : Numbers A) (o : Sent A) (w : Waiting A) : Type 0 where
   pub next : next_toward c (cursors_of old.lanes.items) es l ≡ Some w.id
-  pub out : shown_out o ≡ packet_to c l (forwarded_octets c q t (target_at l w.id))
+  pub out : shown_out o.out ≡ packet_to c l (forwarded_octets c q t (target_at l w.id))
   pub standing : shown_standing (standing.Waiting w)
       ≡ (forwarded_entry c now q t (target_at l w.id)).standing
   pub waits : IsWaiting c q l w.id w.forwarded
@@ -212,7 +212,7 @@ same-both n m k h j = record {
 -- a later target has one: the request goes there under its ticket
 pub forwarded-freed :
     {A : Type 0} (c : RealmConfig) (now : ℕ) (es : List PlainEntry) (e : PlainEntry)
-    (n m k : Numbers A) (l to : Link) (o : Out A) (w : Waiting A)
+    (n m k : Numbers A) (l to : Link) (o : Sent A) (w : Waiting A)
     → IsHeld c es e n → IsFreed c (without e.ticket es) n m
     → Some to ≡ find (is_open c m.lanes.items None) (later_targets c l)
     → IsSent c now (without e.ticket es) e.request e.ticket to m k o w
@@ -280,7 +280,24 @@ pub size-after :
     → IsInOrder es → find_ticket e.ticket es ≡ Some e
     → size_of (find_ticket t (fate_entries c now e es f)) ≤ size_of (find_ticket t es)
 size-after c now t e es fate.Gone order found = size-without t e.ticket es
-size-after c now t e es (fate.SentAgain out) order found = size-put t
+size-after c now t e es (fate.SentAgain sent) order found = size-put t
     (sent_again (now + c.realm.wait) e) e es order refl refl found
-size-after c now t e es (fate.Forwarded out w) order found = size-put t
+size-after c now t e es (fate.Forwarded sent w) order found = size-put t
     (with_standing (shown_standing (standing.Waiting w)) e) e es order refl refl found
+
+-- the list stays one
+list-put :
+    (x e : PlainEntry) (es : List PlainEntry) → IsEntryList es → x.ticket ≡ e.ticket
+    → x.request ≡ e.request → find_ticket e.ticket es ≡ Some e → IsEntryList (put x es)
+list-put x e es list at is found =
+    let here : find_ticket x.ticket es ≡ Some e = rw at found in
+    list-changed x es list (rw here (ap (λ q. q.key) (sym is)))
+
+pub list-after :
+    {A : Type 0} (c : RealmConfig) (now : ℕ) (e : PlainEntry) (es : List PlainEntry) (f : Fate A)
+    → IsEntryList es → find_ticket e.ticket es ≡ Some e → IsEntryList (fate_entries c now e es f)
+list-after c now e es fate.Gone list found = list-without e.ticket es list
+list-after c now e es (fate.SentAgain sent) list found =
+    list-put (sent_again (now + c.realm.wait) e) e es list refl refl found
+list-after c now e es (fate.Forwarded sent w) list found =
+    list-put (with_standing (shown_standing (standing.Waiting w)) e) e es list refl refl found

@@ -1,10 +1,13 @@
 pub mod AdmissionLemmas
 pub mod BookLemmas
 pub mod FateLemmas
+pub mod HolderLemmas
 pub mod JobLemmas
 pub mod LaneLemmas
 pub mod LeastLemmas
 pub mod LinkLaneLemmas
+pub mod MemoryLemmas
+pub mod RealmLemmas
 pub mod ReplyLemmas
 pub mod RequestLemmas
 pub mod RoomLemmas
@@ -14,3 +17,4 @@ pub mod TakenLaneLemmas
 pub mod TickLemmas
 pub mod UsedLemmas
 pub mod WaitingLemmas
+pub mod WayLemmas

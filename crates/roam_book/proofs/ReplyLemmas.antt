@@ -11,19 +11,24 @@ use Rattle.roam_wire.specs.declared.refusal.Refusal.TheVariants as refusal
 use Rattle.roam_auth.specs.Authenticators.{IsSignedReply}
 use Rattle.roam_auth.specs.Deciding.{is_signed_reply, is_well_sealed}
 use Rattle.roam_auth.proofs.DecidingLemmas.{signed_reply_decided, well_sealed_decided}
-use Rattle.roam_back.specs.ReplyCheck.{is_access_reply, answers, sealing_authenticators, IsRightlySealed}
+use Rattle.roam_wire.specs.Codes.{is_access_reply}
+use Rattle.roam_back.specs.ReplyCheck.{answers, sealing_authenticators, IsRightlySealed}
 use Rattle.roam_back.specs.Returned.{returned_length}
 use Rattle.roam_conf.specs.declared.place.Link.{Link}
 use Rattle.roam_pending.specs.PlainEntry.{PlainRequest, PlainStanding, PlainEntry, waiting, done, same_link, stands_at, waits_at}
 use Rattle.roam_pending.specs.EntryList.{IsEntryList, find_link, find_ticket, put, without}
 use Rattle.roam_pending.specs.Realms.{with_standing}
 use Rattle.roam_pending.proofs.ChangeLemmas.{find-passes, found-is}
+use Rattle.roam_pending.proofs.OrderLemmas.{list-changed}
 use Rattle.roam_book.specs.RealmConfig.{RealmConfig, IsLink}
 use Rattle.roam_book.specs.RealmState.{RealmState}
 use Rattle.roam_book.specs.Turn.{Turn, Answers, refuses}
 use Rattle.roam_book.specs.OnReply.{return_reply, returned_octets, returning}
 use Rattle.roam_book.specs.Sound.{IsEntry, IsSound, LanesTell, StandsWell}
-use Rattle.roam_book.specs.Judged.{returns_octets}
+use Rattle.roam_book.specs.Judged.{once_done, returns_octets}
+use Rattle.roam_book.specs.ReplyPlans.{IsReplyPlan}
+use Rattle.roam_book.specs.declared.replies.Settled.{Settled}
+use Rattle.roam_book.specs.declared.verdict.Verdict.{Verdict}
 use Rattle.roam_book.specs.declared.answer.Answer.{Answer}
 use Rattle.roam_book.specs.declared.numbers.Numbers.{Numbers}
 use Rattle.roam_book.proofs.LaneLemmas.{tells-done}
@@ -115,3 +120,26 @@ done-sound c t e es fs reply deadline old new sound at is tells count ticket pos
       lane_count = count ∙ sound.lane_count;
       lanes_tell = subst (λ (l : List PlainEntry). LanesTell c l new.lanes.items) (sym is) (tells-done c es new.lanes.items x refl tells);
     }
+
+-- a list stays one where an entry stands otherwise
+pub list-standing : (s : PlainStanding) (e : PlainEntry) (es : List PlainEntry) → IsEntryList es
+    → find_ticket e.ticket es ≡ Some e → IsEntryList (put (with_standing s e) es)
+list-standing s e es list found = list-changed (with_standing s e) es list (rw found refl)
+
+-- What a reply is to do
+
+-- where the reply isn't taken, or its entry is done, the answer's turn is that of the plan
+pub plan-none : {A : Type 0} (c : RealmConfig) (s : RealmState) (e : PlainEntry) (v : Verdict A)
+    (turn : Turn) → v.done ≡ None → Answers v.answer s (once_done s e v.done) turn
+    → IsReplyPlan c s (record { answer = v.answer; settled = None }) turn
+plan-none c s e v turn is h = record { settles = tt; answers = rw is at h }
+
+pub plan-some : {A : Type 0} (c : RealmConfig) (s : RealmState) (e : PlainEntry) (v : Verdict A)
+    (turn : Turn) (d : Settled A) → v.done ≡ Some d.done → IsLink c d.link → d.ticket ≡ e.ticket
+    → find_ticket e.ticket s.entries ≡ Some e → waits_at d.link d.id e ≡ true
+    → Answers v.answer s (once_done s e v.done) turn
+    → IsReplyPlan c s (record { answer = v.answer; settled = Some d }) turn
+plan-some c s e v turn d is link ticket found waits h = record {
+  settles = (link, rw (ticket, found) waits);
+  answers = rw (ticket, found) (rw is at h);
+}

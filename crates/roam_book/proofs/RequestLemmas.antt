@@ -1,14 +1,12 @@
 -- Which case of a request's definition comes to pass.
-use Rattle.std.proofs.Common.{◌≡◌, ◌≢◌, ℕ, ◌^◌, Bool, true, false, List, Option, Some, None, Result, Ok, Err, refl, ap, sym, ◌∙◌, subst, cond, eqb, is_some}
-use Rattle.std.specs.Prelude.{IfOk, nat_eq, option_map, unwrap_or}
+use Rattle.std.proofs.Common.{◌≡◌, ◌≢◌, ℕ, ◌^◌, Bool, true, false, List, Option, Some, None, refl, ap, sym, ◌∙◌, subst, cond, eqb, is_some}
+use Rattle.std.specs.Prelude.{nat_eq, option_map, unwrap_or}
 use Rattle.std.specs.Cmp.Lexicographic.{pointwise}
 use Rattle.std.specs.List.{AllByRecursion, find}
 use Rattle.roam_wire.specs.Reading.{packet_of}
 use Rattle.roam_wire.specs.declared.code.TheConstants.{ACCOUNTING_REQUEST}
-use Rattle.roam_wire.specs.declared.refusal.NoMemory.{NoMemory}
 use Rattle.roam_wire.specs.declared.refusal.Refusal.TheVariants as refusal
 use Rattle.roam_conf.specs.declared.place.Link.{Link}
-use Rattle.roam_route.specs.Admission.{PlainOut}
 use Rattle.roam_pending.specs.PlainEntry.{PlainEntry, PlainRequest, has_key}
 use Rattle.roam_pending.specs.EntryList.{IsEntryList, besides, find_client, find_ticket, without, without_client}
 use Rattle.roam_pending.specs.declared.key.Key.{Key}
@@ -20,8 +18,7 @@ use Rattle.roam_book.specs.OnRequest.{at_target, held_reply, new_request, of_key
 use Rattle.roam_book.specs.RealmConfig.{RealmConfig, IsLink, links_from, targets}
 use Rattle.roam_book.specs.RealmState.{RealmState, Target, first_target, next_toward}
 use Rattle.roam_book.specs.Sound.{CountsAsGone, IsRequest, IsSound, cursors_of, gone_ticket, is_open, standing_place, state_of}
-use Rattle.roam_book.specs.Turn.{Gives, Turn, refuses, sends, shown_outs}
-use Rattle.roam_book.specs.declared.answer.Answer.{Answer}
+use Rattle.roam_book.specs.Turn.{Turn, refuses, sends}
 use Rattle.roam_book.specs.declared.gone.Gone.{Gone}
 use Rattle.roam_book.specs.declared.numbers.Numbers.{Numbers}
 use Rattle.roam_book.specs.declared.service.Service.TheVariants as service
@@ -91,10 +88,10 @@ targets-open c es n o code sound list gone is =
     ap links_of (targets-are c code is) ∙ opened
 
 -- a new request, while there is a ticket
-in-else : (b : Bool) (x y : Turn) → b ≡ false → cond b x y ≡ y
+pub in-else : (b : Bool) (x y : Turn) → b ≡ false → cond b x y ≡ y
 in-else b x y h = rw h refl
 
-in-then : (b : Bool) (x y : Turn) → b ≡ true → cond b x y ≡ x
+pub in-then : (b : Bool) (x y : Turn) → b ≡ true → cond b x y ≡ x
 in-then b x y h = rw h refl
 
 new-request-is :
@@ -198,12 +195,3 @@ of-key-same c now s q e at same =
     ap (of_key c now s q) at
     ∙ in-then (pointwise nat_eq e.request.octets q.octets) _ _ same
     ∙ ap (λ (k : Key). sends (held_reply c k e.standing) s) (sym key)
-
--- packets that are sent while the state stays as it is
-pub gives-held :
-    {A : Type 0} (result : Result (Answer A) NoMemory) (s : RealmState) (packets : List PlainOut)
-    → IfOk result (λ a. shown_outs a.outs.items ≡ packets) → IfOk result (λ a. a.refusal ≡ None)
-    → Gives result s s (sends packets s)
-gives-held (Ok answer) s packets outs refusal =
-    record { packets = outs; refusal = refusal; state = refl }
-gives-held (Err e) s packets outs refusal = refl

@@ -1,9 +1,9 @@
 -- The loop of a tick: what was done so far, and what the slots that are left will do.
-use Rattle.std.proofs.Common.{◌≡◌, ℕ, ◌+◌, ◌≤◌, ◌^◌, false, List, [], ◌∷◌, ◌++◌, Option, Some, None, refl, ap, sym, ◌∙◌, subst, arith, length, append_assoc, vec_len, vec_capacity, ltb}
+use Rattle.std.proofs.Common.{◌≡◌, ℕ, ◌+◌, ◌≤◌, ◌^◌, Bool, false, is_some, List, [], ◌∷◌, ◌++◌, Option, Some, None, refl, ap, sym, ◌∙◌, subst, arith, length, append_assoc, vec_len, vec_capacity, ltb}
 use Rattle.std.specs.Prelude.{IfSome}
-use Rattle.std.specs.declared.vec.Vec.{Vec}
 use Rattle.std.proofs.lemmas.Bool.Decides.{nat_tests}
 use Rattle.std.proofs.lemmas.List.{append-nil}
+use Rattle.roam_route.specs.Admission.{PlainOut}
 use Rattle.roam_route.specs.declared.datagram.Out.{Out}
 use Rattle.roam_pending.specs.declared.due.Due.{Due}
 use Rattle.roam_pending.specs.PlainEntry.{PlainEntry}
@@ -11,106 +11,133 @@ use Rattle.roam_pending.specs.EntryList.{IsEntryList, find_ticket, without}
 use Rattle.roam_pending.specs.DueOrder.{due_list}
 use Rattle.roam_pending.specs.Realms.{RealmBecomes}
 use Rattle.roam_pending.proofs.ChangeLemmas.{found-ticket}
-use Rattle.roam_book.specs.declared.numbers.Numbers.{Numbers}
+use Rattle.roam_book.specs.declared.answer.Told.{Told}
+use Rattle.roam_book.specs.declared.outs.Outs.{Outs}
 use Rattle.roam_book.specs.declared.room.Slot.{Slot}
 use Rattle.roam_book.specs.RealmConfig.{RealmConfig}
 use Rattle.roam_book.specs.RealmState.{RealmState}
-use Rattle.roam_book.specs.Turn.{Answers, shown_outs}
-use Rattle.roam_book.specs.OnTick.{on_tick, due_standing, due_entry, due_one, due_each}
-use Rattle.roam_book.specs.Sound.{IsSound, OthersStay, state_of}
+use Rattle.roam_book.specs.Turn.{shown_outs}
+use Rattle.roam_book.specs.OnTick.{as_turn, on_tick, due_standing, due_entry, due_one, due_each}
+use Rattle.roam_book.specs.Memory.{HasBuffers, HasPlace, IsOuts, Tells}
+use Rattle.roam_book.proofs.MemoryLemmas.{has-place, told-tells}
 use Rattle.roam_book.specs.Rooms.{dues_of, size_of, EachHasBuffers}
 use Rattle.roam_book.specs.declared.fate.Fate.{Fate}
 use Rattle.roam_book.specs.Fates.{fate_entries}
 use Rattle.roam_book.proofs.RoomLemmas.{buffers-kept}
 
--- what was sent and what the slots that are left will send is what all slots send, and so with the
--- state; there are places for all of that
-pub record IsTicking {A : Type 0} (c : RealmConfig) (now : ℕ) (old new : ℕ → List PlainEntry)
-    (before after : Numbers A) (all left : List (Slot A)) (outs : Vec (Out A) A) : Type 0 where
-  pub packets : shown_outs outs.items ++ (due_each c now (state_of (new c.index) after)
-      (dues_of left)).packets
-      ≡ (due_each c now (state_of (old c.index) before) (dues_of all)).packets
-  pub state : (due_each c now (state_of (new c.index) after) (dues_of left)).state
-      ≡ (due_each c now (state_of (old c.index) before) (dues_of all)).state
-  pub sound : IsSound c (new c.index) after
-  pub buffers : EachHasBuffers (new c.index) left
-  pub places : vec_len outs + length left ≤ vec_capacity outs
-  pub most : vec_len outs + length left ≤ length all
-  pub others : OthersStay c.index old new
-
--- one slot was used
-pub record IsStep {A : Type 0} (c : RealmConfig) (now : ℕ) (old new : ℕ → List PlainEntry)
-    (before after : Numbers A) (d : Due) (outs more : Vec (Out A) A) : Type 0 where
-  pub packets : shown_outs more.items ≡ shown_outs outs.items
-      ++ (due_one c now (state_of (old c.index) before) d).packets
-  pub state : state_of (new c.index) after ≡ (due_one c now (state_of (old c.index) before) d).state
-  pub sound : IsSound c (new c.index) after
-  pub len : vec_len more ≤ vec_len outs + 1
-  pub capacity : vec_capacity more ≡ vec_capacity outs
-  pub sizes : (t : ℕ) → size_of (find_ticket t (new c.index)) ≤ size_of
-      (find_ticket t (old c.index))
-  pub others : OthersStay c.index old new
-
-pub ticking-turn :
-    {A : Type 0} (c : RealmConfig) (now : ℕ) (old mid new : ℕ → List PlainEntry)
-    (before between after : Numbers A)
-    (all left rest : List (Slot A)) (slot : Slot A) (outs more : Vec (Out A) A)
-    → left ≡ slot ∷ rest → IsTicking c now old mid before between all left outs
-    → IsStep c now mid new between after slot.due outs more
-    → IsTicking c now old new before after all rest more
-ticking-turn {A} c now old mid new before between after all left rest slot outs more is h step =
-    let one = due_one c now (state_of (mid c.index) between) slot.due in
-    let buffers = subst (EachHasBuffers (mid c.index)) is h.buffers in
-    let count = ap length is in
-    record {
-      packets = rw (step.packets, step.state)
-          (append_assoc (shown_outs outs.items) _ _ ∙ (rw is at h.packets));
-      state = rw step.state (rw is at h.state);
-      sound = step.sound;
-      buffers = buffers-kept (mid c.index) (new c.index) rest step.sizes buffers.1;
-      places = omega (arith, h.places, count, step.len, step.capacity);
-      most = omega (arith, h.most, count, step.len);
-      others = λ r ne. step.others r ne ∙ h.others r ne;
-    }
-
--- as it begins
-pub ticking-start :
-    {A : Type 0} (c : RealmConfig) (now : ℕ) (old : ℕ → List PlainEntry) (before : Numbers A)
-    (all : List (Slot A)) (outs : Vec (Out A) A)
-    → IsSound c (old c.index) before → EachHasBuffers (old c.index) all → outs.items ≡ []
-    → vec_len outs ≡ 0
-    → length all ≤ vec_capacity outs → IsTicking c now old old before before all all outs
-ticking-start c now old before all outs sound buffers empty len places = record {
-  packets = rw empty refl;
-  state = refl;
-  sound = sound;
-  buffers = buffers;
-  places = omega arith;
-  most = omega arith;
-  others = λ r ne. refl;
-}
+pub no-outs : {A : Type 0} (xs : List (Out A)) → shown_outs xs ≡ [] → length xs ≡ 0
+no-outs [] h = refl
+no-outs (x ∷ xs) h = absurd (cc h)
 
 pub nothing-left : {X : Type 0} (xs : List X) → length xs ≡ 0 → xs ≡ []
 nothing-left [] h = refl
 nothing-left (x ∷ xs) h = absurd (omega arith)
 
+-- what was sent and what the slots that are left will send is what all slots send, and so with the
+-- state; there are places for all of that
+pub record IsTicking {A : Type 0} (c : RealmConfig) (now : ℕ) (twice : Bool) (first s : RealmState)
+    (all left : List (Slot A)) (outs : Outs A) : Type 0 where
+  pub sent : List PlainOut
+  pub gathered : IsOuts (length left) twice sent outs
+  pub packets : sent ++ (due_each c now s (dues_of left)).packets
+      ≡ (due_each c now first (dues_of all)).packets
+  pub state : (due_each c now s (dues_of left)).state ≡ (due_each c now first (dues_of all)).state
+  pub buffers : EachHasBuffers twice s.entries left
+  pub most : length outs.sent.items + length left ≤ length all
+
+-- one slot was used
+pub record IsStep {A : Type 0} (c : RealmConfig) (now : ℕ) (s after : RealmState) (d : Due)
+    (outs more : Outs A) : Type 0 where
+  pub gathers : (places : ℕ) (twice : Bool) (packets : List PlainOut)
+      → IsOuts (places + 1) twice packets outs
+      → IsOuts places twice (packets ++ (due_one c now s d).packets) more
+  pub state : after ≡ (due_one c now s d).state
+  pub count : length more.sent.items ≤ length outs.sent.items + 1
+  pub sizes : (t : ℕ) → size_of (find_ticket t after.entries) ≤ size_of (find_ticket t s.entries)
+
+-- the first of the slots that are left
+pub first-buffers :
+    {A : Type 0} (c : RealmConfig) (now : ℕ) (twice : Bool) (first s : RealmState)
+    (all left rest : List (Slot A)) (slot : Slot A) (outs : Outs A) → left ≡ slot ∷ rest
+    → IsTicking c now twice first s all left outs
+    → HasBuffers (size_of (find_ticket slot.due.ticket s.entries)) slot.buffers
+first-buffers c now twice first s all left rest slot outs is h =
+    let buffers = subst (EachHasBuffers twice s.entries) is h.buffers in buffers.0
+
+pub first-copy :
+    {A : Type 0} (c : RealmConfig) (now : ℕ) (twice : Bool) (first s : RealmState)
+    (all left rest : List (Slot A)) (slot : Slot A) (outs : Outs A) → left ≡ slot ∷ rest
+    → IsTicking c now twice first s all left outs → is_some slot.buffers.copy ≡ outs.twice
+first-copy c now twice first s all left rest slot outs is h =
+    let buffers = subst (EachHasBuffers twice s.entries) is h.buffers in
+    buffers.1 ∙ sym h.gathered.wanted
+
+one-more : {A : Type 0} (twice : Bool) (ps : List PlainOut) (left rest : List (Slot A)) (slot : Slot A)
+    (outs : Outs A) → left ≡ slot ∷ rest → IsOuts (length left) twice ps outs
+    → IsOuts (length rest + 1) twice ps outs
+one-more twice ps left rest slot outs is h =
+    let count : length left ≡ length rest + 1 = omega (arith, ap length is) in
+    subst (λ (n : ℕ). IsOuts n twice ps outs) count h
+
+pub first-place :
+    {A : Type 0} (c : RealmConfig) (now : ℕ) (twice : Bool) (first s : RealmState)
+    (all left rest : List (Slot A)) (slot : Slot A) (outs : Outs A) → left ≡ slot ∷ rest
+    → IsTicking c now twice first s all left outs → HasPlace outs
+first-place c now twice first s all left rest slot outs is h =
+    has-place (length rest) twice h.sent outs (one-more twice h.sent left rest slot outs is h.gathered)
+
+pub ticking-turn :
+    {A : Type 0} (c : RealmConfig) (now : ℕ) (twice : Bool) (first s after : RealmState)
+    (all left rest : List (Slot A)) (slot : Slot A) (outs more : Outs A) → left ≡ slot ∷ rest
+    → IsTicking c now twice first s all left outs → IsStep c now s after slot.due outs more
+    → IsTicking c now twice first after all rest more
+ticking-turn c now twice first s after all left rest slot outs more is h step =
+    let buffers = subst (EachHasBuffers twice s.entries) is h.buffers in
+    let count = ap length is in
+    record {
+      sent = h.sent ++ (due_one c now s slot.due).packets;
+      gathered = step.gathers (length rest) twice h.sent
+          (one-more twice h.sent left rest slot outs is h.gathered);
+      packets = rw step.state (append_assoc h.sent _ _ ∙ (rw is at h.packets));
+      state = rw step.state (rw is at h.state);
+      buffers = buffers-kept twice s.entries after.entries rest step.sizes buffers.2;
+      most = omega (arith, h.most, count, step.count);
+    }
+
+-- as it begins
+pub ticking-start :
+    {A : Type 0} (c : RealmConfig) (now : ℕ) (twice : Bool) (first : RealmState)
+    (all : List (Slot A)) (outs : Outs A) → EachHasBuffers twice first.entries all
+    → IsOuts (length all) twice [] outs → IsTicking c now twice first first all all outs
+ticking-start c now twice first all outs buffers empty =
+    let none : length outs.sent.items ≡ 0 = no-outs outs.sent.items empty.sent in
+    record {
+      sent = [];
+      gathered = empty;
+      packets = refl;
+      state = refl;
+      buffers = buffers;
+      most = omega arith;
+    }
+
 -- as it ends: what was done is what the tick does
 pub ticking-end :
-    {A : Type 0} (c : RealmConfig) (now : ℕ) (old new : ℕ → List PlainEntry)
-    (before after : Numbers A)
-    (all left : List (Slot A)) (outs : Vec (Out A) A)
-    → left ≡ [] → dues_of all ≡ due_list now (old c.index) → now ≤ 2 ^ 62
-    → IsTicking c now old new before after all left outs
-    → Answers (record { outs = outs; refusal = None }) (state_of (old c.index) before)
-    (state_of (new c.index) after)
-    (on_tick c now (state_of (old c.index) before))
-ticking-end c now old new before after all left outs none dues time h =
+    {A : Type 0} (c : RealmConfig) (now : ℕ) (twice : Bool) (first s : RealmState)
+    (all left : List (Slot A)) (outs : Outs A) (t : Told A) → left ≡ []
+    → dues_of all ≡ due_list now first.entries → now ≤ 2 ^ 62
+    → IsTicking c now twice first s all left outs
+    → t.answer.outs.items ≡ outs.sent.items → t.answer.refusal ≡ None
+    → is_some t.copy ≡ outs.twice → IfSome t.copy (λ a. a.outs.items ≡ outs.copies.items)
+    → IfSome t.copy (λ a. a.refusal ≡ None) → Tells twice t first s (on_tick c now first)
+ticking-end c now twice first s all left outs t none dues time h sent refusal wanted copies copy_none =
     let early : ltb (2 ^ 62) now ≡ false = grind (arith, nat_tests) in
-    rw early (record {
-      packets = sym (append-nil (shown_outs outs.items)) ∙ (rw (none, dues) at h.packets);
-      refusal = refl;
-      state = rw (none, dues) at h.state;
-    })
+    let all_sent : h.sent ≡ (due_each c now first (due_list now first.entries)).packets =
+    sym (append-nil h.sent) ∙ (rw (none, dues) at h.packets) in
+    let all_done : s ≡ (due_each c now first (due_list now first.entries)).state =
+    rw (none, dues) at h.state in
+    rw early (told-tells (length left) twice h.sent outs t first s
+    (as_turn (due_each c now first (due_list now first.entries))) h.gathered sent refusal wanted
+    copies copy_none all_sent refl all_done)
 
 -- The entry of a ticket
 

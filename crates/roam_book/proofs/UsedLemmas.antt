@@ -32,7 +32,7 @@ none-passes p (e ∷ es) h =
       | inr n ↦ (n, none-passes p es (rw n at h))
     ]
 
-parked_as_found :
+pub parked_as_found :
     (l : Link) (id : ℕ) (es : List PlainEntry) (lane : LaneState) (o : Option ℕ) (f : Option PlainEntry)
     → IsInOrder es → TellsAt es l lane id → ticket_at lane id ≡ o → find_link l id es ≡ f
     → is_some o ≡ is_some f

@@ -9,7 +9,7 @@ use Rattle.roam_route.specs.Events.{IsEvent}
 use Rattle.roam_route.specs.declared.job.Side.{Side}
 use Rattle.roam_route.specs.declared.job.Side.TheVariants as side
 use Rattle.roam_pending.specs.declared.key.Requester.TheVariants as requester
-use Rattle.roam_pending.specs.EntryList.{Held}
+use Rattle.roam_pending.specs.EntryList.{Held, IsEntryList}
 use Rattle.roam_book.specs.RealmConfig.{RealmConfig, realm_config}
 use Rattle.roam_book.specs.RealmState.{RealmState}
 use Rattle.roam_book.specs.OneRealm.{request_of}
@@ -31,6 +31,7 @@ pub record IsBook {A : Type 0} (config : Config) (realm : ℕ) (held : Held) (nu
   pub configured : realm < vec_len config.realms
   pub own_entries : held.realm ≡ realm
   pub sound : IsSound (realm_config (shown config) realm) held.entries numbers
+  pub list : IsEntryList held.entries
 
 -- whether a link sent a packet, so that it is a reply
 abbrev pub is_link : Side → Bool

@@ -1,5 +1,5 @@
 -- What becomes of a due entry: words of private functions alone.
-use Rattle.std.specs.Prelude.{◌≡◌, ℕ, ◌+◌, List, [], ◌∷◌, Some}
+use Rattle.std.specs.Prelude.{◌≡◌, ℕ, ◌+◌, Bool, List, [], ◌∷◌, Some}
 use Rattle.roam_pending.specs.declared.entry.Standing.TheVariants as standing
 use Rattle.roam_pending.specs.PlainEntry.{PlainEntry}
 use Rattle.roam_pending.specs.EntryList.{IsEntryList, find_ticket, without, put}
@@ -12,20 +12,27 @@ use Rattle.roam_book.specs.declared.fate.Fate.TheVariants as fate
 use Rattle.roam_book.specs.declared.numbers.Numbers.{Numbers}
 use Rattle.roam_book.specs.RealmConfig.{RealmConfig}
 use Rattle.roam_book.specs.OnTick.{Progress}
+use Rattle.roam_book.specs.Memory.{IsCopied}
 use Rattle.roam_book.specs.Sound.{IsSound, state_of}
 
 -- what is sent for it
 abbrev pub fate_packets : {A : Type 0} → Fate A → List PlainOut
 fate_packets fate.Gone = []
-fate_packets (fate.SentAgain out) = shown_out out ∷ []
-fate_packets (fate.Forwarded out w) = shown_out out ∷ []
+fate_packets (fate.SentAgain sent) = shown_out sent.out ∷ []
+fate_packets (fate.Forwarded sent w) = shown_out sent.out ∷ []
+
+-- which has an equal one beside it just where it is wanted twice
+abbrev pub IsFateCopied : {A : Type 0} → Bool → Fate A → Type 0
+IsFateCopied twice fate.Gone = Unit {0}
+IsFateCopied twice (fate.SentAgain sent) = IsCopied twice sent
+IsFateCopied twice (fate.Forwarded sent w) = IsCopied twice sent
 
 -- the entries that follow
 abbrev pub fate_entries : {A : Type 0} → RealmConfig → ℕ → PlainEntry → List PlainEntry → Fate A
     → List PlainEntry
 fate_entries c now e es fate.Gone = without e.ticket es
-fate_entries c now e es (fate.SentAgain out) = put (sent_again (now + c.realm.wait) e) es
-fate_entries c now e es (fate.Forwarded out w) = put
+fate_entries c now e es (fate.SentAgain sent) = put (sent_again (now + c.realm.wait) e) es
+fate_entries c now e es (fate.Forwarded sent w) = put
     (with_standing (shown_standing (standing.Waiting w)) e) es
 
 -- an entry of the realm

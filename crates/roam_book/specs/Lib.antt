@@ -5,10 +5,13 @@ pub mod OnRequest
 pub mod OnReply
 pub mod OnTick
 pub mod OneRealm
+pub mod RealmTurn
 pub mod Sound
 pub mod Rooms
 pub mod BookView
 pub mod Fates
 pub mod Judged
+pub mod Memory
+pub mod ReplyPlans
 pub mod LeastFirst
 pub mod NewEntry

@@ -1,11 +1,20 @@
--- How a new request is admitted, in steps: words of private functions alone.
-use Rattle.std.specs.Prelude.{◌≡◌, ℕ, List, Option, Some, None, option_map, unwrap_or, is_some, true}
+-- How a new request is admitted, in steps: words of private functions alone (ours).
+use Rattle.std.specs.Prelude.{◌≡◌, ℕ, ◌+◌, ◌<◌, ◌≤◌, ◌^◌, List, [], Option, Some, None, Result, Ok, Err, option_map, unwrap_or, is_some, true, length}
+use Rattle.roam_wire.specs.declared.refusal.Refusal.{Refusal}
 use Rattle.roam_conf.specs.declared.place.Link.{Link}
-use Rattle.roam_pending.specs.PlainEntry.{PlainEntry}
-use Rattle.roam_pending.specs.EntryList.{first_done}
-use Rattle.roam_book.specs.RealmConfig.{RealmConfig}
-use Rattle.roam_book.specs.RealmState.{Target, next_toward}
+use Rattle.roam_pending.specs.PlainEntry.{PlainEntry, PlainRequest}
+use Rattle.roam_pending.specs.EntryList.{besides, find_client, first_done}
+use Rattle.roam_book.specs.RealmConfig.{RealmConfig, IsLink}
+use Rattle.roam_book.specs.RealmState.{RealmState, Target, next_toward}
+use Rattle.roam_book.specs.Turn.{Turn, Answers, refuses}
+use Rattle.roam_book.specs.OnRequest.{admit}
+use Rattle.roam_book.specs.Sound.{CountsAsGone, IsRequest, gone_ticket}
+use Rattle.roam_book.specs.Memory.{HasBuffers, IsOuts}
+use Rattle.roam_book.specs.declared.admitting.Supplies.{Supplies}
 use Rattle.roam_book.specs.declared.gone.Gone.{Gone}
+use Rattle.roam_book.specs.declared.requests.RequestPlan.{RequestPlan}
+use Rattle.roam_book.specs.declared.requests.RequestPlan.TheVariants as plan
+use Rattle.roam_book.specs.declared.way.Way.{Way}
 
 -- a link with its next free Identifier (0 where it has none)
 abbrev pub target_at : RealmConfig → List ℕ → List PlainEntry → Link → Target
@@ -25,3 +34,61 @@ freed_link (Some g) = option_map (λ p. p.0) g.waits_at
 abbrev pub MakesWay : Option ℕ → List PlainEntry → Type 0
 MakesWay None entries = Unit {0}
 MakesWay (Some ticket) entries = first_done entries ≡ Some ticket
+
+-- the entries once the one that counts as gone is gone, and once the done one that makes way is too
+abbrev pub once_gone : Option Gone → List PlainEntry → List PlainEntry
+once_gone gone entries = besides (gone_ticket gone) entries
+
+abbrev pub left_by : Way → List PlainEntry → List PlainEntry
+left_by way entries = besides way.done (once_gone way.gone entries)
+
+-- a way to a link where no entry has to go, or the one that counts as gone alone; a way once those that
+-- had to go are gone
+abbrev pub straight_to : Link → Way
+straight_to link = record { gone = None; done = None; link = link }
+
+abbrev pub straight_after : Option Gone → Link → Way
+straight_after gone link = record { gone = gone; done = None; link = link }
+
+abbrev pub cleared : Way → Way
+cleared way = straight_to way.link
+
+-- a new request can go this way: what counts as gone and what makes way are there, the request's key
+-- is free then, and its link has a free Identifier
+pub record IsWay (c : RealmConfig) (s : RealmState) (q : PlainRequest) (way : Way) : Type 0 where
+  pub request : IsRequest c q
+  pub ticket : s.ticket < 2 ^ 63
+  pub gone : CountsAsGone way.gone s.entries
+  pub key : find_client q.key (once_gone way.gone s.entries) ≡ None
+  pub done : MakesWay way.done (once_gone way.gone s.entries)
+  pub link : IsLink c way.link
+  pub free : HasNext c s.cursors (once_gone way.gone s.entries) way.link
+
+-- what a new request does that goes this way
+abbrev pub admits : RealmConfig → ℕ → RealmState → PlainRequest → Way → Turn
+admits c now s q way =
+    admit c now s (left_by way s.entries) q
+    (target_at c s.cursors (once_gone way.gone s.entries) way.link)
+
+-- the way that was chosen for a new request does these turns; or it is refused in each
+pub record IsChosen (c : RealmConfig) (s : RealmState) (q : PlainRequest) (chosen : Way)
+    (turn : ℕ → Turn) : Type 0 where
+  pub way : IsWay c s q chosen
+  pub does : (now : ℕ) → turn now ≡ admits c now s q chosen
+
+abbrev pub Chooses : RealmConfig → RealmState → PlainRequest → Result Way Refusal → (ℕ → Turn) → Type 0
+Chooses c s q (Ok way) turn = IsChosen c s q way turn
+Chooses c s q (Err why) turn = (now : ℕ) → turn now ≡ refuses why
+
+-- what a request is to do: it is answered, and nothing changes, or it is admitted on a way
+abbrev pub IsRequestPlan : {A : Type 0} → RealmConfig → RealmState → PlainRequest → RequestPlan A
+    → (ℕ → Turn) → Type 0
+IsRequestPlan c s q (plan.Answered answer) turn = (now : ℕ) → Answers answer s s (turn now)
+IsRequestPlan c s q (plan.Admitted way) turn = IsChosen c s q way turn
+
+-- all the memory of a new request, besides its place among the entries
+pub record AreSupplies {A : Type 0} (request : List ℕ) (s : Supplies A) : Type 0 where
+  pub octets : s.octets ≡ request
+  pub buffers : HasBuffers (length request + 46) s.buffers
+  pub copy : is_some s.buffers.copy ≡ s.outs.twice
+  pub outs : IsOuts 1 s.outs.twice [] s.outs

@@ -13,7 +13,6 @@ use Rattle.roam_pending.specs.PlainEntry.{PlainRequest, PlainStanding, PlainEntr
 use Rattle.roam_pending.specs.EntryList.{find_ticket}
 use Rattle.roam_book.specs.RealmConfig.{RealmConfig, IsLink, IsRequester, link_place, link_count}
 use Rattle.roam_book.specs.RealmState.{RealmState}
-use Rattle.roam_book.specs.declared.buffers.Buffers.{Buffers}
 use Rattle.roam_book.specs.declared.gone.Gone.{Gone}
 use Rattle.roam_book.specs.declared.sending.Asked.{Asked}
 use Rattle.roam_book.specs.declared.numbers.Numbers.{Numbers}
@@ -82,6 +81,12 @@ state_of entries numbers = record {
   sessions = [];
 }
 
+-- the numbers are as they were, but for which Identifiers are in use
+pub record IsSameButSlots {A : Type 0} (old new : Numbers A) : Type 0 where
+  pub cursors : cursors_of new.lanes.items ≡ cursors_of old.lanes.items
+  pub ticket : new.ticket ≡ old.ticket
+  pub stream_position : new.stream_position ≡ old.stream_position
+
 -- what a realm keeps
 pub record IsSound {A : Type 0} (c : RealmConfig) (entries : List PlainEntry) (numbers : Numbers A) : Type 0 where
   pub each : AllByRecursion (IsEntry c numbers.ticket) entries
@@ -109,15 +114,6 @@ WaitsJustAt link id e = (l : Link) (i : ℕ) → waits_at l i e ≡ (same_link l
 -- a request that is looked at
 abbrev pub shown_request : Asked → PlainRequest
 shown_request q = record { key = q.key; requester = q.requester; octets = q.octets.now }
-
--- two empty buffers with room for so many octets
-pub record HasBuffers {A : Type 0} (size : ℕ) (b : Buffers A) : Type 0 where
-  pub sent_empty : b.sent.items ≡ []
-  pub sent_length : vec_len b.sent ≡ 0
-  pub sent_room : size ≤ vec_capacity b.sent
-  pub kept_empty : b.kept.items ≡ []
-  pub kept_length : vec_len b.kept ≡ 0
-  pub kept_room : size ≤ vec_capacity b.kept
 
 -- the entry that counts as gone: its ticket, and where it waits, if it does
 abbrev pub standing_place : PlainStanding → Option (Link × ℕ)

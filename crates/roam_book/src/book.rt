@@ -16,13 +16,12 @@ ghost use Rattle.roam_book.specs.BookView.{IsTakenFrom, is_link, settings_of};
 
 use crate::answer::{Answer, refused};
 use crate::numbers::Numbers;
-use crate::replies::on_reply;
-use crate::requests::{LATEST, on_request};
-use crate::room::{Room, tick_room};
+use crate::realm::Realm;
+use crate::requests::LATEST;
+use crate::room::{Room, room_for};
 use crate::sending::Asked;
 use crate::settings::Settings;
 use crate::start::Start;
-use crate::ticks::on_tick;
 use crate::verdict::packet_in;
 use roam_conf::{Config, Link};
 use roam_pending::{Key, Pending, Requester};
@@ -35,7 +34,6 @@ use std::marker::Model;
 /// see the configuration that it was made with, the realm's index there, and the realm's state.
 #[derive(Drop)]
 pub struct Book<'c, A: Allocator> {
-    alloc: A,
     config: &'c Config,
     realm: u16,
     entries: Pending<A>,
@@ -116,7 +114,6 @@ impl<'c, A: Allocator + Copy> Book<'c, A> {
         let numbers = Numbers::new(alloc, &settings, start)?;
         let entries = Pending::new(alloc, realm);
         Ok(Book {
-            alloc,
             config,
             realm,
             entries,
@@ -157,14 +154,12 @@ impl<'c, A: Allocator + Copy> Book<'c, A> {
         let settings = Settings::new(self.config, self.realm);
         let octets = job.octets.as_slice();
         let asked = asked_by(&settings, job, octets);
-        on_request(
-            self.alloc,
-            &settings,
-            &mut self.entries,
-            &mut self.numbers,
-            now,
-            asked,
-        )
+        let mut realm = Realm {
+            settings: &settings,
+            entries: &mut self.entries,
+            numbers: &mut self.numbers,
+        };
+        realm.on_request(now, asked)
     }
 
     /// A reply from a link of the realm, at a moment in milliseconds (RFC 2865, section 2.3): it is
@@ -186,15 +181,12 @@ impl<'c, A: Allocator + Copy> Book<'c, A> {
     {
         let settings = Settings::new(self.config, self.realm);
         let octets = job.octets.as_slice();
-        on_reply(
-            self.alloc,
-            &settings,
-            &mut self.entries,
-            &mut self.numbers,
-            now,
-            link_of(job.side),
-            octets,
-        )
+        let mut realm = Realm {
+            settings: &settings,
+            entries: &mut self.entries,
+            numbers: &mut self.numbers,
+        };
+        realm.on_reply(now, link_of(job.side), octets)
     }
 
     /// All the memory of a tick at a moment in milliseconds. Where nothing is due no memory is wanted.
@@ -204,7 +196,7 @@ impl<'c, A: Allocator + Copy> Book<'c, A> {
         ensures few { IfOk result (λ room. length room.slots.items
             ≤ length self.now.state.entries) }
     {
-        tick_room(self.alloc, self.realm, &self.entries, now)
+        room_for(self.numbers.alloc, self.realm, &self.entries, now, false)
     }
 
     /// A tick, in the room that was made for this state and this moment: each entry that is due is
@@ -219,14 +211,12 @@ impl<'c, A: Allocator + Copy> Book<'c, A> {
         ensures realm { self.new.realm ≡ self.old.realm }
     {
         let settings = Settings::new(self.config, self.realm);
-        on_tick(
-            self.alloc,
-            &settings,
-            &mut self.entries,
-            &mut self.numbers,
-            now,
-            room,
-        )
+        let mut realm = Realm {
+            settings: &settings,
+            entries: &mut self.entries,
+            numbers: &mut self.numbers,
+        };
+        realm.on_tick(now, room)
     }
 
     /// A tick at a moment in milliseconds. `NoMemory` comes where a growth was refused; the book is
@@ -240,7 +230,7 @@ impl<'c, A: Allocator + Copy> Book<'c, A> {
         ensures realm { self.new.realm ≡ self.old.realm }
     {
         if now > LATEST {
-            return Ok(refused(self.alloc, Refusal::Moment));
+            return Ok(refused(self.numbers.alloc, Refusal::Moment));
         }
         let room = self.tick_room(now)?;
         Ok(self.tick_reserved(now, room))

@@ -1,6 +1,6 @@
 //! What becomes of an entry that is due.
 
-ghost use Rattle.std.specs.Prelude.{◌≡◌, ◌≤◌, ◌+◌, ◌^◌, List, [], true, IfSome, length, vec_len, vec_capacity};
+ghost use Rattle.std.specs.Prelude.{◌≡◌, ◌≤◌, ◌+◌, ◌^◌, List, true, IfSome, is_some, length};
 ghost use Rattle.std.specs.List.{find};
 ghost use Rattle.roam_pending.specs.PlainEntry.{PlainEntry, waits_at};
 ghost use Rattle.roam_pending.specs.EntryList.{without};
@@ -10,18 +10,17 @@ ghost use Rattle.roam_book.specs.RealmConfig.{IsLink, link_count, later_targets}
 ghost use Rattle.roam_book.specs.RealmState.{first_target};
 ghost use Rattle.roam_book.specs.OnRequest.{packet_to};
 ghost use Rattle.roam_book.specs.OnTick.{due_standing, fail_over, without_entry};
-ghost use Rattle.roam_book.specs.Sound.{IsEntry, HasBuffers, state_of, cursors_of, lane_of, has_free, is_open};
-ghost use Rattle.roam_book.specs.Fates.{IsHeld, IsFate};
+ghost use Rattle.roam_book.specs.Sound.{IsEntry, state_of, cursors_of, lane_of, has_free, is_open};
+ghost use Rattle.roam_book.specs.Fates.{IsHeld, IsFate, IsFateCopied};
+ghost use Rattle.roam_book.specs.Memory.{HasBuffers, IsCopied};
 
-use crate::buffers::Buffers;
+use crate::buffers::{Buffers, copied_into};
 use crate::numbers::Numbers;
-use crate::sending::{Asked, packet_to, send_new};
+use crate::sending::{Asked, Sent, send_new, sent_to};
 use crate::service::Service;
 use crate::settings::Settings;
 use roam_conf::Link;
 use roam_pending::{Entry, Standing, Waiting};
-use roam_route::Out;
-use roam_wire::Octets;
 use std::alloc::Allocator;
 
 /// What becomes of an entry that is due.
@@ -30,28 +29,29 @@ pub(crate) enum Fate<A: Allocator> {
     /// It goes.
     Gone,
     /// Its packet is sent to its link again.
-    SentAgain(Out<A>),
+    SentAgain(Sent<A>),
     /// Its request is forwarded to another link, where it then waits.
-    Forwarded(Out<A>, Waiting<A>),
+    Forwarded(Sent<A>, Waiting<A>),
 }
 
 /// The forwarded packet of a waiting request, once more.
 fn packet_again<A: Allocator>(
     settings: &Settings<'_>,
     waiting: &Waiting<A>,
-    buffer: Vec<u8, A>,
-) -> Out<A>
+    buffers: Buffers<A>,
+) -> Sent<A>
     requires link { IsLink settings.now waiting.now.link }
-    requires empty { buffer.items ≡ [] }
-    requires len { vec_len buffer ≡ 0 }
-    requires room { length waiting.now.forwarded ≤ vec_capacity buffer }
-    ensures { shown_out result ≡ packet_to settings.now waiting.now.link waiting.now.forwarded }
+    requires buffers { HasBuffers (length waiting.now.forwarded) buffers }
+    ensures out { shown_out result.out ≡ packet_to settings.now waiting.now.link waiting.now.forwarded }
+    ensures copied { IsCopied (is_some buffers.copy) result }
 {
-    let mut bytes = buffer;
-    bytes
-        .extend_from_slice(waiting.forwarded.as_slice())
-        .unwrap();
-    packet_to(settings, waiting.link, Octets::from_vec(bytes))
+    let Buffers {
+        sent,
+        kept: _,
+        copy,
+    } = buffers;
+    let bytes = copied_into(sent, waiting.forwarded.as_slice());
+    sent_to(settings, waiting.link, bytes, copy)
 }
 
 /// The first target after a link that has a free Identifier.
@@ -100,12 +100,13 @@ fn fail_over<A: Allocator + Copy>(
     requires link { IsLink settings.now link }
     requires waits { waits_at link id (shown entry.now) ≡ true }
     requires buffers { HasBuffers (length entry.now.request.octets + 46) buffers }
-    ensures { (es : List PlainEntry) → IsHeld settings.now es (shown entry.now) numbers.old
+    ensures fate { (es : List PlainEntry) → IsHeld settings.now es (shown entry.now) numbers.old
         → IsFate settings.now now es (shown entry.now) numbers.new result
         (fail_over settings.now now
         (without_entry (state_of es numbers.old) (shown entry.now)) (shown entry.now)
         (first_target settings.now (cursors_of numbers.old.lanes.items)
         (without entry.now.ticket es) (later_targets settings.now link))) }
+    ensures copied { IsFateCopied (is_some buffers.copy) result }
 {
     numbers.give_back(settings, link, id);
     let Some(target) = later_target(settings, numbers, link) else {
@@ -116,8 +117,8 @@ fn fail_over<A: Allocator + Copy>(
         requester: entry.request.requester,
         octets: entry.request.octets.as_slice(),
     };
-    let (out, waiting) = send_new(settings, numbers, now, asked, entry.ticket, target, buffers);
-    Fate::Forwarded(out, waiting)
+    let (sent, waiting) = send_new(settings, numbers, now, asked, entry.ticket, target, buffers);
+    Fate::Forwarded(sent, waiting)
 }
 
 /// What becomes of a due entry, by how it stands.
@@ -132,16 +133,17 @@ pub(crate) fn fate_of<A: Allocator + Copy>(
     requires count { length numbers.old.lanes.items ≡ link_count settings.now }
     requires entry { IsEntry settings.now numbers.old.ticket (shown entry.now) }
     requires buffers { HasBuffers (length entry.now.request.octets + 46) buffers }
-    ensures { (es : List PlainEntry) → IsHeld settings.now es (shown entry.now) numbers.old
+    ensures fate { (es : List PlainEntry) → IsHeld settings.now es (shown entry.now) numbers.old
         → IsFate settings.now now es (shown entry.now) numbers.new result
         (due_standing settings.now now (state_of es numbers.old) (shown entry.now)
         (shown entry.now).standing) }
+    ensures copied { IsFateCopied (is_some buffers.copy) result }
 {
     match &entry.standing {
         Standing::Done(_) => Fate::Gone,
         Standing::Waiting(waiting) => {
             if waiting.sends_left > 0 {
-                Fate::SentAgain(packet_again(settings, waiting, buffers.sent))
+                Fate::SentAgain(packet_again(settings, waiting, buffers))
             } else {
                 fail_over(
                     settings,

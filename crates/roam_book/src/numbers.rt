@@ -2,6 +2,7 @@
 
 ghost use Rattle.std.specs.Prelude.{◌≡◌, ◌<◌, ◌+◌, ◌*◌, ◌%◌, List, [], true, Some, None, length, replicate, drop, slice_set, IfSome, IfNone, IfOk, is_some};
 ghost use Rattle.std.specs.List.{find};
+ghost use Rattle.roam_ids.specs.LaneState.{ticket_at};
 ghost use Rattle.roam_pending.specs.PlainEntry.{PlainEntry, waits_at};
 ghost use Rattle.roam_pending.specs.EntryList.{IsEntryList, find_ticket, put, without};
 ghost use Rattle.roam_book.specs.RealmConfig.{IsLink, link_place, link_count, server_links};
@@ -19,6 +20,8 @@ use std::alloc::Allocator;
 /// The numbers that a realm hands out: Identifiers toward its links, tickets, and random words.
 #[derive(Drop)]
 pub struct Numbers<A: Allocator> {
+    /// Whence the memory of entries and packets comes.
+    pub(crate) alloc: A,
     /// A lane for each link, in the order of their places.
     pub(crate) lanes: Vec<Lane, A>,
     /// The next ticket.
@@ -73,6 +76,7 @@ impl<A: Allocator + Copy> Numbers<A> {
     {
         let lanes = new_lanes(alloc, settings)?;
         Ok(Numbers {
+            alloc,
             lanes,
             ticket: start.ticket,
             stream_position: start.place,
@@ -86,6 +90,20 @@ impl<A: Allocator + Copy> Numbers<A> {
         ensures { result ≡ has_free (lane_of settings.now self.now.lanes.items link) }
     {
         !self.lanes[settings.place_of(link)].is_full()
+    }
+
+    /// The ticket of the request that waits on a link with an Identifier, by the link's lane. `None`
+    /// also where the link isn't the realm's.
+    pub(crate) fn holder(&self, settings: &Settings<'_>, link: Link, id: u8) -> Option<u64>
+        requires count { length self.now.lanes.items ≡ link_count settings.now }
+        ensures ticket { IsLink settings.now link
+            → result ≡ ticket_at (lane_of settings.now self.now.lanes.items link) id }
+        ensures link { IfSome result (λ ticket. IsLink settings.now link) }
+    {
+        if !settings.has_link(link) {
+            return None;
+        }
+        self.lanes[settings.place_of(link)].holder(id)
     }
 
     /// The first of the servers' links, from a place on, that has a free Identifier, or that is `freed`.

@@ -1,137 +1,173 @@
 //! What a reply does to its realm (RFC 2865, section 2.3).
+//!
+//! First it is decided what the answer is and which entry is done then, and all memory is taken; that
+//! changes nothing. Then the entry is settled.
 
-ghost use Rattle.std.specs.Prelude.{◌≡◌, ◌≤◌, ◌^◌, [], Some, true, IsOk, IsSomeAnd, IsTrue};
+ghost use Rattle.std.specs.Prelude.{◌≡◌, ◌≤◌, ◌^◌, [], IfOk, IsOk};
 ghost use Rattle.roam_wire.specs.Reading.{IsPacketText};
-ghost use Rattle.roam_pending.specs.EntryList.{find_link, find_ticket};
-ghost use Rattle.roam_pending.specs.PlainEntry.{PlainEntry, waits_at};
-ghost use Rattle.roam_book.specs.RealmConfig.{IsLink};
-ghost use Rattle.roam_book.specs.Turn.{Gives, packets_of};
+ghost use Rattle.roam_pending.specs.EntryList.{find_link};
+ghost use Rattle.roam_pending.specs.Shown.{seen};
+ghost use Rattle.roam_book.specs.RealmConfig.{RealmConfig};
+ghost use Rattle.roam_book.specs.RealmState.{RealmState};
+ghost use Rattle.roam_book.specs.Turn.{packets_of, refuses};
 ghost use Rattle.roam_book.specs.OnReply.{on_reply, to_entry};
-ghost use Rattle.roam_book.specs.Sound.{IsSound, OthersStay, state_of};
-ghost use Rattle.roam_book.specs.Judged.{once_done};
+ghost use Rattle.roam_book.specs.RealmTurn.{IsRealm, Keeps, Turns, TurnsTwice, entries, state};
+ghost use Rattle.roam_book.specs.ReplyPlans.{CanSettle, IsReplyPlan, once_settled};
 
-use crate::answer::{Answer, refused};
-use crate::numbers::Numbers;
+use crate::answer::{Answer, Twin, refused};
+use crate::realm::Realm;
 use crate::requests::LATEST;
-use crate::settings::Settings;
 use crate::verdict::{Verdict, packet_in, to_standing};
 use roam_conf::Link;
-use roam_pending::{Done, Entries, Standing, set_standing};
+use roam_pending::{Done, Entries, Entry, Standing, set_standing};
 use roam_wire::{NoMemory, Refusal, View};
 use std::alloc::Allocator;
 
-/// The entry of a ticket, which waits on a link with an Identifier, is done where its reply was taken:
-/// its Identifier is then free. Takes no memory.
-fn settle<A: Allocator + Copy, E: Entries<A>>(
-    alloc: A,
-    settings: &Settings<'_>,
-    entries: &mut E,
-    numbers: &mut Numbers<A>,
-    ticket: u64,
-    link: Link,
-    id: u8,
-    done: Option<Done<A>>,
-)
-    requires sound { IsSound settings.now (E.entries_of entries.old settings.now.index) numbers.old }
-    requires link { IsLink settings.now link }
-    requires waits { IsSomeAnd (find_ticket ticket (E.entries_of entries.old settings.now.index))
-        (λ e. waits_at link id e ≡ true) }
-    ensures state { (e : PlainEntry)
-        → find_ticket ticket (E.entries_of entries.old settings.now.index) ≡ Some e
-        → state_of (E.entries_of entries.new settings.now.index) numbers.new ≡ once_done
-        (state_of (E.entries_of entries.old settings.now.index) numbers.old) e done }
-    ensures sound { IsSound settings.now (E.entries_of entries.new settings.now.index) numbers.new }
-    ensures others { OthersStay settings.now.index (E.entries_of entries.old) (E.entries_of entries.new) }
-    ensures keeps { E.keeps entries.new ≡ E.keeps entries.old }
-{
-    let Some(done) = done else {
-        return;
-    };
-    set_standing(
-        alloc,
-        entries,
-        settings.index(),
-        ticket,
-        Standing::Done(done),
-    );
-    numbers.give_back(settings, link, id);
+/// An entry that is to be done: its ticket, and where it waits so far.
+#[derive(Drop)]
+pub(crate) struct Settled<A: Allocator> {
+    pub ticket: u64,
+    pub link: Link,
+    pub id: u8,
+    pub done: Done<A>,
 }
 
-/// A reply from a link, for the entry that waits there with its Identifier, if there is one.
-fn to_entry<A: Allocator + Copy, E: Entries<A>>(
-    alloc: A,
-    settings: &Settings<'_>,
-    entries: &mut E,
-    numbers: &mut Numbers<A>,
-    now: u64,
-    link: Link,
-    reply: &View<'_>,
-) -> Result<Answer<A>, NoMemory>
-    requires moment { now ≤ 2 ^ 62 }
-    requires sound { IsSound settings.now (E.entries_of entries.old settings.now.index) numbers.old }
-    ensures turn { Gives result
-        (state_of (E.entries_of entries.old settings.now.index) numbers.old)
-        (state_of (E.entries_of entries.new settings.now.index) numbers.new)
-        (to_entry settings.now now (state_of (E.entries_of entries.old settings.now.index) numbers.old)
-        reply.now (find_link link reply.now.id (E.entries_of entries.old settings.now.index))) }
-    ensures succeeds { packets_of (to_entry settings.now now
-        (state_of (E.entries_of entries.old settings.now.index) numbers.old) reply.now
-        (find_link link reply.now.id (E.entries_of entries.old settings.now.index))) ≡ []
-        → IsOk result }
-    ensures sound { IsSound settings.now (E.entries_of entries.new settings.now.index) numbers.new }
-    ensures others { OthersStay settings.now.index (E.entries_of entries.old) (E.entries_of entries.new) }
-    ensures keeps { E.keeps entries.new ≡ E.keeps entries.old }
-{
-    let id = reply.id();
-    let Some(entry) = entries.find_link(settings.index(), link, id) else {
-        return Ok(refused(alloc, Refusal::NoEntry));
-    };
-    let ticket = entry.ticket;
-    let Verdict { answer, done } = to_standing(alloc, settings, now, entry, reply)?;
-    settle(alloc, settings, entries, numbers, ticket, link, id, done);
-    Ok(answer)
+/// What a reply does: its answer, and the entry that is then done, if one is.
+#[derive(Drop)]
+pub(crate) struct ReplyPlan<A: Allocator> {
+    pub answer: Answer<A>,
+    pub settled: Option<Settled<A>>,
 }
 
-/// A reply that came from a link: it is returned, and held until `now + hold`, where the request
-/// waits on that link with the reply's Identifier, and the reply is taken.
-///
-/// Refused in this order: `Moment`, `NoEntry`, `WrongReply`, `BadReply`, `BadReplyMessageAuthenticator`,
-/// `ReplyTooLong`. `NoMemory` comes where a growth was refused; the realm is then as it was. A refused
-/// reply wants no memory.
-pub fn on_reply<A: Allocator + Copy, E: Entries<A>>(
-    alloc: A,
-    settings: &Settings<'_>,
-    entries: &mut E,
-    numbers: &mut Numbers<A>,
-    now: u64,
-    link: Link,
-    octets: &[u8],
-) -> Result<Answer<A>, NoMemory>
-    requires keeps { IsTrue (E.keeps entries.old settings.now.index) }
-    requires sound { IsSound settings.now (E.entries_of entries.old settings.now.index) numbers.old }
-    requires packet { IsPacketText octets.now }
-    ensures turn { Gives result
-        (state_of (E.entries_of entries.old settings.now.index) numbers.old)
-        (state_of (E.entries_of entries.new settings.now.index) numbers.new)
-        (on_reply settings.now now (state_of (E.entries_of entries.old settings.now.index) numbers.old)
-        link octets.now) }
-    ensures succeeds { packets_of (on_reply settings.now now
-        (state_of (E.entries_of entries.old settings.now.index) numbers.old) link octets.now) ≡ []
-        → IsOk result }
-    ensures sound { IsSound settings.now (E.entries_of entries.new settings.now.index) numbers.new }
-    ensures others { OthersStay settings.now.index (E.entries_of entries.old) (E.entries_of entries.new) }
-    ensures keeps { E.keeps entries.new ≡ E.keeps entries.old }
+/// A reply that is refused before an entry is looked at. Takes no memory.
+fn refused_reply<A: Allocator>(alloc: A, why: Refusal) -> ReplyPlan<A>
+    ensures { (c : RealmConfig) (s : RealmState) → IsReplyPlan c s result (refuses why) }
 {
-    if now > LATEST {
-        return Ok(refused(alloc, Refusal::Moment));
+    ReplyPlan {
+        answer: refused(alloc, why),
+        settled: None,
     }
-    to_entry(
-        alloc,
-        settings,
-        entries,
-        numbers,
-        now,
-        link,
-        &packet_in(octets),
-    )
+}
+
+impl<A: Allocator + Copy, E: Entries<A>> Realm<'_, '_, '_, '_, A, E> {
+    /// The entry that waits on a link with an Identifier: the link's lane has its ticket.
+    fn waiting_at(&self, link: Link, id: u8) -> Option<&Entry<A>>
+        requires realm { IsRealm E.Entries self.now }
+        ensures found { seen result ≡ find_link link id (entries E.Entries self.now) }
+    {
+        let ticket = self.numbers.holder(self.settings, link, id)?;
+        self.entries.find_ticket(self.settings.index(), ticket)
+    }
+
+    /// What a reply from a link does, for the entry that waits there with its Identifier, if there is
+    /// one.
+    fn reply_to_entry(
+        &self,
+        now: u64,
+        link: Link,
+        reply: &View<'_>,
+    ) -> Result<ReplyPlan<A>, NoMemory>
+        requires realm { IsRealm E.Entries self.now }
+        requires moment { now ≤ 2 ^ 62 }
+        ensures plan { IfOk result (λ p. IsReplyPlan self.now.settings.now (state E.Entries self.now) p
+            (to_entry self.now.settings.now now (state E.Entries self.now) reply.now
+            (find_link link reply.now.id (entries E.Entries self.now)))) }
+        ensures succeeds { packets_of (to_entry self.now.settings.now now (state E.Entries self.now)
+            reply.now (find_link link reply.now.id (entries E.Entries self.now))) ≡ [] → IsOk result }
+    {
+        let id = reply.id();
+        let Some(entry) = self.waiting_at(link, id) else {
+            return Ok(refused_reply(self.numbers.alloc, Refusal::NoEntry));
+        };
+        let Verdict { answer, done } = to_standing(
+            self.numbers.alloc,
+            self.settings,
+            now,
+            entry,
+            reply,
+        )?;
+        let settled = match done {
+            None => None,
+            Some(done) => {
+                Some(Settled {
+                    ticket: entry.ticket,
+                    link,
+                    id,
+                    done,
+                })
+            }
+        };
+        Ok(ReplyPlan { answer, settled })
+    }
+
+    /// What a reply that came from a link does. Nothing changes yet.
+    fn plan_reply(&self, now: u64, link: Link, octets: &[u8]) -> Result<ReplyPlan<A>, NoMemory>
+        requires realm { IsRealm E.Entries self.now }
+        requires packet { IsPacketText octets.now }
+        ensures plan { IfOk result (λ p. IsReplyPlan self.now.settings.now (state E.Entries self.now) p
+            (on_reply self.now.settings.now now (state E.Entries self.now) link octets.now)) }
+        ensures succeeds { packets_of (on_reply self.now.settings.now now (state E.Entries self.now)
+            link octets.now) ≡ [] → IsOk result }
+    {
+        if now > LATEST {
+            return Ok(refused_reply(self.numbers.alloc, Refusal::Moment));
+        }
+        self.reply_to_entry(now, link, &packet_in(octets))
+    }
+
+    /// The entry that is to be done, if one is, is done: its Identifier is then free. Takes no memory.
+    fn settle(&mut self, settled: Option<Settled<A>>)
+        requires realm { IsRealm E.Entries self.old }
+        requires settled { CanSettle self.old.settings.now (entries E.Entries self.old) settled }
+        ensures state { state E.Entries self.new ≡ once_settled (state E.Entries self.old) settled }
+        ensures keeps { Keeps E.Entries self.old self.new }
+    {
+        let Some(settled) = settled else {
+            return;
+        };
+        set_standing(
+            self.numbers.alloc,
+            self.entries,
+            self.settings.index(),
+            settled.ticket,
+            Standing::Done(settled.done),
+        );
+        self.numbers
+            .give_back(self.settings, settled.link, settled.id);
+    }
+
+    /// A reply that came from a link: it is returned, and held until `now + hold`, where the request
+    /// waits on that link with the reply's Identifier, and the reply is taken.
+    ///
+    /// Refused in this order: `Moment`, `NoEntry`, `WrongReply`, `BadReply`,
+    /// `BadReplyMessageAuthenticator`, `ReplyTooLong`. `NoMemory` comes where a growth was refused; the
+    /// realm is then as it was. A refused reply wants no memory.
+    pub fn on_reply(&mut self, now: u64, link: Link, octets: &[u8]) -> Result<Answer<A>, NoMemory>
+        requires realm { IsRealm E.Entries self.old }
+        requires packet { IsPacketText octets.now }
+        ensures turn { Turns E.Entries self.old self.new result
+            (λ s. on_reply self.old.settings.now now s link octets.now) }
+    {
+        let ReplyPlan { answer, settled } = self.plan_reply(now, link, octets)?;
+        self.settle(settled);
+        Ok(answer)
+    }
+
+    /// The same, with the answer twice.
+    pub fn on_reply_twice(
+        &mut self,
+        now: u64,
+        link: Link,
+        octets: &[u8],
+    ) -> Result<Twin<A>, NoMemory>
+        requires realm { IsRealm E.Entries self.old }
+        requires packet { IsPacketText octets.now }
+        ensures turn { TurnsTwice E.Entries self.old self.new result
+            (λ s. on_reply self.old.settings.now now s link octets.now) }
+    {
+        let ReplyPlan { answer, settled } = self.plan_reply(now, link, octets)?;
+        let copy = answer.copy(self.numbers.alloc)?;
+        self.settle(settled);
+        Ok(Twin { answer, copy })
+    }
 }

@@ -1,29 +1,41 @@
 //! What a request does to its realm (RFC 2865, section 2.3).
+//!
+//! First it is decided whether it is a duplicate, refused or admitted, and which entries make way; that
+//! changes nothing. Then a new request is admitted.
 
-ghost use Rattle.std.specs.Prelude.{◌≡◌, ◌≢◌, ◌<◌, ◌≤◌, ◌^◌, [], None, Some, IfOk, IsOk, IsTrue, length};
-ghost use Rattle.roam_wire.specs.Reading.{packet_of};
-ghost use Rattle.roam_pending.specs.EntryList.{IsEntryList, besides, find_client};
-ghost use Rattle.roam_pending.specs.Shown.{shown, shown_standing};
-ghost use Rattle.roam_book.specs.NewEntry.{HasNext, freed_link, target_at};
+ghost use Rattle.std.specs.Prelude.{◌≡◌, ◌≢◌, ℕ, ◌<◌, ◌≤◌, ◌^◌, [], None, Some, IfOk, IsOk, length};
+ghost use Rattle.roam_pending.specs.EntryList.{besides, find_client};
+ghost use Rattle.roam_pending.specs.PlainEntry.{PlainRequest};
+ghost use Rattle.roam_pending.specs.Shown.{shown_standing};
+ghost use Rattle.roam_book.specs.NewEntry.{Chooses, IsRequestPlan, IsWay, freed_link, once_gone, straight_after, target_at};
 ghost use Rattle.roam_book.specs.OnRequest.{at_target, held_reply, new_request, of_key, on_request};
-ghost use Rattle.roam_book.specs.RealmConfig.{IsLink};
-ghost use Rattle.roam_book.specs.Sound.{CountsAsGone, IsRequest, IsSound, OthersStay, cursors_of, gone_ticket, shown_request, state_of};
-ghost use Rattle.roam_book.specs.Turn.{Gives, packets_of, shown_outs};
+ghost use Rattle.roam_book.specs.RealmTurn.{IsRealm, Turns, TurnsTwice, entries, state};
+ghost use Rattle.roam_book.specs.Sound.{CountsAsGone, IsRequest, gone_ticket, shown_request};
+ghost use Rattle.roam_book.specs.Turn.{packets_of, shown_outs};
 
-use crate::admitting::{Way, admit};
-use crate::answer::{Answer, nothing, one_packet, refused};
+use crate::answer::{Answer, Twin, nothing, one_packet, refused};
 use crate::gone::Gone;
-use crate::numbers::Numbers;
+use crate::realm::Realm;
 use crate::sending::{Asked, packet_back};
 use crate::service::Service;
 use crate::settings::Settings;
+use crate::way::Way;
 use roam_conf::Link;
 use roam_pending::{Entries, Entry, Standing};
 use roam_wire::{NoMemory, Octets, Refusal};
 use std::alloc::Allocator;
 
 /// The latest moment, in milliseconds: an event of a later one is refused.
-pub(crate) const LATEST: u64 = 1 << 62;
+pub const LATEST: u64 = 1 << 62;
+
+/// What a request is to do.
+#[derive(Drop)]
+pub(crate) enum RequestPlan<A: Allocator> {
+    /// It is a duplicate, or refused: nothing changes.
+    Answered(Answer<A>),
+    /// It is admitted.
+    Admitted(Way),
+}
 
 /// The reply that a duplicate gets: none while its request waits, else the one that is held, again.
 fn held_reply<A: Allocator + Copy>(
@@ -46,22 +58,6 @@ fn held_reply<A: Allocator + Copy>(
     }
 }
 
-/// How many entries there are, besides one that counts as gone.
-fn held_besides<A: Allocator + Copy, E: Entries<A>>(
-    entries: &E,
-    realm: u16,
-    gone: Option<Gone>,
-) -> usize
-    requires { CountsAsGone gone (E.entries_of entries.now realm) }
-    ensures { result ≡ length (besides (gone_ticket gone) (E.entries_of entries.now realm)) }
-{
-    let held = entries.len(realm);
-    match gone {
-        None => held,
-        Some(_) => held - 1,
-    }
-}
-
 /// The link where an Identifier becomes free once an entry is gone.
 fn freed_link(gone: Option<Gone>) -> Option<Link>
     ensures { result ≡ freed_link gone }
@@ -80,195 +76,153 @@ fn gone_ticket(gone: Option<Gone>) -> Option<u64>
     }
 }
 
-/// A new request for which a link has a free Identifier: it is admitted where there is a place, or
-/// where a done entry makes way.
-fn at_target<A: Allocator + Copy, E: Entries<A>>(
-    alloc: A,
-    settings: &Settings<'_>,
-    entries: &mut E,
-    numbers: &mut Numbers<A>,
-    now: u64,
-    asked: Asked<'_>,
-    gone: Option<Gone>,
-    link: Link,
-) -> Result<Answer<A>, NoMemory>
-    requires keeps { IsTrue (E.keeps entries.old settings.now.index) }
-    requires moment { now ≤ 2 ^ 62 }
-    requires sound { IsSound settings.now (E.entries_of entries.old settings.now.index)
-        numbers.old }
-    requires request { IsRequest settings.now (shown_request asked) }
-    requires list { IsEntryList (E.entries_of entries.old settings.now.index) }
-    requires ticket { numbers.old.ticket < 2 ^ 63 }
-    requires gone { CountsAsGone gone (E.entries_of entries.old settings.now.index) }
-    requires key { find_client asked.key
-        (besides (gone_ticket gone) (E.entries_of entries.old settings.now.index)) ≡ None }
-    requires link { IsLink settings.now link }
-    requires free { HasNext settings.now (cursors_of numbers.old.lanes.items)
-        (besides (gone_ticket gone) (E.entries_of entries.old settings.now.index)) link }
-    ensures turn { Gives result
-        (state_of (E.entries_of entries.old settings.now.index) numbers.old)
-        (state_of (E.entries_of entries.new settings.now.index) numbers.new)
-        (at_target settings.now now
-        (state_of (E.entries_of entries.old settings.now.index) numbers.old)
-        (besides (gone_ticket gone) (E.entries_of entries.old settings.now.index))
-        (shown_request asked.entry)
-        (Some (target_at settings.now (cursors_of numbers.old.lanes.items)
-        (besides (gone_ticket gone) (E.entries_of entries.old settings.now.index)) link))) }
-    ensures succeeds { packets_of (at_target settings.now now
-        (state_of (E.entries_of entries.old settings.now.index) numbers.old)
-        (besides (gone_ticket gone) (E.entries_of entries.old settings.now.index))
-        (shown_request asked.entry)
-        (Some (target_at settings.now (cursors_of numbers.old.lanes.items)
-        (besides (gone_ticket gone) (E.entries_of entries.old settings.now.index)) link))) ≡ []
-        → IsOk result }
-    ensures sound { IsSound settings.now (E.entries_of entries.new settings.now.index) numbers.new }
-    ensures others { OthersStay settings.now.index (E.entries_of entries.old)
-        (E.entries_of entries.new) }
-    ensures keeps { E.keeps entries.new ≡ E.keeps entries.old }
-{
-    let realm = settings.index();
-    if held_besides(entries, realm, gone) < usize::from(settings.max_pending()) {
-        let way = Way {
-            gone,
-            done: None,
-            link,
-        };
-        return admit(alloc, settings, entries, numbers, now, asked, way);
+impl<A: Allocator + Copy, E: Entries<A>> Realm<'_, '_, '_, '_, A, E> {
+    /// How many entries there are, besides one that counts as gone.
+    fn held_besides(&self, gone: Option<Gone>) -> usize
+        requires { CountsAsGone gone (entries E.Entries self.now) }
+        ensures { result ≡ length (once_gone gone (entries E.Entries self.now)) }
+    {
+        let held = self.entries.len(self.settings.index());
+        match gone {
+            None => held,
+            Some(_) => held - 1,
+        }
     }
-    match entries.first_done(realm, gone_ticket(gone)) {
-        None => Ok(refused(alloc, Refusal::Busy)),
-        Some(ticket) => {
-            let way = Way {
+
+    /// A new request for which a link has a free Identifier: it is admitted where there is a place, or
+    /// where a done entry makes way.
+    fn way_to(&self, gone: Option<Gone>, link: Link) -> Result<Way, Refusal>
+        requires { CountsAsGone gone (entries E.Entries self.now) }
+        ensures { (q : PlainRequest)
+            → IsWay self.now.settings.now (state E.Entries self.now) q (straight_after gone link)
+            → Chooses self.now.settings.now (state E.Entries self.now) q result
+            (λ now. at_target self.now.settings.now now (state E.Entries self.now)
+            (once_gone gone (entries E.Entries self.now)) q
+            (Some (target_at self.now.settings.now (state E.Entries self.now).cursors
+            (once_gone gone (entries E.Entries self.now)) link))) }
+    {
+        let most = usize::from(self.settings.max_pending());
+        if self.held_besides(gone) < most {
+            return Ok(Way {
                 gone,
-                done: Some(ticket),
+                done: None,
                 link,
-            };
-            admit(alloc, settings, entries, numbers, now, asked, way)
+            });
         }
-    }
-}
-
-/// A new request: there must be a ticket for it, and a target with a free Identifier. The entry of
-/// its key, if there is one, counts as gone.
-fn new_request<A: Allocator + Copy, E: Entries<A>>(
-    alloc: A,
-    settings: &Settings<'_>,
-    entries: &mut E,
-    numbers: &mut Numbers<A>,
-    now: u64,
-    asked: Asked<'_>,
-    gone: Option<Gone>,
-) -> Result<Answer<A>, NoMemory>
-    requires keeps { IsTrue (E.keeps entries.old settings.now.index) }
-    requires moment { now ≤ 2 ^ 62 }
-    requires sound { IsSound settings.now (E.entries_of entries.old settings.now.index)
-        numbers.old }
-    requires request { IsRequest settings.now (shown_request asked) }
-    requires list { IsEntryList (E.entries_of entries.old settings.now.index) }
-    requires gone { CountsAsGone gone (E.entries_of entries.old settings.now.index) }
-    requires key { find_client asked.key
-        (besides (gone_ticket gone) (E.entries_of entries.old settings.now.index)) ≡ None }
-    ensures turn { Gives result
-        (state_of (E.entries_of entries.old settings.now.index) numbers.old)
-        (state_of (E.entries_of entries.new settings.now.index) numbers.new)
-        (new_request settings.now now
-        (state_of (E.entries_of entries.old settings.now.index) numbers.old)
-        (besides (gone_ticket gone) (E.entries_of entries.old settings.now.index))
-        (shown_request asked.entry)) }
-    ensures succeeds { packets_of (new_request settings.now now
-        (state_of (E.entries_of entries.old settings.now.index) numbers.old)
-        (besides (gone_ticket gone) (E.entries_of entries.old settings.now.index))
-        (shown_request asked.entry)) ≡ [] → IsOk result }
-    ensures sound { IsSound settings.now (E.entries_of entries.new settings.now.index) numbers.new }
-    ensures others { OthersStay settings.now.index (E.entries_of entries.old)
-        (E.entries_of entries.new) }
-    ensures keeps { E.keeps entries.new ≡ E.keeps entries.old }
-{
-    if numbers.ticket == 1 << 63 {
-        return Ok(refused(alloc, Refusal::Exhausted));
-    }
-    match numbers.first_open(settings, Service::Accounting, 0, freed_link(gone)) {
-        None => Ok(refused(alloc, Refusal::NoIdentifier)),
-        Some(link) => at_target(alloc, settings, entries, numbers, now, asked, gone, link),
-    }
-}
-
-/// A request in time: a duplicate where the entry of its key has its octets too, else a new one.
-fn of_key<A: Allocator + Copy, E: Entries<A>>(
-    alloc: A,
-    settings: &Settings<'_>,
-    entries: &mut E,
-    numbers: &mut Numbers<A>,
-    now: u64,
-    asked: Asked<'_>,
-) -> Result<Answer<A>, NoMemory>
-    requires keeps { IsTrue (E.keeps entries.old settings.now.index) }
-    requires moment { now ≤ 2 ^ 62 }
-    requires sound { IsSound settings.now (E.entries_of entries.old settings.now.index)
-        numbers.old }
-    requires request { IsRequest settings.now (shown_request asked) }
-    ensures turn { Gives result
-        (state_of (E.entries_of entries.old settings.now.index) numbers.old)
-        (state_of (E.entries_of entries.new settings.now.index) numbers.new)
-        (of_key settings.now now
-        (state_of (E.entries_of entries.old settings.now.index) numbers.old)
-        (shown_request asked.entry)
-        (find_client asked.entry.key (E.entries_of entries.old settings.now.index))) }
-    ensures succeeds { packets_of (of_key settings.now now
-        (state_of (E.entries_of entries.old settings.now.index) numbers.old)
-        (shown_request asked.entry)
-        (find_client asked.entry.key (E.entries_of entries.old settings.now.index))) ≡ []
-        → IsOk result }
-    ensures sound { IsSound settings.now (E.entries_of entries.new settings.now.index) numbers.new }
-    ensures others { OthersStay settings.now.index (E.entries_of entries.old)
-        (E.entries_of entries.new) }
-    ensures keeps { E.keeps entries.new ≡ E.keeps entries.old }
-{
-    match entries.find_client(settings.index(), &asked.key) {
-        None => new_request(alloc, settings, entries, numbers, now, asked, None),
-        Some(entry) => {
-            if entry.request.octets.as_slice() == asked.octets {
-                return held_reply(alloc, settings, entry);
+        match self
+            .entries
+            .first_done(self.settings.index(), gone_ticket(gone))
+        {
+            None => Err(Refusal::Busy),
+            Some(ticket) => {
+                Ok(Way {
+                    gone,
+                    done: Some(ticket),
+                    link,
+                })
             }
-            let gone = Gone::of(entry);
-            new_request(alloc, settings, entries, numbers, now, asked, Some(gone))
         }
     }
-}
 
-/// A request of the realm: a duplicate, or a new one that is forwarded.
-///
-/// Refused in this order: `Moment`, `Exhausted`, `NoIdentifier`, `Busy`. `NoMemory` comes where a
-/// growth was refused; the realm is then as it was. A refused request and a duplicate of one that
-/// waits want no memory.
-pub fn on_request<A: Allocator + Copy, E: Entries<A>>(
-    alloc: A,
-    settings: &Settings<'_>,
-    entries: &mut E,
-    numbers: &mut Numbers<A>,
-    now: u64,
-    asked: Asked<'_>,
-) -> Result<Answer<A>, NoMemory>
-    requires keeps { IsTrue (E.keeps entries.old settings.now.index) }
-    requires sound { IsSound settings.now (E.entries_of entries.old settings.now.index)
-        numbers.old }
-    requires request { IsRequest settings.now (shown_request asked) }
-    ensures turn { Gives result
-        (state_of (E.entries_of entries.old settings.now.index) numbers.old)
-        (state_of (E.entries_of entries.new settings.now.index) numbers.new)
-        (on_request settings.now now
-        (state_of (E.entries_of entries.old settings.now.index) numbers.old)
-        (shown_request asked.entry)) }
-    ensures succeeds { packets_of (on_request settings.now now
-        (state_of (E.entries_of entries.old settings.now.index) numbers.old)
-        (shown_request asked.entry)) ≡ [] → IsOk result }
-    ensures sound { IsSound settings.now (E.entries_of entries.new settings.now.index) numbers.new }
-    ensures others { OthersStay settings.now.index (E.entries_of entries.old)
-        (E.entries_of entries.new) }
-    ensures keeps { E.keeps entries.new ≡ E.keeps entries.old }
-{
-    if now > LATEST {
-        return Ok(refused(alloc, Refusal::Moment));
+    /// A new request: there must be a ticket for it, and a target with a free Identifier. The entry of
+    /// its key, if there is one, counts as gone.
+    fn way_for(&self, gone: Option<Gone>) -> Result<Way, Refusal>
+        requires realm { IsRealm E.Entries self.now }
+        requires gone { CountsAsGone gone (entries E.Entries self.now) }
+        ensures { (q : PlainRequest) → IsRequest self.now.settings.now q
+            → find_client q.key (once_gone gone (entries E.Entries self.now)) ≡ None
+            → Chooses self.now.settings.now (state E.Entries self.now) q result
+            (λ now. new_request self.now.settings.now now (state E.Entries self.now)
+            (once_gone gone (entries E.Entries self.now)) q) }
+    {
+        if self.numbers.ticket == 1 << 63 {
+            return Err(Refusal::Exhausted);
+        }
+        match self
+            .numbers
+            .first_open(self.settings, Service::Accounting, 0, freed_link(gone))
+        {
+            None => Err(Refusal::NoIdentifier),
+            Some(link) => self.way_to(gone, link),
+        }
     }
-    of_key(alloc, settings, entries, numbers, now, asked)
+
+    /// A new request is refused or admitted, while an entry counts as gone.
+    fn plan_new(&self, gone: Option<Gone>) -> RequestPlan<A>
+        requires realm { IsRealm E.Entries self.now }
+        requires gone { CountsAsGone gone (entries E.Entries self.now) }
+        ensures { (q : PlainRequest) → IsRequest self.now.settings.now q
+            → find_client q.key (once_gone gone (entries E.Entries self.now)) ≡ None
+            → IsRequestPlan self.now.settings.now (state E.Entries self.now) q result
+            (λ now. new_request self.now.settings.now now (state E.Entries self.now)
+            (once_gone gone (entries E.Entries self.now)) q) }
+    {
+        match self.way_for(gone) {
+            Ok(way) => RequestPlan::Admitted(way),
+            Err(why) => RequestPlan::Answered(refused(self.numbers.alloc, why)),
+        }
+    }
+
+    /// A request in time: a duplicate where the entry of its key has its octets too, else a new one.
+    fn plan_of_key(&self, asked: Asked<'_>) -> Result<RequestPlan<A>, NoMemory>
+        requires realm { IsRealm E.Entries self.now }
+        requires request { IsRequest self.now.settings.now (shown_request asked) }
+        ensures plan { IfOk result (λ p. IsRequestPlan self.now.settings.now
+            (state E.Entries self.now) (shown_request asked.entry) p
+            (λ now. of_key self.now.settings.now now (state E.Entries self.now)
+            (shown_request asked.entry) (find_client asked.entry.key (entries E.Entries self.now)))) }
+        ensures succeeds { (now : ℕ) → packets_of (of_key self.now.settings.now now
+            (state E.Entries self.now) (shown_request asked.entry)
+            (find_client asked.entry.key (entries E.Entries self.now))) ≡ [] → IsOk result }
+    {
+        match self.entries.find_client(self.settings.index(), &asked.key) {
+            None => Ok(self.plan_new(None)),
+            Some(entry) => {
+                if entry.request.octets.as_slice() == asked.octets {
+                    let answer = held_reply(self.numbers.alloc, self.settings, entry)?;
+                    return Ok(RequestPlan::Answered(answer));
+                }
+                Ok(self.plan_new(Some(Gone::of(entry))))
+            }
+        }
+    }
+
+    /// A request of the realm: a duplicate, or a new one that is forwarded.
+    ///
+    /// Refused in this order: `Moment`, `Exhausted`, `NoIdentifier`, `Busy`. `NoMemory` comes where a
+    /// growth was refused; the realm is then as it was. A refused request and a duplicate of one that
+    /// waits want no memory.
+    pub fn on_request(&mut self, now: u64, asked: Asked<'_>) -> Result<Answer<A>, NoMemory>
+        requires realm { IsRealm E.Entries self.old }
+        requires request { IsRequest self.old.settings.now (shown_request asked) }
+        ensures turn { Turns E.Entries self.old self.new result
+            (λ s. on_request self.old.settings.now now s (shown_request asked.entry)) }
+    {
+        if now > LATEST {
+            return Ok(refused(self.numbers.alloc, Refusal::Moment));
+        }
+        match self.plan_of_key(asked)? {
+            RequestPlan::Answered(answer) => Ok(answer),
+            RequestPlan::Admitted(way) => Ok(self.admit(now, asked, way, false)?.answer),
+        }
+    }
+
+    /// The same, with the answer twice.
+    pub fn on_request_twice(&mut self, now: u64, asked: Asked<'_>) -> Result<Twin<A>, NoMemory>
+        requires realm { IsRealm E.Entries self.old }
+        requires request { IsRequest self.old.settings.now (shown_request asked) }
+        ensures turn { TurnsTwice E.Entries self.old self.new result
+            (λ s. on_request self.old.settings.now now s (shown_request asked.entry)) }
+    {
+        let alloc = self.numbers.alloc;
+        if now > LATEST {
+            let answer = refused(alloc, Refusal::Moment);
+            let copy = refused(alloc, Refusal::Moment);
+            return Ok(Twin { answer, copy });
+        }
+        match self.plan_of_key(asked)? {
+            RequestPlan::Answered(answer) => answer.twice(alloc),
+            RequestPlan::Admitted(way) => Ok(self.admit(now, asked, way, true)?.into_twin()),
+        }
+    }
 }

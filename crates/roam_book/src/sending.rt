@@ -1,6 +1,6 @@
 //! A request as it is forwarded (RFC 2865, section 2.3).
 
-ghost use Rattle.std.specs.Prelude.{◌≡◌, ℕ, ◌<◌, ◌≤◌, ◌+◌, ◌%◌, ◌^◌, ◌++◌, List, [], ◌∷◌, Some, None, true, length, slice_set, vec_len, vec_capacity};
+ghost use Rattle.std.specs.Prelude.{◌≡◌, ℕ, ◌<◌, ◌≤◌, ◌+◌, ◌%◌, ◌^◌, ◌++◌, List, [], ◌∷◌, Some, None, true, IfSome, is_some, length, slice_set, vec_len, vec_capacity};
 ghost use Rattle.roam_wire.specs.Reading.{IsPacketText, packet_of};
 ghost use Rattle.roam_pending.specs.PlainEntry.{PlainEntry, PlainRequest};
 ghost use Rattle.roam_pending.specs.EntryList.{IsEntryList, find_ticket, put};
@@ -10,16 +10,18 @@ ghost use Rattle.roam_route.specs.Shown.{shown_out};
 ghost use Rattle.roam_book.specs.RealmConfig.{IsLink, link_place, link_count};
 ghost use Rattle.roam_book.specs.RealmState.{next_toward};
 ghost use Rattle.roam_book.specs.OnRequest.{packet_to, packet_back, forwarded_octets, forwarded_entry};
-ghost use Rattle.roam_book.specs.Sound.{shown_request, IsRequest, HasBuffers, LanesTell, IsWaiting, lane_of, cursors_of, has_free};
+ghost use Rattle.roam_book.specs.Memory.{HasBuffers, HasRoom, IsCopied};
+ghost use Rattle.roam_book.specs.Sound.{shown_request, IsRequest, LanesTell, IsWaiting, lane_of, cursors_of, has_free};
 
-use crate::buffers::Buffers;
+use crate::buffers::{Buffers, copied_into};
 use crate::numbers::Numbers;
 use crate::settings::Settings;
+use crate::verdict::packet_in;
 use roam_conf::{Link, Place};
 use roam_fwd::forward_reserved;
 use roam_pending::{Key, Requester, Waiting};
 use roam_route::Out;
-use roam_wire::{Octets, View};
+use roam_wire::Octets;
 use std::alloc::Allocator;
 
 /// A request of a realm: what tells it from others, who sent it, and its octets up to Length.
@@ -28,6 +30,13 @@ pub struct Asked<'a> {
     pub key: Key,
     pub requester: Requester,
     pub octets: &'a [u8],
+}
+
+/// A packet that is sent, and an equal one where it is wanted twice.
+#[derive(Drop)]
+pub(crate) struct Sent<A: Allocator> {
+    pub out: Out<A>,
+    pub copy: Option<Out<A>>,
 }
 
 /// A packet of the realm toward a link.
@@ -63,6 +72,31 @@ pub(crate) fn packet_back<A: Allocator>(
     }
 }
 
+/// A packet of the realm toward a link, and its copy where there is a buffer for one.
+pub(crate) fn sent_to<A: Allocator>(
+    settings: &Settings<'_>,
+    link: Link,
+    bytes: Octets<A>,
+    copy: Option<Vec<u8, A>>,
+) -> Sent<A>
+    requires link { IsLink settings.now link }
+    requires copy { IfSome copy (λ v. HasRoom (length bytes) v) }
+    ensures out { shown_out result.out ≡ packet_to settings.now link bytes }
+    ensures copied { IsCopied (is_some copy) result }
+{
+    let copy = match copy {
+        None => None,
+        Some(buffer) => {
+            let equal = copied_into(buffer, bytes.as_slice());
+            Some(packet_to(settings, link, equal))
+        }
+    };
+    Sent {
+        out: packet_to(settings, link, bytes),
+        copy,
+    }
+}
+
 /// Writes the forwarded packet of a request into an empty buffer that has room for it.
 fn forward_into<A: Allocator>(
     settings: &Settings<'_>,
@@ -74,17 +108,13 @@ fn forward_into<A: Allocator>(
 )
     requires request { IsRequest settings.now (shown_request asked) }
     requires link { IsLink settings.now link }
-    requires empty { out.old.items ≡ [] }
-    requires len { vec_len out.old ≡ 0 }
-    requires room { length asked.octets.now + 46 ≤ vec_capacity out.old }
+    requires room { HasRoom (length asked.octets.now + 46) out.old }
     ensures octets { out.new.items
         ≡ forwarded_octets settings.now (shown_request asked.entry) ticket
         (record { link = link; id = id }) }
     ensures waiting { IsWaiting settings.now (shown_request asked.entry) link id out.new.items }
 {
-    let Ok(request) = View::read(asked.octets) else {
-        unreachable!();
-    };
+    let request = packet_in(asked.octets);
     let from_secret = settings.secret_of_requester(asked.requester);
     let to_secret = settings.secret_of_link(link);
     forward_reserved(&request, from_secret, to_secret, id, [0; 16], ticket, out);
@@ -101,7 +131,7 @@ pub(crate) fn send_new<A: Allocator + Copy>(
     ticket: u64,
     link: Link,
     buffers: Buffers<A>,
-) -> (Out<A>, Waiting<A>)
+) -> (Sent<A>, Waiting<A>)
     requires moment { now ≤ 2 ^ 62 }
     requires request { IsRequest settings.now (shown_request asked) }
     requires link { IsLink settings.now link }
@@ -111,8 +141,9 @@ pub(crate) fn send_new<A: Allocator + Copy>(
     ensures next { (es : List PlainEntry) → IsEntryList es
         → LanesTell settings.now es numbers.old.lanes.items
         → next_toward settings.now (cursors_of numbers.old.lanes.items) es link ≡ Some result.1.id }
-    ensures out { shown_out result.0 ≡ packet_to settings.now link (forwarded_octets settings.now
+    ensures out { shown_out result.0.out ≡ packet_to settings.now link (forwarded_octets settings.now
         (shown_request asked.entry) ticket (record { link = link; id = result.1.id })) }
+    ensures copied { IsCopied (is_some buffers.copy) result.0 }
     ensures standing { shown_standing (standing.Waiting result.1)
         ≡ (forwarded_entry settings.now now (shown_request asked.entry) ticket
         (record { link = link; id = result.1.id })).standing }
@@ -135,15 +166,22 @@ pub(crate) fn send_new<A: Allocator + Copy>(
     let Some(id) = numbers.take_next(settings, link, ticket) else {
         unreachable!();
     };
-    let Buffers { mut sent, mut kept } = buffers;
+    let Buffers {
+        mut sent,
+        kept,
+        copy,
+    } = buffers;
     forward_into(settings, asked, ticket, link, id, &mut sent);
-    forward_into(settings, asked, ticket, link, id, &mut kept);
+    let forwarded = copied_into(kept, sent.as_slice());
     let waiting = Waiting {
         link,
         id,
-        forwarded: Octets::from_vec(kept),
+        forwarded,
         sends_left: settings.tries().saturating_sub(1),
         deadline: now + u64::from(settings.wait()),
     };
-    (packet_to(settings, link, Octets::from_vec(sent)), waiting)
+    (
+        sent_to(settings, link, Octets::from_vec(sent), copy),
+        waiting,
+    )
 }

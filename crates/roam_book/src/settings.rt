@@ -1,6 +1,6 @@
 //! What the rules of a realm read of the configuration.
 
-ghost use Rattle.std.specs.Prelude.{◌≡◌, ℕ, ◌<◌, ◌≤◌, ◌+◌, length, unwrap_or, vec_len};
+ghost use Rattle.std.specs.Prelude.{◌≡◌, ◌↔◌, ℕ, ◌<◌, ◌≤◌, ◌+◌, IsTrue, length, unwrap_or, vec_len};
 ghost use Rattle.roam_conf.specs.Shown.{shown};
 ghost use Rattle.roam_conf.specs.Parts.{shown_realm, shown_peer, shown_server};
 ghost use Rattle.roam_book.specs.RealmConfig.{realm_config, server_secret, peer_secret, link_secret, requester_secret, link_endpoint, link_place, link_count, nowhere, IsLink, IsRequester};
@@ -179,6 +179,16 @@ impl<'c> Settings<'c> {
         ensures few { result ≤ 272 }
     {
         2 * self.server_count() + self.peer_count()
+    }
+
+    /// Whether a link is the realm's.
+    pub(crate) fn has_link(&self, link: Link) -> bool
+        ensures { IsTrue result ↔ IsLink self.now link }
+    {
+        match link {
+            Link::Auth(server) | Link::Acct(server) => usize::from(server) < self.server_count(),
+            Link::Coa(peer) => usize::from(peer) < self.peer_count(),
+        }
     }
 
     /// The place of a link among the realm's links.

@@ -1,141 +1,131 @@
 //! What a tick does to a realm: each due entry is taken once, in order of deadline and ticket.
 
-ghost use Rattle.std.specs.Prelude.{◌≡◌, ℕ, ◌≤◌, ◌++◌, ◌+◌, ◌<◌, ◌^◌, IsTrue, IfSome, length, vec_len, vec_capacity};
+ghost use Rattle.std.specs.Prelude.{◌≡◌, ℕ, ◌≤◌, ◌++◌, ◌+◌, ◌^◌, Bool, List, true, Ok, IfSome, is_some, length};
 ghost use Rattle.roam_pending.specs.EntryList.{find_ticket};
 ghost use Rattle.roam_pending.specs.Realms.{RealmBecomes};
-ghost use Rattle.roam_book.specs.Turn.{Answers, shown_outs};
+ghost use Rattle.roam_route.specs.Admission.{PlainOut};
+ghost use Rattle.roam_book.specs.Turn.{Answers};
 ghost use Rattle.roam_book.specs.OnTick.{on_tick, due_one};
-ghost use Rattle.roam_book.specs.Sound.{IsSound, HasBuffers, OthersStay, state_of};
+ghost use Rattle.roam_book.specs.Memory.{HasBuffers, HasPlace, IsOuts, Tells};
+ghost use Rattle.roam_book.specs.RealmTurn.{IsRealm, Keeps, KeepsLoans, Turns, TurnsTwice, entries, state};
 ghost use Rattle.roam_book.specs.Rooms.{IsRoomFor, size_of};
-ghost use Rattle.roam_book.specs.Fates.{fate_packets, fate_entries};
+ghost use Rattle.roam_book.specs.Fates.{IsFateCopied, fate_packets, fate_entries};
 
-use crate::answer::{Answer, refused};
+use crate::answer::{Answer, Told, Twin};
 use crate::fate::{Fate, fate_of};
-use crate::numbers::Numbers;
+use crate::outs::Outs;
+use crate::realm::Realm;
 use crate::requests::LATEST;
 use crate::room::{Room, Slot};
-use crate::settings::Settings;
 use roam_pending::{Entries, Standing, send_again, set_standing};
-use roam_route::Out;
 use roam_wire::Refusal;
 use std::alloc::Allocator;
 
-/// Lets an entry have its fate: what is sent for it goes to the packets, where there is a place.
-fn meet_fate<A: Allocator + Copy, E: Entries<A>>(
-    alloc: A,
-    settings: &Settings<'_>,
-    entries: &mut E,
-    now: u64,
-    ticket: u64,
-    fate: Fate<A>,
-    outs: &mut Vec<Out<A>, A>,
-)
-    requires moment { now ≤ 2 ^ 62 }
-    requires place { vec_len outs.old < vec_capacity outs.old }
-    ensures packets { shown_outs outs.new.items ≡ shown_outs outs.old.items ++ fate_packets fate }
-    ensures entries { IfSome (find_ticket ticket (E.entries_of entries.old settings.now.index))
-        (λ e. RealmBecomes settings.now.index
-        (fate_entries settings.now now e (E.entries_of entries.old settings.now.index) fate)
-        (E.entries_of entries.old) (E.entries_of entries.new)) }
-    ensures len { vec_len outs.new ≤ vec_len outs.old + 1 }
-    ensures capacity { vec_capacity outs.new ≡ vec_capacity outs.old }
-    ensures keeps { E.keeps entries.new ≡ E.keeps entries.old }
-{
-    let realm = settings.index();
-    match fate {
-        Fate::Gone => {
-            let _gone = entries.remove(realm, ticket);
-        }
-        Fate::SentAgain(out) => {
-            outs.push_reserved(out);
-            send_again(
-                alloc,
-                entries,
-                realm,
-                ticket,
-                now + u64::from(settings.wait()),
-            );
-        }
-        Fate::Forwarded(out, waiting) => {
-            outs.push_reserved(out);
-            set_standing(alloc, entries, realm, ticket, Standing::Waiting(waiting));
+impl<A: Allocator + Copy, E: Entries<A>> Realm<'_, '_, '_, '_, A, E> {
+    /// Lets an entry have its fate: what is sent for it goes to the packets, where there is a place.
+    fn meet_fate(&mut self, now: u64, ticket: u64, fate: Fate<A>, outs: &mut Outs<A>)
+        requires moment { now ≤ 2 ^ 62 }
+        requires place { HasPlace outs.old }
+        requires copied { IsFateCopied outs.old.twice fate }
+        ensures outs { (places : ℕ) (twice : Bool) (packets : List PlainOut)
+            → IsOuts (places + 1) twice packets outs.old
+            → IsOuts places twice (packets ++ fate_packets fate) outs.new }
+        ensures entries { IfSome (find_ticket ticket (entries E.Entries self.old))
+            (λ e. RealmBecomes self.old.settings.now.index
+            (fate_entries self.old.settings.now now e (entries E.Entries self.old) fate)
+            (E.entries_of self.old.entries.now) (E.entries_of self.new.entries.now)) }
+        ensures count { length outs.new.sent.items ≤ length outs.old.sent.items + 1 }
+        ensures numbers { self.new.numbers.now ≡ self.old.numbers.now }
+        ensures loans { KeepsLoans E.Entries self.old self.new }
+    {
+        let realm = self.settings.index();
+        let alloc = self.numbers.alloc;
+        match fate {
+            Fate::Gone => {
+                let _gone = self.entries.remove(realm, ticket);
+            }
+            Fate::SentAgain(sent) => {
+                outs.push(sent);
+                let deadline = now + u64::from(self.settings.wait());
+                send_again(alloc, self.entries, realm, ticket, deadline);
+            }
+            Fate::Forwarded(sent, waiting) => {
+                outs.push(sent);
+                let standing = Standing::Waiting(waiting);
+                set_standing(alloc, self.entries, realm, ticket, standing);
+            }
         }
     }
-}
 
-/// Takes one entry that is due, in the slot that was made for it.
-fn due_one<A: Allocator + Copy, E: Entries<A>>(
-    alloc: A,
-    settings: &Settings<'_>,
-    entries: &mut E,
-    numbers: &mut Numbers<A>,
-    now: u64,
-    slot: Slot<A>,
-    outs: &mut Vec<Out<A>, A>,
-)
-    requires moment { now ≤ 2 ^ 62 }
-    requires sound { IsSound settings.now (E.entries_of entries.old settings.now.index) numbers.old }
-    requires buffers { HasBuffers
-        (size_of (find_ticket slot.due.ticket (E.entries_of entries.old settings.now.index)))
-        slot.buffers }
-    requires place { vec_len outs.old < vec_capacity outs.old }
-    ensures packets { shown_outs outs.new.items ≡ shown_outs outs.old.items
-        ++ (due_one settings.now now
-        (state_of (E.entries_of entries.old settings.now.index) numbers.old) slot.due).packets }
-    ensures state { state_of (E.entries_of entries.new settings.now.index) numbers.new
-        ≡ (due_one settings.now now
-        (state_of (E.entries_of entries.old settings.now.index) numbers.old) slot.due).state }
-    ensures sound { IsSound settings.now (E.entries_of entries.new settings.now.index) numbers.new }
-    ensures len { vec_len outs.new ≤ vec_len outs.old + 1 }
-    ensures capacity { vec_capacity outs.new ≡ vec_capacity outs.old }
+    /// Takes one entry that is due, in the slot that was made for it.
+    fn due_one(&mut self, now: u64, slot: Slot<A>, outs: &mut Outs<A>)
+        requires realm { IsRealm E.Entries self.old }
+        requires moment { now ≤ 2 ^ 62 }
+        requires buffers { HasBuffers
+            (size_of (find_ticket slot.due.ticket (entries E.Entries self.old))) slot.buffers }
+        requires copy { is_some slot.buffers.copy ≡ outs.old.twice }
+        requires place { HasPlace outs.old }
+        ensures outs { (places : ℕ) (twice : Bool) (packets : List PlainOut)
+            → IsOuts (places + 1) twice packets outs.old
+            → IsOuts places twice (packets ++ (due_one self.old.settings.now now
+            (state E.Entries self.old) slot.due).packets) outs.new }
+        ensures state { state E.Entries self.new
+            ≡ (due_one self.old.settings.now now (state E.Entries self.old) slot.due).state }
+        ensures count { length outs.new.sent.items ≤ length outs.old.sent.items + 1 }
 
-    // The slots of the other entries stay large enough.
-    ensures sizes { (t : ℕ) → size_of (find_ticket t (E.entries_of entries.new settings.now.index))
-        ≤ size_of (find_ticket t (E.entries_of entries.old settings.now.index)) }
-    ensures others { OthersStay settings.now.index (E.entries_of entries.old)
-        (E.entries_of entries.new) }
-    ensures keeps { E.keeps entries.new ≡ E.keeps entries.old }
-{
-    let Slot { due, buffers } = slot;
-    let Some(entry) = entries.find_ticket(settings.index(), due.ticket) else {
-        return;
-    };
-    let fate = fate_of(settings, numbers, now, entry, buffers);
-    meet_fate(alloc, settings, entries, now, due.ticket, fate, outs);
-}
-
-/// A tick, in the room that was made for this state and this moment. Takes no memory.
-pub fn on_tick<A: Allocator + Copy, E: Entries<A>>(
-    alloc: A,
-    settings: &Settings<'_>,
-    entries: &mut E,
-    numbers: &mut Numbers<A>,
-    now: u64,
-    room: Room<A>,
-) -> Answer<A>
-    requires keeps { IsTrue (E.keeps entries.old settings.now.index) }
-    requires sound { IsSound settings.now (E.entries_of entries.old settings.now.index) numbers.old }
-    requires room { IsRoomFor now (E.entries_of entries.old settings.now.index) room }
-    ensures turn { Answers result
-        (state_of (E.entries_of entries.old settings.now.index) numbers.old)
-        (state_of (E.entries_of entries.new settings.now.index) numbers.new)
-        (on_tick settings.now now
-        (state_of (E.entries_of entries.old settings.now.index) numbers.old)) }
-    ensures most { length result.outs.items ≤ length room.slots.items }
-    ensures sound { IsSound settings.now (E.entries_of entries.new settings.now.index) numbers.new }
-    ensures others { OthersStay settings.now.index (E.entries_of entries.old)
-        (E.entries_of entries.new) }
-    ensures keeps { E.keeps entries.new ≡ E.keeps entries.old }
-{
-    if now > LATEST {
-        return refused(alloc, Refusal::Moment);
+        // The slots of the other entries stay large enough.
+        ensures sizes { (t : ℕ) → size_of (find_ticket t (entries E.Entries self.new))
+            ≤ size_of (find_ticket t (entries E.Entries self.old)) }
+        ensures keeps { Keeps E.Entries self.old self.new }
+    {
+        let Slot { due, buffers } = slot;
+        let Some(entry) = self.entries.find_ticket(self.settings.index(), due.ticket) else {
+            return;
+        };
+        let fate = fate_of(self.settings, self.numbers, now, entry, buffers);
+        self.meet_fate(now, due.ticket, fate, outs);
     }
-    let Room { slots, mut outs } = room;
-    for slot in slots {
-        due_one(alloc, settings, entries, numbers, now, slot, &mut outs);
+
+    /// A tick, in the room that was made for this state and this moment.
+    fn tick(&mut self, now: u64, room: Room<A>) -> Told<A>
+        requires realm { IsRealm E.Entries self.old }
+        requires room { IsRoomFor now (entries E.Entries self.old) room }
+        ensures turn { Tells room.outs.twice result (state E.Entries self.old)
+            (state E.Entries self.new)
+            (on_tick self.old.settings.now now (state E.Entries self.old)) }
+        ensures most { length result.answer.outs.items ≤ length room.slots.items }
+        ensures keeps { Keeps E.Entries self.old self.new }
+    {
+        let Room { slots, mut outs } = room;
+        if now > LATEST {
+            return outs.refused(self.numbers.alloc, Refusal::Moment);
+        }
+        for slot in slots {
+            self.due_one(now, slot, &mut outs);
+        }
+        outs.told()
     }
-    Answer {
-        outs,
-        refusal: None,
+
+    /// A tick, in the room that was made for this state and this moment. Takes no memory.
+    pub fn on_tick(&mut self, now: u64, room: Room<A>) -> Answer<A>
+        requires realm { IsRealm E.Entries self.old }
+        requires room { IsRoomFor now (entries E.Entries self.old) room }
+        ensures turn { Turns E.Entries self.old self.new (Ok result)
+            (λ s. on_tick self.old.settings.now now s) }
+        ensures most { length result.outs.items ≤ length room.slots.items }
+    {
+        self.tick(now, room).answer
+    }
+
+    /// The same, with the answer twice, in a room that was made for two.
+    pub fn on_tick_twice(&mut self, now: u64, room: Room<A>) -> Twin<A>
+        requires realm { IsRealm E.Entries self.old }
+        requires room { IsRoomFor now (entries E.Entries self.old) room }
+        requires twice { room.outs.twice ≡ true }
+        ensures turn { TurnsTwice E.Entries self.old self.new (Ok result)
+            (λ s. on_tick self.old.settings.now now s) }
+        ensures most { length result.answer.outs.items ≤ length room.slots.items }
+    {
+        self.tick(now, room).into_twin()
     }
 }

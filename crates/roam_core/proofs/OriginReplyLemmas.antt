@@ -20,7 +20,8 @@ use Rattle.roam_book.specs.RealmConfig.{RealmConfig, link_secret}
 use Rattle.roam_book.specs.RealmState.{RealmState}
 use Rattle.roam_book.specs.Turn.{packets_of}
 use Rattle.roam_book.specs.OnRequest.{packet_back}
-use Rattle.roam_book.specs.OnReply.{reply_fault, returned_octets, returning, return_reply, judge, to_standing, to_entry, on_reply}
+use Rattle.roam_back.specs.ReplyCheck.{reply_fault}
+use Rattle.roam_book.specs.OnReply.{returned_octets, returning, return_reply, judge, to_standing, to_entry, on_reply}
 use Rattle.roam_book.specs.OneRealm.{RealmEvent, reply_came}
 use Rattle.roam_book.specs.declared.start.Start.{Start}
 use Rattle.roam_core.specs.Provenance.{IsSentBy, IsReturned, WaitsFor, StandsFrom, ComesFrom}

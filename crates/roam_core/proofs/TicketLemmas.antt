@@ -16,7 +16,8 @@ use Rattle.roam_book.specs.RealmConfig.{RealmConfig, later_targets, link_secret,
 use Rattle.roam_book.specs.RealmState.{RealmState, Target, first_target}
 use Rattle.roam_book.specs.Turn.{Turn, state_after, in_time}
 use Rattle.roam_book.specs.OnRequest.{make_way, at_target, new_request, of_key}
-use Rattle.roam_book.specs.OnReply.{reply_fault, returning, judge, to_standing, to_entry}
+use Rattle.roam_back.specs.ReplyCheck.{reply_fault}
+use Rattle.roam_book.specs.OnReply.{returning, judge, to_standing, to_entry}
 use Rattle.roam_book.specs.OnTick.{Progress, fail_over, without_entry, due_standing, due_entry, due_one, due_each, as_turn}
 use Rattle.roam_book.specs.OneRealm.{RealmEvent, request_came, reply_came, tick_came, on_event}
 use Rattle.roam_book.specs.declared.start.Start.{Start}

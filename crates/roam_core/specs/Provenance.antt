@@ -10,7 +10,8 @@ use Rattle.roam_book.specs.RealmConfig.{RealmConfig, link_secret}
 use Rattle.roam_book.specs.RealmState.{Target}
 use Rattle.roam_book.specs.Turn.{packets_of}
 use Rattle.roam_book.specs.OnRequest.{packet_to, packet_back, forwarded_octets}
-use Rattle.roam_book.specs.OnReply.{reply_fault, returned_octets}
+use Rattle.roam_back.specs.ReplyCheck.{reply_fault}
+use Rattle.roam_book.specs.OnReply.{returned_octets}
 use Rattle.roam_book.specs.OneRealm.{RealmEvent, request_came, reply_came, tick_came, on_event}
 use Rattle.roam_book.specs.declared.start.Start.{Start}
 use Rattle.roam_core.specs.Openings.{state_then}

@@ -4,7 +4,7 @@ use Rattle.std.proofs.lemmas.List.{take_at, drop_at, take_all, drop_all, append-
 use Rattle.roam_wire.specs.Packet.{Packet, IsPacket, packet_text, packet_length}
 use Rattle.roam_wire.specs.Reading.{IsPacketText, packet_of}
 use Rattle.roam_wire.specs.declared.code.TheConstants.{ACCESS_REQUEST}
-use Rattle.roam_wire.proofs.PacketLemmas.{packet_of-packet_text, IsPacketText-packet_text, length-packet_text}
+use Rattle.roam_wire.proofs.LawLemmas.{packet_of-packet_text, IsPacketText-packet_text, length-packet_text}
 use Rattle.roam_fwd.specs.Forwarded.{forwarded_length, CanBeForwarded}
 use Rattle.roam_fwd.proofs.ForwardedLemmas.{CanBeRewritten}
 

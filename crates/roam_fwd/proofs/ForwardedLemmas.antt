@@ -11,8 +11,7 @@ use Rattle.roam_wire.specs.Reading.{IsPacketText, packet_of}
 use Rattle.roam_wire.specs.declared.attribute_type.TheConstants.{MESSAGE_AUTHENTICATOR}
 use Rattle.roam_wire.specs.declared.code.TheConstants.{ACCESS_REQUEST}
 use Rattle.roam_wire.proofs.OctetLemmas.{AreOctets-zeros}
-use Rattle.roam_wire.proofs.PacketLemmas.{length-packet_text}
-use Rattle.roam_wire.proofs.BuildingLemmas.{AreTextOf, AreTextOf-packet_text}
+use Rattle.roam_wire.proofs.LawLemmas.{length-packet_text, AreTextOf, AreTextOf-packet_text}
 use Rattle.roam_auth.specs.Authenticators.{zero_octets, with_authenticator, request_authenticator}
 use Rattle.roam_auth.specs.MessageAuthenticator.{HasAtMostOneMessageAuthenticator, message_authenticator, with_message_authenticator}
 use Rattle.roam_auth.proofs.ValueLemmas.{IsPacket-with_value}

@@ -2,27 +2,15 @@
 
 ghost use Rattle.std.specs.Prelude.{◌≡◌, ◌≢◌, ◌≤◌, ◌↔◌, IsTrue};
 ghost use Rattle.roam_wire.specs.declared.code.TheConstants.{ACCESS_REQUEST};
-ghost use Rattle.roam_auth.specs.MessageAuthenticator.{HasOneMessageAuthenticator, HasAtMostOneMessageAuthenticator};
+ghost use Rattle.roam_auth.specs.MessageAuthenticator.{HasAtMostOneMessageAuthenticator};
 ghost use Rattle.roam_fwd.specs.Forwarded.{forwarded_length, CanBeForwarded};
 
 use crate::length::forwarded_len;
-use roam_wire::View;
+use roam_auth::has_one_message_authenticator;
 use roam_wire::attribute_type::MESSAGE_AUTHENTICATOR;
+use roam_wire::{MAX_PACKET_LENGTH, View};
 
-/// The most octets that a packet has (RFC 2865, section 3).
-const LARGEST: usize = 4096;
-
-/// Whether just one Message-Authenticator stands there, of 16 octets (RFC 3579, section 3.2).
-fn has_one_message_authenticator(request: &View<'_>) -> bool
-    ensures { IsTrue result ↔ HasOneMessageAuthenticator request.now }
-{
-    request.count(MESSAGE_AUTHENTICATOR) == 1
-        && request
-            .first(MESSAGE_AUTHENTICATOR)
-            .is_some_and(|value| value.len() == 16)
-}
-
-/// Whether at most one stands there, of 16 octets.
+/// Whether at most one Message-Authenticator stands there, of 16 octets (RFC 3579, section 3.2).
 fn has_at_most_one_message_authenticator(request: &View<'_>) -> bool
     ensures { IsTrue result ↔ HasAtMostOneMessageAuthenticator request.now }
 {
@@ -34,7 +22,7 @@ fn fits_sealed(request: &View<'_>) -> bool
     ensures { IsTrue result ↔ (HasAtMostOneMessageAuthenticator request.now
         × (forwarded_length request.now ≤ 4096)) }
 {
-    has_at_most_one_message_authenticator(request) && forwarded_len(request) <= LARGEST
+    has_at_most_one_message_authenticator(request) && forwarded_len(request) <= MAX_PACKET_LENGTH
 }
 
 /// Whether a request can be forwarded: whether it has at most one Message-Authenticator, of 16 octets,
@@ -45,6 +33,5 @@ pub fn can_be_forwarded(request: &View<'_>) -> bool
     requires { request.now.code ≢ ACCESS_REQUEST }
     ensures { IsTrue result ↔ CanBeForwarded request.now }
 {
-    let fits = fits_sealed(request);
-    fits
+    fits_sealed(request)
 }

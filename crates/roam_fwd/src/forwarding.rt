@@ -8,7 +8,7 @@ ghost use Rattle.roam_auth.specs.Authenticators.{zero_octets};
 ghost use Rattle.roam_fwd.specs.Forwarded.{ticket_state, unsealed, forwarded, forwarded_length, CanBeForwarded};
 
 use crate::length::{TICKET_SIZE, forwarded_len};
-use roam_auth::{seal, sign_request};
+use roam_auth::{ZERO_OCTETS, seal, sign_request};
 use roam_wire::attribute_type::PROXY_STATE;
 use roam_wire::{NoMemory, View};
 use std::alloc::Allocator;
@@ -35,7 +35,7 @@ fn put_header(octets: &mut [u8], id: u8)
     octets[1] = id;
     octets[2] = (size / 256) as u8;
     octets[3] = (size % 256) as u8;
-    octets[4..20].copy_from_slice(&[0; 16]);
+    octets[4..20].copy_from_slice(&ZERO_OCTETS);
 }
 
 /// Rewrites a request's octets to those of the packet that is forwarded for it (RFC 2865, section 2.3),
@@ -73,7 +73,7 @@ pub fn rewrite(
 {
     put_ticket(octets, len, ticket);
     put_header(octets, id);
-    seal(octets, to_secret, [0; 16]);
+    seal(octets, to_secret, ZERO_OCTETS);
     sign_request(octets, to_secret);
 }
 
@@ -149,7 +149,8 @@ pub fn forward_reserved<A: Allocator>(
 }
 
 /// Appends the packet that is forwarded for a request (RFC 2865, section 2.3) to a buffer. All the room
-/// is asked for first; without it the buffer stays as it was. The request's octets are copied once.
+/// is asked for first; without it the buffer stays as it was,
+/// with its capacity. The request's octets are copied once.
 ///
 /// `authenticator` counts for an Access-Request alone, and so does the requester's secret. An
 /// Access-Request isn't forwarded yet.
@@ -178,6 +179,7 @@ pub fn forward<A: Allocator>(
         })
         request.now)) }
     ensures err { OnErr result (out.new.items ≡ out.old.items) }
+    ensures capacity { OnErr result (vec_capacity out.new ≡ vec_capacity out.old) }
 
     // It fails only where the room was missing.
     ensures succeeds { vec_len out.old + forwarded_length request.now ≤ vec_capacity out.old

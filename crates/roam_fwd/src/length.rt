@@ -15,6 +15,10 @@ pub(crate) const TICKET_SIZE: usize = 10;
 /// Value.
 const ADDED_SIZE: usize = 18;
 
+/// The most octets that a forwarded packet has more than its request: the ticket, a
+/// Message-Authenticator and a CHAP-Challenge.
+pub const MAX_GROWTH: usize = 46;
+
 /// Whether a CHAP-Password stands without a CHAP-Challenge (RFC 2865, section 5.3).
 fn challenge_is_authenticator(request: &View<'_>) -> bool
     ensures { result ≡ challenge_is_authenticator request.now.attributes }
@@ -40,13 +44,14 @@ fn access_growth(request: &View<'_>) -> usize
     seal + challenge
 }
 
-/// The size of the packet that is forwarded for a request, in octets: 10 to 46 more than the request has.
+/// The size of the packet that is forwarded for a request, in octets: 10 to `MAX_GROWTH` more than the
+/// request has.
 /// A packet of more than 4096 isn't forwarded. Takes no memory; at most three passes over the attributes.
 #[tactic(auto, unfolding(crate::specs::Forwarded::forwarded_length))]
 pub fn forwarded_len(request: &View<'_>) -> usize
     ensures size { result ≡ forwarded_length request.now }
     ensures at_least { packet_length request.now + 10 ≤ result }
-    ensures at_most { result ≤ packet_length request.now + 46 }
+    ensures at_most { result ≤ packet_length request.now + MAX_GROWTH }
 {
     let size = request.octets().len() + TICKET_SIZE;
     if request.code() == ACCESS_REQUEST {

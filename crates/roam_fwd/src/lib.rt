@@ -13,4 +13,4 @@ mod length;
 pub use forwardable::can_be_forwarded;
 pub use forwarding::{forward, forward_reserved, rewrite};
 pub use laws::{forwarded_authenticator, forwarded_marks, forwarded_packet};
-pub use length::forwarded_len;
+pub use length::{MAX_GROWTH, forwarded_len};

@@ -1,5 +1,6 @@
 //! Lanes of Identifiers, by example. Which Identifier is next is worked out by hand from the rule:
 //! the first at or after the cursor, cyclic in 0..255, that isn't in use.
+
 use roam_ids::Lane;
 
 /// Takes the next free Identifier and parks it with this ticket.
@@ -27,132 +28,88 @@ fn full_lane() -> Lane {
     lane
 }
 
-/// Frees the Identifier before the cursor that is wanted, and takes it again.
-fn move_cursor(lane: &mut Lane, cursor: u8) -> Option<u8> {
-    let before = cursor.wrapping_sub(1);
-    let _ticket = settle(lane, before);
-    admit(lane, 2000)
+/// How many of the Identifiers of a new lane come in order, from 0 on.
+fn in_order() -> u16 {
+    let mut lane = Lane::new(65_537);
+    for id in 0..256u16 {
+        if lane.is_full() || admit(&mut lane, 5000).map(u16::from) != Some(id) {
+            return id;
+        }
+    }
+    256
+}
+
+/// What a full lane gives: nothing; then 3, which a reply frees with its ticket; then nothing.
+fn of_a_full_lane() -> [Option<u64>; 4] {
+    let mut lane = full_lane();
+    [
+        admit(&mut lane, 9000).map(u64::from),
+        settle(&mut lane, 3),
+        admit(&mut lane, 256).map(u64::from),
+        admit(&mut lane, 9001).map(u64::from),
+    ]
 }
 
 #[test]
 fn identifiers_come_in_order_until_all_are_in_use(rt: HostRuntime) {
-    let mut lane = Lane::new(65_537);
-    for id in 0..256u16 {
-        assert!(rt; !lane.is_full(), "before {id}");
-        assert!(rt;
-            admit(&mut lane, 5000 + u64::from(id)).map(u16::from) == Some(id),
-            "at {id}"
-        );
-    }
-    assert!(rt; lane.is_full());
-    assert!(rt; admit(&mut lane, 9000).is_none());
-    // A reply frees 3, and it is the only one left.
-    assert!(rt; settle(&mut lane, 3) == Some(5003));
-    assert!(rt; !lane.is_full());
-    assert!(rt; admit(&mut lane, 256) == Some(3));
-    assert!(rt; lane.is_full());
+    assert!(rt; in_order() == 256);
+    assert!(rt; of_a_full_lane() == [None, Some(1003), Some(3), None]);
 }
 
-#[test]
-fn the_one_free_identifier_is_found_from_any_cursor(rt: HostRuntime) {
-    for cursor in [0u8, 64, 255] {
-        for free in [0u8, 63, 64, 191, 255] {
-            let mut lane = full_lane();
-            assert!(rt; move_cursor(&mut lane, cursor) == Some(cursor.wrapping_sub(1)));
-            assert!(rt;
-                settle(&mut lane, free).is_some(),
-                "free {free} from {cursor}"
-            );
-            assert!(rt;
-                admit(&mut lane, 1) == Some(free),
-                "take {free} from {cursor}"
-            );
-            assert!(rt; admit(&mut lane, 2).is_none(), "none from {cursor}");
-        }
-    }
+/// The Identifier that is taken from a full lane of which two were freed, with the cursor here.
+fn first_of(cursor: u8, one: u8, other: u8) -> Option<u8> {
+    let mut lane = full_lane();
+    let _ticket = settle(&mut lane, cursor.wrapping_sub(1));
+    let _before = admit(&mut lane, 2000);
+    let _one = settle(&mut lane, one);
+    let _other = settle(&mut lane, other);
+    admit(&mut lane, 1)
 }
 
+/// Cursor, two that are free, and the one of them that the cursor meets first.
+const FREE: [(u8, u8, u8, u8); 10] = [
+    (0, 0, 0, 0),
+    (0, 255, 63, 63),
+    (64, 63, 63, 63),
+    (64, 63, 255, 255),
+    (64, 0, 64, 64),
+    (64, 191, 65, 65),
+    (255, 191, 191, 191),
+    (255, 0, 255, 255),
+    (255, 254, 0, 0),
+    (255, 191, 64, 64),
+];
+
 #[test]
-fn the_first_at_or_after_the_cursor_goes_before_lower_ones(rt: HostRuntime) {
-    // Cursor, two that are free, and the one of them that the cursor meets first.
-    let rows = [
-        (0u8, 255u8, 63u8, 63u8),
-        (64, 63, 255, 255),
-        (64, 0, 64, 64),
-        (64, 191, 65, 65),
-        (255, 0, 255, 255),
-        (255, 254, 0, 0),
-        (255, 191, 64, 64),
-    ];
-    for (cursor, one, other, first) in rows {
-        let mut lane = full_lane();
-        assert!(rt; move_cursor(&mut lane, cursor) == Some(cursor.wrapping_sub(1)));
-        assert!(rt; settle(&mut lane, one).is_some());
-        assert!(rt; settle(&mut lane, other).is_some());
+fn the_first_at_or_after_the_cursor_is_taken(rt: HostRuntime) {
+    for (cursor, one, other, first) in FREE {
         assert!(rt;
-            admit(&mut lane, 1) == Some(first),
-            "{one} or {other} from {cursor}"
+            first_of(cursor, one, other) == Some(first),
+            "from {cursor}: {one}, {other}"
         );
     }
 }
 
-#[test]
-fn a_freed_identifier_waits_until_the_cursor_comes_round(rt: HostRuntime) {
-    let mut lane = Lane::new(0);
-    for id in 0..10u8 {
-        assert!(rt; admit(&mut lane, u64::from(id)) == Some(id));
-    }
-    assert!(rt; settle(&mut lane, 4) == Some(4));
-    for id in 10..=255u8 {
-        assert!(rt; admit(&mut lane, u64::from(id)) == Some(id));
-    }
-    assert!(rt; admit(&mut lane, 256) == Some(4));
-    assert!(rt; lane.holder(4) == Some(256));
-    assert!(rt; admit(&mut lane, 257).is_none());
+/// The words of a full lane of which one Identifier was freed.
+fn words_without(id: u8) -> [u64; 4] {
+    let mut lane = full_lane();
+    let _ticket = settle(&mut lane, id);
+    *lane.words()
 }
 
-#[test]
-fn an_identifier_is_out_then_parked_then_claimed(rt: HostRuntime) {
-    let mut lane = Lane::new(65_537);
-    assert!(rt; lane.holder(0).is_none() && settle(&mut lane, 0).is_none());
-    match lane.take() {
-        Some(slot) => {
-            assert!(rt; slot.tag() == 65_537 && slot.id() == 0);
-            // Out: in use, and no ticket there.
-            assert!(rt; lane.holder(0).is_none() && *lane.words() == [1, 0, 0, 0]);
-            lane.park(slot, 77);
-        }
-        None => assert!(rt; false, "nothing was in use"),
-    }
-    assert!(rt; lane.holder(0) == Some(77));
-    match lane.claim(0) {
-        Some((slot, ticket)) => {
-            assert!(rt; slot.tag() == 65_537 && slot.id() == 0 && ticket == 77);
-            assert!(rt; lane.holder(0).is_none() && *lane.words() == [1, 0, 0, 0]);
-            lane.free(slot);
-        }
-        None => assert!(rt; false, "77 was parked"),
-    }
-    assert!(rt; lane.holder(0).is_none() && *lane.words() == [0, 0, 0, 0]);
-}
+/// An Identifier, and the words where only it is free: bit `id mod 64` of word `id / 64` is clear.
+const WORDS: [(u8, [u64; 4]); 6] = [
+    (0, [0xffff_ffff_ffff_fffe, u64::MAX, u64::MAX, u64::MAX]),
+    (63, [0x7fff_ffff_ffff_ffff, u64::MAX, u64::MAX, u64::MAX]),
+    (64, [u64::MAX, 0xffff_ffff_ffff_fffe, u64::MAX, u64::MAX]),
+    (191, [u64::MAX, u64::MAX, 0x7fff_ffff_ffff_ffff, u64::MAX]),
+    (200, [u64::MAX, u64::MAX, u64::MAX, 0xffff_ffff_ffff_feff]),
+    (255, [u64::MAX, u64::MAX, u64::MAX, 0x7fff_ffff_ffff_ffff]),
+];
 
 #[test]
 fn words_have_a_bit_for_each_identifier_in_use(rt: HostRuntime) {
-    assert!(rt; *Lane::new(1).words() == [0, 0, 0, 0]);
-    let full = u64::MAX;
-    // The words where only this Identifier is free: bit `id mod 64` of word `id / 64` is clear.
-    let rows = [
-        (0u8, [0xffff_ffff_ffff_fffe, full, full, full]),
-        (63, [0x7fff_ffff_ffff_ffff, full, full, full]),
-        (64, [full, 0xffff_ffff_ffff_fffe, full, full]),
-        (191, [full, full, 0x7fff_ffff_ffff_ffff, full]),
-        (200, [full, full, full, 0xffff_ffff_ffff_feff]),
-        (255, [full, full, full, 0x7fff_ffff_ffff_ffff]),
-    ];
-    for (id, words) in rows {
-        let mut lane = full_lane();
-        assert!(rt; *lane.words() == [full, full, full, full]);
-        assert!(rt; settle(&mut lane, id).is_some());
-        assert!(rt; *lane.words() == words, "without {id}");
+    for (id, words) in WORDS {
+        assert!(rt; words_without(id) == words, "without {id}");
     }
 }

@@ -1,9 +1,8 @@
 //! Packets as octets: the RFC's own, hostile ones, and packets that are built.
 
 use roam_testing::Refusing;
-use roam_wire::{NoMemory, Octets, PacketBuf, Refusal, View, attribute_type, code};
-use std::alloc::Global;
-use std::process::Abort;
+use roam_wire::{Octets, PacketBuf, Refusal, View, attribute_type, code};
+use std::alloc::Allocator;
 use std::test::Fail;
 
 // The Access-Request of RFC 2865, section 7.1: User-Name "nemo", User-Password "arctangent" hidden
@@ -21,58 +20,69 @@ fn prefix(octets: &[u8], size: usize) -> &[u8] {
     octets.get(..size).unwrap_or(octets)
 }
 
-// The parts are those that RFC 2865, section 7.1, lists for its packet.
-#[test]
-fn the_access_request_of_the_standard_is_read(rt: HostRuntime) -> Result<(), Fail> {
-    let view = View::read(ACCESS_REQUEST)?;
-    assert_eq!(rt; view.code(), code::ACCESS_REQUEST);
-    assert_eq!(rt; view.id(), 0);
-    assert_eq!(rt;
-        prefix(ACCESS_REQUEST, 20).ends_with(&view.authenticator()),
-        true
-    );
-    assert_eq!(rt; view.octets(), ACCESS_REQUEST.as_slice());
-    Ok(())
+/// Code, Identifier, first and last octet of the Authenticator, the size, how many attributes there
+/// are, and how many of two Types: of a User-Password and of a Proxy-State.
+fn parts(datagram: &[u8]) -> [usize; 8] {
+    let Ok(view) = View::read(datagram) else {
+        return [0; 8];
+    };
+    let authenticator = view.authenticator();
+    [
+        usize::from(view.code()),
+        usize::from(view.id()),
+        usize::from(authenticator[0]),
+        usize::from(authenticator[15]),
+        view.octets().len(),
+        view.attributes().count(),
+        view.count(attribute_type::USER_PASSWORD),
+        view.count(attribute_type::PROXY_STATE),
+    ]
 }
 
-#[test]
-fn the_attributes_of_the_standards_access_request_are_read(rt: HostRuntime) -> Result<(), Fail> {
-    let view = View::read(ACCESS_REQUEST)?;
-    let mut kinds = Vec::new(rt.alloc());
-    let mut sizes = Vec::new(rt.alloc());
+/// Types and sizes of a packet's first four attributes.
+fn kinds_and_sizes(datagram: &[u8]) -> [(u8, usize); 4] {
+    let mut found = [(0, 0); 4];
+    let Ok(view) = View::read(datagram) else {
+        return found;
+    };
+    let mut i = 0;
     for attribute in view.attributes() {
-        kinds.push(attribute.kind)?;
-        sizes.push(attribute.value.len())?;
-    }
-    assert_eq!(rt; kinds.as_slice(), [1, 2, 4, 5].as_slice());
-    assert_eq!(rt; sizes.as_slice(), [4, 16, 4, 4].as_slice());
-    Ok(())
-}
-
-#[test]
-fn attributes_are_found_by_their_type(rt: HostRuntime) -> Result<(), Fail> {
-    let view = View::read(ACCESS_REQUEST)?;
-    let name = view.first(attribute_type::USER_NAME).ok_or("a name")?;
-    assert_eq!(rt; name, b"nemo".as_slice());
-    assert!(rt; view.first(attribute_type::PROXY_STATE).is_none());
-    assert_eq!(rt; view.count(attribute_type::USER_PASSWORD), 1);
-    assert_eq!(rt; view.count(attribute_type::PROXY_STATE), 0);
-    Ok(())
-}
-
-#[test]
-fn both_packets_of_the_standard_are_built(rt: HostRuntime) -> Result<(), Fail> {
-    let alloc = rt.alloc();
-    for octets in [ACCESS_REQUEST.as_slice(), ACCESS_ACCEPT.as_slice()] {
-        let view = View::read(octets)?;
-        let mut packet = PacketBuf::start(alloc, view.code(), view.id(), &view.authenticator())?;
-        for attribute in view.attributes() {
-            assert!(rt; attribute.value.len() <= 253);
-            packet.push_attr(attribute.kind, attribute.value)?;
+        if i < 4 {
+            found[i] = (attribute.kind, attribute.value.len());
+            i += 1;
         }
-        assert_eq!(rt; packet.finish().as_slice(), octets);
     }
-    Ok(())
+    found
+}
+
+// The parts are those that RFC 2865, section 7.1, lists for its packets.
+#[test]
+fn the_packets_of_the_standard_are_read(rt: HostRuntime) {
+    assert!(rt; parts(ACCESS_REQUEST) == [1, 0, 0x0f, 0x7a, 56, 4, 1, 0]);
+    assert!(rt; parts(ACCESS_ACCEPT) == [2, 0, 0x86, 0xb2, 38, 3, 0, 0]);
+    assert!(rt; kinds_and_sizes(ACCESS_REQUEST) == [(1, 4), (2, 16), (4, 4), (5, 4)]);
+}
+
+/// Whether the first attribute of a Type has this Value.
+fn has_first(datagram: &[u8], kind: u8, value: &[u8]) -> bool {
+    match View::read(datagram) {
+        Ok(view) => view.first(kind) == Some(value),
+        Err(_) => false,
+    }
+}
+
+// Octets behind Length are padding (RFC 2865, section 3); a Value may have no octets.
+#[test]
+fn padding_is_ignored_and_values_are_found(rt: HostRuntime) {
+    let mut padded = [0xff; 50];
+    padded[..38].copy_from_slice(ACCESS_ACCEPT);
+    assert!(rt; parts(&padded) == parts(ACCESS_ACCEPT));
+    let found = [
+        has_first(ACCESS_REQUEST, attribute_type::USER_NAME, b"nemo"),
+        has_first(b"\x01\x07\x00\x16________________\x01\x02", 1, b""),
+        has_first(ACCESS_REQUEST, attribute_type::PROXY_STATE, b""),
+    ];
+    assert!(rt; found == [true, true, false]);
 }
 
 /// What a datagram is refused as: 0 where it is read.
@@ -83,27 +93,14 @@ fn refusal_number(datagram: &[u8]) -> u8 {
     }
 }
 
-// Short below 20 octets, then BadLength since Length is 56.
-#[test]
-fn each_prefix_of_a_good_packet_is_refused(rt: HostRuntime) {
-    for size in 0..56usize {
-        let expected = if size < 20 { 1 } else { 2 };
-        assert_eq!(rt;
-            refusal_number(prefix(ACCESS_REQUEST, size)),
-            expected,
-            "{size} octets"
-        );
-    }
-    assert_eq!(rt; refusal_number(ACCESS_REQUEST), 0);
-}
-
-/// A header with this Length, and zeros behind it up to so many octets.
-fn header(alloc: Global, length: u16, size: usize) -> Result<Vec<u8>, Fail> {
-    let mut octets = vec![in alloc; 1, 7]?;
-    octets.extend_from_slice(&length.to_be_bytes())?;
-    octets.resize(size.max(20), 0)?;
-    octets.truncate(size);
-    Ok(octets)
+/// What a header with this Length, and zeros behind it up to so many octets, is refused as.
+fn refusal_of_length(length: u16, size: usize) -> u8 {
+    let mut datagram = [0; 4097];
+    datagram[0] = 1;
+    datagram[1] = 7;
+    datagram[2] = (length / 256) as u8;
+    datagram[3] = (length % 256) as u8;
+    refusal_number(prefix(&datagram, size))
 }
 
 /// Length, the datagram's octets, and the refusal (RFC 2865, section 3). Zeros behind the header
@@ -120,155 +117,93 @@ const LENGTHS: [(u16, usize, u8); 12] = [
     (4096, 4095, 2),
     (4096, 4096, 3),
     (4097, 4097, 2),
-    (65535, 65535, 2),
+    (65535, 4097, 2),
 ];
 
-/// Each header with zeros behind it is read, or refused for this.
-fn check_lengths(rt: &impl Abort, alloc: Global, rows: &[(u16, usize, u8)]) -> Result<(), Fail> {
-    for &(length, size, expected) in rows {
-        let datagram = header(alloc, length, size)?;
-        let number = refusal_number(&datagram);
-        assert!(rt; number == expected, "Length {length} of {size} octets");
+// A prefix is Short below 20 octets, then BadLength since Length is 56.
+#[test]
+fn lengths_at_the_bounds(rt: HostRuntime) {
+    for (length, size, expected) in LENGTHS {
+        assert!(rt;
+            refusal_of_length(length, size) == expected,
+            "{length} of {size}"
+        );
+    }
+    for size in 0..56usize {
+        let expected = if size < 20 { 1 } else { 2 };
+        assert!(rt;
+            refusal_number(prefix(ACCESS_REQUEST, size)) == expected,
+            "{size} octets"
+        );
+    }
+}
+
+/// Datagrams, and what each is refused as (RFC 2865, section 5): an attribute of three octets whose own
+/// Length is wrong but once, a lone Type, and an attribute without Value.
+const ATTRIBUTES: [(&[u8], u8); 8] = [
+    (b"\x01\x07\x00\x17________________\x01\x00\x07", 3),
+    (b"\x01\x07\x00\x17________________\x01\x01\x07", 3),
+    (b"\x01\x07\x00\x17________________\x01\x02\x07", 3),
+    (b"\x01\x07\x00\x17________________\x01\x03\x07", 0),
+    (b"\x01\x07\x00\x17________________\x01\x04\x07", 3),
+    (b"\x01\x07\x00\x17________________\x01\xff\x07", 3),
+    (b"\x01\x07\x00\x15________________\x01", 3),
+    (b"\x01\x07\x00\x16________________\x01\x02", 0),
+];
+
+#[test]
+fn attribute_lengths_at_the_bounds(rt: HostRuntime) {
+    for (datagram, expected) in ATTRIBUTES {
+        assert!(rt; refusal_number(datagram) == expected, "{datagram:?}");
+    }
+}
+
+/// Builds the packet of these octets anew.
+fn built<A: Allocator>(alloc: A, octets: &[u8]) -> Result<Vec<u8, A>, Refusal> {
+    let view = View::read(octets)?;
+    let mut packet = PacketBuf::start(alloc, view.code(), view.id(), &view.authenticator())?;
+    for attribute in view.attributes() {
+        if attribute.value.len() <= 253 {
+            packet.push_attr(attribute.kind, attribute.value)?;
+        }
+    }
+    Ok(packet.finish())
+}
+
+// Each growth refused in turn: want of memory, and then the packet.
+#[test]
+fn each_growth_of_a_packet_that_is_built(rt: HostRuntime) -> Result<(), Fail> {
+    let refusing = Refusing::new(rt.alloc());
+    for octets in [ACCESS_REQUEST.as_slice(), ACCESS_ACCEPT.as_slice()] {
+        for n in refusing.each_growth() {
+            refusing.refuse_nth(n);
+            let result = built(&refusing, octets);
+            assert!(rt; result.is_err() == refusing.was_refused(), "at growth {n}");
+            let packet = match result {
+                Ok(packet) => packet,
+                Err(_) => built(&refusing, octets)?,
+            };
+            assert!(rt; packet.as_slice() == octets, "at growth {n}");
+        }
     }
     Ok(())
 }
 
-#[test]
-fn lengths_at_the_bounds(rt: HostRuntime) -> Result<(), Fail> {
-    check_lengths(&rt, rt.alloc(), &LENGTHS)
-}
-
-/// Length, what stands behind the header, and the refusal (RFC 2865, section 5): attributes of
-/// three octets whose own Length is wrong but once, a lone Type, and an attribute without Value.
-const ATTRIBUTES: [(u16, &[u8], u8); 8] = [
-    (23, &[1, 0, 7], 3),
-    (23, &[1, 1, 7], 3),
-    (23, &[1, 2, 7], 3),
-    (23, &[1, 3, 7], 0),
-    (23, &[1, 4, 7], 3),
-    (23, &[1, 255, 7], 3),
-    (21, &[1], 3),
-    (22, &[1, 2], 0),
-];
-
-/// Each attribute behind a header is read, or refused for this.
-fn check_attributes(rt: &impl Abort, alloc: Global, rows: &[(u16, &[u8], u8)]) -> Result<(), Fail> {
-    for &(length, attribute, expected) in rows {
-        let mut datagram = header(alloc, length, 20)?;
-        datagram.extend_from_slice(attribute)?;
-        let number = refusal_number(&datagram);
-        assert!(rt; number == expected, "{attribute:?}");
-    }
-    Ok(())
-}
-
-#[test]
-fn attribute_lengths_at_the_bounds(rt: HostRuntime) -> Result<(), Fail> {
-    check_attributes(&rt, rt.alloc(), &ATTRIBUTES)
-}
-
-#[test]
-fn a_value_of_no_octets_is_found(rt: HostRuntime) -> Result<(), Fail> {
-    let mut datagram = header(rt.alloc(), 22, 20)?;
-    datagram.extend_from_slice(&[1, 2])?;
-    let value = View::read(&datagram)?.first(1).ok_or("a value")?;
-    assert_eq!(rt; value.len(), 0);
-    Ok(())
-}
-
-// Octets behind Length are padding (RFC 2865, section 3).
-#[test]
-fn padding_is_ignored(rt: HostRuntime) -> Result<(), Fail> {
-    let mut datagram = ACCESS_ACCEPT.to_vec(rt.alloc())?;
-    datagram.resize(50, 0xff)?;
-    let view = View::read(&datagram)?;
-    assert_eq!(rt; view.octets(), ACCESS_ACCEPT.as_slice());
-    assert_eq!(rt; view.attributes().count(), 3);
-    Ok(())
-}
-
-// 16 attributes of 255 octets take 4080 - 4; the last one may have 16 - 4 octets.
-#[test]
-fn a_packet_is_full_at_4096_octets(rt: HostRuntime) -> Result<(), Fail> {
-    let mut packet = PacketBuf::start(rt.alloc(), code::ACCESS_REQUEST, 7, &[9; 16])?;
+/// A packet of fifteen attributes of 255 octets and one of 2 more than `last`.
+fn large<A: Allocator>(alloc: A, last: usize) -> Result<usize, Refusal> {
+    let mut packet = PacketBuf::start(alloc, code::ACCESS_REQUEST, 7, &[9; 16])?;
     for _ in 0..15 {
         packet.push_attr(attribute_type::PROXY_STATE, &[5; 253])?;
     }
-    let refused = packet.push_attr(25, &[6; 250]);
-    assert!(rt; matches!(refused, Err(Refusal::TooLong)));
-    packet.push_attr(25, &[6; 249])?;
-    let refused = packet.push_attr(25, &[]);
-    assert!(rt; matches!(refused, Err(Refusal::TooLong)));
-    let octets = packet.finish();
-    assert_eq!(rt; octets.len(), 4096);
-    assert_eq!(rt; View::read(&octets)?.count(attribute_type::PROXY_STATE), 15);
-    Ok(())
+    packet.push_attr(25, prefix(&[6; 253], last))?;
+    Ok(packet.finish().len())
 }
 
+// 15 attributes of 255 octets and the header take 3845; the last one may have 251.
 #[test]
-fn each_growth_of_a_start(rt: HostRuntime) -> Result<(), Fail> {
-    let refusing = Refusing::new(rt.alloc());
-    let mut runs = 0;
-    for n in refusing.each_growth() {
-        refusing.refuse_nth(n);
-        let result = PacketBuf::start(&refusing, 2, 0, &View::read(ACCESS_ACCEPT)?.authenticator());
-        assert_eq!(rt; result.is_err(), refusing.was_refused(), "at growth {n}");
-        let packet = match result {
-            Ok(packet) => packet,
-            Err(NoMemory) => PacketBuf::start(&refusing, 2, 0, &[0; 16])?,
-        };
-        assert_eq!(rt; packet.finish().len(), 20, "at growth {n}");
-        runs = n;
-    }
-    assert_eq!(rt; runs, 2);
-    Ok(())
-}
-
-/// Appends an attribute; once more where a growth was refused.
-fn push_again(
-    rt: &impl Abort,
-    packet: &mut PacketBuf<&Refusing<Global>>,
-    refusing: &Refusing<Global>,
-    kind: u8,
-    value: &[u8; 4],
-) -> Result<(), Refusal> {
-    let result = packet.push_attr(kind, value);
-    if result.is_ok() {
-        return Ok(());
-    }
-    assert!(rt; matches!(result, Err(Refusal::NoMemory)), "type {kind}");
-    assert!(rt; refusing.was_refused(), "type {kind}");
-    packet.push_attr(kind, value)
-}
-
-/// The attributes of the Access-Accept.
-const OF_THE_ACCEPT: [(u8, [u8; 4]); 3] = [
-    (6, [0, 0, 0, 1]),
-    (15, [0, 0, 0, 0]),
-    (14, [192, 168, 1, 3]),
-];
-
-#[test]
-fn each_growth_of_a_push(rt: HostRuntime) -> Result<(), Fail> {
-    let refusing = Refusing::new(rt.alloc());
-    let mut runs = 0;
-    let authenticator = View::read(ACCESS_ACCEPT)?.authenticator();
-    for n in refusing.each_growth() {
-        let mut packet = PacketBuf::start(&refusing, 2, 0, &authenticator)?;
-        refusing.refuse_nth(n);
-        for (kind, value) in OF_THE_ACCEPT {
-            push_again(&rt, &mut packet, &refusing, kind, &value)?;
-        }
-        let octets = packet.finish();
-        assert_eq!(rt;
-            octets.as_slice(),
-            ACCESS_ACCEPT.as_slice(),
-            "at growth {n}"
-        );
-        runs = n;
-    }
-    assert!(rt; 2 <= runs, "{runs} runs");
-    Ok(())
+fn a_packet_is_full_at_4096_octets(rt: HostRuntime) {
+    let sizes = [large(rt.alloc(), 249), large(rt.alloc(), 250)];
+    assert!(rt; sizes == [Ok(4096), Err(Refusal::TooLong)]);
 }
 
 #[test]
@@ -277,11 +212,7 @@ fn octets_are_copied_and_given_back(rt: HostRuntime) -> Result<(), Fail> {
     refusing.refuse_nth(1);
     assert!(rt; Octets::copy_of(&refusing, b"nemo").is_err());
     let octets = Octets::copy_of(&refusing, b"nemo")?;
-    assert_eq!(rt; (octets.len(), octets.as_slice()), (4, b"nemo".as_slice()));
-    assert_eq!(rt; octets.into_vec().as_slice(), b"nemo".as_slice());
-    assert_eq!(rt;
-        Octets::from_vec(Vec::from_slice(rt.alloc(), b"x")?).len(),
-        1
-    );
+    assert!(rt; octets.len() == 4);
+    assert!(rt; octets.into_vec().as_slice() == b"nemo".as_slice());
     Ok(())
 }

@@ -1,5 +1,5 @@
 //! Packets that leave, against octets from outside: what is forwarded for a request, which replies
-//! are taken, and what is returned for them.
+//! are taken, and what is returned for them. Accounting from end to end is played by rows.
 #![tactic(auto)]
 
 #[cfg(test)]
@@ -8,5 +8,7 @@ mod back_tests;
 mod exchanges;
 #[cfg(test)]
 mod fwd_tests;
+#[cfg(test)]
+mod octets;
 #[cfg(test)]
 mod reply_tests;

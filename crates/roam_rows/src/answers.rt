@@ -7,8 +7,8 @@ use std::alloc::Allocator;
 use std::io;
 use std::io::Write;
 
-/// The answer that stands for want of memory.
-pub(crate) const WANTING: &str = "refused 21\n";
+/// What stands for want of memory.
+pub(crate) const WANTING: &str = "no memory\n";
 
 /// Prints packets, a line for each.
 pub(crate) fn print_packets<A: Allocator>(

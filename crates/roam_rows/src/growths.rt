@@ -141,12 +141,4 @@ impl<'p, 'r> Player<'p, 'r> {
             self.plays_each_of(row, config, step.place);
         }
     }
-
-    /// One growth of each event, over brokers of its own: a first one here, a later one there.
-    pub(crate) fn plays_one_of_each(&mut self, row: &Row<Over<'r>>, config: &Config) {
-        for step in row.steps.iter() {
-            let n = 1 + (step.line % 8) as u64;
-            self.repeats_and_loses(row, config, step.place, n);
-        }
-    }
 }

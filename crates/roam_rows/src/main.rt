@@ -15,7 +15,6 @@ mod playing;
 mod row;
 mod tally;
 
-use crate::files::Effort;
 use crate::player::Player;
 use roam_testing::Refusing;
 use std::process::ExitCode;
@@ -32,12 +31,12 @@ fn names(rt: &HostRuntime, folder: &str) -> io::Result<Vec<String>> {
 }
 
 /// Plays the rows of all files of a folder.
-fn plays_folder(player: &mut Player<'_, '_>, folder: &str, effort: Effort) -> io::Result<()> {
+fn plays_folder(player: &mut Player<'_, '_>, folder: &str) -> io::Result<()> {
     let rt = player.rt;
     for name in names(rt, folder)?.iter() {
         player.file = format!(in rt.alloc(); "{folder}/{name}")?;
         let text = fs::read_to_string(rt, player.file.as_str())?;
-        player.plays_text(text.as_str(), effort)?;
+        player.plays_text(text.as_str());
     }
     Ok(())
 }
@@ -46,8 +45,8 @@ fn plays_folder(player: &mut Player<'_, '_>, folder: &str, effort: Effort) -> io
 fn plays_all(rt: &HostRuntime) -> io::Result<bool> {
     let refusing = Refusing::new(rt.alloc());
     let mut player = Player::new(rt, &refusing);
-    plays_folder(&mut player, "rows", Effort::EachGrowth)?;
-    plays_folder(&mut player, "random", Effort::OneOfEach)?;
+    plays_folder(&mut player, "rows")?;
+    plays_folder(&mut player, "random")?;
     player.file = String::from_str(rt.alloc(), "faulty-lines")?;
     let faulty = fs::read_to_string(rt, "faulty-lines")?;
     player.finds_faults(faulty.as_str())?;

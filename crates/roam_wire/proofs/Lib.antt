@@ -4,3 +4,4 @@ pub mod AttributeLemmas
 pub mod PacketLemmas
 pub mod BuildingLemmas
 pub mod ReadingLemmas
+pub mod LawLemmas

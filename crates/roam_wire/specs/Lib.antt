@@ -5,3 +5,4 @@ pub mod Shown
 pub mod Refusal
 pub mod Codes
 pub mod Building
+pub mod Laws

@@ -86,5 +86,6 @@ unfoldable pub reading : List ℕ → Result Packet Refusal
 reading datagram =
     if nat_lt (length datagram) 20 then Err refusal.Short
     else if has_length datagram
-    then option_map_or (λ all. Ok (packet_of (front_of datagram))) (attributes_of (drop 20 (front_of datagram))) (Err refusal.BadAttribute)
+    then option_map_or (λ all. Ok (packet_of (front_of datagram)))
+    (attributes_of (drop 20 (front_of datagram))) (Err refusal.BadAttribute)
     else Err refusal.BadLength

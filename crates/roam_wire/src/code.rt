@@ -1,5 +1,8 @@
 //! The codes of packets (RFC 2865 section 3, RFC 2866 section 3, RFC 5176 section 2.3).
 
+ghost use Rattle.std.specs.Prelude.{◌≡◌};
+ghost use Rattle.roam_wire.specs.Codes.{is_access_reply};
+
 pub const ACCESS_REQUEST: u8 = 1;
 
 pub const ACCESS_ACCEPT: u8 = 2;
@@ -23,3 +26,10 @@ pub const COA_REQUEST: u8 = 43;
 pub const COA_ACK: u8 = 44;
 
 pub const COA_NAK: u8 = 45;
+
+/// Whether a code is Access-Accept, Access-Reject or Access-Challenge (RFC 2865, section 4).
+pub fn is_access_reply(code: u8) -> bool
+    ensures { result ≡ is_access_reply code }
+{
+    code == ACCESS_ACCEPT || code == ACCESS_REJECT || code == ACCESS_CHALLENGE
+}

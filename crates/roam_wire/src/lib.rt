@@ -8,14 +8,18 @@
 pub mod attribute_type;
 mod attributes;
 pub mod code;
+mod laws;
 mod octets;
 mod packet_buf;
+mod packet_size;
 mod refusal;
 mod view;
 mod walk;
 
 pub use attributes::{Attr, Attrs};
+pub use laws::{packet_octets, readings};
 pub use octets::Octets;
 pub use packet_buf::PacketBuf;
+pub use packet_size::MAX_PACKET_LENGTH;
 pub use refusal::{NoMemory, Refusal};
 pub use view::View;

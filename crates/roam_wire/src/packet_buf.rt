@@ -4,6 +4,7 @@ ghost use Rattle.std.specs.Prelude.{◌≡◌, ◌⊎◌, ◌↔◌, ◌+◌, �
 ghost use Rattle.roam_wire.specs.Packet.{IsPacket, packet_length, packet_text, attribute_text};
 ghost use Rattle.roam_wire.specs.Building.{header_of, with_attribute};
 
+use crate::packet_size::MAX_PACKET_LENGTH;
 use crate::refusal::{NoMemory, Refusal};
 use std::alloc::Allocator;
 use std::marker::Model;
@@ -99,7 +100,7 @@ impl<A: Allocator> PacketBuf<A> {
         ensures causes { IfErr result (λ e. (e ≡ Refusal.TooLong) ⊎ (e ≡ Refusal.NoMemory)) }
     {
         let size = self.octets.len() + 2 + value.len();
-        if size > 4096 {
+        if size > MAX_PACKET_LENGTH {
             return Err(Refusal::TooLong);
         }
         append_attribute(&mut self.octets, kind, value)?;

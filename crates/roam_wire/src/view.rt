@@ -6,6 +6,7 @@ ghost use Rattle.roam_wire.specs.Reading.{length_field, HasLength, IsPacketText,
 ghost use Rattle.roam_wire.specs.Attributes.{first_value, count_of};
 
 use crate::attributes::Attrs;
+use crate::packet_size::MAX_PACKET_LENGTH;
 use crate::refusal::Refusal;
 use crate::walk::are_attributes;
 use std::marker::Model;
@@ -85,7 +86,7 @@ impl<'a> View<'a> {
             return Err(Refusal::Short);
         }
         let length = length_at(datagram);
-        if length < 20 || length > 4096 || length > datagram.len() {
+        if length < 20 || length > MAX_PACKET_LENGTH || length > datagram.len() {
             return Err(Refusal::BadLength);
         }
         let octets = front_of(datagram, length);

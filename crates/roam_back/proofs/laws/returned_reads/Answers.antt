@@ -1,4 +1,4 @@
-use Rattle.roam_wire.proofs.PacketLemmas.{ReadsAs-packet_text}
+use Rattle.roam_wire.proofs.LawLemmas.{ReadsAs-packet_text}
 use Rattle.roam_back.specs.Returned.{returned}
 use Rattle.roam_back.proofs.EveryCodeLemmas.{IsPacket-returned, packet_length-returned}
 use Rattle.roam_back.proofs.laws.returned_reads.Goals as goal

@@ -1,6 +1,6 @@
 use Rattle.std.proofs.Common.{◌≡◌, ◌↔◌, [], ◌∷◌, false, IsTrue, rules}
 use Rattle.roam_auth.specs.MessageAuthenticator.{IsWellSealed}
-use Rattle.roam_back.specs.ReplyCheck.{is_access_reply}
+use Rattle.roam_wire.specs.Codes.{is_access_reply}
 use Rattle.roam_back.proofs.CheckLemmas.{well_sealed_over_zeros}
 use Rattle.roam_back.proofs.reply_check.is_well_sealed.Goals as goal
 

@@ -8,8 +8,8 @@ use Rattle.roam_book.proofs.FateLemmas.{IsFreed, IsSent, gone-freed, forwarded-f
 use Rattle.roam_book.proofs.fate.fail_over.Goals as goal
 
 -- no later target has a free Identifier
-pub returns-in_default : goal.returns-in_default
-returns-in_default g c =
+pub returns-in_default-clause-fate : goal.returns-in_default-clause-fate
+returns-in_default-clause-fate g c =
     λ es held.
     let e = shown c.args.entry.now in
     let freed : IsFreed c.args.settings.now (without e.ticket es) c.args.numbers.now
@@ -26,12 +26,12 @@ returns-in_default g c =
     c.args.link held freed c.in_default.ensures.first
 
 -- the request goes to the target that was found
-pub returns : goal.returns
-returns g c =
+pub returns-clause-fate : goal.returns-clause-fate
+returns-clause-fate g c =
     λ es held.
     let e = shown c.args.entry.now in
     let others = without e.ticket es in
-    let new = c.send_new-out.new.numbers in
+    let new = c.send_new-sent.new.numbers in
     let freed : IsFreed c.args.settings.now others c.args.numbers.now c.give_back.new.self = record {
       cursors = c.give_back.ensures.cursors;
       tells = c.give_back.ensures.tells e es held.sound.lanes_tell held.found c.requires.waits;
@@ -41,7 +41,7 @@ returns g c =
         stream_position = c.give_back.ensures.stream_position;
       };
     } in
-    let one = c.send_new-out.ensures in
+    let one = c.send_new-sent.ensures in
     let asked : PlainRequest = record {
       key = e.request.key;
       requester = e.request.requester;
@@ -50,7 +50,7 @@ returns g c =
     let same : asked ≡ e.request = ap (λ (o : List ℕ). record
     { key = e.request.key; requester = e.request.requester; octets = o }) c.as_slice.ensures in
     let sent : IsSent c.args.settings.now c.args.now others asked e.ticket c.in-Some.target
-    c.give_back.new.self new c.send_new-out.result.0 c.send_new-out.result.1 = record {
+    c.give_back.new.self new c.send_new-sent.result.0 c.send_new-sent.result.1 = record {
       next = one.next others (list-without e.ticket es held.list) freed.tells;
       out = one.out;
       standing = one.standing;
@@ -64,8 +64,8 @@ returns g c =
       };
     } in
     let of_entry = subst (λ (q : PlainRequest). IsSent c.args.settings.now c.args.now others q
-    e.ticket c.in-Some.target c.give_back.new.self new c.send_new-out.result.0
-    c.send_new-out.result.1) same sent in
+    e.ticket c.in-Some.target c.give_back.new.self new c.send_new-sent.result.0
+    c.send_new-sent.result.1) same sent in
     forwarded-freed c.args.settings.now c.args.now es e c.args.numbers.now c.give_back.new.self new
-    c.args.link c.in-Some.target c.send_new-out.result.0 c.send_new-out.result.1 held freed
+    c.args.link c.in-Some.target c.send_new-sent.result.0 c.send_new-sent.result.1 held freed
     c.in-Some.ensures.first of_entry

@@ -1,6 +1,5 @@
 use Rattle.std.proofs.Common.{◌≡◌, subst, sym, arith}
 use Rattle.roam_wire.specs.Reading.{packet_of}
-use Rattle.roam_wire.proofs.PacketLemmas.{ReadsAs-octets}
 use Rattle.roam_pending.specs.PlainEntry.{PlainRequest}
 use Rattle.roam_book.specs.RealmConfig.{RealmConfig}
 use Rattle.roam_book.specs.RealmState.{Target}
@@ -13,10 +12,9 @@ use Rattle.roam_book.proofs.sending.forward_into.Goals as goal
 pub forward_reserved-requires-clause-room : goal.forward_reserved-requires-clause-room
 forward_reserved-requires-clause-room g c =
     let q : PlainRequest = shown_request c.args.asked in
-    let read : c.in-Ok.request ≡ packet_of q.octets =
-    c.in-Ok.ensures.only (packet_of q.octets) (ReadsAs-octets q.octets c.requires.request.packet) in
+    let read : c.packet_in-request.result ≡ packet_of q.octets = c.packet_in-request.ensures in
     let grown = forwarded_length-request c.args.settings.now q c.requires.request in
-    rw read (omega (arith, grown, c.requires.room, c.requires.len))
+    rw read (omega (arith, grown, c.requires.room.room, c.requires.room.length))
 
 -- what was written is the forwarded packet, with which the request waits
 pub returns-clause-waiting : goal.returns-clause-waiting
@@ -24,13 +22,12 @@ returns-clause-waiting g c =
     let config : RealmConfig = c.args.settings.now in
     let q : PlainRequest = shown_request c.args.asked in
     let target : Target = record { link = c.args.link; id = c.args.id } in
-    let read : c.in-Ok.request ≡ packet_of q.octets =
-    c.in-Ok.ensures.only (packet_of q.octets) (ReadsAs-octets q.octets c.requires.request.packet) in
+    let read : c.packet_in-request.result ≡ packet_of q.octets = c.packet_in-request.ensures in
     let written : c.forward_reserved.new.out.items ≡ forwarded_octets config q c.args.ticket target =
     octets-written config q c.args.ticket target c.args.out.now.items
     c.forward_reserved.new.out.items c.secret_of_requester-from_secret.result.now
-    c.secret_of_link-to_secret.result.now c.in-Ok.request
-    (record { octets = c.forward_reserved.ensures.octets }) c.requires.empty
+    c.secret_of_link-to_secret.result.now c.packet_in-request.result
+    (record { octets = c.forward_reserved.ensures.octets }) c.requires.room.empty
     c.secret_of_requester-from_secret.ensures.text c.secret_of_link-to_secret.ensures.text read in
     let waits = IsWaiting-forwarded config q c.args.ticket target c.requires.request c.requires.link in
     subst (IsWaiting config q c.args.link c.args.id) (sym written) (waits (omega arith))

@@ -8,7 +8,7 @@ use Rattle.roam_route.specs.Shown.{shown_job}
 use Rattle.roam_book.specs.OneRealm.{event_by, event_of, on_event}
 use Rattle.roam_book.specs.BookView.{AreOctets, IsTakenFrom}
 use Rattle.roam_book.proofs.JobLemmas.{job_of_book}
-use Rattle.roam_book.proofs.BookLemmas.{kept-book, own-gives, own-realm, own-succeeds}
+use Rattle.roam_book.proofs.BookLemmas.{own-succeeds, realm-gives}
 use Rattle.roam_book.proofs.book.Book.reply.Goals as goal
 
 -- an event of the configuration from a link is a packet
@@ -24,32 +24,25 @@ on_reply-requires-clause-packet g c =
     let packet : IsPacketText job.octets = subst (λ (s : Side). IsTakenFrom c.new-settings.result job s) c.link_of.ensures taken in
     subst IsPacketText (sym c.as_slice-octets.ensures) packet
 
--- the realm keeps what it kept
-pub invariant_of-self : goal.invariant_of-self
-invariant_of-self g c =
-    let b = c.self.inside in
-    kept-book b.config.now b.realm b.entries c.on_reply.new.entries c.on_reply.new.numbers
-    c.new-settings.result c.self.invariant.configured c.self.invariant.own_entries
-    c.new-settings.ensures c.on_reply.ensures.keeps c.on_reply.ensures.sound
-
 -- the turn of its reply is that of its event
 pub returns-clause-turn : goal.returns-clause-turn
 returns-clause-turn g c =
     let b = c.self.inside in
+    let turn = c.on_reply.ensures.turn in
+    let new = c.on_reply.new.self in
     let event = ap (event_by c.args.now (shown_job c.args.job.now)) c.link_of.ensures in
-    let turn = rw c.as_slice-octets.ensures at c.on_reply.ensures.turn in
-    own-gives (λ k s. on_event k s (event_of c.args.now (shown_job c.args.job.now)))
-    c.on_reply.result c.args.self.now (shown b.config.now) b.realm b.entries c.on_reply.new.entries
-    b.numbers c.on_reply.new.numbers c.new-settings.result (sym c.self.view_is) c.new-settings.ensures
-    c.self.invariant.own_entries
-    (own-realm b.entries c.on_reply.new.entries b.realm c.self.invariant.own_entries c.on_reply.ensures.keeps)
-    (rw event turn)
+    let gives = rw c.as_slice-octets.ensures at turn.gives in
+    realm-gives (λ k s. on_event k s (event_of c.args.now (shown_job c.args.job.now)))
+    c.on_reply.result c.args.self.now (shown b.config.now) b.realm b.entries new.entries.now
+    b.numbers new.numbers.now c.new-settings.result new.settings.now turn.rest.loans.settings
+    (sym c.self.view_is) c.new-settings.ensures c.self.invariant.own_entries turn.rest.loans.keeps
+    (rw event gives)
 
 pub returns-clause-succeeds : goal.returns-clause-succeeds
 returns-clause-succeeds g c =
     let b = c.self.inside in
     let event = ap (event_by c.args.now (shown_job c.args.job.now)) c.link_of.ensures in
-    let calls = rw c.as_slice-octets.ensures at c.on_reply.ensures.succeeds in
+    let calls = rw c.as_slice-octets.ensures at c.on_reply.ensures.turn.succeeds in
     own-succeeds (λ k s. on_event k s (event_of c.args.now (shown_job c.args.job.now)))
     c.on_reply.result c.args.self.now (shown b.config.now) b.realm b.entries b.numbers
     c.new-settings.result (sym c.self.view_is) c.new-settings.ensures c.self.invariant.own_entries

@@ -6,7 +6,7 @@ use Rattle.roam_route.specs.Shown.{shown_job}
 use Rattle.roam_book.specs.OneRealm.{event_of, on_event}
 use Rattle.roam_book.specs.BookView.{AreOctets}
 use Rattle.roam_book.proofs.JobLemmas.{job_of_book}
-use Rattle.roam_book.proofs.BookLemmas.{kept-book, own-gives, own-realm}
+use Rattle.roam_book.proofs.BookLemmas.{own-succeeds, realm-gives}
 use Rattle.roam_book.proofs.book.Book.request.Goals as goal
 
 -- an event of the configuration is a job that the realm takes
@@ -20,22 +20,24 @@ asked_by-asked-requires-clause-taken g c =
     let own : job.realm ≡ b.realm = rw (← c.self.view_is) at c.requires.own in
     job_of_book config job b.realm c.new-settings.result octets event own c.new-settings.ensures
 
--- the realm keeps what it kept
-pub invariant_of-self : goal.invariant_of-self
-invariant_of-self g c =
-    let b = c.self.inside in
-    kept-book b.config.now b.realm b.entries c.on_request.new.entries c.on_request.new.numbers
-    c.new-settings.result c.self.invariant.configured c.self.invariant.own_entries
-    c.new-settings.ensures c.on_request.ensures.keeps c.on_request.ensures.sound
-
 -- the turn of its request is that of its event
 pub returns-clause-turn : goal.returns-clause-turn
 returns-clause-turn g c =
     let b = c.self.inside in
+    let turn = c.on_request.ensures.turn in
+    let new = c.on_request.new.self in
     let event = c.asked_by-asked.ensures.event c.args.now in
-    own-gives (λ k s. on_event k s (event_of c.args.now (shown_job c.args.job.now)))
-    c.on_request.result c.args.self.now (shown b.config.now) b.realm b.entries c.on_request.new.entries
-    b.numbers c.on_request.new.numbers c.new-settings.result (sym c.self.view_is) c.new-settings.ensures
-    c.self.invariant.own_entries
-    (own-realm b.entries c.on_request.new.entries b.realm c.self.invariant.own_entries c.on_request.ensures.keeps)
-    (rw event c.on_request.ensures.turn)
+    realm-gives (λ k s. on_event k s (event_of c.args.now (shown_job c.args.job.now)))
+    c.on_request.result c.args.self.now (shown b.config.now) b.realm b.entries new.entries.now
+    b.numbers new.numbers.now c.new-settings.result new.settings.now turn.rest.loans.settings
+    (sym c.self.view_is) c.new-settings.ensures c.self.invariant.own_entries turn.rest.loans.keeps
+    (rw event turn.gives)
+
+pub returns-clause-succeeds : goal.returns-clause-succeeds
+returns-clause-succeeds g c =
+    let b = c.self.inside in
+    let event = c.asked_by-asked.ensures.event c.args.now in
+    own-succeeds (λ k s. on_event k s (event_of c.args.now (shown_job c.args.job.now)))
+    c.on_request.result c.args.self.now (shown b.config.now) b.realm b.entries b.numbers
+    c.new-settings.result (sym c.self.view_is) c.new-settings.ensures c.self.invariant.own_entries
+    (rw event c.on_request.ensures.turn.succeeds)

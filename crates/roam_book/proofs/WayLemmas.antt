@@ -1,0 +1,124 @@
+-- The way that is chosen for a new request, and the plan that it makes.
+use Rattle.std.proofs.Common.{◌≡◌, ◌≢◌, ℕ, ◌<◌, ◌≤◌, ◌^◌, true, false, List, [], Option, Some, None, Result, Ok, Err, refl, ap, ◌∙◌, arith, eqb, ltb, length}
+use Rattle.std.proofs.lemmas.Bool.Decides.{nat_tests}
+use Rattle.roam_wire.specs.declared.refusal.Refusal.{Refusal}
+use Rattle.roam_wire.specs.declared.refusal.Refusal.TheVariants as refusal
+use Rattle.roam_conf.specs.declared.place.Link.{Link}
+use Rattle.roam_route.specs.Admission.{PlainOut}
+use Rattle.roam_pending.specs.PlainEntry.{PlainEntry, PlainRequest}
+use Rattle.roam_pending.specs.EntryList.{find_client, first_done}
+use Rattle.roam_pending.proofs.TestLemmas.{same}
+use Rattle.roam_book.specs.NewEntry.{Chooses, HasNext, IsChosen, IsRequestPlan, IsWay, once_gone, straight_after, target_at}
+use Rattle.roam_book.specs.OnRequest.{at_target, make_way, new_request}
+use Rattle.roam_book.specs.RealmConfig.{RealmConfig, IsLink}
+use Rattle.roam_book.specs.RealmState.{RealmState, Target}
+use Rattle.roam_book.specs.Sound.{CountsAsGone, IsRequest}
+use Rattle.roam_book.specs.Turn.{Turn, Answers, refuses, sends, shown_outs}
+use Rattle.roam_book.specs.declared.answer.Answer.{Answer}
+use Rattle.roam_book.specs.declared.gone.Gone.{Gone}
+use Rattle.roam_book.specs.declared.requests.RequestPlan.{RequestPlan}
+use Rattle.roam_book.specs.declared.requests.RequestPlan.TheVariants as plan
+use Rattle.roam_book.specs.declared.way.Way.{Way}
+use Rattle.roam_book.proofs.RequestLemmas.{in-else, in-then}
+
+-- The way of a new request
+
+-- there is a place
+pub place-free :
+    (c : RealmConfig) (s : RealmState) (q : PlainRequest) (gone : Option Gone) (l : Link)
+    → length (once_gone gone s.entries) < c.realm.max_pending → IsWay c s q (straight_after gone l)
+    → IsChosen c s q (straight_after gone l) (λ now. at_target c now s (once_gone gone s.entries) q
+    (Some (target_at c s.cursors (once_gone gone s.entries) l)))
+place-free c s q gone l room way =
+    let yes : ltb (length (once_gone gone s.entries)) c.realm.max_pending ≡ true = grind (arith, nat_tests, room) in
+    record { way = way; does = λ now. in-then _ _ _ yes }
+
+-- there is none, and no done entry makes way
+pub no-place :
+    (c : RealmConfig) (s : RealmState) (q : PlainRequest) (es : List PlainEntry) (t : Target)
+    → c.realm.max_pending ≤ length es → first_done es ≡ None → (now : ℕ)
+    → at_target c now s es q (Some t) ≡ refuses refusal.Busy
+no-place c s q es t full none now =
+    let no : ltb (length es) c.realm.max_pending ≡ false = grind (arith, nat_tests, full) in
+    in-else _ _ _ no ∙ ap (make_way c now s es q t) none
+
+-- there is none, and one does
+pub place-made :
+    (c : RealmConfig) (s : RealmState) (q : PlainRequest) (gone : Option Gone) (l : Link) (t : ℕ)
+    → c.realm.max_pending ≤ length (once_gone gone s.entries)
+    → first_done (once_gone gone s.entries) ≡ Some t → IsWay c s q (straight_after gone l)
+    → IsChosen c s q (record { gone = gone; done = Some t; link = l })
+    (λ now. at_target c now s (once_gone gone s.entries) q
+    (Some (target_at c s.cursors (once_gone gone s.entries) l)))
+place-made c s q gone l t full some way =
+    let es = once_gone gone s.entries in
+    let target = target_at c s.cursors es l in
+    let no : ltb (length es) c.realm.max_pending ≡ false = grind (arith, nat_tests, full) in
+    record {
+      way = record {
+        request = way.request;
+        ticket = way.ticket;
+        gone = way.gone;
+        key = way.key;
+        done = some;
+        link = way.link;
+        free = way.free;
+      };
+      does = λ now. in-else _ _ _ no ∙ ap (make_way c now s es q target) some;
+    }
+
+-- no ticket is left
+pub exhausted :
+    (c : RealmConfig) (s : RealmState) (q : PlainRequest) (es : List PlainEntry)
+    → s.ticket ≡ 2 ^ 63 → (now : ℕ) → new_request c now s es q ≡ refuses refusal.Exhausted
+exhausted c s q es at now =
+    in-then (eqb s.ticket (2 ^ 63)) _ _ (same s.ticket (2 ^ 63) at)
+
+-- what is chosen for some turns is chosen for the same turns
+pub chosen-same :
+    (c : RealmConfig) (s : RealmState) (q : PlainRequest) (r : Result Way Refusal)
+    (turn other : ℕ → Turn) → ((now : ℕ) → other now ≡ turn now) → Chooses c s q r turn
+    → Chooses c s q r other
+chosen-same c s q (Ok way) turn other is h = record { way = h.way; does = λ now. is now ∙ h.does now }
+chosen-same c s q (Err why) turn other is h = λ now. is now ∙ h now
+
+-- a link has a free Identifier for a request whose key is free once an entry is gone
+pub straight-way :
+    (c : RealmConfig) (s : RealmState) (q : PlainRequest) (gone : Option Gone) (l : Link)
+    → IsRequest c q → s.ticket ≤ 2 ^ 63 → s.ticket ≢ 2 ^ 63 → CountsAsGone gone s.entries
+    → find_client q.key (once_gone gone s.entries) ≡ None → IsLink c l
+    → HasNext c s.cursors (once_gone gone s.entries) l → IsWay c s q (straight_after gone l)
+straight-way c s q gone l request most below counts key link free = record {
+  request = request;
+  ticket = omega (arith, most, below);
+  gone = counts;
+  key = key;
+  done = tt;
+  link = link;
+  free = free;
+}
+
+-- a refusal is a plan for each turn that is that refusal
+pub refusal-plan :
+    {A : Type 0} (a : Answer A) (s : RealmState) (why : Refusal) (turn : ℕ → Turn)
+    → shown_outs a.outs.items ≡ [] → a.refusal ≡ Some why → ((now : ℕ) → turn now ≡ refuses why)
+    → (now : ℕ) → Answers a s s (turn now)
+refusal-plan a s why turn outs refusal is now =
+    rw (is now) (record { packets = outs; refusal = refusal; state = refl })
+
+-- a plan for some turns is one for the same turns
+pub plan-same :
+    {A : Type 0} (c : RealmConfig) (s : RealmState) (q : PlainRequest) (p : RequestPlan A)
+    (turn other : ℕ → Turn) → ((now : ℕ) → other now ≡ turn now) → IsRequestPlan c s q p turn
+    → IsRequestPlan c s q p other
+plan-same c s q (plan.Answered a) turn other is h = λ now. rw (is now) (h now)
+plan-same c s q (plan.Admitted way) turn other is h =
+    record { way = h.way; does = λ now. is now ∙ h.does now }
+
+-- an answer of packets, while the state stays as it is
+pub held-plan :
+    {A : Type 0} (a : Answer A) (s : RealmState) (packets : List PlainOut) (turn : ℕ → Turn)
+    → shown_outs a.outs.items ≡ packets → a.refusal ≡ None
+    → ((now : ℕ) → turn now ≡ sends packets s) → (now : ℕ) → Answers a s s (turn now)
+held-plan a s packets turn outs refusal is now =
+    rw (is now) (record { packets = outs; refusal = refusal; state = refl })

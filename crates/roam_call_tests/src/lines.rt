@@ -1,0 +1,41 @@
+//! The lines of packets.
+
+use roam_conf::{Endpoint, Place};
+use roam_sim::print_packet;
+use std::alloc::Global;
+use std::io;
+
+const NAS: Endpoint = Endpoint {
+    ip: [192, 0, 2, 1],
+    port: 5000,
+};
+
+const SERVER: Endpoint = Endpoint {
+    ip: [198, 51, 100, 1],
+    port: 1812,
+};
+
+/// Four packets. The first line begins as that of the worked exchange of an Access-Request.
+const LINES: &str = "0 out:0 198.51.100.1:1812 0100003d76b8e0ada0f1
+- auth 192.0.2.1:5000 03ff
+65535 reverse:65535 192.0.2.1:5000 00
+12 acct 192.0.2.1:5000 
+";
+
+fn print_lines(text: &mut Vec<u8>) -> io::Result<()> {
+    let octets = [1, 0, 0, 0x3d, 0x76, 0xb8, 0xe0, 0xad, 0xa0, 0xf1];
+    print_packet(text, Some(0), Place::Out(0), SERVER, &octets)?;
+    print_packet(text, None, Place::Auth, NAS, &[3, 0xff])?;
+    print_packet(text, Some(65535), Place::Reverse(65535), NAS, &[0])?;
+    print_packet(text, Some(12), Place::Acct, NAS, &[])
+}
+
+fn are_lines(alloc: Global) -> bool {
+    let mut text = Vec::new(alloc);
+    print_lines(&mut text).is_ok() && text.as_slice() == LINES.as_bytes()
+}
+
+#[test]
+fn lines_of_packets(rt: HostRuntime) {
+    assert!(rt; are_lines(rt.alloc()));
+}

@@ -1,0 +1,70 @@
+//! The broker of one realm, which is given the events of a script.
+
+ghost use Rattle.std.specs.Prelude.{◌≡◌, ◌≤◌, ◌^◌};
+ghost use Rattle.roam_conf.specs.Shown.{shown};
+ghost use Rattle.roam_route.specs.Events.{IsEvent};
+ghost use Rattle.roam_route.specs.Shown.{shown_job};
+
+use roam_book::{Answer, Book, Start};
+use roam_conf::Config;
+use roam_core::Event;
+use roam_route::{Datagram, Job, Prepared, Side, prepare};
+use roam_wire::{NoMemory, Refusal};
+use std::alloc::Allocator;
+
+/// The broker of the first realm, and the configuration that it reads.
+#[derive(Drop)]
+pub(crate) struct Realm<'c, A: Allocator> {
+    config: &'c Config,
+    pub(crate) book: Book<'c, A>,
+    ghost own_config: { book.config ≡ shown config.now },
+    ghost own_realm: { book.realm ≡ 0 },
+}
+
+impl<'c, A: Allocator + Copy> Realm<'c, A> {
+    /// The broker of the first realm, as it begins, with this next ticket.
+    pub(crate) fn new(alloc: A, config: &'c Config, ticket: u64) -> Result<Realm<'c, A>, NoMemory>
+        requires { ticket ≤ 2 ^ 63 }
+    {
+        let start = Start { place: 0, ticket };
+        let book = Book::new(alloc, config, 0, start)?;
+        Ok(Realm { config, book })
+    }
+
+    /// A job of this realm.
+    fn takes(&mut self, now: u64, job: &Job<A>) -> Result<Answer<A>, NoMemory>
+        requires event { IsEvent (shown self.old.config.now) (shown_job job.now) }
+        requires own { job.now.realm ≡ 0 }
+    {
+        match job.side {
+            Side::Link(_) => self.book.reply(now, job),
+            Side::Peer(_) | Side::Home(_) => self.book.request(now, job),
+        }
+    }
+
+    /// What an arrival gives that is this realm's.
+    fn arrives(
+        &mut self,
+        alloc: A,
+        now: u64,
+        datagram: &Datagram<A>,
+    ) -> Result<Answer<A>, Refusal> {
+        match prepare(alloc, self.config, datagram)? {
+            Prepared::Job(job) => {
+                if job.realm != 0 {
+                    return Err(Refusal::NoRealm);
+                }
+                Ok(self.takes(now, &job)?)
+            }
+            Prepared::Reject(_) => Err(Refusal::NoRealm),
+        }
+    }
+
+    /// What an event gives.
+    pub(crate) fn meets(&mut self, alloc: A, event: &Event<A>) -> Result<Answer<A>, Refusal> {
+        match event {
+            Event::Arrive { now, datagram } => self.arrives(alloc, *now, datagram),
+            Event::Tick { now, .. } => Ok(self.book.tick(*now)?),
+        }
+    }
+}
