@@ -1,18 +1,18 @@
 -- The local reject: how it is filled, sealed and signed.
-use Rattle.std.proofs.Common.{◌≡◌, ◌≢◌, ℕ, ◌+◌, ◌<◌, ◌≤◌, Bool, true, false, inl, inr, List, [], ◌∷◌, ◌++◌, length, take, drop, filter, Some, refl, sym, ap, subst, ◌∙◌, arith, length-append, append_assoc, lit<, lit≤}
+use Rattle.std.proofs.Common.{◌≡◌, ℕ, ◌+◌, ◌≤◌, Bool, true, false, inl, inr, List, [], ◌∷◌, ◌++◌, length, take, drop, filter, refl, sym, ap, subst, ◌∙◌, arith, length-append, append_assoc, lit<, lit≤}
 use Rattle.std.specs.List.{AllByRecursion}
-use Rattle.std.proofs.lemmas.Bool.{cases_Bool, eqb-true, ne_eqb}
+use Rattle.std.proofs.lemmas.Bool.{cases_Bool, eqb-true}
 use Rattle.std.specs.Prelude.{if◌then◌else◌}
 use Rattle.std.proofs.lemmas.List.{append-nil, take_at}
 use Rattle.std.proofs.lemmas.List.Sums.{sum_by-cons}
 use Rattle.roam_wire.specs.Packet.{Attribute, IsAttribute, Packet, IsPacket, attribute_text, attributes_text, packet_length, packet_text}
-use Rattle.roam_wire.specs.Reading.{IsPacketText, ReadsAs, packet_of}
+use Rattle.roam_wire.specs.Reading.{IsPacketText, packet_of}
 use Rattle.roam_wire.specs.Attributes.{has_kind, count_of, only_kind}
 use Rattle.roam_wire.specs.declared.attribute_type.TheConstants.{MESSAGE_AUTHENTICATOR, PROXY_STATE}
 use Rattle.roam_wire.proofs.OctetLemmas.{AreOctets-zeros}
 use Rattle.roam_wire.proofs.PacketLemmas.{IsPacketText-packet_text, length-packet_text, packet_of-packet_text, ReadsAs-packet_text}
-use Rattle.roam_auth.specs.Authenticators.{IsSignedReply, signed_reply, response_authenticator}
-use Rattle.roam_auth.specs.MessageAuthenticator.{empty_message_authenticator, HasOneMessageAuthenticator, HasAtMostOneMessageAuthenticator, StandsFirst, message_authenticator, with_message_authenticator, attributes_with_value}
+use Rattle.roam_auth.specs.Authenticators.{signed_reply, response_authenticator}
+use Rattle.roam_auth.specs.MessageAuthenticator.{empty_message_authenticator, HasOneMessageAuthenticator, HasAtMostOneMessageAuthenticator, message_authenticator, with_message_authenticator, attributes_with_value}
 use Rattle.roam_auth.proofs.DigestLemmas.{IsPacket-signed_reply, sixteen-message_authenticator, length-message_authenticator}
 use Rattle.roam_auth.proofs.SealLemmas.{IsWellSealed-sealed, IsWellSealed-with_authenticator}
 use Rattle.roam_auth.proofs.ValueLemmas.{IsPacket-with_value, count_of-no, packet_length-with_value}

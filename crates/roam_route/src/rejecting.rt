@@ -8,14 +8,11 @@ ghost use Rattle.roam_auth.specs.Authenticators.{signed_reply};
 ghost use Rattle.roam_auth.specs.MessageAuthenticator.{HasAtMostOneMessageAuthenticator, with_message_authenticator};
 ghost use Rattle.roam_route.specs.LocalReject.{local_reject, reject_length, unsealed_reject};
 
-use roam_auth::{seal, sign_reply};
+use roam_auth::{ZERO_OCTETS, seal, sign_reply};
 use roam_wire::attribute_type::{MESSAGE_AUTHENTICATOR, PROXY_STATE};
 use roam_wire::code::ACCESS_REJECT;
-use roam_wire::{Octets, PacketBuf, Refusal, View};
+use roam_wire::{MAX_PACKET_LENGTH, Octets, PacketBuf, Refusal, View};
 use std::alloc::Allocator;
-
-/// The Value of a Message-Authenticator that isn't filled in.
-const ZERO_OCTETS: [u8; 16] = [0; 16];
 
 /// How many octets a packet's Proxy-States take. One pass.
 fn proxy_states_len(request: &View<'_>) -> usize
@@ -91,7 +88,7 @@ pub fn reject<A: Allocator>(
     ensures too_long { IsErrOf result Refusal.TooLong ↔ (4096 < reject_length request.now) }
     ensures causes { IfErr result (λ e. (e ≡ Refusal.TooLong) ⊎ (e ≡ Refusal.NoMemory)) }
 {
-    if reject_len(request) > 4096 {
+    if reject_len(request) > MAX_PACKET_LENGTH {
         return Err(Refusal::TooLong);
     }
     let mut octets = unsealed(alloc, request)?;

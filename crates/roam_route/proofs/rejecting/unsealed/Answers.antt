@@ -1,8 +1,6 @@
-use Rattle.std.proofs.Common.{◌≡◌, true, rules, arith}
+use Rattle.std.proofs.Common.{rules, arith}
 use Rattle.std.proofs.lemmas.Result.{err_from_is_err_and}
-use Rattle.roam_wire.specs.Attributes.{has_kind}
 use Rattle.roam_wire.specs.Shown.{shown}
-use Rattle.roam_wire.specs.declared.attribute_type.TheConstants.{PROXY_STATE}
 use Rattle.roam_route.proofs.RejectLemmas.{IsFilling-within}
 use Rattle.roam_route.proofs.rejecting.unsealed.Goals as goal
 
