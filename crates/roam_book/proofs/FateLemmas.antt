@@ -26,7 +26,7 @@ use Rattle.roam_book.specs.RealmConfig.{RealmConfig, IsLink, link_place, later_t
 use Rattle.roam_book.specs.RealmState.{Target, next_toward, first_target}
 use Rattle.roam_book.specs.OnRequest.{packet_to, forwarded_octets, forwarded_entry}
 use Rattle.roam_book.specs.OnTick.{fail_over, without_entry, due_standing}
-use Rattle.roam_book.specs.Sound.{IsEntry, IsWaiting, StandsWell, IsSound, LanesTell, state_of, cursors_of, lane_of, has_free, is_open}
+use Rattle.roam_book.specs.Sound.{IsEntry, IsWaiting, StandsWell, IsSound, LanesTell, state_of, cursors_of, lane_of, has_free, is_open, tags_of}
 use Rattle.roam_book.specs.Rooms.{size_of}
 use Rattle.roam_book.specs.Fates.{IsHeld, IsFate, fate_entries}
 use Rattle.roam_book.proofs.SoundLemmas.{kept-put, kept-without, kept-ticket}
@@ -39,6 +39,7 @@ pub record IsSameBut {A : Type 0} (old new : Numbers A) : Type 0 where
   pub count : length new.lanes.items ≡ length old.lanes.items
   pub ticket : new.ticket ≡ old.ticket
   pub stream_position : new.stream_position ≡ old.stream_position
+  pub tags : tags_of new.lanes.items ≡ tags_of old.lanes.items
 
 pub sound-changed :
     {A : Type 0} (c : RealmConfig) (es fs : List PlainEntry) (n m : Numbers A) → IsSound c es n
@@ -49,11 +50,12 @@ sound-changed c es fs n m sound same each tells = record {
   ticket = omega (arith, same.ticket, sound.ticket);
   stream_position = rw same.stream_position sound.stream_position;
   lane_count = same.count ∙ sound.lane_count;
+  tags = same.tags ∙ sound.tags;
   lanes_tell = tells;
 }
 
 same-numbers : {A : Type 0} (n : Numbers A) → IsSameBut n n
-same-numbers n = record { count = refl; ticket = refl; stream_position = refl }
+same-numbers n = record { count = refl; ticket = refl; stream_position = refl; tags = refl }
 
 -- A done entry
 
@@ -207,6 +209,7 @@ same-both n m k h j = record {
   count = j.count ∙ h.count;
   ticket = j.ticket ∙ h.ticket;
   stream_position = j.stream_position ∙ h.stream_position;
+  tags = j.tags ∙ h.tags;
 }
 
 -- a later target has one: the request goes there under its ticket

@@ -17,7 +17,7 @@ ghost use Rattle.roam_book.specs.ReplyPlans.{CanSettle, IsReplyPlan, once_settle
 use crate::answer::{Answer, Twin, refused};
 use crate::realm::Realm;
 use crate::requests::LATEST;
-use crate::verdict::{Verdict, packet_in, to_standing};
+use crate::verdict::{Verdict, to_standing};
 use roam_conf::Link;
 use roam_pending::{Done, Entries, Entry, Standing, set_standing};
 use roam_wire::{NoMemory, Refusal, View};
@@ -112,7 +112,7 @@ impl<A: Allocator + Copy, E: Entries<A>> Realm<'_, '_, '_, '_, A, E> {
         if now > LATEST {
             return Ok(refused_reply(self.numbers.alloc, Refusal::Moment));
         }
-        self.reply_to_entry(now, link, &packet_in(octets))
+        self.reply_to_entry(now, link, &View::of_packet(octets))
     }
 
     /// The entry that is to be done, if one is, is done: its Identifier is then free. Takes no memory.

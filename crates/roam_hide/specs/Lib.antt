@@ -4,4 +4,3 @@ pub mod HidingLaws
 pub mod SaltedValues
 pub mod SaltedFunctions
 pub mod SaltedLaws
-pub mod AttributesAnew

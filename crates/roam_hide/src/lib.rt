@@ -7,7 +7,6 @@
 
 mod blocks;
 mod hiding_key;
-mod in_attributes;
 pub mod laws;
 mod password;
 mod salted_packet;
@@ -17,7 +16,6 @@ mod tunnel_password;
 mod vendor_specific;
 
 pub use hiding_key::HidingKey;
-pub use in_attributes::{rehide_passwords, rehide_salted_strings};
 pub use password::{password_fits, rehide_password};
 pub use salted_packet::salted;
 pub use salted_value::rehide_salted;

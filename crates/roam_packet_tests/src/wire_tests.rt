@@ -195,11 +195,7 @@ fn large<A: Allocator>(alloc: A, last: usize) -> Result<usize, Refusal> {
     for _ in 0..15 {
         packet.push_attr(attribute_type::PROXY_STATE, &[5; 253])?;
     }
-    let value = [6; 253];
-    let Some(value) = value.get(..last) else {
-        return Ok(0);
-    };
-    packet.push_attr(25, value)?;
+    packet.push_attr(25, prefix(&[6; 253], last))?;
     Ok(packet.finish().len())
 }
 

@@ -136,18 +136,10 @@ fn entries_are_found_by_ticket_and_key(rt: HostRuntime) -> Result<(), Fail> {
 }
 
 #[test]
-fn entries_that_wait_are_found_by_link(rt: HostRuntime) -> Result<(), Fail> {
+fn a_done_entry_makes_way(rt: HostRuntime) -> Result<(), Fail> {
     let pending = three(rt.alloc())?;
-    for (link, id, ticket, what) in [
-        (Link::Auth(0), 50, Some(5), "ticket 5"),
-        (Link::Auth(1), 50, None, "another link"),
-        (Link::Auth(0), 90, None, "it is done"),
-    ] {
-        assert_eq!(rt; ticket_of(pending.find_link(link, id)), ticket, "{what}");
-    }
-    assert_eq!(rt; pending.first_done(None), Some(9));
-    let but_that_one = pending.first_done(Some(9));
-    assert_eq!(rt; but_that_one, None, "that one counts as gone");
+    let tickets = [pending.first_done(None), pending.first_done(Some(9))];
+    assert_eq!(rt; tickets, [Some(9), None], "the done one, and where it counts as gone none");
     Ok(())
 }
 
@@ -186,7 +178,7 @@ fn sends_left<A: Allocator>(found: Option<&Entry<A>>) -> Option<u8> {
 fn entry_that_was_sent_again_waits_longer(rt: HostRuntime) -> Result<(), Fail> {
     let mut pending = three(rt.alloc())?;
     assert_eq!(rt; note_sending(rt.alloc(), &mut pending), 3);
-    let left = sends_left(pending.find_link(Link::Auth(0), 20));
+    let left = sends_left(pending.find_ticket(2));
     assert_eq!(rt; left, Some(1));
     let done = Due {
         deadline: 100,
@@ -210,8 +202,8 @@ fn note_reply<A: Allocator + Copy, E: Entries<A>>(alloc: A, entries: &mut E) {
 fn entry_that_was_answered_is_done(rt: HostRuntime) -> Result<(), Fail> {
     let mut pending = three(rt.alloc())?;
     note_reply(rt.alloc(), &mut pending);
-    let on_link = ticket_of(pending.find_link(Link::Auth(0), 50));
-    assert_eq!(rt; on_link, None, "it waits no more");
+    let left = sends_left(pending.find_ticket(5));
+    assert_eq!(rt; left, None, "it waits no more");
     let known = ticket_of(pending.find_client(&key(50)));
     assert_eq!(rt; known, Some(5), "its request is known");
     let first = pending.first_done(None);

@@ -1,9 +1,9 @@
 use Rattle.std.proofs.Common.{◌≡◌, length, arith}
-use Rattle.roam_hide.proofs.UnderwayLemmas.{underway_start, next_of, underway_step, underway_done}
+use Rattle.roam_hide.proofs.SaltedLemmas.{underway_start, next_of, underway_step, underway_done}
 use Rattle.roam_hide.proofs.sub_attributes.rehide_keys.Goals as goal
 
 pub loop-at-init : goal.loop-at-init
-loop-at-init c = λ subs spelt. underway_start _ subs c.args.octets.now spelt
+loop-at-init c = λ subs spelt. underway_start _ _ subs c.args.octets.now spelt
 
 pub bounds-octets-at : goal.bounds-octets-at
 bounds-octets-at c =
@@ -31,10 +31,10 @@ loop-at-preserved c = λ subs spelt.
     let made = c.rehide_sub_attribute.ensures in
     let same_length : length c.rehide_sub_attribute.new.octets ≡ length c.loop-at.octets =
     omega arith in
-    underway_step _ subs c.loop-at.octets c.rehide_sub_attribute.new.octets c.loop-at.at
+    underway_step _ _ subs c.loop-at.octets c.rehide_sub_attribute.new.octets c.loop-at.at
     c.from.result made.0 h c.loop-at-test.true c.from.ensures same_length made.1 made.2
 
 pub returns : goal.returns
 returns c = λ subs spelt.
-    underway_done _ subs c.loop-at.octets c.loop-at.at (c.loop-at.invariant subs spelt)
+    underway_done _ _ subs c.loop-at.octets c.loop-at.at (c.loop-at.invariant subs spelt)
     c.loop-at-test.false

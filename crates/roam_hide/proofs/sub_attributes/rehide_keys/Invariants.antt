@@ -1,14 +1,13 @@
 use Rattle.std.proofs.Common.{length, ◌-◌, ◌≡◌, List}
 use Rattle.roam_wire.specs.Packet.{Attribute, attributes_text}
 use Rattle.roam_hide.specs.HidingKeys.{password_key}
-use Rattle.roam_hide.specs.SaltedValues.{IsSubAttributeAnew}
-use Rattle.roam_hide.proofs.UnderwayLemmas.{IsUnderway}
+use Rattle.roam_hide.proofs.SaltedLemmas.{IsUnderway}
 use Rattle.roam_hide.proofs.sub_attributes.rehide_keys.Given as goal
 
 -- the sub-attributes before `at` are hidden anew
 abbrev pub invariant-loop-at : goal.invariant-loop-at
 invariant-loop-at l = (subs : List Attribute) → l.fn.octets ≡ attributes_text subs
-    → IsUnderway (IsSubAttributeAnew (password_key l.fn.from) (password_key l.fn.to)) subs l.octets l.at
+    → IsUnderway (password_key l.fn.from) (password_key l.fn.to) subs l.octets l.at
 
 abbrev pub decreases-loop-at : goal.decreases-loop-at
 decreases-loop-at l = length l.initial.octets - l.at
