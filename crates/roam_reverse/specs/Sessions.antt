@@ -67,7 +67,7 @@ change_of_session status s =
     else if status == STOP then closes s
     else nothing
 
--- with the session's id, if there is one. Octets of no number are an id too (ours)
+-- with the id of a session, if there is one. An id of no octets is one too (ours)
 abbrev pub change_by_id : ℕ → ℕ → Option (List ℕ) → LedgerChange
 change_by_id peer status None = nothing
 change_by_id peer status (Some id) = change_of_session status (record { peer = peer; id = id })
