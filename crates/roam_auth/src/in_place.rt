@@ -13,8 +13,8 @@ use crate::response::response_auth;
 use roam_wire::View;
 use roam_wire::attribute_type::MESSAGE_AUTHENTICATOR;
 
-/// Where in the packet's octets the Value of its first Message-Authenticator begins, if it has one.
-fn value_place(view: &View<'_>) -> Option<usize>
+/// Where in a packet's octets the Value of its first Message-Authenticator begins, if it has one.
+pub fn value_place(view: &View<'_>) -> Option<usize>
     ensures { MatchOption result (HasNoMessageAuthenticator view.now)
         (λ at. IsValuePlace at view.now.attributes) }
 {

@@ -34,7 +34,7 @@ same_size true vendor x y z first second = first
 same_size false true x y z first second = second
 same_size false false x y z first second = refl
 
-salted_size : (r : Returning) (request : Packet) (a : Attribute) → length (with_salted_anew r request a).value ≡ length a.value
+pub salted_size : (r : Returning) (request : Packet) (a : Attribute) → length (with_salted_anew r request a).value ≡ length a.value
 salted_size r request a =
     let from : Key = record { secret = r.home_secret; first = r.forwarded_authenticator } in
     let to : Key = record { secret = r.client_secret; first = request.authenticator } in
@@ -52,7 +52,7 @@ salted_octets r request a h =
     let to : Key = record { secret = r.client_secret; first = request.authenticator } in
     either_octets (a.kind == TUNNEL_PASSWORD) (a.kind == VENDOR_SPECIFIC) (tunnel_anew from to a.value) (vendor_anew from to a.value) a.value (AreOctets-tunnel_anew from to a.value h) (AreOctets-vendor_anew from to a.value h) h
 
-short_salted : (r : Returning) (request : Packet) (all : List Attribute) → AllByRecursion IsAttribute all → AllByRecursion IsAttribute (map (with_salted_anew r request) all)
+pub short_salted : (r : Returning) (request : Packet) (all : List Attribute) → AllByRecursion IsAttribute all → AllByRecursion IsAttribute (map (with_salted_anew r request) all)
 short_salted r request [] h = tt
 short_salted r request (a ∷ all) h =
     let limit = h.0.size in
@@ -78,13 +78,13 @@ only-salted kind r request (a ∷ all) none =
 -- ---- an Access reply's own attributes
 
 -- what stands behind the Message-Authenticator that is put first
-abbrev access_rest : Returning → Packet → Packet → List Attribute
+abbrev pub access_rest : Returning → Packet → Packet → List Attribute
 access_rest r reply request =
     if reply.code == ACCESS_ACCEPT
     then map (with_salted_anew r request) (without_kind MESSAGE_AUTHENTICATOR (without_kind PROXY_STATE reply.attributes))
     else without_kind MESSAGE_AUTHENTICATOR (without_kind PROXY_STATE reply.attributes)
 
-carried-access : (r : Returning) (reply request : Packet) → is_access_reply reply.code ≡ true → carried_attributes r reply request ≡ empty_message_authenticator ∷ access_rest r reply request
+pub carried-access : (r : Returning) (reply request : Packet) → is_access_reply reply.code ≡ true → carried_attributes r reply request ≡ empty_message_authenticator ∷ access_rest r reply request
 carried-access r reply request access = rw access refl
 
 -- what holds of both lists holds of the one chosen
@@ -97,7 +97,7 @@ short_rest r reply request packet =
     let own = short_kept (λ (a : Attribute). not (has_kind MESSAGE_AUTHENTICATOR a)) (without_kind PROXY_STATE reply.attributes) (short_kept (λ (a : Attribute). not (has_kind PROXY_STATE a)) reply.attributes packet.attributes) in
     either_list (AllByRecursion IsAttribute) (reply.code == ACCESS_ACCEPT) _ _ (short_salted r request (without_kind MESSAGE_AUTHENTICATOR (without_kind PROXY_STATE reply.attributes)) own) own
 
-count_of-rest : (r : Returning) (reply request : Packet) → count_of MESSAGE_AUTHENTICATOR (access_rest r reply request) ≡ 0
+pub count_of-rest : (r : Returning) (reply request : Packet) → count_of MESSAGE_AUTHENTICATOR (access_rest r reply request) ≡ 0
 count_of-rest r reply request =
     let own = without_kind PROXY_STATE reply.attributes in
     let none = count_of-without_itself MESSAGE_AUTHENTICATOR own in
@@ -113,7 +113,7 @@ short_carried r reply request packet =
       | inr other ↦ subst (AllByRecursion IsAttribute) (sym (carried-others r reply request other)) (short_kept (λ (a : Attribute). not (has_kind PROXY_STATE a)) reply.attributes packet.attributes)
     ]
 
-IsPacket-unsealed : (r : Returning) (reply request : Packet) → IsPacket reply → IsPacket request → returned_length r reply request ≤ 4096 → IsPacket (unsealed r reply request)
+pub IsPacket-unsealed : (r : Returning) (reply request : Packet) → IsPacket reply → IsPacket request → returned_length r reply request ≤ 4096 → IsPacket (unsealed r reply request)
 unfolding returned_length
 IsPacket-unsealed r reply request a b short = record {
   code = a.code;
@@ -124,7 +124,7 @@ IsPacket-unsealed r reply request a b short = record {
   size = short;
 }
 
-seal_apart : MESSAGE_AUTHENTICATOR ≢ PROXY_STATE
+pub seal_apart : MESSAGE_AUTHENTICATOR ≢ PROXY_STATE
 seal_apart e = absurd (omega (arith, e))
 
 -- an Access reply's has just one Message-Authenticator
@@ -138,7 +138,7 @@ HasOne-access r reply request access =
     let h : HasOneMessageAuthenticator (p (empty_message_authenticator ∷ rest)) = record { one = one; size = refl } in
     subst (λ (all : List Attribute). HasOneMessageAuthenticator (p all)) (sym (carried-access r reply request access)) h
 
-AtMostOne-unsealed : (r : Returning) (reply request : Packet) → HasAtMostOneMessageAuthenticator reply → HasAtMostOneMessageAuthenticator (unsealed r reply request)
+pub AtMostOne-unsealed : (r : Returning) (reply request : Packet) → HasAtMostOneMessageAuthenticator reply → HasAtMostOneMessageAuthenticator (unsealed r reply request)
 AtMostOne-unsealed r reply request h =
     elim (cases_Bool (is_access_reply reply.code)) [
       | inl access ↦ inr (HasOne-access r reply request access)
@@ -207,7 +207,7 @@ only-carried r reply request =
 
 -- ---- the returned packet
 
-abbrev seal_of : Returning → Packet → Packet → List ℕ
+abbrev pub seal_of : Returning → Packet → Packet → List ℕ
 seal_of r reply request = message_authenticator r.client_secret request.authenticator (unsealed r reply request)
 
 length-seal_of : (r : Returning) (reply request : Packet) → length (seal_of r reply request) ≡ 16

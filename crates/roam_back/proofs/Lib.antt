@@ -3,3 +3,5 @@ pub mod KeptLemmas
 pub mod SignedLemmas
 pub mod ReturnedLemmas
 pub mod EveryCodeLemmas
+pub mod PlainLemmas
+pub mod CarriedLemmas

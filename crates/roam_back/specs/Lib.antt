@@ -1,3 +1,5 @@
 pub mod ReplyCheck
 pub mod Returned
 pub mod ReturnedLaws
+pub mod Plain
+pub mod CarriedLaws

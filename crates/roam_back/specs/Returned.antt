@@ -2,12 +2,12 @@
 use Rattle.std.specs.Prelude.{◌==◌, ℕ, List, ◌∷◌, ◌++◌, map, if◌then◌else◌}
 use Rattle.roam_wire.specs.Packet.{Attribute, Packet, packet_length}
 use Rattle.roam_wire.specs.Attributes.{only_kind, without_kind}
-use Rattle.roam_wire.specs.declared.attribute_type.TheConstants.{PROXY_STATE, MESSAGE_AUTHENTICATOR, TUNNEL_PASSWORD, VENDOR_SPECIFIC}
+use Rattle.roam_wire.specs.declared.attribute_type.TheConstants.{PROXY_STATE, MESSAGE_AUTHENTICATOR}
 use Rattle.roam_wire.specs.declared.code.TheConstants.{ACCESS_ACCEPT}
 use Rattle.roam_auth.specs.Authenticators.{with_authenticator, response_authenticator}
 use Rattle.roam_auth.specs.MessageAuthenticator.{empty_message_authenticator, with_message_authenticator}
 use Rattle.roam_hide.specs.Hiding.{Key}
-use Rattle.roam_hide.specs.SaltedFunctions.{tunnel_anew, vendor_anew}
+use Rattle.roam_hide.specs.PacketAnew.{salted_hidden_anew}
 use Rattle.roam_wire.specs.Codes.{is_access_reply}
 
 -- what a reply is returned with: the Authenticator of the forwarded request, the secret shared with
@@ -28,12 +28,7 @@ abbrev pub with_salted_anew : Returning → Packet → Attribute → Attribute
 with_salted_anew r request a =
     let from : Key = record { secret = r.home_secret; first = r.forwarded_authenticator } in
     let to : Key = record { secret = r.client_secret; first = request.authenticator } in
-    record a {
-      value =
-          if a.kind == TUNNEL_PASSWORD then tunnel_anew from to a.value
-          else if a.kind == VENDOR_SPECIFIC then vendor_anew from to a.value
-          else a.value;
-    }
+    salted_hidden_anew from to a
 
 -- the reply's own attributes as they are returned: without Proxy-State; in an Access reply without
 -- Message-Authenticator too, behind one that is still to be filled in; in an Access-Accept with

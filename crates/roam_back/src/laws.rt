@@ -2,6 +2,7 @@
 //! nothing: their contracts hold of all replies and requests.
 
 ghost use Rattle.roam_back.specs.ReplyCheck.{TakenHasNoFault};
+ghost use Rattle.roam_back.specs.CarriedLaws.{AcceptCarriesAll, AccessCarriesAll, OthersAreCarried};
 ghost use Rattle.roam_back.specs.ReturnedLaws.{ReturnedIsPacket, ReturnedReads, ReturnedHasLength, ReturnedIsSigned, ReturnedIsWellSealed, AccessIsSealed, AccessHasSealFirst, CodeIsTheReplys, IdentifierIsTheRequests, ProxyStatesAreTheRequests};
 
 /// The tests of a reply find no fault just where it is taken (RFC 2865, section 2.3).
@@ -30,4 +31,12 @@ pub fn returned_to_the_requester()
     ensures code { CodeIsTheReplys }
     ensures id { IdentifierIsTheRequests }
     ensures proxy_states { ProxyStatesAreTheRequests }
+{}
+
+/// What it carries of the reply: each attribute stands in its order octet for octet, and the salted
+/// strings of an Access-Accept open to the same plain text (RFC 2865, section 2.3).
+pub fn returned_carries()
+    ensures accept { AcceptCarriesAll }
+    ensures access { AccessCarriesAll }
+    ensures others { OthersAreCarried }
 {}

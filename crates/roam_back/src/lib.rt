@@ -5,10 +5,14 @@
 //! what it is returned with, is handed in.
 #![tactic(auto)]
 
+mod appending;
 mod laws;
 mod reply_check;
 mod returning;
 
-pub use laws::{returned_authenticators, returned_reads, returned_to_the_requester, taken_replies};
+pub use laws::{
+    returned_authenticators, returned_carries, returned_reads, returned_to_the_requester,
+    taken_replies,
+};
 pub use reply_check::check_reply;
 pub use returning::back;

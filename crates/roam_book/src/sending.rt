@@ -140,7 +140,8 @@ pub(crate) fn send_new<A: Allocator + Copy>(
     ensures next { (es : List PlainEntry) → IsEntryList es
         → LanesTell settings.now es numbers.old.lanes.items
         → next_toward settings.now (cursors_of numbers.old.lanes.items) es link ≡ Some result.1.id }
-    ensures out { shown_out result.0.out ≡ packet_to settings.now link (forwarded_octets settings.now
+    ensures out { shown_out result.0.out ≡ packet_to settings.now link
+        (forwarded_octets settings.now
         (shown_request asked.entry) ticket (record { link = link; id = result.1.id })) }
     ensures copied { IsCopied (is_some buffers.copy) result.0 }
     ensures standing { shown_standing (standing.Waiting result.1)

@@ -45,7 +45,7 @@ AreOctets-value f q a h =
     AreOctets-anew (a.kind == USER_PASSWORD) from to a.value h.octets
 
 -- so the attributes have
-length-passwords : (f : Forwarding) (q : Packet) (all : List Attribute) → AllByRecursion HasPasswordBlocks all → length (attributes_text (map (with_password_anew f q) all)) ≡ length (attributes_text all)
+pub length-passwords : (f : Forwarding) (q : Packet) (all : List Attribute) → AllByRecursion HasPasswordBlocks all → length (attributes_text (map (with_password_anew f q) all)) ≡ length (attributes_text all)
 length-passwords f q [] h = refl
 length-passwords f q (a ∷ all) h =
     let here = length-value f q a h.0 in
@@ -62,14 +62,14 @@ IsAttribute-passwords f q (a ∷ all) blocks h =
 
 -- ---- without Message-Authenticators
 
-without-yes : (a : Attribute) (all : List Attribute) → has_kind MESSAGE_AUTHENTICATOR a ≡ true → without_kind MESSAGE_AUTHENTICATOR (a ∷ all) ≡ without_kind MESSAGE_AUTHENTICATOR all
+pub without-yes : (a : Attribute) (all : List Attribute) → has_kind MESSAGE_AUTHENTICATOR a ≡ true → without_kind MESSAGE_AUTHENTICATOR (a ∷ all) ≡ without_kind MESSAGE_AUTHENTICATOR all
 without-yes a all seal = rw seal refl
 
-without-no : (a : Attribute) (all : List Attribute) → has_kind MESSAGE_AUTHENTICATOR a ≡ false → without_kind MESSAGE_AUTHENTICATOR (a ∷ all) ≡ a ∷ without_kind MESSAGE_AUTHENTICATOR all
+pub without-no : (a : Attribute) (all : List Attribute) → has_kind MESSAGE_AUTHENTICATOR a ≡ false → without_kind MESSAGE_AUTHENTICATOR (a ∷ all) ≡ a ∷ without_kind MESSAGE_AUTHENTICATOR all
 without-no a all other = rw other refl
 
 -- what holds of all holds of those that are left
-all_without : (P : Attribute → Type 0) (all : List Attribute) → AllByRecursion P all → AllByRecursion P (without_kind MESSAGE_AUTHENTICATOR all)
+pub all_without : (P : Attribute → Type 0) (all : List Attribute) → AllByRecursion P all → AllByRecursion P (without_kind MESSAGE_AUTHENTICATOR all)
 all_without P [] h = tt
 all_without P (a ∷ all) h =
     elim (cases_Bool (has_kind MESSAGE_AUTHENTICATOR a)) [
@@ -94,7 +94,7 @@ length-without (a ∷ all) h =
     ]
 
 -- none is left
-count_of-carried : (f : Forwarding) (q : Packet) (all : List Attribute) → count_of MESSAGE_AUTHENTICATOR (map (with_password_anew f q) (without_kind MESSAGE_AUTHENTICATOR all)) ≡ 0
+pub count_of-carried : (f : Forwarding) (q : Packet) (all : List Attribute) → count_of MESSAGE_AUTHENTICATOR (map (with_password_anew f q) (without_kind MESSAGE_AUTHENTICATOR all)) ≡ 0
 count_of-carried f q [] = refl
 count_of-carried f q (a ∷ all) =
     let rest : List Attribute = map (with_password_anew f q) (without_kind MESSAGE_AUTHENTICATOR all) in
@@ -113,22 +113,22 @@ count_of-carried f q (a ∷ all) =
 abbrev challenge_if : Bool → List ℕ → List Attribute
 challenge_if b value = if b then record { kind = CHAP_CHALLENGE; value = value } ∷ [] else []
 
-length-challenge : (b : Bool) (value : List ℕ) → length value ≡ 16 → length (attributes_text (challenge_if b value)) ≡ (if b then 18 else 0)
+pub length-challenge : (b : Bool) (value : List ℕ) → length value ≡ 16 → length (attributes_text (challenge_if b value)) ≡ (if b then 18 else 0)
 length-challenge true value size =
     omega (arith, size, length-append (attribute_text (record { kind = CHAP_CHALLENGE; value = value })) [])
 length-challenge false value size = refl
 
-count_of-challenge : (b : Bool) (value : List ℕ) → count_of MESSAGE_AUTHENTICATOR (challenge_if b value) ≡ 0
+pub count_of-challenge : (b : Bool) (value : List ℕ) → count_of MESSAGE_AUTHENTICATOR (challenge_if b value) ≡ 0
 count_of-challenge true value = refl
 count_of-challenge false value = refl
 
-IsAttribute-challenge : (b : Bool) (value : List ℕ) → AreOctets value → length value ≡ 16 → AllByRecursion IsAttribute (challenge_if b value)
+pub IsAttribute-challenge : (b : Bool) (value : List ℕ) → AreOctets value → length value ≡ 16 → AllByRecursion IsAttribute (challenge_if b value)
 IsAttribute-challenge true value octets size = (record { kind = omega arith; octets = octets; size = omega (arith, size) }, tt)
 IsAttribute-challenge false value octets size = tt
 
 -- ---- all attributes
 
-AllByRecursion-append : (P : Attribute → Type 0) (xs ys : List Attribute) → AllByRecursion P xs → AllByRecursion P ys → AllByRecursion P (xs ++ ys)
+pub AllByRecursion-append : (P : Attribute → Type 0) (xs ys : List Attribute) → AllByRecursion P xs → AllByRecursion P ys → AllByRecursion P (xs ++ ys)
 AllByRecursion-append P [] ys h k = k
 AllByRecursion-append P (x ∷ xs) ys h k = (h.0, AllByRecursion-append P xs ys h.1 k)
 
@@ -142,7 +142,7 @@ seal_growth (suc (suc n)) others all h is =
       | inr one ↦ absurd (omega arith)
     ]
 
-zero_or_one : (q : Packet) → HasAtMostOneMessageAuthenticator q → (count_of MESSAGE_AUTHENTICATOR q.attributes ≡ 0) ⊎ (count_of MESSAGE_AUTHENTICATOR q.attributes ≡ 1)
+pub zero_or_one : (q : Packet) → HasAtMostOneMessageAuthenticator q → (count_of MESSAGE_AUTHENTICATOR q.attributes ≡ 0) ⊎ (count_of MESSAGE_AUTHENTICATOR q.attributes ≡ 1)
 zero_or_one q h =
     elim h [
       | inl none ↦ inl none

@@ -1,12 +1,10 @@
 -- A request's octets behind those of a buffer, and what is written over them.
-use Rattle.std.proofs.Common.{◌≡◌, ◌≢◌, ℕ, ◌+◌, ◌-◌, ◌≤◌, List, [], ◌++◌, length, take, drop, replicate, subst, refl, sym, ap, ◌∙◌, arith, length-append, length-drop, append_assoc}
-use Rattle.std.proofs.lemmas.List.{take_at, drop_at, take_all, drop_all, append-nil, length-replicate}
+use Rattle.std.proofs.Common.{◌≡◌, ℕ, ◌+◌, ◌-◌, ◌≤◌, List, [], ◌++◌, length, take, drop, replicate, subst, refl, sym, ap, ◌∙◌, arith, length-append, length-drop, append_assoc}
+use Rattle.std.proofs.lemmas.List.{take_at, drop_at, take_all, drop_all, append-nil, length-take, length-replicate}
 use Rattle.roam_wire.specs.Packet.{Packet, IsPacket, packet_text, packet_length}
 use Rattle.roam_wire.specs.Reading.{IsPacketText, packet_of}
-use Rattle.roam_wire.specs.declared.code.TheConstants.{ACCESS_REQUEST}
 use Rattle.roam_wire.proofs.LawLemmas.{packet_of-packet_text, IsPacketText-packet_text, length-packet_text}
 use Rattle.roam_fwd.specs.Forwarded.{forwarded_length, CanBeForwarded}
-use Rattle.roam_fwd.proofs.ForwardedLemmas.{CanBeRewritten}
 
 -- all octets from the start on
 abbrev pub from_start : ℕ → List ℕ → List ℕ
@@ -70,13 +68,23 @@ length-there q start size old text all h =
     omega (arith, ap length (from_start-is start all old (text ++ zeros) h.all-is h.start-is), length-append text zeros, length-replicate {A = ℕ} (size - length text) 0, ap length h.text-is, length-packet_text q h.packet, more)
 
 -- so they can be rewritten
-pub can_be_rewritten : (q : Packet) (start size : ℕ) (old text all : List ℕ) → HoldsRequest q start size old text all → CanBeForwarded q → q.code ≢ ACCESS_REQUEST → CanBeRewritten (length text) (from_start start all)
-can_be_rewritten q start size old text all h can other =
+pub record IsRewritable (len : ℕ) (octets : List ℕ) : Type 0 where
+  pub packet : IsPacketText (take len octets)
+  pub can_be_forwarded : CanBeForwarded (packet_of (take len octets))
+  pub size : length octets ≡ forwarded_length (packet_of (take len octets))
+
+pub can_be_rewritten : (q : Packet) (start size : ℕ) (old text all : List ℕ) → HoldsRequest q start size old text all → CanBeForwarded q → IsRewritable (length text) (from_start start all)
+can_be_rewritten q start size old text all h can =
     let there = packet_there q start size old text all h in
     let same = packet_of-there q start size old text all h in
     record {
       packet = subst IsPacketText (sym there) (IsPacketText-packet_text q h.packet);
       can_be_forwarded = subst CanBeForwarded (sym same) can;
       size = length-there q start size old text all h ∙ h.size-is ∙ ap forwarded_length (sym same);
-      other_code = subst (λ (p : Packet). p.code ≢ ACCESS_REQUEST) (sym same) other;
     }
+
+-- the request that is rewritten ends within the octets
+pub rewritten_within : (len : ℕ) (octets : List ℕ) → IsPacketText (take len octets) → length octets ≡ forwarded_length (packet_of (take len octets)) → len ≤ length octets
+unfolding forwarded_length
+rewritten_within len octets text size =
+    omega (arith, size, ap length text.spelt, length-packet_text (packet_of (take len octets)) text.packet, length-take len octets)

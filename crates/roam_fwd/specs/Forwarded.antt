@@ -8,7 +8,8 @@ use Rattle.roam_wire.specs.declared.attribute_type.TheConstants.{USER_PASSWORD, 
 use Rattle.roam_wire.specs.declared.code.TheConstants.{ACCESS_REQUEST}
 use Rattle.roam_auth.specs.Authenticators.{zero_octets, with_authenticator, request_authenticator}
 use Rattle.roam_auth.specs.MessageAuthenticator.{HasAtMostOneMessageAuthenticator, empty_message_authenticator, with_message_authenticator}
-use Rattle.roam_hide.specs.Hiding.{Key, HasWholeBlocks, hidden_anew}
+use Rattle.roam_hide.specs.Hiding.{Key, HasWholeBlocks}
+use Rattle.roam_hide.specs.PacketAnew.{password_hidden_anew}
 
 -- what a request is forwarded with: the secret shared with the requester and the one shared with the
 -- link, the new Identifier, the Authenticator of an Access-Request, and the ticket (ours)
@@ -30,7 +31,7 @@ abbrev pub with_password_anew : Forwarding → Packet → Attribute → Attribut
 with_password_anew f request a =
     let from : Key = record { secret = f.from_secret; first = request.authenticator } in
     let to : Key = record { secret = f.to_secret; first = f.authenticator } in
-    record a { value = if a.kind == USER_PASSWORD then hidden_anew from to a.value else a.value }
+    password_hidden_anew from to a
 
 -- whether a CHAP-Password stands without a CHAP-Challenge, so that the request's Authenticator is the
 -- challenge (RFC 2865, section 5.3)

@@ -1,2 +1,4 @@
 pub mod Forwarded
 pub mod ForwardedLaws
+pub mod Arranged
+pub mod CarriedLaws

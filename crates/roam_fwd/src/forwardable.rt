@@ -1,13 +1,15 @@
 //! Whether a request can be forwarded.
 
-ghost use Rattle.std.specs.Prelude.{◌≡◌, ◌≢◌, ◌≤◌, ◌↔◌, IsTrue};
-ghost use Rattle.roam_wire.specs.declared.code.TheConstants.{ACCESS_REQUEST};
+ghost use Rattle.std.specs.Prelude.{◌≡◌, ◌≤◌, ◌↔◌, IsTrue};
+ghost use Rattle.std.specs.List.{AllByRecursion};
+ghost use Rattle.roam_hide.specs.Hiding.{HasWholeBlocks};
 ghost use Rattle.roam_auth.specs.MessageAuthenticator.{HasAtMostOneMessageAuthenticator};
-ghost use Rattle.roam_fwd.specs.Forwarded.{forwarded_length, CanBeForwarded};
+ghost use Rattle.roam_fwd.specs.Forwarded.{forwarded_length, HasPasswordBlocks, CanBeForwarded};
 
 use crate::length::forwarded_len;
 use roam_auth::has_one_message_authenticator;
-use roam_wire::attribute_type::MESSAGE_AUTHENTICATOR;
+use roam_wire::attribute_type::{MESSAGE_AUTHENTICATOR, USER_PASSWORD};
+use roam_wire::code::ACCESS_REQUEST;
 use roam_wire::{MAX_PACKET_LENGTH, View};
 
 /// Whether at most one Message-Authenticator stands there, of 16 octets (RFC 3579, section 3.2).
@@ -25,13 +27,30 @@ fn fits_sealed(request: &View<'_>) -> bool
     has_at_most_one_message_authenticator(request) && forwarded_len(request) <= MAX_PACKET_LENGTH
 }
 
+/// Whether there is one block at least, and whole blocks alone.
+fn has_whole_blocks(value: &[u8]) -> bool
+    ensures { IsTrue result ↔ HasWholeBlocks value.now }
+{
+    !value.is_empty() && value.len() % 16 == 0
+}
+
+/// Whether each User-Password has whole blocks (RFC 2865, section 5.2).
+fn passwords_have_blocks(request: &View<'_>) -> bool
+    ensures { IsTrue result ↔ AllByRecursion HasPasswordBlocks request.now.attributes }
+{
+    for attribute in request.attributes() {
+        if attribute.kind == USER_PASSWORD && !has_whole_blocks(attribute.value) {
+            return false;
+        }
+    }
+    true
+}
+
 /// Whether a request can be forwarded: whether it has at most one Message-Authenticator, of 16 octets,
-/// and the forwarded packet has at most 4096 octets. Takes no memory.
-///
-/// An Access-Request isn't looked at yet.
+/// each User-Password of an Access-Request has whole blocks, and the forwarded packet has at most 4096
+/// octets. Takes no memory.
 pub fn can_be_forwarded(request: &View<'_>) -> bool
-    requires { request.now.code ≢ ACCESS_REQUEST }
     ensures { IsTrue result ↔ CanBeForwarded request.now }
 {
-    fits_sealed(request)
+    fits_sealed(request) && (request.code() != ACCESS_REQUEST || passwords_have_blocks(request))
 }

@@ -1,49 +1,49 @@
 //! The forwarded packet's octets, written where the request's were copied to.
 
-ghost use Rattle.std.specs.Prelude.{◌≡◌, ◌≢◌, ◌+◌, ◌/◌, ◌%◌, ◌≤◌, ◌∷◌, ◌++◌, length, take, drop, replicate, slice_index, vec_len, vec_capacity, IsOk, OnOk, OnErr};
-ghost use Rattle.roam_wire.specs.Packet.{attribute_text, packet_text};
+ghost use Rattle.std.specs.Prelude.{◌≡◌, ◌≢◌, ℕ, ◌+◌, ◌≤◌, List, ◌++◌, length, take, replicate, vec_len, vec_capacity, IsOk, OnOk, OnErr};
+ghost use Rattle.roam_wire.specs.Packet.{packet_text};
 ghost use Rattle.roam_wire.specs.Reading.{IsPacketText, packet_of};
 ghost use Rattle.roam_wire.specs.declared.code.TheConstants.{ACCESS_REQUEST};
-ghost use Rattle.roam_auth.specs.Authenticators.{zero_octets};
-ghost use Rattle.roam_fwd.specs.Forwarded.{ticket_state, unsealed, forwarded, forwarded_length, CanBeForwarded};
+ghost use Rattle.roam_fwd.specs.Forwarded.{forwarded, forwarded_length, CanBeForwarded};
 
-use crate::length::{TICKET_SIZE, forwarded_len};
+use crate::access::rewrite_access;
+use crate::length::forwarded_len;
+use crate::places::{front_packet, put_header, put_ticket};
 use roam_auth::{ZERO_OCTETS, seal, sign_request};
-use roam_wire::attribute_type::PROXY_STATE;
+use roam_wire::code::ACCESS_REQUEST;
 use roam_wire::{NoMemory, View};
 use std::alloc::Allocator;
 
-/// Writes the ticket's Proxy-State (RFC 2865, section 5.33) as the last octets.
-fn put_ticket(octets: &mut [u8], at: usize, ticket: u64)
-    requires { at + 10 ≡ length octets.old }
-    ensures { octets.new ≡ take at octets.old ++ attribute_text (ticket_state ticket) }
+/// Rewrites the octets of a request that is signed, and so isn't an Access-Request, to those of the
+/// packet that is forwarded for it (RFC 2866, section 3; RFC 5176, section 2.3).
+fn rewrite_signed(octets: &mut [u8], len: usize, to_secret: &[u8], id: u8, ticket: u64)
+    requires packet { IsPacketText (take len octets.old) }
+    requires can_be_forwarded { CanBeForwarded (packet_of (take len octets.old)) }
+    requires size { length octets.old ≡ forwarded_length (packet_of (take len octets.old)) }
+    requires other_code { (packet_of (take len octets.old)).code ≢ ACCESS_REQUEST }
+    requires to_at_least_one_octet { 1 ≤ length to_secret.now }
+    requires to_at_most_64_octets { length to_secret.now ≤ 64 }
+    ensures { (from_secret authenticator : List ℕ) → octets.new ≡ packet_text (forwarded
+        (record {
+          from_secret = from_secret;
+          to_secret = to_secret.now;
+          id = id;
+          authenticator = authenticator;
+          ticket = ticket;
+        })
+        (packet_of (take len octets.old))) }
 {
-    octets[at] = PROXY_STATE;
-    octets[at + 1] = TICKET_SIZE as u8;
-    octets[at + 2..].copy_from_slice(&ticket.to_be_bytes());
-}
-
-/// Writes the header of a request that is signed once it is sealed: the Identifier, the Length of the
-/// octets, and zeros for the Authenticator.
-fn put_header(octets: &mut [u8], id: u8)
-    requires at_least_header { 20 ≤ length octets.old }
-    requires at_most_4096 { length octets.old ≤ 4096 }
-    ensures { octets.new ≡ slice_index octets.old 0 ∷ id ∷ (length octets.old / 256)
-        ∷ (length octets.old % 256) ∷ zero_octets ++ drop 20 octets.old }
-{
-    let size = octets.len();
-    octets[1] = id;
-    octets[2] = (size / 256) as u8;
-    octets[3] = (size % 256) as u8;
-    octets[4..20].copy_from_slice(&ZERO_OCTETS);
+    put_ticket(octets, len, ticket);
+    put_header(octets, id, &ZERO_OCTETS);
+    seal(octets, to_secret, ZERO_OCTETS);
+    sign_request(octets, to_secret);
 }
 
 /// Rewrites a request's octets to those of the packet that is forwarded for it (RFC 2865, section 2.3),
 /// where they lie. The first `len` octets are the request's; behind them is room for what is added, and
 /// what stands there doesn't count. Takes no memory.
 ///
-/// `authenticator` counts for an Access-Request alone, and so does the requester's secret. An
-/// Access-Request isn't rewritten yet.
+/// `authenticator` counts for an Access-Request alone, and so does the requester's secret.
 pub fn rewrite(
     octets: &mut [u8],
     len: usize,
@@ -56,7 +56,6 @@ pub fn rewrite(
     requires packet { IsPacketText (take len octets.old) }
     requires can_be_forwarded { CanBeForwarded (packet_of (take len octets.old)) }
     requires size { length octets.old ≡ forwarded_length (packet_of (take len octets.old)) }
-    requires other_code { (packet_of (take len octets.old)).code ≢ ACCESS_REQUEST }
     requires from_at_least_one_octet { 1 ≤ length from_secret.now }
     requires from_at_most_64_octets { length from_secret.now ≤ 64 }
     requires to_at_least_one_octet { 1 ≤ length to_secret.now }
@@ -71,10 +70,19 @@ pub fn rewrite(
         })
         (packet_of (take len octets.old))) }
 {
-    put_ticket(octets, len, ticket);
-    put_header(octets, id);
-    seal(octets, to_secret, ZERO_OCTETS);
-    sign_request(octets, to_secret);
+    if front_packet(octets, len).code() == ACCESS_REQUEST {
+        rewrite_access(
+            octets,
+            len,
+            from_secret,
+            to_secret,
+            id,
+            &authenticator,
+            ticket,
+        );
+    } else {
+        rewrite_signed(octets, len, to_secret, id, ticket);
+    }
 }
 
 /// Appends octets where the room is there.
@@ -102,8 +110,7 @@ fn append_zeros_reserved<A: Allocator>(out: &mut Vec<u8, A>, count: usize)
 /// Appends the packet that is forwarded for a request (RFC 2865, section 2.3) to a buffer that has the
 /// room. Takes no memory. The request's octets are copied once.
 ///
-/// `authenticator` counts for an Access-Request alone, and so does the requester's secret. An
-/// Access-Request isn't forwarded yet.
+/// `authenticator` counts for an Access-Request alone, and so does the requester's secret.
 pub fn forward_reserved<A: Allocator>(
     request: &View<'_>,
     from_secret: &[u8],
@@ -115,7 +122,6 @@ pub fn forward_reserved<A: Allocator>(
 )
     requires room { vec_len out.old + forwarded_length request.now ≤ vec_capacity out.old }
     requires can_be_forwarded { CanBeForwarded request.now }
-    requires other_code { request.now.code ≢ ACCESS_REQUEST }
     requires from_at_least_one_octet { 1 ≤ length from_secret.now }
     requires from_at_most_64_octets { length from_secret.now ≤ 64 }
     requires to_at_least_one_octet { 1 ≤ length to_secret.now }
@@ -152,8 +158,7 @@ pub fn forward_reserved<A: Allocator>(
 /// is asked for first; without it the buffer stays as it was,
 /// with its capacity. The request's octets are copied once.
 ///
-/// `authenticator` counts for an Access-Request alone, and so does the requester's secret. An
-/// Access-Request isn't forwarded yet.
+/// `authenticator` counts for an Access-Request alone, and so does the requester's secret.
 pub fn forward<A: Allocator>(
     request: &View<'_>,
     from_secret: &[u8],
@@ -164,7 +169,6 @@ pub fn forward<A: Allocator>(
     out: &mut Vec<u8, A>,
 ) -> Result<(), NoMemory>
     requires can_be_forwarded { CanBeForwarded request.now }
-    requires other_code { request.now.code ≢ ACCESS_REQUEST }
     requires from_at_least_one_octet { 1 ≤ length from_secret.now }
     requires from_at_most_64_octets { length from_secret.now ≤ 64 }
     requires to_at_least_one_octet { 1 ≤ length to_secret.now }

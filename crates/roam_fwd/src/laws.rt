@@ -1,5 +1,6 @@
 //! Laws of the forwarded packet. These functions do nothing: their contracts hold of all packets.
 
+ghost use Rattle.roam_fwd.specs.CarriedLaws.{ForwardedReads, AccessCarriesAll, OthersAreCarried};
 ghost use Rattle.roam_fwd.specs.ForwardedLaws.{ForwardedIsPacket, ForwardedHasLength, ForwardedIsWellSealed, ForwardedIsSigned, AccessHasSeal, AccessHasSealFirst, AccessHasAuthenticator, ForwardedKeepsCode, ForwardedHasIdentifier, TicketIsLast};
 
 /// What a forwarded packet is, for every code.
@@ -22,4 +23,12 @@ pub fn forwarded_marks()
     ensures code { ForwardedKeepsCode }
     ensures identifier { ForwardedHasIdentifier }
     ensures ticket { TicketIsLast }
+{}
+
+/// What it carries of the request: it reads, each attribute stands in its order octet for octet, and a
+/// User-Password opens to the same plain text.
+pub fn forwarded_carries()
+    ensures reads { ForwardedReads }
+    ensures access { AccessCarriesAll }
+    ensures others { OthersAreCarried }
 {}

@@ -13,14 +13,14 @@ pub(crate) const TICKET_SIZE: usize = 10;
 
 /// The octets of a Message-Authenticator or CHAP-Challenge that is added: Type, Length and sixteen of
 /// Value.
-const ADDED_SIZE: usize = 18;
+pub(crate) const ADDED_SIZE: usize = 18;
 
 /// The most octets that a forwarded packet has more than its request: the ticket, a
 /// Message-Authenticator and a CHAP-Challenge.
 pub const MAX_GROWTH: usize = 46;
 
 /// Whether a CHAP-Password stands without a CHAP-Challenge (RFC 2865, section 5.3).
-fn challenge_is_authenticator(request: &View<'_>) -> bool
+pub(crate) fn challenge_is_authenticator(request: &View<'_>) -> bool
     ensures { result ≡ challenge_is_authenticator request.now.attributes }
 {
     request.count(CHAP_PASSWORD) > 0 && request.count(CHAP_CHALLENGE) == 0

@@ -5,12 +5,14 @@
 //! and the ticket are arguments. A request's octets are copied once, and rewritten where they then lie.
 #![tactic(auto)]
 
+mod access;
 mod forwardable;
 mod forwarding;
 mod laws;
 mod length;
+mod places;
 
 pub use forwardable::can_be_forwarded;
 pub use forwarding::{forward, forward_reserved, rewrite};
-pub use laws::{forwarded_authenticator, forwarded_marks, forwarded_packet};
+pub use laws::{forwarded_authenticator, forwarded_carries, forwarded_marks, forwarded_packet};
 pub use length::{MAX_GROWTH, forwarded_len};

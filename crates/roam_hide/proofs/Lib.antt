@@ -3,3 +3,4 @@ pub mod SaltedLemmas
 pub mod SaltedFunctionLemmas
 pub mod OctetLemmas
 pub mod StandardFacts
+pub mod PacketAnewLemmas

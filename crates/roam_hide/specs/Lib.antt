@@ -4,3 +4,4 @@ pub mod HidingLaws
 pub mod SaltedValues
 pub mod SaltedFunctions
 pub mod SaltedLaws
+pub mod PacketAnew

@@ -8,6 +8,7 @@
 mod blocks;
 mod hiding_key;
 pub mod laws;
+mod packet_values;
 mod password;
 mod salted_packet;
 mod salted_value;
@@ -16,6 +17,7 @@ mod tunnel_password;
 mod vendor_specific;
 
 pub use hiding_key::HidingKey;
+pub use packet_values::{Hidden, rehide_packet};
 pub use password::{password_fits, rehide_password};
 pub use salted_packet::salted;
 pub use salted_value::rehide_salted;

@@ -21,7 +21,7 @@ rewrite-requires-clause-packet g c =
       size-is = c.forwarded_len-size.ensures.size;
       longer = c.forwarded_len-size.ensures.at_least;
     } in
-    (can_be_rewritten c.args.request.now start size old text all held c.requires.can_be_forwarded c.requires.other_code).packet
+    (can_be_rewritten c.args.request.now start size old text all held c.requires.can_be_forwarded).packet
 
 -- that can be forwarded
 pub rewrite-requires-clause-can_be_forwarded : goal.rewrite-requires-clause-can_be_forwarded
@@ -40,7 +40,7 @@ rewrite-requires-clause-can_be_forwarded g c =
       size-is = c.forwarded_len-size.ensures.size;
       longer = c.forwarded_len-size.ensures.at_least;
     } in
-    (can_be_rewritten c.args.request.now start size old text all held c.requires.can_be_forwarded c.requires.other_code).can_be_forwarded
+    (can_be_rewritten c.args.request.now start size old text all held c.requires.can_be_forwarded).can_be_forwarded
 
 -- with room for what is added
 pub rewrite-requires-clause-size : goal.rewrite-requires-clause-size
@@ -59,26 +59,7 @@ rewrite-requires-clause-size g c =
       size-is = c.forwarded_len-size.ensures.size;
       longer = c.forwarded_len-size.ensures.at_least;
     } in
-    (can_be_rewritten c.args.request.now start size old text all held c.requires.can_be_forwarded c.requires.other_code).size
-
--- and isn't an Access-Request
-pub rewrite-requires-clause-other_code : goal.rewrite-requires-clause-other_code
-rewrite-requires-clause-other_code g c =
-    let old : List ℕ = c.args.out.now.items in
-    let text : List ℕ = c.octets-text.result.now in
-    let all : List ℕ = c.as_mut_slice.result.now in
-    let start : ℕ = c.len-start.result in
-    let size : ℕ = c.forwarded_len-size.result in
-    let zeros : List ℕ = replicate (size - length text) 0 in
-    let held : HoldsRequest c.args.request.now start size old text all = record {
-      all-is = appended_twice old text zeros c.append_reserved.new.out.items c.append_zeros_reserved.new.out.items all c.append_reserved.ensures.items c.append_zeros_reserved.ensures.items c.as_mut_slice.ensures.value;
-      start-is = c.len-start.ensures ∙ c.args.out.now.ok.0;
-      text-is = c.octets-text.ensures.text;
-      packet = c.octets-text.ensures.packet;
-      size-is = c.forwarded_len-size.ensures.size;
-      longer = c.forwarded_len-size.ensures.at_least;
-    } in
-    (can_be_rewritten c.args.request.now start size old text all held c.requires.can_be_forwarded c.requires.other_code).other_code
+    (can_be_rewritten c.args.request.now start size old text all held c.requires.can_be_forwarded).size
 
 -- the forwarded packet then stands there
 pub returns-clause-octets : goal.returns-clause-octets

@@ -1,0 +1,10 @@
+//! Access packets that leave, against octets from outside: Access-Requests as they are forwarded, and
+//! the replies to them as they are returned.
+#![tactic(auto)]
+
+#[cfg(test)]
+mod back_tests;
+#[cfg(test)]
+mod exchanges;
+#[cfg(test)]
+mod fwd_tests;

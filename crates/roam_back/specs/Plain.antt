@@ -1,0 +1,32 @@
+-- The packet that is returned for a reply, before its salted strings are hidden anew (ours).
+use Rattle.std.specs.Prelude.{◌==◌, ◌&&◌, Bool, not, List, [], ◌∷◌, ◌++◌, filter, if◌then◌else◌}
+use Rattle.roam_wire.specs.Packet.{Attribute, Packet}
+use Rattle.roam_wire.specs.declared.attribute_type.TheConstants.{PROXY_STATE, MESSAGE_AUTHENTICATOR}
+use Rattle.roam_auth.specs.MessageAuthenticator.{empty_message_authenticator}
+use Rattle.roam_wire.specs.Codes.{is_access_reply}
+use Rattle.roam_back.specs.Returned.{proxy_states}
+
+-- whether an attribute of a reply is returned: no Proxy-State is, and no Message-Authenticator of an
+-- Access reply, in which another one stands first
+unfoldable pub is_carried : Bool → Attribute → Bool
+is_carried access a = not (a.kind == PROXY_STATE) && not (access && a.kind == MESSAGE_AUTHENTICATOR)
+
+-- the Message-Authenticator that stands first in an Access reply
+abbrev pub first_seal : Bool → List Attribute
+first_seal access = if access then empty_message_authenticator ∷ [] else []
+
+-- the attributes, with salted strings as the home server hid them
+abbrev pub plain_attributes : Packet → Packet → List Attribute
+plain_attributes reply request =
+    first_seal (is_access_reply reply.code)
+    ++ filter (is_carried (is_access_reply reply.code)) reply.attributes
+    ++ proxy_states request
+
+-- and the packet
+abbrev pub plain_packet : Packet → Packet → Packet
+plain_packet reply request = record {
+  code = reply.code;
+  id = request.id;
+  authenticator = request.authenticator;
+  attributes = plain_attributes reply request;
+}

@@ -1,0 +1,45 @@
+-- What the forwarded packet carries of the request (RFC 2865, section 2.3). Each law is a clause of a
+-- function of src/laws.rt.
+use Rattle.std.specs.Prelude.{◌≡◌, ◌≢◌, ◌<◌, ℕ, List, [], ◌∷◌, ◌++◌}
+use Rattle.std.specs.List.{AllZip}
+use Rattle.roam_wire.specs.Packet.{Attribute, Packet, IsPacket, packet_text}
+use Rattle.roam_wire.specs.Attributes.{without_kind}
+use Rattle.roam_wire.specs.Reading.{ReadsAs}
+use Rattle.roam_wire.specs.declared.attribute_type.TheConstants.{USER_PASSWORD, MESSAGE_AUTHENTICATOR}
+use Rattle.roam_wire.specs.declared.code.TheConstants.{ACCESS_REQUEST}
+use Rattle.roam_auth.specs.Authenticators.{AreSixteenOctets}
+use Rattle.roam_hide.specs.Hiding.{Key, IsHiddenAnew}
+use Rattle.roam_fwd.specs.Forwarded.{Forwarding, ticket_state, added_challenge, forwarded, CanBeForwarded}
+
+-- the forwarded packet's octets read as it
+abbrev pub ForwardedReads : Type 0
+ForwardedReads = (f : Forwarding) (request : Packet) → f.id < 256 → IsPacket request →
+    CanBeForwarded request → (request.code ≡ ACCESS_REQUEST → AreSixteenOctets f.authenticator) →
+    ReadsAs (packet_text (forwarded f request)) (forwarded f request)
+
+-- an attribute as it is carried to another server: a User-Password hides the same plain text with the
+-- other key, and every other attribute is the same octet for octet (RFC 2865, section 5.2)
+pub record IsCarried (from to : Key) (old new : Attribute) : Type 0 where
+  pub kind : new.kind ≡ old.kind
+  pub password : old.kind ≡ USER_PASSWORD → IsHiddenAnew from to old.value new.value
+  pub other : old.kind ≢ USER_PASSWORD → new.value ≡ old.value
+
+-- An Access-Request's attributes: a Message-Authenticator, then each attribute of the request but its
+-- Message-Authenticator, in their order, then what is added.
+abbrev pub AccessCarriesAll : Type 0
+AccessCarriesAll = (f : Forwarding) (request : Packet) → CanBeForwarded request →
+    request.code ≡ ACCESS_REQUEST →
+    let from : Key = record { secret = f.from_secret; first = request.authenticator } in
+    let to : Key = record { secret = f.to_secret; first = f.authenticator } in
+    (seal : List ℕ) × (carried : List Attribute)
+    × ((forwarded f request).attributes
+    ≡ (record { kind = MESSAGE_AUTHENTICATOR; value = seal } ∷ carried)
+    ++ added_challenge request ++ ticket_state f.ticket ∷ [])
+    × AllZip (IsCarried from to) (without_kind MESSAGE_AUTHENTICATOR request.attributes) carried
+
+-- Any other request's: all of them in their order, octet for octet but for the Message-Authenticator's
+-- Value, then the ticket.
+abbrev pub OthersAreCarried : Type 0
+OthersAreCarried = (f : Forwarding) (request : Packet) → request.code ≢ ACCESS_REQUEST →
+    without_kind MESSAGE_AUTHENTICATOR (forwarded f request).attributes
+    ≡ without_kind MESSAGE_AUTHENTICATOR request.attributes ++ ticket_state f.ticket ∷ []

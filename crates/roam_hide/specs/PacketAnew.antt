@@ -1,0 +1,37 @@
+-- A packet whose hidden values are hidden anew (RFC 2865, section 2.3).
+use Rattle.std.specs.Prelude.{◌≡◌, ◌==◌, map, if◌then◌else◌}
+use Rattle.roam_wire.specs.Packet.{Attribute, Packet}
+use Rattle.roam_wire.specs.declared.attribute_type.TheConstants.{USER_PASSWORD, TUNNEL_PASSWORD, VENDOR_SPECIFIC}
+use Rattle.roam_hide.specs.declared.packet_values.Hidden.{Hidden}
+use Rattle.roam_hide.specs.declared.packet_values.Hidden.TheVariants.{UserPassword, SaltedStrings}
+use Rattle.roam_hide.specs.Hiding.{Key, HasWholeBlocks, hidden_anew}
+use Rattle.roam_hide.specs.SaltedFunctions.{tunnel_anew, vendor_anew}
+
+-- an attribute with a User-Password hidden anew (RFC 2865, section 5.2)
+abbrev pub password_hidden_anew : Key → Key → Attribute → Attribute
+password_hidden_anew from to a =
+    record a { value = if a.kind == USER_PASSWORD then hidden_anew from to a.value else a.value }
+
+-- an attribute with its salted strings hidden anew (RFC 2868, section 3.5; RFC 2548, section 2.4)
+abbrev pub salted_hidden_anew : Key → Key → Attribute → Attribute
+salted_hidden_anew from to a =
+    record a {
+      value =
+          if a.kind == TUNNEL_PASSWORD then tunnel_anew from to a.value
+          else if a.kind == VENDOR_SPECIFIC then vendor_anew from to a.value
+          else a.value;
+    }
+
+-- one of the two
+abbrev pub attribute_anew : Hidden → Key → Key → Attribute → Attribute
+attribute_anew UserPassword from to a = password_hidden_anew from to a
+attribute_anew SaltedStrings from to a = salted_hidden_anew from to a
+
+-- the packet with each attribute so
+abbrev pub packet_anew : Hidden → Key → Key → Packet → Packet
+packet_anew hidden from to p =
+    record p { attributes = map (attribute_anew hidden from to) p.attributes }
+
+-- a User-Password that is hidden anew has whole blocks (RFC 2865, section 5.2)
+pub record CanBeHiddenAnew (hidden : Hidden) (a : Attribute) : Type 0 where
+  pub password : hidden ≡ UserPassword → a.kind ≡ USER_PASSWORD → HasWholeBlocks a.value
