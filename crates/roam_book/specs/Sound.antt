@@ -18,7 +18,7 @@ use Rattle.roam_book.specs.declared.gone.Gone.{Gone}
 use Rattle.roam_book.specs.declared.sending.Asked.{Asked}
 use Rattle.roam_book.specs.declared.numbers.Numbers.{Numbers}
 
--- a request of the realm, of a code that is served by now
+-- a request of the realm, of a code that is served so far
 pub record IsRequest (c : RealmConfig) (q : PlainRequest) : Type 0 where
   pub packet : IsPacketText q.octets
   pub code : (packet_of q.octets).code ≡ ACCOUNTING_REQUEST
