@@ -5,7 +5,7 @@ use Rattle.roam_wire.specs.Reading.{IsPacketText, packet_of}
 use Rattle.roam_wire.proofs.LawLemmas.{IsPacketText-packet_text, packet_of-packet_text}
 use Rattle.roam_auth.specs.MessageAuthenticator.{HasAtMostOneMessageAuthenticator, message_authenticator, with_message_authenticator}
 use Rattle.roam_auth.proofs.ValueLemmas.{IsPacket-with_value}
-use Rattle.roam_auth.proofs.DigestLemmas.{sixteen-message_authenticator, length-message_authenticator}
+use Rattle.roam_auth.proofs.DigestLemmas.{sixteen-message_authenticator}
 
 -- a sealed packet is a packet
 pub IsPacket-sealed : (secret authenticator : List ℕ) (p : Packet) → HasAtMostOneMessageAuthenticator p → IsPacket p → IsPacket (with_message_authenticator secret authenticator p)

@@ -15,7 +15,7 @@ use Rattle.roam_wire.proofs.LawLemmas.{length-packet_text, AreTextOf, AreTextOf-
 use Rattle.roam_auth.specs.Authenticators.{zero_octets, with_authenticator, request_authenticator}
 use Rattle.roam_auth.specs.MessageAuthenticator.{HasAtMostOneMessageAuthenticator, message_authenticator, with_message_authenticator}
 use Rattle.roam_auth.proofs.ValueLemmas.{IsPacket-with_value}
-use Rattle.roam_auth.proofs.DigestLemmas.{sixteen-message_authenticator, length-message_authenticator}
+use Rattle.roam_auth.proofs.DigestLemmas.{sixteen-message_authenticator}
 use Rattle.roam_auth.proofs.SealingLemmas.{count_of-append}
 use Rattle.roam_fwd.specs.Forwarded.{Forwarding, ticket_state, unsealed, forwarded, forwarded_length, CanBeForwarded}
 
