@@ -120,7 +120,12 @@ fn entries_stand_in_order_of_ticket(rt: HostRuntime) -> Result<(), Fail> {
 fn gap_of_five<A: Allocator>(pending: &mut Pending<A>) -> [Option<u64>; 4] {
     let first = ticket_of(pending.remove(5).as_ref());
     let again = ticket_of(pending.remove(5).as_ref());
-    [first, again, ticket_of(pending.at(1)), ticket_of(pending.at(2))]
+    [
+        first,
+        again,
+        ticket_of(pending.at(1)),
+        ticket_of(pending.at(2)),
+    ]
 }
 
 #[test]
@@ -151,7 +156,10 @@ fn found<A: Allocator>(pending: &Pending<A>) -> [Option<u64>; 6] {
 #[test]
 fn entries_are_found_by_ticket_and_key(rt: HostRuntime) -> Result<(), Fail> {
     let pending = three(rt.alloc())?;
-    assert_eq!(rt; found(&pending), [Some(5), None, Some(2), None, Some(9), None]);
+    assert_eq!(rt;
+        found(&pending),
+        [Some(5), None, Some(2), None, Some(9), None]
+    );
     Ok(())
 }
 
@@ -173,7 +181,10 @@ fn dues<A: Allocator>(pending: &Pending<A>) -> [Option<u64>; 6] {
 #[test]
 fn due_entries_come_by_deadline_and_ticket(rt: HostRuntime) -> Result<(), Fail> {
     let pending = three(rt.alloc())?;
-    assert_eq!(rt; dues(&pending), [None, Some(5), Some(5), Some(2), Some(9), None]);
+    assert_eq!(rt;
+        dues(&pending),
+        [None, Some(5), Some(5), Some(2), Some(9), None]
+    );
     Ok(())
 }
 
@@ -264,8 +275,15 @@ fn each_growth_of_an_insert(rt: HostRuntime) -> Result<(), Fail> {
         let mut pending = three(&refusing)?;
         refusing.refuse_nth(n);
         let (refused, held, third) = insert_refused(&refusing, &mut pending)?;
-        let wanted = if refusing.was_refused() { (true, 3) } else { (false, 4) };
-        assert!(rt; (refused, held) == wanted && third == Some(7), "at growth {n}");
+        let wanted = if refusing.was_refused() {
+            (true, 3)
+        } else {
+            (false, 4)
+        };
+        assert!(rt;
+            (refused, held) == wanted && third == Some(7),
+            "at growth {n}"
+        );
     }
     Ok(())
 }
@@ -295,6 +313,9 @@ fn removal_makes_room_for_one_insert(rt: HostRuntime) -> Result<(), Fail> {
     refusing.refuse_nth(1);
     let done = replaced(&refusing, &mut pending);
     let first = ticket_of(pending.at(0));
-    assert!(rt; done && first == Some(1) && refusing.growths() == 0, "no growth is asked for");
+    assert!(rt;
+        done && first == Some(1) && refusing.growths() == 0,
+        "no growth is asked for"
+    );
     Ok(())
 }
