@@ -33,14 +33,16 @@ fn append_all<A: Allocator>(
 ) -> Result<(), NoMemory>
     ensures { OnOk result (outs.new.items ≡ outs.old.items ++ more.items) }
 {
-    outs.append(&mut more).map_err(|_| NoMemory)
+    outs.append(&mut more)?;
+    Ok(())
 }
 
 /// Notes the place of an event that was lost.
 fn note_lost<A: Allocator>(lost: &mut Vec<usize, A>, place: usize) -> Result<(), NoMemory>
     ensures { OnOk result (lost.new.items ≡ lost.old.items ++ place ∷ []) }
 {
-    lost.push(place).map_err(|_| NoMemory)
+    lost.push(place)?;
+    Ok(())
 }
 
 /// Gives events to a broker, one after the other. An event that meets want of memory is lost, and the
@@ -51,8 +53,8 @@ fn note_lost<A: Allocator>(lost: &mut Vec<usize, A>, place: usize) -> Result<(),
 /// given the realm's own events among those that weren't lost, with its part of the configuration. The
 /// moments stand in the events.
 ///
-/// `NoMemory` comes where the outcome itself couldn't grow; the broker then stands after a first part of
-/// the events, without those that were lost.
+/// `NoMemory` comes where the outcome itself couldn't grow; the broker then stands after a first part
+/// of the events, without those that were lost.
 pub fn run<A: Allocator + Copy, S: Stepper<A>>(
     alloc: A,
     stepper: &mut S,
@@ -75,8 +77,8 @@ pub fn run<A: Allocator + Copy, S: Stepper<A>>(
     ensures isolated { IfOk result (λ o. IsIsolated (S.config stepper.old) (S.states stepper.old)
         (kept o.lost.items (shown_events events.now)) (shown_outs o.outs.items)) }
 
-    // The events are given in their order, each once; those are lost, and noted by their places, that met
-    // want of memory there.
+    // The events are given in their order, each once; those are lost, and noted by their places, that
+    // met want of memory there.
     ensures given { IfOk result (λ o. WereGiven S.steps 0 o.lost.items stepper.old
         (shown_events events.now) stepper.new) }
     ensures lost { IfOk result (λ o. ArePlaces (length events.now) o.lost.items) }
