@@ -86,7 +86,7 @@ impl<A: Allocator + Copy> Answer<A> {
 }
 
 /// A refusal. Takes no memory.
-pub(crate) fn refused<A: Allocator>(alloc: A, why: Refusal) -> Answer<A>
+pub fn refused<A: Allocator>(alloc: A, why: Refusal) -> Answer<A>
     ensures outs { shown_outs result.outs.items ≡ [] }
     ensures refusal { result.refusal ≡ Some why }
 {

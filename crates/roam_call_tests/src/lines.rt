@@ -39,15 +39,3 @@ fn are_lines(alloc: Global) -> bool {
 fn lines_of_packets(rt: HostRuntime) {
     assert!(rt; are_lines(rt.alloc()));
 }
-
-/// Whether a writer with room for fewer octets than a line has refuses it.
-fn is_refused() -> bool {
-    let mut room = [0u8; 30];
-    let mut writer = room.as_mut_slice();
-    print_packet(&mut writer, Some(0), Place::Out(0), NAS, &[1, 2, 3, 4]).is_err()
-}
-
-#[test]
-fn a_refused_write_is_an_error(rt: HostRuntime) {
-    assert!(rt; is_refused());
-}

@@ -1,6 +1,6 @@
 //! The peers that tables state.
 
-ghost use Rattle.std.specs.Prelude.{◌≡◌, Err, IfOk, IfSome, List, None, map, option_map, string_bytes};
+ghost use Rattle.std.specs.Prelude.{◌≡◌, Err, IfOk, List, MatchOption, map, option_map, string_bytes};
 ghost use Rattle.std.specs.Option.{option_copied};
 ghost use Rattle.toml.specs.View.{array_view, table_view};
 ghost use Rattle.roam_conf.specs.Config.{PeerView};
@@ -31,8 +31,9 @@ struct PeerText<'a> {
 
 /// What a table states of a peer; nothing where one of its values is bad.
 fn peer_text(table: &Table) -> Option<PeerText<'_>>
-    ensures some { IfSome result (λ text. StatesPeer (table_view table.now) (peer_in text)) }
-    ensures none { result ≡ None → (p : PeerView) → ¬ (StatesPeer (table_view table.now) p) }
+    ensures { MatchOption result
+        ((p : PeerView) → ¬ (StatesPeer (table_view table.now) p))
+        (λ text. StatesPeer (table_view table.now) (peer_in text)) }
 {
     if !has_only(table, &PEER_KEYS, &PEER_OPTIONAL_KEYS) {
         return None;

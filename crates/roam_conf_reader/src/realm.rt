@@ -1,6 +1,6 @@
 //! The realms that tables state.
 
-ghost use Rattle.std.specs.Prelude.{◌≡◌, Err, IfOk, IfSome, List, None, Some, map};
+ghost use Rattle.std.specs.Prelude.{◌≡◌, codes, Err, IfOk, List, MatchOption, Some, map};
 ghost use Rattle.toml.specs.View.{array_view, table_view};
 ghost use Rattle.roam_conf.specs.Config.{RealmView};
 ghost use Rattle.roam_conf.specs.Parts.{shown_realm};
@@ -9,7 +9,6 @@ ghost use Rattle.roam_conf_reader.specs.Document.{StatesEach, StatesRealm};
 ghost use Rattle.roam_conf_reader.specs.Reading.{IsValueFault};
 ghost use Rattle.roam_conf_reader.specs.Texts.{StatesBesideServers};
 ghost use Rattle.roam_conf_reader.specs.Values.{array_of, value_at};
-ghost use Rattle.std.specs.Prelude.{codes};
 
 use crate::tables::{REALM_KEYS, has_only};
 use crate::values::Letters;
@@ -35,10 +34,10 @@ struct RealmText<'a> {
 
 /// What a table states of a realm; nothing where one of its own values is bad.
 fn realm_text(table: &Table) -> Option<RealmText<'_>>
-    ensures some { IfSome result (StatesBesideServers (table_view table.now)) }
-    ensures servers { IfSome result (λ text. value_at (array_of 8) (codes "server")
-        (table_view table.now) ≡ Some (array_view text.servers.now)) }
-    ensures none { result ≡ None → (r : RealmView) → ¬ (StatesRealm (table_view table.now) r) }
+    ensures { MatchOption result
+        ((r : RealmView) → ¬ (StatesRealm (table_view table.now) r))
+        (λ text. StatesBesideServers (table_view table.now) text × (value_at (array_of 8)
+        (codes "server") (table_view table.now) ≡ Some (array_view text.servers.now))) }
 {
     if !has_only(table, &REALM_KEYS, &[]) {
         return None;

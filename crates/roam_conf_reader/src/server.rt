@@ -1,6 +1,6 @@
 //! The home servers that tables state.
 
-ghost use Rattle.std.specs.Prelude.{◌≡◌, Err, IfOk, IfSome, List, None, map};
+ghost use Rattle.std.specs.Prelude.{◌≡◌, Err, IfOk, List, MatchOption, map};
 ghost use Rattle.toml.specs.View.{array_view, table_view};
 ghost use Rattle.roam_conf.specs.Config.{ServerView};
 ghost use Rattle.roam_conf.specs.Parts.{shown_server};
@@ -26,8 +26,9 @@ struct ServerText<'a> {
 
 /// What a table states of a home server; nothing where one of its values is bad.
 fn server_text(table: &Table) -> Option<ServerText<'_>>
-    ensures some { IfSome result (λ text. StatesServer (table_view table.now) (server_in text)) }
-    ensures none { result ≡ None → (s : ServerView) → ¬ (StatesServer (table_view table.now) s) }
+    ensures { MatchOption result
+        ((s : ServerView) → ¬ (StatesServer (table_view table.now) s))
+        (λ text. StatesServer (table_view table.now) (server_in text)) }
 {
     if !has_only(table, &SERVER_KEYS, &[]) {
         return None;

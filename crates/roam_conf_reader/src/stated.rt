@@ -1,6 +1,6 @@
 //! What a document states, before duplicates are looked for.
 
-ghost use Rattle.std.specs.Prelude.{◌≡◌, ◌≤◌, codes, vec_len, IfSome, None, Some};
+ghost use Rattle.std.specs.Prelude.{◌≡◌, ◌≤◌, codes, vec_len, MatchOption, Some};
 ghost use Rattle.toml.specs.View.{array_view, table_view};
 ghost use Rattle.roam_conf.specs.Config.{ConfigView};
 ghost use Rattle.roam_conf_reader.specs.Document.{StatesConfig};
@@ -28,13 +28,12 @@ struct TopText<'a> {
 
 /// What a document states; nothing where one of its own values is bad.
 fn top_text(table: &Table) -> Option<TopText<'_>>
-    ensures some { IfSome result (StatesBesideArrays (table_view table.now)) }
-    ensures peers { IfSome result (λ text. value_at (array_of 256) (codes "peer")
-        (table_view table.now) ≡ Some (array_view text.peers.now)) }
-    ensures realms { IfSome result (λ text. value_at (array_of 256) (codes "realm")
-        (table_view table.now) ≡ Some (array_view text.realms.now)) }
-    ensures none { result ≡ None
-        → (config : ConfigView) → ¬ (StatesConfig (table_view table.now) config) }
+    ensures { MatchOption result
+        ((config : ConfigView) → ¬ (StatesConfig (table_view table.now) config))
+        (λ text. StatesBesideArrays (table_view table.now) text
+        × (value_at (array_of 256) (codes "peer") (table_view table.now)
+        ≡ Some (array_view text.peers.now)) × (value_at (array_of 256) (codes "realm")
+        (table_view table.now) ≡ Some (array_view text.realms.now))) }
 {
     if !has_only(table, &TOP_KEYS, &[]) {
         return None;

@@ -1,11 +1,16 @@
 -- Laws of the random words (ours). Each is what a function of `laws` ensures.
-use Rattle.std.specs.Prelude.{◌≡◌, ℕ, ◌%◌, ◌^◌, ◌<◌, List, length}
+use Rattle.std.specs.Prelude.{◌≡◌, ℕ, ◌%◌, ◌^◌, ◌<◌, List, length, slice_index}
 use Rattle.roam_random.specs.RandomWords.{next_position, request_authenticator_at}
 
 -- a Request Authenticator has 16 octets (RFC 2865, section 3)
 abbrev pub AuthenticatorsHave16Octets : Type 0
 AuthenticatorsHave16Octets = (seed : List ℕ) (stream position : ℕ)
     → length (request_authenticator_at seed stream position) ≡ 16
+
+-- each of them is an octet, a number below 256
+abbrev pub AuthenticatorsAreOctets : Type 0
+AuthenticatorsAreOctets = (seed : List ℕ) (stream position i : ℕ)
+    → slice_index (request_authenticator_at seed stream position) i < 256
 
 -- the next position is in the stream
 abbrev pub NextPositionsAreInTheStream : Type 0

@@ -1,10 +1,11 @@
 //! Laws of the random words, for callers' proofs. They do nothing when they run.
 
-ghost use Rattle.roam_random.specs.Laws.{AuthenticatorsHave16Octets, NextPositionsAreInTheStream, PositionsCountModuloTheStream};
+ghost use Rattle.roam_random.specs.Laws.{AuthenticatorsAreOctets, AuthenticatorsHave16Octets, NextPositionsAreInTheStream, PositionsCountModuloTheStream};
 
-/// A Request Authenticator has 16 octets.
+/// A Request Authenticator has 16 octets, each of them a number below 256.
 pub fn authenticators_have_16_octets()
-    ensures { AuthenticatorsHave16Octets }
+    ensures size { AuthenticatorsHave16Octets }
+    ensures octets { AuthenticatorsAreOctets }
 {}
 
 /// The next position is below 2^68, whatever the position.

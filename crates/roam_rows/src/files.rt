@@ -62,21 +62,27 @@ impl<'p, 'r> Player<'p, 'r> {
     }
 
     /// Plays the row that stands in a part of a file: its first line names a configuration, and may say more.
-    fn plays_part(&mut self, line: usize, part: &str) -> io::Result<()> {
+    fn plays_part(&mut self, line: usize, part: &str) {
         let (head, script) = part.split_once('\n').unwrap_or((part, ""));
         let (configuration, _) = head.split_once(' ').unwrap_or((head, ""));
-        self.plays_script(line, configuration, script)
+        if self.plays_script(line, configuration, script).is_err() {
+            self.tell(
+                line,
+                "row",
+                "a configuration that can be read",
+                configuration,
+            );
+        }
     }
 
     /// Plays the rows of a file: each begins with a line `#@ CONFIGURATION`, and comments stand before the first.
-    pub(crate) fn plays_text(&mut self, text: &str) -> io::Result<()> {
+    pub(crate) fn plays_text(&mut self, text: &str) {
         let mut line = 1usize;
         for part in text.split("\n#@ ") {
             if line > 1 {
-                self.plays_part(line, part)?;
+                self.plays_part(line, part);
             }
             line = line.saturating_add(part.split('\n').count());
         }
-        Ok(())
     }
 }

@@ -36,7 +36,7 @@ fn plays_folder(player: &mut Player<'_, '_>, folder: &str) -> io::Result<()> {
     for name in names(rt, folder)?.iter() {
         player.file = format!(in rt.alloc(); "{folder}/{name}")?;
         let text = fs::read_to_string(rt, player.file.as_str())?;
-        player.plays_text(text.as_str())?;
+        player.plays_text(text.as_str());
     }
     Ok(())
 }

@@ -79,7 +79,7 @@ impl<'p, 'r> Player<'p, 'r> {
     }
 
     /// Tells the first line in which what was answered last differs from what is wanted.
-    fn tell_answer(&mut self, line: usize, how: &str, wanted: &[u8]) {
+    pub(crate) fn tell_answer(&mut self, line: usize, how: &str, wanted: &[u8]) {
         let wanted = std::str::from_utf8(wanted).unwrap_or("no text");
         let text = std::mem::replace(&mut self.got, Vec::new(self.rt.alloc()));
         let got = std::str::from_utf8(text.as_slice()).unwrap_or("no text");

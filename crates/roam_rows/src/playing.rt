@@ -6,13 +6,26 @@ use crate::row::Row;
 use roam_conf::Config;
 use roam_core::{Event, run};
 use roam_sim::sim;
+use std::io::Write;
 
 impl<'p, 'r> Player<'p, 'r> {
+    /// Tells how many growths an event asked for.
+    fn tell_growths(&mut self, line: usize, most: u64, growths: u64) {
+        let mut wanted = Vec::new(self.rt.alloc());
+        let printed = write!(&mut wanted, "at most {most}");
+        self.needs(printed);
+        self.got.clear();
+        let printed = write!(&mut self.got, "{growths}");
+        self.needs(printed);
+        self.tell_answer(line, "growths", wanted.as_slice());
+    }
+
     /// Looks at how many growths an event asked for, where the row says how many that may be.
     fn is_within(&mut self, line: usize, most: Option<u64>) {
+        let growths = self.over.growths();
         if let Some(most) = most {
-            if self.over.growths() > most {
-                self.tell(line, "growths", "no more than the row says", "more");
+            if growths > most {
+                self.tell_growths(line, most, growths);
             }
         }
     }

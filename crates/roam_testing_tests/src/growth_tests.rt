@@ -103,6 +103,11 @@ impl<A: Allocator + Copy> Entries<A> {
     }
 }
 
+/// This holds, in run `n`. A test that calls this is proved faster than one with asserts of its own.
+fn expect(rt: &impl Abort, holds: bool, what: &str, n: u64) {
+    assert!(rt; holds, "{what}, in run {n}");
+}
+
 /// Whether a block of one octet is refused.
 fn is_refused<A: Allocator + Copy>(alloc: A) -> bool {
     let octets: Result<Vec<u8, A>, AllocError> = Vec::with_capacity(alloc, 1);
@@ -115,47 +120,57 @@ fn the_nth_growth_alone_is_refused(rt: HostRuntime) {
     let refusing = Refusing::new(rt.alloc());
     for n in 0..5u64 {
         refusing.refuse_nth(n);
-        assert_eq!(rt; refusing.growths(), 0, "before any growth, of {n}");
-        assert!(rt; !refusing.was_refused(), "before any growth, of {n}");
+        let none = refusing.growths() == 0 && !refusing.was_refused();
+        expect(&rt, none, "before any growth", n);
         for k in 1..5u64 {
             let was_refused = n != 0 && n <= k;
-            assert_eq!(rt; is_refused(&refusing), k == n, "growth {k}, of {n}");
-            assert_eq!(rt; refusing.growths(), k, "growth {k}, of {n}");
-            assert_eq!(rt; refusing.was_refused(), was_refused, "growth {k}, of {n}");
+            expect(&rt, is_refused(&refusing) == (k == n), "refused alone", n);
+            expect(&rt, refusing.growths() == k, "counted", n);
+            expect(&rt, refusing.was_refused() == was_refused, "told", n);
         }
     }
+}
+
+/// How many growths a list asks for, up to each of six moments of its life.
+fn growths_of_a_list(refusing: &Refusing<Global>) -> Result<[u64; 6], AllocError> {
+    let mut octets = Vec::new(refusing);
+    let made = refusing.growths();
+    octets.reserve_exact(1)?;
+    let reserved = refusing.growths();
+    octets.push(7u8)?;
+    let pushed = refusing.growths();
+    octets.reserve_exact(2)?;
+    let larger = refusing.growths();
+    octets.shrink_to_fit();
+    let smaller = refusing.growths();
+    drop(octets);
+    Ok([made, reserved, pushed, larger, smaller, refusing.growths()])
 }
 
 // A larger block and a smaller one count as the first does, and giving one back does not.
 #[test]
 fn what_counts_as_a_growth(rt: HostRuntime) -> Result<(), Fail> {
     let refusing = Refusing::new(rt.alloc());
-    let mut octets = Vec::new(&refusing);
-    assert_eq!(rt; refusing.growths(), 0);
-    octets.reserve_exact(1)?;
-    assert_eq!(rt; refusing.growths(), 1);
-    octets.push(7u8)?;
-    assert_eq!(rt; refusing.growths(), 1);
-    octets.reserve_exact(2)?;
-    assert_eq!(rt; refusing.growths(), 2);
-    octets.shrink_to_fit();
-    assert_eq!(rt; (refusing.growths(), octets.capacity()), (3, 1));
-    drop(octets);
-    assert_eq!(rt; refusing.growths(), 3);
+    let growths = growths_of_a_list(&refusing)?;
+    expect(&rt, growths == [0, 1, 1, 2, 3, 3], "growths", 0);
     Ok(())
+}
+
+/// Whether a list whose smaller block is refused is as it was: one octet, with room for three.
+fn keeps_the_larger_block(refusing: &Refusing<Global>) -> Result<bool, AllocError> {
+    let mut octets = Vec::with_capacity(refusing, 3)?;
+    octets.push(7u8)?;
+    refusing.refuse_nth(1);
+    octets.shrink_to_fit();
+    let is_refused = refusing.was_refused() && refusing.growths() == 1;
+    Ok(is_refused && octets.as_slice() == [7].as_slice() && octets.capacity() == 3)
 }
 
 #[test]
 fn a_smaller_block_that_is_refused_leaves_the_larger_one(rt: HostRuntime) -> Result<(), Fail> {
     let refusing = Refusing::new(rt.alloc());
-    let mut octets = Vec::with_capacity(&refusing, 3)?;
-    octets.push(7u8)?;
-    refusing.refuse_nth(1);
-    octets.shrink_to_fit();
-    assert!(rt; refusing.was_refused());
-    assert_eq!(rt; octets.as_slice(), [7].as_slice());
-    assert_eq!(rt; octets.capacity(), 3);
-    assert_eq!(rt; refusing.growths(), 1);
+    let keeps = keeps_the_larger_block(&refusing)?;
+    expect(&rt, keeps, "the larger block", 1);
     Ok(())
 }
 
@@ -165,13 +180,16 @@ fn an_error_from_below(rt: HostRuntime) {
     let below = Refusing::new(rt.alloc());
     let above = Refusing::new(&below);
     below.refuse_nth(1);
-    assert!(rt; is_refused(&above));
-    assert!(rt; below.was_refused() && !above.was_refused());
-    assert_eq!(rt; (below.growths(), above.growths()), (1, 1));
+    expect(&rt, is_refused(&above), "refused below", 1);
+    let told_below = below.was_refused() && !above.was_refused();
+    expect(&rt, told_below, "told below alone", 1);
+    let counts = [below.growths(), above.growths()];
+    expect(&rt, counts == [1, 1], "counted", 1);
     // What is refused above isn't asked for below.
     above.refuse_nth(1);
-    assert!(rt; is_refused(&above));
-    assert_eq!(rt; (below.growths(), above.growths()), (1, 1));
+    expect(&rt, is_refused(&above), "refused above", 2);
+    let counts = [below.growths(), above.growths()];
+    expect(&rt, counts == [1, 1], "counted", 2);
 }
 
 // The runs are 1, 2, .. and end with the first that meets no refusal: three growths, four runs.
@@ -189,10 +207,10 @@ fn the_runs_end_with_the_first_that_meets_no_refusal(rt: HostRuntime) -> Result<
         }
     }
     let expected = [(1, 0), (2, 0), (3, 0), (4, 0)];
-    assert_eq!(rt; runs.as_slice(), expected.as_slice());
+    expect(&rt, runs.as_slice() == expected.as_slice(), "the runs", 4);
     // No refusal is left for what comes after.
     for _ in 0..9 {
-        assert!(rt; !is_refused(&refusing));
+        expect(&rt, !is_refused(&refusing), "none is left", 4);
     }
     Ok(())
 }
@@ -205,20 +223,22 @@ fn each_growth_of_a_call(rt: HostRuntime) -> Result<(), Fail> {
     for n in refusing.each_growth() {
         refusing.refuse_nth(n);
         let result = joined(&refusing, b"ab", b"cdefghijklm");
-        assert_eq!(rt; result.is_err(), refusing.was_refused(), "at growth {n}");
+        expect(
+            &rt,
+            result.is_err() == refusing.was_refused(),
+            "an error",
+            n,
+        );
         let octets = match result {
             Ok(octets) => octets,
             Err(_) => joined(&refusing, b"ab", b"cdefghijklm")?,
         };
-        assert_eq!(rt;
-            octets.as_slice(),
-            b"abcdefghijklm".as_slice(),
-            "at growth {n}"
-        );
+        let is_joined = octets.as_slice() == b"abcdefghijklm".as_slice();
+        expect(&rt, is_joined, "the octets", n);
         runs = n;
     }
     // The blocks of `from_slice`, `with_capacity` and `clone` at least, and the last run.
-    assert!(rt; 4 <= runs, "{runs} runs");
+    expect(&rt, 4 <= runs, "there are enough", runs);
     Ok(())
 }
 
@@ -239,8 +259,8 @@ fn check_values<A: Allocator + Copy>(
     starts: &[usize],
     n: u64,
 ) {
-    assert_eq!(rt; values.octets.as_slice(), octets, "at growth {n}");
-    assert_eq!(rt; values.starts.as_slice(), starts, "at growth {n}");
+    let is_same = values.octets.as_slice() == octets && values.starts.as_slice() == starts;
+    expect(rt, is_same, "the values", n);
 }
 
 // A call that changes a value: what it needs is built before `refuse_nth`. Both lists are full, so
@@ -253,7 +273,12 @@ fn each_growth_of_a_change(rt: HostRuntime) -> Result<(), Fail> {
         let mut values = full(&refusing)?;
         refusing.refuse_nth(n);
         let result = values.push(b"cde");
-        assert_eq!(rt; result.is_err(), refusing.was_refused(), "at growth {n}");
+        expect(
+            &rt,
+            result.is_err() == refusing.was_refused(),
+            "an error",
+            n,
+        );
         if result.is_err() {
             check_values(&rt, &values, b"ab", &[0], n);
             values.push(b"cde")?;
@@ -261,7 +286,7 @@ fn each_growth_of_a_change(rt: HostRuntime) -> Result<(), Fail> {
         check_values(&rt, &values, b"abcde", &[0, 2], n);
         runs = n;
     }
-    assert_eq!(rt; runs, 3);
+    expect(&rt, runs == 3, "there are three", runs);
     Ok(())
 }
 
@@ -273,8 +298,8 @@ fn add_all<A: Allocator + Copy>(
 ) -> Result<(), AllocError> {
     for name in 2..20u32 {
         if entries.add(name, 10 * u64::from(name)).is_err() {
-            assert!(rt; refusing.was_refused(), "at name {name}");
-            assert_eq!(rt; entries.entry(name), None, "at name {name}");
+            let is_as_before = refusing.was_refused() && entries.entry(name).is_none();
+            expect(rt, is_as_before, "a refused name", u64::from(name));
             entries.add(name, 10 * u64::from(name))?;
         }
     }
@@ -283,11 +308,11 @@ fn add_all<A: Allocator + Copy>(
 
 /// The names 1 to 19 are there.
 fn check_entries<A: Allocator + Copy>(rt: &impl Abort, entries: &Entries<A>, n: u64) {
-    assert_eq!(rt; entries.slots.len(), 19, "at growth {n}");
-    assert_eq!(rt; entries.by_name.len(), 19, "at growth {n}");
+    let are_all = entries.slots.len() == 19 && entries.by_name.len() == 19;
+    expect(rt, are_all, "19 entries", n);
     for name in 1..20u32 {
-        let entry = Some(10 * u64::from(name));
-        assert_eq!(rt; entries.entry(name), entry, "at growth {n}");
+        let is_there = entries.entry(name) == Some(10 * u64::from(name));
+        expect(rt, is_there, "an entry", n);
     }
 }
 
@@ -305,6 +330,6 @@ fn each_growth_of_a_map_and_a_slab(rt: HostRuntime) -> Result<(), Fail> {
         runs = n;
     }
     // The slab outgrows its block, and so does the map.
-    assert!(rt; 3 <= runs, "{runs} runs");
+    expect(&rt, 3 <= runs, "there are enough", runs);
     Ok(())
 }

@@ -7,7 +7,7 @@ use Rattle.roam_conf_reader.proofs.peer.from_table.Goals as goal
 pub invariant_of-result : goal.invariant_of-result
 invariant_of-result c =
     let members = table_view c.args.table.now in
-    let stated = c.in-Some.ensures.some in
+    let stated = c.in-Some.ensures in
     let name = text_at 64 _ (codes "name") members _ stated.name in
     record {
       name_length = rw c.in_ok-from_str.ensures.ok name.size;

@@ -10,8 +10,8 @@ pub invariant_of-result : goal.invariant_of-result
 invariant_of-result c =
     let members = table_view c.args.table.now in
     let servers = c.in_ok-all_from.field-0 in
-    let stated = c.in-Some.ensures.some (map shown_server servers.items) c.in_ok-all_from.ensures.ok in
-    let count = each_range StatesServer shown_server 8 (codes "server") members (array_view c.in-Some.text.servers.now) servers.items c.in-Some.ensures.servers c.in_ok-all_from.ensures.ok in
+    let stated = c.in-Some.ensures.0 (map shown_server servers.items) c.in_ok-all_from.ensures.ok in
+    let count = each_range StatesServer shown_server 8 (codes "server") members (array_view c.in-Some.text.servers.now) servers.items c.in-Some.ensures.1 c.in_ok-all_from.ensures.ok in
     let name = text_at 253 _ (codes "name") members _ stated.name in
     record {
       name_length = rw c.in_ok-from_str.ensures.ok name.size;

@@ -7,7 +7,7 @@ use Rattle.roam_conf_reader.proofs.server.from_table.Goals as goal
 pub invariant_of-result : goal.invariant_of-result
 invariant_of-result c =
     let members = table_view c.args.table.now in
-    let stated = c.in-Some.ensures.some in
+    let stated = c.in-Some.ensures in
     record {
       secret_length = rw c.in_ok-from_str.ensures.ok (text_at 64 _ (codes "secret") members _ stated.secret).size;
       ports = (port_at (codes "auth") members _ stated.auth, port_at (codes "acct") members _ stated.acct);

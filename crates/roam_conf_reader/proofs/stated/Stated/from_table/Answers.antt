@@ -11,9 +11,9 @@ invariant_of-result c =
     let members = table_view c.args.table.now in
     let peers = c.in_ok-all_from.field-0 in
     let realms = c.in_ok-all_from-2.field-0 in
-    let stated = c.in-Some.ensures.some (map shown_peer peers.items) (map shown_realm realms.items) c.in_ok-all_from.ensures.ok c.in_ok-all_from-2.ensures.ok in
-    let of_peers = each_range StatesPeer shown_peer 256 (codes "peer") members (array_view c.in-Some.text.peers.now) peers.items c.in-Some.ensures.peers c.in_ok-all_from.ensures.ok in
-    let of_realms = each_range StatesRealm shown_realm 256 (codes "realm") members (array_view c.in-Some.text.realms.now) realms.items c.in-Some.ensures.realms c.in_ok-all_from-2.ensures.ok in
+    let stated = c.in-Some.ensures.0 (map shown_peer peers.items) (map shown_realm realms.items) c.in_ok-all_from.ensures.ok c.in_ok-all_from-2.ensures.ok in
+    let of_peers = each_range StatesPeer shown_peer 256 (codes "peer") members (array_view c.in-Some.text.peers.now) peers.items c.in-Some.ensures.1 c.in_ok-all_from.ensures.ok in
+    let of_realms = each_range StatesRealm shown_realm 256 (codes "realm") members (array_view c.in-Some.text.realms.now) realms.items c.in-Some.ensures.2 c.in_ok-all_from-2.ensures.ok in
     record {
       shards_range = number_at 1 64 (codes "shards") members _ stated.shards;
       ports = (port_at (codes "auth") members _ stated.auth, port_at (codes "acct") members _ stated.acct);
@@ -24,4 +24,4 @@ invariant_of-result c =
 
 pub returns-clause-ok : goal.returns-clause-ok
 returns-clause-ok c =
-    c.in-Some.ensures.some (map shown_peer c.in_ok-all_from.field-0.items) (map shown_realm c.in_ok-all_from-2.field-0.items) c.in_ok-all_from.ensures.ok c.in_ok-all_from-2.ensures.ok
+    c.in-Some.ensures.0 (map shown_peer c.in_ok-all_from.field-0.items) (map shown_realm c.in_ok-all_from-2.field-0.items) c.in_ok-all_from.ensures.ok c.in_ok-all_from-2.ensures.ok

@@ -1,0 +1,37 @@
+-- Why a request isn't forwarded, by its target.
+use Rattle.std.proofs.Common.{◌≡◌, ℕ, Bool, true, false, List, Option, Some, None, refl}
+use Rattle.std.specs.Prelude.{if◌then◌else◌}
+use Rattle.std.specs.Option.{option_or}
+use Rattle.roam_wire.specs.Packet.{Attribute}
+use Rattle.roam_wire.specs.Attributes.{first_value}
+use Rattle.roam_wire.specs.declared.attribute_type.TheConstants.{ACCT_SESSION_ID, USER_NAME}
+use Rattle.roam_conf.specs.Config.{RealmView}
+use Rattle.roam_reverse.specs.Sessions.{Session}
+use Rattle.roam_reverse.specs.Salted.{is_salted}
+use Rattle.roam_reverse.specs.Causes.{cause_at_target, cause_by_name, cause_by_salt}
+
+-- with a User-Name the ledger doesn't matter
+pub named-at-target : (realm : RealmView) (attributes : List Attribute) (name : List ℕ)
+    (sessions others : List Session) (at : Option ℕ)
+    → first_value USER_NAME attributes ≡ Some name
+    → cause_at_target realm attributes sessions at ≡ cause_at_target realm attributes others at
+named-at-target realm attributes name sessions others None named = refl
+named-at-target realm attributes name sessions others (Some peer) named = rw named refl
+
+later-none : (first later : Option ℕ) → option_or first later ≡ None → later ≡ None
+later-none None later h = h
+later-none (Some n) later h = absurd (cc)
+
+unsalted : (salted : Bool) (n : ℕ) → (if salted then Some n else None) ≡ None → salted ≡ false
+unsalted true n h = absurd (cc)
+unsalted false n h = refl
+
+pub forwarded-at-target : (realm : RealmView) (attributes : List Attribute) (sessions : List Session)
+    (at : Option ℕ) → cause_at_target realm attributes sessions at ≡ None
+    → ((peer : ℕ) × (at ≡ Some peer)) × (is_salted attributes ≡ false)
+forwarded-at-target realm attributes sessions None h = absurd (cc)
+forwarded-at-target realm attributes sessions (Some peer) h = (
+  (peer, refl),
+  unsalted (is_salted attributes) 401
+      (later-none (cause_by_name realm peer sessions (first_value USER_NAME attributes) (first_value ACCT_SESSION_ID attributes)) (cause_by_salt attributes) h),
+)

@@ -1,0 +1,6 @@
+pub mod SameLemmas
+pub mod SessionLemmas
+pub mod ShownLemmas
+pub mod TargetLemmas
+pub mod SaltedLemmas
+pub mod CauseLemmas

@@ -1,0 +1,9 @@
+use Rattle.roam_reverse.specs.Causes.{cause}
+use Rattle.roam_reverse.specs.Target.{target}
+use Rattle.roam_reverse.proofs.CauseLemmas.{named-at-target}
+use Rattle.roam_reverse.proofs.laws.named_requests_need_no_session.Goals as goal
+
+pub returns : goal.returns
+unfolding cause
+returns c = λ peers realm attributes name sessions others named.
+    named-at-target realm attributes name sessions others (target peers attributes) named

@@ -1,0 +1,28 @@
+-- Laws of the causes (ours). Each is what a function of `laws` ensures.
+use Rattle.std.specs.Prelude.{◌≡◌, ℕ, ◌↔◌, IsTrue, false, List, Some, None}
+use Rattle.roam_wire.specs.Packet.{Attribute, Packet}
+use Rattle.roam_wire.specs.Attributes.{first_value}
+use Rattle.roam_wire.specs.declared.attribute_type.TheConstants.{USER_NAME}
+use Rattle.roam_conf.specs.Config.{PeerView, RealmView}
+use Rattle.roam_hide.specs.SaltedValues.{IsSalted}
+use Rattle.roam_reverse.specs.Sessions.{Session}
+use Rattle.roam_reverse.specs.Salted.{is_salted}
+use Rattle.roam_reverse.specs.Target.{target}
+use Rattle.roam_reverse.specs.Causes.{cause}
+
+-- the test of salted strings means what the relation says
+abbrev pub SaltedAsTested : Type 0
+SaltedAsTested = (packet : Packet) → IsTrue (is_salted packet.attributes) ↔ IsSalted packet
+
+-- a request with a User-Name has the same cause whatever sessions are in the ledger
+abbrev pub NamedRequestsNeedNoSession : Type 0
+NamedRequestsNeedNoSession = (peers : List PeerView) (realm : RealmView) (attributes : List Attribute)
+    (name : List ℕ) (sessions others : List Session)
+    → first_value USER_NAME attributes ≡ Some name
+    → cause peers realm attributes sessions ≡ cause peers realm attributes others
+
+-- a request without a cause has a target, and no salted string
+abbrev pub ForwardedHasTarget : Type 0
+ForwardedHasTarget = (peers : List PeerView) (realm : RealmView) (attributes : List Attribute)
+    (sessions : List Session) → cause peers realm attributes sessions ≡ None
+    → ((peer : ℕ) × (target peers attributes ≡ Some peer)) × (is_salted attributes ≡ false)

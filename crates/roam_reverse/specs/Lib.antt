@@ -1,0 +1,8 @@
+pub mod Target
+pub mod Salted
+pub mod Sessions
+pub mod Shown
+pub mod Causes
+pub mod TargetLaws
+pub mod SessionLaws
+pub mod CauseLaws

@@ -1,0 +1,42 @@
+-- Laws of the ledger (ours). Each is what a function of `laws` ensures.
+use Rattle.std.specs.Prelude.{◌≡◌, ◌≢◌, ℕ, ◌<◌, true, false, List, []}
+use Rattle.roam_wire.specs.Packet.{Attribute}
+use Rattle.roam_reverse.specs.Sessions.{Session, opens, closes, closes_all, changed, applied, has_session, same_session, IsLedger}
+
+-- no request makes two sessions the same, or more of them than the limit
+abbrev pub RequestsKeepTheLedger : Type 0
+RequestsKeepTheLedger = (limit peer : ℕ) (attributes : List Attribute) (sessions : List Session)
+    → IsLedger limit sessions → IsLedger limit (applied limit peer attributes sessions)
+
+-- a session that was opened is there, unless the limit is 0; one that was there keeps its place
+abbrev pub OpenedIsThere : Type 0
+OpenedIsThere = (limit : ℕ) (s : Session) (sessions : List Session)
+    → 0 < limit → has_session s (changed limit (opens s) sessions) ≡ true
+
+abbrev pub OpenedTwiceIsOpenedOnce : Type 0
+OpenedTwiceIsOpenedOnce = (limit : ℕ) (s : Session) (sessions : List Session)
+    → changed limit (opens s) (changed limit (opens s) sessions) ≡ changed limit (opens s) sessions
+
+-- a session that was closed is gone, and the others stay
+abbrev pub ClosedIsGone : Type 0
+ClosedIsGone = (limit : ℕ) (s : Session) (sessions : List Session)
+    → has_session s (changed limit (closes s) sessions) ≡ false
+
+abbrev pub OthersStayOpen : Type 0
+OthersStayOpen = (limit : ℕ) (s other : Session) (sessions : List Session)
+    → same_session other s ≡ false
+    → has_session other (changed limit (closes s) sessions) ≡ has_session other sessions
+
+-- where all sessions of a peer are closed, none of its own is left, and those of others stay
+abbrev pub NoneOfThePeerIsLeft : Type 0
+NoneOfThePeerIsLeft = (limit : ℕ) (s : Session) (sessions : List Session)
+    → has_session s (changed limit (closes_all s.peer) sessions) ≡ false
+
+abbrev pub OtherPeersSessionsStay : Type 0
+OtherPeersSessionsStay = (limit peer : ℕ) (s : Session) (sessions : List Session)
+    → s.peer ≢ peer
+    → has_session s (changed limit (closes_all peer) sessions) ≡ has_session s sessions
+
+-- a ledger with a limit of 0 holds no session
+abbrev pub LimitOfNoneHoldsNone : Type 0
+LimitOfNoneHoldsNone = (sessions : List Session) → IsLedger 0 sessions → sessions ≡ []

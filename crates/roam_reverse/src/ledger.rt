@@ -1,0 +1,178 @@
+//! The ledger of a realm's open sessions.
+
+ghost use Rattle.std.specs.Prelude.{◌≡◌, ◌<◌, ◌≤◌, [], IfOk, OnOk, OnErr};
+ghost use Rattle.roam_reverse.specs.Sessions.{IsLedger, applied, changed, has_session, with_session, without_session, without_peer};
+ghost use Rattle.roam_reverse.specs.Shown.{HasRoomFor, shown_session};
+
+use crate::accounting::{Said, said_by};
+use crate::session::{Change, OpenSession, Prepared, is_among};
+use roam_wire::{NoMemory, View};
+use std::alloc::Allocator;
+use std::marker::Model;
+
+/// The ledger of a realm's open sessions (RFC 2866, section 5.5). Contracts see its limit, the
+/// sessions with the oldest first, and for how many more there is room.
+#[derive(Drop)]
+pub struct Sessions<A: Allocator> {
+    alloc: A,
+    limit: u32,
+    sessions: Vec<OpenSession<A>, A>,
+}
+
+impl<A: Allocator> Model for Sessions<A> {
+    ghost use Rattle.std.specs.Prelude.{◌-◌, vec_len, vec_capacity};
+    ghost use Rattle.roam_reverse.specs.Sessions.{IsLedger};
+    ghost use Rattle.roam_reverse.specs.Shown.{Ledger, shown_sessions};
+
+    ghost Value = { Ledger };
+
+    ghost view = { λ l. record {
+      limit = l.limit;
+      sessions = shown_sessions l.sessions.items;
+      spare = vec_capacity l.sessions - vec_len l.sessions;
+    } };
+
+    ghost invariant = { λ l. IsLedger l.limit (shown_sessions l.sessions.items) };
+}
+
+impl<A: Allocator + Copy> Sessions<A> {
+    /// No sessions, and at most so many from now on. Takes no memory.
+    pub fn new(alloc: A, limit: u32) -> Sessions<A>
+        ensures limit { result.limit ≡ limit }
+        ensures sessions { result.sessions ≡ [] }
+    {
+        Sessions {
+            alloc,
+            limit,
+            sessions: Vec::new(alloc),
+        }
+    }
+
+    /// Whether the session of a peer and an id is open. Takes no memory.
+    pub fn has(&self, peer: u16, id: &[u8]) -> bool
+        ensures found { result
+            ≡ has_session (record { peer = peer; id = id.now }) self.now.sessions }
+        ensures ledger { IsLedger self.now.limit self.now.sessions }
+    {
+        is_among(&self.sessions, peer, id)
+    }
+
+    /// Makes all growth that the change by an Accounting-Request of a peer wants, and changes no
+    /// session. Then [`Sessions::apply_prepared`] always answers.
+    pub fn prepare(&mut self, peer: u16, request: &View<'_>) -> Result<Prepared<A>, NoMemory>
+        ensures change { IfOk result (λ prepared.
+            changed self.old.limit prepared self.old.sessions
+            ≡ applied self.old.limit peer request.now.attributes self.old.sessions) }
+        ensures room { IfOk result (λ prepared. HasRoomFor prepared self.new) }
+        ensures err { OnErr result (self.new ≡ self.old) }
+        ensures limit { self.new.limit ≡ self.old.limit }
+        ensures sessions { self.new.sessions ≡ self.old.sessions }
+    {
+        match said_by(request) {
+            Said::Opens(id) => self.prepare_opening(peer, id),
+            Said::Closes(id) => self.prepare_closing(peer, id),
+            Said::ClosesAll => Ok(Prepared {
+                change: Change::ClosesAll(peer),
+            }),
+            Said::Nothing => Ok(Prepared {
+                change: Change::Nothing,
+            }),
+        }
+    }
+
+    /// The same for a session that is open: one that is there, or that can't be kept, wants no
+    /// memory.
+    fn prepare_opening(&mut self, peer: u16, id: &[u8]) -> Result<Prepared<A>, NoMemory>
+        ensures change { IfOk result (λ prepared.
+            changed self.old.limit prepared self.old.sessions
+            ≡ with_session self.old.limit (record { peer = peer; id = id.now }) self.old.sessions) }
+        ensures room { IfOk result (λ prepared. HasRoomFor prepared self.new) }
+        ensures err { OnErr result (self.new ≡ self.old) }
+        ensures limit { self.new.limit ≡ self.old.limit }
+        ensures sessions { self.new.sessions ≡ self.old.sessions }
+    {
+        if self.has(peer, id) || self.limit == 0 {
+            return Ok(Prepared {
+                change: Change::Nothing,
+            });
+        }
+        let session = OpenSession::copy_of(self.alloc, peer, id)?;
+        self.sessions.reserve(1)?;
+        Ok(Prepared {
+            change: Change::Opens(session),
+        })
+    }
+
+    /// The same for a session that is open no more.
+    fn prepare_closing(&self, peer: u16, id: &[u8]) -> Result<Prepared<A>, NoMemory>
+        ensures change { IfOk result (λ prepared.
+            changed self.now.limit prepared self.now.sessions
+            ≡ without_session (record { peer = peer; id = id.now }) self.now.sessions) }
+        ensures room { IfOk result (λ prepared. HasRoomFor prepared self.now) }
+    {
+        let session = OpenSession::copy_of(self.alloc, peer, id)?;
+        Ok(Prepared {
+            change: Change::Closes(session),
+        })
+    }
+
+    /// Makes a change that was prepared. Takes no memory.
+    pub fn apply_prepared(&mut self, prepared: Prepared<A>)
+        requires { HasRoomFor prepared self.old }
+        ensures limit { self.new.limit ≡ self.old.limit }
+        ensures sessions { self.new.sessions ≡ changed self.old.limit prepared self.old.sessions }
+    {
+        match prepared.change {
+            Change::Opens(session) => self.open(session),
+            Change::Closes(session) => self.close(&session),
+            Change::ClosesAll(peer) => self.close_all(peer),
+            Change::Nothing => {}
+        }
+    }
+
+    /// What an Accounting-Request of a peer does once it was answered.
+    pub fn apply(&mut self, peer: u16, request: &View<'_>) -> Result<(), NoMemory>
+        ensures ok { OnOk result (self.new.sessions
+            ≡ applied self.old.limit peer request.now.attributes self.old.sessions) }
+        ensures err { OnErr result (self.new ≡ self.old) }
+        ensures limit { self.new.limit ≡ self.old.limit }
+    {
+        let prepared = self.prepare(peer, request)?;
+        self.apply_prepared(prepared);
+        Ok(())
+    }
+
+    /// Adds a session where there is room: the oldest goes where as many are there as may be.
+    fn open(&mut self, session: OpenSession<A>)
+        requires { 0 < self.old.spare }
+        ensures limit { self.new.limit ≡ self.old.limit }
+        ensures sessions { self.new.sessions
+            ≡ with_session self.old.limit (shown_session session) self.old.sessions }
+    {
+        if self.has(session.peer, session.id.as_slice()) || self.limit == 0 {
+            return;
+        }
+        if self.sessions.len() >= self.limit as usize {
+            self.sessions.remove(0);
+        }
+        self.sessions.push_reserved(session);
+    }
+
+    /// Takes a session out.
+    fn close(&mut self, session: &OpenSession<A>)
+        ensures limit { self.new.limit ≡ self.old.limit }
+        ensures sessions { self.new.sessions
+            ≡ without_session (shown_session session.now) self.old.sessions }
+    {
+        self.sessions
+            .retain(|other| !other.is_of(session.peer, session.id.as_slice()));
+    }
+
+    /// Takes all sessions of a peer out.
+    fn close_all(&mut self, peer: u16)
+        ensures limit { self.new.limit ≡ self.old.limit }
+        ensures sessions { self.new.sessions ≡ without_peer peer self.old.sessions }
+    {
+        self.sessions.retain(|session| session.peer != peer);
+    }
+}

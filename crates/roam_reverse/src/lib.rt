@@ -1,0 +1,23 @@
+//! Session control (RFC 5176): for which access server a reverse request is, why it can't be
+//! forwarded, and the ledger of a realm's open sessions.
+//!
+//! Nothing here builds a packet, looks at a clock or knows of more than one realm. Only the ledger
+//! takes memory, and a change of it can be prepared: then all its growth is made before anything
+//! changes.
+#![tactic(auto)]
+
+mod accounting;
+pub mod error_cause;
+mod laws;
+mod ledger;
+mod nas_match;
+mod session;
+
+pub use error_cause::verdict;
+pub use laws::{
+    closed_sessions, forwarded_has_target, ledgers_stay_ledgers, named_requests_need_no_session,
+    opened_sessions, salted_as_tested, sessions_of_a_peer, target_is_the_first,
+};
+pub use ledger::Sessions;
+pub use nas_match::target;
+pub use session::Prepared;

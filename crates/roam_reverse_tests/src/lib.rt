@@ -1,0 +1,10 @@
+//! Session control by example: the access server that a reverse request is for, why it can't be
+//! forwarded, and the ledger of open sessions.
+#![tactic(auto)]
+
+#[cfg(test)]
+mod cause_tests;
+#[cfg(test)]
+mod ledger_tests;
+#[cfg(test)]
+mod requests;
