@@ -1,13 +1,12 @@
 -- What the words get, from what the command that they ask for did.
-use Rattle.std.proofs.Common.{◌≡◌, ◌⊎◌, inl, inr, ℕ, List, Option, Result, Ok, Err, IfErr, Bor, Contains, sym, arith}
-use Rattle.std.proofs.KnownBytes.{Keeps-refl}
+use Rattle.std.proofs.Common.{◌≡◌, ◌⊎◌, inl, inr, ℕ, List, Option, Result, Ok, Err, IfErr, sym, arith}
 use Rattle.std.specs.Io.KnownBytes.{Keeps}
 use Rattle.roam_sim.specs.Simulation.{SimulatesInPart}
-use Rattle.roam.specs.CommandLine.{Asked, to_check, to_simulate, words_of, files_of, AsksNothing}
+use Rattle.roam.specs.CommandLine.{to_simulate, words_of, AsksNothing}
 use Rattle.roam.specs.declared.text_file.TextFile.{TextFile}
 use Rattle.roam.specs.declared.report.Fault.{Fault}
 use Rattle.roam.specs.declared.report.Fault.TheVariants as fault
-use Rattle.roam.specs.Outcomes.{text_in, CheckFails, RunFails, IsAnsweredInPart, Prevents}
+use Rattle.roam.specs.Outcomes.{text_in, RunFails, IsAnsweredInPart, Prevents}
 use Rattle.roam.specs.Report.{status_of}
 
 -- some events were lost, or the output is as it was

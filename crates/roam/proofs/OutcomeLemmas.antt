@@ -1,5 +1,5 @@
 -- What a command's outcome is, from what its parts did.
-use Rattle.std.proofs.Common.{◌≡◌, ◌⊎◌, inl, inr, ℕ, List, Option, Result, Ok, Err, OnOk, IfErr, refl, string_bytes}
+use Rattle.std.proofs.Common.{◌≡◌, ◌⊎◌, inr, ℕ, List, Option, Result, Ok, Err, OnOk, IfErr, refl, string_bytes}
 use Rattle.std.proofs.KnownBytes.{Appends-kept}
 use Rattle.std.specs.Io.KnownBytes.{Appends, Keeps}
 use Rattle.roam_conf.specs.Config.{ConfigView}

@@ -13,7 +13,7 @@ use Rattle.roam_auth.specs.Authenticators.{response_authenticator, request_authe
 use Rattle.roam_auth.specs.MessageAuthenticator.{message_authenticator, IsWellSealed}
 use Rattle.roam_auth.specs.Deciding.{is_seal_over_one, is_well_sealed}
 use Rattle.roam_auth.specs.DecidingLaws.{SignedReplyIsDecided, SignedRequestIsDecided, WellSealedIsDecided}
-use Rattle.roam_auth.proofs.DigestLemmas.{sixteen-message_authenticator, length-message_authenticator}
+use Rattle.roam_auth.proofs.DigestLemmas.{length-message_authenticator}
 
 pub signed_reply_decided : SignedReplyIsDecided
 signed_reply_decided secret request_authenticator p = bytes_eq-Decides p.authenticator (response_authenticator secret request_authenticator p)

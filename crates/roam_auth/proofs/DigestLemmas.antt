@@ -1,11 +1,11 @@
 -- A digest has sixteen octets, and a packet that has one as its Authenticator is a packet.
-use Rattle.std.proofs.Common.{◌≡◌, ℕ, zero, suc, ◌<◌, List, [], ◌∷◌, ◌++◌, length, refl, arith}
+use Rattle.std.proofs.Common.{◌≡◌, ℕ, zero, suc, List, length, arith}
 use Rattle.std.specs.Prelude.{slice_index}
 use Rattle.std.specs.Int.{w32, to_le_bytes}
 use Rattle.md5.specs.Md5.{digest_bytes, md5}
 use Rattle.md5.proofs.StandardFacts.{length-md5}
 use Rattle.roam_wire.specs.Packet.{AreOctets, Packet, IsPacket}
-use Rattle.roam_wire.proofs.OctetLemmas.{AreOctets-empty, AreOctets-cons, AreOctets-append}
+use Rattle.roam_wire.proofs.OctetLemmas.{AreOctets-empty, AreOctets-append}
 use Rattle.roam_auth.specs.Hmac.{hmac_md5}
 use Rattle.roam_auth.specs.Authenticators.{AreSixteenOctets, with_authenticator, signed_reply, signed_request, request_authenticator, response_authenticator}
 use Rattle.roam_auth.specs.MessageAuthenticator.{message_authenticator}

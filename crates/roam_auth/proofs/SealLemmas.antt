@@ -4,7 +4,6 @@ use Rattle.std.specs.Prelude.{Any}
 use Rattle.std.specs.List.{AllByRecursion}
 use Rattle.md5.specs.Md5.{Holds}
 use Rattle.md5.specs.declared.Md5.{Md5}
-use Rattle.md5.proofs.StandardFacts.{length-md5}
 use Rattle.roam_wire.specs.Packet.{Attribute, IsAttribute, Packet, attribute_text, packet_text, packet_length}
 use Rattle.roam_wire.specs.Attributes.{first_value}
 use Rattle.roam_wire.specs.declared.attribute_type.TheConstants.{MESSAGE_AUTHENTICATOR}

@@ -1,5 +1,5 @@
 -- Entries that go before a new request is admitted, and its target.
-use Rattle.std.proofs.Common.{◌≡◌, ℕ, true, is_some, List, [], ◌∷◌, Option, Some, None, refl, ap, sym, ◌∙◌, ◌+◌, ◌<◌, ◌≤◌, ◌^◌, subst, arith, inl, inr, length}
+use Rattle.std.proofs.Common.{◌≡◌, ℕ, true, List, [], ◌∷◌, Option, Some, None, refl, ap, sym, ◌∙◌, ◌+◌, ◌<◌, ◌≤◌, ◌^◌, subst, arith, inl, inr, length}
 use Rattle.std.specs.Prelude.{unwrap_or}
 use Rattle.std.specs.List.{AllByRecursion}
 use Rattle.std.proofs.lemmas.Bool.{cases_Bool}
@@ -15,13 +15,12 @@ use Rattle.roam_pending.proofs.ChangeLemmas.{found-ticket, length-without}
 use Rattle.roam_pending.proofs.ClientLemmas.{done-found}
 use Rattle.roam_book.specs.declared.gone.Gone.{Gone}
 use Rattle.roam_book.specs.declared.numbers.Numbers.{Numbers}
-use Rattle.roam_book.specs.declared.way.Way.{Way}
-use Rattle.roam_book.specs.NewEntry.{IsWay, MakesWay, admits, cleared, left_by, once_gone, target_at}
+use Rattle.roam_book.specs.NewEntry.{MakesWay, target_at}
 use Rattle.roam_book.specs.RealmConfig.{RealmConfig, IsLink}
 use Rattle.roam_book.specs.RealmState.{RealmState, Session, Target, next_toward}
 use Rattle.roam_book.specs.OnRequest.{admit}
 use Rattle.roam_book.specs.Turn.{Turn}
-use Rattle.roam_book.specs.Sound.{CountsAsGone, IsEntry, IsRequest, IsSameButSlots, IsSound, IsWaiting, LanesTell, StandsWell, cursors_of, gone_ticket, standing_place, state_of}
+use Rattle.roam_book.specs.Sound.{CountsAsGone, IsEntry, IsRequest, IsSound, IsWaiting, LanesTell, StandsWell, cursors_of, gone_ticket, standing_place, tags_of}
 use Rattle.roam_book.proofs.SoundLemmas.{kept-later, kept-put, kept-ticket, kept-without}
 use Rattle.roam_book.proofs.LaneLemmas.{next-tells, tells-gone}
 
@@ -82,6 +81,7 @@ without-done c es n t e sound found is = record {
   ticket = sound.ticket;
   stream_position = sound.stream_position;
   lane_count = sound.lane_count;
+  tags = sound.tags;
   lanes_tell = tells-gone c es n.lanes.items t e sound.lanes_tell found is;
 }
 
@@ -101,13 +101,15 @@ without-waiting :
     {A : Type 0} (c : RealmConfig) (es : List PlainEntry) (old new : Numbers A) (t : ℕ)
     → IsSound c es old → LanesTell c (without t es) new.lanes.items → new.ticket ≡ old.ticket
     → new.stream_position ≡ old.stream_position
-    → length new.lanes.items ≡ length old.lanes.items → IsSound c (without t es) new
-without-waiting c es old new t sound tells ticket position count = record {
+    → length new.lanes.items ≡ length old.lanes.items
+    → tags_of new.lanes.items ≡ tags_of old.lanes.items → IsSound c (without t es) new
+without-waiting c es old new t sound tells ticket position count tags = record {
   each = subst (λ (m : ℕ). AllByRecursion (IsEntry c m) (without t es)) (sym ticket)
       (kept-without c old.ticket t es sound.each);
   ticket = subst (λ (m : ℕ). m ≤ 2 ^ 63) (sym ticket) sound.ticket;
   stream_position = subst (λ (m : ℕ). m < 2 ^ 68) (sym position) sound.stream_position;
   lane_count = count ∙ sound.lane_count;
+  tags = tags ∙ sound.tags;
   lanes_tell = tells;
 }
 
@@ -122,10 +124,11 @@ pub gone-waiting :
     (g : Gone) (l : Link) (i : ℕ) → IsSound c es old → CountsAsGone o es → o ≡ Some g
     → g.waits_at ≡ Some (l, i) → GivenBack c old.lanes.items new.lanes.items l i
     → new.ticket ≡ old.ticket → new.stream_position ≡ old.stream_position
-    → length new.lanes.items ≡ length old.lanes.items → IsSound c (besides (gone_ticket o) es) new
-gone-waiting c es old new None g l i sound gone is at back ticket position count =
+    → length new.lanes.items ≡ length old.lanes.items
+    → tags_of new.lanes.items ≡ tags_of old.lanes.items → IsSound c (besides (gone_ticket o) es) new
+gone-waiting c es old new None g l i sound gone is at back ticket position count tags =
     absurd (let k : None ≡ Some g = is in cc)
-gone-waiting c es old new (Some x) g l i sound gone is at back ticket position count =
+gone-waiting c es old new (Some x) g l i sound gone is at back ticket position count tags =
     let e = gone.0 in
     let same : x ≡ g = cc is in
     let there : x.waits_at ≡ Some (l, i) = ap (λ (y : Gone). y.waits_at) same ∙ at in
@@ -135,7 +138,7 @@ gone-waiting c es old new (Some x) g l i sound gone is at back ticket position c
     let waits = stands-there e.standing l i (sym gone.1.place ∙ there) in
     let tells = back e es sound.lanes_tell found waits in
     let told = subst (λ (t : ℕ). LanesTell c (without t es) new.lanes.items) same_ticket tells in
-    without-waiting c es old new x.ticket sound told ticket position count
+    without-waiting c es old new x.ticket sound told ticket position count tags
 
 pub way-sound :
     {A : Type 0} (c : RealmConfig) (es : List PlainEntry) (n : Numbers A) (way : Option ℕ)
@@ -215,8 +218,9 @@ pub new-sound :
     → StandsWell c e.request e.standing → LanesTell c (put e es) new.lanes.items
     → old.ticket < 2 ^ 63 → new.ticket ≡ old.ticket + 1
     → new.stream_position ≡ old.stream_position
-    → length new.lanes.items ≡ length old.lanes.items → fs ≡ put e es → IsSound c fs new
-new-sound c es fs old new e sound ticket request well tells below next position count is =
+    → length new.lanes.items ≡ length old.lanes.items
+    → tags_of new.lanes.items ≡ tags_of old.lanes.items → fs ≡ put e es → IsSound c fs new
+new-sound c es fs old new e sound ticket request well tells below next position count tags is =
     let risen : old.ticket ≤ new.ticket = omega (arith, next) in
     let here : IsEntry c new.ticket e = record {
       ticket = omega (arith, ticket, next);
@@ -231,6 +235,7 @@ new-sound c es fs old new e sound ticket request well tells below next position 
       ticket = omega (arith, next, below);
       stream_position = subst (λ (m : ℕ). m < 2 ^ 68) (sym position) sound.stream_position;
       lane_count = count ∙ sound.lane_count;
+      tags = tags ∙ sound.tags;
       lanes_tell = subst (λ (xs : List PlainEntry). LanesTell c xs new.lanes.items) (sym is) tells;
     }
 
@@ -286,52 +291,3 @@ pub target-same :
     → next_toward c new fs l ≡ next_toward c old es l → target_at c new fs l ≡ target_at c old es l
 unfolding target_of
 target-same c old new es fs l h = ap (target_of l) h
-
--- A way that is cleared
-
--- the entries and numbers before, between, and once those that had to go are gone
-pub record IsCleared {A : Type 0} (c : RealmConfig) (es mid fs : List PlainEntry)
-    (n m k : Numbers A) (way : Way) : Type 0 where
-  pub gone : mid ≡ once_gone way.gone es
-  pub done : fs ≡ besides way.done mid
-  pub slots : IsSameButSlots n m
-  pub same : k ≡ m
-  pub sound : IsSound c mid m
-  pub list : IsEntryList mid
-
-way-next :
-    {A : Type 0} (c : RealmConfig) (es mid fs : List PlainEntry) (n m k : Numbers A) (way : Way)
-    → IsCleared c es mid fs n m k way → MakesWay way.done (once_gone way.gone es) → IsLink c way.link
-    → next_toward c (cursors_of k.lanes.items) fs way.link
-    ≡ next_toward c (cursors_of n.lanes.items) (once_gone way.gone es) way.link
-way-next c es mid fs n m k way h makes link =
-    let made : MakesWay way.done mid = rw h.gone makes in
-    rw (h.same, h.done) (next-besides c mid m way.done way.link h.sound h.list made link
-    ∙ (rw (h.gone, h.slots.cursors) refl))
-
-pub clear-way :
-    {A : Type 0} (c : RealmConfig) (es mid fs : List PlainEntry) (n m k : Numbers A) (way : Way)
-    → IsCleared c es mid fs n m k way → (q : PlainRequest) → IsWay c (state_of es n) q way
-    → IsWay c (state_of fs k) q (cleared way)
-clear-way c es mid fs n m k way h q is = record {
-  request = is.request;
-  ticket = rw (h.same, h.slots.ticket) is.ticket;
-  gone = tt;
-  key = rw (h.done, h.gone) (client-besides q.key way.done (once_gone way.gone es) is.key);
-  done = tt;
-  link = is.link;
-  free = ap is_some (way-next c es mid fs n m k way h is.done is.link) ∙ is.free;
-}
-
-pub clear-turn :
-    {A : Type 0} (c : RealmConfig) (es mid fs : List PlainEntry) (n m k : Numbers A) (way : Way)
-    → IsCleared c es mid fs n m k way → (now : ℕ) (q : PlainRequest) → IsWay c (state_of es n) q way
-    → admits c now (state_of fs k) q (cleared way) ≡ admits c now (state_of es n) q way
-clear-turn c es mid fs n m k way h now q is =
-    let old = cursors_of n.lanes.items in
-    let new = cursors_of k.lanes.items in
-    let target = target-same c old new (once_gone way.gone es) fs way.link
-    (way-next c es mid fs n m k way h is.done is.link) in
-    admit-same c now q (state_of fs k) (state_of es n) fs (left_by way es) _ _
-    (rw h.same h.slots.ticket) (rw h.same h.slots.cursors) (rw h.same h.slots.stream_position) refl
-    (h.done ∙ ap (λ (xs : List PlainEntry). besides way.done xs) h.gone) target

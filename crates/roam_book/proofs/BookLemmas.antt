@@ -12,7 +12,7 @@ use Rattle.roam_pending.proofs.TestLemmas.{same}
 use Rattle.roam_book.specs.RealmConfig.{RealmConfig, link_count, realm_config}
 use Rattle.roam_book.specs.RealmState.{RealmState}
 use Rattle.roam_book.specs.Turn.{Turn, Gives, packets_of}
-use Rattle.roam_book.specs.Sound.{IsSound, LanesTell, state_of}
+use Rattle.roam_book.specs.Sound.{IsSound, LanesTell, own_tags, state_of, tags_of}
 use Rattle.roam_book.specs.BookView.{BookView, IsBook, settings_of}
 use Rattle.roam_book.specs.declared.answer.Answer.{Answer}
 use Rattle.roam_book.specs.declared.numbers.Numbers.{Numbers}
@@ -111,8 +111,9 @@ pub new-book : {A : Type 0} (config : Config) (realm : ℕ) (held : Held) (n : N
     (c : RealmConfig) (start : Start) → realm < vec_len config.realms → held.realm ≡ realm
     → held.entries ≡ [] → c ≡ realm_config (shown config) realm → n.ticket ≡ start.ticket
     → start.ticket ≤ 2 ^ 63 → n.stream_position ≡ start.place → start.place < 2 ^ 68
-    → length n.lanes.items ≡ link_count c → LanesTell c [] n.lanes.items → IsBook config realm held n
-new-book config realm held n c start configured own none is ticket most place below count free =
+    → length n.lanes.items ≡ link_count c → LanesTell c [] n.lanes.items
+    → tags_of n.lanes.items ≡ own_tags c.index (link_count c) → IsBook config realm held n
+new-book config realm held n c start configured own none is ticket most place below count free tags =
     record {
       configured = configured;
       own_entries = own;
@@ -121,6 +122,7 @@ new-book config realm held n c start configured own none is ticket most place be
         ticket = rw ticket most;
         stream_position = rw place below;
         lane_count = count;
+        tags = tags;
         lanes_tell = free;
       }));
       list = rw none (record { in_order = tt; distinct_keys = tt });

@@ -3,17 +3,16 @@ use Rattle.std.proofs.Common.{◌≡◌, ℕ, ◌+◌, ◌%◌, ◌<◌, ◌≤�
 use Rattle.std.specs.Prelude.{IfSome, option_map, slice_set}
 use Rattle.std.specs.List.{AllByRecursion, find}
 use Rattle.std.proofs.lemmas.Bool.Decides.{nat_tests}
-use Rattle.std.proofs.lemmas.Bool.{cases_eq}
 use Rattle.roam_conf.specs.declared.place.Link.{Link}
 use Rattle.roam_conf.specs.declared.place.Link.TheVariants as link
 use Rattle.roam_pending.specs.declared.entry.Standing.TheVariants as standing
 use Rattle.roam_pending.specs.declared.entry.Waiting.{Waiting}
 use Rattle.roam_pending.specs.PlainEntry.{PlainRequest, PlainStanding, PlainEntry, waiting, done, is_done, stands_done}
-use Rattle.roam_pending.specs.EntryList.{IsEntryList, IsInOrder, find_ticket, without, put}
+use Rattle.roam_pending.specs.EntryList.{find_ticket, without, put}
 use Rattle.roam_pending.specs.Realms.{sent_again, waits_on, with_standing}
 use Rattle.roam_pending.specs.Shown.{shown_standing}
-use Rattle.roam_pending.proofs.OrderLemmas.{list-changed, list-without}
-use Rattle.roam_pending.proofs.ChangeLemmas.{find-passes, find-put, find-put_other, find-without, find-without_other, put-without}
+use Rattle.roam_pending.proofs.OrderLemmas.{list-without}
+use Rattle.roam_pending.proofs.ChangeLemmas.{find-passes, put-without}
 use Rattle.roam_route.specs.Admission.{PlainOut}
 use Rattle.roam_route.specs.Shown.{shown_out}
 use Rattle.roam_ids.specs.LaneState.{LaneState}
@@ -26,8 +25,7 @@ use Rattle.roam_book.specs.RealmConfig.{RealmConfig, IsLink, link_place, later_t
 use Rattle.roam_book.specs.RealmState.{Target, next_toward, first_target}
 use Rattle.roam_book.specs.OnRequest.{packet_to, forwarded_octets, forwarded_entry}
 use Rattle.roam_book.specs.OnTick.{fail_over, without_entry, due_standing}
-use Rattle.roam_book.specs.Sound.{IsEntry, IsWaiting, StandsWell, IsSound, LanesTell, state_of, cursors_of, lane_of, has_free, is_open}
-use Rattle.roam_book.specs.Rooms.{size_of}
+use Rattle.roam_book.specs.Sound.{IsEntry, IsWaiting, StandsWell, IsSound, LanesTell, state_of, cursors_of, lane_of, has_free, is_open, tags_of}
 use Rattle.roam_book.specs.Fates.{IsHeld, IsFate, fate_entries}
 use Rattle.roam_book.proofs.SoundLemmas.{kept-put, kept-without, kept-ticket}
 use Rattle.roam_book.proofs.LaneLemmas.{tells-gone, tells-again, target-tells, target-next, links-are}
@@ -39,6 +37,7 @@ pub record IsSameBut {A : Type 0} (old new : Numbers A) : Type 0 where
   pub count : length new.lanes.items ≡ length old.lanes.items
   pub ticket : new.ticket ≡ old.ticket
   pub stream_position : new.stream_position ≡ old.stream_position
+  pub tags : tags_of new.lanes.items ≡ tags_of old.lanes.items
 
 pub sound-changed :
     {A : Type 0} (c : RealmConfig) (es fs : List PlainEntry) (n m : Numbers A) → IsSound c es n
@@ -49,11 +48,12 @@ sound-changed c es fs n m sound same each tells = record {
   ticket = omega (arith, same.ticket, sound.ticket);
   stream_position = rw same.stream_position sound.stream_position;
   lane_count = same.count ∙ sound.lane_count;
+  tags = same.tags ∙ sound.tags;
   lanes_tell = tells;
 }
 
 same-numbers : {A : Type 0} (n : Numbers A) → IsSameBut n n
-same-numbers n = record { count = refl; ticket = refl; stream_position = refl }
+same-numbers n = record { count = refl; ticket = refl; stream_position = refl; tags = refl }
 
 -- A done entry
 
@@ -207,6 +207,7 @@ same-both n m k h j = record {
   count = j.count ∙ h.count;
   ticket = j.ticket ∙ h.ticket;
   stream_position = j.stream_position ∙ h.stream_position;
+  tags = j.tags ∙ h.tags;
 }
 
 -- a later target has one: the request goes there under its ticket
@@ -251,53 +252,3 @@ forwarded-freed c now es e n m k l to o w held freed some sent =
           refl;
       sound = sound-changed c es _ n k held.sound numbers each tells;
     })
-
--- No entry grows
-
-size-put :
-    (t : ℕ) (x e : PlainEntry) (es : List PlainEntry) → IsInOrder es → x.ticket ≡ e.ticket
-    → x.request ≡ e.request → find_ticket e.ticket es ≡ Some e
-    → size_of (find_ticket t (put x es)) ≤ size_of (find_ticket t es)
-size-put t x e es order at is found =
-    elim (cases_eq t x.ticket) [
-      | inl here ↦
-          let new : find_ticket t (put x es) ≡ Some x = rw here (find-put x es) in
-          let old : find_ticket t es ≡ Some e = rw (here, at) found in
-          rw (new, old, is) (omega arith)
-      | inr other ↦ rw (find-put_other t x es order other) (omega arith)
-    ]
-
-size-without : (t s : ℕ) (es : List PlainEntry)
-    → size_of (find_ticket t (without s es)) ≤ size_of (find_ticket t es)
-size-without t s es =
-    elim (cases_eq t s) [
-      | inl here ↦ rw (here, find-without s es) (omega arith)
-      | inr other ↦ rw (find-without_other t s es other) (omega arith)
-    ]
-
-pub size-after :
-    {A : Type 0} (c : RealmConfig) (now t : ℕ) (e : PlainEntry) (es : List PlainEntry) (f : Fate A)
-    → IsInOrder es → find_ticket e.ticket es ≡ Some e
-    → size_of (find_ticket t (fate_entries c now e es f)) ≤ size_of (find_ticket t es)
-size-after c now t e es fate.Gone order found = size-without t e.ticket es
-size-after c now t e es (fate.SentAgain sent) order found = size-put t
-    (sent_again (now + c.realm.wait) e) e es order refl refl found
-size-after c now t e es (fate.Forwarded sent w) order found = size-put t
-    (with_standing (shown_standing (standing.Waiting w)) e) e es order refl refl found
-
--- the list stays one
-list-put :
-    (x e : PlainEntry) (es : List PlainEntry) → IsEntryList es → x.ticket ≡ e.ticket
-    → x.request ≡ e.request → find_ticket e.ticket es ≡ Some e → IsEntryList (put x es)
-list-put x e es list at is found =
-    let here : find_ticket x.ticket es ≡ Some e = rw at found in
-    list-changed x es list (rw here (ap (λ q. q.key) (sym is)))
-
-pub list-after :
-    {A : Type 0} (c : RealmConfig) (now : ℕ) (e : PlainEntry) (es : List PlainEntry) (f : Fate A)
-    → IsEntryList es → find_ticket e.ticket es ≡ Some e → IsEntryList (fate_entries c now e es f)
-list-after c now e es fate.Gone list found = list-without e.ticket es list
-list-after c now e es (fate.SentAgain sent) list found =
-    list-put (sent_again (now + c.realm.wait) e) e es list refl refl found
-list-after c now e es (fate.Forwarded sent w) list found =
-    list-put (with_standing (shown_standing (standing.Waiting w)) e) e es list refl refl found

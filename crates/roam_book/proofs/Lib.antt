@@ -1,6 +1,8 @@
 pub mod AdmissionLemmas
 pub mod BookLemmas
+pub mod ClearLemmas
 pub mod FateLemmas
+pub mod FateListLemmas
 pub mod HolderLemmas
 pub mod JobLemmas
 pub mod LaneLemmas

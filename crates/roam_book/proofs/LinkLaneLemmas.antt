@@ -5,13 +5,14 @@ use Rattle.std.proofs.lemmas.List.{get_or_default, map-set, set-get_or}
 use Rattle.std.proofs.Math.Seq.{map-set_same}
 use Rattle.roam_conf.specs.Config.{ServerView}
 use Rattle.roam_conf.specs.declared.place.Link.{Link}
+use Rattle.roam_ids.specs.declared.place.Place.{Place}
 use Rattle.roam_ids.specs.declared.place.Place.TheVariants.{Free, Out, Parked}
 use Rattle.roam_ids.specs.LaneState.{LaneState, is_used, put_at, cursor_past}
 use Rattle.roam_ids.specs.NextIdentifier.{AllUsed, IsNextIdentifier, next_identifier}
 use Rattle.roam_ids.proofs.NextIdentifierLemmas.{next_identifier-is_next, below_256}
 use Rattle.roam_book.specs.declared.service.Service.{Service}
 use Rattle.roam_book.specs.RealmConfig.{RealmConfig, IsLink, link_place, server_link, server_links}
-use Rattle.roam_book.specs.Sound.{is_freed, is_open, has_free, cursors_of, lane_of, no_lane}
+use Rattle.roam_book.specs.Sound.{is_freed, is_open, has_free, cursors_of, lane_of, no_lane, tags_of}
 use Rattle.std.proofs.lemmas.Bool.{cases_Bool}
 use Rattle.roam_conf.specs.declared.place.Link.TheVariants as link
 use Rattle.roam_pending.specs.PlainEntry.{PlainEntry, same_link}
@@ -157,6 +158,22 @@ pub cursors-freed :
 cursors-freed lanes place id i lane out new is out_is new_is =
     let cursor : LaneState → ℕ = λ x. x.cursor in
     map-set_same cursor lanes place new lane (ap cursor new_is ∙ ap cursor out_is ∙ ap cursor is)
+
+-- the tags stay, whatever is put twice at an Identifier
+pub tags-taken :
+    (lanes : List LaneState) (place id i : ℕ) (a : Place) (lane out new : LaneState)
+    → lane ≡ get_or lanes place lane → out ≡ cursor_past (put_at lane id Out) id
+    → new ≡ put_at out i a → tags_of (set lanes place new) ≡ tags_of lanes
+tags-taken lanes place id i a lane out new is out_is new_is =
+    let tag : LaneState → ℕ = λ x. x.tag in
+    map-set_same tag lanes place new lane (ap tag new_is ∙ ap tag out_is ∙ ap tag is)
+
+pub tags-freed :
+    (lanes : List LaneState) (place id i : ℕ) (lane out new : LaneState) → lane ≡ get_or lanes place lane
+    → out ≡ put_at lane id Out → new ≡ put_at out i Free → tags_of (set lanes place new) ≡ tags_of lanes
+tags-freed lanes place id i lane out new is out_is new_is =
+    let tag : LaneState → ℕ = λ x. x.tag in
+    map-set_same tag lanes place new lane (ap tag new_is ∙ ap tag out_is ∙ ap tag is)
 
 -- the next Identifier of the lane that is read is the next toward the link
 pub next-read :

@@ -14,7 +14,7 @@ use Rattle.roam_book.specs.RealmState.{Target}
 use Rattle.roam_book.specs.OnRequest.{forwarding, forwarded_octets}
 use Rattle.roam_book.specs.Sound.{IsRequest, IsWaiting}
 
--- requests that are served by now are no Access-Requests
+-- requests that are served so far are no Access-Requests
 pub other_code : (c : RealmConfig) (q : PlainRequest) → IsRequest c q →
     (packet_of q.octets).code ≢ ACCESS_REQUEST
 other_code c q h = let code = h.code in omega arith

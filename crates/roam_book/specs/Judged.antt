@@ -1,5 +1,4 @@
--- What comes of a reply for the entry that it is for (ours): no definition of what the broker does
--- rests on it.
+-- What comes of a reply for the entry that it is for: words of private functions alone (ours).
 use Rattle.std.specs.Prelude.{ℕ, ◌+◌, List, [], ◌∷◌, Option, Some, None}
 use Rattle.roam_pending.specs.declared.key.Key.{Key}
 use Rattle.roam_pending.specs.declared.entry.Done.{Done}

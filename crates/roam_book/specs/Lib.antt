@@ -1,3 +1,4 @@
+-- What the broker of one realm does, in the order in which it is read.
 pub mod RealmConfig
 pub mod RealmState
 pub mod Turn
@@ -5,13 +6,15 @@ pub mod OnRequest
 pub mod OnReply
 pub mod OnTick
 pub mod OneRealm
-pub mod RealmTurn
-pub mod Sound
-pub mod Rooms
+pub mod LeastFirst
+-- What the contracts of public calls say beside that.
 pub mod BookView
+pub mod RealmTurn
+pub mod Rooms
+pub mod Sound
+-- Words of private functions and of proofs alone.
 pub mod Fates
 pub mod Judged
 pub mod Memory
-pub mod ReplyPlans
-pub mod LeastFirst
 pub mod NewEntry
+pub mod ReplyPlans

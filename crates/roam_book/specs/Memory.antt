@@ -36,7 +36,8 @@ pub record HasPlace {A : Type 0} (o : Outs A) : Type 0 where
   pub copies : o.twice ≡ true → vec_len o.copies < vec_capacity o.copies
 
 -- these packets, and where they are wanted twice their copies, with places for so many more
-pub record IsOuts {A : Type 0} (places : ℕ) (twice : Bool) (packets : List PlainOut) (o : Outs A) : Type 0 where
+pub record IsOuts {A : Type 0} (places : ℕ) (twice : Bool) (packets : List PlainOut)
+    (o : Outs A) : Type 0 where
   pub sent : shown_outs o.sent.items ≡ packets
   pub sent_places : vec_len o.sent + places ≤ vec_capacity o.sent
   pub wanted : o.twice ≡ twice
@@ -44,7 +45,8 @@ pub record IsOuts {A : Type 0} (places : ℕ) (twice : Bool) (packets : List Pla
   pub copies_places : twice ≡ true → vec_len o.copies + places ≤ vec_capacity o.copies
 
 -- the answer is that turn's, and so is its copy, which is there just where it is wanted
-pub record Tells {A : Type 0} (twice : Bool) (told : Told A) (old new : RealmState) (turn : Turn) : Type 0 where
+pub record Tells {A : Type 0} (twice : Bool) (told : Told A) (old new : RealmState)
+    (turn : Turn) : Type 0 where
   pub answers : Answers told.answer old new turn
   pub wanted : is_some told.copy ≡ twice
   pub copy : IfSome told.copy (λ a. Answers a old new turn)

@@ -42,8 +42,8 @@ once_gone gone entries = besides (gone_ticket gone) entries
 abbrev pub left_by : Way → List PlainEntry → List PlainEntry
 left_by way entries = besides way.done (once_gone way.gone entries)
 
--- a way to a link where no entry has to go, or the one that counts as gone alone; a way once those that
--- had to go are gone
+-- a way to a link where no entry has to go, or the one that counts as gone alone; a way once those
+-- that had to go are gone
 abbrev pub straight_to : Link → Way
 straight_to link = record { gone = None; done = None; link = link }
 
@@ -53,8 +53,8 @@ straight_after gone link = record { gone = gone; done = None; link = link }
 abbrev pub cleared : Way → Way
 cleared way = straight_to way.link
 
--- a new request can go this way: what counts as gone and what makes way are there, the request's key
--- is free then, and its link has a free Identifier
+-- a new request can go this way: what counts as gone and what makes way are there, the request's
+-- key is free then, and its link has a free Identifier
 pub record IsWay (c : RealmConfig) (s : RealmState) (q : PlainRequest) (way : Way) : Type 0 where
   pub request : IsRequest c q
   pub ticket : s.ticket < 2 ^ 63
@@ -76,7 +76,8 @@ pub record IsChosen (c : RealmConfig) (s : RealmState) (q : PlainRequest) (chose
   pub way : IsWay c s q chosen
   pub does : (now : ℕ) → turn now ≡ admits c now s q chosen
 
-abbrev pub Chooses : RealmConfig → RealmState → PlainRequest → Result Way Refusal → (ℕ → Turn) → Type 0
+abbrev pub Chooses : RealmConfig → RealmState → PlainRequest → Result Way Refusal → (ℕ → Turn)
+    → Type 0
 Chooses c s q (Ok way) turn = IsChosen c s q way turn
 Chooses c s q (Err why) turn = (now : ℕ) → turn now ≡ refuses why
 

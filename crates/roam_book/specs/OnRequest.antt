@@ -25,7 +25,7 @@ packet_to c l octets =
 abbrev pub packet_back : RealmConfig → Key → List ℕ → PlainOut
 packet_back c key octets = record { realm = Some c.index; from = key.place; to = key.from; bytes = octets }
 
--- what a request is forwarded with. Requests that are served by now carry no random words
+-- what a request is forwarded with. Requests that are served so far carry no random words
 abbrev pub forwarding : RealmConfig → PlainRequest → ℕ → Target → Forwarding
 forwarding c q ticket target = record {
   from_secret = requester_secret c q.requester;

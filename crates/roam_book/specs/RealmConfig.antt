@@ -1,9 +1,9 @@
 -- What the broker of one realm reads of the configuration, and the links of that realm (ours).
-use Rattle.std.specs.Prelude.{ℕ, ◌+◌, ◌<◌, ◌==◌, List, [], ◌∷◌, drop, length, slice_get, slice_index_or, unwrap_or, if◌then◌else◌}
-use Rattle.std.specs.Option.{option_map_or}
+use Rattle.std.specs.Prelude.{ℕ, ◌+◌, ◌<◌, ◌==◌, List, [], ◌∷◌, drop, length, slice_index_or, unwrap_or, if◌then◌else◌}
 use Rattle.roam_wire.specs.declared.code.TheConstants.{ACCESS_REQUEST}
 use Rattle.roam_conf.specs.Config.{ConfigView, PeerView, RealmView, ServerView}
 use Rattle.roam_conf.specs.Lookup.{endpoint_of}
+use Rattle.roam_conf.specs.Secrets as secrets
 use Rattle.roam_conf.specs.declared.endpoint.Endpoint.{Endpoint}
 use Rattle.roam_conf.specs.declared.place.Link.{Link}
 use Rattle.roam_conf.specs.declared.place.Link.TheVariants as link
@@ -48,16 +48,14 @@ realm_config config index = record {
 
 -- the secret shared with a home server of the realm; with a peer (the empty list where there is none)
 abbrev pub server_secret : RealmConfig → ℕ → List ℕ
-server_secret c server = option_map_or (λ s. s.secret) (slice_get c.realm.servers server) []
+server_secret c server = secrets.server_secret c.realm.servers server
 
 abbrev pub peer_secret : RealmConfig → ℕ → List ℕ
-peer_secret c peer = option_map_or (λ p. p.secret) (slice_get c.peers peer) []
+peer_secret c peer = secrets.peer_secret c.peers peer
 
 -- the secret shared with a link, and with the sender of a request (RFC 2865, section 3)
 abbrev pub link_secret : RealmConfig → Link → List ℕ
-link_secret c (link.Auth server) = server_secret c server
-link_secret c (link.Acct server) = server_secret c server
-link_secret c (link.Coa peer) = peer_secret c peer
+link_secret c l = secrets.link_secret c.peers c.realm.servers l
 
 abbrev pub requester_secret : RealmConfig → Requester → List ℕ
 requester_secret c (requester.Peer peer) = peer_secret c peer

@@ -1,4 +1,5 @@
--- A realm that is borrowed for an event (ours): what it stands for, and what each of its rules keeps.
+-- A realm that is borrowed for an event (ours): what it stands for, and what each of its rules
+-- keeps.
 use Rattle.std.specs.Prelude.{◌≡◌, ℕ, IsTrue, IsOk, List, [], Result, Ok, Err}
 use Rattle.roam_wire.specs.declared.refusal.NoMemory.{NoMemory}
 use Rattle.roam_pending.specs.declared.entries.Entries.{Ghosts}
@@ -27,22 +28,24 @@ pub record IsRealm {A E : Type 0} (g : Ghosts E A) (r : Realm A E) : Type 0 wher
   pub sound : IsSound r.settings.now (entries g r) r.numbers.now
   pub list : IsEntryList (entries g r)
 
--- it has the same settings, borrows the same entries and numbers, and they are kept for the same realms
+-- it has the same settings, borrows the same entries and numbers, and they are kept for the same
+-- realms
 pub record KeepsLoans {A E : Type 0} (g : Ghosts E A) (old new : Realm A E) : Type 0 where
   pub settings : new.settings.now ≡ old.settings.now
   pub same_entries : new.entries.ghost_name ≡ old.entries.ghost_name
   pub same_numbers : new.numbers.ghost_name ≡ old.numbers.ghost_name
   pub keeps : g.keeps new.entries.now ≡ g.keeps old.entries.now
 
--- what each rule keeps: it is a realm still, with the same loans, and every other realm is as it was
+-- what each rule keeps: it is a realm still, with the same loans, and every other realm is as it
+-- was
 pub record Keeps {A E : Type 0} (g : Ghosts E A) (old new : Realm A E) : Type 0 where
   pub realm : IsRealm g new
   pub loans : KeepsLoans g old new
   pub others : OthersStay old.settings.now.index (g.entries_of old.entries.now)
       (g.entries_of new.entries.now)
 
--- a rule gives this turn of the old state, or wants memory and nothing happened; none is wanted where
--- nothing is sent; the rest is kept
+-- a rule gives this turn of the old state, or wants memory and nothing happened; none is wanted
+-- where nothing is sent; the rest is kept
 pub record Turns {A E : Type 0} (g : Ghosts E A) (old new : Realm A E)
     (result : Result (Answer A) NoMemory) (turn : RealmState → Turn) : Type 0 where
   pub gives : Gives result (state g old) (state g new) (turn (state g old))
@@ -50,8 +53,10 @@ pub record Turns {A E : Type 0} (g : Ghosts E A) (old new : Realm A E)
   pub rest : Keeps g old new
 
 -- the same where the answer is wanted twice: each of the two is that turn's
-abbrev pub GivesTwice : {A : Type 0} → Result (Twin A) NoMemory → RealmState → RealmState → Turn → Type 0
-GivesTwice (Ok twin) old new turn = Answers twin.answer old new turn × Answers twin.copy old new turn
+abbrev pub GivesTwice : {A : Type 0} → Result (Twin A) NoMemory → RealmState → RealmState → Turn
+    → Type 0
+GivesTwice (Ok twin) old new turn =
+    Answers twin.answer old new turn × Answers twin.copy old new turn
 GivesTwice (Err e) old new turn = new ≡ old
 
 pub record TurnsTwice {A E : Type 0} (g : Ghosts E A) (old new : Realm A E)

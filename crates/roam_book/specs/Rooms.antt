@@ -25,9 +25,10 @@ EachHasBuffers twice entries (slot ∷ slots) =
     × (is_some slot.buffers.copy ≡ twice)
     × EachHasBuffers twice entries slots
 
--- the room of a tick at this moment, for these entries: a slot for each entry that is due, in order,
--- and a place for a packet of each
-pub record IsRoomFor {A : Type 0} (now : ℕ) (entries : List PlainEntry) (room : Room A) : Type 0 where
+-- the room of a tick at this moment, for these entries: a slot for each entry that is due, in
+-- order, and a place for a packet of each
+pub record IsRoomFor {A : Type 0} (now : ℕ) (entries : List PlainEntry)
+    (room : Room A) : Type 0 where
   pub dues : dues_of room.slots.items ≡ due_list now entries
   pub buffers : EachHasBuffers room.outs.twice entries room.slots.items
   pub outs : IsOuts (length room.slots.items) room.outs.twice [] room.outs

@@ -1,6 +1,7 @@
--- What a realm keeps (ours): of each entry, and between its entries and its lanes. No definition of
--- what the broker does rests on it; each contract says that it is kept.
-use Rattle.std.specs.Prelude.{◌≡◌, ◌≢◌, ℕ, ◌+◌, ◌<◌, ◌≤◌, ◌^◌, ◌==◌, ◌&&◌, ◌||◌, Bool, false, List, [], length, map, Option, Some, None, option_map, is_some, slice_index_or, vec_len, vec_capacity}
+-- What the code's entries and numbers stand for (`state_of`, which a book's view shows), and what a
+-- realm keeps (ours): of each entry, and between its entries and its lanes. No definition of what the
+-- broker does rests on this file; each rule's contract says that it is kept.
+use Rattle.std.specs.Prelude.{◌≡◌, ◌≢◌, ℕ, zero, suc, ◌+◌, ◌*◌, ◌++◌, ◌∷◌, ◌<◌, ◌≤◌, ◌^◌, ◌==◌, ◌&&◌, ◌||◌, Bool, false, List, [], length, map, Option, Some, None, option_map, is_some, slice_index_or, vec_len, vec_capacity}
 use Rattle.std.specs.List.{AllByRecursion}
 use Rattle.std.specs.Option.{option_map_or}
 use Rattle.roam_wire.specs.Reading.{IsPacketText, packet_of}
@@ -17,7 +18,7 @@ use Rattle.roam_book.specs.declared.gone.Gone.{Gone}
 use Rattle.roam_book.specs.declared.sending.Asked.{Asked}
 use Rattle.roam_book.specs.declared.numbers.Numbers.{Numbers}
 
--- a request of the realm, of a code that is served by now
+-- a request of the realm, of a code that is served so far
 pub record IsRequest (c : RealmConfig) (q : PlainRequest) : Type 0 where
   pub packet : IsPacketText q.octets
   pub code : (packet_of q.octets).code ≡ ACCOUNTING_REQUEST
@@ -72,6 +73,14 @@ LanesTell c entries lanes =
 abbrev pub cursors_of : List LaneState → List ℕ
 cursors_of lanes = map (λ lane. lane.cursor) lanes
 
+abbrev pub tags_of : List LaneState → List ℕ
+tags_of lanes = map (λ lane. lane.tag) lanes
+
+-- the tags of a realm's lanes: each is made of the realm's index and of the lane's own place
+abbrev pub own_tags : ℕ → ℕ → List ℕ
+own_tags index zero = []
+own_tags index (suc place) = own_tags index place ++ (index * 65536 + place) ∷ []
+
 abbrev pub state_of : {A : Type 0} → List PlainEntry → Numbers A → RealmState
 state_of entries numbers = record {
   entries = entries;
@@ -93,6 +102,7 @@ pub record IsSound {A : Type 0} (c : RealmConfig) (entries : List PlainEntry) (n
   pub ticket : numbers.ticket ≤ 2 ^ 63
   pub stream_position : numbers.stream_position < 2 ^ 68
   pub lane_count : length numbers.lanes.items ≡ link_count c
+  pub tags : tags_of numbers.lanes.items ≡ own_tags c.index (link_count c)
   pub lanes_tell : LanesTell c entries numbers.lanes.items
 
 -- a lane has a free Identifier

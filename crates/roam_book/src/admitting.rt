@@ -1,5 +1,5 @@
-//! How a new request is admitted, once its way is chosen: memory is taken, way is made, and the request
-//! is forwarded.
+//! How a new request is admitted, once its way is chosen: memory is taken, way is made, and the
+//! request is forwarded.
 
 ghost use Rattle.std.specs.Prelude.{◌≡◌, ℕ, ◌+◌, ◌<◌, ◌≤◌, ◌^◌, ◌∷◌, [], IfErr, IfOk, is_some, length};
 ghost use Rattle.roam_pending.specs.PlainEntry.{PlainRequest};
@@ -82,14 +82,15 @@ impl<A: Allocator + Copy, E: Entries<A>> Realm<'_, '_, '_, '_, A, E> {
         }
     }
 
-    /// Makes way for a new request: the entry that counts as gone goes, and the done one that makes way,
-    /// where there are such.
+    /// Makes way for a new request: the entry that counts as gone goes, and the done one that makes
+    /// way, where there are such.
     fn make_way(&mut self, way: Way)
         requires realm { IsRealm E.Entries self.old }
         requires gone { CountsAsGone way.gone (entries E.Entries self.old) }
         requires done { MakesWay way.done
             (besides (gone_ticket way.gone) (entries E.Entries self.old)) }
-        ensures way { (q : PlainRequest) → IsWay self.old.settings.now (state E.Entries self.old) q way
+        ensures way { (q : PlainRequest)
+            → IsWay self.old.settings.now (state E.Entries self.old) q way
             → IsWay self.old.settings.now (state E.Entries self.new) q (cleared way) }
         ensures turn { (now : ℕ) (q : PlainRequest)
             → IsWay self.old.settings.now (state E.Entries self.old) q way
@@ -102,8 +103,8 @@ impl<A: Allocator + Copy, E: Entries<A>> Realm<'_, '_, '_, '_, A, E> {
         self.take_away_done(way.done);
     }
 
-    /// Forwards a new request to a link that has a free Identifier, under the next ticket. Its entry is
-    /// put where there is room. Gives the packet that is sent. Takes no memory.
+    /// Forwards a new request to a link that has a free Identifier, under the next ticket. Its
+    /// entry is put where there is room. Gives the packet that is sent. Takes no memory.
     fn forward_new(
         &mut self,
         now: u64,
@@ -162,7 +163,8 @@ impl<A: Allocator + Copy, E: Entries<A>> Realm<'_, '_, '_, '_, A, E> {
     ) -> Told<A>
         requires realm { IsRealm E.Entries self.old }
         requires moment { now ≤ 2 ^ 62 }
-        requires way { IsWay self.old.settings.now (state E.Entries self.old) (shown_request asked) way }
+        requires way { IsWay self.old.settings.now (state E.Entries self.old)
+            (shown_request asked) way }
         requires room { 0 < room E.Entries self.old }
         requires supplies { AreSupplies asked.octets.now supplies }
         ensures turn { Tells supplies.outs.twice result (state E.Entries self.old)
@@ -181,8 +183,8 @@ impl<A: Allocator + Copy, E: Entries<A>> Realm<'_, '_, '_, '_, A, E> {
         outs.told()
     }
 
-    /// Admits a new request on the way that was chosen. First all memory is taken: where a growth is
-    /// refused, the realm is as it was.
+    /// Admits a new request on the way that was chosen. First all memory is taken: where a growth
+    /// is refused, the realm is as it was.
     pub(crate) fn admit(
         &mut self,
         now: u64,
@@ -192,11 +194,13 @@ impl<A: Allocator + Copy, E: Entries<A>> Realm<'_, '_, '_, '_, A, E> {
     ) -> Result<Told<A>, NoMemory>
         requires realm { IsRealm E.Entries self.old }
         requires moment { now ≤ 2 ^ 62 }
-        requires way { IsWay self.old.settings.now (state E.Entries self.old) (shown_request asked) way }
+        requires way { IsWay self.old.settings.now (state E.Entries self.old)
+            (shown_request asked) way }
         ensures turn { IfOk result (λ told. Tells twice told (state E.Entries self.old)
             (state E.Entries self.new) (admits self.old.settings.now now (state E.Entries self.old)
             (shown_request asked.entry) way)) }
-        ensures no_memory { IfErr result (λ e. state E.Entries self.new ≡ state E.Entries self.old) }
+        ensures no_memory { IfErr result (λ e.
+            state E.Entries self.new ≡ state E.Entries self.old) }
         ensures keeps { Keeps E.Entries self.old self.new }
     {
         let supplies = Supplies::new(self.numbers.alloc, asked.octets, twice)?;

@@ -61,7 +61,8 @@ fn copy_of<A: Allocator + Copy>(alloc: A, out: &Out<A>) -> Result<Out<A>, NoMemo
 impl<A: Allocator + Copy> Answer<A> {
     /// An equal answer. No memory is wanted where nothing is sent.
     pub(crate) fn copy(&self, alloc: A) -> Result<Answer<A>, NoMemory>
-        ensures packets { IfOk result (λ a. shown_outs a.outs.items ≡ shown_outs self.now.outs.items) }
+        ensures packets { IfOk result (λ a. shown_outs a.outs.items
+            ≡ shown_outs self.now.outs.items) }
         ensures refusal { IfOk result (λ a. a.refusal ≡ self.now.refusal) }
         ensures succeeds { shown_outs self.now.outs.items ≡ [] → IsOk result }
     {
@@ -86,7 +87,7 @@ impl<A: Allocator + Copy> Answer<A> {
 }
 
 /// A refusal. Takes no memory.
-pub(crate) fn refused<A: Allocator>(alloc: A, why: Refusal) -> Answer<A>
+pub fn refused<A: Allocator>(alloc: A, why: Refusal) -> Answer<A>
     ensures outs { shown_outs result.outs.items ≡ [] }
     ensures refusal { result.refusal ≡ Some why }
 {

@@ -22,11 +22,10 @@ use crate::room::{Room, room_for};
 use crate::sending::Asked;
 use crate::settings::Settings;
 use crate::start::Start;
-use crate::verdict::packet_in;
 use roam_conf::{Config, Link};
 use roam_pending::{Key, Pending, Requester};
 use roam_route::{Job, Side};
-use roam_wire::{NoMemory, Refusal};
+use roam_wire::{NoMemory, Refusal, View};
 use std::alloc::Allocator;
 use std::marker::Model;
 
@@ -73,7 +72,7 @@ fn asked_by<'a, A: Allocator>(settings: &Settings<'_>, job: &Job<A>, octets: &'a
     let key = Key {
         place: job.place,
         from: job.from,
-        id: packet_in(octets).id(),
+        id: View::of_packet(octets).id(),
     };
     Asked {
         key,

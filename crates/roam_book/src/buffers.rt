@@ -6,8 +6,8 @@ ghost use Rattle.roam_book.specs.Memory.{HasBuffers, HasRoom};
 use roam_wire::{NoMemory, Octets};
 use std::alloc::Allocator;
 
-/// Empty buffers for one packet: for the octets that are sent, for those that are kept, and where the
-/// packet is wanted twice, for its copy.
+/// Empty buffers for one packet: for the octets that are sent, for those that are kept, and where
+/// the packet is wanted twice, for its copy.
 #[derive(Drop)]
 pub(crate) struct Buffers<A: Allocator> {
     pub sent: Vec<u8, A>,

@@ -42,7 +42,8 @@ fn packet_again<A: Allocator>(
 ) -> Sent<A>
     requires link { IsLink settings.now waiting.now.link }
     requires buffers { HasBuffers (length waiting.now.forwarded) buffers }
-    ensures out { shown_out result.out ≡ packet_to settings.now waiting.now.link waiting.now.forwarded }
+    ensures out { shown_out result.out
+        ≡ packet_to settings.now waiting.now.link waiting.now.forwarded }
     ensures copied { IsCopied (is_some buffers.copy) result }
 {
     let Buffers {

@@ -28,7 +28,7 @@ mod ticks;
 mod verdict;
 mod way;
 
-pub use answer::{Answer, Twin};
+pub use answer::{Answer, Twin, refused};
 pub use book::Book;
 pub use laws::{events, ticks_take_the_least_due_first};
 pub use numbers::Numbers;

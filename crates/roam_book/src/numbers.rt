@@ -7,7 +7,7 @@ ghost use Rattle.roam_pending.specs.PlainEntry.{PlainEntry, waits_at};
 ghost use Rattle.roam_pending.specs.EntryList.{IsEntryList, find_ticket, put, without};
 ghost use Rattle.roam_book.specs.RealmConfig.{IsLink, link_place, link_count, server_links};
 ghost use Rattle.roam_book.specs.RealmState.{next_toward};
-ghost use Rattle.roam_book.specs.Sound.{LanesTell, lane_of, cursors_of, has_free, is_freed, is_open, WaitsJustAt};
+ghost use Rattle.roam_book.specs.Sound.{LanesTell, lane_of, cursors_of, has_free, is_freed, is_open, own_tags, tags_of, WaitsJustAt};
 
 use crate::service::Service;
 use crate::settings::Settings;
@@ -46,6 +46,8 @@ fn new_lanes<A: Allocator + Copy>(
     ensures count { IfOk result (λ lanes. length lanes.items ≡ link_count settings.now) }
     ensures cursors { IfOk result (λ lanes. cursors_of lanes.items ≡ replicate (link_count settings.now) 0) }
     ensures free { IfOk result (λ lanes. LanesTell settings.now [] lanes.items) }
+    ensures tags { IfOk result (λ lanes. tags_of lanes.items
+        ≡ own_tags settings.now.index (link_count settings.now)) }
 {
     let count = settings.link_count();
     let mut lanes = Vec::with_capacity(alloc, count).map_err(|_| NoMemory)?;
@@ -71,6 +73,8 @@ impl<A: Allocator + Copy> Numbers<A> {
         ensures count { IfOk result (λ n. length n.lanes.items ≡ link_count settings.now) }
         ensures cursors { IfOk result (λ n. cursors_of n.lanes.items ≡ replicate (link_count settings.now) 0) }
         ensures free { IfOk result (λ n. LanesTell settings.now [] n.lanes.items) }
+        ensures tags { IfOk result (λ n. tags_of n.lanes.items
+            ≡ own_tags settings.now.index (link_count settings.now)) }
         ensures ticket { IfOk result (λ n. n.ticket ≡ start.ticket) }
         ensures place { IfOk result (λ n. n.stream_position ≡ start.place) }
     {
@@ -152,6 +156,7 @@ impl<A: Allocator + Copy> Numbers<A> {
             → find_ticket ticket es ≡ None → e.ticket ≡ ticket
             → WaitsJustAt link id e
             → LanesTell settings.now (put e es) self.new.lanes.items) }
+        ensures tags { tags_of self.new.lanes.items ≡ tags_of self.old.lanes.items }
         ensures count { length self.new.lanes.items ≡ length self.old.lanes.items }
         ensures ticket { self.new.ticket ≡ self.old.ticket }
         ensures stream_position { self.new.stream_position ≡ self.old.stream_position }
@@ -174,6 +179,7 @@ impl<A: Allocator + Copy> Numbers<A> {
             → LanesTell settings.now es self.old.lanes.items
             → find_ticket e.ticket es ≡ Some e → waits_at link id e ≡ true
             → LanesTell settings.now (without e.ticket es) self.new.lanes.items }
+        ensures tags { tags_of self.new.lanes.items ≡ tags_of self.old.lanes.items }
         ensures count { length self.new.lanes.items ≡ length self.old.lanes.items }
         ensures ticket { self.new.ticket ≡ self.old.ticket }
         ensures stream_position { self.new.stream_position ≡ self.old.stream_position }

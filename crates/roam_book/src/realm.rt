@@ -5,8 +5,8 @@ use crate::settings::Settings;
 use roam_pending::Entries;
 use std::alloc::Allocator;
 
-/// One realm, for the time of an event: what is read of the configuration, and its entries and numbers,
-/// which are borrowed. The rules of the realm are its methods.
+/// One realm, for the time of an event: what is read of the configuration, and its entries and
+/// numbers, which are borrowed. The rules of the realm are its methods.
 #[derive(Drop)]
 pub struct Realm<'s, 'c, 'e, 'n, A: Allocator, E: Entries<A>> {
     pub settings: &'s Settings<'c>,

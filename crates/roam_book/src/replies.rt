@@ -1,7 +1,7 @@
 //! What a reply does to its realm (RFC 2865, section 2.3).
 //!
-//! First it is decided what the answer is and which entry is done then, and all memory is taken; that
-//! changes nothing. Then the entry is settled.
+//! First it is decided what the answer is and which entry is done then, and all memory is taken;
+//! that changes nothing. Then the entry is settled.
 
 ghost use Rattle.std.specs.Prelude.{◌≡◌, ◌≤◌, ◌^◌, [], IfOk, IsOk};
 ghost use Rattle.roam_wire.specs.Reading.{IsPacketText};
@@ -17,7 +17,7 @@ ghost use Rattle.roam_book.specs.ReplyPlans.{CanSettle, IsReplyPlan, once_settle
 use crate::answer::{Answer, Twin, refused};
 use crate::realm::Realm;
 use crate::requests::LATEST;
-use crate::verdict::{Verdict, packet_in, to_standing};
+use crate::verdict::{Verdict, to_standing};
 use roam_conf::Link;
 use roam_pending::{Done, Entries, Entry, Standing, set_standing};
 use roam_wire::{NoMemory, Refusal, View};
@@ -59,8 +59,8 @@ impl<A: Allocator + Copy, E: Entries<A>> Realm<'_, '_, '_, '_, A, E> {
         self.entries.find_ticket(self.settings.index(), ticket)
     }
 
-    /// What a reply from a link does, for the entry that waits there with its Identifier, if there is
-    /// one.
+    /// What a reply from a link does, for the entry that waits there with its Identifier, if there
+    /// is one.
     fn reply_to_entry(
         &self,
         now: u64,
@@ -69,11 +69,13 @@ impl<A: Allocator + Copy, E: Entries<A>> Realm<'_, '_, '_, '_, A, E> {
     ) -> Result<ReplyPlan<A>, NoMemory>
         requires realm { IsRealm E.Entries self.now }
         requires moment { now ≤ 2 ^ 62 }
-        ensures plan { IfOk result (λ p. IsReplyPlan self.now.settings.now (state E.Entries self.now) p
+        ensures plan { IfOk result (λ p. IsReplyPlan self.now.settings.now
+            (state E.Entries self.now) p
             (to_entry self.now.settings.now now (state E.Entries self.now) reply.now
             (find_link link reply.now.id (entries E.Entries self.now)))) }
         ensures succeeds { packets_of (to_entry self.now.settings.now now (state E.Entries self.now)
-            reply.now (find_link link reply.now.id (entries E.Entries self.now))) ≡ [] → IsOk result }
+            reply.now (find_link link reply.now.id (entries E.Entries self.now))) ≡ []
+            → IsOk result }
     {
         let id = reply.id();
         let Some(entry) = self.waiting_at(link, id) else {
@@ -104,7 +106,8 @@ impl<A: Allocator + Copy, E: Entries<A>> Realm<'_, '_, '_, '_, A, E> {
     fn plan_reply(&self, now: u64, link: Link, octets: &[u8]) -> Result<ReplyPlan<A>, NoMemory>
         requires realm { IsRealm E.Entries self.now }
         requires packet { IsPacketText octets.now }
-        ensures plan { IfOk result (λ p. IsReplyPlan self.now.settings.now (state E.Entries self.now) p
+        ensures plan { IfOk result (λ p. IsReplyPlan self.now.settings.now
+            (state E.Entries self.now) p
             (on_reply self.now.settings.now now (state E.Entries self.now) link octets.now)) }
         ensures succeeds { packets_of (on_reply self.now.settings.now now (state E.Entries self.now)
             link octets.now) ≡ [] → IsOk result }
@@ -112,10 +115,11 @@ impl<A: Allocator + Copy, E: Entries<A>> Realm<'_, '_, '_, '_, A, E> {
         if now > LATEST {
             return Ok(refused_reply(self.numbers.alloc, Refusal::Moment));
         }
-        self.reply_to_entry(now, link, &packet_in(octets))
+        self.reply_to_entry(now, link, &View::of_packet(octets))
     }
 
-    /// The entry that is to be done, if one is, is done: its Identifier is then free. Takes no memory.
+    /// The entry that is to be done, if one is, is done: its Identifier is then free. Takes no
+    /// memory.
     fn settle(&mut self, settled: Option<Settled<A>>)
         requires realm { IsRealm E.Entries self.old }
         requires settled { CanSettle self.old.settings.now (entries E.Entries self.old) settled }
@@ -136,12 +140,12 @@ impl<A: Allocator + Copy, E: Entries<A>> Realm<'_, '_, '_, '_, A, E> {
             .give_back(self.settings, settled.link, settled.id);
     }
 
-    /// A reply that came from a link: it is returned, and held until `now + hold`, where the request
-    /// waits on that link with the reply's Identifier, and the reply is taken.
+    /// A reply that came from a link: it is returned, and held until `now + hold`, where the
+    /// request waits on that link with the reply's Identifier, and the reply is taken.
     ///
     /// Refused in this order: `Moment`, `NoEntry`, `WrongReply`, `BadReply`,
-    /// `BadReplyMessageAuthenticator`, `ReplyTooLong`. `NoMemory` comes where a growth was refused; the
-    /// realm is then as it was. A refused reply wants no memory.
+    /// `BadReplyMessageAuthenticator`, `ReplyTooLong`. `NoMemory` comes where a growth was refused;
+    /// the realm is then as it was. A refused reply wants no memory.
     pub fn on_reply(&mut self, now: u64, link: Link, octets: &[u8]) -> Result<Answer<A>, NoMemory>
         requires realm { IsRealm E.Entries self.old }
         requires packet { IsPacketText octets.now }

@@ -1,7 +1,7 @@
 //! What a request does to its realm (RFC 2865, section 2.3).
 //!
-//! First it is decided whether it is a duplicate, refused or admitted, and which entries make way; that
-//! changes nothing. Then a new request is admitted.
+//! First it is decided whether it is a duplicate, refused or admitted, and which entries make way;
+//! that changes nothing. Then a new request is admitted.
 
 ghost use Rattle.std.specs.Prelude.{◌≡◌, ◌≢◌, ℕ, ◌<◌, ◌≤◌, ◌^◌, [], None, Some, IfOk, IsOk, length};
 ghost use Rattle.roam_pending.specs.EntryList.{besides, find_client};
@@ -89,8 +89,8 @@ impl<A: Allocator + Copy, E: Entries<A>> Realm<'_, '_, '_, '_, A, E> {
         }
     }
 
-    /// A new request for which a link has a free Identifier: it is admitted where there is a place, or
-    /// where a done entry makes way.
+    /// A new request for which a link has a free Identifier: it is admitted where there is a place,
+    /// or where a done entry makes way.
     fn way_to(&self, gone: Option<Gone>, link: Link) -> Result<Way, Refusal>
         requires { CountsAsGone gone (entries E.Entries self.now) }
         ensures { (q : PlainRequest)
@@ -124,8 +124,8 @@ impl<A: Allocator + Copy, E: Entries<A>> Realm<'_, '_, '_, '_, A, E> {
         }
     }
 
-    /// A new request: there must be a ticket for it, and a target with a free Identifier. The entry of
-    /// its key, if there is one, counts as gone.
+    /// A new request: there must be a ticket for it, and a target with a free Identifier. The entry
+    /// of its key, if there is one, counts as gone.
     fn way_for(&self, gone: Option<Gone>) -> Result<Way, Refusal>
         requires realm { IsRealm E.Entries self.now }
         requires gone { CountsAsGone gone (entries E.Entries self.now) }
@@ -163,14 +163,16 @@ impl<A: Allocator + Copy, E: Entries<A>> Realm<'_, '_, '_, '_, A, E> {
         }
     }
 
-    /// A request in time: a duplicate where the entry of its key has its octets too, else a new one.
+    /// A request in time: a duplicate where the entry of its key has its octets too, else a new
+    /// one.
     fn plan_of_key(&self, asked: Asked<'_>) -> Result<RequestPlan<A>, NoMemory>
         requires realm { IsRealm E.Entries self.now }
         requires request { IsRequest self.now.settings.now (shown_request asked) }
         ensures plan { IfOk result (λ p. IsRequestPlan self.now.settings.now
             (state E.Entries self.now) (shown_request asked.entry) p
             (λ now. of_key self.now.settings.now now (state E.Entries self.now)
-            (shown_request asked.entry) (find_client asked.entry.key (entries E.Entries self.now)))) }
+            (shown_request asked.entry)
+            (find_client asked.entry.key (entries E.Entries self.now)))) }
         ensures succeeds { (now : ℕ) → packets_of (of_key self.now.settings.now now
             (state E.Entries self.now) (shown_request asked.entry)
             (find_client asked.entry.key (entries E.Entries self.now))) ≡ [] → IsOk result }
@@ -189,9 +191,9 @@ impl<A: Allocator + Copy, E: Entries<A>> Realm<'_, '_, '_, '_, A, E> {
 
     /// A request of the realm: a duplicate, or a new one that is forwarded.
     ///
-    /// Refused in this order: `Moment`, `Exhausted`, `NoIdentifier`, `Busy`. `NoMemory` comes where a
-    /// growth was refused; the realm is then as it was. A refused request and a duplicate of one that
-    /// waits want no memory.
+    /// Refused in this order: `Moment`, `Exhausted`, `NoIdentifier`, `Busy`. `NoMemory` comes where
+    /// a growth was refused; the realm is then as it was. A refused request and a duplicate of one
+    /// that waits want no memory.
     pub fn on_request(&mut self, now: u64, asked: Asked<'_>) -> Result<Answer<A>, NoMemory>
         requires realm { IsRealm E.Entries self.old }
         requires request { IsRequest self.old.settings.now (shown_request asked) }

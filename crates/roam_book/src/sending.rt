@@ -11,17 +11,16 @@ ghost use Rattle.roam_book.specs.RealmConfig.{IsLink, link_place, link_count};
 ghost use Rattle.roam_book.specs.RealmState.{next_toward};
 ghost use Rattle.roam_book.specs.OnRequest.{packet_to, packet_back, forwarded_octets, forwarded_entry};
 ghost use Rattle.roam_book.specs.Memory.{HasBuffers, HasRoom, IsCopied};
-ghost use Rattle.roam_book.specs.Sound.{shown_request, IsRequest, LanesTell, IsWaiting, lane_of, cursors_of, has_free};
+ghost use Rattle.roam_book.specs.Sound.{shown_request, IsRequest, LanesTell, IsWaiting, lane_of, cursors_of, has_free, tags_of};
 
 use crate::buffers::{Buffers, copied_into};
 use crate::numbers::Numbers;
 use crate::settings::Settings;
-use crate::verdict::packet_in;
 use roam_conf::{Link, Place};
 use roam_fwd::forward_reserved;
 use roam_pending::{Key, Requester, Waiting};
 use roam_route::Out;
-use roam_wire::Octets;
+use roam_wire::{Octets, View};
 use std::alloc::Allocator;
 
 /// A request of a realm: what tells it from others, who sent it, and its octets up to Length.
@@ -114,7 +113,7 @@ fn forward_into<A: Allocator>(
         (record { link = link; id = id }) }
     ensures waiting { IsWaiting settings.now (shown_request asked.entry) link id out.new.items }
 {
-    let request = packet_in(asked.octets);
+    let request = View::of_packet(asked.octets);
     let from_secret = settings.secret_of_requester(asked.requester);
     let to_secret = settings.secret_of_link(link);
     forward_reserved(&request, from_secret, to_secret, id, [0; 16], ticket, out);
@@ -141,7 +140,8 @@ pub(crate) fn send_new<A: Allocator + Copy>(
     ensures next { (es : List PlainEntry) → IsEntryList es
         → LanesTell settings.now es numbers.old.lanes.items
         → next_toward settings.now (cursors_of numbers.old.lanes.items) es link ≡ Some result.1.id }
-    ensures out { shown_out result.0.out ≡ packet_to settings.now link (forwarded_octets settings.now
+    ensures out { shown_out result.0.out ≡ packet_to settings.now link
+        (forwarded_octets settings.now
         (shown_request asked.entry) ticket (record { link = link; id = result.1.id })) }
     ensures copied { IsCopied (is_some buffers.copy) result.0 }
     ensures standing { shown_standing (standing.Waiting result.1)
@@ -159,6 +159,7 @@ pub(crate) fn send_new<A: Allocator + Copy>(
         → LanesTell settings.now
         (put (forwarded_entry settings.now now (shown_request asked.entry) ticket
         (record { link = link; id = result.1.id })) es) numbers.new.lanes.items }
+    ensures tags { tags_of numbers.new.lanes.items ≡ tags_of numbers.old.lanes.items }
     ensures count { length numbers.new.lanes.items ≡ length numbers.old.lanes.items }
     ensures ticket { numbers.new.ticket ≡ numbers.old.ticket }
     ensures stream_position { numbers.new.stream_position ≡ numbers.old.stream_position }

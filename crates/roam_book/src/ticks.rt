@@ -22,7 +22,8 @@ use roam_wire::Refusal;
 use std::alloc::Allocator;
 
 impl<A: Allocator + Copy, E: Entries<A>> Realm<'_, '_, '_, '_, A, E> {
-    /// Lets an entry have its fate: what is sent for it goes to the packets, where there is a place.
+    /// Lets an entry have its fate: what is sent for it goes to the packets, where there is a
+    /// place.
     fn meet_fate(&mut self, now: u64, ticket: u64, fate: Fate<A>, outs: &mut Outs<A>)
         requires moment { now ≤ 2 ^ 62 }
         requires place { HasPlace outs.old }

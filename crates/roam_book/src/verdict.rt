@@ -1,7 +1,7 @@
 //! What comes of a reply for the entry that it is for (RFC 2865, section 2.3).
 
 ghost use Rattle.std.specs.Prelude.{◌≡◌, ◌⊎◌, ◌↔◌, ◌<◌, ◌≤◌, ◌^◌, [], IfErr, IfNone, IfOk, IsErrOf, IsOk, length};
-ghost use Rattle.roam_wire.specs.Reading.{IsPacketText, packet_of};
+ghost use Rattle.roam_wire.specs.Reading.{packet_of};
 ghost use Rattle.roam_wire.specs.declared.code.TheConstants.{ACCOUNTING_REQUEST};
 ghost use Rattle.roam_back.specs.ReplyCheck.{IsTaken};
 ghost use Rattle.roam_back.specs.Returned.{returned_length};
@@ -41,17 +41,6 @@ fn not_taken<A: Allocator>(alloc: A, why: Refusal) -> Verdict<A>
     }
 }
 
-/// Octets that are a packet's, as that packet.
-pub(crate) fn packet_in(octets: &[u8]) -> View<'_>
-    requires { IsPacketText octets.now }
-    ensures { result ≡ packet_of octets.now }
-{
-    let Ok(packet) = View::read(octets) else {
-        unreachable!();
-    };
-    packet
-}
-
 /// Why a reply to a forwarded packet isn't taken, if it isn't. Takes no memory.
 fn fault_of(reply: &View<'_>, forwarded: &View<'_>, secret: &[u8]) -> Option<Refusal>
     requires at_least_one_octet { 1 ≤ length secret.now }
@@ -87,7 +76,7 @@ fn returned_packet<A: Allocator + Copy>(
     let mut packet = Vec::new(alloc);
     match back(
         reply,
-        &packet_in(request.octets.as_slice()),
+        &View::of_packet(request.octets.as_slice()),
         forwarded.authenticator(),
         settings.secret_of_link(link),
         settings.secret_of_requester(request.requester),
@@ -171,7 +160,7 @@ fn judge<A: Allocator + Copy>(
         (packet_of waiting.now.forwarded))) ≡ [] → IsOk result }
 {
     let link = waiting.link;
-    let forwarded = packet_in(waiting.forwarded.as_slice());
+    let forwarded = View::of_packet(waiting.forwarded.as_slice());
     if let Some(why) = fault_of(reply, &forwarded, settings.secret_of_link(link)) {
         return Ok(not_taken(alloc, why));
     }

@@ -94,8 +94,17 @@ secret = \"h2\"
 /// The sample configuration, whose peer, realm and server are one each.
 pub const SAMPLE: [&str; 4] = [TOP, PEER, REALM, SERVER];
 
-/// A change: the first text that is replaced, what stands there then, and the fault of what comes.
+/// A change of the sample: the first text that is replaced, what stands there then, and the fault of
+/// what comes.
 pub type Change = (&'static str, &'static str, Option<ConfFault>);
+
+/// A document: its parts, in which the first text is replaced by the second, and its fault.
+pub type Document = (
+    &'static [&'static str],
+    &'static str,
+    &'static str,
+    Option<ConfFault>,
+);
 
 /// An endpoint of a home server.
 pub fn home_server(last: u8, port: u16) -> Endpoint {
@@ -114,18 +123,13 @@ pub fn joined(alloc: Global, parts: &[&str]) -> Result<String, Fail> {
     Ok(text)
 }
 
-/// The text with the first `old` in it replaced.
-pub fn changed(alloc: Global, text: &str, old: &str, new: &str) -> Result<String, Fail> {
+/// The parts in a row, with the first `old` in them replaced.
+pub fn changed(alloc: Global, parts: &[&str], old: &str, new: &str) -> Result<String, Fail> {
+    let text = joined(alloc, parts)?;
     let (front, back) = text
         .split_once(old)
         .ok_or("the text to be changed isn't there")?;
     joined(alloc, &[front, new, back])
-}
-
-/// The sample with the first `old` in it replaced.
-pub fn sample_with(alloc: Global, old: &str, new: &str) -> Result<String, Fail> {
-    let text = joined(alloc, &SAMPLE)?;
-    changed(alloc, text.as_str(), old, new)
 }
 
 /// The configuration that a document of these parts states.
@@ -142,49 +146,35 @@ pub fn fault_of(alloc: Global, text: &str) -> Option<ConfFault> {
     }
 }
 
-/// The sample with each of these changes has this fault.
-pub fn expect_fault_of_each(
-    rt: &impl Abort,
+/// The fault of a document of these parts, with the first `old` in them replaced.
+fn fault_after(
     alloc: Global,
-    changes: &[(&str, &str)],
-    expected: Option<ConfFault>,
-) -> Result<(), Fail> {
-    for &(old, new) in changes {
-        expect_fault_after(rt, alloc, old, new, expected)?;
+    parts: &[&str],
+    old: &str,
+    new: &str,
+) -> Result<Option<ConfFault>, Fail> {
+    let text = changed(alloc, parts, old, new)?;
+    Ok(fault_of(alloc, text.as_str()))
+}
+
+/// Each change of the sample has its fault.
+pub fn expect_changes(rt: &impl Abort, alloc: Global, changes: &[Change]) -> Result<(), Fail> {
+    for &(old, new, expected) in changes {
+        let fault = fault_after(alloc, &SAMPLE, old, new)?;
+        assert!(rt; fault == expected, "{old} and {new}");
     }
     Ok(())
 }
 
-/// A document of these parts has this fault.
-pub fn expect_fault(
+/// Each document has its fault.
+pub fn expect_documents(
     rt: &impl Abort,
     alloc: Global,
-    parts: &[&str],
-    expected: Option<ConfFault>,
-    what: &str,
+    documents: &[Document],
 ) -> Result<(), Fail> {
-    let text = joined(alloc, parts)?;
-    assert_eq!(rt; fault_of(alloc, text.as_str()), expected, "{what}");
-    Ok(())
-}
-
-/// The sample with a change has this fault.
-pub fn expect_fault_after(
-    rt: &impl Abort,
-    alloc: Global,
-    old: &str,
-    new: &str,
-    expected: Option<ConfFault>,
-) -> Result<(), Fail> {
-    let text = sample_with(alloc, old, new)?;
-    assert_eq!(rt; fault_of(alloc, text.as_str()), expected, "{old} and {new}");
-    Ok(())
-}
-
-/// Each change of the sample has its fault.
-pub fn expect_faults_after(rt: &impl Abort, alloc: Global, changes: &[Change]) -> Result<(), Fail> {
-    for &(old, new, expected) in changes {
-        expect_fault_after(rt, alloc, old, new, expected)?;
+    for &(parts, old, new, expected) in documents {
+        let fault = fault_after(alloc, parts, old, new)?;
+        assert!(rt; fault == expected, "{old} and {new}");
     }
     Ok(())
 }

@@ -6,14 +6,12 @@
 #![tactic(auto)]
 
 #[cfg(test)]
-mod bound_tests;
-#[cfg(test)]
 mod documents;
 #[cfg(test)]
-mod duplicate_tests;
-#[cfg(test)]
-mod fault_tests;
-#[cfg(test)]
-mod look_up_tests;
+mod order_tests;
 #[cfg(test)]
 mod sample_tests;
+#[cfg(test)]
+mod size_tests;
+#[cfg(test)]
+mod value_tests;

@@ -1,10 +1,10 @@
-//! What is read from documents that are accepted.
+//! What is read from documents that are accepted, and what is found in it.
 
 use crate::documents::{
-    PEER, REALM, SAMPLE, SECOND_PEER, SECOND_REALM, SECOND_SERVER, SERVER, THIRD_REALM, TOP,
-    config_of, home_server, sample_with,
+    PEER, REALM, SAMPLE, SECOND_PEER, SECOND_REALM, SECOND_SERVER, SERVER, TOP, changed, config_of,
+    home_server,
 };
-use roam_conf::{Config, Endpoint, Peer, Realm, Server};
+use roam_conf::{Config, Endpoint, Link, Peer, Realm};
 use roam_conf_reader::read_config;
 use std::alloc::Global;
 use std::process::Abort;
@@ -18,152 +18,190 @@ fn own(port: u16) -> Endpoint {
     }
 }
 
-// The fields of the sample, as the file has them.
+const COA: Endpoint = Endpoint {
+    ip: [192, 0, 2, 1],
+    port: 3799,
+};
+
+/// The numbers of a configuration and its first realm.
+fn numbers(config: &Config, realm: &Realm) -> [u32; 7] {
+    [
+        u32::from(config.shards),
+        config.trace_limit,
+        u32::from(realm.tries),
+        realm.wait,
+        realm.hold,
+        u32::from(realm.max_pending),
+        realm.max_sessions,
+    ]
+}
+
+/// The endpoints of a configuration, of its first realm and of that realm's first server.
+fn endpoints(config: &Config, realm: &Realm) -> [Endpoint; 6] {
+    let server = &realm.servers[0];
+    [
+        config.auth,
+        config.acct,
+        realm.out,
+        realm.reverse,
+        server.auth,
+        server.acct,
+    ]
+}
+
+/// The texts of a peer, of a realm and of the realm's first server.
+fn texts<'a>(peer: &'a Peer, realm: &'a Realm) -> [&'a str; 5] {
+    [
+        peer.name.as_str(),
+        peer.secret.as_str(),
+        match &peer.nas_id {
+            Some(id) => id.as_str(),
+            None => "",
+        },
+        realm.name.as_str(),
+        realm.servers[0].secret.as_str(),
+    ]
+}
+
+// The values of the sample, as the file has them.
 #[test]
 fn the_sample_is_read(rt: HostRuntime) -> Result<(), Fail> {
     let config = config_of(rt.alloc(), &SAMPLE)?;
-    assert!(rt; config.shards == 1);
-    assert!(rt; config.seed == [0; 32]);
-    assert!(rt; config.auth == own(1812));
-    assert!(rt; config.acct == own(1813));
-    assert!(rt; config.trace_limit == 1000);
-    assert!(rt; config.peers.len() == 1);
-    assert!(rt; config.realms.len() == 1);
+    let realm = &config.realms[0];
+    assert!(rt; numbers(&config, realm) == [1, 1000, 2, 1000, 5000, 300, 100]);
+    assert!(rt;
+        endpoints(&config, realm)
+            == [
+                own(1812),
+                own(1813),
+                own(2000),
+                own(3000),
+                home_server(1, 1812),
+                home_server(1, 1813),
+            ]
+    );
+    assert!(rt; texts(&config.peers[0], realm) == ["nas1", "xyzzy5461", "nas1", "a.example", "h1"]);
     Ok(())
 }
 
-/// The peer of the sample.
-fn check_peer(rt: &impl Abort, peer: &Peer) {
-    assert!(rt; peer.name.as_str() == "nas1");
-    assert!(rt; peer.ip == [192, 0, 2, 1]);
-    assert!(rt; peer.secret.as_str() == "xyzzy5461");
-    let coa = Endpoint {
-        ip: [192, 0, 2, 1],
-        port: 3799,
-    };
-    assert!(rt; peer.coa == Some(coa));
-    assert!(rt; peer.nas_ip == Some([192, 0, 2, 1]));
-    match &peer.nas_id {
-        Some(id) => assert_eq!(rt; id.as_str(), "nas1"),
-        None => assert!(rt; false, "the NAS-Identifier is absent"),
-    }
-    assert!(rt; !peer.require_seal);
+/// What a peer has besides its name and secret.
+fn others(peer: &Peer) -> ([u8; 4], Option<Endpoint>, Option<[u8; 4]>, bool, bool) {
+    (
+        peer.ip,
+        peer.coa,
+        peer.nas_ip,
+        peer.nas_id.is_some(),
+        peer.require_seal,
+    )
 }
 
-/// The realm of the sample.
-fn check_realm(rt: &impl Abort, realm: &Realm) {
-    assert!(rt; realm.name.as_str() == "a.example");
-    assert!(rt; realm.out == own(2000));
-    assert!(rt; realm.reverse == own(3000));
-    assert!(rt; realm.tries == 2);
-    assert!(rt; realm.wait == 1000);
-    assert!(rt; realm.hold == 5000);
-    assert!(rt; realm.max_pending == 300);
-    assert!(rt; realm.max_sessions == 100);
-    assert!(rt; realm.servers.len() == 1);
-}
-
-/// A home server of this address and secret.
-fn check_server(rt: &impl Abort, server: &Server, last: u8, secret: &str) {
-    assert!(rt; server.auth == home_server(last, 1812));
-    assert!(rt; server.acct == home_server(last, 1813));
-    assert!(rt; server.secret.as_str() == secret);
-}
-
+// The optional keys of a peer, there and left out.
 #[test]
-fn the_samples_peer_and_realm_are_read(rt: HostRuntime) -> Result<(), Fail> {
-    let config = config_of(rt.alloc(), &SAMPLE)?;
-    check_peer(&rt, config.peers.first().expect(&rt, "a peer"));
-    let realm = config.realms.first().expect(&rt, "a realm");
-    check_realm(&rt, realm);
-    check_server(&rt, realm.servers.first().expect(&rt, "a server"), 1, "h1");
-    Ok(())
-}
-
-/// A document of these parts has so many realms, and the last of them has this name and port.
-fn check_last_realm(
-    rt: &impl Abort,
-    alloc: Global,
-    parts: &[&str],
-    count: usize,
-    (name, out): (&str, u16),
-) -> Result<(), Fail> {
-    let config = config_of(alloc, parts)?;
-    assert!(rt; config.realms.len() == count);
-    let realm = config.realms.last().expect(rt, "a realm");
-    assert!(rt; realm.name.as_str() == name);
-    assert!(rt; realm.out == own(out));
-    assert!(rt; realm.reverse.port == out.wrapping_add(1000));
-    Ok(())
-}
-
-// The other four sample configurations: two realms with the same server, two servers, three
-// realms, one pending request.
-#[test]
-fn realms_are_read_in_their_order(rt: HostRuntime) -> Result<(), Fail> {
-    let two = [TOP, PEER, REALM, SERVER, SECOND_REALM, SERVER];
-    check_last_realm(&rt, rt.alloc(), &two, 2, ("b.example", 2001))?;
-    let three = [
+fn the_keys_of_peers_are_read(rt: HostRuntime) -> Result<(), Fail> {
+    let parts = [
         TOP,
         PEER,
+        SECOND_PEER,
+        "require_seal = true\n",
         REALM,
         SERVER,
-        SECOND_REALM,
-        SERVER,
-        THIRD_REALM,
-        SERVER,
     ];
-    check_last_realm(&rt, rt.alloc(), &three, 3, ("c.example", 2002))
+    let config = config_of(rt.alloc(), &parts)?;
+    let first = ([192, 0, 2, 1], Some(COA), Some([192, 0, 2, 1]), true, false);
+    let second = ([192, 0, 2, 2], None, None, false, true);
+    let found = others(config.peers.get(1).expect(&rt, "a second peer"));
+    assert!(rt; (others(&config.peers[0]), found) == (first, second));
+    Ok(())
+}
+
+/// Two shards; the first realm has two servers, the second one the first of them; and another server
+/// at the address of the first.
+fn two_of_each(alloc: Global) -> Result<Config, Fail> {
+    let text = changed(
+        alloc,
+        &[
+            TOP,
+            PEER,
+            SECOND_PEER,
+            REALM,
+            SERVER,
+            SECOND_SERVER,
+            SECOND_REALM,
+            SERVER,
+        ],
+        "shards = 1",
+        "shards = 2",
+    )?;
+    Ok(read_config(alloc, text.as_str())?)
+}
+
+/// What is found of realms by their names, of peers by their addresses, and of shards.
+fn found(config: &Config) -> [Option<u16>; 10] {
+    [
+        config.realm_index(b"a.example"),
+        config.realm_index(b"B.Example"),
+        config.realm_index(b"example"),
+        config.realm_index(b"a.example."),
+        config.realm_index(b""),
+        config.peer_by_ip([192, 0, 2, 1]),
+        config.peer_by_ip([192, 0, 2, 2]),
+        config.peer_by_ip([192, 0, 2, 3]),
+        Some(config.shard_of(1)),
+        Some(config.shard_of(2)),
+    ]
+}
+
+/// What is found of links by their endpoints.
+fn links(config: &Config) -> [Option<Link>; 5] {
+    [
+        config.link_of(0, home_server(1, 1812)),
+        config.link_of(0, home_server(2, 1813)),
+        config.link_of(1, home_server(2, 1813)),
+        config.link_of(1, COA),
+        config.link_of(2, COA),
+    ]
+}
+
+/// What is found of home servers by their addresses.
+fn homes(config: &Config) -> [Option<u8>; 4] {
+    [
+        config.home_of(0, [198, 51, 100, 1]),
+        config.home_of(0, [198, 51, 100, 2]),
+        config.home_of(1, [198, 51, 100, 2]),
+        config.home_of(0, [192, 0, 2, 1]),
+    ]
 }
 
 #[test]
-fn two_servers_of_a_realm_are_read(rt: HostRuntime) -> Result<(), Fail> {
-    let config = config_of(rt.alloc(), &[TOP, PEER, REALM, SERVER, SECOND_SERVER])?;
-    assert!(rt; config.realms.len() == 1);
-    let realm = config.realms.first().expect(&rt, "a realm");
-    assert!(rt; realm.servers.len() == 2);
-    check_server(
-        &rt,
-        realm.servers.get(1).expect(&rt, "a second server"),
-        2,
-        "h2",
+fn realms_peers_links_and_home_servers_are_found(rt: HostRuntime) -> Result<(), Fail> {
+    let config = two_of_each(rt.alloc())?;
+    assert!(rt;
+        found(&config)
+            == [
+                Some(0),
+                Some(1),
+                None,
+                None,
+                None,
+                Some(0),
+                Some(1),
+                None,
+                Some(1),
+                Some(0),
+            ]
     );
+    assert!(rt;
+        links(&config)
+            == [
+                Some(Link::Auth(0)),
+                Some(Link::Acct(1)),
+                None,
+                Some(Link::Coa(0)),
+                None,
+            ]
+    );
+    assert!(rt; homes(&config) == [Some(0), Some(1), None, None]);
     Ok(())
-}
-
-#[test]
-fn one_pending_request_is_allowed(rt: HostRuntime) -> Result<(), Fail> {
-    let text = sample_with(rt.alloc(), "max_pending = 300", "max_pending = 1")?;
-    let config = read_config(rt.alloc(), text.as_str())?;
-    assert!(rt; config.realms.len() == 1);
-    assert!(rt; config.realms.first().expect(&rt, "a realm").max_pending == 1);
-    Ok(())
-}
-
-/// A document of these parts has one peer, without the optional keys, which wants a seal or not.
-fn check_bare_peer(
-    rt: &impl Abort,
-    alloc: Global,
-    parts: &[&str],
-    require_seal: bool,
-) -> Result<(), Fail> {
-    let config = config_of(alloc, parts)?;
-    assert!(rt; config.peers.len() == 1);
-    let peer = config.peers.first().expect(rt, "a peer");
-    assert!(rt; peer.coa.is_none());
-    assert!(rt; peer.nas_ip.is_none());
-    assert!(rt; peer.nas_id.is_none());
-    assert!(rt; peer.require_seal == require_seal);
-    Ok(())
-}
-
-// The three optional keys of a peer and `require_seal`, left out.
-#[test]
-fn optional_keys_are_absent(rt: HostRuntime) -> Result<(), Fail> {
-    let absent = [TOP, SECOND_PEER, REALM, SERVER];
-    check_bare_peer(&rt, rt.alloc(), &absent, false)?;
-    let sealed = [TOP, SECOND_PEER, "require_seal = true\n", REALM, SERVER];
-    check_bare_peer(&rt, rt.alloc(), &sealed, true)
 }
 
 /// Changes that leave the sample acceptable.
@@ -178,19 +216,16 @@ const OTHER_VALUES: [(&str, &str); 8] = [
     ("\"h1\"", "\"h2\""),
 ];
 
-/// Each change of the sample gives another configuration than this.
-fn check_others(
-    rt: &impl Abort,
-    alloc: Global,
-    config: &Config,
-    changes: &[(&str, &str)],
-) -> Result<(), Fail> {
+/// Whether one of these changes of the sample leaves the configuration as it is.
+fn some_same(alloc: Global, config: &Config, changes: &[(&str, &str)]) -> Result<bool, Fail> {
     for &(old, new) in changes {
-        let text = sample_with(alloc, old, new)?;
+        let text = changed(alloc, &SAMPLE, old, new)?;
         let other = read_config(alloc, text.as_str())?;
-        assert!(rt; *config != other, "{new}");
+        if *config == other {
+            return Ok(true);
+        }
     }
-    Ok(())
+    Ok(false)
 }
 
 // Equal texts give equal configurations, and a changed value an unequal one.
@@ -198,6 +233,6 @@ fn check_others(
 fn equality(rt: HostRuntime) -> Result<(), Fail> {
     let config = config_of(rt.alloc(), &SAMPLE)?;
     let again = config_of(rt.alloc(), &SAMPLE)?;
-    assert!(rt; config == again);
-    check_others(&rt, rt.alloc(), &config, &OTHER_VALUES)
+    assert!(rt; config == again && !some_same(rt.alloc(), &config, &OTHER_VALUES)?);
+    Ok(())
 }

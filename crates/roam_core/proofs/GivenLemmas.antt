@@ -12,9 +12,12 @@ module _ {X : Type 0} (steps : X → PlainEvent → Bool → X → Type 0) where
       → n ≡ place + length es → WereGiven steps place lost first es here
       → steps here e (not (is_lost n lost)) next → WereGiven steps place lost first (es ++ e ∷ []) next
   given-more place n lost first here next [] e is same does =
-      let at : n ≡ place = omega arith in
-      (next, subst (λ (x : X). steps x e (not (is_lost place lost)) next) (sym same)
-      (subst (λ (k : ℕ). steps here e (not (is_lost k lost)) next) at does), refl)
+      let at : n ≡ place = omega arith in (
+        next,
+        subst (λ (x : X). steps x e (not (is_lost place lost)) next) (sym same)
+            (subst (λ (k : ℕ). steps here e (not (is_lost k lost)) next) at does),
+        refl,
+      )
   given-more place n lost first here next (x ∷ es) e is given does =
       (given.0, given.1, given-more (place + 1) n lost given.0 here next es e (omega arith) given.2 does)
 
@@ -24,9 +27,11 @@ module _ {X : Type 0} (steps : X → PlainEvent → Bool → X → Type 0) where
       → WereGiven steps place lost first es here → WereGiven steps place (lost ++ n ∷ []) first es here
   lost-later place n lost first here [] below same = same
   lost-later place n lost first here (x ∷ es) below given =
-      let same : is_lost place (lost ++ n ∷ []) ≡ is_lost place lost = other_place place n lost (omega arith) in
-      (given.0, subst (λ (b : Bool). steps first x (not b) given.0) (sym same) given.1,
-      lost-later (place + 1) n lost given.0 here es (omega arith) given.2)
+      let same : is_lost place (lost ++ n ∷ []) ≡ is_lost place lost = other_place place n lost (omega arith) in (
+        given.0,
+        subst (λ (b : Bool). steps first x (not b) given.0) (sym same) given.1,
+        lost-later (place + 1) n lost given.0 here es (omega arith) given.2,
+      )
 
   -- so a run goes on
   pub given-answered :

@@ -16,26 +16,12 @@ ghost use Rattle.roam_core.specs.ShardRooms.{AllFit, Fits, most_of, most_of_all,
 use crate::event::Event;
 use crate::shard_room::{ShardRoom, room_of_shard};
 use crate::stepper::Stepper;
-use roam_book::{Answer, Book, Room, Start};
+use roam_book::{Answer, Book, LATEST, Room, Start, refused};
 use roam_conf::Config;
 use roam_route::{Datagram, Job, Out, Prepared, Side, prepare};
 use roam_wire::{NoMemory, Refusal};
 use std::alloc::Allocator;
 use std::marker::Model;
-
-/// The latest moment, in milliseconds: a tick of a later one is refused.
-const LATEST: u64 = 1 << 62;
-
-/// A refusal. Takes no memory.
-fn refused<A: Allocator>(alloc: A, why: Refusal) -> Answer<A>
-    ensures outs { shown_outs result.outs.items ≡ [] }
-    ensures refusal { result.refusal ≡ Some why }
-{
-    Answer {
-        outs: Vec::new(alloc),
-        refusal: Some(why),
-    }
-}
 
 /// A local reject is sent.
 fn rejected<A: Allocator>(alloc: A, out: Out<A>) -> Result<Answer<A>, NoMemory>

@@ -27,7 +27,12 @@ const AUTHENTICATORS: [([u8; 32], u64, u128, u128); 10] = [
     (COUNTING_SEED, 1, 0, 0x2fa4f10250808e89a25231e50fdf6ee0),
     (COUNTING_SEED, 255, 1000, 0x93db2412b450908b3995ce9222263215),
     // Over the end of a stream, at which it begins anew.
-    (COUNTING_SEED, 7, LAST_TWO, 0x0e494fe6bef0af97480f443fe9dbb832),
+    (
+        COUNTING_SEED,
+        7,
+        LAST_TWO,
+        0x0e494fe6bef0af97480f443fe9dbb832,
+    ),
     (ZERO_SEED, 0, LAST_TWO, 0x3328845607b1768976b8e0ada0f13d90),
 ];
 
@@ -40,12 +45,7 @@ fn request_authenticators_are_words_of_the_stream(rt: HostRuntime) {
 }
 
 /// A position, and the next one.
-const NEXT_POSITIONS: [(u128, u128); 4] = [
-    (0, 4),
-    (1000, 1004),
-    (LAST_TWO - 2, 0),
-    (LAST_TWO, 2),
-];
+const NEXT_POSITIONS: [(u128, u128); 4] = [(0, 4), (1000, 1004), (LAST_TWO - 2, 0), (LAST_TWO, 2)];
 
 #[test]
 fn four_words_are_taken_at_a_time(rt: HostRuntime) {

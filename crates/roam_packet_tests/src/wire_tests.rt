@@ -195,7 +195,11 @@ fn large<A: Allocator>(alloc: A, last: usize) -> Result<usize, Refusal> {
     for _ in 0..15 {
         packet.push_attr(attribute_type::PROXY_STATE, &[5; 253])?;
     }
-    packet.push_attr(25, prefix(&[6; 253], last))?;
+    let value = [6; 253];
+    let Some(value) = value.get(..last) else {
+        return Ok(0);
+    };
+    packet.push_attr(25, value)?;
     Ok(packet.finish().len())
 }
 

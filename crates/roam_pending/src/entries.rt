@@ -2,7 +2,7 @@
 
 ghost use Rattle.std.specs.Prelude.{◌≡◌, ◌<◌, ◌≤◌, ◌+◌, ℕ, Bool, List, Some, None, length, OnOk, IsOk, IfSome, IsSomeAnd, IsTrue};
 ghost use Rattle.roam_pending.specs.PlainEntry.{PlainEntry};
-ghost use Rattle.roam_pending.specs.EntryList.{IsEntryList, IsNew, HasPlaceOf, find_client, find_link, find_ticket, first_done, besides, put, without};
+ghost use Rattle.roam_pending.specs.EntryList.{IsEntryList, IsNew, HasPlaceOf, find_client, find_ticket, first_done, besides, put, without};
 ghost use Rattle.roam_pending.specs.DueOrder.{due_after};
 ghost use Rattle.roam_pending.specs.Realms.{RealmBecomes};
 ghost use Rattle.roam_pending.specs.Shown.{shown, seen, taken};
@@ -10,7 +10,6 @@ ghost use Rattle.roam_pending.specs.Shown.{shown, seen, taken};
 use crate::due::Due;
 use crate::entry::Entry;
 use crate::key::Key;
-use roam_conf::Link;
 use roam_wire::NoMemory;
 use std::alloc::Allocator;
 
@@ -27,7 +26,7 @@ pub trait Entries<A: Allocator> {
     /// Whether the entries of the realm of this index are kept here.
     ghost keeps: { Self → ℕ → Bool };
 
-    /// The entries of each realm. A realm that isn't kept here has none.
+    /// The entries of each realm.
     ghost entries_of: { Self → ℕ → List PlainEntry };
 
     /// For how many more entries of a realm there is room without memory.
@@ -46,11 +45,6 @@ pub trait Entries<A: Allocator> {
     /// The entry of a key.
     fn find_client(&self, realm: u16, key: &Key) -> Option<&Entry<A>>
         ensures found { seen result ≡ find_client key.now (entries_of self.now realm) }
-        ensures list { IsEntryList (entries_of self.now realm) };
-
-    /// The first entry, in order of ticket, that waits on a link with an Identifier.
-    fn find_link(&self, realm: u16, link: Link, id: u8) -> Option<&Entry<A>>
-        ensures found { seen result ≡ find_link link id (entries_of self.now realm) }
         ensures list { IsEntryList (entries_of self.now realm) };
 
     /// The ticket of the done entry of least ticket, besides one that counts as gone.

@@ -1,9 +1,9 @@
 //! What tells one request from another, and who sent it.
 
 ghost use Rattle.std.specs.Prelude.{◌≡◌};
-ghost use Rattle.roam_pending.specs.PlainEntry.{same_key, same_link};
+ghost use Rattle.roam_pending.specs.PlainEntry.{same_key};
 
-use roam_conf::{Endpoint, Link, Place};
+use roam_conf::{Endpoint, Place};
 
 /// What makes two requests of a realm the same one to the broker, as long as their octets are equal
 /// too (RFC 2865, section 3: a duplicate has the same source and Identifier).
@@ -31,11 +31,4 @@ pub(crate) fn is_same_key(key: &Key, other: &Key) -> bool
     ensures { result ≡ same_key key.now other.now }
 {
     *key == *other
-}
-
-/// Whether two links are the same.
-pub(crate) fn is_same_link(link: &Link, other: &Link) -> bool
-    ensures { result ≡ same_link link.now other.now }
-{
-    *link == *other
 }

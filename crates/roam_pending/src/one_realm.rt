@@ -5,7 +5,6 @@ use crate::entries::Entries;
 use crate::entry::Entry;
 use crate::key::Key;
 use crate::pending::Pending;
-use roam_conf::Link;
 use roam_wire::NoMemory;
 use std::alloc::Allocator;
 
@@ -33,14 +32,6 @@ impl<A: Allocator> Entries<A> for Pending<A> {
     fn find_client(&self, realm: u16, key: &Key) -> Option<&Entry<A>> {
         if realm == self.realm() {
             self.find_client(key)
-        } else {
-            None
-        }
-    }
-
-    fn find_link(&self, realm: u16, link: Link, id: u8) -> Option<&Entry<A>> {
-        if realm == self.realm() {
-            self.find_link(link, id)
         } else {
             None
         }

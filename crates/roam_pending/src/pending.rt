@@ -1,15 +1,14 @@
 //! The entries of one realm as a plain list.
 
-ghost use Rattle.std.specs.Prelude.{◌≡◌, ◌<◌, ◌≤◌, ◌+◌, ◌↔◌, IsTrue, [], length, slice_get, OnOk, OnErr, IfErr, IsOk, Some, None, OnSome};
+ghost use Rattle.std.specs.Prelude.{◌≡◌, ◌<◌, ◌≤◌, ◌+◌, ◌↔◌, IsTrue, [], length, slice_get, OnOk, OnErr, IfErr, IsOk, Some, None, MatchOption};
 ghost use Rattle.roam_pending.specs.DueOrder.{due_after};
-ghost use Rattle.roam_pending.specs.EntryList.{IsEntryList, IsNew, HasPlaceOf, find_client, find_link, find_ticket, first_done, besides, put, without};
+ghost use Rattle.roam_pending.specs.EntryList.{IsEntryList, IsNew, HasPlaceOf, find_client, find_ticket, first_done, besides, put, without};
 ghost use Rattle.roam_pending.specs.Shown.{shown, seen, taken};
 
 use crate::due::Due;
 use crate::entry::Entry;
 use crate::key::Key;
-use crate::search::{client_in, count_below, done_in, due_in, place_of, waiting_in};
-use roam_conf::Link;
+use crate::search::{client_in, count_below, done_in, due_in, place_of};
 use roam_wire::NoMemory;
 use std::alloc::Allocator;
 use std::marker::Model;
@@ -85,14 +84,6 @@ impl<A: Allocator> Pending<A> {
         client_in(&self.entries, key)
     }
 
-    /// The first entry that waits on a link with an Identifier.
-    pub fn find_link(&self, link: Link, id: u8) -> Option<&Entry<A>>
-        ensures found { seen result ≡ find_link link id self.now.entries }
-        ensures list { IsEntryList self.now.entries }
-    {
-        waiting_in(&self.entries, link, id)
-    }
-
     /// The ticket of the done entry of least ticket, besides one that counts as gone.
     pub fn first_done(&self, except: Option<u64>) -> Option<u64>
         ensures { result ≡ first_done (besides except self.now.entries) }
@@ -158,6 +149,7 @@ impl<A: Allocator> Pending<A> {
     pub fn insert(&mut self, entry: Entry<A>) -> Result<(), (Entry<A>, NoMemory)>
         requires { IsNew (shown entry) self.old.entries }
         ensures ok { OnOk result (self.new.entries ≡ put (shown entry) self.old.entries) }
+        ensures room { OnOk result (self.old.spare ≤ self.new.spare + 1) }
         ensures err { OnErr result (self.new ≡ self.old) }
         ensures given_back { IfErr result (λ e. e.0 ≡ entry) }
         ensures realm { self.new.realm ≡ self.old.realm }
@@ -175,8 +167,8 @@ impl<A: Allocator> Pending<A> {
         ensures found { taken result ≡ find_ticket ticket self.old.entries }
         ensures realm { self.new.realm ≡ self.old.realm }
         ensures entries { self.new.entries ≡ without ticket self.old.entries }
-        ensures room { self.old.spare ≤ self.new.spare }
-        ensures room_for_one { OnSome result (0 < self.new.spare) }
+        ensures room { MatchOption result (self.new.spare ≡ self.old.spare)
+            (λ e. self.new.spare ≡ self.old.spare + 1) }
     {
         match place_of(&self.entries, ticket) {
             None => None,

@@ -3,16 +3,15 @@
 ghost use Rattle.std.specs.Prelude.{◌≡◌, ◌≢◌, ◌<◌, ◌≤◌, ℕ, nat_lt, length, slice_index_or, IfSome, None, MatchOption};
 ghost use Rattle.std.specs.List.{count_by};
 ghost use Rattle.roam_pending.specs.EntryList.{IsInOrder};
-ghost use Rattle.roam_pending.specs.PlainEntry.{deadline_of as plain_deadline_of, stands_at, stands_done};
-ghost use Rattle.roam_pending.specs.EntryList.{find_client, find_link, find_ticket, first_done as plain_first_done, besides, is_beside, is_done_beside};
+ghost use Rattle.roam_pending.specs.PlainEntry.{deadline_of as plain_deadline_of, stands_done};
+ghost use Rattle.roam_pending.specs.EntryList.{find_client, find_ticket, first_done as plain_first_done, besides, is_beside, is_done_beside};
 ghost use Rattle.roam_pending.specs.DueOrder.{due_after, is_after as plain_is_after, is_before as plain_is_before};
 ghost use Rattle.roam_pending.specs.DueSearch.{due_alone as plain_due_alone, earlier as plain_earlier};
 ghost use Rattle.roam_pending.specs.Shown.{shown, shown_all, shown_standing, seen};
 
 use crate::due::Due;
 use crate::entry::{Entry, Standing};
-use crate::key::{Key, is_same_key, is_same_link};
-use roam_conf::Link;
+use crate::key::{Key, is_same_key};
 use std::alloc::Allocator;
 
 /// How many entries have a lesser ticket: the place of that ticket where entries stand in order.
@@ -43,16 +42,6 @@ pub(crate) fn deadline_of<A: Allocator>(standing: &Standing<A>) -> u64
     match standing {
         Standing::Waiting(waiting) => waiting.deadline,
         Standing::Done(done) => done.deadline,
-    }
-}
-
-/// Whether it waits for a reply on this link, with this Identifier.
-fn stands_there<A: Allocator>(standing: &Standing<A>, link: &Link, id: u8) -> bool
-    ensures { result ≡ stands_at link.now id (shown_standing standing.now) }
-{
-    match standing {
-        Standing::Waiting(waiting) => is_same_link(&waiting.link, link) && waiting.id == id,
-        Standing::Done(_) => false,
     }
 }
 
@@ -92,22 +81,6 @@ pub(crate) fn client_in<'a, A: Allocator>(
 {
     for entry in entries {
         if is_same_key(&entry.request.key, key) {
-            return Some(entry);
-        }
-    }
-    None
-}
-
-/// The first entry that waits on a link with an Identifier.
-pub(crate) fn waiting_in<'a, A: Allocator>(
-    entries: &'a [Entry<A>],
-    link: Link,
-    id: u8,
-) -> Option<&'a Entry<A>>
-    ensures { seen result ≡ find_link link id (shown_all entries.entry.now) }
-{
-    for entry in entries {
-        if stands_there(&entry.standing, &link, id) {
             return Some(entry);
         }
     }

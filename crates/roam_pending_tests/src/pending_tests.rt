@@ -99,101 +99,129 @@ fn three<A: Allocator + Copy>(alloc: A) -> Result<Pending<A>, NoMemory> {
     Ok(pending)
 }
 
+/// The tickets of the first four places.
+fn tickets<A: Allocator>(pending: &Pending<A>) -> [Option<u64>; 4] {
+    [
+        ticket_of(pending.at(0)),
+        ticket_of(pending.at(1)),
+        ticket_of(pending.at(2)),
+        ticket_of(pending.at(3)),
+    ]
+}
+
 #[test]
 fn entries_stand_in_order_of_ticket(rt: HostRuntime) -> Result<(), Fail> {
     let pending = three(rt.alloc())?;
-    assert_eq!(rt; pending.len(), 3);
-    assert_eq!(rt; pending.realm(), 3);
-    for (place, ticket) in [(0, Some(2)), (1, Some(5)), (2, Some(9)), (3, None)] {
-        assert_eq!(rt; ticket_of(pending.at(place)), ticket, "at {place}");
-    }
+    assert_eq!(rt; tickets(&pending), [Some(2), Some(5), Some(9), None]);
     Ok(())
+}
+
+/// Takes ticket 5 away twice: what went each time, and what is left.
+fn gap_of_five<A: Allocator>(pending: &mut Pending<A>) -> [Option<u64>; 4] {
+    let first = ticket_of(pending.remove(5).as_ref());
+    let again = ticket_of(pending.remove(5).as_ref());
+    [
+        first,
+        again,
+        ticket_of(pending.at(1)),
+        ticket_of(pending.at(2)),
+    ]
 }
 
 #[test]
 fn the_gap_of_an_entry_closes(rt: HostRuntime) -> Result<(), Fail> {
     let mut pending = three(rt.alloc())?;
-    assert_eq!(rt; ticket_of(pending.remove(5).as_ref()), Some(5));
-    assert_eq!(rt; ticket_of(pending.at(1)), Some(9), "the gap closes");
-    assert!(rt; pending.remove(5).is_none(), "it is gone");
-    assert!(rt; !pending.is_empty(), "two are left");
+    let gap = gap_of_five(&mut pending);
+    assert_eq!(rt; gap, [Some(5), None, Some(9), None]);
     Ok(())
+}
+
+/// What is found by a ticket and by a key, and what isn't; the done entry that makes way, and that
+/// none does where it counts as gone.
+fn found<A: Allocator>(pending: &Pending<A>) -> [Option<u64>; 6] {
+    let elsewhere = Key {
+        place: Place::Acct,
+        ..key(20)
+    };
+    [
+        ticket_of(pending.find_ticket(5)),
+        ticket_of(pending.find_ticket(6)),
+        ticket_of(pending.find_client(&key(20))),
+        ticket_of(pending.find_client(&elsewhere)),
+        pending.first_done(None),
+        pending.first_done(Some(9)),
+    ]
 }
 
 #[test]
 fn entries_are_found_by_ticket_and_key(rt: HostRuntime) -> Result<(), Fail> {
     let pending = three(rt.alloc())?;
-    assert_eq!(rt; ticket_of(pending.find_ticket(5)), Some(5));
-    assert_eq!(rt; ticket_of(pending.find_ticket(6)), None);
-    assert_eq!(rt; ticket_of(pending.find_client(&key(20))), Some(2));
-    let elsewhere = Key {
-        place: Place::Acct,
-        ..key(20)
-    };
-    let found = ticket_of(pending.find_client(&elsewhere));
-    assert_eq!(rt; found, None, "another place");
+    assert_eq!(rt;
+        found(&pending),
+        [Some(5), None, Some(2), None, Some(9), None]
+    );
     Ok(())
 }
 
-#[test]
-fn entries_that_wait_are_found_by_link(rt: HostRuntime) -> Result<(), Fail> {
-    let pending = three(rt.alloc())?;
-    for (link, id, ticket, what) in [
-        (Link::Auth(0), 50, Some(5), "ticket 5"),
-        (Link::Auth(1), 50, None, "another link"),
-        (Link::Auth(0), 90, None, "it is done"),
-    ] {
-        assert_eq!(rt; ticket_of(pending.find_link(link, id)), ticket, "{what}");
-    }
-    assert_eq!(rt; pending.first_done(None), Some(9));
-    let but_that_one = pending.first_done(Some(9));
-    assert_eq!(rt; but_that_one, None, "that one counts as gone");
-    Ok(())
+/// What is due at 89 and at 90, and at 100 one after the other.
+fn dues<A: Allocator>(pending: &Pending<A>) -> [Option<u64>; 6] {
+    let first = pending.due_after(100, None);
+    let second = pending.due_after(100, first);
+    let third = pending.due_after(100, second);
+    [
+        due_ticket(pending.due(89)),
+        due_ticket(pending.due(90)),
+        due_ticket(first),
+        due_ticket(second),
+        due_ticket(third),
+        due_ticket(pending.due_after(100, third)),
+    ]
 }
 
 #[test]
 fn due_entries_come_by_deadline_and_ticket(rt: HostRuntime) -> Result<(), Fail> {
     let pending = three(rt.alloc())?;
-    assert_eq!(rt; due_ticket(pending.due(89)), None);
-    assert_eq!(rt; due_ticket(pending.due(90)), Some(5), "at its deadline");
-    let first = pending.due_after(100, None);
-    let second = pending.due_after(100, first);
-    let third = pending.due_after(100, second);
-    assert_eq!(rt; due_ticket(first), Some(5));
-    assert_eq!(rt; due_ticket(second), Some(2));
-    assert_eq!(rt; due_ticket(third), Some(9));
-    assert_eq!(rt; due_ticket(pending.due_after(100, third)), None);
+    assert_eq!(rt;
+        dues(&pending),
+        [None, Some(5), Some(5), Some(2), Some(9), None]
+    );
     Ok(())
 }
 
-/// Notes a sending for ticket 2 of realm 3, over whatever keeps the entries.
-fn note_sending<A: Allocator + Copy, E: Entries<A>>(alloc: A, entries: &mut E) -> usize {
+/// Notes a sending for ticket 2 of realm 3, over whatever keeps the entries; a done entry and another
+/// realm's stay as they are.
+fn note_sending<A: Allocator + Copy, E: Entries<A>>(alloc: A, entries: &mut E) {
     send_again(alloc, entries, 3, 2, 500);
     send_again(alloc, entries, 3, 9, 500);
     send_again(alloc, entries, 4, 2, 500);
-    entries.len(3)
 }
 
 /// How often a waiting entry may still be sent.
-fn sends_left<A: Allocator>(found: Option<&Entry<A>>) -> Option<u8> {
+fn sends_left<A: Allocator>(found: Option<&Entry<A>>) -> Option<u64> {
     match &found?.standing {
-        Standing::Waiting(waiting) => Some(waiting.sends_left),
+        Standing::Waiting(waiting) => Some(u64::from(waiting.sends_left)),
         Standing::Done(_) => None,
     }
+}
+
+/// How often ticket 2 may still be sent, and which entry is due after the done one of 100.
+fn once_sent<A: Allocator + Copy>(alloc: A, pending: &mut Pending<A>) -> [Option<u64>; 2] {
+    note_sending(alloc, pending);
+    let done = Due {
+        deadline: 100,
+        ticket: 9,
+    };
+    [
+        sends_left(pending.find_ticket(2)),
+        due_ticket(pending.due_after(u64::MAX, Some(done))),
+    ]
 }
 
 #[test]
 fn entry_that_was_sent_again_waits_longer(rt: HostRuntime) -> Result<(), Fail> {
     let mut pending = three(rt.alloc())?;
-    assert_eq!(rt; note_sending(rt.alloc(), &mut pending), 3);
-    let left = sends_left(pending.find_link(Link::Auth(0), 20));
-    assert_eq!(rt; left, Some(1));
-    let done = Due {
-        deadline: 100,
-        ticket: 9,
-    };
-    let due = due_ticket(pending.due_after(u64::MAX, Some(done)));
-    assert_eq!(rt; due, Some(2), "at 500, after the done one of 100");
+    let sent = once_sent(rt.alloc(), &mut pending);
+    assert_eq!(rt; sent, [Some(1), Some(2)]);
     Ok(())
 }
 
@@ -206,19 +234,38 @@ fn note_reply<A: Allocator + Copy, E: Entries<A>>(alloc: A, entries: &mut E) {
     set_standing(alloc, entries, 3, 5, held);
 }
 
+/// How often ticket 5 may be sent once it was answered; the entry of its key, the done entry that
+/// makes way, and what is due at its old deadline.
+fn once_answered<A: Allocator + Copy>(alloc: A, pending: &mut Pending<A>) -> [Option<u64>; 4] {
+    note_reply(alloc, pending);
+    [
+        sends_left(pending.find_ticket(5)),
+        ticket_of(pending.find_client(&key(50))),
+        pending.first_done(None),
+        due_ticket(pending.due(90)),
+    ]
+}
+
 #[test]
 fn entry_that_was_answered_is_done(rt: HostRuntime) -> Result<(), Fail> {
     let mut pending = three(rt.alloc())?;
-    note_reply(rt.alloc(), &mut pending);
-    let on_link = ticket_of(pending.find_link(Link::Auth(0), 50));
-    assert_eq!(rt; on_link, None, "it waits no more");
-    let known = ticket_of(pending.find_client(&key(50)));
-    assert_eq!(rt; known, Some(5), "its request is known");
-    let first = pending.first_done(None);
-    assert_eq!(rt; first, Some(5), "it comes before ticket 9");
-    let due = due_ticket(pending.due(90));
-    assert_eq!(rt; due, None, "nothing is due at its old deadline");
+    let answered = once_answered(rt.alloc(), &mut pending);
+    assert_eq!(rt; answered, [None, Some(5), Some(5), None]);
     Ok(())
+}
+
+/// Inserts ticket 7 where one growth may be refused, and again where it was: whether it was refused,
+/// how many entries there were then, and what stands at the third place at last.
+fn insert_refused<A: Allocator + Copy>(
+    alloc: A,
+    pending: &mut Pending<A>,
+) -> Result<(bool, usize, Option<u64>), NoMemory> {
+    let refused = add(pending, waiting(alloc, 7, 70, 70)).is_err();
+    let held = pending.len();
+    if refused {
+        add(pending, waiting(alloc, 7, 70, 70))?;
+    }
+    Ok((refused, held, ticket_of(pending.at(2))))
 }
 
 #[test]
@@ -226,15 +273,17 @@ fn each_growth_of_an_insert(rt: HostRuntime) -> Result<(), Fail> {
     let refusing = Refusing::new(rt.alloc());
     for n in refusing.each_growth() {
         let mut pending = three(&refusing)?;
-        let entry = waiting(&refusing, 7, 70, 70);
         refusing.refuse_nth(n);
-        let result = add(&mut pending, entry);
-        assert_eq!(rt; result.is_err(), refusing.was_refused(), "at growth {n}");
-        if result.is_err() {
-            assert_eq!(rt; pending.len(), 3, "at growth {n}");
-            add(&mut pending, waiting(&refusing, 7, 70, 70))?;
-        }
-        assert_eq!(rt; ticket_of(pending.at(2)), Some(7), "at growth {n}");
+        let (refused, held, third) = insert_refused(&refusing, &mut pending)?;
+        let wanted = if refusing.was_refused() {
+            (true, 3)
+        } else {
+            (false, 4)
+        };
+        assert!(rt;
+            (refused, held) == wanted && third == Some(7),
+            "at growth {n}"
+        );
     }
     Ok(())
 }
@@ -252,16 +301,21 @@ fn each_growth_of_reserve(rt: HostRuntime) -> Result<(), Fail> {
     Ok(())
 }
 
+/// Takes ticket 2 away and inserts ticket 1: whether both were done.
+fn replaced<A: Allocator + Copy>(alloc: A, pending: &mut Pending<A>) -> bool {
+    pending.remove(2).is_some() && add(pending, waiting(alloc, 1, 10, 10)).is_ok()
+}
+
 #[test]
 fn removal_makes_room_for_one_insert(rt: HostRuntime) -> Result<(), Fail> {
     let refusing = Refusing::new(rt.alloc());
     let mut pending = three(&refusing)?;
     refusing.refuse_nth(1);
-    let removed = pending.remove(2);
-    assert!(rt; removed.is_some(), "ticket 2 is held");
-    let result = add(&mut pending, waiting(&refusing, 1, 10, 10));
-    assert!(rt; result.is_ok(), "there is room");
-    assert_eq!(rt; refusing.growths(), 0, "and none is asked for");
-    assert_eq!(rt; ticket_of(pending.at(0)), Some(1));
+    let done = replaced(&refusing, &mut pending);
+    let first = ticket_of(pending.at(0));
+    assert!(rt;
+        done && first == Some(1) && refusing.growths() == 0,
+        "no growth is asked for"
+    );
     Ok(())
 }

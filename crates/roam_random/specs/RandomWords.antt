@@ -1,11 +1,12 @@
--- The random words of a realm, for the Request Authenticators of its Access-Requests (RFC 2865, section
--- 3: unpredictable; that they are words of ChaCha20 by seed, stream and position is ours).
+-- The random words of a realm, for the Request Authenticators of its Access-Requests (RFC 2865,
+-- section 3: unpredictable; that they are words of ChaCha20 by seed, stream and position is ours).
 use Rattle.std.specs.Prelude.{ℕ, ◌+◌, ◌%◌, ◌^◌, List, ◌++◌}
 use Rattle.std.specs.Int.{w32, to_le_bytes}
 use Rattle.rand_chacha.specs.ChaCha.{key_of, word_at}
 
--- the word at a position of a stream: of ChaCha20, which makes ten double rounds, with the seed as its
--- key and the stream's number as its nonce. A stream has 2^68 words, and then begins anew (ours)
+-- the word at a position of a stream: of ChaCha20, which makes ten double rounds, with the seed as
+-- its key and the stream's number as its nonce. A stream has 2^68 words, and then begins anew
+-- (ours)
 abbrev pub random_word : List ℕ → ℕ → ℕ → ℕ
 random_word seed stream position = word_at 10 (key_of seed) stream (position % 2 ^ 68)
 
@@ -13,8 +14,8 @@ random_word seed stream position = word_at 10 (key_of seed) stream (position % 2
 unfoldable pub word_octets : List ℕ → ℕ → ℕ → List ℕ
 word_octets seed stream position = to_le_bytes w32 (random_word seed stream position)
 
--- the Request Authenticator of a position: the four words from there on (RFC 2865, section 3, for its
--- 16 octets)
+-- the Request Authenticator of a position: the four words from there on (RFC 2865, section 3, for
+-- its 16 octets)
 unfoldable pub request_authenticator_at : List ℕ → ℕ → ℕ → List ℕ
 request_authenticator_at seed stream position =
     word_octets seed stream position ++ word_octets seed stream (position + 1)

@@ -1,7 +1,8 @@
-//! The random words of a realm (RFC 2865, section 3: the Request Authenticator of an Access-Request).
+//! The random words of a realm (RFC 2865, section 3: the Request Authenticator of an
+//! Access-Request).
 //!
-//! Nothing here keeps a generator: a word is a function of the seed, the stream's number and a position
-//! in the stream, so whoever draws words keeps that position, and nothing else.
+//! Nothing here keeps a generator: a word is a function of the seed, the stream's number and a
+//! position in the stream, so whoever draws words keeps that position, and nothing else.
 #![tactic(auto)]
 
 mod laws;

@@ -10,9 +10,9 @@ use rand_core::utils::NextWord;
 /// How many words a stream has before it begins anew.
 const STREAM_WORDS: u128 = 1 << 68;
 
-/// The Request Authenticator of a position in a stream: the four words from there on, each with its low
-/// octet first. The seed is the key of ChaCha20, and the stream's number its nonce. A position counts
-/// modulo 2^68. Takes no memory.
+/// The Request Authenticator of a position in a stream: the four words from there on, each with its
+/// low octet first. The seed is the key of ChaCha20, and the stream's number its nonce. A position
+/// counts modulo 2^68. Takes no memory.
 pub fn request_authenticator(seed: [u8; 32], stream: u64, position: u128) -> [u8; 16]
     ensures { result ≡ request_authenticator_at seed stream position }
 {

@@ -13,14 +13,14 @@ use Rattle.roam_reverse.specs.Salted.{is_salted}
 use Rattle.roam_reverse.specs.Target.{target}
 use Rattle.roam_reverse.specs.declared.error_cause.TheConstants.{UNSUPPORTED_ATTRIBUTE, REQUEST_NOT_ROUTABLE, SESSION_CONTEXT_NOT_FOUND}
 
--- a User-Name names the realm: what follows its last `@` is the realm's name, without ASCII case and
--- matched whole
+-- a User-Name names the realm: what follows its last `@` is the realm's name, without ASCII case
+-- and matched whole
 abbrev pub names_realm : RealmView → List ℕ → Bool
 names_realm realm name = option_map_or (str_eq_ignore_ascii_case realm.name) (realm_part name) false
 
 -- What a request to a peer of a realm must name, with its first User-Name and its first
--- Acct-Session-Id: a user of this realm, or else a session of that peer which is in the ledger. Where
--- there is a User-Name, the ledger isn't looked at
+-- Acct-Session-Id: a user of this realm, or else a session of that peer which is in the ledger.
+-- Where there is a User-Name, the ledger isn't looked at
 abbrev pub cause_by_name : RealmView → ℕ → List Session → Option (List ℕ) → Option (List ℕ) → Option ℕ
 cause_by_name realm peer sessions (Some name) id =
     if names_realm realm name then None else Some REQUEST_NOT_ROUTABLE

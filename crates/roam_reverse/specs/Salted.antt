@@ -1,5 +1,5 @@
--- Whether a packet holds a salted string, as a test (RFC 2868, section 3.5; RFC 2548, sections 2.4.2
--- and 2.4.3). What it means is said by `IsSalted`, and a law says that they agree.
+-- Whether a packet holds a salted string, as a test (RFC 2868, section 3.5; RFC 2548, sections
+-- 2.4.2 and 2.4.3). What it means is said by `IsSalted`, and a law says that they agree.
 use Rattle.std.specs.Prelude.{ℕ, ◌==◌, ◌&&◌, ◌||◌, Bool, false, List}
 use Rattle.std.specs.List.{list_any}
 use Rattle.std.specs.Option.{option_map_or}

@@ -33,14 +33,14 @@ without_peer peer sessions = filter (λ other. not (other.peer == peer)) session
 abbrev pub with_room : ℕ → List Session → List Session
 with_room limit sessions = if nat_lt (length sessions) limit then sessions else drop 1 sessions
 
--- a list with a session: one that is there keeps its place, a new one goes last, and with a limit of 0
--- nothing changes (ours)
+-- a list with a session: one that is there keeps its place, a new one goes last, and with a limit
+-- of 0 nothing changes (ours)
 abbrev pub with_session : ℕ → Session → List Session → List Session
 with_session limit s sessions =
     if has_session s sessions || limit == 0 then sessions else with_room limit sessions ++ s ∷ []
 
--- what an Accounting-Request does to a ledger: a session is open, or it isn't any more, or all sessions
--- of a peer are gone, or nothing
+-- what an Accounting-Request does to a ledger: a session is open, or it isn't any more, or all
+-- sessions of a peer are gone, or nothing
 pub data LedgerChange : Type 0 where
   opens : (session : Session) → LedgerChange
   closes : (session : Session) → LedgerChange
@@ -67,13 +67,13 @@ change_of_session status s =
     else if status == STOP then closes s
     else nothing
 
--- with the session's id, if there is one. Octets of no number are an id too (ours)
+-- with the id of a session, if there is one. An id of no octets is one too (ours)
 abbrev pub change_by_id : ℕ → ℕ → Option (List ℕ) → LedgerChange
 change_by_id peer status None = nothing
 change_by_id peer status (Some id) = change_of_session status (record { peer = peer; id = id })
 
--- with the status, if there is one: Accounting-On and -Off say that no session of the access server is
--- open (RFC 2866, section 5.1)
+-- with the status, if there is one: Accounting-On and -Off say that no session of the access server
+-- is open (RFC 2866, section 5.1)
 abbrev pub change_by_status : ℕ → Option (List ℕ) → Option ℕ → LedgerChange
 change_by_status peer id None = nothing
 change_by_status peer id (Some status) =
@@ -81,8 +81,8 @@ change_by_status peer id (Some status) =
     then closes_all peer
     else change_by_id peer status id
 
--- what an Accounting-Request of a peer does: its first Acct-Status-Type and its first Acct-Session-Id
--- say it, and no other (ours)
+-- what an Accounting-Request of a peer does: its first Acct-Status-Type and its first
+-- Acct-Session-Id say it, and no other (ours)
 unfoldable pub change_by_request : ℕ → List Attribute → LedgerChange
 change_by_request peer attributes =
     change_by_status peer (first_value ACCT_SESSION_ID attributes)

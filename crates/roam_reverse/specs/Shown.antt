@@ -39,8 +39,8 @@ said_of peer (said.Closes id) = closes (record { peer = peer; id = id.now })
 said_of peer said.ClosesAll = closes_all peer
 said_of peer said.Nothing = nothing
 
--- what a contract sees of a ledger: how many sessions it holds at most, the open ones with the oldest
--- first, and for how many more there is room
+-- what a contract sees of a ledger: how many sessions it holds at most, the open ones with the
+-- oldest first, and for how many more there is room
 pub record Ledger : Type 0 where
   pub limit : ℕ
   pub sessions : List Session

@@ -18,9 +18,9 @@ abbrev pub agrees : Option (List ℕ) → Option (List ℕ) → Bool
 agrees own None = true
 agrees own (Some name) = is_named own name
 
--- A peer fits the two names of a packet, NAS-IP-Address and NAS-Identifier: one of them stands there at
--- least, and each that does is the peer's. An address of a peer has four octets, so a NAS-IP-Address of
--- another size fits none (RFC 2865, sections 5.4 and 5.32)
+-- A peer fits the two names of a packet, NAS-IP-Address and NAS-Identifier: one of them stands
+-- there at least, and each that does is the peer's. An address of a peer has four octets, so a
+-- NAS-IP-Address of another size fits none (RFC 2865, sections 5.4 and 5.32)
 abbrev pub fits : Option (List ℕ) × Option (List ℕ) → PeerView → Bool
 fits names peer =
     (is_some names.0 || is_some names.1) && agrees peer.nas_ip names.0 && agrees peer.nas_id names.1

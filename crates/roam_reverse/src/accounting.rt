@@ -64,8 +64,8 @@ fn said_of_session(status: u32, id: Option<&[u8]>) -> Said<'_>
     }
 }
 
-/// What an Accounting-Request says of its sender's sessions. Its first Acct-Status-Type and its first
-/// Acct-Session-Id alone decide.
+/// What an Accounting-Request says of its sender's sessions. Its first Acct-Status-Type and its
+/// first Acct-Session-Id alone decide.
 #[tactic(auto, unfolding(crate::specs::Sessions::change_by_request))]
 pub(crate) fn said_by<'a>(request: &View<'a>) -> Said<'a>
     ensures { (peer : ℕ) → said_of peer result ≡ change_by_request peer request.now.attributes }

@@ -95,12 +95,12 @@ fn realm_at(config: &Config, realm: u16) -> &Realm
     &config.realms[usize::from(realm)]
 }
 
-/// The Error-Cause of a reverse request that can't be forwarded, of the first cause that holds; none
-/// where it can be. Takes no memory.
+/// The Error-Cause of a reverse request that can't be forwarded, of the first cause that holds;
+/// none where it can be. Takes no memory.
 ///
 /// 502 where no peer is found for it, where its User-Name doesn't name this realm, or where it has
-/// neither a User-Name nor an Acct-Session-Id; 503 where it has no User-Name, and its session isn't an
-/// open one of that peer; 401 where it holds a salted string.
+/// neither a User-Name nor an Acct-Session-Id; 503 where it has no User-Name, and its session isn't
+/// an open one of that peer; 401 where it holds a salted string.
 #[tactic(auto, unfolding(crate::specs::Causes::cause))]
 pub fn verdict<A: Allocator + Copy>(
     config: &Config,

@@ -10,8 +10,8 @@ use roam_wire::{NoMemory, View};
 use std::alloc::Allocator;
 use std::marker::Model;
 
-/// The ledger of a realm's open sessions (RFC 2866, section 5.5). Contracts see its limit, the sessions
-/// with the oldest first, and for how many more there is room.
+/// The ledger of a realm's open sessions (RFC 2866, section 5.5). Contracts see its limit, the
+/// sessions with the oldest first, and for how many more there is room.
 #[derive(Drop)]
 pub struct Sessions<A: Allocator> {
     alloc: A,
@@ -57,8 +57,8 @@ impl<A: Allocator + Copy> Sessions<A> {
         is_among(&self.sessions, peer, id)
     }
 
-    /// Makes all growth that the change by an Accounting-Request of a peer wants, and changes no session.
-    /// Then [`Sessions::apply_prepared`] always answers.
+    /// Makes all growth that the change by an Accounting-Request of a peer wants, and changes no
+    /// session. Then [`Sessions::apply_prepared`] always answers.
     pub fn prepare(&mut self, peer: u16, request: &View<'_>) -> Result<Prepared<A>, NoMemory>
         ensures change { IfOk result (λ prepared.
             changed self.old.limit prepared self.old.sessions
@@ -80,7 +80,8 @@ impl<A: Allocator + Copy> Sessions<A> {
         }
     }
 
-    /// The same for a session that is open: one that is there, or that can't be kept, wants no memory.
+    /// The same for a session that is open: one that is there, or that can't be kept, wants no
+    /// memory.
     fn prepare_opening(&mut self, peer: u16, id: &[u8]) -> Result<Prepared<A>, NoMemory>
         ensures change { IfOk result (λ prepared.
             changed self.old.limit prepared self.old.sessions

@@ -1,8 +1,9 @@
-//! Session control (RFC 5176): for which access server a reverse request is, why it can't be forwarded,
-//! and the ledger of a realm's open sessions.
+//! Session control (RFC 5176): for which access server a reverse request is, why it can't be
+//! forwarded, and the ledger of a realm's open sessions.
 //!
-//! Nothing here builds a packet, looks at a clock or knows of more than one realm. Only the ledger takes
-//! memory, and a change of it can be prepared: then all its growth is made before anything changes.
+//! Nothing here builds a packet, looks at a clock or knows of more than one realm. Only the ledger
+//! takes memory, and a change of it can be prepared: then all its growth is made before anything
+//! changes.
 #![tactic(auto)]
 
 mod accounting;

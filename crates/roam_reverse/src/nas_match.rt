@@ -62,8 +62,8 @@ fn first_target(peers: &[Peer], names: NasName<'_>) -> Option<usize>
     None
 }
 
-/// The index of the peer that a reverse request is for: the first that takes such requests, and that
-/// fits the NAS-IP-Address and the NAS-Identifier that the request names. Takes no memory.
+/// The index of the peer that a reverse request is for: the first that takes such requests, and
+/// that fits the NAS-IP-Address and the NAS-Identifier that the request names. Takes no memory.
 #[tactic(auto, unfolding(crate::specs::Target::target))]
 pub fn target(config: &Config, request: &View<'_>) -> Option<u16>
     ensures value { result ≡ target (shown config.now).peers request.now.attributes }

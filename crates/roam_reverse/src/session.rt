@@ -55,7 +55,8 @@ pub(crate) enum Change<A: Allocator> {
     Nothing,
 }
 
-/// A change of a ledger for which all growth was made. It owns what it needs. Contracts see the change.
+/// A change of a ledger for which all growth was made. It owns what it needs. Contracts see the
+/// change.
 #[derive(Drop)]
 pub struct Prepared<A: Allocator> {
     pub(crate) change: Change<A>,

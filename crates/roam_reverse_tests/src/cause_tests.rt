@@ -1,6 +1,6 @@
-//! The peer that a reverse request is for, and the cause for which it can't be forwarded. The requests
-//! of the worked exchanges are signed; the others have an Authenticator of zeros, since nothing here
-//! looks at one. What is expected was worked out by hand.
+//! The peer that a reverse request is for, and the cause for which it can't be forwarded. The
+//! requests of the worked exchanges are signed; the others have an Authenticator of zeros, since
+//! nothing here looks at one. What is expected was worked out by hand.
 
 use crate::requests::{START_01, START_EMPTY, apply, octets};
 use roam_conf::Config;
@@ -14,8 +14,8 @@ use std::alloc::Global;
 use std::process::Abort;
 use std::test::Fail;
 
-/// Three peers, of which the second takes no reverse requests and the third has no identifier, and two
-/// realms.
+/// Three peers, of which the second takes no reverse requests and the third has no identifier, and
+/// two realms.
 const CONFIG: &str = "shards = 1
 seed = \"0000000000000000000000000000000000000000000000000000000000000000\"
 auth = \"127.0.0.1:1812\"
@@ -322,8 +322,8 @@ const IN_ORDER: [Row; 9] = [
     ),
 ];
 
-/// The first realm's ledger: the first peer's session `01`, and one of no octets of the first and of
-/// the third.
+/// The first realm's ledger: the first peer's session `01`, and one of no octets of the first and
+/// of the third.
 fn ledger(rt: &impl Abort, alloc: Global) -> Result<Sessions<Global>, NoMemory> {
     let mut sessions = Sessions::new(alloc, 100);
     apply(rt, alloc, &mut sessions, 0, START_01)?;

@@ -1,5 +1,5 @@
-//! The ledger of open sessions, after each request of a row. What is expected was worked out by hand
-//! from RFC 2866, sections 5.1 and 5.5, and from the rule that the oldest session makes way.
+//! The ledger of open sessions, after each request of a row. What is expected was worked out by
+//! hand from RFC 2866, sections 5.1 and 5.5, and from the rule that the oldest session makes way.
 
 use crate::requests::{
     INTERIM_01, NO_ID, NO_STATUS, OFF, ON, START_01, START_02, START_03, START_EMPTY, STATUS_9,
@@ -12,8 +12,8 @@ use std::alloc::{Allocator, Global};
 use std::process::Abort;
 use std::test::Fail;
 
-/// Which of these sessions are open, one bit each: of peer 0 no octets, `01`, `02` and `03`; of peer 1
-/// `01` and `02`.
+/// Which of these sessions are open, one bit each: of peer 0 no octets, `01`, `02` and `03`; of
+/// peer 1 `01` and `02`.
 fn open<A: Allocator + Copy>(sessions: &Sessions<A>) -> u32 {
     u32::from(sessions.has(0, b""))
         | u32::from(sessions.has(0, b"01")) << 1
@@ -100,8 +100,8 @@ fn requests_change_the_ledger(rt: HostRuntime) -> Result<(), Fail> {
     check_steps(&rt, rt.alloc(), 100, &OF_MANY)
 }
 
-/// A request of peer 0 to a ledger of `01` and `02` at most, the sessions that are open then, and how
-/// often it asks for memory at most.
+/// A request of peer 0 to a ledger of `01` and `02` at most, the sessions that are open then, and
+/// how often it asks for memory at most.
 const GROWTHS: [(&str, u32, u64); 6] = [
     (START_03, 0b001100, 2),
     (STOP_01, 0b000100, 1),
@@ -123,8 +123,8 @@ fn two_sessions<'a>(
     sessions
 }
 
-/// Each growth of a request refused in turn: nothing changes, and the request made again does what it
-/// does with memory.
+/// Each growth of a request refused in turn: nothing changes, and the request made again does what
+/// it does with memory.
 fn check_growths(
     rt: &impl Abort,
     alloc: Global,

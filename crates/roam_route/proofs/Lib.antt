@@ -2,3 +2,4 @@ pub mod CheckLemmas
 pub mod EventLemmas
 pub mod RealmLemmas
 pub mod NameLemmas
+pub mod RejectLemmas

@@ -1,10 +1,8 @@
 -- What follows the last `@` of a name.
-use Rattle.std.proofs.Common.{◌≡◌, ◌≢◌, ℕ, false, List, [], ◌∷◌, ◌++◌, Some, None, refl, arith}
+use Rattle.std.proofs.Common.{◌≡◌, ◌≢◌, ℕ, false, [], ◌∷◌, refl, arith}
 use Rattle.std.specs.Prelude.{◌==◌}
-use Rattle.std.specs.List.{AllByRecursion}
 use Rattle.std.proofs.lemmas.Bool.Decides.{nat_tests}
-use Rattle.roam_route.specs.UserName.{realm_part}
-use Rattle.roam_route.specs.NameLaws.{IsNoAtSign, NameWithoutAtSign, LastAtSignDecides}
+use Rattle.roam_route.specs.NameLaws.{NameWithoutAtSign, LastAtSignDecides}
 
 other_octet : (octet : ℕ) → octet ≢ 64 → (octet == 64) ≡ false
 other_octet octet differs = grind (arith, nat_tests)

@@ -1,5 +1,5 @@
 -- The realm of an event is configured.
-use Rattle.std.proofs.Common.{◌≡◌, ◌<◌, ℕ, ◌+◌, ◌⊎◌, Bool, true, false, cond, List, [], ◌∷◌, length, Option, Some, None, inl, inr, refl, sym, ap, subst, ◌∙◌, arith}
+use Rattle.std.proofs.Common.{◌≡◌, ◌<◌, ℕ, ◌+◌, ◌⊎◌, Bool, true, false, cond, List, [], ◌∷◌, length, Option, Some, None, inl, inr, refl, sym, subst, ◌∙◌, arith}
 use Rattle.std.specs.Prelude.{Result, Ok, Err, nat_le, option_map, option_and_then, slice_get}
 use Rattle.std.specs.List.{position_from}
 use Rattle.std.proofs.lemmas.Bool.Decides.{nat_tests}
@@ -17,8 +17,8 @@ use Rattle.roam_conf.specs.declared.place.Place.{Place}
 use Rattle.roam_conf.specs.declared.place.Place.TheVariants as place
 use Rattle.roam_fwd.specs.Forwarded.{forwarded_length}
 use Rattle.roam_route.specs.UserName.{realm_of, realm_part}
-use Rattle.roam_route.specs.Admission.{Arrival, PlainJob, PlainOut, Admission, refused, rejected, admitted, sender, checked, given_to, forwarded_for, named, routed, request_admission, packet_admission, sent_admission, read_admission, admission_by, is_served, is_rightly_signed, is_rightly_sealed, has_needed_seal, seal_required, peer_secret}
-use Rattle.roam_route.specs.Events.{arrival_of, IsEvent, EventHasRealm}
+use Rattle.roam_route.specs.Admission.{Arrival, Admission, refused, rejected, admitted, sender, checked, given_to, forwarded_for, named, routed, request_admission, packet_admission, sent_admission, read_admission, admission_by, is_served, is_rightly_signed, is_rightly_sealed, has_needed_seal, seal_required, peer_secret}
+use Rattle.roam_route.specs.Events.{arrival_of, EventHasRealm}
 use Rattle.roam_route.specs.declared.job.Side.{Side}
 use Rattle.roam_route.specs.declared.job.Side.TheVariants as side
 use Rattle.roam_route.proofs.EventLemmas.{served_elsewhere}

@@ -1,6 +1,7 @@
-pub mod UserName
-pub mod LocalReject
 pub mod Admission
-pub mod Shown
 pub mod Events
+pub mod LocalReject
 pub mod NameLaws
+pub mod RejectLaws
+pub mod Shown
+pub mod UserName

@@ -1,5 +1,5 @@
 -- The Access-Reject that the broker itself answers (RFC 2865, section 4.3; when is ours).
-use Rattle.std.specs.Prelude.{ℕ, ◌==◌, ◌&&◌, ◌||◌, not, nat_lt, Bool, false, List, ◌∷◌, is_some}
+use Rattle.std.specs.Prelude.{ℕ, ◌&&◌, ◌||◌, not, nat_lt, Bool, false, List, ◌∷◌, is_some}
 use Rattle.std.specs.Option.{option_map_or}
 use Rattle.roam_wire.specs.Packet.{Packet, packet_length}
 use Rattle.roam_wire.specs.Attributes.{count_of, first_value, only_kind}

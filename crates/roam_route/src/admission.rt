@@ -15,7 +15,7 @@ use crate::source::{is_served, secret_of_peer, sender};
 use crate::user_name::realm_of;
 use roam_conf::{Config, Place};
 use roam_fwd::forwarded_len;
-use roam_wire::{Octets, Refusal, View};
+use roam_wire::{MAX_PACKET_LENGTH, Octets, Refusal, View};
 use std::alloc::Allocator;
 
 /// A packet that passed, as the event of a realm: its octets are copied, without padding.
@@ -50,7 +50,7 @@ fn forwarded_for<A: Allocator + Copy>(
     ensures memory { IsErrOf result Refusal.NoMemory
         → WantsMemory (forwarded_for (shown_arrival datagram.now) side view.now realm) }
 {
-    if forwarded_len(view) > 4096 {
+    if forwarded_len(view) > MAX_PACKET_LENGTH {
         return Err(Refusal::TooLong);
     }
     given_to(alloc, datagram, side, view, realm)

@@ -4,12 +4,9 @@ ghost use Rattle.std.specs.Prelude.{◌≡◌, ◌≤◌, [], ◌∷◌, length}
 ghost use Rattle.roam_auth.specs.Deciding.{is_well_sealed};
 ghost use Rattle.roam_route.specs.Admission.{is_rightly_sealed, is_rightly_signed};
 
-use roam_auth::{message_ok, request_ok};
+use roam_auth::{ZERO_OCTETS, message_ok, request_ok};
 use roam_wire::View;
 use roam_wire::code::ACCESS_REQUEST;
-
-/// What counts as the Authenticator in the seal of an accounting or reverse request.
-const ZERO_OCTETS: [u8; 16] = [0; 16];
 
 /// Whether a request is signed where its code says that it is (RFC 2866, section 3; RFC 5176, section
 /// 2.3).

@@ -1,8 +1,9 @@
-//! Laws of names and events. These functions do nothing: their contracts hold of all names,
-//! configurations and jobs.
+//! Laws of names, events and local rejects. These functions do nothing: their contracts hold of all
+//! names, configurations, jobs and requests.
 
 ghost use Rattle.roam_route.specs.Events.{EventHasRealm};
 ghost use Rattle.roam_route.specs.NameLaws.{LastAtSignDecides, NameWithoutAtSign};
+ghost use Rattle.roam_route.specs.RejectLaws.{RejectCarriesProxyStates, RejectHasLength, RejectHasSealFirst, RejectIsSigned, RejectIsWellSealed, RejectReads};
 
 /// What the realm part of a name is.
 pub fn names()
@@ -13,4 +14,15 @@ pub fn names()
 /// What the event of a realm is.
 pub fn events()
     ensures { EventHasRealm }
+{}
+
+/// What the local reject of a request is: a packet that reads, signed and sealed for the access server,
+/// with its seal first and the request's Proxy-States.
+pub fn rejects()
+    ensures reads { RejectReads }
+    ensures length { RejectHasLength }
+    ensures signed { RejectIsSigned }
+    ensures well_sealed { RejectIsWellSealed }
+    ensures seal_first { RejectHasSealFirst }
+    ensures proxy_states { RejectCarriesProxyStates }
 {}

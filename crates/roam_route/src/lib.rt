@@ -10,12 +10,14 @@ mod datagram;
 mod job;
 mod laws;
 mod nas;
+mod rejecting;
 mod source;
 mod user_name;
 
 pub use admission::prepare;
 pub use datagram::{Datagram, Out};
 pub use job::{Job, Prepared, Side};
-pub use laws::{events, names};
+pub use laws::{events, names, rejects};
 pub use nas::{NasName, nas_of};
+pub use rejecting::reject;
 pub use user_name::{realm_of, realm_part};

@@ -2,7 +2,7 @@
 
 ghost use Rattle.std.specs.Prelude.{◌≡◌, ℕ, ◌<◌, ◌≤◌, Some, length, vec_len};
 ghost use Rattle.roam_conf.specs.Shown.{shown};
-ghost use Rattle.roam_wire.specs.Codes.{is_access_reply, is_reverse_reply, is_reverse_request};
+ghost use Rattle.roam_wire.specs.Codes.{is_reverse_reply, is_reverse_request};
 ghost use Rattle.roam_route.specs.Admission.{is_code_of_link, is_served, is_taken, peer_secret, sender};
 ghost use Rattle.roam_route.specs.Shown.{shown_arrival};
 
@@ -10,9 +10,8 @@ use crate::datagram::Datagram;
 use crate::job::Side;
 use roam_conf::{Config, Link, Place};
 use roam_wire::code::{
-    ACCESS_ACCEPT, ACCESS_CHALLENGE, ACCESS_REJECT, ACCESS_REQUEST, ACCOUNTING_REQUEST,
-    ACCOUNTING_RESPONSE, COA_ACK, COA_NAK, COA_REQUEST, DISCONNECT_ACK, DISCONNECT_NAK,
-    DISCONNECT_REQUEST,
+    ACCESS_REQUEST, ACCOUNTING_REQUEST, ACCOUNTING_RESPONSE, COA_ACK, COA_NAK, COA_REQUEST,
+    DISCONNECT_ACK, DISCONNECT_NAK, DISCONNECT_REQUEST, is_access_reply,
 };
 use std::alloc::Allocator;
 
@@ -47,13 +46,6 @@ pub(crate) fn secret_of_peer(config: &Config, peer: u16) -> &[u8]
     ensures at_most_64 { length result.now ≤ 64 }
 {
     config.peers[usize::from(peer)].secret.as_bytes()
-}
-
-/// Whether a code is one of the replies of a home server to an Access-Request (RFC 2865, section 4).
-fn is_access_reply(code: u8) -> bool
-    ensures { result ≡ is_access_reply code }
-{
-    code == ACCESS_ACCEPT || code == ACCESS_REJECT || code == ACCESS_CHALLENGE
 }
 
 /// Whether a code is a Disconnect- or CoA-Request (RFC 5176, section 2.3).

@@ -1,11 +1,10 @@
 -- Octets read as attributes just where attributes are spelt by them.
-use Rattle.std.proofs.Common.{◌≡◌, ℕ, zero, suc, ◌+◌, ◌-◌, ◌<◌, ◌≤◌, true, List, [], ◌∷◌, ◌++◌, length, get_or, take, drop, subst, Option, Some, None, refl, sym, ap, ◌∙◌, arith, inl, inr, length-append}
+use Rattle.std.proofs.Common.{◌≡◌, ℕ, zero, suc, ◌+◌, ◌-◌, ◌<◌, ◌≤◌, true, List, [], ◌∷◌, ◌++◌, length, take, drop, subst, Option, Some, None, refl, sym, ap, ◌∙◌, arith, length-append}
 use Rattle.std.specs.Prelude.{nat_le}
 use Rattle.std.specs.List.{AllByRecursion}
 use Rattle.std.proofs.lemmas.Bool.Decides.{nat_tests}
 use Rattle.std.proofs.lemmas.Option.{cond_some, option_and_then_some}
-use Rattle.std.proofs.lemmas.Bool.{cases_lt}
-use Rattle.std.proofs.lemmas.List.{get_or-take, get_or_past, take-append-drop, take_at, drop_at, length-take, get_or-drop}
+use Rattle.std.proofs.lemmas.List.{take-append-drop, take_at, drop_at, length-take}
 use Rattle.roam_wire.specs.Packet.{Attribute, IsAttribute, AreOctets, attribute_text, attributes_text}
 use Rattle.roam_wire.specs.Reading.{attribute_at, with_first, attributes_within, attributes_of}
 use Rattle.roam_wire.proofs.OctetLemmas.{AreOctets-take, AreOctets-drop}

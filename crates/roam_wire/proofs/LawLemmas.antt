@@ -2,7 +2,7 @@
 pub use Rattle.roam_wire.proofs.OctetLemmas.{AreOctets-packet_text}
 pub use Rattle.roam_wire.proofs.PacketLemmas.{packet_of-packet_text, IsPacketText-packet_text, length-packet_text, ReadsAs-packet_text, ReadsAs-octets}
 pub use Rattle.roam_wire.proofs.BuildingLemmas.{AreTextOf, AreTextOf-packet_text}
-use Rattle.std.proofs.Common.{◌≡◌, ◌<◌, ◌≤◌, ℕ, true, false, List, length, drop, Option, Some, None, IsSome, refl, sym, ap, ◌∙◌, subst, inl, inr, arith}
+use Rattle.std.proofs.Common.{◌≡◌, ℕ, true, List, length, drop, Option, Some, None, IsSome, refl, ap, ◌∙◌, subst, inl, inr, arith}
 use Rattle.std.specs.Prelude.{nat_lt, Result, Ok, Err}
 use Rattle.std.specs.Option.{option_map_or}
 use Rattle.std.proofs.lemmas.Bool.{cases_Bool}

@@ -4,7 +4,7 @@ use Rattle.roam_wire.specs.Reading.{packet_of}
 use Rattle.roam_auth.specs.MessageAuthenticator.{message_authenticator, with_value}
 use Rattle.roam_auth.proofs.ValueLemmas.{with_value-none}
 use Rattle.roam_auth.proofs.SealingLemmas.{value_written, place_within}
-use Rattle.roam_auth.proofs.DigestLemmas.{sixteen-message_authenticator, length-message_authenticator}
+use Rattle.roam_auth.proofs.DigestLemmas.{length-message_authenticator}
 use Rattle.roam_auth.proofs.in_place.seal.Goals as goal
 
 -- a packet without a Message-Authenticator stays

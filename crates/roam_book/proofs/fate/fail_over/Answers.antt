@@ -20,6 +20,7 @@ returns-in_default-clause-fate g c =
         count = c.give_back.ensures.count;
         ticket = c.give_back.ensures.ticket;
         stream_position = c.give_back.ensures.stream_position;
+        tags = c.give_back.ensures.tags;
       };
     } in
     gone-freed c.args.settings.now c.args.now es e c.args.numbers.now c.give_back.new.self
@@ -39,6 +40,7 @@ returns-clause-fate g c =
         count = c.give_back.ensures.count;
         ticket = c.give_back.ensures.ticket;
         stream_position = c.give_back.ensures.stream_position;
+        tags = c.give_back.ensures.tags;
       };
     } in
     let one = c.send_new-sent.ensures in
@@ -61,6 +63,7 @@ returns-clause-fate g c =
         count = one.count;
         ticket = one.ticket;
         stream_position = one.stream_position;
+        tags = one.tags;
       };
     } in
     let of_entry = subst (λ (q : PlainRequest). IsSent c.args.settings.now c.args.now others q

@@ -12,7 +12,7 @@ use Rattle.roam_book.proofs.sending.forward_into.Goals as goal
 pub forward_reserved-requires-clause-room : goal.forward_reserved-requires-clause-room
 forward_reserved-requires-clause-room g c =
     let q : PlainRequest = shown_request c.args.asked in
-    let read : c.packet_in-request.result ≡ packet_of q.octets = c.packet_in-request.ensures in
+    let read : c.of_packet-request.result ≡ packet_of q.octets = c.of_packet-request.ensures in
     let grown = forwarded_length-request c.args.settings.now q c.requires.request in
     rw read (omega (arith, grown, c.requires.room.room, c.requires.room.length))
 
@@ -22,11 +22,11 @@ returns-clause-waiting g c =
     let config : RealmConfig = c.args.settings.now in
     let q : PlainRequest = shown_request c.args.asked in
     let target : Target = record { link = c.args.link; id = c.args.id } in
-    let read : c.packet_in-request.result ≡ packet_of q.octets = c.packet_in-request.ensures in
+    let read : c.of_packet-request.result ≡ packet_of q.octets = c.of_packet-request.ensures in
     let written : c.forward_reserved.new.out.items ≡ forwarded_octets config q c.args.ticket target =
     octets-written config q c.args.ticket target c.args.out.now.items
     c.forward_reserved.new.out.items c.secret_of_requester-from_secret.result.now
-    c.secret_of_link-to_secret.result.now c.packet_in-request.result
+    c.secret_of_link-to_secret.result.now c.of_packet-request.result
     (record { octets = c.forward_reserved.ensures.octets }) c.requires.room.empty
     c.secret_of_requester-from_secret.ensures.text c.secret_of_link-to_secret.ensures.text read in
     let waits = IsWaiting-forwarded config q c.args.ticket target c.requires.request c.requires.link in

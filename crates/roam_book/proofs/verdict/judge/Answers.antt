@@ -13,6 +13,6 @@ returns-in-Some-clause-turn g c =
     let e : PlainEntry = shown c.args.entry.now in
     let forwarded = packet_of c.args.waiting.now.forwarded in
     let secret = link_secret c.args.settings.now c.args.waiting.now.link in
-    let fault : Some c.in-Some.why ≡ reply_fault secret c.args.reply.now forwarded = rw (c.secret_of_link.ensures.text, c.packet_in-forwarded.ensures, c.as_slice.ensures) at c.in-Some.ensures.fault in
+    let fault : Some c.in-Some.why ≡ reply_fault secret c.args.reply.now forwarded = rw (c.secret_of_link.ensures.text, c.of_packet-forwarded.ensures, c.as_slice.ensures) at c.in-Some.ensures.fault in
     λ s. same-turn c.not_taken.result.answer s _ _ _ _ (c.not_taken.ensures e s) refl
     (ap (judge c.args.settings.now c.args.now s e c.args.waiting.now.link forwarded c.args.reply.now) fault)

@@ -10,7 +10,7 @@ use Rattle.roam_book.specs.Memory.{IsOuts}
 use Rattle.roam_book.specs.Sound.{IsSound, state_of}
 use Rattle.roam_book.specs.Fates.{IsFate, IsFateCopied, fate_entries}
 use Rattle.roam_book.proofs.SoundLemmas.{kept-ticket}
-use Rattle.roam_book.proofs.FateLemmas.{list-after, size-after}
+use Rattle.roam_book.proofs.FateListLemmas.{list-after, size-after}
 use Rattle.roam_book.proofs.TickLemmas.{due_one-found, own-ticket, becomes-found}
 use Rattle.roam_book.proofs.realm.Realm.due_one.Goals as goal
 

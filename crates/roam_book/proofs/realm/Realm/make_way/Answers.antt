@@ -2,7 +2,7 @@ use Rattle.std.proofs.Common.{◌≡◌, subst}
 use Rattle.roam_book.specs.RealmConfig.{RealmConfig}
 use Rattle.roam_book.specs.RealmTurn.{entries}
 use Rattle.roam_book.specs.Sound.{IsSound}
-use Rattle.roam_book.proofs.AdmissionLemmas.{IsCleared, clear-turn, clear-way}
+use Rattle.roam_book.proofs.ClearLemmas.{IsCleared, clear-turn, clear-way}
 use Rattle.roam_book.proofs.realm.Realm.make_way.Goals as goal
 
 -- the entries and numbers before, between, and after

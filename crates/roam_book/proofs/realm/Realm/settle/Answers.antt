@@ -26,7 +26,7 @@ returns-clause-keeps g c =
         sound = done-sound config t found.0 es _ c.in-Some.settled.done.reply c.in-Some.settled.done.deadline
             old.numbers.now c.give_back.new.self c.requires.realm.sound found.1 become.here
             (back.tells found.0 es c.requires.realm.sound.lanes_tell here found.2)
-            back.count back.ticket back.stream_position;
+            back.count back.ticket back.stream_position back.tags;
         list = rw become.here (list-standing _ found.0 es c.requires.realm.list here);
       };
       loans = record {
