@@ -1,5 +1,5 @@
 -- A way that is cleared: what counts as gone and what makes way are gone.
-use Rattle.std.proofs.Common.{◌≡◌, ℕ, is_some, List, Some, refl, ap, ◌∙◌}
+use Rattle.std.proofs.Common.{◌≡◌, ℕ, is_some, List, refl, ap, ◌∙◌}
 use Rattle.roam_pending.specs.PlainEntry.{PlainEntry, PlainRequest}
 use Rattle.roam_pending.specs.EntryList.{IsEntryList, besides}
 use Rattle.roam_book.specs.declared.numbers.Numbers.{Numbers}

@@ -1,5 +1,5 @@
 -- What becomes of a due entry is the definition's step, and the realm stays sound.
-use Rattle.std.proofs.Common.{◌≡◌, ℕ, ◌+◌, ◌%◌, ◌<◌, ◌≤◌, true, List, [], ◌∷◌, Option, Some, None, refl, ap, sym, ◌∙◌, subst, arith, inl, inr, length, ltb}
+use Rattle.std.proofs.Common.{◌≡◌, ℕ, ◌+◌, ◌%◌, ◌<◌, true, List, [], ◌∷◌, Option, Some, None, refl, ap, sym, ◌∙◌, subst, arith, length, ltb}
 use Rattle.std.specs.Prelude.{IfSome, option_map, slice_set}
 use Rattle.std.specs.List.{AllByRecursion, find}
 use Rattle.std.proofs.lemmas.Bool.Decides.{nat_tests}
@@ -8,7 +8,7 @@ use Rattle.roam_conf.specs.declared.place.Link.TheVariants as link
 use Rattle.roam_pending.specs.declared.entry.Standing.TheVariants as standing
 use Rattle.roam_pending.specs.declared.entry.Waiting.{Waiting}
 use Rattle.roam_pending.specs.PlainEntry.{PlainRequest, PlainStanding, PlainEntry, waiting, done, is_done, stands_done}
-use Rattle.roam_pending.specs.EntryList.{find_ticket, without, put}
+use Rattle.roam_pending.specs.EntryList.{without, put}
 use Rattle.roam_pending.specs.Realms.{sent_again, waits_on, with_standing}
 use Rattle.roam_pending.specs.Shown.{shown_standing}
 use Rattle.roam_pending.proofs.OrderLemmas.{list-without}
@@ -16,7 +16,6 @@ use Rattle.roam_pending.proofs.ChangeLemmas.{find-passes, put-without}
 use Rattle.roam_route.specs.Admission.{PlainOut}
 use Rattle.roam_route.specs.Shown.{shown_out}
 use Rattle.roam_ids.specs.LaneState.{LaneState}
-use Rattle.roam_book.specs.declared.fate.Fate.{Fate}
 use Rattle.roam_book.specs.declared.fate.Fate.TheVariants as fate
 use Rattle.roam_book.specs.declared.numbers.Numbers.{Numbers}
 use Rattle.roam_book.specs.declared.sending.Sent.{Sent}
@@ -26,7 +25,7 @@ use Rattle.roam_book.specs.RealmState.{Target, next_toward, first_target}
 use Rattle.roam_book.specs.OnRequest.{packet_to, forwarded_octets, forwarded_entry}
 use Rattle.roam_book.specs.OnTick.{fail_over, without_entry, due_standing}
 use Rattle.roam_book.specs.Sound.{IsEntry, IsWaiting, StandsWell, IsSound, LanesTell, state_of, cursors_of, lane_of, has_free, is_open, tags_of}
-use Rattle.roam_book.specs.Fates.{IsHeld, IsFate, fate_entries}
+use Rattle.roam_book.specs.Fates.{IsHeld, IsFate}
 use Rattle.roam_book.proofs.SoundLemmas.{kept-put, kept-without, kept-ticket}
 use Rattle.roam_book.proofs.LaneLemmas.{tells-gone, tells-again, target-tells, target-next, links-are}
 

@@ -1,5 +1,5 @@
 -- A reply's entry by the lane of its link: the ticket that is parked there is that of the entry that waits.
-use Rattle.std.proofs.Common.{◌≡◌, ℕ, ◌<◌, true, false, List, Option, Some, None, is_some, refl, ap, sym, ◌∙◌, subst}
+use Rattle.std.proofs.Common.{◌≡◌, ℕ, ◌<◌, true, false, List, Option, Some, None, refl, ap, sym, ◌∙◌}
 use Rattle.roam_conf.specs.declared.place.Link.{Link}
 use Rattle.roam_ids.specs.LaneState.{ticket_at}
 use Rattle.roam_pending.specs.PlainEntry.{PlainEntry, waits_at}

@@ -1,5 +1,5 @@
 -- What the rules of a realm keep, one after the other.
-use Rattle.std.proofs.Common.{◌≡◌, ap, ◌∙◌, refl}
+use Rattle.std.proofs.Common.{ap, ◌∙◌, refl}
 use Rattle.roam_pending.specs.declared.entries.Entries.{Ghosts}
 use Rattle.roam_book.specs.declared.realm.Realm.{Realm}
 use Rattle.roam_book.specs.RealmConfig.{RealmConfig}

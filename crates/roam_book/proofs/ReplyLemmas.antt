@@ -1,18 +1,10 @@
 -- What comes of a reply: why it isn't taken, the turn that it is, and what its realm then keeps.
-use Rattle.std.proofs.Common.{◌≡◌, ◌⊎◌, ℕ, ◌<◌, Bool, true, false, List, Option, Some, None, IsTrue, refl, ap, sym, ◌∙◌, subst, arith, eqb, ltb, inl, inr, length}
-use Rattle.std.specs.Prelude.{IsSomeAnd, not, ◌&&◌, ◌||◌}
+use Rattle.std.proofs.Common.{◌≡◌, ℕ, ◌<◌, Bool, true, false, List, Option, Some, None, refl, sym, ◌∙◌, subst, arith, eqb, ltb, length}
+use Rattle.std.specs.Prelude.{IsSomeAnd, ◌&&◌}
 use Rattle.std.proofs.lemmas.Bool.Decides.{nat_tests}
 use Rattle.roam_wire.specs.Packet.{Packet}
 use Rattle.roam_wire.specs.Reading.{packet_of}
-use Rattle.roam_wire.specs.Attributes.{count_of}
-use Rattle.roam_wire.specs.declared.attribute_type.TheConstants.{EAP_MESSAGE, MESSAGE_AUTHENTICATOR}
-use Rattle.roam_wire.specs.declared.refusal.Refusal.{Refusal}
 use Rattle.roam_wire.specs.declared.refusal.Refusal.TheVariants as refusal
-use Rattle.roam_auth.specs.Authenticators.{IsSignedReply}
-use Rattle.roam_auth.specs.Deciding.{is_signed_reply, is_well_sealed}
-use Rattle.roam_auth.proofs.DecidingLemmas.{signed_reply_decided, well_sealed_decided}
-use Rattle.roam_wire.specs.Codes.{is_access_reply}
-use Rattle.roam_back.specs.ReplyCheck.{answers, sealing_authenticators, IsRightlySealed}
 use Rattle.roam_back.specs.Returned.{returned_length}
 use Rattle.roam_conf.specs.declared.place.Link.{Link}
 use Rattle.roam_pending.specs.PlainEntry.{PlainRequest, PlainStanding, PlainEntry, waiting, done, same_link, stands_at, waits_at}

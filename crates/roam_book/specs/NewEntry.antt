@@ -1,5 +1,5 @@
 -- How a new request is admitted, in steps: words of private functions alone (ours).
-use Rattle.std.specs.Prelude.{◌≡◌, ℕ, ◌+◌, ◌<◌, ◌≤◌, ◌^◌, List, [], Option, Some, None, Result, Ok, Err, option_map, unwrap_or, is_some, true, length}
+use Rattle.std.specs.Prelude.{◌≡◌, ℕ, ◌+◌, ◌<◌, ◌^◌, List, [], Option, Some, None, Result, Ok, Err, option_map, unwrap_or, is_some, true, length}
 use Rattle.roam_wire.specs.declared.refusal.Refusal.{Refusal}
 use Rattle.roam_conf.specs.declared.place.Link.{Link}
 use Rattle.roam_pending.specs.PlainEntry.{PlainEntry, PlainRequest}

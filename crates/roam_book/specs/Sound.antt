@@ -1,7 +1,7 @@
 -- What the code's entries and numbers stand for (`state_of`, which a book's view shows), and what a
 -- realm keeps (ours): of each entry, and between its entries and its lanes. No definition of what the
 -- broker does rests on this file; each rule's contract says that it is kept.
-use Rattle.std.specs.Prelude.{◌≡◌, ◌≢◌, ℕ, zero, suc, ◌+◌, ◌*◌, ◌++◌, ◌∷◌, ◌<◌, ◌≤◌, ◌^◌, ◌==◌, ◌&&◌, ◌||◌, Bool, false, List, [], length, map, Option, Some, None, option_map, is_some, slice_index_or, vec_len, vec_capacity}
+use Rattle.std.specs.Prelude.{◌≡◌, ◌≢◌, ℕ, zero, suc, ◌+◌, ◌*◌, ◌++◌, ◌∷◌, ◌<◌, ◌≤◌, ◌^◌, ◌==◌, ◌&&◌, ◌||◌, Bool, false, List, [], length, map, Option, Some, None, option_map, is_some, slice_index_or}
 use Rattle.std.specs.List.{AllByRecursion}
 use Rattle.std.specs.Option.{option_map_or}
 use Rattle.roam_wire.specs.Reading.{IsPacketText, packet_of}

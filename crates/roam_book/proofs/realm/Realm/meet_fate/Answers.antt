@@ -1,6 +1,5 @@
 use Rattle.std.proofs.Common.{refl}
 use Rattle.roam_pending.specs.EntryList.{find_ticket}
-use Rattle.roam_book.specs.RealmTurn.{entries}
 use Rattle.roam_book.proofs.TickLemmas.{becomes-at, gone-by_ticket}
 use Rattle.roam_book.proofs.realm.Realm.meet_fate.Goals as goal
 

@@ -1,4 +1,4 @@
-use Rattle.std.proofs.Common.{◌≡◌, Bool, refl, subst}
+use Rattle.std.proofs.Common.{Bool, refl, subst}
 use Rattle.roam_book.specs.RealmTurn.{state}
 use Rattle.roam_book.specs.OnTick.{on_tick}
 use Rattle.roam_book.specs.Memory.{Tells}

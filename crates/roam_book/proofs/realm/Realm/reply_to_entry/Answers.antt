@@ -1,11 +1,10 @@
-use Rattle.std.proofs.Common.{◌≡◌, Option, Some, None, sym, ap, ◌∙◌, refl}
+use Rattle.std.proofs.Common.{◌≡◌, Some, None, sym, refl}
 use Rattle.roam_pending.specs.PlainEntry.{PlainEntry, waits_at}
 use Rattle.roam_pending.specs.EntryList.{find_link}
 use Rattle.roam_pending.specs.Shown.{shown}
 use Rattle.roam_pending.proofs.ChangeLemmas.{find-passes, found-is}
 use Rattle.roam_book.specs.RealmTurn.{entries, state}
 use Rattle.roam_book.specs.OnReply.{to_entry}
-use Rattle.roam_book.specs.ReplyPlans.{IsReplyPlan}
 use Rattle.roam_book.specs.Turn.{Turn}
 use Rattle.roam_book.proofs.SoundLemmas.{kept-link}
 use Rattle.roam_book.proofs.ReplyLemmas.{link-of, plan-none, plan-some}

@@ -1,10 +1,8 @@
-use Rattle.std.proofs.Common.{◌≡◌, ℕ, ap, ◌∙◌, refl, subst, true, Some, Option}
+use Rattle.std.proofs.Common.{◌≡◌, ℕ, ap, ◌∙◌, refl, true, Some}
 use Rattle.roam_pending.specs.PlainEntry.{PlainEntry, waits_at}
-use Rattle.roam_pending.specs.EntryList.{IsEntryList, find_ticket}
+use Rattle.roam_pending.specs.EntryList.{find_ticket}
 use Rattle.roam_pending.proofs.ChangeLemmas.{found-ticket}
 use Rattle.roam_book.specs.RealmTurn.{entries}
-use Rattle.roam_book.specs.ReplyPlans.{CanSettle}
-use Rattle.roam_book.specs.declared.replies.Settled.{Settled}
 use Rattle.roam_book.proofs.ReplyLemmas.{done-sound, found-with, list-standing}
 use Rattle.roam_book.proofs.realm.Realm.settle.Goals as goal
 

@@ -1,4 +1,4 @@
-use Rattle.std.proofs.Common.{◌≡◌, Option, ap, sym, ◌∙◌, refl}
+use Rattle.std.proofs.Common.{Option, ap, sym, ◌∙◌, refl}
 use Rattle.roam_pending.specs.EntryList.{besides}
 use Rattle.roam_book.specs.RealmTurn.{entries}
 use Rattle.roam_book.specs.Sound.{gone_ticket}

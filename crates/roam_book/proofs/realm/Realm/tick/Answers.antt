@@ -1,4 +1,4 @@
-use Rattle.std.proofs.Common.{◌≡◌, ◌≤◌, ◌^◌, true, refl, sym, ◌∙◌, arith, ap, length, ltb, subst}
+use Rattle.std.proofs.Common.{◌≡◌, ◌≤◌, ◌^◌, true, sym, ◌∙◌, arith, ap, length, ltb, subst}
 use Rattle.std.specs.Vec.Iter.{into_iter_items}
 use Rattle.std.proofs.lemmas.Bool.Decides.{nat_tests}
 use Rattle.roam_wire.specs.declared.refusal.Refusal.TheVariants as refusal

@@ -1,4 +1,4 @@
-use Rattle.std.proofs.Common.{◌≡◌, None, ap, sym, refl, ◌∙◌}
+use Rattle.std.proofs.Common.{ap, sym, ◌∙◌}
 use Rattle.roam_pending.specs.Shown.{seen}
 use Rattle.roam_book.specs.RealmTurn.{entries}
 use Rattle.roam_book.proofs.HolderLemmas.{found-held, found-none}

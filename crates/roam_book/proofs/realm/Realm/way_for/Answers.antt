@@ -1,9 +1,7 @@
 use Rattle.std.proofs.Common.{ℕ}
-use Rattle.roam_pending.specs.PlainEntry.{PlainRequest}
 use Rattle.roam_book.specs.RealmTurn.{entries, state}
-use Rattle.roam_book.specs.Sound.{IsRequest}
 use Rattle.roam_book.proofs.RequestLemmas.{at-none, at-open}
-use Rattle.roam_book.proofs.WayLemmas.{chosen-same, exhausted, straight-way}
+use Rattle.roam_book.proofs.WayLemmas.{chosen-same, straight-way}
 use Rattle.roam_book.proofs.realm.Realm.way_for.Goals as goal
 
 -- no link is open
