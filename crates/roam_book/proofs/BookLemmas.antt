@@ -1,6 +1,6 @@
 -- A book's realm and state, where its entries are those of one realm.
 use Rattle.std.proofs.Common.{◌≡◌, ℕ, ◌<◌, ◌≤◌, ◌^◌, Bool, true, List, [], length, refl, sym, ap, ◌∙◌, subst, eqb, eqb-true}
-use Rattle.std.specs.Prelude.{Result, IsOk, vec_len}
+use Rattle.std.specs.Prelude.{Result, Ok, Err, IsOk, vec_len}
 use Rattle.roam_wire.specs.declared.refusal.NoMemory.{NoMemory}
 use Rattle.roam_conf.specs.Config.{ConfigView}
 use Rattle.roam_conf.specs.Shown.{shown}
@@ -12,9 +12,11 @@ use Rattle.roam_pending.proofs.TestLemmas.{same}
 use Rattle.roam_book.specs.RealmConfig.{RealmConfig, link_count, realm_config}
 use Rattle.roam_book.specs.RealmState.{RealmState}
 use Rattle.roam_book.specs.Turn.{Turn, Gives, packets_of}
+use Rattle.roam_book.specs.RealmTurn.{GivesTwice}
 use Rattle.roam_book.specs.Sound.{IsSound, LanesTell, own_tags, state_of, tags_of}
 use Rattle.roam_book.specs.BookView.{BookView, IsBook, settings_of}
 use Rattle.roam_book.specs.declared.answer.Answer.{Answer}
+use Rattle.roam_book.specs.declared.answer.Twin.{Twin}
 use Rattle.roam_book.specs.declared.numbers.Numbers.{Numbers}
 use Rattle.roam_book.specs.declared.start.Start.{Start}
 
@@ -90,9 +92,25 @@ realm-gives f r view config realm old new n m c k at v is own keeps h =
     own-gives f r view config realm old new n m c v is own (own-realm old new realm own keeps)
     (subst (λ (x : RealmConfig). Gives r (state_of (entries_in old c.index) n) (state_of (entries_in new x.index) m) (f c (state_of (entries_in old c.index) n))) at h)
 
+-- the same where the answer is wanted twice
+pub realm-gives-twice : {A : Type 0} (f : RealmConfig → RealmState → Turn)
+    (r : Result (Twin A) NoMemory) (view : BookView) (config : ConfigView) (realm : ℕ)
+    (old new : Held) (n m : Numbers A) (c k : RealmConfig) → k ≡ c
+    → view ≡ record { config = config; realm = realm; state = state_of old.entries n }
+    → c ≡ realm_config config realm → old.realm ≡ realm → keeps_in new ≡ keeps_in old
+    → GivesTwice r (state_of (entries_in old c.index) n) (state_of (entries_in new k.index) m)
+    (f c (state_of (entries_in old c.index) n))
+    → GivesTwice r view.state (state_of new.entries m) (f (settings_of view) view.state)
+realm-gives-twice f (Ok twin) view config realm old new n m c k at v is own keeps h = (
+  realm-gives f (Ok twin.answer) view config realm old new n m c k at v is own keeps h.0,
+  realm-gives f (Ok twin.copy) view config realm old new n m c k at v is own keeps h.1,
+)
+realm-gives-twice {A = A} f (Err e) view config realm old new n m c k at v is own keeps h =
+    realm-gives {A = A} f (Err e) view config realm old new n m c k at v is own keeps h
+
 -- and no memory is wanted where the realm's call wants none
-pub own-succeeds : {A : Type 0} (f : RealmConfig → RealmState → Turn)
-    (r : Result (Answer A) NoMemory) (view : BookView) (config : ConfigView) (realm : ℕ)
+pub own-succeeds : {A R : Type 0} (f : RealmConfig → RealmState → Turn)
+    (r : Result R NoMemory) (view : BookView) (config : ConfigView) (realm : ℕ)
     (held : Held) (n : Numbers A) (c : RealmConfig)
     → view ≡ record { config = config; realm = realm; state = state_of held.entries n }
     → c ≡ realm_config config realm → held.realm ≡ realm

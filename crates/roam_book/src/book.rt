@@ -33,10 +33,10 @@ use std::marker::Model;
 /// see the configuration that it was made with, the realm's index there, and the realm's state.
 #[derive(Drop)]
 pub struct Book<'c, A: Allocator> {
-    config: &'c Config,
-    realm: u16,
-    entries: Pending<A>,
-    numbers: Numbers<A>,
+    pub(crate) config: &'c Config,
+    pub(crate) realm: u16,
+    pub(crate) entries: Pending<A>,
+    pub(crate) numbers: Numbers<A>,
 }
 
 impl<'c, A: Allocator> Model for Book<'c, A> {
@@ -56,7 +56,11 @@ impl<'c, A: Allocator> Model for Book<'c, A> {
 }
 
 /// A job of these octets as a request of its realm.
-fn asked_by<'a, A: Allocator>(settings: &Settings<'_>, job: &Job<A>, octets: &'a [u8]) -> Asked<'a>
+pub(crate) fn asked_by<'a, A: Allocator>(
+    settings: &Settings<'_>,
+    job: &Job<A>,
+    octets: &'a [u8],
+) -> Asked<'a>
     requires taken { IsTakenFrom settings.now (shown_job job.now) job.now.side }
     requires octets { octets.now ≡ job.now.octets }
     requires side { is_link job.now.side ≡ false }
@@ -82,7 +86,7 @@ fn asked_by<'a, A: Allocator>(settings: &Settings<'_>, job: &Job<A>, octets: &'a
 }
 
 /// The link from which a reply came.
-fn link_of(side: Side) -> Link
+pub(crate) fn link_of(side: Side) -> Link
     requires { is_link side ≡ true }
     ensures { side ≡ Side.Link result }
 {

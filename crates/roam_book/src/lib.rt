@@ -25,6 +25,7 @@ mod service;
 mod settings;
 mod start;
 mod ticks;
+mod twice;
 mod verdict;
 mod way;
 

@@ -14,7 +14,7 @@ use std::io::Write;
 use std::process::Abort;
 
 /// Events of a realm whose next ticket is 2^63 - 1, and behind each what it gives.
-const LAST_TICKET: &str = "
+pub(crate) const LAST_TICKET: &str = "
 # the last ticket
 A 0 acct 192.0.2.1:5000 0405002b40d7b5a889c55fa9032ba5d6be378f2e010d7540612e6578616d706c652806000000012c043031
 #> 0 out:0 198.51.100.1:1813 0400003554199fc54d2e0b35c247afa35ed6e1eb010d7540612e6578616d706c652806000000012c043031210a7fffffffffffffff
@@ -52,10 +52,10 @@ A 7002 acct 192.0.2.1:5000 0405002b40d7b5a889c55fa9032ba5d6be378f2e010d7540612e6
 ";
 
 /// The broker of the realm with the last ticket.
-type Last<'c, 'r> = Realm<'c, &'r Refusing<Global>>;
+pub(crate) type Last<'c, 'r> = Realm<'c, &'r Refusing<Global>>;
 
 /// Prints an answer as the script has it: a line for each packet, and one for its refusal.
-fn print_answer<A: Allocator>(text: &mut Vec<u8>, answer: &Answer<A>) -> io::Result<()> {
+pub(crate) fn print_answer<A: Allocator>(text: &mut Vec<u8>, answer: &Answer<A>) -> io::Result<()> {
     for out in answer.outs.iter() {
         text.write_all(b"#> ")?;
         print_packet(text, out.realm, out.from, out.to, out.bytes.as_slice())?;

@@ -15,3 +15,5 @@ mod realm;
 mod scripts;
 #[cfg(test)]
 mod tick_room;
+#[cfg(test)]
+mod twins;

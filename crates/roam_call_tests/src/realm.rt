@@ -1,11 +1,11 @@
 //! The broker of one realm, which is given the events of a script.
 
-ghost use Rattle.std.specs.Prelude.{◌≡◌, ◌≤◌, ◌^◌};
+ghost use Rattle.std.specs.Prelude.{◌≡◌, ◌≤◌, ◌^◌, IfOk};
 ghost use Rattle.roam_conf.specs.Shown.{shown};
 ghost use Rattle.roam_route.specs.Events.{IsEvent};
 ghost use Rattle.roam_route.specs.Shown.{shown_job};
 
-use roam_book::{Answer, Book, Start};
+use roam_book::{Answer, Book, Start, Twin};
 use roam_conf::Config;
 use roam_core::Event;
 use roam_route::{Datagram, Job, Prepared, Side, prepare};
@@ -31,6 +31,22 @@ impl<'c, A: Allocator + Copy> Realm<'c, A> {
         Ok(Realm { config, book })
     }
 
+    /// The job of an arrival that is this realm's.
+    fn job_of(&self, alloc: A, datagram: &Datagram<A>) -> Result<Job<A>, Refusal>
+        ensures event { IfOk result (λ job. IsEvent (shown self.now.config.now) (shown_job job)) }
+        ensures own { IfOk result (λ job. job.realm ≡ 0) }
+    {
+        match prepare(alloc, self.config, datagram)? {
+            Prepared::Job(job) => {
+                if job.realm != 0 {
+                    return Err(Refusal::NoRealm);
+                }
+                Ok(job)
+            }
+            Prepared::Reject(_) => Err(Refusal::NoRealm),
+        }
+    }
+
     /// A job of this realm.
     fn takes(&mut self, now: u64, job: &Job<A>) -> Result<Answer<A>, NoMemory>
         requires event { IsEvent (shown self.old.config.now) (shown_job job.now) }
@@ -42,29 +58,36 @@ impl<'c, A: Allocator + Copy> Realm<'c, A> {
         }
     }
 
-    /// What an arrival gives that is this realm's.
-    fn arrives(
-        &mut self,
-        alloc: A,
-        now: u64,
-        datagram: &Datagram<A>,
-    ) -> Result<Answer<A>, Refusal> {
-        match prepare(alloc, self.config, datagram)? {
-            Prepared::Job(job) => {
-                if job.realm != 0 {
-                    return Err(Refusal::NoRealm);
-                }
-                Ok(self.takes(now, &job)?)
-            }
-            Prepared::Reject(_) => Err(Refusal::NoRealm),
+    /// The same, with the answer twice.
+    fn takes_twice(&mut self, now: u64, job: &Job<A>) -> Result<Twin<A>, NoMemory>
+        requires event { IsEvent (shown self.old.config.now) (shown_job job.now) }
+        requires own { job.now.realm ≡ 0 }
+    {
+        match job.side {
+            Side::Link(_) => self.book.reply_twice(now, job),
+            Side::Peer(_) | Side::Home(_) => self.book.request_twice(now, job),
         }
     }
 
     /// What an event gives.
     pub(crate) fn meets(&mut self, alloc: A, event: &Event<A>) -> Result<Answer<A>, Refusal> {
         match event {
-            Event::Arrive { now, datagram } => self.arrives(alloc, *now, datagram),
+            Event::Arrive { now, datagram } => {
+                let job = self.job_of(alloc, datagram)?;
+                Ok(self.takes(*now, &job)?)
+            }
             Event::Tick { now, .. } => Ok(self.book.tick(*now)?),
+        }
+    }
+
+    /// What an event gives, twice.
+    pub(crate) fn meets_twice(&mut self, alloc: A, event: &Event<A>) -> Result<Twin<A>, Refusal> {
+        match event {
+            Event::Arrive { now, datagram } => {
+                let job = self.job_of(alloc, datagram)?;
+                Ok(self.takes_twice(*now, &job)?)
+            }
+            Event::Tick { now, .. } => Ok(self.book.tick_twice(*now)?),
         }
     }
 }
