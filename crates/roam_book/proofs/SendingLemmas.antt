@@ -1,5 +1,5 @@
 -- The packet that is forwarded for a request of the realm, and the words that it draws.
-use Rattle.std.proofs.Common.{◌≡◌, ℕ, ◌+◌, ◌%◌, ◌^◌, ◌<◌, ◌≤◌, Bool, true, false, cond, List, length, [], ◌++◌, refl, ap, subst, sym, ◌∙◌, inl, inr, eqb, arith}
+use Rattle.std.proofs.Common.{◌≡◌, ℕ, ◌+◌, ◌^◌, ◌<◌, ◌≤◌, Bool, true, false, List, length, [], ◌++◌, refl, ap, inl, inr, eqb, arith}
 use Rattle.std.specs.Prelude.{◌==◌, if◌then◌else◌}
 use Rattle.std.proofs.lemmas.Bool.{cases_Bool}
 use Rattle.roam_wire.specs.Packet.{Packet, IsPacket, packet_length, packet_text}
@@ -7,8 +7,8 @@ use Rattle.roam_wire.specs.Attributes.{count_of}
 use Rattle.roam_wire.specs.declared.attribute_type.TheConstants.{MESSAGE_AUTHENTICATOR}
 use Rattle.roam_wire.specs.Reading.{packet_of}
 use Rattle.roam_wire.specs.declared.code.TheConstants.{ACCESS_REQUEST}
-use Rattle.roam_wire.proofs.PacketLemmas.{packet_of-packet_text, length-packet_text, IsPacketText-packet_text}
-use Rattle.roam_auth.specs.Authenticators.{AreSixteenOctets, zero_octets}
+use Rattle.roam_wire.proofs.PacketLemmas.{length-packet_text, IsPacketText-packet_text}
+use Rattle.roam_auth.specs.Authenticators.{AreSixteenOctets}
 use Rattle.roam_random.specs.RandomWords.{request_authenticator_at, word_octets}
 use Rattle.roam_random.proofs.OctetLemmas.{authenticator-octets}
 use Rattle.roam_fwd.specs.Forwarded.{Forwarding, access_growth, challenge_is_authenticator, forwarded, forwarded_length}
