@@ -84,7 +84,7 @@ state_of entries numbers = record {
   ticket = numbers.ticket;
   cursors = cursors_of numbers.lanes.items;
   stream_position = numbers.stream_position;
-  sessions = [];
+  sessions = numbers.sessions.sessions;
 }
 
 -- the numbers are as they were, but for which Identifiers are in use
@@ -92,6 +92,7 @@ pub record IsSameButSlots {A : Type 0} (old new : Numbers A) : Type 0 where
   pub cursors : cursors_of new.lanes.items ≡ cursors_of old.lanes.items
   pub ticket : new.ticket ≡ old.ticket
   pub stream_position : new.stream_position ≡ old.stream_position
+  pub sessions : new.sessions ≡ old.sessions
 
 -- what a realm keeps
 pub record IsSound {A : Type 0} (c : RealmConfig) (entries : List PlainEntry) (numbers : Numbers A) : Type 0 where
@@ -101,6 +102,7 @@ pub record IsSound {A : Type 0} (c : RealmConfig) (entries : List PlainEntry) (n
   pub lane_count : length numbers.lanes.items ≡ link_count c
   pub tags : tags_of numbers.lanes.items ≡ own_tags c.index (link_count c)
   pub lanes_tell : LanesTell c entries numbers.lanes.items
+  pub ledger : numbers.sessions.limit ≡ c.realm.max_sessions
 
 -- a lane has a free Identifier
 abbrev pub has_free : LaneState → Bool

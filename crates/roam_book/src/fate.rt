@@ -16,11 +16,14 @@ ghost use Rattle.roam_book.specs.Memory.{HasBuffers, IsCopied};
 
 use crate::buffers::{Buffers, copied_into};
 use crate::numbers::Numbers;
-use crate::sending::{Asked, Sent, send_new, sent_to};
+use crate::sending::{Asked, Sent, packet_back, packet_to, send_new};
 use crate::service::Service;
 use crate::settings::Settings;
 use roam_conf::Link;
-use roam_pending::{Entry, Standing, Waiting};
+use roam_back::nak_reserved;
+use roam_pending::{Done, Entry, Standing, Waiting};
+use roam_reverse::error_cause::OTHER_PROXY_PROCESSING_ERROR;
+use roam_wire::{Octets, View, is_reverse_request};
 use std::alloc::Allocator;
 
 /// What becomes of an entry that is due.
@@ -32,6 +35,8 @@ pub(crate) enum Fate<A: Allocator> {
     SentAgain(Sent<A>),
     /// Its request is forwarded to another link, where it then waits.
     Forwarded(Sent<A>, Waiting<A>),
+    /// Its request, a reverse one, is answered by a NAK, which is then held, or it goes.
+    Refused(Sent<A>, Option<Done<A>>),
 }
 
 /// The forwarded packet of a waiting request, once more.
@@ -52,7 +57,7 @@ fn packet_again<A: Allocator>(
         copy,
     } = buffers;
     let bytes = copied_into(sent, waiting.forwarded.as_slice());
-    sent_to(settings, waiting.link, bytes, copy)
+    Sent::new(packet_to(settings, waiting.link, bytes), copy)
 }
 
 /// The first target after a link that has a free Identifier.
@@ -84,6 +89,62 @@ fn later_target<A: Allocator + Copy>(
     }
 }
 
+/// The NAK of a reverse request that no access server answered (RFC 5176, section 3.5): it is sent,
+/// and held until `now + hold` where replies are held.
+fn refuse<A: Allocator>(
+    settings: &Settings<'_>,
+    now: u64,
+    entry: &Entry<A>,
+    buffers: Buffers<A>,
+) -> Fate<A>
+    requires moment { now ≤ 2 ^ 62 }
+    requires request { IsRequest settings.now (shown entry.now).request }
+    requires reverse { is_reverse (shown entry.now).request ≡ true }
+    requires buffers { HasBuffers (length entry.now.request.octets + 46) buffers }
+    ensures fate { GivesUp settings.now now (shown entry.now) result }
+    ensures copied { IsFateCopied (is_some buffers.copy) result }
+{
+    let request = View::of_packet(entry.request.octets.as_slice());
+    let secret = settings.secret_of_requester(entry.request.requester);
+    let Buffers {
+        mut sent,
+        kept,
+        copy,
+    } = buffers;
+    nak_reserved(&request, OTHER_PROXY_PROCESSING_ERROR, secret, &mut sent);
+    let held = if settings.hold() > 0 {
+        Some(Done {
+            reply: copied_into(kept, sent.as_slice()),
+            deadline: now + u64::from(settings.hold()),
+        })
+    } else {
+        None
+    };
+    let out = packet_back(settings, entry.request.key, Octets::from_vec(sent));
+    Fate::Refused(Sent::new(out, copy), held)
+}
+
+/// A request that no target answers: a reverse request is answered by a NAK, any other just goes.
+fn give_up<A: Allocator>(
+    settings: &Settings<'_>,
+    now: u64,
+    entry: &Entry<A>,
+    buffers: Buffers<A>,
+) -> Fate<A>
+    requires moment { now ≤ 2 ^ 62 }
+    requires request { IsRequest settings.now (shown entry.now).request }
+    requires buffers { HasBuffers (length entry.now.request.octets + 46) buffers }
+    ensures fate { GivesUp settings.now now (shown entry.now) result }
+    ensures copied { IsFateCopied (is_some buffers.copy) result }
+{
+    let request = View::of_packet(entry.request.octets.as_slice());
+    if is_reverse_request(request.code()) {
+        refuse(settings, now, entry, buffers)
+    } else {
+        Fate::Gone
+    }
+}
+
 /// Gives back the Identifier of an entry that isn't sent to its link again, and forwards its
 /// request to the next target, where there is one.
 fn fail_over<A: Allocator + Copy>(
@@ -111,7 +172,7 @@ fn fail_over<A: Allocator + Copy>(
 {
     numbers.give_back(settings, link, id);
     let Some(target) = later_target(settings, numbers, link) else {
-        return Fate::Gone;
+        return give_up(settings, now, entry, buffers);
     };
     let asked = Asked {
         key: entry.request.key,

@@ -1,6 +1,6 @@
-//! The numbers that a realm hands out.
+//! What a realm keeps besides its entries: the numbers that it hands out, and the ledger of sessions.
 
-ghost use Rattle.std.specs.Prelude.{◌≡◌, ◌<◌, ◌+◌, ◌*◌, ◌%◌, List, [], true, Some, None, length, replicate, drop, slice_set, IfSome, IfNone, IfOk, is_some};
+ghost use Rattle.std.specs.Prelude.{◌≡◌, ◌<◌, ◌+◌, ◌*◌, ◌%◌, List, [], ◌∷◌, true, Some, None, length, replicate, drop, slice_set, IfSome, IfNone, IfOk, is_some};
 ghost use Rattle.std.specs.List.{find};
 ghost use Rattle.roam_ids.specs.LaneState.{ticket_at};
 ghost use Rattle.roam_pending.specs.PlainEntry.{PlainEntry, waits_at};
@@ -14,10 +14,12 @@ use crate::settings::Settings;
 use crate::start::Start;
 use roam_conf::Link;
 use roam_ids::Lane;
+use roam_reverse::Sessions;
 use roam_wire::NoMemory;
 use std::alloc::Allocator;
 
-/// The numbers that a realm hands out: Identifiers toward its links, tickets, and random words.
+/// What a realm keeps besides its entries: the numbers that it hands out (Identifiers toward its
+/// links, tickets, and random words), and the ledger of the sessions that are open.
 #[derive(Drop)]
 pub struct Numbers<A: Allocator> {
     /// Whence the memory of entries and packets comes.
@@ -28,6 +30,8 @@ pub struct Numbers<A: Allocator> {
     pub(crate) ticket: u64,
     /// The place of the next random word in the realm's stream.
     pub(crate) stream_position: u128,
+    /// The sessions that are open.
+    pub(crate) sessions: Sessions<A>,
 }
 
 /// The tag of a lane: its realm's index, and the place of its link.
@@ -77,6 +81,8 @@ impl<A: Allocator + Copy> Numbers<A> {
             ≡ own_tags settings.now.index (link_count settings.now)) }
         ensures ticket { IfOk result (λ n. n.ticket ≡ start.ticket) }
         ensures place { IfOk result (λ n. n.stream_position ≡ start.place) }
+        ensures sessions { IfOk result (λ n. n.sessions.sessions ≡ []) }
+        ensures ledger { IfOk result (λ n. n.sessions.limit ≡ settings.now.realm.max_sessions) }
     {
         let lanes = new_lanes(alloc, settings)?;
         Ok(Numbers {
@@ -84,6 +90,7 @@ impl<A: Allocator + Copy> Numbers<A> {
             lanes,
             ticket: start.ticket,
             stream_position: start.place,
+            sessions: Sessions::new(alloc, settings.max_sessions()),
         })
     }
 
@@ -132,6 +139,26 @@ impl<A: Allocator + Copy> Numbers<A> {
         None
     }
 
+    /// A link, where it has a free Identifier, or is `freed`.
+    pub(crate) fn if_open(
+        &self,
+        settings: &Settings<'_>,
+        link: Link,
+        freed: Option<Link>,
+    ) -> Option<Link>
+        requires link { IsLink settings.now link }
+        requires count { length self.now.lanes.items ≡ link_count settings.now }
+        ensures open { result ≡ find (is_open settings.now self.now.lanes.items freed)
+            (link ∷ []) }
+        ensures link { IfSome result (λ l. IsLink settings.now l) }
+    {
+        if is_freed(freed, link) || self.has_free(settings, link) {
+            Some(link)
+        } else {
+            None
+        }
+    }
+
     /// Takes the next free Identifier toward a link for a ticket, whose request then waits for its
     /// reply. `None` where all are in use.
     pub(crate) fn take_next(
@@ -160,6 +187,7 @@ impl<A: Allocator + Copy> Numbers<A> {
         ensures count { length self.new.lanes.items ≡ length self.old.lanes.items }
         ensures ticket { self.new.ticket ≡ self.old.ticket }
         ensures stream_position { self.new.stream_position ≡ self.old.stream_position }
+        ensures sessions { self.new.sessions ≡ self.old.sessions }
     {
         let lane = &mut self.lanes[settings.place_of(link)];
         let slot = lane.take()?;
@@ -183,6 +211,7 @@ impl<A: Allocator + Copy> Numbers<A> {
         ensures count { length self.new.lanes.items ≡ length self.old.lanes.items }
         ensures ticket { self.new.ticket ≡ self.old.ticket }
         ensures stream_position { self.new.stream_position ≡ self.old.stream_position }
+        ensures sessions { self.new.sessions ≡ self.old.sessions }
     {
         let lane = &mut self.lanes[settings.place_of(link)];
         if let Some((slot, _)) = lane.claim(id) {

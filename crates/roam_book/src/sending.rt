@@ -74,28 +74,25 @@ pub(crate) fn packet_back<A: Allocator>(
     }
 }
 
-/// A packet of the realm toward a link, and its copy where there is a buffer for one.
-pub(crate) fn sent_to<A: Allocator>(
-    settings: &Settings<'_>,
-    link: Link,
-    bytes: Octets<A>,
-    copy: Option<Vec<u8, A>>,
-) -> Sent<A>
-    requires link { IsLink settings.now link }
-    requires copy { IfSome copy (λ v. HasRoom (length bytes) v) }
-    ensures out { shown_out result.out ≡ packet_to settings.now link bytes }
-    ensures copied { IsCopied (is_some copy) result }
-{
-    let copy = match copy {
-        None => None,
-        Some(buffer) => {
-            let equal = copied_into(buffer, bytes.as_slice());
-            Some(packet_to(settings, link, equal))
-        }
-    };
-    Sent {
-        out: packet_to(settings, link, bytes),
-        copy,
+impl<A: Allocator> Sent<A> {
+    /// A packet, and its copy where there is a buffer for one.
+    pub(crate) fn new(out: Out<A>, copy: Option<Vec<u8, A>>) -> Sent<A>
+        requires copy { IfSome copy (λ v. HasRoom (length out.bytes) v) }
+        ensures out { result.out ≡ out }
+        ensures copied { IsCopied (is_some copy) result }
+    {
+        let copy = match copy {
+            None => None,
+            Some(buffer) => {
+                Some(Out {
+                    realm: out.realm,
+                    from: out.from,
+                    to: out.to,
+                    bytes: copied_into(buffer, out.bytes.as_slice()),
+                })
+            }
+        };
+        Sent { out, copy }
     }
 }
 
@@ -213,6 +210,7 @@ pub(crate) fn send_new<A: Allocator + Copy>(
     ensures ticket { numbers.new.ticket ≡ numbers.old.ticket }
     ensures stream_position { numbers.new.stream_position
         ≡ position_after (shown_request asked.entry) numbers.old.stream_position }
+    ensures sessions { numbers.new.sessions ≡ numbers.old.sessions }
 {
     let Some(id) = numbers.take_next(settings, link, ticket) else {
         unreachable!();
@@ -233,8 +231,6 @@ pub(crate) fn send_new<A: Allocator + Copy>(
         sends_left: settings.tries().saturating_sub(1),
         deadline: now + u64::from(settings.wait()),
     };
-    (
-        sent_to(settings, link, Octets::from_vec(sent), copy),
-        waiting,
-    )
+    let out = packet_to(settings, link, Octets::from_vec(sent));
+    (Sent::new(out, copy), waiting)
 }
