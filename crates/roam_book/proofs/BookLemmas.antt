@@ -130,8 +130,9 @@ pub new-book : {A : Type 0} (config : Config) (realm : ℕ) (held : Held) (n : N
     → held.entries ≡ [] → c ≡ realm_config (shown config) realm → n.ticket ≡ start.ticket
     → start.ticket ≤ 2 ^ 63 → n.stream_position ≡ start.place → start.place < 2 ^ 68
     → length n.lanes.items ≡ link_count c → LanesTell c [] n.lanes.items
-    → tags_of n.lanes.items ≡ own_tags c.index (link_count c) → IsBook config realm held n
-new-book config realm held n c start configured own none is ticket most place below count free tags =
+    → tags_of n.lanes.items ≡ own_tags c.index (link_count c)
+    → n.sessions.limit ≡ c.realm.max_sessions → IsBook config realm held n
+new-book config realm held n c start configured own none is ticket most place below count free tags ledger =
     record {
       configured = configured;
       own_entries = own;
@@ -142,6 +143,7 @@ new-book config realm held n c start configured own none is ticket most place be
         lane_count = count;
         tags = tags;
         lanes_tell = free;
+        ledger = ledger;
       }));
       list = rw none (record { in_order = tt; distinct_keys = tt });
     }

@@ -1,6 +1,6 @@
 -- An event of a configuration is a job that its realm takes.
 use Rattle.std.proofs.Common.{◌≡◌, ◌⊎◌, ℕ, ◌+◌, ◌<◌, ◌≤◌, Bool, true, false, cond, List, [], ◌∷◌, length, drop, Option, Some, None, IsSome, inl, inr, refl, sym, ap, subst, ◌∙◌, arith}
-use Rattle.std.specs.Prelude.{◌==◌, if◌then◌else◌, nat_le, nat_lt, option_map, Result, Ok, Err}
+use Rattle.std.specs.Prelude.{◌==◌, IfSome, if◌then◌else◌, nat_le, nat_lt, option_map, Result, Ok, Err}
 use Rattle.std.specs.List.{position_from}
 use Rattle.std.specs.Option.{option_map_or}
 use Rattle.std.proofs.lemmas.Bool.{cases_Bool}
@@ -26,6 +26,7 @@ use Rattle.roam_route.specs.Events.{arrival_of, IsEvent}
 use Rattle.roam_route.specs.declared.job.Side.{Side}
 use Rattle.roam_route.specs.declared.job.Side.TheVariants as side
 use Rattle.roam_route.proofs.EventLemmas.{served_elsewhere}
+use Rattle.roam_reverse.specs.Target as reverse
 use Rattle.roam_book.specs.RealmConfig.{RealmConfig, realm_config}
 use Rattle.roam_book.specs.BookView.{AreOctets, EventIsTaken, IsTakenFrom}
 
@@ -83,6 +84,17 @@ peer_within : (peers : List PeerView) (ip : List ℕ) (i : ℕ) → peer_with_ip
     → i < length peers
 unfolding peer_with_ip
 peer_within peers ip i h = let within = position_within _ 0 peers i h in omega arith
+
+first_within : {X : Type 0} (test : X → Bool) (xs : List X) (o : Option ℕ)
+    → position_from test 0 xs ≡ o → IfSome o (λ place. place < length xs)
+first_within test xs None h = tt
+first_within test xs (Some place) h = let within = position_within test 0 xs place h in omega arith
+
+-- the peer that a reverse request is for is a configured one
+pub target-within : (peers : List PeerView) (attributes : List Attribute)
+    → IfSome (reverse.target peers attributes) (λ peer. peer < length peers)
+unfolding reverse.target
+target-within peers attributes = first_within _ peers _ refl
 
 peer_found : (o : Option ℕ) (i : ℕ) → option_map (λ n. side.Peer n) o ≡ Some (side.Peer i)
     → o ≡ Some i

@@ -1,5 +1,5 @@
 -- What becomes of a due entry: words of private functions alone.
-use Rattle.std.specs.Prelude.{◌≡◌, ℕ, ◌+◌, Bool, List, [], ◌∷◌, Option, Some, None}
+use Rattle.std.specs.Prelude.{◌≡◌, ℕ, ◌+◌, Bool, List, [], ◌∷◌, Option, Some, None, nat_lt, if◌then◌else◌}
 use Rattle.roam_pending.specs.declared.entry.Standing.TheVariants as standing
 use Rattle.roam_pending.specs.declared.entry.Done.{Done}
 use Rattle.roam_pending.specs.PlainEntry.{PlainEntry, done}
@@ -44,6 +44,20 @@ fate_entries c now e es (fate.Forwarded sent w) = put
     (with_standing (shown_standing (standing.Waiting w)) e) es
 fate_entries c now e es (fate.Refused sent d) = once_held e es d
 
+-- a reply that is held from now on, where replies are held
+abbrev pub held_for : {A : Type 0} → RealmConfig → ℕ → List ℕ → Option (Done A)
+held_for c now reply =
+    if nat_lt 0 c.realm.hold
+    then Some (record { reply = reply; deadline = now + c.realm.hold })
+    else None
+
+-- an entry waits no more
+abbrev pub Ends : {A : Type 0} → Fate A → Type 0
+Ends fate.Gone = Unit {0}
+Ends (fate.SentAgain sent) = ⊥
+Ends (fate.Forwarded sent w) = ⊥
+Ends (fate.Refused sent d) = Unit {0}
+
 -- what becomes of an entry that no target answers, in a state without it: what is sent, and the entries
 -- that follow
 pub record GivesUp {A : Type 0} (c : RealmConfig) (now : ℕ) (e : PlainEntry) (f : Fate A) : Type 0 where
@@ -51,6 +65,7 @@ pub record GivesUp {A : Type 0} (c : RealmConfig) (now : ℕ) (e : PlainEntry) (
   pub state :
       (s : RealmState) (es : List PlainEntry) → s.entries ≡ without e.ticket es
       → with_entries s (fate_entries c now e es f) ≡ (given_up c now s e).state
+  pub ends : Ends f
 
 -- an entry of the realm
 pub record IsHeld {A : Type 0} (c : RealmConfig) (es : List PlainEntry) (e : PlainEntry)

@@ -1,5 +1,5 @@
 -- What comes of a reply for the entry that it is for: words of private functions alone (ours).
-use Rattle.std.specs.Prelude.{ℕ, ◌+◌, List, [], ◌∷◌, Option, Some, None}
+use Rattle.std.specs.Prelude.{◌≡◌, ℕ, ◌+◌, List, [], ◌∷◌, Option, Some, None}
 use Rattle.roam_pending.specs.declared.key.Key.{Key}
 use Rattle.roam_pending.specs.declared.entry.Done.{Done}
 use Rattle.roam_pending.specs.PlainEntry.{PlainEntry, done}
@@ -7,7 +7,7 @@ use Rattle.roam_pending.specs.EntryList.{put}
 use Rattle.roam_pending.specs.Realms.{with_standing}
 use Rattle.roam_book.specs.RealmConfig.{RealmConfig}
 use Rattle.roam_book.specs.RealmState.{RealmState}
-use Rattle.roam_book.specs.Turn.{Turn, Answers, sends}
+use Rattle.roam_book.specs.Turn.{Turn, Answers, packets_of, sends}
 use Rattle.roam_book.specs.OnReply.{counted}
 use Rattle.roam_book.specs.OnRequest.{packet_back}
 use Rattle.roam_book.specs.declared.verdict.Verdict.{Verdict}
@@ -21,11 +21,16 @@ once_done c s e (Some d) peer = record s {
   sessions = counted c e.request peer s.sessions;
 }
 
--- a verdict on an entry's reply is what this turn does, whatever else the realm holds
+-- a verdict on an entry's reply does this turn; where nothing is sent the entry isn't done
+pub record Judges {A : Type 0} (c : RealmConfig) (v : Verdict A) (e : PlainEntry) (s : RealmState)
+    (turn : Turn) : Type 0 where
+  pub answers : Answers v.answer s (once_done c s e v.done v.counted) turn
+  pub silent : packets_of turn ≡ [] → v.done ≡ None
+
+-- it does this turn whatever else the realm holds
 abbrev pub IsVerdict :
     {A : Type 0} → RealmConfig → Verdict A → PlainEntry → (RealmState → Turn) → Type 0
-IsVerdict c v e turn =
-    (s : RealmState) → Answers v.answer s (once_done c s e v.done v.counted) (turn s)
+IsVerdict c v e turn = (s : RealmState) → Judges c v e s (turn s)
 
 -- these octets are returned to the sender of the request, and held until `now + hold`; a peer's
 -- sessions are counted, if they are

@@ -1,5 +1,5 @@
 -- What a reply is to do, once it is decided: words of private functions alone.
-use Rattle.std.specs.Prelude.{◌≡◌, true, List, Option, Some, None, IsSomeAnd}
+use Rattle.std.specs.Prelude.{◌≡◌, true, List, [], Option, Some, None, IsSomeAnd}
 use Rattle.roam_pending.specs.PlainEntry.{PlainEntry, done, waits_at}
 use Rattle.roam_pending.specs.EntryList.{find_ticket, put}
 use Rattle.roam_pending.specs.Realms.{with_standing}
@@ -7,7 +7,7 @@ use Rattle.roam_reverse.specs.Sessions.{LedgerChange, Session, changed}
 use Rattle.roam_reverse.specs.Shown.{HasRoomFor, Ledger}
 use Rattle.roam_book.specs.RealmConfig.{RealmConfig, IsLink}
 use Rattle.roam_book.specs.RealmState.{RealmState}
-use Rattle.roam_book.specs.Turn.{Turn, Answers}
+use Rattle.roam_book.specs.Turn.{Turn, Answers, packets_of}
 use Rattle.roam_book.specs.OnReply.{counted}
 use Rattle.roam_book.specs.declared.replies.Settled.{Settled}
 use Rattle.roam_book.specs.declared.replies.ReplyPlan.{ReplyPlan}
@@ -38,8 +38,9 @@ IsPrepared ledger None sessions = sessions ≡ ledger.sessions
 IsPrepared ledger (Some change) sessions =
     HasRoomFor change ledger × (sessions ≡ changed ledger.limit change ledger.sessions)
 
--- to answer so, and to settle that entry, is to do this turn
+-- to answer so, and to settle that entry, is to do this turn; where nothing is sent no entry is settled
 pub record IsReplyPlan {A : Type 0} (c : RealmConfig) (s : RealmState) (p : ReplyPlan A)
     (turn : Turn) : Type 0 where
   pub settles : CanSettle c s.entries p.settled
   pub answers : Answers p.answer s (once_settled c s p.settled) turn
+  pub silent : packets_of turn ≡ [] → p.settled ≡ None

@@ -8,10 +8,10 @@ ghost use Rattle.roam_pending.specs.Shown.{shown};
 ghost use Rattle.roam_route.specs.Shown.{shown_out};
 ghost use Rattle.roam_book.specs.RealmConfig.{IsLink, link_count, later_targets};
 ghost use Rattle.roam_book.specs.RealmState.{first_target};
-ghost use Rattle.roam_book.specs.OnRequest.{packet_to};
+ghost use Rattle.roam_book.specs.OnRequest.{is_reverse, packet_to};
 ghost use Rattle.roam_book.specs.OnTick.{due_standing, fail_over, without_entry};
-ghost use Rattle.roam_book.specs.Sound.{IsEntry, state_of, cursors_of, lane_of, has_free, is_open};
-ghost use Rattle.roam_book.specs.Fates.{IsHeld, IsFate, IsFateCopied};
+ghost use Rattle.roam_book.specs.Sound.{IsEntry, IsRequest, state_of, cursors_of, lane_of, has_free, is_open};
+ghost use Rattle.roam_book.specs.Fates.{GivesUp, held_for, IsHeld, IsFate, IsFateCopied};
 ghost use Rattle.roam_book.specs.Memory.{HasBuffers, IsCopied};
 
 use crate::buffers::{Buffers, copied_into};
@@ -19,11 +19,12 @@ use crate::numbers::Numbers;
 use crate::sending::{Asked, Sent, packet_back, packet_to, send_new};
 use crate::service::Service;
 use crate::settings::Settings;
-use roam_conf::Link;
 use roam_back::nak_reserved;
+use roam_conf::Link;
 use roam_pending::{Done, Entry, Standing, Waiting};
 use roam_reverse::error_cause::OTHER_PROXY_PROCESSING_ERROR;
-use roam_wire::{Octets, View, is_reverse_request};
+use roam_route::is_reverse_request;
+use roam_wire::{Octets, View};
 use std::alloc::Allocator;
 
 /// What becomes of an entry that is due.
@@ -89,6 +90,20 @@ fn later_target<A: Allocator + Copy>(
     }
 }
 
+/// How a reply is held from a moment on: until `now + hold`, where replies are held.
+fn held_for<A: Allocator>(settings: &Settings<'_>, now: u64, reply: Octets<A>) -> Option<Done<A>>
+    requires { now ≤ 2 ^ 62 }
+    ensures { result ≡ held_for settings.now now reply }
+{
+    if settings.hold() == 0 {
+        return None;
+    }
+    Some(Done {
+        reply,
+        deadline: now + u64::from(settings.hold()),
+    })
+}
+
 /// The NAK of a reverse request that no access server answered (RFC 5176, section 3.5): it is sent,
 /// and held until `now + hold` where replies are held.
 fn refuse<A: Allocator>(
@@ -112,14 +127,7 @@ fn refuse<A: Allocator>(
         copy,
     } = buffers;
     nak_reserved(&request, OTHER_PROXY_PROCESSING_ERROR, secret, &mut sent);
-    let held = if settings.hold() > 0 {
-        Some(Done {
-            reply: copied_into(kept, sent.as_slice()),
-            deadline: now + u64::from(settings.hold()),
-        })
-    } else {
-        None
-    };
+    let held = held_for(settings, now, copied_into(kept, sent.as_slice()));
     let out = packet_back(settings, entry.request.key, Octets::from_vec(sent));
     Fate::Refused(Sent::new(out, copy), held)
 }

@@ -5,6 +5,9 @@ ghost use Rattle.std.specs.List.{find};
 ghost use Rattle.roam_ids.specs.LaneState.{ticket_at};
 ghost use Rattle.roam_pending.specs.PlainEntry.{PlainEntry, waits_at};
 ghost use Rattle.roam_pending.specs.EntryList.{IsEntryList, find_ticket, put, without};
+ghost use Rattle.roam_reverse.specs.Sessions.{Session, applied};
+ghost use Rattle.roam_reverse.specs.Shown.{HasRoomFor};
+ghost use Rattle.roam_book.specs.ReplyPlans.{IsPrepared};
 ghost use Rattle.roam_book.specs.RealmConfig.{IsLink, link_place, link_count, server_links};
 ghost use Rattle.roam_book.specs.RealmState.{next_toward};
 ghost use Rattle.roam_book.specs.Sound.{LanesTell, lane_of, cursors_of, has_free, is_freed, is_open, own_tags, tags_of, WaitsJustAt};
@@ -14,8 +17,8 @@ use crate::settings::Settings;
 use crate::start::Start;
 use roam_conf::Link;
 use roam_ids::Lane;
-use roam_reverse::Sessions;
-use roam_wire::NoMemory;
+use roam_reverse::{Prepared, Sessions};
+use roam_wire::{NoMemory, View};
 use std::alloc::Allocator;
 
 /// What a realm keeps besides its entries: the numbers that it hands out (Identifiers toward its
@@ -216,6 +219,40 @@ impl<A: Allocator + Copy> Numbers<A> {
         let lane = &mut self.lanes[settings.place_of(link)];
         if let Some((slot, _)) = lane.claim(id) {
             lane.free(slot);
+        }
+    }
+
+    /// Makes all growth of the ledger that an Accounting-Request of a peer wants, and changes no
+    /// session.
+    pub(crate) fn prepare_ledger(
+        &mut self,
+        peer: u16,
+        request: &View<'_>,
+    ) -> Result<Prepared<A>, NoMemory>
+        ensures change { IfOk result (λ change. IsPrepared self.new.sessions (Some change)
+            (applied self.old.sessions.limit peer request.now.attributes
+            self.old.sessions.sessions)) }
+        ensures sessions { self.new.sessions.sessions ≡ self.old.sessions.sessions }
+        ensures limit { self.new.sessions.limit ≡ self.old.sessions.limit }
+        ensures lanes { self.new.lanes.items ≡ self.old.lanes.items }
+        ensures ticket { self.new.ticket ≡ self.old.ticket }
+        ensures stream_position { self.new.stream_position ≡ self.old.stream_position }
+    {
+        self.sessions.prepare(peer, request)
+    }
+
+    /// Makes a change of the ledger that was prepared, if one was. Takes no memory.
+    pub(crate) fn change_ledger(&mut self, change: Option<Prepared<A>>)
+        requires { IfSome change (λ made. HasRoomFor made self.old.sessions) }
+        ensures sessions { (sessions : List Session) → IsPrepared self.old.sessions change sessions
+            → self.new.sessions.sessions ≡ sessions }
+        ensures limit { self.new.sessions.limit ≡ self.old.sessions.limit }
+        ensures lanes { self.new.lanes.items ≡ self.old.lanes.items }
+        ensures ticket { self.new.ticket ≡ self.old.ticket }
+        ensures stream_position { self.new.stream_position ≡ self.old.stream_position }
+    {
+        if let Some(change) = change {
+            self.sessions.apply_prepared(change);
         }
     }
 }

@@ -88,13 +88,7 @@ impl<A: Allocator + Copy, E: Entries<A>> Realm<'_, '_, '_, '_, A, E> {
             answer,
             done,
             counted,
-        } = to_standing(
-            self.numbers.alloc,
-            self.settings,
-            now,
-            entry,
-            reply,
-        )?;
+        } = to_standing(self.numbers.alloc, self.settings, now, entry, reply)?;
         let settled = match done {
             None => None,
             Some(done) => {
@@ -151,7 +145,7 @@ impl<A: Allocator + Copy, E: Entries<A>> Realm<'_, '_, '_, '_, A, E> {
             return Ok(None);
         };
         let request = View::of_packet(entry.request.octets.as_slice());
-        let change = self.numbers.sessions.prepare(peer, &request)?;
+        let change = self.numbers.prepare_ledger(peer, &request)?;
         Ok(Some(change))
     }
 
@@ -178,9 +172,7 @@ impl<A: Allocator + Copy, E: Entries<A>> Realm<'_, '_, '_, '_, A, E> {
         );
         self.numbers
             .give_back(self.settings, settled.link, settled.id);
-        if let Some(change) = change {
-            self.numbers.sessions.apply_prepared(change);
-        }
+        self.numbers.change_ledger(change);
     }
 
     /// A reply that came from a link: it is returned, and held until `now + hold`, where the

@@ -26,7 +26,8 @@ use crate::way::Way;
 use roam_back::nak;
 use roam_conf::Link;
 use roam_pending::{Entries, Entry, Standing};
-use roam_wire::{NoMemory, Octets, Refusal, View, is_reverse_request};
+use roam_route::is_reverse_request;
+use roam_wire::{NoMemory, Octets, Refusal, View};
 use std::alloc::Allocator;
 
 /// The latest moment, in milliseconds: an event of a later one is refused.

@@ -63,9 +63,7 @@ impl<A: Allocator + Copy, E: Entries<A>> Realm<'_, '_, '_, '_, A, E> {
         let realm = self.settings.index();
         let alloc = self.numbers.alloc;
         match fate {
-            Fate::Gone => {
-                let _gone = self.entries.remove(realm, ticket);
-            }
+            Fate::Gone => self.hold(ticket, None),
             Fate::SentAgain(sent) => {
                 outs.push(sent);
                 let deadline = now + u64::from(self.settings.wait());

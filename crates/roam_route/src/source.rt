@@ -49,7 +49,7 @@ pub(crate) fn secret_of_peer(config: &Config, peer: u16) -> &[u8]
 }
 
 /// Whether a code is a Disconnect- or CoA-Request (RFC 5176, section 2.3).
-fn is_reverse_request(code: u8) -> bool
+pub fn is_reverse_request(code: u8) -> bool
     ensures { result ≡ is_reverse_request code }
 {
     code == DISCONNECT_REQUEST || code == COA_REQUEST

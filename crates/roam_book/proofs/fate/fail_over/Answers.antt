@@ -20,11 +20,12 @@ returns-in_default-clause-fate g c =
         count = c.give_back.ensures.count;
         ticket = c.give_back.ensures.ticket;
         stream_position = c.give_back.ensures.stream_position;
+        sessions = c.give_back.ensures.sessions;
         tags = c.give_back.ensures.tags;
       };
     } in
     gone-freed c.args.settings.now c.args.now es e c.args.numbers.now c.give_back.new.self
-    c.args.link held freed c.in_default.ensures.first
+    c.args.link c.give_up.result held freed c.in_default.ensures.first c.give_up.ensures.fate
 
 -- the request goes to the target that was found
 pub returns-clause-fate : goal.returns-clause-fate
@@ -40,6 +41,7 @@ returns-clause-fate g c =
         count = c.give_back.ensures.count;
         ticket = c.give_back.ensures.ticket;
         stream_position = c.give_back.ensures.stream_position;
+        sessions = c.give_back.ensures.sessions;
         tags = c.give_back.ensures.tags;
       };
     } in
@@ -62,6 +64,7 @@ returns-clause-fate g c =
       count = one.count;
       ticket = one.ticket;
       stream_position = one.stream_position;
+      sessions = one.sessions;
       tags = one.tags;
     } in
     let of_entry = subst (λ (q : PlainRequest). IsSent c.args.settings.now c.args.now others q
