@@ -7,7 +7,7 @@ use Rattle.std.proofs.lemmas.Bool.{cases_Bool}
 use Rattle.std.proofs.lemmas.Bool.Decides.{nat_tests}
 use Rattle.roam_wire.specs.Packet.{AreOctets, Attribute, Packet, IsPacket, packet_length, packet_text}
 use Rattle.roam_wire.specs.Reading.{HasLength, IsPacketText, attributes_of, front_of, has_length, packet_of, reading}
-use Rattle.roam_wire.specs.declared.code.TheConstants.{ACCESS_REQUEST, ACCOUNTING_REQUEST}
+use Rattle.roam_wire.specs.declared.code.TheConstants.{ACCESS_REQUEST}
 use Rattle.roam_wire.specs.declared.refusal.Refusal.{Refusal}
 use Rattle.roam_wire.specs.declared.refusal.Refusal.TheVariants as refusal
 use Rattle.roam_wire.proofs.PacketLemmas.{IsPacketText-front, IsPacketText-packet_text, ReadsAs-packet_text, ReadsAs-follows, length-packet_text, packet_of-packet_text}

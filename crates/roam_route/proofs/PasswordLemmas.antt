@@ -1,9 +1,9 @@
 -- The passwords of an Access-Request that isn't rejected have whole blocks.
-use Rattle.std.proofs.Common.{◌≡◌, ℕ, ◌+◌, Bool, true, false, List, [], ◌∷◌, length, Option, Some, None, inl, inr, refl, sym, ap, ◌∙◌, arith}
-use Rattle.std.specs.Prelude.{nat_lt, not, if◌then◌else◌, ◌||◌, ◌&&◌, is_some}
+use Rattle.std.proofs.Common.{◌≡◌, ℕ, ◌+◌, Bool, true, false, List, [], ◌∷◌, Some, inl, inr, refl, sym, ap, ◌∙◌, arith}
+use Rattle.std.specs.Prelude.{nat_lt, not, if◌then◌else◌, ◌||◌, is_some}
 use Rattle.std.specs.List.{AllByRecursion}
 use Rattle.std.specs.Option.{option_map_or}
-use Rattle.std.proofs.lemmas.Bool.{cases_Bool, eqb-true}
+use Rattle.std.proofs.lemmas.Bool.{cases_Bool}
 use Rattle.std.proofs.lemmas.Bool.Decides.{nat_tests}
 use Rattle.std.proofs.lemmas.List.Sums.{sum_by-cons}
 use Rattle.roam_wire.specs.Packet.{Attribute, Packet}
@@ -84,7 +84,8 @@ one_blocks (a ∷ all) few fits =
           let right : not (password_fits a.value) ≡ false = rw (first_yes a all found) at fits in
           let count = counted_yes a all found in
           let none : count_of USER_PASSWORD all ≡ 0 = grind (arith, nat_tests, few, count) in
-          let blocks : HasPasswordBlocks a = record { whole_blocks = λ kind. fitting a.value (is_fitting a.value right) } in
+          let whole : HasWholeBlocks a.value = fitting a.value (is_fitting a.value right) in
+          let blocks : HasPasswordBlocks a = record { whole_blocks = λ kind. whole } in
           (blocks, none_blocks all none)
       | inr other ↦
           let count = counted_no a all other in

@@ -1,5 +1,5 @@
 -- Who sent a packet is configured, and so is the realm of its place, or the one that it names.
-use Rattle.std.proofs.Common.{◌≡◌, ◌<◌, ℕ, ◌+◌, ◌⊎◌, Bool, true, false, cond, List, [], ◌∷◌, length, Option, Some, None, inl, inr, refl, sym, ap, arith}
+use Rattle.std.proofs.Common.{◌≡◌, ◌<◌, ℕ, ◌+◌, ◌⊎◌, Bool, true, false, cond, List, [], ◌∷◌, length, Option, Some, None, inl, inr, refl, ap, arith}
 use Rattle.std.specs.Prelude.{option_map, option_and_then, slice_get}
 use Rattle.std.specs.List.{position_from}
 use Rattle.std.proofs.lemmas.Option.{option_and_then_some, slice_get_within}
@@ -14,7 +14,6 @@ use Rattle.roam_conf.proofs.OneLinkLemmas.{link_in_bound, home_in_bound}
 use Rattle.roam_route.specs.UserName.{realm_of, realm_part}
 use Rattle.roam_route.specs.Admission.{Arrival, sender}
 use Rattle.roam_route.specs.Events.{IsConfigured}
-use Rattle.roam_route.specs.declared.job.Side.{Side}
 use Rattle.roam_route.specs.declared.job.Side.TheVariants as side
 
 either_some : (b : Bool) (i x : ℕ) (rest : Option ℕ) → cond b (Some i) rest ≡ Some x
