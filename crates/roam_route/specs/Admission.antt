@@ -176,8 +176,8 @@ admission_by takes config a = read_admission takes config a (reading a.octets)
 abbrev pub admission : ConfigView → Arrival → Admission
 admission config a = admission_by is_taken config a
 
--- the codes that are served so far: accounting requests and responses. All others are refused as
--- WrongCode until they are served
+-- the codes that are served so far: all but those of reverse requests and their replies. These are
+-- refused as WrongCode until they are served
 abbrev pub is_served : Place → Side → ℕ → Bool
 is_served at s code =
-    is_taken at s code && (code == ACCOUNTING_REQUEST || code == ACCOUNTING_RESPONSE)
+    is_taken at s code && not (is_reverse_request code) && not (is_reverse_reply code)

@@ -1,5 +1,5 @@
 -- What the code's datagrams, jobs and packets are seen as.
-use Rattle.std.specs.Prelude.{◌≡◌, ◌⊎◌, Result, Ok, Err}
+use Rattle.std.specs.Prelude.{◌≡◌, ◌⊎◌, Result, Ok, Err, IsErrOf}
 use Rattle.roam_wire.specs.declared.refusal.Refusal.{Refusal}
 use Rattle.roam_wire.specs.declared.refusal.Refusal.TheVariants as refusal
 use Rattle.roam_route.specs.declared.datagram.Datagram.{Datagram}
@@ -36,3 +36,10 @@ abbrev pub WantsMemory : Admission → Type 0
 WantsMemory (refused why) = ⊥
 WantsMemory (rejected out) = Unit {0}
 WantsMemory (admitted job) = Unit {0}
+
+-- what a call answers of an arrival: this admission, and want of memory only where it wants memory.
+-- So what is refused is refused for its cause, whatever memory there is
+pub record Prepares {A : Type 0} (result : Result (Prepared A) Refusal) (admission : Admission)
+    : Type 0 where
+  pub answer : Answers result admission
+  pub memory : IsErrOf result refusal.NoMemory → WantsMemory admission

@@ -3,7 +3,7 @@
 ghost use Rattle.std.specs.Prelude.{◌≡◌, ℕ, ◌<◌, ◌≤◌, Some, length, vec_len};
 ghost use Rattle.roam_conf.specs.Shown.{shown};
 ghost use Rattle.roam_wire.specs.Codes.{is_reverse_reply, is_reverse_request};
-ghost use Rattle.roam_route.specs.Admission.{is_code_of_link, is_served, is_taken, peer_secret, sender};
+ghost use Rattle.roam_route.specs.Admission.{is_code_of_link, is_served, is_taken, peer_secret, seal_required, sender};
 ghost use Rattle.roam_route.specs.Shown.{shown_arrival};
 
 use crate::datagram::Datagram;
@@ -48,6 +48,17 @@ pub(crate) fn secret_of_peer(config: &Config, peer: u16) -> &[u8]
     config.peers[usize::from(peer)].secret.as_bytes()
 }
 
+/// Whether a sender is a peer that is required to seal its Access-Requests.
+pub(crate) fn seal_required(config: &Config, side: Side) -> bool
+    requires { (i : ℕ) → side ≡ Side.Peer i → i < vec_len config.now.peers }
+    ensures { result ≡ seal_required (shown config.now) side }
+{
+    match side {
+        Side::Peer(peer) => config.peers[usize::from(peer)].require_seal,
+        Side::Link(_) | Side::Home(_) => false,
+    }
+}
+
 /// Whether a code is a Disconnect- or CoA-Request (RFC 5176, section 2.3).
 pub fn is_reverse_request(code: u8) -> bool
     ensures { result ≡ is_reverse_request code }
@@ -86,9 +97,10 @@ fn is_taken(at: Place, side: Side, code: u8) -> bool
     }
 }
 
-/// Whether a code is taken at a place from a sender, and served so far: accounting alone is.
+/// Whether a code is taken at a place from a sender, and served so far: all but those of reverse
+/// requests and their replies.
 pub(crate) fn is_served(at: Place, side: Side, code: u8) -> bool
     ensures { result ≡ is_served at side code }
 {
-    is_taken(at, side, code) && (code == ACCOUNTING_REQUEST || code == ACCOUNTING_RESPONSE)
+    is_taken(at, side, code) && !is_reverse_request(code) && !is_reverse_reply(code)
 }
