@@ -395,6 +395,21 @@ event_packet : (config : ConfigView) (job : PlainJob) → IsEvent config job
 unfolding admission
 event_packet config job is = event_of_packet config job (reading job.octets) is
 
+-- whatever an arrival is admitted for is a configured realm
+realm_of_read : (config : ConfigView) (a : Arrival) (job : PlainJob) (read : Result Packet Refusal)
+    → read_admission config a read ≡ admitted job → job.realm < length config.realms
+unfolding Admits
+realm_of_read config a job (Err why) is = absurd (cc is)
+realm_of_read config a job (Ok p) is =
+    let all = sent_admits config a p (sender config a a.at) refl in
+    let admits : Admits config a p (admitted job) = subst (Admits config a p) is all in
+    admits.realm
+
+pub admitted_realm : (config : ConfigView) (a : Arrival) (job : PlainJob)
+    → admission config a ≡ admitted job → job.realm < length config.realms
+unfolding admission
+admitted_realm config a job is = realm_of_read config a job (reading a.octets) is
+
 pub event_realm : EventHasRealm
 event_realm config job is = (event_packet config job is).admitted.realm
 
