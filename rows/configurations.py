@@ -23,6 +23,31 @@ ip = "192.0.2.2"
 secret = "s"
 require_seal = true
 '''
+# Access servers that Disconnect and CoA reach by name alone, and by address alone.
+NAS3 = '''
+[[peer]]
+name = "nas3"
+ip = "192.0.2.3"
+secret = "0123456789abcdef0123456789abcdef0123456789abcdef0123456789abcdef"
+coa = "192.0.2.3:3799"
+nas_id = "n"
+'''
+NAS4 = '''
+[[peer]]
+name = "nas4"
+ip = "192.0.2.4"
+secret = "k4"
+coa = "192.0.2.1:3798"
+nas_ip = "192.0.2.3"
+'''
+# One that is known by name, and has no `coa`.
+NAS5 = '''
+[[peer]]
+name = "nas5"
+ip = "192.0.2.5"
+secret = "k5"
+nas_id = "nas5"
+'''
 REALM = '''
 [[realm]]
 name = "{name}"
@@ -36,14 +61,16 @@ max_sessions = {max_sessions}
 '''
 SERVER = '''
 [[realm.server]]
-auth = "{ip}:1812"
-acct = "{ip}:1813"
+auth = "{auth}"
+acct = "{acct}"
 secret = "{secret}"
 '''
 
 
-def server(ip, secret):
-    return SERVER.format(ip=ip, secret=secret)
+def server(ip, secret, auth=":1812", acct=":1813"):
+    """A home server; where they aren't said its endpoints have the usual ports."""
+    endpoints = (end if end[0] != ":" else ip + end for end in (auth, acct))
+    return SERVER.format(secret=secret, auth=next(endpoints), acct=next(endpoints))
 
 
 def servers(count):
@@ -146,4 +173,17 @@ CONFIGURATIONS = {
         realm("a", [LONG_SECRET, *servers(1)], wait=10, hold=30, tries=1, max_pending=4),
         realm("b", servers(2), wait=5, hold=20, tries=2, max_pending=3),
         realm("c", [server("198.51.100.1", "k")], wait=20, hold=10, tries=3, max_pending=2), shards=2),
+    "all": configuration(
+        realm("a", [*servers(1), LONG_SECRET], wait=10, hold=20, max_pending=5, max_sessions=2),
+        peers=(NAS1, NAS3, NAS5), seed="5a" * 32),
+    "all-and-shared": configuration(
+        realm("a", servers(2), wait=10, hold=5, max_pending=4, max_sessions=1),
+        realm("b", servers(2), wait=15, hold=0, tries=1, max_pending=4, max_sessions=0),
+        peers=(NAS2, NAS1), seed="00ff" * 16),
+    "all-in-two-shards": configuration(
+        realm("a", [*servers(1), server("198.51.100.1", "h2", ":1912", "198.51.100.9:1913")], wait=10, hold=0,
+              max_pending=5, max_sessions=3),
+        realm("b", [server("198.51.100.1", "zz")], wait=8, hold=20, tries=1, max_pending=3, max_sessions=1),
+        realm("c", [LONG_SECRET, *servers(1)], wait=12, hold=10, max_pending=5, max_sessions=2),
+        peers=(NAS5, NAS4, NAS1, NAS3), seed="9" * 64, shards=2),
 }

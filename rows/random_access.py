@@ -132,8 +132,12 @@ class AccessScript(Script):
         self.put(some, *self.proxy_states())
         if peer.get("require_seal", False) or self.chance(0.3):
             self.put(some, (SEAL, ZEROS))
+        octets = self.access_of(peer, some)
+        if self.chance(0.1):
+            some = some + [self.random.choice(((SEAL, ZEROS), (EAP_MESSAGE, b"e")))]
+            what, octets = what + ", perhaps not well sealed", text(1, 1, self.random.randbytes(16), some)
         now = 2 ** 62 + 1 if self.chance(0.1) else None
-        self.arrive("a local reject: " + what, "auth", self.port_of(peer), self.access_of(peer, some), now)
+        self.arrive("a local reject: " + what, "auth", self.port_of(peer), octets, now)
 
     def bad_access(self):
         peer = self.peer()
@@ -164,7 +168,7 @@ class AccessScript(Script):
         """Vendor-Specific of Microsoft: keys, other sub-attributes, and lists that are none."""
         subs = self.random.choices((
             (SEND_KEY, self.octets(18, 18, 34)), (RECV_KEY, self.octets(18)), (SEND_KEY, self.octets(0, 1, 2, 17)),
-            (12, self.octets(4)), (7, b""),
+            (12, self.octets(18)), (7, b""),
         ), (6, 6, 1, 1, 1), k=self.random.choice((1, 1, 2, 3)))
         listed = b"".join(bytes([k, len(v) + 2]) + v for k, v in subs)
         if self.chance(0.15):
@@ -174,8 +178,17 @@ class AccessScript(Script):
     def salted(self):
         return self.random.choice((
             (TUNNEL_PASSWORD, self.octets(19, 19, 19, 35)), self.keys(), self.keys(),
-            (TUNNEL_PASSWORD, self.octets(0, 1, 2, 3, 18, 20)), (VENDOR_SPECIFIC, OTHER_VENDOR + self.octets(20)),
+            (TUNNEL_PASSWORD, self.octets(0, 1, 2, 3, 18, 20)),
+            (VENDOR_SPECIFIC, OTHER_VENDOR + bytes([SEND_KEY, 20]) + self.octets(18)),
         ))
+
+    def reply_list(self):
+        """The list of a reply to what isn't an Access-Request: salted values stay as they are."""
+        attributes = super().reply_list()
+        if self.chance(0.12):
+            self.put(attributes, self.random.choice((
+                (TUNNEL_PASSWORD, self.octets(19)), (EAP_MESSAGE, b"e"), self.keys())))
+        return attributes
 
     def access_reply_list(self, code):
         attributes = []
@@ -239,7 +252,7 @@ class AccessScript(Script):
             request = entry.request.packet
             room = 4096 - 20 - sum(len(v) + 2 for v in request.values(PROXY_STATE))
             room -= 18 * (request.code == ACCESS_REQUEST) - self.random.choice((0, 0, 1))
-            code = ACCESS_ACCEPT if request.code == ACCESS_REQUEST else ACCOUNTING_RESPONSE
+            code = REPLIES_OF[request.code][0]
             sent, secret = broker.Packet(entry.octets), realm.secret_of(entry.link)
             octets = signed(code, sent.id, sent.authenticator, classes(room), secret)
             self.from_server("a long reply", realm.index, realm.endpoint_of(entry.link), octets)

@@ -1,5 +1,6 @@
 """The files of random scripts."""
 from random_access import AccessScript
+from random_reverse import ReverseScript
 from random_scripts import Script
 
 # For each file, which is named as its configuration: since which packets are served it is written, what makes
@@ -11,6 +12,9 @@ FILES = {
     "access": ("access", AccessScript, 3001, 200),
     "access-and-shared": ("access", AccessScript, 4001, 200),
     "access-in-two-shards": ("access", AccessScript, 5001, 200),
+    "all": ("all", ReverseScript, 6001, 200),
+    "all-and-shared": ("all", ReverseScript, 7001, 200),
+    "all-in-two-shards": ("all", ReverseScript, 8001, 200),
 }
 
 
