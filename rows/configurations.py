@@ -127,6 +127,15 @@ CONFIGURATIONS = {
     "seal-required": configuration(realm("a.example", servers(1)), peers=(NAS1 + "require_seal = true\n",)),
     "no-session": one(max_sessions=0),
     "one-session": one(max_sessions=1),
+    "access-servers": configuration(realm("a.example", servers(1)), peers=(NAS1, NAS3, NAS4, NAS5)),
+    "access-servers-of-two-sessions": configuration(
+        realm("a.example", servers(1), max_sessions=2), peers=(NAS1, NAS3)),
+    "access-servers-of-many-places": configuration(
+        realm("a.example", servers(1), max_pending=4096), peers=(NAS1, NAS3)),
+    "home-servers": configuration(
+        realm("a.example", [*servers(1), server("198.51.100.1", "h2", ":1912", "198.51.100.9:1913"),
+                            server("198.51.100.9", "h3")]),
+        realm("b.example", [server("198.51.100.1", "zz")])),
     "no-hold": one(hold=0),
     "short-hold": one(2, hold=1000),
     "four-tries": one(tries=4, wait=10),

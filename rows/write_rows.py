@@ -13,7 +13,7 @@ from configurations import CONFIGURATIONS
 from random_files import FILES, file_text
 from row import Differs, Row, check, parts_of
 from served import DATA, FILE, STAGES, are_served, given, served
-import arrivals, held_replies, identifiers, realms, replies, requests, servers
+import access, arrivals, held_replies, identifiers, realms, replies, requests, reverse, servers
 
 
 def rows():
