@@ -1,7 +1,7 @@
 #!/usr/bin/env python3
 """Writes the rows into crates/roam_rows/data, which plays them.
 
-write_rows.py               writes the configurations, the rows that are said by hand here, and the random scripts
+write_rows.py               writes the configurations, the rows said by hand here, the random scripts and vectors.txt
 write_rows.py --check       changes nothing; fails where a file isn't what would be written
 write_rows.py --serve STAGE from now on rows of that stage too: accounting, access, or all (with Disconnect and CoA)
 
@@ -12,7 +12,8 @@ import sys
 from configurations import CONFIGURATIONS
 from random_files import FILES, file_text
 from row import Differs, Row, check, parts_of
-from served import DATA, FILE, STAGES, are_served, given, served
+from served import DATA, FILE, ROWS, STAGES, are_served, given, served
+from vectors import text as vectors
 import access, arrivals, held_replies, identifiers, realms, replies, requests, reverse, servers
 
 
@@ -30,7 +31,7 @@ def written(now):
     there = [path.read_text() for path in DATA.glob("r*/*") if path not in files]
     named = {name for text in [*files.values(), *there] for name, _ in parts_of(text)}
     files |= {DATA / "configurations" / f"{name}.conf": CONFIGURATIONS[name] for name in sorted(named)}
-    return files
+    return files | {ROWS / "vectors.txt": vectors()}
 
 
 def is_said_elsewhere(path, text):
