@@ -8,7 +8,7 @@ use Rattle.std.proofs.lemmas.Bool.Decides.{nat_tests}
 use Rattle.std.proofs.lemmas.List.{append-nil, length-set, get_or-set_same, get_or-set_other, get_or_past}
 use Rattle.roam_wire.specs.declared.refusal.Refusal.TheVariants as refusal
 use Rattle.roam_conf.specs.Config.{ConfigView, RealmView}
-use Rattle.roam_route.specs.Admission.{PlainOut, Admission, refused, rejected, admitted, admission_by, is_served}
+use Rattle.roam_route.specs.Admission.{PlainOut, Admission, refused, rejected, admitted, admission}
 use Rattle.roam_book.specs.RealmConfig.{RealmConfig, realm_config, no_realm}
 use Rattle.roam_book.specs.RealmState.{RealmState}
 use Rattle.roam_book.specs.Turn.{Turn, refuses, sends, packets_of, state_after, in_time}
@@ -131,7 +131,7 @@ tick_turn config states realm now shard false late some within in_range is_late 
 -- one event, for one realm
 pub event_turn : (config : ConfigView) (states : List RealmState) (realm : ℕ) (e : PlainEvent) → 1 ≤ config.shards → realm < length states → IsOwnTurn config states realm (given_to_realm config realm e) (answer_to config states e)
 event_turn config states realm (arrives now a) some within =
-    arrival_turn config states realm now (admission_by is_served config a) within (rejects_for_none is_served config a)
+    arrival_turn config states realm now (admission config a) within (rejects_for_none config a)
 event_turn config states realm (ticks now shard) some within =
     tick_turn config states realm now shard (nat_lt shard config.shards) (nat_lt (2 ^ 62) now) some within refl refl
 
@@ -152,7 +152,7 @@ tick-length config states now shard true false = tick_from-length config now sha
 tick-length config states now shard false late = refl
 
 pub event-length : (config : ConfigView) (states : List RealmState) (e : PlainEvent) → length (states_after states (answer_to config states e)) ≡ length states
-event-length config states (arrives now a) = arrival-length config states now (admission_by is_served config a)
+event-length config states (arrives now a) = arrival-length config states now (admission config a)
 event-length config states (ticks now shard) =
     tick-length config states now shard (nat_lt shard config.shards) (nat_lt (2 ^ 62) now)
 
@@ -179,7 +179,7 @@ tick_rejects config states now shard false late = refl
 
 pub event_rejects : (config : ConfigView) (states : List RealmState) (e : PlainEvent) → packets_for_none (packets_in_turn (answer_to config states e)) ≡ rejects_by config e
 event_rejects config states (arrives now a) =
-    arrival_rejects config states now (admission_by is_served config a) (rejects_for_none is_served config a)
+    arrival_rejects config states now (admission config a) (rejects_for_none config a)
 event_rejects config states (ticks now shard) =
     tick_rejects config states now shard (nat_lt shard config.shards) (nat_lt (2 ^ 62) now)
 
@@ -226,6 +226,6 @@ tick_realms config states now shard false late whole = tt
 
 pub event_realms : (config : ConfigView) (states : List RealmState) (e : PlainEvent) → length states ≡ length config.realms → AllByRecursion (HasRealm (length config.realms)) (packets_in_turn (answer_to config states e))
 event_realms config states (arrives now a) whole =
-    arrival_realms config states now (admission_by is_served config a) (rejects_for_none is_served config a) whole
+    arrival_realms config states now (admission config a) (rejects_for_none config a) whole
 event_realms config states (ticks now shard) whole =
     tick_realms config states now shard (nat_lt shard config.shards) (nat_lt (2 ^ 62) now) whole

@@ -22,7 +22,7 @@ use Rattle.roam_conf.specs.declared.place.Place.TheVariants as place
 use Rattle.roam_fwd.specs.Forwarded.{CanBeForwarded, HasPasswordBlocks, forwarded_length}
 use Rattle.roam_route.specs.UserName.{realm_of}
 use Rattle.roam_route.specs.LocalReject.{is_rejected, local_reject, reject_length}
-use Rattle.roam_route.specs.Admission.{Arrival, PlainJob, PlainOut, Admission, refused, rejected, admitted, sender, checked, given_to, forwarded_for, rejected_for, named, routed, request_admission, packet_admission, sent_admission, read_admission, admission_by, is_served, is_rightly_signed, is_rightly_sealed, has_needed_seal, seal_required, peer_secret, home_secret}
+use Rattle.roam_route.specs.Admission.{Arrival, PlainJob, PlainOut, Admission, refused, rejected, admitted, sender, checked, given_to, forwarded_for, rejected_for, named, routed, request_admission, packet_admission, sent_admission, read_admission, admission, is_taken, is_rightly_signed, is_rightly_sealed, has_needed_seal, seal_required, peer_secret, home_secret}
 use Rattle.roam_route.specs.Events.{arrival_of, IsEvent, IsPrepared, IsConfigured, IsForwardable, EventHasRealm, EventIsSound}
 use Rattle.roam_route.specs.Shown.{Answers, shown_job}
 use Rattle.roam_route.specs.declared.job.Prepared.{Prepared}
@@ -38,11 +38,11 @@ without_padding a p = record { at = a.at; from = a.from; octets = packet_text p 
 
 -- ---- what is admitted of a packet
 
--- a job has the place and the source of the arrival and the packet's octets; its code is served;
+-- a job has the place and the source of the arrival and the packet's octets; its code is taken;
 -- its realm and its sender are configured; and what is a request can be forwarded
 record IsAdmitted (config : ConfigView) (a : Arrival) (p : Packet) (job : PlainJob) : Type 0 where
   arrival : arrival_of job ≡ without_padding a p
-  code : is_served job.place job.side p.code ≡ true
+  code : is_taken job.place job.side p.code ≡ true
   realm : job.realm < length config.realms
   sender : IsConfigured config job.realm job.side
   forwardable : IsForwardable job.side p
@@ -68,9 +68,9 @@ checked_admits : (config : ConfigView) (a : Arrival) (p : Packet) (holds : Bool)
 checked_admits config a p true why further h = h refl
 checked_admits config a p false why further h = refused_admits config a p why
 
--- a packet that a realm is given: its code is served, and the realm and its sender are configured
+-- a packet that a realm is given: its code is taken, and the realm and its sender are configured
 record IsFor (config : ConfigView) (a : Arrival) (s : Side) (p : Packet) (realm : ℕ) : Type 0 where
-  code : is_served a.at s p.code ≡ true
+  code : is_taken a.at s p.code ≡ true
   within : realm < length config.realms
   sender : IsConfigured config realm s
 
@@ -165,20 +165,20 @@ request_admits config secret a s p h =
     h (sealed_once secret p well))))
 
 -- the codes of an access server at each place, and of a home server
-code_at_acct : (s : Side) (code : ℕ) → is_served place.Acct s code ≡ true → code ≡ ACCESS_REQUEST
+code_at_acct : (s : Side) (code : ℕ) → is_taken place.Acct s code ≡ true → code ≡ ACCESS_REQUEST
     → ⊥
-code_at_acct (side.Peer i) code served access = grind (arith, nat_tests, served, access)
-code_at_acct (side.Link l) code served access = absurd (cc served)
-code_at_acct (side.Home i) code served access = absurd (cc served)
+code_at_acct (side.Peer i) code taken access = grind (arith, nat_tests, taken, access)
+code_at_acct (side.Link l) code taken access = absurd (cc taken)
+code_at_acct (side.Home i) code taken access = absurd (cc taken)
 
-code_at_reverse : (realm i code : ℕ) → is_served (place.Reverse realm) (side.Home i) code ≡ true
+code_at_reverse : (realm i code : ℕ) → is_taken (place.Reverse realm) (side.Home i) code ≡ true
     → code ≡ ACCESS_REQUEST → ⊥
-code_at_reverse realm i code served access = grind (arith, nat_tests, served, access)
+code_at_reverse realm i code taken access = grind (arith, nat_tests, taken, access)
 
 -- a peer's request, where it goes from its place
 peer_admits : (config : ConfigView) (secret : List ℕ) (a : Arrival) (i : ℕ) (p : Packet)
     (at : Place)
-    → is_served at (side.Peer i) p.code ≡ true → IsFromPeer config a i p
+    → is_taken at (side.Peer i) p.code ≡ true → IsFromPeer config a i p
     → HasAtMostOneMessageAuthenticator p
     → Admits config a p (routed config secret a (side.Peer i) p at)
 unfolding IsFromPeer
@@ -200,7 +200,7 @@ peer_admits config secret a i p (place.Reverse realm) test h seal = absurd (cc t
 
 -- a home server's goes to the realm of its place
 home_admits : (config : ConfigView) (secret : List ℕ) (a : Arrival) (i : ℕ) (p : Packet) (realm : ℕ)
-    → is_served (place.Reverse realm) (side.Home i) p.code ≡ true
+    → is_taken (place.Reverse realm) (side.Home i) p.code ≡ true
     → IsFor config a (side.Home i) p realm → HasAtMostOneMessageAuthenticator p
     → Admits config a p (routed config secret a (side.Home i) p (place.Reverse realm))
 home_admits config secret a i p realm test h seal =
@@ -211,7 +211,7 @@ home_admits config secret a i p realm test h seal =
 
 from_peer : (config : ConfigView) (a : Arrival) (i : ℕ) (p : Packet)
     → option_map (λ n. side.Peer n) (peer_with_ip config.peers a.from.ip) ≡ Some (side.Peer i)
-    → is_served a.at (side.Peer i) p.code ≡ true → IsFromPeer config a i p
+    → is_taken a.at (side.Peer i) p.code ≡ true → IsFromPeer config a i p
 unfolding IsFromPeer
 from_peer config a i p from test = λ realm within. record {
   code = test;
@@ -220,9 +220,9 @@ from_peer config a i p from test = λ realm within. record {
 }
 
 -- the same by the place of the arrival
-served_at : (a : Arrival) (s : Side) (p : Packet) (at : Place) → a.at ≡ at
-    → is_served at s p.code ≡ true → is_served a.at s p.code ≡ true
-served_at a s p at is test = ap (λ (x : Place). is_served x s p.code) is ∙ test
+taken_at : (a : Arrival) (s : Side) (p : Packet) (at : Place) → a.at ≡ at
+    → is_taken at s p.code ≡ true → is_taken a.at s p.code ≡ true
+taken_at a s p at is test = ap (λ (x : Place). is_taken x s p.code) is ∙ test
 
 routed_at : (config : ConfigView) (secret : List ℕ) (a : Arrival) (s : Side) (p : Packet)
     (at : Place)
@@ -231,14 +231,14 @@ routed_at : (config : ConfigView) (secret : List ℕ) (a : Arrival) (s : Side) (
 routed_at config secret a s p at is h =
     subst (λ (x : Place). Admits config a p (routed config secret a s p x)) (sym is) h
 
--- a packet from a sender that is known, and of a code that is served
+-- a packet from a sender that is known, and of a code that is taken
 packet_admits : (config : ConfigView) (a : Arrival) (s : Side) (p : Packet) (at : Place)
-    → a.at ≡ at → sender config a at ≡ Some s → is_served at s p.code ≡ true
+    → a.at ≡ at → sender config a at ≡ Some s → is_taken at s p.code ≡ true
     → Admits config a p (packet_admission config a s p at)
 packet_admits config a (side.Link l) p (place.Out realm) is from test =
     let known = link_known config a realm l from in
     given_admits config a (side.Link l) p realm (record {
-      code = served_at a (side.Link l) p (place.Out realm) is test;
+      code = taken_at a (side.Link l) p (place.Out realm) is test;
       within = known.0;
       sender = known.1;
     }) tt
@@ -246,13 +246,13 @@ packet_admits config a (side.Peer i) p (place.Out realm) is from test = absurd (
 packet_admits config a (side.Home i) p (place.Out realm) is from test = absurd (cc test)
 packet_admits config a (side.Peer i) p place.Auth is from test =
     let secret = peer_secret config i in
-    let of_peer = from_peer config a i p from (served_at a (side.Peer i) p place.Auth is test) in
+    let of_peer = from_peer config a i p from (taken_at a (side.Peer i) p place.Auth is test) in
     request_admits config secret a (side.Peer i) p (λ seal.
     routed_at config secret a (side.Peer i) p place.Auth is
     (peer_admits config secret a i p place.Auth test of_peer seal))
 packet_admits config a (side.Peer i) p place.Acct is from test =
     let secret = peer_secret config i in
-    let of_peer = from_peer config a i p from (served_at a (side.Peer i) p place.Acct is test) in
+    let of_peer = from_peer config a i p from (taken_at a (side.Peer i) p place.Acct is test) in
     request_admits config secret a (side.Peer i) p (λ seal.
     routed_at config secret a (side.Peer i) p place.Acct is
     (peer_admits config secret a i p place.Acct test of_peer seal))
@@ -263,7 +263,7 @@ packet_admits config a (side.Home i) p (place.Reverse realm) is from test =
     request_admits config secret a (side.Home i) p (λ seal.
     routed_at config secret a (side.Home i) p (place.Reverse realm) is
     (home_admits config secret a i p realm test (record {
-      code = served_at a (side.Home i) p (place.Reverse realm) is test;
+      code = taken_at a (side.Home i) p (place.Reverse realm) is test;
       within = known.0;
       sender = known.1;
     }) seal))
@@ -274,10 +274,10 @@ packet_admits config a (side.Link l) p place.Acct is from test = absurd (cc test
 packet_admits config a (side.Link l) p (place.Reverse realm) is from test = absurd (cc test)
 
 sent_admits : (config : ConfigView) (a : Arrival) (p : Packet) (s : Option Side)
-    → sender config a a.at ≡ s → Admits config a p (sent_admission is_served config a p s)
+    → sender config a a.at ≡ s → Admits config a p (sent_admission config a p s)
 sent_admits config a p None from = refused_admits config a p refusal.UnknownSource
 sent_admits config a p (Some s) from =
-    checked_admits config a p (is_served a.at s p.code) refusal.WrongCode
+    checked_admits config a p (is_taken a.at s p.code) refusal.WrongCode
     (packet_admission config a s p a.at) (λ test. packet_admits config a s p a.at refl from test)
 
 -- ---- what is prepared
@@ -292,47 +292,47 @@ reading-packet_text p h =
 
 -- the arrival without its padding gives the same
 same_without_padding : (config : ConfigView) (a : Arrival) (p : Packet) → IsPacket p
-    → admission_by is_served config (without_padding a p)
-    ≡ sent_admission is_served config a p (sender config a a.at)
-unfolding admission_by
+    → admission config (without_padding a p)
+    ≡ sent_admission config a p (sender config a a.at)
+unfolding admission
 same_without_padding config a p packet =
-    ap (read_admission is_served config (without_padding a p)) (reading-packet_text p packet)
+    ap (read_admission config (without_padding a p)) (reading-packet_text p packet)
 
 own_arrival : (config : ConfigView) (a : Arrival) (p : Packet) (job : PlainJob) → IsPacket p
-    → sent_admission is_served config a p (sender config a a.at) ≡ admitted job
+    → sent_admission config a p (sender config a a.at) ≡ admitted job
     → IsEvent config job
 unfolding Admits
 own_arrival config a p job packet is =
     let all = sent_admits config a p (sender config a a.at) refl in
     let admits : Admits config a p (admitted job) = subst (Admits config a p) is all in
-    ap (admission_by is_served config) admits.arrival ∙ same_without_padding config a p packet ∙ is
+    ap (admission config) admits.arrival ∙ same_without_padding config a p packet ∙ is
 
 -- what the packet of an arrival gives, the arrival gives
 same_as_sent : (config : ConfigView) (a : Arrival) (p : Packet) → reading a.octets ≡ Ok p
-    → admission_by is_served config a ≡ sent_admission is_served config a p (sender config a a.at)
-unfolding admission_by
-same_as_sent config a p read = ap (read_admission is_served config a) read
+    → admission config a ≡ sent_admission config a p (sender config a a.at)
+unfolding admission
+same_as_sent config a p read = ap (read_admission config a) read
 
-sent_of_served : (config : ConfigView) (a : Arrival) (p : Packet) (s : Side)
-    → sender config a a.at ≡ Some s → is_served a.at s p.code ≡ true
-    → sent_admission is_served config a p (sender config a a.at) ≡ packet_admission config a s p a.at
-sent_of_served config a p s from test = rw (from, test) refl
+sent_of_taken : (config : ConfigView) (a : Arrival) (p : Packet) (s : Side)
+    → sender config a a.at ≡ Some s → is_taken a.at s p.code ≡ true
+    → sent_admission config a p (sender config a a.at) ≡ packet_admission config a s p a.at
+sent_of_taken config a p s from test = rw (from, test) refl
 
--- what is prepared of a packet whose sender is known, and whose code is served
-pub prepared_of_served : {A : Type 0}
+-- what is prepared of a packet whose sender is known, and whose code is taken
+pub prepared_of_taken : {A : Type 0}
     → (config : ConfigView) (a : Arrival) (p : Packet) (s : Side) (r : Result (Prepared A) Refusal)
     → IsPacket p → reading a.octets ≡ Ok p → sender config a a.at ≡ Some s
-    → is_served a.at s p.code ≡ true → Answers r (packet_admission config a s p a.at)
+    → is_taken a.at s p.code ≡ true → Answers r (packet_admission config a s p a.at)
     → IfOk r (IsPrepared config a)
-prepared_of_served config a p s (Err why) packet read from test answers = tt
-prepared_of_served config a p s (Ok (prepared.Job j)) packet read from test answers =
-    let sent = sent_of_served config a p s from test in
+prepared_of_taken config a p s (Err why) packet read from test answers = tt
+prepared_of_taken config a p s (Ok (prepared.Job j)) packet read from test answers =
+    let sent = sent_of_taken config a p s from test in
     elim answers [
       | inl none ↦ absurd (cc none)
       | inr is ↦ own_arrival config a p (shown_job j) packet (sent ∙ sym is)
     ]
-prepared_of_served config a p s (Ok (prepared.Reject out)) packet read from test answers =
-    let sent = sent_of_served config a p s from test in
+prepared_of_taken config a p s (Ok (prepared.Reject out)) packet read from test answers =
+    let sent = sent_of_taken config a p s from test in
     elim answers [
       | inl none ↦ absurd (cc none)
       | inr is ↦ same_as_sent config a p read ∙ sent ∙ sym is
@@ -381,7 +381,7 @@ record IsOfPacket (config : ConfigView) (job : PlainJob) (read : Result Packet R
     admitted : IsAdmitted config (arrival_of job) packet job
 
 event_of_packet : (config : ConfigView) (job : PlainJob) (read : Result Packet Refusal)
-    → read_admission is_served config (arrival_of job) read ≡ admitted job
+    → read_admission config (arrival_of job) read ≡ admitted job
     → IsOfPacket config job read
 unfolding Admits
 event_of_packet config job (Err why) is = absurd (cc is)
@@ -392,7 +392,7 @@ event_of_packet config job (Ok p) is =
 
 event_packet : (config : ConfigView) (job : PlainJob) → IsEvent config job
     → IsOfPacket config job (reading job.octets)
-unfolding admission_by
+unfolding admission
 event_packet config job is = event_of_packet config job (reading job.octets) is
 
 pub event_realm : EventHasRealm
@@ -409,7 +409,7 @@ event_sound config job octets is =
     record {
       packet = subst IsPacketText (sym text) (IsPacketText-packet_text p packet);
       size = ap packet_length same ∙ sym (length-packet_text p packet) ∙ sym (ap length text);
-      code = subst (λ (x : Packet). is_served job.place job.side x.code ≡ true) (sym same) h.code;
+      code = subst (λ (x : Packet). is_taken job.place job.side x.code ≡ true) (sym same) h.code;
       sender = h.sender;
       forwardable = subst (IsForwardable job.side) (sym same) h.forwardable;
     }

@@ -9,7 +9,7 @@ use Rattle.roam_route.specs.declared.job.Prepared.{Prepared}
 use Rattle.roam_route.specs.declared.job.Prepared.TheVariants as prepared
 use Rattle.roam_route.specs.declared.job.Side.{Side}
 use Rattle.roam_route.specs.declared.job.Side.TheVariants as side
-use Rattle.roam_route.specs.Admission.{Arrival, PlainJob, admitted, rejected, admission_by, is_served}
+use Rattle.roam_route.specs.Admission.{Arrival, PlainJob, admitted, rejected, admission, is_taken}
 use Rattle.roam_route.specs.Shown.{shown_job, shown_out}
 
 -- the arrival of a job's own octets, from its source at its place
@@ -19,13 +19,13 @@ arrival_of job = record { at = job.place; from = job.from; octets = job.octets }
 -- a job is an event of this configuration where the arrival of its own octets is admitted as just this
 -- job
 abbrev pub IsEvent : ConfigView → PlainJob → Type 0
-IsEvent config job = admission_by is_served config (arrival_of job) ≡ admitted job
+IsEvent config job = admission config (arrival_of job) ≡ admitted job
 
 -- what is prepared of an arrival: such a job, or the local reject of just this arrival
 abbrev pub IsPrepared : {A : Type 0} → ConfigView → Arrival → Prepared A → Type 0
 IsPrepared config a (prepared.Job j) = IsEvent config (shown_job j)
 IsPrepared config a (prepared.Reject out) =
-    admission_by is_served config a ≡ rejected (shown_out out)
+    admission config a ≡ rejected (shown_out out)
 
 -- who sent a packet of a realm is configured, so it shares a secret with the broker (RFC 2865,
 -- section 3)
@@ -40,12 +40,12 @@ IsForwardable (side.Peer i) p = CanBeForwarded p
 IsForwardable (side.Link l) p = Unit {0}
 IsForwardable (side.Home i) p = CanBeForwarded p
 
--- an event of a realm: octets that are one packet's, of a code that is served from its sender, who
+-- an event of a realm: octets that are one packet's, of a code that is taken from its sender, who
 -- is configured; and what is a request can be forwarded
 pub record IsSoundEvent (config : ConfigView) (job : PlainJob) : Type 0 where
   pub packet : IsPacketText job.octets
   pub size : packet_length (packet_of job.octets) ≡ length job.octets
-  pub code : is_served job.place job.side (packet_of job.octets).code ≡ true
+  pub code : is_taken job.place job.side (packet_of job.octets).code ≡ true
   pub sender : IsConfigured config job.realm job.side
   pub forwardable : IsForwardable job.side (packet_of job.octets)
 

@@ -2,15 +2,15 @@
 
 ghost use Rattle.std.specs.Prelude.{◌≡◌, ℕ, ◌<◌, ◌≤◌, length, true, vec_len, IfOk, IsErrOf};
 ghost use Rattle.roam_conf.specs.Shown.{shown};
-ghost use Rattle.roam_route.specs.Admission.{admission_by, forwarded_for, given_to, is_served, named, packet_admission, rejected_for, request_admission, routed};
+ghost use Rattle.roam_route.specs.Admission.{admission, forwarded_for, given_to, is_taken, named, packet_admission, rejected_for, request_admission, routed};
 ghost use Rattle.roam_route.specs.Events.{IsPrepared};
-ghost use Rattle.roam_route.specs.Shown.{Answers, Prepares, WantsMemory, shown_arrival};
+ghost use Rattle.roam_route.specs.Shown.{Answers, IsHome, Prepares, WantsMemory, shown_arrival};
 
 use crate::checks::{has_bad_password, has_needed_seal, is_rightly_sealed, is_rightly_signed};
 use crate::datagram::{Datagram, Out};
 use crate::job::{Job, Prepared, Side};
 use crate::rejecting::reject;
-use crate::source::{is_served, seal_required, secret_of_peer, sender};
+use crate::source::{is_taken, seal_required, secret_of_home, secret_of_peer, sender};
 use crate::user_name::realm_of;
 use roam_conf::{Config, Place};
 use roam_fwd::forwarded_len;
@@ -126,7 +126,7 @@ fn request<A: Allocator + Copy>(
 ) -> Result<Prepared<A>, Refusal>
     requires at_least_one { 1 ≤ length secret.now }
     requires at_most_64 { length secret.now ≤ 64 }
-    requires known { (i : ℕ) → side ≡ Side.Peer i → i < vec_len config.now.peers }
+    requires peer { (i : ℕ) → side ≡ Side.Peer i → i < vec_len config.now.peers }
     ensures { Prepares result (request_admission (shown config.now) secret.now
         (shown_arrival datagram.now) side view.now) }
 {
@@ -142,17 +142,18 @@ fn request<A: Allocator + Copy>(
     routed(alloc, config, datagram, side, secret, view)
 }
 
-/// What a packet gives whose sender is known, and whose code is served: a reply goes to the realm of
+/// What a packet gives whose sender is known, and whose code is taken: a reply goes to the realm of
 /// its place as it is, and is judged there.
-fn served<A: Allocator + Copy>(
+fn taken<A: Allocator + Copy>(
     alloc: A,
     config: &Config,
     datagram: &Datagram<A>,
     side: Side,
     view: &View<'_>,
 ) -> Result<Prepared<A>, Refusal>
-    requires served { is_served datagram.now.at side view.now.code ≡ true }
-    requires known { (i : ℕ) → side ≡ Side.Peer i → i < vec_len config.now.peers }
+    requires peer { (i : ℕ) → side ≡ Side.Peer i → i < vec_len config.now.peers }
+    requires home { (realm i : ℕ) → datagram.now.at ≡ Place.Reverse realm → side ≡ Side.Home i
+        → IsHome config.now realm i }
     ensures { Prepares result (packet_admission (shown config.now) (shown_arrival datagram.now)
         side view.now datagram.now.at) }
 {
@@ -164,28 +165,32 @@ fn served<A: Allocator + Copy>(
             let secret = secret_of_peer(config, peer);
             request(alloc, config, datagram, side, secret, view)
         }
-        Side::Link(_) | Side::Home(_) => Err(Refusal::WrongCode),
+        Side::Home(server) => match datagram.at {
+            Place::Reverse(realm) => {
+                let secret = secret_of_home(config, realm, server);
+                request(alloc, config, datagram, side, secret, view)
+            }
+            _ => Err(Refusal::WrongCode),
+        },
+        Side::Link(_) => Err(Refusal::WrongCode),
     }
 }
 
 /// What an arrival gives: the event of a realm, with the packet's octets, or a local reject, or the
 /// first of `Short` to `TooLong` whose cause holds. `NoMemory` comes where a growth was refused,
 /// and nowhere else: memory is wanted only for what passes, and for a reject that is sent.
-///
-/// So far reverse requests and their replies are refused as `WrongCode` where the checks before it
-/// pass.
-#[tactic(auto, unfolding(crate::specs::Admission::admission_by))]
+#[tactic(auto, unfolding(crate::specs::Admission::admission))]
 pub fn prepare<A: Allocator + Copy>(
     alloc: A,
     config: &Config,
     datagram: &Datagram<A>,
 ) -> Result<Prepared<A>, Refusal>
     ensures answer { Answers result
-        (admission_by is_served (shown config.now) (shown_arrival datagram.now)) }
+        (admission (shown config.now) (shown_arrival datagram.now)) }
 
     // What is refused is refused for its cause, whatever memory there is.
     ensures memory { IsErrOf result Refusal.NoMemory
-        → WantsMemory (admission_by is_served (shown config.now) (shown_arrival datagram.now)) }
+        → WantsMemory (admission (shown config.now) (shown_arrival datagram.now)) }
 
     // What passes is a job with the packet's octets, which alone would give that job again; what is
     // rejected is this arrival.
@@ -195,8 +200,8 @@ pub fn prepare<A: Allocator + Copy>(
     let Some(side) = sender(config, datagram) else {
         return Err(Refusal::UnknownSource);
     };
-    if !is_served(datagram.at, side, view.code()) {
+    if !is_taken(datagram.at, side, view.code()) {
         return Err(Refusal::WrongCode);
     }
-    served(alloc, config, datagram, side, &view)
+    taken(alloc, config, datagram, side, &view)
 }

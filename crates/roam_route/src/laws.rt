@@ -12,7 +12,7 @@ pub fn names()
 {}
 
 /// What the event of a realm is: its realm and its sender are configured, its octets are a packet's
-/// of a code that is served, and what is a request can be forwarded.
+/// of a code that is taken, and what is a request can be forwarded.
 pub fn events()
     ensures realm { EventHasRealm }
     ensures sound { EventIsSound }

@@ -88,6 +88,11 @@ const AUTH: Endpoint = Endpoint {
     port: 1812,
 };
 
+const HOME: Endpoint = Endpoint {
+    ip: [198, 51, 100, 1],
+    port: 40000,
+};
+
 const ACCT: Endpoint = Endpoint {
     ip: [198, 51, 100, 1],
     port: 1813,
@@ -174,8 +179,36 @@ const REQUESTS: &str = "# an Access-Request
 01070fd30f403f9473978057bd83d5cb98f4227a010d7540612e6578616d706c65031307c5c5c5c5c5c5c5c5c5c5c5c5c5c5c5c5*19ffc1c1c1c1c1c1c1c1c1c1c1c1c1c1c1c1c1c1c1c1c1c1c1c1c1c1c1c1c1c1c1c1c1c1c1c1c1c1c1c1c1c1c1c1c1c1c1c1c1c1c1c1c1c1c1c1c1c1c1c1c1c1c1c1c1c1c1c1c1c1c1c1c1c1c1c1c1c1c1c1c1c1c1c1c1c1c1c1c1c1c1c1c1c1c1c1c1c1c1c1c1c1c1c1c1c1c1c1c1c1c1c1c1c1c1c1c1c1c1c1c1c1c1c1c1c1c1c1c1c1c1c1c1c1c1c1c1c1c1c1c1c1c1c1c1c1c1c1c1c1c1c1c1c1c1c1c1c1c1c1c1c1c1c1c1c1c1c1c1c1c1c1c1c1c1c1c1c1c1c1c1c1c1c1c1c1c1c1c1c1c1c1c1c1c1c1c1c1c1c1c1c1c1c1c1c1c1c1c1c1c1c1c1c1c1c1c1c1c1c1c1c1c1c1c1c1c1c1c1c1c1c1c1c1c1c1c1c1c1c1c1c1c1c1c1c1c1c1c1c1c1c1c1*19aec2c2c2c2c2c2c2c2c2c2c2c2c2c2c2c2c2c2c2c2c2c2c2c2c2c2c2c2c2c2c2c2c2c2c2c2c2c2c2c2c2c2c2c2c2c2c2c2c2c2c2c2c2c2c2c2c2c2c2c2c2c2c2c2c2c2c2c2c2c2c2c2c2c2c2c2c2c2c2c2c2c2c2c2c2c2c2c2c2c2c2c2c2c2c2c2c2c2c2c2c2c2c2c2c2c2c2c2c2c2c2c2c2c2c2c2c2c2c2c2c2c2c2c2c2c2c2c2c2c2c2c2c2c2c2c2c2c2c2c2c2c2c2c2c2c2c2c2c2c2c2c2c2c2c2c2c2c2c2c2c2c2c2c2c2c2c2c2c2c2c2c2 refused 10
 ";
 
+/// What a home server sends to the socket for reverse requests of its realm.
+const REVERSE_REQUESTS: &str = "# a Disconnect-Request: NAS-Identifier `nas1`, Acct-Session-Id `01`
+2822001e98737cc5f650778d9e25e78d8098ea9320066e6173312c043031 realm 0
+# a CoA-Request with a User-Name
+2b21002702f04b3afa42d5ab0ec18a343fd6ca9d20066e617331010d7540612e6578616d706c65 realm 0
+# one that names another realm
+2b2100274109f627674787ddaf888f4fed0a7d9f20066e617331010d7540622e6578616d706c65 realm 0
+# a right Message-Authenticator
+282200307b101b375b0faf9ea59d2b28ed9b355f20066e6173312c043031501249d1d9f4a37c06b44def96807f57613a realm 0
+# a wrong digest
+2822001e99737cc5f650778d9e25e78d8098ea9320066e6173312c043031 refused 6
+# a digest with the access server's secret
+2822001e5e223b1ddf660266387072a6d752f77b20066e6173312c043031 refused 6
+# a wrong Message-Authenticator
+282200303970323133a8ea08a56dd61099d3852d20066e6173312c043031501249d1d9f4a37c06b44def96807f57613b refused 7
+# one over other octets than zeros
+28220030f64b8826e4de951c77412f19520cde0e20066e6173312c0430315012f0c79600603c0ca00283c2b80eabef11 refused 7
+# two
+2822003e396edbdfb89d28293c9b849d7f95964020066e617331501200000000000000000000000000000000501200000000000000000000000000000000 refused 7
+# a Disconnect-ACK, an Accounting-Request, an Access-Request
+2922001439d067c389476ca5e96990703e9f7f7b refused 5
+04050021ef94951266fb0177254499a2c826bd59010d7540612e6578616d706c65 refused 5
+010700210f403f9473978057bd83d5cb98f4227a010d7540612e6578616d706c65 refused 5
+# the largest, and one octet more
+28220ff6cc15920995be9d451f7bd03cd6fa19d120066e6173312c043031*19ffc1c1c1c1c1c1c1c1c1c1c1c1c1c1c1c1c1c1c1c1c1c1c1c1c1c1c1c1c1c1c1c1c1c1c1c1c1c1c1c1c1c1c1c1c1c1c1c1c1c1c1c1c1c1c1c1c1c1c1c1c1c1c1c1c1c1c1c1c1c1c1c1c1c1c1c1c1c1c1c1c1c1c1c1c1c1c1c1c1c1c1c1c1c1c1c1c1c1c1c1c1c1c1c1c1c1c1c1c1c1c1c1c1c1c1c1c1c1c1c1c1c1c1c1c1c1c1c1c1c1c1c1c1c1c1c1c1c1c1c1c1c1c1c1c1c1c1c1c1c1c1c1c1c1c1c1c1c1c1c1c1c1c1c1c1c1c1c1c1c1c1c1c1c1c1c1c1c1c1c1c1c1c1c1c1c1c1c1c1c1c1c1c1c1c1c1c1c1c1c1c1c1c1c1c1c1c1c1c1c1c1c1c1c1c1c1c1c1c1c1c1c1c1c1c1c1c1c1c1c1c1c1c1c1c1c1c1c1c1c1c1c1c1c1c1c1c1c1c1c1c1c1c1*19e7c2c2c2c2c2c2c2c2c2c2c2c2c2c2c2c2c2c2c2c2c2c2c2c2c2c2c2c2c2c2c2c2c2c2c2c2c2c2c2c2c2c2c2c2c2c2c2c2c2c2c2c2c2c2c2c2c2c2c2c2c2c2c2c2c2c2c2c2c2c2c2c2c2c2c2c2c2c2c2c2c2c2c2c2c2c2c2c2c2c2c2c2c2c2c2c2c2c2c2c2c2c2c2c2c2c2c2c2c2c2c2c2c2c2c2c2c2c2c2c2c2c2c2c2c2c2c2c2c2c2c2c2c2c2c2c2c2c2c2c2c2c2c2c2c2c2c2c2c2c2c2c2c2c2c2c2c2c2c2c2c2c2c2c2c2c2c2c2c2c2c2c2c2c2c2c2c2c2c2c2c2c2c2c2c2c2c2c2c2c2c2c2c2c2c2c2c2c2c2c2c2c2c2c2c2c2c2c2c2c2c2c2c2c2c2c2c2c2c2c2c2c2c2c2c2c2c2c2c2 realm 0
+28220ff7828ed04fa8d6a7fd5b11d9bbd3ee7eba20066e6173312c043031*19ffc1c1c1c1c1c1c1c1c1c1c1c1c1c1c1c1c1c1c1c1c1c1c1c1c1c1c1c1c1c1c1c1c1c1c1c1c1c1c1c1c1c1c1c1c1c1c1c1c1c1c1c1c1c1c1c1c1c1c1c1c1c1c1c1c1c1c1c1c1c1c1c1c1c1c1c1c1c1c1c1c1c1c1c1c1c1c1c1c1c1c1c1c1c1c1c1c1c1c1c1c1c1c1c1c1c1c1c1c1c1c1c1c1c1c1c1c1c1c1c1c1c1c1c1c1c1c1c1c1c1c1c1c1c1c1c1c1c1c1c1c1c1c1c1c1c1c1c1c1c1c1c1c1c1c1c1c1c1c1c1c1c1c1c1c1c1c1c1c1c1c1c1c1c1c1c1c1c1c1c1c1c1c1c1c1c1c1c1c1c1c1c1c1c1c1c1c1c1c1c1c1c1c1c1c1c1c1c1c1c1c1c1c1c1c1c1c1c1c1c1c1c1c1c1c1c1c1c1c1c1c1c1c1c1c1c1c1c1c1c1c1c1c1c1c1c1c1c1c1c1c1c1c1*19e8c2c2c2c2c2c2c2c2c2c2c2c2c2c2c2c2c2c2c2c2c2c2c2c2c2c2c2c2c2c2c2c2c2c2c2c2c2c2c2c2c2c2c2c2c2c2c2c2c2c2c2c2c2c2c2c2c2c2c2c2c2c2c2c2c2c2c2c2c2c2c2c2c2c2c2c2c2c2c2c2c2c2c2c2c2c2c2c2c2c2c2c2c2c2c2c2c2c2c2c2c2c2c2c2c2c2c2c2c2c2c2c2c2c2c2c2c2c2c2c2c2c2c2c2c2c2c2c2c2c2c2c2c2c2c2c2c2c2c2c2c2c2c2c2c2c2c2c2c2c2c2c2c2c2c2c2c2c2c2c2c2c2c2c2c2c2c2c2c2c2c2c2c2c2c2c2c2c2c2c2c2c2c2c2c2c2c2c2c2c2c2c2c2c2c2c2c2c2c2c2c2c2c2c2c2c2c2c2c2c2c2c2c2c2c2c2c2c2c2c2c2c2c2c2c2c2c2c2c2c2 refused 10
+";
+
 /// What comes to each place from each kind of sender.
-pub const ARRIVALS: [Rows; 9] = [
+pub const ARRIVALS: [Rows; 12] = [
     (Place::Auth, NAS, Side::Peer(0), REQUESTS),
     (
         Place::Auth,
@@ -232,16 +265,37 @@ pub const ARRIVALS: [Rows; 9] = [
         Place::Out(0),
         COA,
         Side::Link(Link::Coa(0)),
-        "# a Disconnect-ACK
-2900001400000000000000000000000000000000 refused 5
+        "# the four answers to reverse requests, and an Access-Accept
+2900001400000000000000000000000000000000 realm 0
+2a00001400000000000000000000000000000000 realm 0
+2c00001400000000000000000000000000000000 realm 0
+2d00001400000000000000000000000000000000 realm 0
+0200001400000000000000000000000000000000 refused 5
+",
+    ),
+    (Place::Reverse(0), HOME, Side::Home(0), REVERSE_REQUESTS),
+    (
+        Place::Reverse(1),
+        HOME,
+        Side::Home(0),
+        "# it is a home server of the second realm too
+2822001e98737cc5f650778d9e25e78d8098ea9320066e6173312c043031 realm 1
+",
+    ),
+    (
+        Place::Reverse(2),
+        HOME,
+        Side::Home(0),
+        "# no such realm
+2822001e98737cc5f650778d9e25e78d8098ea9320066e6173312c043031 refused 4
 ",
     ),
     (
         Place::Reverse(0),
-        AUTH,
+        NAS,
         Side::Home(0),
-        "# a Disconnect-Request: NAS-Identifier `nas1`, Acct-Session-Id `01`
-2822001e98737cc5f650778d9e25e78d8098ea9320066e6173312c043031 refused 5
+        "# no home server
+2822001e98737cc5f650778d9e25e78d8098ea9320066e6173312c043031 refused 4
 ",
     ),
 ];
