@@ -42,7 +42,7 @@ pub record IsEntry (c : RealmConfig) (next : ℕ) (e : PlainEntry) : Type 0 wher
 
 -- a lane that holds nothing: what a link has that isn't there
 abbrev pub no_lane : LaneState
-no_lane = record { tag = 0; cursor = 0; places = [] }
+no_lane = record { tag = 0; cursor = 0; places = []; made = false }
 
 -- the lane of a link
 abbrev pub lane_of : RealmConfig → List LaneState → Link → LaneState
