@@ -1,0 +1,6 @@
+//! The entries of all realms of a shard in shared tables.
+//!
+//! Nothing here builds or reads a packet, looks at a clock or chooses a target.
+#![tactic(auto)]
+
+mod run;
