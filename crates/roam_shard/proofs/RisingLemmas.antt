@@ -6,7 +6,8 @@ use Rattle.std.specs.List.Sorted.{IsBinarySearchResult, IsPartitionPoint, IsSort
 use Rattle.std.specs.Cmp.{IsTotalOrder}
 use Rattle.std.specs.FinMap.{nat_cmp-IsAntisymmetric}
 use Rattle.std.proofs.lemmas.List.Sorted.{searchable_from_sorted}
-use Rattle.std.proofs.lemmas.Bool.{cases_lt}
+use Rattle.std.specs.Prelude.{slice_get}
+use Rattle.std.proofs.lemmas.Bool.{cases_Bool, cases_lt}
 use Rattle.std.proofs.lemmas.Bool.Decides.{nat_tests}
 use Rattle.std.proofs.lemmas.Grind.{common_steps}
 use Rattle.std.specs.Ordering.{nat_cmp, ordering_then, ordering_reverse, is_lt}
@@ -14,8 +15,9 @@ use Rattle.std.specs.declared.cmp.Ordering.TheVariants.{Less, Equal, Greater}
 use Rattle.std.proofs.lemmas.Cmp.{nat_cmp_total, on_total, then_total, tied_itself}
 use Rattle.roam_pending.specs.declared.due.Due.{Due}
 use Rattle.roam_pending.specs.DueOrder.{is_after, is_before}
+use Rattle.roam_pending.specs.EntryList.{is_beside}
 use Rattle.roam_pending.specs.ListLaws.{IsIn}
-use Rattle.roam_shard.specs.Rising.{due_cmp, Rises, IsGap, IsAt, IsPlaceOf, Adds, Drops, IsNext, NoneNext, IsNextOf, IsStart}
+use Rattle.roam_shard.specs.Rising.{due_cmp, Rises, IsGap, IsAt, IsPlaceOf, Adds, Drops, IsNext, NoneNext, IsNextOf, AmongRun, AmongBoth, IsLeastBesides, IsFirstBesides, IsStart}
 
 pub due_total : IsTotalOrder due_cmp
 due_total = then_total (on_total (λ (d : Due). d.deadline) nat_cmp_total) (on_total (λ (d : Due). d.ticket) nat_cmp_total)
@@ -222,12 +224,12 @@ start_at xs l i up at = record {
   high = λ k d ge within. due_less_before l (get_or xs k d) (subst (λ z. due_cmp z (get_or xs k d) ≡ Less) at.is (later due_cmp due_total xs up i k l d (omega arith) within));
 }
 
-pub next_none : (last : Option Due) (xs : List Due) (i : ℕ) → IsStart last xs i → length xs ≤ i → NoneNext last xs
+pub next_none : (last : Option Due) (xs : List Due) (i : ℕ) → IsStart last xs i → length xs ≤ i → NoneNext last (AmongRun xs)
 next_none last xs i start past x held =
     let at = at-in xs x held in
     subst (λ z. is_after last z ≡ false) (at.2 x) (start.low at.0 x (omega (arith, at.1)) at.1)
 
-pub next_some : (last : Option Due) (xs : List Due) (i : ℕ) (x : Due) → Rises due_cmp xs → IsStart last xs i → i < length xs → x ≡ get_or xs i x → IsNext last xs x
+pub next_some : (last : Option Due) (xs : List Due) (i : ℕ) (x : Due) → Rises due_cmp xs → IsStart last xs i → i < length xs → x ≡ get_or xs i x → IsNext last (AmongRun xs) x
 next_some last xs i x up start within is = record {
   held = in-at xs i x within (sym is);
   after = subst (λ z. is_after last z ≡ true) (sym is) (start.high i x (omega arith) within);
@@ -249,3 +251,126 @@ module _ {X : Type 0} (cmp : X → X → Ordering) (total : IsTotalOrder cmp) wh
 
   pub rises_left : (xs ys : List X) (i : ℕ) → ys ≡ list.remove xs i → Rises cmp xs → Rises cmp ys
   rises_left xs ys i is up = rw is (rises-remove cmp total xs i up)
+
+-- The first of two runs
+
+both_none : (last : Option Due) (xs ys : List Due) → NoneNext last (AmongRun xs) → NoneNext last (AmongRun ys) → NoneNext last (AmongBoth xs ys)
+both_none last xs ys a b x held = elim held as (λ _. is_after last x ≡ false) [ inl l ↦ a x l | inr r ↦ b x r ]
+
+both_left : (last : Option Due) (xs ys : List Due) (d : Due) → IsNext last (AmongRun xs) d
+    → ((x : Due) → IsIn x ys → is_after last x ≡ true → (d ≡ x) ⊎ (due_cmp d x ≡ Less)) → IsNext last (AmongBoth xs ys) d
+both_left last xs ys d a rest = record {
+  held = inl a.held;
+  after = a.after;
+  first = λ x held after. elim held as (λ _. (d ≡ x) ⊎ (due_cmp d x ≡ Less)) [ inl l ↦ a.first x l after | inr r ↦ rest x r after ];
+}
+
+both_right : (last : Option Due) (xs ys : List Due) (d : Due) → IsNext last (AmongRun ys) d
+    → ((x : Due) → IsIn x xs → is_after last x ≡ true → (d ≡ x) ⊎ (due_cmp d x ≡ Less)) → IsNext last (AmongBoth xs ys) d
+both_right last xs ys d a rest = record {
+  held = inr a.held;
+  after = a.after;
+  first = λ x held after. elim held as (λ _. (d ≡ x) ⊎ (due_cmp d x ≡ Less)) [ inl l ↦ rest x l after | inr r ↦ a.first x r after ];
+}
+
+not_after_none : (last : Option Due) (xs : List Due) (d : Due) → NoneNext last (AmongRun xs)
+    → (x : Due) → IsIn x xs → is_after last x ≡ true → (d ≡ x) ⊎ (due_cmp d x ≡ Less)
+not_after_none last xs d none x held after = absurd (let k : true ≡ false = sym after ∙ none x held in cc)
+
+further : (d e x : Due) → due_cmp d e ≡ Less → (e ≡ x) ⊎ (due_cmp e x ≡ Less) → (d ≡ x) ⊎ (due_cmp d x ≡ Less)
+further d e x lt h = elim h as (λ _. (d ≡ x) ⊎ (due_cmp d x ≡ Less)) [
+  | inl is ↦ inr (subst (λ z. due_cmp d z ≡ Less) is lt)
+  | inr more ↦ inr (due_total.trans d e x lt more)
+]
+
+pub next_neither : (last : Option Due) (xs ys : List Due) (o : Option Due) → NoneNext last (AmongRun xs) → IsNextOf last (AmongRun ys) o → IsNextOf last (AmongBoth xs ys) o
+next_neither last xs ys None a b = both_none last xs ys a b
+next_neither last xs ys (Some d) a b = both_right last xs ys d b (not_after_none last xs d a)
+
+pub next_first : (last : Option Due) (xs ys : List Due) (d : Due) → IsNext last (AmongRun xs) d → NoneNext last (AmongRun ys) → IsNext last (AmongBoth xs ys) d
+next_first last xs ys d a b = both_left last xs ys d a (not_after_none last ys d b)
+
+pub next_second_first : (last : Option Due) (xs ys : List Due) (a b : Due) → IsNext last (AmongRun xs) a → IsNext last (AmongRun ys) b → due_cmp b a ≡ Less → IsNext last (AmongBoth xs ys) b
+next_second_first last xs ys a b ha hb lt = both_right last xs ys b hb (λ x held after. further b a x lt (ha.first x held after))
+
+pub next_first_first : (last : Option Due) (xs ys : List Due) (a b : Due) → IsNext last (AmongRun xs) a → IsNext last (AmongRun ys) b → (a ≡ b) ⊎ (due_cmp a b ≡ Less) → IsNext last (AmongBoth xs ys) a
+next_first_first last xs ys a b ha hb h = both_left last xs ys a ha (λ x held after. elim h as (λ _. (a ≡ x) ⊎ (due_cmp a x ≡ Less)) [
+  | inl is ↦ subst (λ z. (z ≡ x) ⊎ (due_cmp z x ≡ Less)) (sym is) (hb.first x held after)
+  | inr lt ↦ further a b x lt (hb.first x held after)
+])
+
+pub not_less_due : (a b : Due) → is_lt (due_cmp b a) ≡ false → (a ≡ b) ⊎ (due_cmp a b ≡ Less)
+not_less_due a b h = by (due_cmp a b) refl
+  where
+    by : (o : Ordering) → due_cmp a b ≡ o → (a ≡ b) ⊎ (due_cmp a b ≡ Less)
+    by Less e = inr e
+    by Equal e = inl (due_same a b e)
+    by Greater e =
+        let less : due_cmp b a ≡ Less = due_total.antisymm b a ∙ ap ordering_reverse e in
+        absurd (let k : true ≡ false = sym (ap is_lt less) ∙ h in cc)
+
+pub less_due : (a b : Due) → is_lt (due_cmp b a) ≡ true → due_cmp b a ≡ Less
+less_due a b h = by (due_cmp b a) refl
+  where
+    by : (o : Ordering) → due_cmp b a ≡ o → due_cmp b a ≡ Less
+    by Less e = e
+    by Equal e = absurd (let k : false ≡ true = sym (ap is_lt e) ∙ h in cc)
+    by Greater e = absurd (let k : false ≡ true = sym (ap is_lt e) ∙ h in cc)
+
+-- The least ticket besides one
+
+nat_less : (a b : ℕ) → nat_cmp a b ≡ Less → a < b
+nat_less a b h = grind (arith, nat_tests, common_steps)
+
+beside_same : (o : Option ℕ) (x y : ℕ) → is_beside o x ≡ false → is_beside o y ≡ false → x ≡ y
+beside_same None x y h k = absurd (let n : true ≡ false = h in cc)
+beside_same (Some t) x y h k = let a : x ≡ t = grind (arith, nat_tests, h) in let b : y ≡ t = grind (arith, nat_tests, k) in omega arith
+
+pub first_beside : (o : Option ℕ) (xs : List ℕ) (x : ℕ) → Rises nat_cmp xs → slice_get xs 0 ≡ Some x → is_beside o x ≡ true → IsLeastBesides o xs x
+first_beside o [] x up at h = absurd (let k : None ≡ Some x = at in cc)
+first_beside o (z ∷ zs) x up at h =
+    let is : z ≡ x = (let k : Some z ≡ Some x = at in cc) in
+    record {
+      held = inl is;
+      beside = h;
+      least = λ y held _. elim held as (λ _. x ≤ y) [
+        | inl e ↦ omega (arith, is, e)
+        | inr more ↦ (let lt = nat_less z y (All-in (λ w. nat_cmp z w ≡ Less) zs y up.0 more) in omega (arith, is, lt))
+      ];
+    }
+
+pub second_beside : (o : Option ℕ) (xs : List ℕ) (x y : ℕ) → Rises nat_cmp xs → slice_get xs 0 ≡ Some x → is_beside o x ≡ false → slice_get xs 1 ≡ Some y → IsLeastBesides o xs y
+second_beside o [] x y up at h next = absurd (let k : None ≡ Some x = at in cc)
+second_beside o (z ∷ []) x y up at h next = absurd (let k : None ≡ Some y = next in cc)
+second_beside o (z ∷ w ∷ ws) x y up at h next =
+    let is : z ≡ x = (let k : Some z ≡ Some x = at in cc) in
+    let is2 : w ≡ y = (let k : Some w ≡ Some y = next in cc) in
+    let lt : z < w = nat_less z w up.0.0 in
+    let beside : is_beside o y ≡ true = elim (cases_Bool (is_beside o y)) [
+      | inl t ↦ t
+      | inr n ↦ (let same : x ≡ y = beside_same o x y h n in absurd (omega (arith, is, is2, lt, same)))
+    ] in
+    record {
+      held = inr (inl is2);
+      beside = beside;
+      least = λ v held b. elim held as (λ _. y ≤ v) [
+        | inl e ↦ (let same : is_beside o z ≡ false = subst (λ n. is_beside o n ≡ false) (sym is) h in
+            absurd (let k : true ≡ false = sym (subst (λ n. is_beside o n ≡ true) (sym e) b) ∙ same in cc))
+        | inr more ↦ elim more as (λ _. y ≤ v) [
+          | inl e ↦ omega (arith, is2, e)
+          | inr deep ↦ (let lt2 = nat_less w v (All-in (λ u. nat_cmp w u ≡ Less) ws v up.1.0 deep) in omega (arith, is2, lt2))
+        ]
+      ];
+    }
+
+pub none_beside : (o : Option ℕ) (xs : List ℕ) → slice_get xs 0 ≡ None → (y : ℕ) → IsIn y xs → is_beside o y ≡ false
+none_beside o [] at y held = absurd held
+none_beside o (z ∷ zs) at y held = absurd (let k : Some z ≡ None = at in cc)
+
+pub only_gone : (o : Option ℕ) (xs : List ℕ) (x : ℕ) → slice_get xs 0 ≡ Some x → is_beside o x ≡ false → slice_get xs 1 ≡ None → (y : ℕ) → IsIn y xs → is_beside o y ≡ false
+only_gone o [] x at h next y held = absurd held
+only_gone o (z ∷ []) x at h next y held = elim held as (λ _. is_beside o y ≡ false) [
+  | inl e ↦ (let is : z ≡ x = (let k : Some z ≡ Some x = at in cc) in subst (λ n. is_beside o n ≡ false) (sym is ∙ e) h)
+  | inr bad ↦ absurd bad
+]
+only_gone o (z ∷ w ∷ ws) x at h next y held = absurd (let k : Some w ≡ None = next in cc)

@@ -6,6 +6,7 @@ use Rattle.std.specs.declared.cmp.Ordering.{Ordering}
 use Rattle.std.specs.declared.cmp.Ordering.TheVariants.{Less, Greater}
 use Rattle.roam_pending.specs.declared.due.Due.{Due}
 use Rattle.roam_pending.specs.DueOrder.{is_after}
+use Rattle.roam_pending.specs.EntryList.{is_beside}
 use Rattle.roam_pending.specs.ListLaws.{IsIn}
 
 -- the order of dues: by deadline, and at one deadline by ticket
@@ -51,16 +52,35 @@ pub record IsStart (last : Option Due) (xs : List Due) (i : ℕ) : Type 0 where
   pub low : (k : ℕ) (d : Due) → k < i → k < length xs → is_after last (slice_index_or xs k d) ≡ false
   pub high : (k : ℕ) (d : Due) → i ≤ k → k < length xs → is_after last (slice_index_or xs k d) ≡ true
 
--- d is the first of the dues after the last one, if there was one
-pub record IsNext (last : Option Due) (xs : List Due) (d : Due) : Type 0 where
-  pub held : IsIn d xs
+-- d is the first of these dues after the last one, if there was one
+pub record IsNext (last : Option Due) (Among : Due → Type 0) (d : Due) : Type 0 where
+  pub held : Among d
   pub after : is_after last d ≡ true
-  pub first : (x : Due) → IsIn x xs → is_after last x ≡ true → (d ≡ x) ⊎ (due_cmp d x ≡ Less)
+  pub first : (x : Due) → Among x → is_after last x ≡ true → (d ≡ x) ⊎ (due_cmp d x ≡ Less)
 
 -- none of them comes after the last one
-abbrev pub NoneNext : Option Due → List Due → Type 0
-NoneNext last xs = (x : Due) → IsIn x xs → is_after last x ≡ false
+abbrev pub NoneNext : Option Due → (Due → Type 0) → Type 0
+NoneNext last Among = (x : Due) → Among x → is_after last x ≡ false
 
 -- the first after the last one, if there is one
-abbrev pub IsNextOf : Option Due → List Due → Option Due → Type 0
-IsNextOf last xs o = MatchOption o (NoneNext last xs) (IsNext last xs)
+abbrev pub IsNextOf : Option Due → (Due → Type 0) → Option Due → Type 0
+IsNextOf last Among o = MatchOption o (NoneNext last Among) (IsNext last Among)
+
+-- those of a run
+abbrev pub AmongRun : List Due → Due → Type 0
+AmongRun xs d = IsIn d xs
+
+-- those of two runs
+abbrev pub AmongBoth : List Due → List Due → Due → Type 0
+AmongBoth xs ys d = IsIn d xs ⊎ IsIn d ys
+
+-- x is the least ticket besides one that counts as gone
+pub record IsLeastBesides (except : Option ℕ) (xs : List ℕ) (x : ℕ) : Type 0 where
+  pub held : IsIn x xs
+  pub beside : is_beside except x ≡ true
+  pub least : (y : ℕ) → IsIn y xs → is_beside except y ≡ true → x ≤ y
+
+-- the least ticket besides one that counts as gone, if there is one
+abbrev pub IsFirstBesides : Option ℕ → List ℕ → Option ℕ → Type 0
+IsFirstBesides except xs o =
+    MatchOption o ((y : ℕ) → IsIn y xs → is_beside except y ≡ false) (IsLeastBesides except xs)

@@ -3,4 +3,6 @@
 //! Nothing here builds or reads a packet, looks at a clock or chooses a target.
 #![tactic(auto)]
 
+mod mark;
 mod run;
+mod runs;

@@ -4,7 +4,7 @@ ghost use Rattle.std.specs.Prelude.{◌≡◌, ◌<◌, ◌≤◌, ◌+◌, leng
 ghost use Rattle.std.specs.Ordering.{nat_cmp};
 ghost use Rattle.std.specs.VecDeque.{deque_len, deque_capacity};
 ghost use Rattle.roam_pending.specs.ListLaws.{IsIn};
-ghost use Rattle.roam_shard.specs.Rising.{Adds, Drops, IsNextOf, IsPlaceOf, IsStart, Rises, due_cmp};
+ghost use Rattle.roam_shard.specs.Rising.{Adds, AmongRun, Drops, IsNextOf, IsPlaceOf, IsStart, Rises, due_cmp};
 
 use roam_pending::Due;
 use roam_wire::NoMemory;
@@ -113,7 +113,7 @@ fn start_after<A: Allocator>(run: &VecDeque<Due, A>, last: Option<Due>) -> usize
 /// The first due after the last one.
 pub(crate) fn next_due<A: Allocator>(run: &VecDeque<Due, A>, last: Option<Due>) -> Option<Due>
     requires { Rises due_cmp run.now.items }
-    ensures { IsNextOf last run.now.items result }
+    ensures { IsNextOf last (AmongRun run.now.items) result }
 {
     match run.get(start_after(run, last)) {
         None => None,
