@@ -1,1 +1,3 @@
 pub mod RisingLemmas
+pub mod ListedLemmas
+pub mod MarkLemmas
