@@ -3,3 +3,7 @@ pub mod ListedLemmas
 pub mod MarkLemmas
 pub mod IndexLemmas
 pub mod SlotLemmas
+pub mod ChangeLemmas
+pub mod FirstLemmas
+pub mod KeyLemmas
+pub mod LookLemmas

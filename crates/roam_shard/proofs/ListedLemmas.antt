@@ -149,3 +149,8 @@ listed-without f g t (suc n) u num gone others = elim (cases_eq t u) [
   | inr differ ↦ rw (others t differ, listed-without f g (t + 1) n u num gone others)
       (without-cons_other u (f t) (listed f (t + 1) n) (λ x there eq. (let k = num.own t x there in differ (omega arith))))
 ]
+
+pub listed_nobody : (f : ℕ → Option PlainEntry) (t n : ℕ) → ((u : ℕ) → f u ≡ None) → listed f t n ≡ []
+unfolding listed
+listed_nobody f t zero h = refl
+listed_nobody f t (suc n) h = rw (h t) (listed_nobody f (t + 1) n h)

@@ -144,7 +144,7 @@ module _ {X : Type 0} (cmp : X → X → Ordering) (part : Mark → Option X) (f
   part_leaves of names num some none loses =
       tells-loses cmp (part_at part f) (part_at part g) xs ys t tells rises part_others (part (mark_of e)) (λ u x a b. part_own part of names f num t u x a b) (rw some refl) (rw none refl) loses
 
-holds_more : {A : Type 0} (old new : Runs A) (n m : ℕ) → HoldsAsMany old new → Holds old n → m ≤ n → Holds new m
+pub holds_more : {A : Type 0} (old new : Runs A) (n m : ℕ) → HoldsAsMany old new → Holds old n → m ≤ n → Holds new m
 holds_more old new n m many h le = record { waits = omega (arith, many.waits, h.waits); holds = omega (arith, many.holds, h.holds); tickets = omega (arith, many.tickets, h.tickets) }
 
 module _ {A : Type 0} (f : ℕ → Option PlainEntry) (num : IsNumbered f) (q : Runs A) (runs : IsRunsOf f q) where

@@ -189,7 +189,7 @@ module _ {X : Type 0} (cmp : X → X → Ordering) (total : IsTotalOrder cmp) wh
 
 -- The first due after another
 
-due_less_before : (a b : Due) → due_cmp a b ≡ Less → is_before a b ≡ true
+pub due_less_before : (a b : Due) → due_cmp a b ≡ Less → is_before a b ≡ true
 due_less_before a b h = grind (arith, nat_tests, common_steps)
 
 due_before_less : (a b : Due) → is_before a b ≡ true → due_cmp a b ≡ Less

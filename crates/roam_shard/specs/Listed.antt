@@ -9,5 +9,5 @@ listed f t zero = []
 listed f t (suc n) = cons_option (f t) (listed f (t + 1) n)
 
 -- every ticket is below
-pub tickets_end : ℕ
+unfoldable pub tickets_end : ℕ
 tickets_end = 2 ^ 64
