@@ -32,11 +32,11 @@ module _ (f : ℕ → Option PlainEntry) (num : IsNumbered f) (t : ℕ) (below :
 pub except_at : ℕ → (ℕ → Option PlainEntry) → ℕ → Option PlainEntry
 except_at t f u = if eqb u t then None else f u
 
-except-here : (t : ℕ) (f : ℕ → Option PlainEntry) → except_at t f t ≡ None
+pub except-here : (t : ℕ) (f : ℕ → Option PlainEntry) → except_at t f t ≡ None
 unfolding except_at
 except-here t f = rw (same t t refl) refl
 
-except-other : (t : ℕ) (f : ℕ → Option PlainEntry) (u : ℕ) → u ≢ t → except_at t f u ≡ f u
+pub except-other : (t : ℕ) (f : ℕ → Option PlainEntry) (u : ℕ) → u ≢ t → except_at t f u ≡ f u
 unfolding except_at
 except-other t f u ne = rw (differs u t ne) refl
 

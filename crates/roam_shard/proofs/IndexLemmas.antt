@@ -1,6 +1,6 @@
 -- An index follows its slots.
 use Rattle.std.proofs.Common.{◌≡◌, ◌≢◌, ◌⊎◌, ℕ, Bool, true, false, Option, Some, None, refl, ap, sym, ◌∙◌, subst, inl, inr}
-use Rattle.std.specs.Prelude.{option_and_then, if◌then◌else◌}
+use Rattle.std.specs.Prelude.{option_and_then, option_map, if◌then◌else◌}
 use Rattle.std.proofs.lemmas.Bool.{cases_Bool, cases_eq}
 use Rattle.roam_shard.specs.Indexes.{IsIndex, PutsAt, Puts, look}
 
@@ -104,3 +104,14 @@ look-other {X} key S S2 I J index i w k q at same mine ne = ap (λ (o : Option �
     by (Some j) there = (
         let y = index.points q j there in
         at.others j (λ e. ne (sym (mine y.0 (ap S (sym e) ∙ y.1)) ∙ y.2)))
+
+-- a key at which nothing is held has no slot
+pub look-none : {X K Y : Type 0} (key : X → K) (f : X → Y) (S : ℕ → Option X) (I : K → Option ℕ) → IsIndex key S I → (k : K) → option_map f (look S I k) ≡ None → I k ≡ None
+look-none {X} {K} {Y} key f S I index k h = by (I k) refl
+  where
+    by : (o : Option ℕ) → I k ≡ o → I k ≡ None
+    by None there = there
+    by (Some j) there = absurd (
+        let p = index.points k j there in
+        let some : look S I k ≡ Some p.0 = ap (λ (o : Option ℕ). option_and_then S o) there ∙ p.1 in
+        let bad : Some (f p.0) ≡ None = sym (ap (option_map f) some) ∙ h in cc)

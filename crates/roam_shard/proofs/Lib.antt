@@ -7,3 +7,5 @@ pub mod ChangeLemmas
 pub mod FirstLemmas
 pub mod KeyLemmas
 pub mod LookLemmas
+pub mod RoomLemmas
+pub mod StepLemmas

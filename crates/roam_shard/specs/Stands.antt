@@ -1,5 +1,5 @@
 -- What the tables stand for (ours).
-use Rattle.std.specs.Prelude.{◌≡◌, ℕ, ◌+◌, ◌-◌, ◌<◌, ◌==◌, Bool, nat_lt, List, length, Option, Some, None, option_map, slice_get, min}
+use Rattle.std.specs.Prelude.{◌≡◌, ◌≢◌, ℕ, ◌+◌, ◌-◌, ◌<◌, ◌==◌, Bool, nat_lt, List, length, Option, Some, None, option_map, slice_get, min}
 use Rattle.std.specs.VecDeque.{deque_len, deque_capacity}
 use Rattle.slab.specs.Slab as slab
 use Rattle.slab.specs.Slab.{Slab, slab_len}
@@ -77,11 +77,29 @@ pub record Sound {A : Type 0} (S : ℕ → Option Stored) (T : TicketKey → Opt
   pub below_end : (i : ℕ) (x : Stored) → S i ≡ Some x → x.entry.ticket < tickets_end
   pub runs : (r : ℕ) (q : Runs A) → slice_get rs r ≡ Some q → IsRunsOf (entry_at S T r) q
 
+-- the runs of one realm became these, and every other realm's are as they were
+pub record AtRealm {X : Type 0} (Becomes : X → X → Type 0) (old new : List X) (r : ℕ) : Type 0 where
+  pub same_length : length new ≡ length old
+  pub before : X
+  pub before_is : slice_get old r ≡ Some before
+  pub after : X
+  pub after_is : slice_get new r ≡ Some after
+  pub becomes : Becomes before after
+  pub others : (q : ℕ) → q ≢ r → slice_get new q ≡ slice_get old q
+
 -- the entries of each realm, for how many more there is room, and how many realms are kept here
 pub record TablesView : Type 0 where
   pub entries : ℕ → List PlainEntry
   pub room : ℕ → ℕ
   pub realms : ℕ
+
+-- what the tables show
+abbrev pub tables_view : {A H : Type 0} → Slab (Slot A) → IndexMap TicketKey ℕ H → IndexMap ClientKey ℕ H → List (Runs A) → TablesView
+tables_view s t c rs = record {
+  entries = entries_at (place s) (ticket_at t);
+  room = λ r. least_room (slab_room s) (spare t) (spare c) (runs_room (slice_get rs r));
+  realms = length rs;
+}
 
 -- whether the realm of an index is kept here
 abbrev pub keeps_in : TablesView → ℕ → Bool
