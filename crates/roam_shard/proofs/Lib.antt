@@ -9,3 +9,5 @@ pub mod KeyLemmas
 pub mod LookLemmas
 pub mod RoomLemmas
 pub mod StepLemmas
+pub mod RealmLemmas
+pub mod ViewLemmas

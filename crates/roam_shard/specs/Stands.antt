@@ -1,5 +1,5 @@
 -- What the tables stand for (ours).
-use Rattle.std.specs.Prelude.{◌≡◌, ◌≢◌, ℕ, ◌+◌, ◌-◌, ◌<◌, ◌==◌, Bool, nat_lt, List, length, Option, Some, None, option_map, slice_get, min}
+use Rattle.std.specs.Prelude.{◌≡◌, ◌≢◌, ℕ, zero, suc, [], ◌∷◌, slice_index_or, ◌+◌, ◌-◌, ◌<◌, ◌==◌, Bool, nat_lt, List, length, Option, Some, None, option_map, slice_get, min}
 use Rattle.std.specs.VecDeque.{deque_len, deque_capacity}
 use Rattle.slab.specs.Slab as slab
 use Rattle.slab.specs.Slab.{Slab, slab_len}
@@ -87,29 +87,37 @@ pub record AtRealm {X : Type 0} (Becomes : X → X → Type 0) (old new : List X
   pub becomes : Becomes before after
   pub others : (q : ℕ) → q ≢ r → slice_get new q ≡ slice_get old q
 
--- the entries of each realm, for how many more there is room, and how many realms are kept here
-pub record TablesView : Type 0 where
-  pub entries : ℕ → List PlainEntry
-  pub room : ℕ → ℕ
-  pub realms : ℕ
+-- for how many entries more of a realm there is room without memory
+abbrev pub room_at : {A H : Type 0} → Slab (Slot A) → IndexMap TicketKey ℕ H → IndexMap ClientKey ℕ H → List (Runs A) → ℕ → ℕ
+room_at s t c rs r = least_room (slab_room s) (spare t) (spare c) (runs_room (slice_get rs r))
 
--- what the tables show
-abbrev pub tables_view : {A H : Type 0} → Slab (Slot A) → IndexMap TicketKey ℕ H → IndexMap ClientKey ℕ H → List (Runs A) → TablesView
-tables_view s t c rs = record {
-  entries = entries_at (place s) (ticket_at t);
-  room = λ r. least_room (slab_room s) (spare t) (spare c) (runs_room (slice_get rs r));
-  realms = length rs;
-}
+-- a realm's entries, and for how many more of it there is room
+pub record RealmView : Type 0 where
+  pub entries : List PlainEntry
+  pub room : ℕ
+
+-- so many realms from r on
+unfoldable pub views_from : (ℕ → List PlainEntry) → (ℕ → ℕ) → ℕ → ℕ → List RealmView
+views_from E room r zero = []
+views_from E room r (suc n) = record { entries = E r; room = room r } ∷ views_from E room (r + 1) n
+
+-- what the tables show: each realm that is kept here
+abbrev pub tables_view : {A H : Type 0} → Slab (Slot A) → IndexMap TicketKey ℕ H → IndexMap ClientKey ℕ H → List (Runs A) → List RealmView
+tables_view s t c rs = views_from (entries_at (place s) (ticket_at t)) (room_at s t c rs) 0 (length rs)
+
+-- the realm of an index there: one that isn't kept has no entries and no room
+abbrev pub realm_in : List RealmView → ℕ → RealmView
+realm_in v r = slice_index_or v r (record { entries = []; room = 0 })
+
+abbrev pub entries_in : List RealmView → ℕ → List PlainEntry
+entries_in v r = (realm_in v r).entries
+
+abbrev pub room_in : List RealmView → ℕ → ℕ
+room_in v r = (realm_in v r).room
 
 -- whether the realm of an index is kept here
-abbrev pub keeps_in : TablesView → ℕ → Bool
-keeps_in t r = nat_lt r t.realms
-
-abbrev pub entries_in : TablesView → ℕ → List PlainEntry
-entries_in t r = t.entries r
-
-abbrev pub room_in : TablesView → ℕ → ℕ
-room_in t r = t.room r
+abbrev pub keeps_in : List RealmView → ℕ → Bool
+keeps_in v r = nat_lt r (length v)
 
 -- the entry that a slot holds changes
 abbrev pub with_entry : PlainEntry → Option Stored → Option Stored

@@ -5,6 +5,10 @@
 
 mod index;
 mod mark;
+mod realms;
 mod run;
 mod runs;
 mod slots;
+mod tables;
+
+pub use tables::Tables;

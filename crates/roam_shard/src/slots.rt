@@ -2,7 +2,7 @@
 
 ghost use Rattle.std.specs.Prelude.{◌≡◌, ◌≤◌, ◌+◌, None, Some, IsSome, option_map};
 ghost use Rattle.slab.specs.Slab.{HasRoomFor};
-ghost use Rattle.roam_pending.specs.Shown.{shown};
+ghost use Rattle.roam_pending.specs.Shown.{seen, shown};
 ghost use Rattle.roam_shard.specs.Indexes.{PutsAt};
 ghost use Rattle.roam_shard.specs.Stands.{place, slab_room, stored, with_entry};
 
@@ -52,5 +52,15 @@ pub(crate) fn exchange<A: Allocator>(
     match slots.get_mut(at) {
         Some(slot) => mem::swap(&mut slot.entry, entry),
         None => unreachable!(),
+    }
+}
+
+/// The entry of a slot.
+pub(crate) fn entry_in<A: Allocator>(slots: &Slab<Slot<A>, A>, at: usize) -> Option<&Entry<A>>
+    ensures { seen result ≡ option_map (λ x. x.entry) (place slots.now at) }
+{
+    match slots.get(at) {
+        None => None,
+        Some(slot) => Some(&slot.entry),
     }
 }

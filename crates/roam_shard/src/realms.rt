@@ -1,0 +1,56 @@
+//! The runs of each realm.
+
+ghost use Rattle.std.specs.Prelude.{◌≡◌, ◌<◌, Some, OnOk, IsOk, length, slice_get};
+ghost use Rattle.roam_shard.specs.Marks.{CanEnter, CanLeave, Changes, Enters, Leaves, SameRuns};
+ghost use Rattle.roam_shard.specs.Stands.{AtRealm, runs_room};
+
+use crate::mark::Mark;
+use crate::runs::Runs;
+use roam_wire::NoMemory;
+use std::alloc::Allocator;
+
+/// Makes room in a realm's runs for one entry more. Nothing comes in or goes.
+pub(crate) fn make_room_at<A: Allocator>(
+    realms: &mut Vec<Runs<A>, A>,
+    realm: u16,
+) -> Result<(), NoMemory>
+    requires within { realm < length realms.old.items }
+    ensures ok { OnOk result (0 < runs_room (slice_get realms.new.items realm)) }
+    ensures same { AtRealm SameRuns realms.old.items realms.new.items realm }
+    ensures succeeds { 0 < runs_room (slice_get realms.old.items realm) → IsOk result }
+{
+    realms[usize::from(realm)].reserve()
+}
+
+/// An entry of a realm comes in. Takes no memory.
+pub(crate) fn add_at<A: Allocator>(realms: &mut Vec<Runs<A>, A>, realm: u16, mark: Mark)
+    requires within { realm < length realms.old.items }
+    requires can { (q : _) → slice_get realms.old.items realm ≡ Some q → CanEnter mark q }
+    ensures { AtRealm (Enters mark) realms.old.items realms.new.items realm }
+{
+    realms[usize::from(realm)].add(mark);
+}
+
+/// An entry of a realm goes.
+pub(crate) fn take_at<A: Allocator>(realms: &mut Vec<Runs<A>, A>, realm: u16, mark: Mark)
+    requires within { realm < length realms.old.items }
+    requires can { (q : _) → slice_get realms.old.items realm ≡ Some q → CanLeave mark q }
+    ensures { AtRealm (Leaves mark) realms.old.items realms.new.items realm }
+{
+    realms[usize::from(realm)].take(mark);
+}
+
+/// An entry of a realm has another mark now. Takes no memory.
+pub(crate) fn change_at<A: Allocator>(
+    realms: &mut Vec<Runs<A>, A>,
+    realm: u16,
+    from: Mark,
+    to: Mark,
+)
+    requires within { realm < length realms.old.items }
+    requires leaves { (q : _) → slice_get realms.old.items realm ≡ Some q → CanLeave from q }
+    requires enters { (q p : _) → slice_get realms.old.items realm ≡ Some q → Leaves from q p → CanEnter to p }
+    ensures { AtRealm (Changes from to) realms.old.items realms.new.items realm }
+{
+    realms[usize::from(realm)].change(from, to);
+}
