@@ -11,3 +11,4 @@ pub mod RoomLemmas
 pub mod StepLemmas
 pub mod RealmLemmas
 pub mod ViewLemmas
+pub mod TablesLemmas

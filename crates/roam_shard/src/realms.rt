@@ -1,6 +1,6 @@
 //! The runs of each realm.
 
-ghost use Rattle.std.specs.Prelude.{◌≡◌, ◌<◌, Some, OnOk, IsOk, length, slice_get};
+ghost use Rattle.std.specs.Prelude.{◌≡◌, ◌<◌, Some, OnOk, IsOk, length, option_copied, slice_get};
 ghost use Rattle.roam_shard.specs.Marks.{CanEnter, CanLeave, Changes, Enters, Leaves, SameRuns};
 ghost use Rattle.roam_shard.specs.Stands.{AtRealm, runs_room};
 
@@ -8,6 +8,13 @@ use crate::mark::Mark;
 use crate::runs::Runs;
 use roam_wire::NoMemory;
 use std::alloc::Allocator;
+
+/// The runs of a realm, if it is kept here.
+pub(crate) fn runs_of<A: Allocator>(realms: &Vec<Runs<A>, A>, realm: u16) -> Option<&Runs<A>>
+    ensures { option_copied result ≡ slice_get realms.now.items realm }
+{
+    realms.get(usize::from(realm))
+}
 
 /// Makes room in a realm's runs for one entry more. Nothing comes in or goes.
 pub(crate) fn make_room_at<A: Allocator>(

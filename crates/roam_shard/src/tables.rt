@@ -13,7 +13,7 @@ use crate::index::{
     ticket_slot,
 };
 use crate::mark::mark_of;
-use crate::realms::{add_at, change_at, take_at};
+use crate::realms::{add_at, change_at, runs_of, take_at};
 use crate::runs::Runs;
 use crate::slots::{Slot, entry_in, exchange, put, take};
 use roam_pending::{Due, Entry, Key};
@@ -54,7 +54,7 @@ impl<A: Allocator + Copy> Tables<A> {
         ensures len { result ≡ length (entries_in self.now realm) }
         ensures list { IsEntryList (entries_in self.now realm) }
     {
-        match self.realms.get(usize::from(realm)) {
+        match runs_of(&self.realms, realm) {
             None => 0,
             Some(runs) => runs.len(),
         }
@@ -86,7 +86,7 @@ impl<A: Allocator + Copy> Tables<A> {
     pub fn first_done(&self, realm: u16, except: Option<u64>) -> Option<u64>
         ensures { result ≡ first_done (besides except (entries_in self.now realm)) }
     {
-        match self.realms.get(usize::from(realm)) {
+        match runs_of(&self.realms, realm) {
             None => None,
             Some(runs) => runs.first_done(except),
         }
@@ -98,7 +98,7 @@ impl<A: Allocator + Copy> Tables<A> {
         ensures found { result ≡ due_after now last (entries_in self.now realm) }
         ensures list { IsEntryList (entries_in self.now realm) }
     {
-        match self.realms.get(usize::from(realm)) {
+        match runs_of(&self.realms, realm) {
             None => None,
             Some(runs) => {
                 match runs.next(last) {
