@@ -12,3 +12,4 @@ pub mod StepLemmas
 pub mod RealmLemmas
 pub mod ViewLemmas
 pub mod TablesLemmas
+pub mod UpdateLemmas

@@ -37,6 +37,9 @@ ticket_key x = record { realm = x.realm; ticket = x.entry.ticket }
 abbrev pub client_key : Stored → ClientKey
 client_key x = record { realm = x.realm; key = x.entry.request.key }
 
+abbrev pub ticket_key_of : ℕ → ℕ → TicketKey
+ticket_key_of r t = record { realm = r; ticket = t }
+
 -- the slot of a key
 abbrev pub ticket_eq : TicketKey → TicketKey → Bool
 ticket_eq a b = (ticket_keys.ghosts).eq a b

@@ -3,7 +3,8 @@
 ghost use Rattle.std.specs.Prelude.{◌≡◌, ◌<◌, ◌≤◌, ◌+◌, None, Some};
 ghost use Rattle.indexmap.specs.IndexMap.{spare};
 ghost use Rattle.roam_shard.specs.Indexes.{Puts};
-ghost use Rattle.roam_shard.specs.Stands.{client_at, client_eq, ticket_at, ticket_eq};
+ghost use Rattle.roam_shard.specs.Stands.{client_at, client_eq, ticket_at, ticket_eq, ticket_key_of};
+ghost use Rattle.roam_shard.specs.Listed.{tickets_end};
 
 use indexmap::IndexMap;
 use roam_pending::Key;
@@ -50,14 +51,18 @@ pub(crate) fn client_slot<A: Allocator + Copy>(
 /// Notes the slot of a ticket, where there is room. Takes no memory.
 pub(crate) fn note_ticket<A: Allocator + Copy>(
     index: &mut Index<TicketKey, A>,
-    key: TicketKey,
+    realm: u16,
+    ticket: u64,
     slot: usize,
 )
     requires { 0 < spare index.old }
-    ensures puts { Puts ticket_eq (ticket_at index.old) (ticket_at index.new) key (Some slot) }
+    ensures puts { Puts ticket_eq (ticket_at index.old) (ticket_at index.new) (ticket_key_of realm ticket) (Some slot) }
     ensures room { spare index.old ≤ spare index.new + 1 }
+
+    // A ticket is a `u64`.
+    ensures range { ticket < tickets_end }
 {
-    let _old = index.insert(key, slot).unwrap();
+    let _old = index.insert(TicketKey { realm, ticket }, slot).unwrap();
 }
 
 /// Notes the slot of a request's key, where there is room. Takes no memory.

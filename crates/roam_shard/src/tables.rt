@@ -124,16 +124,12 @@ impl<A: Allocator + Copy> Tables<A> {
         ensures realms { length self.new ≡ length self.old }
     {
         let mark = mark_of(&entry);
-        let ticket = TicketKey {
-            realm,
-            ticket: entry.ticket,
-        };
         let client = ClientKey {
             realm,
             key: entry.request.key,
         };
         let at = put(&mut self.slots, Slot { realm, entry });
-        note_ticket(&mut self.by_ticket, ticket, at);
+        note_ticket(&mut self.by_ticket, realm, mark.due.ticket, at);
         note_client(&mut self.by_client, client, at);
         add_at(&mut self.realms, realm, mark);
     }
