@@ -1,5 +1,5 @@
 -- What the runs of a realm have of its entries (ours).
-use Rattle.std.specs.Prelude.{◌≡◌, ◌≢◌, ◌⊎◌, ℕ, ◌+◌, ◌≤◌, Bool, List, Option, Some, None, option_and_then, if◌then◌else◌, length}
+use Rattle.std.specs.Prelude.{◌≡◌, ◌≢◌, ◌⊎◌, ℕ, ◌+◌, ◌≤◌, Bool, List, [], Option, Some, None, option_and_then, if◌then◌else◌, length}
 use Rattle.std.specs.Ordering.{nat_cmp}
 use Rattle.std.specs.VecDeque.{deque_len, deque_capacity}
 use Rattle.std.specs.declared.cmp.Ordering.{Ordering}
@@ -143,3 +143,11 @@ module _ {A : Type 0} where
     pub count : length (listed f 0 tickets_end) ≡ held q
     pub paired : ArePaired q
     pub room : Holds q (held q)
+
+  -- the runs of no entry
+  pub record AreEmpty (q : Runs A) : Type 0 where
+    pub waits : q.waits.items ≡ []
+    pub holds : q.holds.items ≡ []
+    pub tickets : q.tickets.items ≡ []
+    pub held : held q ≡ 0
+    pub paired : ArePaired q

@@ -3,6 +3,8 @@
 //! Nothing here builds or reads a packet, looks at a clock or chooses a target.
 #![tactic(auto)]
 
+mod all_realms;
+mod growth;
 mod index;
 mod mark;
 mod realms;

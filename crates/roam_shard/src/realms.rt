@@ -1,13 +1,28 @@
 //! The runs of each realm.
 
-ghost use Rattle.std.specs.Prelude.{◌≡◌, ◌<◌, Some, OnOk, IsOk, length, option_copied, slice_get};
-ghost use Rattle.roam_shard.specs.Marks.{CanEnter, CanLeave, Changes, Enters, Leaves, SameRuns};
+ghost use Rattle.std.specs.Prelude.{◌≡◌, ◌<◌, Some, All, IfOk, OnOk, IsOk, length, option_copied, slice_get};
+ghost use Rattle.roam_shard.specs.Marks.{AreEmpty, CanEnter, CanLeave, Changes, Enters, Leaves, SameRuns};
 ghost use Rattle.roam_shard.specs.Stands.{AtRealm, runs_room};
 
 use crate::mark::Mark;
 use crate::runs::Runs;
 use roam_wire::NoMemory;
 use std::alloc::Allocator;
+
+/// The runs of so many realms without entries.
+pub(crate) fn no_entries<A: Allocator + Copy>(
+    alloc: A,
+    count: usize,
+) -> Result<Vec<Runs<A>, A>, NoMemory>
+    ensures count { IfOk result (λ realms. length realms.items ≡ count) }
+    ensures empty { IfOk result (λ realms. All AreEmpty realms.items) }
+{
+    let mut realms = Vec::with_capacity(alloc, count).map_err(|_| NoMemory)?;
+    for _ in 0..count {
+        realms.push_reserved(Runs::new(alloc));
+    }
+    Ok(realms)
+}
 
 /// The runs of a realm, if it is kept here.
 pub(crate) fn runs_of<A: Allocator>(realms: &Vec<Runs<A>, A>, realm: u16) -> Option<&Runs<A>>

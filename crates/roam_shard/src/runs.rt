@@ -1,9 +1,9 @@
 //! The runs of a realm: when its entries are due, and which may make way.
 
-ghost use Rattle.std.specs.Prelude.{◌≡◌, ◌⊎◌, ◌+◌, [], OnOk, IsOk};
+ghost use Rattle.std.specs.Prelude.{◌≡◌, ◌⊎◌, ◌+◌, OnOk, IsOk};
 ghost use Rattle.roam_pending.specs.EntryList.{is_beside};
 ghost use Rattle.roam_shard.specs.Rising.{AmongBoth, IsFirstBesides, IsNextOf};
-ghost use Rattle.roam_shard.specs.Marks.{AllRise, ArePaired, CanEnter, CanLeave, Changes, Enters, Holds, Leaves, SameRuns, held};
+ghost use Rattle.roam_shard.specs.Marks.{AllRise, AreEmpty, CanEnter, CanLeave, Changes, Enters, Holds, Leaves, SameRuns, held};
 
 use crate::mark::Mark;
 use crate::run::{add_due, add_ticket, drop_due, drop_ticket, make_room, next_due};
@@ -134,11 +134,7 @@ impl<A: Allocator> Runs<A> {
 impl<A: Allocator + Copy> Runs<A> {
     /// The runs of no entry. Takes no memory.
     pub fn new(alloc: A) -> Runs<A>
-        ensures waits { result.waits.items ≡ [] }
-        ensures holds { result.holds.items ≡ [] }
-        ensures tickets { result.tickets.items ≡ [] }
-        ensures held { held result ≡ 0 }
-        ensures paired { ArePaired result }
+        ensures { AreEmpty result }
     {
         Runs {
             waits: VecDeque::new(alloc),

@@ -1,6 +1,6 @@
 //! The entries of all realms of a shard in one slab, with indexes and runs beside it.
 
-ghost use Rattle.std.specs.Prelude.{◌≡◌, ◌<◌, ◌≤◌, ◌+◌, Some, OnOk, IsOk, IfOk, length};
+ghost use Rattle.std.specs.Prelude.{◌≡◌, ℕ, ◌<◌, ◌≤◌, ◌+◌, [], Some, OnOk, IsOk, IfOk, length};
 ghost use Rattle.indexmap.specs.IndexMap.{spare};
 ghost use Rattle.roam_pending.specs.DueOrder.{due_after};
 ghost use Rattle.roam_pending.specs.EntryList.{HasPlaceOf, IsEntryList, IsNew, besides, find_client, find_ticket, first_done, put, without};
@@ -8,14 +8,16 @@ ghost use Rattle.roam_pending.specs.Realms.{RealmBecomes};
 ghost use Rattle.roam_pending.specs.Shown.{seen, shown, taken};
 ghost use Rattle.roam_shard.specs.Stands.{AtRealm, client_at, entries_in, place, room_in, runs_room, slab_room, ticket_at};
 
+use crate::growth::grow;
 use crate::index::{
     ClientKey, Index, TicketKey, client_slot, forget_client, forget_ticket, note_client, note_ticket,
     ticket_slot,
 };
 use crate::mark::mark_of;
-use crate::realms::{add_at, change_at, runs_of, take_at};
+use crate::realms::{add_at, change_at, no_entries, runs_of, take_at};
 use crate::runs::Runs;
 use crate::slots::{Slot, entry_in, exchange, put, take};
+use indexmap::IndexMap;
 use roam_pending::{Due, Entry, Key};
 use roam_wire::NoMemory;
 use slab::Slab;
@@ -49,6 +51,20 @@ impl<A: Allocator> Model for Tables<A> {
 }
 
 impl<A: Allocator + Copy> Tables<A> {
+    /// The tables of so many realms without entries.
+    pub fn new(alloc: A, realms: usize) -> Result<Tables<A>, NoMemory>
+        ensures realms { IfOk result (λ t. length t ≡ realms) }
+        ensures entries { IfOk result (λ t. (r : ℕ) → entries_in t r ≡ []) }
+    {
+        let runs = no_entries(alloc, realms)?;
+        Ok(Tables {
+            slots: Slab::new(alloc),
+            by_ticket: IndexMap::new(alloc),
+            by_client: IndexMap::new(alloc),
+            realms: runs,
+        })
+    }
+
     /// How many entries a realm has.
     pub fn len(&self, realm: u16) -> usize
         ensures len { result ≡ length (entries_in self.now realm) }
@@ -113,6 +129,24 @@ impl<A: Allocator + Copy> Tables<A> {
                 }
             }
         }
+    }
+
+    /// Makes room for one entry more of a realm that is kept here. No entry changes.
+    pub fn reserve(&mut self, realm: u16) -> Result<(), NoMemory>
+        requires kept { realm < length self.old }
+        ensures ok { OnOk result (0 < room_in self.new realm) }
+        ensures succeeds { 0 < room_in self.old realm → IsOk result }
+        ensures entries { entries_in self.new ≡ entries_in self.old }
+        ensures room { room_in self.old realm ≤ room_in self.new realm }
+        ensures realms { length self.new ≡ length self.old }
+    {
+        grow(
+            &mut self.slots,
+            &mut self.by_ticket,
+            &mut self.by_client,
+            &mut self.realms,
+            realm,
+        )
     }
 
     /// Puts a new entry of a realm in order of ticket, where there is room. Takes no memory.
