@@ -13,3 +13,4 @@ pub mod RealmLemmas
 pub mod ViewLemmas
 pub mod TablesLemmas
 pub mod UpdateLemmas
+pub mod GrowthLemmas
