@@ -1,15 +1,15 @@
 -- How many entries there are after a change, and the runs of an entry that changes.
-use Rattle.std.proofs.Common.{◌≡◌, ◌≢◌, ◌⊎◌, ℕ, ◌+◌, ◌<◌, ◌≤◌, Bool, true, false, List, length, Option, Some, None, refl, ap, sym, ◌∙◌, subst, inl, inr, arith, eqb}
+use Rattle.std.proofs.Common.{◌≡◌, ◌≢◌, ℕ, ◌+◌, ◌<◌, length, Option, Some, None, refl, ap, sym, ◌∙◌, subst, inl, inr, arith, eqb}
 use Rattle.std.specs.Prelude.{option_and_then, if◌then◌else◌}
 use Rattle.std.proofs.lemmas.Bool.{cases_eq}
 use Rattle.roam_pending.specs.PlainEntry.{PlainEntry, has_ticket}
-use Rattle.roam_pending.specs.EntryList.{find_ticket, without}
+use Rattle.roam_pending.specs.EntryList.{find_ticket}
 use Rattle.roam_pending.proofs.TestLemmas.{same, differs}
 use Rattle.roam_pending.proofs.ChangeLemmas.{length-without}
 use Rattle.roam_shard.specs.declared.mark.Mark.{Mark}
 use Rattle.roam_shard.specs.declared.runs.Runs.{Runs}
 use Rattle.roam_shard.specs.Listed.{listed, tickets_end}
-use Rattle.roam_shard.specs.Marks.{mark_of, waits_part, holds_part, tickets_part, part_at, Tells, held, Holds, HoldsAsMany, SameRuns, CanEnter, Enters, Leaves, Moves, Changes, IsRunsOf}
+use Rattle.roam_shard.specs.Marks.{mark_of, waits_part, holds_part, tickets_part, part_at, held, Holds, SameRuns, CanEnter, Leaves, Changes, IsRunsOf}
 use Rattle.roam_shard.proofs.ListedLemmas.{IsNumbered, order-listed, find-listed, listed-without}
 use Rattle.roam_shard.proofs.MarkLemmas.{tells-same, can_enter, runs_enter, runs_leave, holds_more}
 
@@ -61,7 +61,6 @@ runs_same f q p runs same = record {
 
 module _ {A : Type 0} (f g : ℕ → Option PlainEntry) (numf : IsNumbered f) (numg : IsNumbered g) (t : ℕ) (below : t < tickets_end) (e x : PlainEntry) (at : f t ≡ Some e)
     (q : Runs A) (runs : IsRunsOf f q) where
-
   -- once the entry went, one of its ticket may come in
   after_leaving : (p : Runs A) → Leaves (mark_of e) q p → IsRunsOf (except_at t f) p
   after_leaving p leaves =
@@ -88,13 +87,13 @@ module _ {A : Type 0} (f g : ℕ → Option PlainEntry) (numf : IsNumbered f) (n
     pub runs_change : (p : Runs A) → Changes (mark_of e) (mark_of x) q p → IsRunsOf g p
     runs_change p changes = elim changes as (λ _. IsRunsOf g p) [
       | inl stays ↦ subst (λ (z : Runs A). IsRunsOf g z) (sym stays.1) (record {
-          waits = tells-same _ _ _ q.waits.items runs.waits (same_part waits_part stays.0);
-          holds = tells-same _ _ _ q.holds.items runs.holds (same_part holds_part stays.0);
-          tickets = tells-same _ _ _ q.tickets.items runs.tickets (same_part tickets_part stays.0);
-          count = same_length ∙ runs.count;
-          paired = runs.paired;
-          room = runs.room;
-        })
+        waits = tells-same _ _ _ q.waits.items runs.waits (same_part waits_part stays.0);
+        holds = tells-same _ _ _ q.holds.items runs.holds (same_part holds_part stays.0);
+        tickets = tells-same _ _ _ q.tickets.items runs.tickets (same_part tickets_part stays.0);
+        count = same_length ∙ runs.count;
+        paired = runs.paired;
+        room = runs.room;
+      })
       | inr moves ↦ (
           let mid = after_leaving moves.between moves.leaves in
           let fewer = one_fewer f numf t below (except_at t f) e at (except-here t f) (λ u ne. except-other t f u ne) in

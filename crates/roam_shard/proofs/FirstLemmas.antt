@@ -1,23 +1,20 @@
 -- What the runs of a realm say of its list: what is due, and what may make way.
-use Rattle.std.proofs.Common.{◌≡◌, ◌≢◌, ◌⊎◌, ℕ, ◌+◌, ◌<◌, ◌≤◌, Bool, true, false, List, [], ◌∷◌, Option, Some, None, refl, ap, sym, ◌∙◌, subst, inl, inr, arith}
-use Rattle.std.specs.Prelude.{option_map, option_and_then, ◌&&◌, if◌then◌else◌}
-use Rattle.std.specs.List.{AllByRecursion, find}
-use Rattle.std.specs.Ordering.{nat_cmp}
-use Rattle.std.specs.declared.cmp.Ordering.TheVariants.{Less}
+use Rattle.std.proofs.Common.{◌≡◌, ◌⊎◌, ℕ, ◌<◌, ◌≤◌, Bool, true, false, List, [], ◌∷◌, Option, Some, None, refl, ap, sym, ◌∙◌, subst, inl, inr, arith}
+use Rattle.std.specs.Prelude.{option_map, option_and_then, ◌&&◌}
+use Rattle.std.specs.List.{find}
 use Rattle.std.proofs.lemmas.Bool.{cases_Bool}
 use Rattle.std.proofs.lemmas.Bool.Decides.{nat_tests}
 use Rattle.roam_pending.specs.declared.due.Due.{Due}
 use Rattle.roam_pending.specs.DueOrder.{is_after, is_before, due_at, due_list, due_after}
 use Rattle.roam_pending.specs.EntryList.{IsInOrder, besides, first_done, is_beside, is_done_beside}
-use Rattle.roam_pending.specs.ListLaws.{IsIn, AreRising, IsDueEntry}
+use Rattle.roam_pending.specs.ListLaws.{IsIn, AreRising}
 use Rattle.roam_pending.specs.PlainEntry.{PlainEntry, is_done}
 use Rattle.roam_pending.proofs.DueListLemmas.{strict-due, due-in, in-due}
 use Rattle.roam_pending.proofs.FindLemmas.{first_done-besides}
-use Rattle.roam_shard.specs.declared.mark.Mark.{Mark}
 use Rattle.roam_shard.specs.declared.runs.Runs.{Runs}
-use Rattle.roam_shard.specs.Rising.{AmongBoth, IsNext, NoneNext, IsNextOf, IsFirstBesides, IsLeastBesides, due_cmp}
+use Rattle.roam_shard.specs.Rising.{AmongBoth, IsNext, NoneNext, IsFirstBesides}
 use Rattle.roam_shard.specs.Listed.{listed, tickets_end}
-use Rattle.roam_shard.specs.Marks.{mark_of, waits_part, holds_part, tickets_part, part_at, IsRunsOf}
+use Rattle.roam_shard.specs.Marks.{mark_of, waits_part, holds_part, tickets_part, IsRunsOf}
 use Rattle.roam_shard.proofs.RisingLemmas.{All-in, due_less_before}
 use Rattle.roam_shard.proofs.ListedLemmas.{IsNumbered, order-listed, find-listed, find-listed_none, in-listed, from-listed}
 

@@ -1,9 +1,8 @@
 -- What growing leaves.
-use Rattle.std.proofs.Common.{◌≡◌, ℕ, ◌+◌, ◌<◌, ◌≤◌, List, length, Option, Result, Ok, Err, refl, ap, sym, ◌∙◌, subst, arith}
+use Rattle.std.proofs.Common.{◌≡◌, ℕ, ◌<◌, ◌≤◌, List, length, Option, Result, Ok, Err, refl, ap, sym, ◌∙◌, subst, arith}
 use Rattle.std.specs.Prelude.{OnOk}
 use Rattle.slab.specs.Slab.{Slab}
 use Rattle.indexmap.specs.IndexMap.{IndexMap, spare}
-use Rattle.roam_pending.specs.PlainEntry.{PlainEntry}
 use Rattle.roam_shard.specs.declared.slots.Slot.{Slot}
 use Rattle.roam_shard.specs.declared.index.TicketKey.{TicketKey}
 use Rattle.roam_shard.specs.declared.index.ClientKey.{ClientKey}

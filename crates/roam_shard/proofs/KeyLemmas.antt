@@ -1,5 +1,5 @@
 -- Keys are told apart by the tests that the indexes use.
-use Rattle.std.proofs.Common.{◌≡◌, ◌≢◌, ℕ, Bool, true, false, refl, ap, sym, ◌∙◌, subst, arith, eqb}
+use Rattle.std.proofs.Common.{◌≡◌, ℕ, Bool, true, false, refl, ap, sym, ◌∙◌, arith, eqb}
 use Rattle.std.specs.Prelude.{◌&&◌}
 use Rattle.std.proofs.lemmas.Bool.Decides.{nat_tests}
 use Rattle.roam_pending.specs.declared.key.Key.{Key}
@@ -10,7 +10,6 @@ use Rattle.roam_pending.specs.contracts.key.KeyPartialEq.TheImpl as keys
 use Rattle.roam_pending.specs.PlainEntry.{same_endpoint, same_key, same_place}
 use Rattle.roam_pending.proofs.TestLemmas.{same, key_is_same}
 use Rattle.roam_pending.proofs.ClientLemmas.{key-equal}
-use Rattle.roam_shard.specs.declared.index.TicketKey.{TicketKey}
 use Rattle.roam_shard.specs.declared.index.ClientKey.{ClientKey}
 use Rattle.roam_shard.specs.Stands.{ticket_eq, client_eq}
 use Rattle.roam_shard.proofs.IndexLemmas.{IsEquality}

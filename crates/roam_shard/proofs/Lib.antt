@@ -14,3 +14,4 @@ pub mod ViewLemmas
 pub mod TablesLemmas
 pub mod UpdateLemmas
 pub mod GrowthLemmas
+pub mod OpeningLemmas

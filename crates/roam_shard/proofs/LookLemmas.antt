@@ -1,7 +1,6 @@
 -- What the tables say of a realm's list.
-use Rattle.std.proofs.Common.{◌≡◌, ◌≢◌, ℕ, ◌+◌, ◌<◌, ◌≤◌, Bool, true, false, List, [], length, Option, Some, None, refl, ap, sym, ◌∙◌, subst, inl, inr, arith}
+use Rattle.std.proofs.Common.{◌≡◌, ℕ, ◌<◌, ◌≤◌, true, false, List, [], length, Option, Some, None, refl, ap, sym, ◌∙◌, subst, inl, inr, arith}
 use Rattle.std.specs.Prelude.{option_map, option_and_then}
-use Rattle.std.specs.List.{find}
 use Rattle.std.proofs.lemmas.Bool.{cases_Bool}
 use Rattle.roam_pending.specs.declared.key.Key.{Key}
 use Rattle.roam_pending.specs.PlainEntry.{PlainEntry, has_key, has_ticket, same_key}
@@ -12,8 +11,8 @@ use Rattle.roam_shard.specs.declared.index.TicketKey.{TicketKey}
 use Rattle.roam_shard.specs.declared.index.ClientKey.{ClientKey}
 use Rattle.roam_shard.specs.declared.runs.Runs.{Runs}
 use Rattle.roam_shard.specs.Indexes.{look}
-use Rattle.roam_shard.specs.Listed.{listed, tickets_end}
-use Rattle.roam_shard.specs.Stands.{Stored, ticket_key, client_key, entry_at, entries_at, Sound}
+use Rattle.roam_shard.specs.Listed.{tickets_end}
+use Rattle.roam_shard.specs.Stands.{Stored, entry_at, entries_at, Sound}
 use Rattle.roam_shard.proofs.ListedLemmas.{IsNumbered, HasOwnKeys, list-listed, find-listed, find-listed_none, listed_nobody}
 
 module _ {A : Type 0} (S : ℕ → Option Stored) (T : TicketKey → Option ℕ) (C : ClientKey → Option ℕ) (rs : List (Runs A)) (sound : Sound S T C rs) where

@@ -1,18 +1,16 @@
 -- The runs of a realm follow its entries.
-use Rattle.std.proofs.Common.{◌≡◌, ◌≢◌, ◌⊎◌, ℕ, ◌+◌, ◌<◌, ◌≤◌, Bool, true, false, List, length, Option, Some, None, refl, ap, sym, ◌∙◌, subst, inl, inr, arith, Ordering}
+use Rattle.std.proofs.Common.{◌≡◌, ◌≢◌, ℕ, ◌+◌, ◌≤◌, Bool, true, false, List, length, Option, Some, None, refl, ap, sym, ◌∙◌, subst, inl, inr, arith, Ordering}
 use Rattle.std.specs.Prelude.{option_and_then, if◌then◌else◌}
 use Rattle.std.specs.Ordering.{nat_cmp}
-use Rattle.std.proofs.lemmas.Bool.{cases_Bool, cases_eq}
-use Rattle.std.specs.VecDeque.{deque_len}
+use Rattle.std.proofs.lemmas.Bool.{cases_eq}
 use Rattle.roam_pending.specs.declared.due.Due.{Due}
-use Rattle.roam_pending.specs.DueOrder.{due_at}
 use Rattle.roam_pending.specs.ListLaws.{IsIn}
-use Rattle.roam_pending.specs.PlainEntry.{PlainEntry, is_done}
+use Rattle.roam_pending.specs.PlainEntry.{PlainEntry}
 use Rattle.roam_shard.specs.declared.mark.Mark.{Mark}
 use Rattle.roam_shard.specs.declared.runs.Runs.{Runs}
-use Rattle.roam_shard.specs.Rising.{Adds, Drops, Rises, due_cmp}
+use Rattle.roam_shard.specs.Rising.{Rises, due_cmp}
 use Rattle.roam_shard.specs.Listed.{listed, tickets_end}
-use Rattle.roam_shard.specs.Marks.{mark_of, waits_part, holds_part, tickets_part, part_at, Tells, Gains, Loses, IsAbsent, IsPresent, held, Holds, HoldsAsMany, SameRuns, AllRise, ArePaired, CanEnter, Enters, CanLeave, Leaves, Moves, Changes, IsRunsOf}
+use Rattle.roam_shard.specs.Marks.{mark_of, waits_part, holds_part, tickets_part, part_at, Tells, Gains, Loses, IsAbsent, IsPresent, held, Holds, HoldsAsMany, AllRise, CanEnter, Enters, CanLeave, Leaves, IsRunsOf}
 use Rattle.roam_shard.proofs.ListedLemmas.{IsNumbered}
 
 module _ {X : Type 0} (cmp : X → X → Ordering) (P Q : ℕ → Option X) (xs ys : List X) (t : ℕ) (tells : Tells cmp P xs) (rises : Rises cmp ys)

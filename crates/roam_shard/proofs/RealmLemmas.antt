@@ -1,13 +1,10 @@
 -- The runs of one realm change in their place.
-use Rattle.std.proofs.Common.{◌≡◌, ◌≢◌, ℕ, zero, suc, ◌+◌, ◌<◌, List, [], ◌∷◌, length, get_or, Option, Some, None, refl, ap, sym, ◌∙◌, subst, arith}
+use Rattle.std.proofs.Common.{◌≡◌, ◌≢◌, ℕ, zero, suc, ◌<◌, List, [], ◌∷◌, length, get_or, Some, refl, ap, sym, ◌∙◌, subst, arith}
 use Rattle.std.specs.Prelude.{slice_get}
 use Rattle.std.proofs.Math.ListN.{set, length-set}
 use Rattle.std.proofs.lemmas.List.{get_or-set_same}
 use Rattle.std.proofs.lemmas.Option.{slice_get-get_or}
-use Rattle.roam_shard.specs.declared.runs.Runs.{Runs}
-use Rattle.roam_shard.specs.Marks.{SameRuns, held, Holds}
-use Rattle.roam_shard.specs.Stands.{AtRealm, runs_room}
-use Rattle.roam_shard.proofs.RoomLemmas.{holds_room, room_holds}
+use Rattle.roam_shard.specs.Stands.{AtRealm}
 
 get-set_other : {X : Type 0} (xs : List X) (i q : ℕ) (a : X) → q ≢ i → slice_get (set xs i a) q ≡ slice_get xs q
 get-set_other [] zero q a ne = refl

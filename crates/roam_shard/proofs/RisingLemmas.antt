@@ -1,5 +1,5 @@
 -- A row that rises: a value's place, what comes in and goes, and the first after another.
-use Rattle.std.proofs.Common.{◌≡◌, ◌≢◌, ◌⊎◌, ℕ, zero, suc, ◌+◌, ◌<◌, ◌≤◌, Bool, true, false, List, [], ◌∷◌, length, get_or, Option, Some, None, Result, Ok, Err, refl, ap, sym, ◌∙◌, subst, inl, inr, arith, Ordering, add-one}
+use Rattle.std.proofs.Common.{◌≡◌, ◌≢◌, ◌⊎◌, ℕ, zero, suc, ◌+◌, ◌<◌, ◌≤◌, true, false, List, [], ◌∷◌, length, get_or, Option, Some, None, Result, Ok, Err, refl, ap, sym, ◌∙◌, subst, inl, inr, arith, Ordering, add-one}
 use Rattle.std.specs.List as list
 use Rattle.std.specs.List.{AllByRecursion}
 use Rattle.std.specs.List.Sorted.{IsBinarySearchResult, IsPartitionPoint, IsSortedBy, IsSearchInRange}
@@ -17,7 +17,7 @@ use Rattle.roam_pending.specs.declared.due.Due.{Due}
 use Rattle.roam_pending.specs.DueOrder.{is_after, is_before}
 use Rattle.roam_pending.specs.EntryList.{is_beside}
 use Rattle.roam_pending.specs.ListLaws.{IsIn}
-use Rattle.roam_shard.specs.Rising.{due_cmp, Rises, IsGap, IsAt, IsPlaceOf, Adds, Drops, IsNext, NoneNext, IsNextOf, AmongRun, AmongBoth, IsLeastBesides, IsFirstBesides, IsStart}
+use Rattle.roam_shard.specs.Rising.{due_cmp, Rises, IsGap, IsAt, IsPlaceOf, Adds, Drops, IsNext, NoneNext, IsNextOf, AmongRun, AmongBoth, IsLeastBesides, IsStart}
 
 pub due_total : IsTotalOrder due_cmp
 due_total = then_total (on_total (λ (d : Due). d.deadline) nat_cmp_total) (on_total (λ (d : Due). d.ticket) nat_cmp_total)

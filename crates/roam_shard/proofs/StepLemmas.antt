@@ -1,6 +1,6 @@
 -- What an entry that comes, goes or changes does to the tables.
-use Rattle.std.proofs.Common.{◌≡◌, ◌≢◌, ◌⊎◌, ℕ, ◌+◌, ◌<◌, ◌≤◌, Bool, true, false, List, length, Option, Some, None, refl, ap, sym, ◌∙◌, subst, inl, inr, arith}
-use Rattle.std.specs.Prelude.{option_map, option_and_then, slice_get}
+use Rattle.std.proofs.Common.{◌≡◌, ◌≢◌, ◌⊎◌, ℕ, ◌+◌, ◌<◌, List, length, Option, Some, None, refl, ap, sym, ◌∙◌, subst, inl, inr, arith}
+use Rattle.std.specs.Prelude.{option_map, slice_get}
 use Rattle.std.proofs.lemmas.Bool.{cases_eq}
 use Rattle.roam_pending.specs.PlainEntry.{PlainEntry}
 use Rattle.roam_pending.specs.EntryList.{IsNew, put, without}
@@ -8,20 +8,19 @@ use Rattle.roam_pending.specs.Realms.{RealmBecomes}
 use Rattle.roam_shard.specs.declared.index.TicketKey.{TicketKey}
 use Rattle.roam_shard.specs.declared.index.ClientKey.{ClientKey}
 use Rattle.roam_shard.specs.declared.runs.Runs.{Runs}
-use Rattle.roam_shard.specs.Indexes.{IsIndex, PutsAt, Puts, look}
+use Rattle.roam_shard.specs.Indexes.{PutsAt, Puts}
 use Rattle.roam_shard.specs.Listed.{listed, tickets_end}
 use Rattle.roam_shard.specs.Marks.{mark_of, held, Holds, SameRuns, Enters, Leaves, Changes, IsRunsOf}
-use Rattle.roam_shard.specs.Stands.{Stored, ticket_key, client_key, ticket_eq, client_eq, entry_at, entries_at, Sound, AtRealm, with_entry}
+use Rattle.roam_shard.specs.Stands.{Stored, ticket_key, client_key, ticket_eq, client_eq, entry_at, entries_at, Sound, AtRealm}
 use Rattle.roam_shard.proofs.IndexLemmas.{puts_here, puts_other, index-new, index-change, index-clear, look-other, look-none}
 use Rattle.roam_shard.proofs.KeyLemmas.{ticket_equality, client_equality}
 use Rattle.roam_shard.proofs.ListedLemmas.{IsNumbered, listed-put, listed-same, listed-without}
-use Rattle.roam_shard.proofs.LookLemmas.{numbered, below_end, ticket_found, client_found, stands_at}
+use Rattle.roam_shard.proofs.LookLemmas.{numbered, ticket_found, client_found, stands_at}
 use Rattle.roam_shard.proofs.MarkLemmas.{runs_enter, runs_leave}
 use Rattle.roam_shard.proofs.ChangeLemmas.{one_fewer, except_at, except-here, except-other, runs_same, runs_change}
 
 -- Entries of each realm and ticket, of which one changes
 module _ (E F : ℕ → ℕ → Option PlainEntry) (r t : ℕ) (others : (q u : ℕ) → (q ≢ r) ⊎ (u ≢ t) → F q u ≡ E q u) (num : IsNumbered (E r)) (small : t < tickets_end) where
-
   here_others : (u : ℕ) → u ≢ t → F r u ≡ E r u
   here_others u ne = others r u (inr ne)
 

@@ -1,10 +1,10 @@
 -- What the calls that change the tables leave.
-use Rattle.std.proofs.Common.{◌≡◌, ◌≢◌, ℕ, zero, suc, ◌+◌, ◌-◌, ◌<◌, ◌≤◌, List, [], ◌∷◌, length, Option, Some, None, refl, ap, sym, ◌∙◌, subst, inl, inr, arith}
-use Rattle.std.specs.Prelude.{option_map, option_and_then, slice_get, if◌then◌else◌, IsSomeAnd}
-use Rattle.slab.specs.Slab.{Slab, HasRoomFor, slab_len}
+use Rattle.std.proofs.Common.{◌≡◌, ℕ, ◌+◌, ◌<◌, ◌≤◌, List, length, Option, Some, None, refl, ap, sym, ◌∙◌, subst, inl, inr, arith}
+use Rattle.std.specs.Prelude.{option_map, slice_get, if◌then◌else◌, IsSomeAnd}
+use Rattle.slab.specs.Slab.{Slab, HasRoomFor}
 use Rattle.indexmap.specs.IndexMap.{IndexMap, spare}
 use Rattle.roam_pending.specs.PlainEntry.{PlainEntry}
-use Rattle.roam_pending.specs.EntryList.{HasPlaceOf, IsNew, find_ticket, find_client, put, without}
+use Rattle.roam_pending.specs.EntryList.{HasPlaceOf, IsNew, find_ticket, put, without}
 use Rattle.roam_pending.specs.Realms.{RealmBecomes}
 use Rattle.roam_pending.proofs.OrderLemmas.{without-absent}
 use Rattle.roam_shard.specs.declared.slots.Slot.{Slot}
@@ -14,8 +14,8 @@ use Rattle.roam_shard.specs.declared.mark.Mark.{Mark}
 use Rattle.roam_shard.specs.declared.runs.Runs.{Runs}
 use Rattle.roam_shard.specs.Indexes.{PutsAt, Puts}
 use Rattle.roam_shard.specs.Listed.{tickets_end}
-use Rattle.roam_shard.specs.Marks.{CanEnter, CanLeave, Changes, Enters, Holds, HoldsAsMany, Leaves, mark_of, held}
-use Rattle.roam_shard.specs.Stands.{AtRealm, RealmView, Sound, Stored, client_at, client_eq, entries_at, entries_in, entry_at, place, room_at, room_in, runs_room, slab_room, tables_view, ticket_at, ticket_eq, ticket_key_of, with_entry}
+use Rattle.roam_shard.specs.Marks.{CanEnter, CanLeave, Changes, Enters, HoldsAsMany, Leaves, mark_of, held}
+use Rattle.roam_shard.specs.Stands.{AtRealm, RealmView, Sound, Stored, client_at, client_eq, entries_at, entries_in, entry_at, place, room_in, runs_room, slab_room, tables_view, ticket_at, ticket_eq, ticket_key_of, with_entry}
 use Rattle.roam_shard.proofs.ChangeLemmas.{can_come_back}
 use Rattle.roam_shard.proofs.LookLemmas.{below_end, numbered, ticket_found}
 use Rattle.roam_shard.proofs.MarkLemmas.{can_enter, can_leave}

@@ -1,5 +1,5 @@
 -- Slots, and an index that finds each by a key (ours).
-use Rattle.std.specs.Prelude.{◌≡◌, ◌≢◌, ℕ, Bool, true, Option, Some, None, if◌then◌else◌, option_and_then}
+use Rattle.std.specs.Prelude.{◌≡◌, ◌≢◌, ℕ, Bool, Option, Some, if◌then◌else◌, option_and_then}
 
 -- what each slot holds and where each key's slot is, for each other
 pub record IsIndex {X K : Type 0} (key : X → K) (S : ℕ → Option X) (I : K → Option ℕ) : Type 0 where

@@ -1,11 +1,10 @@
 -- What the tables stand for (ours).
-use Rattle.std.specs.Prelude.{◌≡◌, ◌≢◌, ℕ, zero, suc, [], ◌∷◌, slice_index_or, ◌+◌, ◌-◌, ◌<◌, ◌==◌, Bool, nat_lt, List, length, Option, Some, None, option_map, slice_get, min}
-use Rattle.std.specs.VecDeque.{deque_len, deque_capacity}
+use Rattle.std.specs.Prelude.{◌≡◌, ◌≢◌, ℕ, zero, suc, [], ◌∷◌, slice_index_or, ◌+◌, ◌-◌, ◌<◌, Bool, nat_lt, List, length, Option, Some, None, option_map, slice_get, min}
+use Rattle.std.specs.VecDeque.{deque_capacity}
 use Rattle.slab.specs.Slab as slab
 use Rattle.slab.specs.Slab.{Slab, slab_len}
 use Rattle.indexmap.specs.IndexMap as map
 use Rattle.indexmap.specs.IndexMap.{IndexMap, spare}
-use Rattle.roam_pending.specs.declared.key.Key.{Key}
 use Rattle.roam_pending.specs.PlainEntry.{PlainEntry}
 use Rattle.roam_pending.specs.Shown.{shown}
 use Rattle.roam_shard.specs.declared.slots.Slot.{Slot}

@@ -1,6 +1,7 @@
 //! The runs of each realm.
 
-ghost use Rattle.std.specs.Prelude.{◌≡◌, ◌<◌, Some, All, IfOk, OnOk, IsOk, length, option_copied, slice_get};
+ghost use Rattle.std.specs.Prelude.{◌≡◌, ◌<◌, Some, IfOk, OnOk, IsOk, length, option_copied, slice_get};
+ghost use Rattle.std.specs.List.{AllByRecursion};
 ghost use Rattle.roam_shard.specs.Marks.{AreEmpty, CanEnter, CanLeave, Changes, Enters, Leaves, SameRuns};
 ghost use Rattle.roam_shard.specs.Stands.{AtRealm, runs_room};
 
@@ -15,7 +16,7 @@ pub(crate) fn no_entries<A: Allocator + Copy>(
     count: usize,
 ) -> Result<Vec<Runs<A>, A>, NoMemory>
     ensures count { IfOk result (λ realms. length realms.items ≡ count) }
-    ensures empty { IfOk result (λ realms. All AreEmpty realms.items) }
+    ensures empty { IfOk result (λ realms. AllByRecursion AreEmpty realms.items) }
 {
     let mut realms = Vec::with_capacity(alloc, count).map_err(|_| NoMemory)?;
     for _ in 0..count {

@@ -10,8 +10,8 @@ ghost use Rattle.roam_shard.specs.Stands.{AtRealm, client_at, entries_in, place,
 
 use crate::growth::grow;
 use crate::index::{
-    ClientKey, Index, TicketKey, client_slot, forget_client, forget_ticket, note_client, note_ticket,
-    ticket_slot,
+    ClientKey, Index, TicketKey, client_slot, forget_client, forget_ticket, note_client,
+    note_ticket, ticket_slot,
 };
 use crate::mark::mark_of;
 use crate::realms::{add_at, change_at, no_entries, runs_of, take_at};
@@ -119,13 +119,7 @@ impl<A: Allocator + Copy> Tables<A> {
             Some(runs) => {
                 match runs.next(last) {
                     None => None,
-                    Some(due) => {
-                        if due.deadline <= now {
-                            Some(due)
-                        } else {
-                            None
-                        }
-                    }
+                    Some(due) => { if due.deadline <= now { Some(due) } else { None } }
                 }
             }
         }

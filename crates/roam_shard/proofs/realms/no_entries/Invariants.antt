@@ -1,5 +1,5 @@
 use Rattle.std.proofs.Common.{◌≡◌, ◌≤◌, vec_len, vec_capacity}
-use Rattle.std.specs.Prelude.{All}
+use Rattle.std.specs.List.{AllByRecursion}
 use Rattle.roam_shard.specs.Marks.{AreEmpty}
 use Rattle.roam_shard.proofs.realms.no_entries.Given as goal
 
@@ -7,5 +7,5 @@ abbrev pub invariant-loop : goal.invariant-loop
 invariant-loop g l = record {
   count : vec_len l.realms ≡ l.counter;
   room : l.count ≤ vec_capacity l.realms;
-  empty : All AreEmpty l.realms.items;
+  empty : AllByRecursion AreEmpty l.realms.items;
 }

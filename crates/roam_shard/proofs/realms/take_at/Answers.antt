@@ -1,6 +1,5 @@
-use Rattle.std.proofs.Common.{◌≡◌, ◌<◌, arith, ap, sym, ◌∙◌}
 use Rattle.roam_shard.specs.Marks.{Leaves}
-use Rattle.roam_shard.proofs.RealmLemmas.{at_set, get-read}
+use Rattle.roam_shard.proofs.RealmLemmas.{at_set}
 use Rattle.roam_shard.proofs.realms.take_at.Goals as goal
 
 pub returns : goal.returns

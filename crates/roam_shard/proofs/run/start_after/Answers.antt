@@ -1,4 +1,4 @@
-use Rattle.roam_shard.proofs.RisingLemmas.{start_at, start_gap}
+use Rattle.roam_shard.proofs.RisingLemmas.{start_at}
 use Rattle.roam_shard.proofs.run.start_after.Goals as goal
 
 pub returns-in-Ok : goal.returns-in-Ok

@@ -1,7 +1,6 @@
-use Rattle.std.proofs.Common.{◌≡◌, Some, false, true, rules, sym, ◌∙◌}
+use Rattle.std.proofs.Common.{◌≡◌, Some, rules, sym, ◌∙◌}
 use Rattle.std.specs.Prelude.{slice_get}
 use Rattle.std.proofs.lemmas.Option.{slice_get_read}
-use Rattle.roam_pending.specs.EntryList.{is_beside}
 use Rattle.roam_shard.proofs.RisingLemmas.{first_beside, second_beside}
 use Rattle.roam_shard.proofs.runs.Runs.first_done.Goals as goal
 

@@ -1,5 +1,5 @@
-use Rattle.std.proofs.Common.{◌≡◌, ◌∙◌, Some, None, ap, sym}
-use Rattle.std.specs.Prelude.{option_copied, slice_get}
+use Rattle.std.proofs.Common.{◌∙◌, ap, sym}
+use Rattle.std.specs.Prelude.{option_copied}
 use Rattle.roam_shard.proofs.TablesLemmas.{tables_due, tables_list, tables_none_due, tables_not_due, tables_nothing_due}
 use Rattle.roam_shard.proofs.tables.Tables.due_after.Goals as goal
 

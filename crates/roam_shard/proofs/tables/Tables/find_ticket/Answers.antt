@@ -1,5 +1,4 @@
-use Rattle.std.proofs.Common.{◌≡◌, ◌∙◌, Some, None, ap, sym}
-use Rattle.std.specs.Prelude.{option_copied, slice_get}
+use Rattle.std.proofs.Common.{◌∙◌, Some, None, sym}
 use Rattle.roam_shard.proofs.TablesLemmas.{tables_list, tables_ticket}
 use Rattle.roam_shard.proofs.tables.Tables.find_ticket.Goals as goal
 

@@ -1,5 +1,5 @@
-use Rattle.std.proofs.Common.{◌≡◌, ◌∙◌, Some, None, ap, sym}
-use Rattle.std.specs.Prelude.{option_copied, slice_get}
+use Rattle.std.proofs.Common.{◌∙◌, ap, sym}
+use Rattle.std.specs.Prelude.{option_copied}
 use Rattle.roam_shard.proofs.TablesLemmas.{tables_first, tables_no_first}
 use Rattle.roam_shard.proofs.tables.Tables.first_done.Goals as goal
 

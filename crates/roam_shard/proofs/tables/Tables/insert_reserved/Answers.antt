@@ -1,7 +1,6 @@
-use Rattle.std.proofs.Common.{◌≡◌, ◌∙◌, Some, None, ap, sym}
+use Rattle.std.proofs.Common.{ap}
 use Rattle.roam_pending.specs.Shown.{shown}
 use Rattle.roam_shard.specs.declared.mark.Mark.{Mark}
-use Rattle.roam_shard.proofs.TablesLemmas.{tables_ticket}
 use Rattle.roam_shard.proofs.UpdateLemmas.{insert_becomes, insert_can, insert_realms, insert_room, insert_sound, room_for_one, room_positive, within_realms}
 use Rattle.roam_shard.proofs.tables.Tables.insert_reserved.Goals as goal
 

@@ -1,5 +1,5 @@
-use Rattle.std.proofs.Common.{◌≡◌, ◌∙◌, Some, None, ap, sym, length}
-use Rattle.std.specs.Prelude.{option_copied, slice_get}
+use Rattle.std.proofs.Common.{◌∙◌, ap, sym, length}
+use Rattle.std.specs.Prelude.{option_copied}
 use Rattle.roam_shard.proofs.TablesLemmas.{nothing_kept, tables_len, tables_list}
 use Rattle.roam_shard.proofs.tables.Tables.len.Goals as goal
 

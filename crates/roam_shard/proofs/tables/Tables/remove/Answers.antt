@@ -1,6 +1,5 @@
-use Rattle.std.proofs.Common.{◌≡◌, ◌∙◌, Some, None, ap, sym}
+use Rattle.std.proofs.Common.{◌∙◌, None, sym}
 use Rattle.roam_pending.specs.Shown.{shown}
-use Rattle.roam_shard.specs.declared.mark.Mark.{Mark}
 use Rattle.roam_shard.proofs.TablesLemmas.{tables_ticket}
 use Rattle.roam_shard.proofs.UpdateLemmas.{remove_becomes, remove_can, remove_found, remove_nothing, remove_realms, remove_room, remove_sound}
 use Rattle.roam_shard.proofs.tables.Tables.remove.Goals as goal

@@ -1,5 +1,5 @@
-use Rattle.std.proofs.Common.{◌≡◌, ◌<◌}
-use Rattle.roam_shard.specs.Stands.{room_at, room_in, tables_view}
+use Rattle.std.proofs.Common.{◌<◌}
+use Rattle.roam_shard.specs.Stands.{room_at}
 use Rattle.roam_shard.proofs.GrowthLemmas.{grow_entries, grow_ok, grow_realms, grow_room, grow_room_was, grow_sound, kept_within, on_ok}
 use Rattle.roam_shard.proofs.tables.Tables.reserve.Goals as goal
 

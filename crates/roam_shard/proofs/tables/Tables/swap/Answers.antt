@@ -1,7 +1,5 @@
-use Rattle.std.proofs.Common.{◌≡◌, ◌∙◌, Some, None, ap, sym}
+use Rattle.std.proofs.Common.{◌∙◌, sym}
 use Rattle.roam_pending.specs.Shown.{shown}
-use Rattle.roam_shard.specs.declared.mark.Mark.{Mark}
-use Rattle.roam_shard.proofs.TablesLemmas.{tables_ticket}
 use Rattle.roam_shard.proofs.UpdateLemmas.{swap_becomes, swap_enters, swap_found, swap_leaves, swap_nowhere, swap_realms, swap_room, swap_sound}
 use Rattle.roam_shard.proofs.tables.Tables.swap.Goals as goal
 
