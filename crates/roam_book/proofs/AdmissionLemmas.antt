@@ -18,9 +18,10 @@ use Rattle.roam_book.specs.declared.numbers.Numbers.{Numbers}
 use Rattle.roam_book.specs.NewEntry.{MakesWay, target_at}
 use Rattle.roam_book.specs.RealmConfig.{RealmConfig, IsLink}
 use Rattle.roam_book.specs.RealmState.{RealmState, Session, Target, next_toward}
-use Rattle.roam_book.specs.OnRequest.{admit}
+use Rattle.roam_book.specs.OnRequest.{admit, position_after}
 use Rattle.roam_book.specs.Turn.{Turn}
 use Rattle.roam_book.specs.Sound.{CountsAsGone, IsEntry, IsRequest, IsSound, IsWaiting, LanesTell, StandsWell, cursors_of, gone_ticket, standing_place, tags_of}
+use Rattle.roam_book.proofs.SendingLemmas.{position-below}
 use Rattle.roam_book.proofs.SoundLemmas.{kept-later, kept-put, kept-ticket, kept-without}
 use Rattle.roam_book.proofs.LaneLemmas.{next-tells, tells-gone}
 
@@ -217,7 +218,7 @@ pub new-sound :
     → IsSound c es old → e.ticket ≡ old.ticket → IsRequest c e.request
     → StandsWell c e.request e.standing → LanesTell c (put e es) new.lanes.items
     → old.ticket < 2 ^ 63 → new.ticket ≡ old.ticket + 1
-    → new.stream_position ≡ old.stream_position
+    → new.stream_position ≡ position_after e.request old.stream_position
     → length new.lanes.items ≡ length old.lanes.items
     → tags_of new.lanes.items ≡ tags_of old.lanes.items → fs ≡ put e es → IsSound c fs new
 new-sound c es fs old new e sound ticket request well tells below next position count tags is =
@@ -233,7 +234,8 @@ new-sound c es fs old new e sound ticket request well tells below next position 
       each =
           subst (λ (xs : List PlainEntry). AllByRecursion (IsEntry c new.ticket) xs) (sym is) each;
       ticket = omega (arith, next, below);
-      stream_position = subst (λ (m : ℕ). m < 2 ^ 68) (sym position) sound.stream_position;
+      stream_position = subst (λ (m : ℕ). m < 2 ^ 68) (sym position)
+          (position-below e.request old.stream_position sound.stream_position);
       lane_count = count ∙ sound.lane_count;
       tags = tags ∙ sound.tags;
       lanes_tell = subst (λ (xs : List PlainEntry). LanesTell c xs new.lanes.items) (sym is) tells;

@@ -1,5 +1,5 @@
 -- What becomes of a due entry is the definition's step, and the realm stays sound.
-use Rattle.std.proofs.Common.{◌≡◌, ℕ, ◌+◌, ◌%◌, ◌<◌, true, List, [], ◌∷◌, Option, Some, None, refl, ap, sym, ◌∙◌, subst, arith, length, ltb}
+use Rattle.std.proofs.Common.{◌≡◌, ℕ, ◌+◌, ◌%◌, ◌^◌, ◌<◌, true, List, [], ◌∷◌, Option, Some, None, refl, ap, sym, ◌∙◌, subst, arith, length, ltb}
 use Rattle.std.specs.Prelude.{IfSome, option_map, slice_set}
 use Rattle.std.specs.List.{AllByRecursion, find}
 use Rattle.std.proofs.lemmas.Bool.Decides.{nat_tests}
@@ -22,10 +22,11 @@ use Rattle.roam_book.specs.declared.sending.Sent.{Sent}
 use Rattle.roam_book.specs.declared.service.Service.TheVariants as service
 use Rattle.roam_book.specs.RealmConfig.{RealmConfig, IsLink, link_place, later_targets}
 use Rattle.roam_book.specs.RealmState.{Target, next_toward, first_target}
-use Rattle.roam_book.specs.OnRequest.{packet_to, forwarded_octets, forwarded_entry}
+use Rattle.roam_book.specs.OnRequest.{packet_to, position_after, forwarded_octets, forwarded_entry}
 use Rattle.roam_book.specs.OnTick.{fail_over, without_entry, due_standing}
 use Rattle.roam_book.specs.Sound.{IsEntry, IsWaiting, StandsWell, IsSound, LanesTell, state_of, cursors_of, lane_of, has_free, is_open, tags_of}
 use Rattle.roam_book.specs.Fates.{IsHeld, IsFate}
+use Rattle.roam_book.proofs.SendingLemmas.{position-below}
 use Rattle.roam_book.proofs.SoundLemmas.{kept-put, kept-without, kept-ticket}
 use Rattle.roam_book.proofs.LaneLemmas.{tells-gone, tells-again, target-tells, target-next, links-are}
 
@@ -38,18 +39,27 @@ pub record IsSameBut {A : Type 0} (old new : Numbers A) : Type 0 where
   pub stream_position : new.stream_position ≡ old.stream_position
   pub tags : tags_of new.lanes.items ≡ tags_of old.lanes.items
 
+sound-drawn :
+    {A : Type 0} (c : RealmConfig) (es fs : List PlainEntry) (n m : Numbers A) → IsSound c es n
+    → length m.lanes.items ≡ length n.lanes.items → m.ticket ≡ n.ticket
+    → m.stream_position < 2 ^ 68 → tags_of m.lanes.items ≡ tags_of n.lanes.items
+    → AllByRecursion (IsEntry c n.ticket) fs → LanesTell c fs m.lanes.items → IsSound c fs m
+sound-drawn c es fs n m sound count ticket position tags each tells = record {
+  each = rw ticket each;
+  ticket = omega (arith, ticket, sound.ticket);
+  stream_position = position;
+  lane_count = count ∙ sound.lane_count;
+  tags = tags ∙ sound.tags;
+  lanes_tell = tells;
+}
+
 pub sound-changed :
     {A : Type 0} (c : RealmConfig) (es fs : List PlainEntry) (n m : Numbers A) → IsSound c es n
     → IsSameBut n m → AllByRecursion (IsEntry c n.ticket) fs → LanesTell c fs m.lanes.items
     → IsSound c fs m
-sound-changed c es fs n m sound same each tells = record {
-  each = rw same.ticket each;
-  ticket = omega (arith, same.ticket, sound.ticket);
-  stream_position = rw same.stream_position sound.stream_position;
-  lane_count = same.count ∙ sound.lane_count;
-  tags = same.tags ∙ sound.tags;
-  lanes_tell = tells;
-}
+sound-changed c es fs n m sound same each tells =
+    sound-drawn c es fs n m sound same.count same.ticket
+    (rw same.stream_position sound.stream_position) same.tags each tells
 
 same-numbers : {A : Type 0} (n : Numbers A) → IsSameBut n n
 same-numbers n = record { count = refl; ticket = refl; stream_position = refl; tags = refl }
@@ -182,14 +192,19 @@ target_at l i = record { link = l; id = i }
 pub record IsSent {A : Type 0} (c : RealmConfig) (now : ℕ) (es : List PlainEntry) (q : PlainRequest)
     (t : ℕ) (l : Link) (old new : Numbers A) (o : Sent A) (w : Waiting A) : Type 0 where
   pub next : next_toward c (cursors_of old.lanes.items) es l ≡ Some w.id
-  pub out : shown_out o.out ≡ packet_to c l (forwarded_octets c q t (target_at l w.id))
+  pub out : shown_out o.out
+      ≡ packet_to c l (forwarded_octets c q old.stream_position t (target_at l w.id))
   pub standing : shown_standing (standing.Waiting w)
-      ≡ (forwarded_entry c now q t (target_at l w.id)).standing
+      ≡ (forwarded_entry c now q old.stream_position t (target_at l w.id)).standing
   pub waits : IsWaiting c q l w.id w.forwarded
   pub cursors : cursors_of new.lanes.items ≡ slice_set (cursors_of old.lanes.items) (link_place c l)
       ((w.id + 1) % 256)
-  pub tells : LanesTell c (put (forwarded_entry c now q t (target_at l w.id)) es) new.lanes.items
-  pub same : IsSameBut old new
+  pub tells : LanesTell c
+      (put (forwarded_entry c now q old.stream_position t (target_at l w.id)) es) new.lanes.items
+  pub count : length new.lanes.items ≡ length old.lanes.items
+  pub ticket : new.ticket ≡ old.ticket
+  pub stream_position : new.stream_position ≡ position_after q old.stream_position
+  pub tags : tags_of new.lanes.items ≡ tags_of old.lanes.items
 
 stands-waiting :
     {A : Type 0} (c : RealmConfig) (q : PlainRequest) (l : Link) (w : Waiting A) (f : List ℕ)
@@ -200,14 +215,6 @@ stands-waiting {A} c q l w f s d is waits =
     let at : w.link ≡ l = let k : waiting w.link w.id w.forwarded w.sends_left w.deadline ≡ waiting
     l w.id f s d = is in cc in
     rw at waits
-
-same-both : {A : Type 0} (n m k : Numbers A) → IsSameBut n m → IsSameBut m k → IsSameBut n k
-same-both n m k h j = record {
-  count = j.count ∙ h.count;
-  ticket = j.ticket ∙ h.ticket;
-  stream_position = j.stream_position ∙ h.stream_position;
-  tags = j.tags ∙ h.tags;
-}
 
 -- a later target has one: the request goes there under its ticket
 pub forwarded-freed :
@@ -229,25 +236,35 @@ forwarded-freed c now es e n m k l to o w held freed some sent =
     let both : Some found.0.id ≡ Some w.id = sym next ∙ taken in
     let id : found.0.id ≡ w.id = cc in
     let first = found.1 ∙ ap Some (same_target found.0 to w.id found.2 id) in
-    let new = forwarded_entry c now e.request e.ticket (target_at to w.id) in
+    let at = freed.same.stream_position in
+    let new = forwarded_entry c now e.request n.stream_position e.ticket (target_at to w.id) in
+    let out : shown_out o.out
+    ≡ packet_to c to (forwarded_octets c e.request n.stream_position e.ticket (target_at to w.id)) =
+    rw (← at) sent.out in
+    let stands : shown_standing (standing.Waiting w) ≡ new.standing = rw (← at) sent.standing in
     let is : with_standing (shown_standing (standing.Waiting w)) e ≡ new = ap
-    (λ (s : PlainStanding). with_standing s e) sent.standing in
+    (λ (s : PlainStanding). with_standing s e) stands in
     let put_is : put (with_standing (shown_standing (standing.Waiting w)) e) es ≡ put new
     others = ap (λ (x : PlainEntry). put x es) is ∙ sym (put-without new es) in
     let old = kept-ticket c n.ticket e.ticket e es held.found held.sound.each in
     let here : IsEntry c n.ticket (with_standing (shown_standing (standing.Waiting w)) e) = record {
       ticket = old.ticket;
       request = old.request;
-      standing = stands-waiting c e.request to w _ _ _ sent.standing sent.waits;
+      standing = stands-waiting c e.request to w _ _ _ stands sent.waits;
     } in
     let each = kept-put c n.ticket (with_standing (shown_standing (standing.Waiting w)) e) es here
     held.sound.each in
-    let tells = subst (λ (l : List PlainEntry). LanesTell c l k.lanes.items) (sym put_is)
-    sent.tells in
-    let numbers = same-both n m k freed.same sent.same in
+    let told : LanesTell c (put new others) k.lanes.items = rw (← at) sent.tells in
+    let tells = subst (λ (l : List PlainEntry). LanesTell c l k.lanes.items) (sym put_is) told in
+    let count = sent.count ∙ freed.same.count in
+    let ticket = sent.ticket ∙ freed.same.ticket in
+    let tags = sent.tags ∙ freed.same.tags in
+    let position : k.stream_position ≡ position_after e.request n.stream_position =
+    rw (← at) sent.stream_position in
+    let below : k.stream_position < 2 ^ 68 =
+    rw position (position-below e.request n.stream_position held.sound.stream_position) in
     rw first (record {
-      packets = ap (λ (p : PlainOut). p ∷ []) sent.out;
-      state = rw (put_is, sent.cursors, freed.cursors, numbers.ticket, numbers.stream_position)
-          refl;
-      sound = sound-changed c es _ n k held.sound numbers each tells;
+      packets = ap (λ (p : PlainOut). p ∷ []) out;
+      state = rw (put_is, sent.cursors, freed.cursors, ticket, position) refl;
+      sound = sound-drawn c es _ n k held.sound count ticket below tags each tells;
     })

@@ -140,7 +140,6 @@ peer_taken config a i p realm h short =
     let reads = packet_of-packet_text p h.packet in
     record {
       packet = IsPacketText-packet_text p h.packet;
-      code = ap (λ (x : Packet). x.code) reads ∙ h.code;
       can_be_forwarded = subst CanBeForwarded (sym reads) (can_be_forwarded p h.code h.at_most_one short);
       requester = h.peer;
     }

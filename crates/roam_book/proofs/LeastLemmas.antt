@@ -36,7 +36,7 @@ rest-failed :
     → IsRest now e.ticket s.entries (fail_over c now (without_entry s e) e o).state.entries
 rest-failed c now s e None wait order = rest-without now e.ticket s.entries order
 rest-failed c now s e (Some target) wait order =
-    let new = forwarded_entry c now e.request e.ticket target in
+    let new = forwarded_entry c now e.request s.stream_position e.ticket target in
     rw (put-without new s.entries) (rest-put now new s.entries order (omega arith))
 
 rest-standing :

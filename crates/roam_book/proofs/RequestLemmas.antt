@@ -4,7 +4,6 @@ use Rattle.std.specs.Prelude.{nat_eq, option_map, unwrap_or}
 use Rattle.std.specs.Cmp.Lexicographic.{pointwise}
 use Rattle.std.specs.List.{AllByRecursion, find}
 use Rattle.roam_wire.specs.Reading.{packet_of}
-use Rattle.roam_wire.specs.declared.code.TheConstants.{ACCOUNTING_REQUEST}
 use Rattle.roam_wire.specs.declared.refusal.Refusal.TheVariants as refusal
 use Rattle.roam_conf.specs.declared.place.Link.{Link}
 use Rattle.roam_pending.specs.PlainEntry.{PlainEntry, PlainRequest, has_key}
@@ -14,14 +13,13 @@ use Rattle.roam_pending.proofs.TestLemmas.{differs}
 use Rattle.roam_pending.proofs.ChangeLemmas.{find-passes, found-is}
 use Rattle.roam_pending.proofs.ClientLemmas.{client-without, key-equal, without_client-absent, without_client-found}
 use Rattle.roam_book.specs.NewEntry.{HasNext, freed_link, target_at}
-use Rattle.roam_book.specs.OnRequest.{at_target, held_reply, new_request, of_key}
-use Rattle.roam_book.specs.RealmConfig.{RealmConfig, IsLink, links_from, targets}
+use Rattle.roam_book.specs.OnRequest.{at_target, held_reply, new_request, of_key, targets}
+use Rattle.roam_book.specs.RealmConfig.{RealmConfig, IsLink, service_of}
 use Rattle.roam_book.specs.RealmState.{RealmState, Target, first_target, next_toward}
-use Rattle.roam_book.specs.Sound.{CountsAsGone, IsRequest, IsSound, cursors_of, gone_ticket, is_open, standing_place, state_of}
+use Rattle.roam_book.specs.Sound.{CountsAsGone, IsSound, cursors_of, gone_ticket, is_open, standing_place, state_of}
 use Rattle.roam_book.specs.Turn.{Turn, refuses, sends}
 use Rattle.roam_book.specs.declared.gone.Gone.{Gone}
 use Rattle.roam_book.specs.declared.numbers.Numbers.{Numbers}
-use Rattle.roam_book.specs.declared.service.Service.TheVariants as service
 use Rattle.roam_book.proofs.LaneLemmas.{links-are, target-freed, target-next, target-tells}
 
 -- the first target is the link that was found, with its next free Identifier
@@ -54,12 +52,6 @@ no-target :
 no-target None h = refl
 no-target (Some target) h = absurd (let k : Some target.link ≡ None = h in cc)
 
--- the links of an Accounting-Request's targets
-targets-are :
-    (c : RealmConfig) (code : ℕ) → code ≡ ACCOUNTING_REQUEST
-    → targets c code ≡ links_from c service.Accounting 0
-targets-are c code h = ap (targets c) h
-
 -- the first open link is that of the first target
 open-is :
     {A : Type 0} (c : RealmConfig) (es : List PlainEntry) (n : Numbers A) (o : Option Gone)
@@ -76,16 +68,12 @@ open-is c es n (Some g) links sound list gone are =
 
 targets-open :
     {A : Type 0} (c : RealmConfig) (es : List PlainEntry) (n : Numbers A) (o : Option Gone)
-    (code : ℕ) → IsSound c es n → IsEntryList es → CountsAsGone o es → code ≡ ACCOUNTING_REQUEST
+    (q : PlainRequest) → IsSound c es n → IsEntryList es → CountsAsGone o es
     → option_map (λ t. t.link)
-    (first_target c (cursors_of n.lanes.items) (besides (gone_ticket o) es) (targets c code))
-    ≡ find (is_open c n.lanes.items (freed_link o)) (links_from c service.Accounting 0)
-targets-open c es n o code sound list gone is =
-    let opened = open-is c es n o (links_from c service.Accounting 0) sound list gone
-    (links-are c service.Accounting 0) in
-    let links_of : List Link → Option Link = λ links. option_map (λ t. t.link)
-    (first_target c (cursors_of n.lanes.items) (besides (gone_ticket o) es) links) in
-    ap links_of (targets-are c code is) ∙ opened
+    (first_target c (cursors_of n.lanes.items) (besides (gone_ticket o) es) (targets c q))
+    ≡ find (is_open c n.lanes.items (freed_link o)) (targets c q)
+targets-open c es n o q sound list gone =
+    open-is c es n o (targets c q) sound list gone (links-are c (service_of (packet_of q.octets).code) 0)
 
 -- a new request, while there is a ticket
 pub in-else : (b : Bool) (x y : Turn) → b ≡ false → cond b x y ≡ y
@@ -97,7 +85,7 @@ in-then b x y h = rw h refl
 new-request-is :
     (c : RealmConfig) (now : ℕ) (s : RealmState) (es : List PlainEntry) (q : PlainRequest)
     (found : Option Target) → s.ticket ≢ 2 ^ 63
-    → first_target c s.cursors es (targets c (packet_of q.octets).code) ≡ found
+    → first_target c s.cursors es (targets c q) ≡ found
     → new_request c now s es q ≡ at_target c now s es q found
 new-request-is c now s es q found ne is =
     in-else (eqb s.ticket (2 ^ 63)) _ _ (differs s.ticket (2 ^ 63) ne)
@@ -107,37 +95,36 @@ new-request-is c now s es q found ne is =
 pub at-open :
     {A : Type 0} (c : RealmConfig) (now : ℕ) (es : List PlainEntry) (n : Numbers A)
     (o : Option Gone) (q : PlainRequest) (freed : Option Link) (l : Link) → IsSound c es n → IsEntryList es
-    → CountsAsGone o es → IsRequest c q → n.ticket ≢ 2 ^ 63 → freed ≡ freed_link o
-    → Some l ≡ find (is_open c n.lanes.items freed) (links_from c service.Accounting 0)
+    → CountsAsGone o es → n.ticket ≢ 2 ^ 63 → freed ≡ freed_link o
+    → Some l ≡ find (is_open c n.lanes.items freed) (targets c q)
     → (new_request c now (state_of es n) (besides (gone_ticket o) es) q
     ≡ at_target c now (state_of es n) (besides (gone_ticket o) es) q
     (Some (target_at c (cursors_of n.lanes.items) (besides (gone_ticket o) es) l)))
     × HasNext c (cursors_of n.lanes.items) (besides (gone_ticket o) es) l
-at-open c now es n o q freed l sound list gone request ne same_freed found =
+at-open c now es n o q freed l sound list gone ne same_freed found =
     let mid = besides (gone_ticket o) es in
-    let links = links_from c service.Accounting 0 in
+    let links = targets c q in
     let here : find (is_open c n.lanes.items (freed_link o)) links ≡ Some l =
     subst (λ (x : Option Link). find (is_open c n.lanes.items x) links ≡ Some l) same_freed
     (sym found) in
-    let at = targets-open c es n o (packet_of q.octets).code sound list gone request.code ∙ here in
-    let all = targets c (packet_of q.octets).code in
-    let target = target-is c (cursors_of n.lanes.items) mid all l _ refl at in
+    let at = targets-open c es n o q sound list gone ∙ here in
+    let target = target-is c (cursors_of n.lanes.items) mid links l _ refl at in
     (new-request-is c now (state_of es n) mid q _ ne target.0, target.1)
 
 pub at-none :
     {A : Type 0} (c : RealmConfig) (now : ℕ) (es : List PlainEntry) (n : Numbers A)
     (o : Option Gone) (q : PlainRequest) (freed : Option Link) → IsSound c es n → IsEntryList es
-    → CountsAsGone o es → IsRequest c q → n.ticket ≢ 2 ^ 63 → freed ≡ freed_link o
-    → None ≡ find (is_open c n.lanes.items freed) (links_from c service.Accounting 0)
+    → CountsAsGone o es → n.ticket ≢ 2 ^ 63 → freed ≡ freed_link o
+    → None ≡ find (is_open c n.lanes.items freed) (targets c q)
     → new_request c now (state_of es n) (besides (gone_ticket o) es) q
     ≡ refuses refusal.NoIdentifier
-at-none c now es n o q freed sound list gone request ne same_freed found =
+at-none c now es n o q freed sound list gone ne same_freed found =
     let mid = besides (gone_ticket o) es in
-    let links = links_from c service.Accounting 0 in
+    let links = targets c q in
     let here : find (is_open c n.lanes.items (freed_link o)) links ≡ None =
     subst (λ (x : Option Link). find (is_open c n.lanes.items x) links ≡ None) same_freed
     (sym found) in
-    let at = targets-open c es n o (packet_of q.octets).code sound list gone request.code ∙ here in
+    let at = targets-open c es n o q sound list gone ∙ here in
     new-request-is c now (state_of es n) mid q None ne (no-target _ at)
 
 -- the entry of a request's key counts as gone, and the key is then free

@@ -39,7 +39,7 @@ is_link (side.Peer peer) = false
 is_link (side.Home server) = false
 is_link (side.Link l) = true
 
--- a job that a realm takes: a request of a code that is served so far, or a packet from a link
+-- a job that a realm takes: a request, or a packet from a link
 abbrev pub IsTakenFrom : RealmConfig → PlainJob → Side → Type 0
 IsTakenFrom c job (side.Peer peer) = IsRequest c (request_of job (requester.Peer peer))
 IsTakenFrom c job (side.Home server) = IsRequest c (request_of job (requester.Home server))

@@ -1,19 +1,21 @@
 -- What a request does to its realm: a duplicate, or a new request that is forwarded (RFC 2865, section
 -- 2.3; duplicates, tickets and limits are ours).
-use Rattle.std.specs.Prelude.{ℕ, ◌+◌, ◌-◌, ◌%◌, ◌^◌, ◌==◌, nat_lt, nat_eq, List, [], ◌∷◌, length, slice_set, Option, Some, None, if◌then◌else◌}
+use Rattle.std.specs.Prelude.{ℕ, Bool, ◌+◌, ◌-◌, ◌%◌, ◌^◌, ◌==◌, nat_lt, nat_eq, List, [], ◌∷◌, length, slice_set, Option, Some, None, if◌then◌else◌}
 use Rattle.std.specs.Cmp.Lexicographic.{pointwise}
 use Rattle.roam_wire.specs.Packet.{packet_text}
 use Rattle.roam_wire.specs.Reading.{packet_of}
+use Rattle.roam_wire.specs.declared.code.TheConstants.{ACCESS_REQUEST}
 use Rattle.roam_wire.specs.declared.refusal.Refusal.TheVariants as refusal
 use Rattle.roam_auth.specs.Authenticators.{zero_octets}
 use Rattle.roam_conf.specs.declared.place.Link.{Link}
 use Rattle.roam_conf.specs.declared.place.Place.TheVariants as place
 use Rattle.roam_fwd.specs.Forwarded.{Forwarding, forwarded}
 use Rattle.roam_route.specs.Admission.{PlainOut}
+use Rattle.roam_random.specs.RandomWords.{next_position, request_authenticator_at}
 use Rattle.roam_pending.specs.declared.key.Key.{Key}
 use Rattle.roam_pending.specs.PlainEntry.{PlainRequest, PlainStanding, PlainEntry, waiting, done}
 use Rattle.roam_pending.specs.EntryList.{find_client, first_done, without, without_client, put}
-use Rattle.roam_book.specs.RealmConfig.{RealmConfig, link_secret, requester_secret, link_endpoint, link_place, targets}
+use Rattle.roam_book.specs.RealmConfig.{RealmConfig, link_secret, requester_secret, link_endpoint, link_place, links_from, service_of}
 use Rattle.roam_book.specs.RealmState.{RealmState, Target, with_entries, with_next_ticket, first_target}
 use Rattle.roam_book.specs.Turn.{Turn, refuses, sends, in_time}
 
@@ -25,42 +27,59 @@ packet_to c l octets =
 abbrev pub packet_back : RealmConfig → Key → List ℕ → PlainOut
 packet_back c key octets = record { realm = Some c.index; from = key.place; to = key.from; bytes = octets }
 
--- what a request is forwarded with. Requests that are served so far carry no random words
-abbrev pub forwarding : RealmConfig → PlainRequest → ℕ → Target → Forwarding
-forwarding c q ticket target = record {
+-- whether random words are drawn for a request: for an Access-Request, whose Authenticator is to be
+-- unpredictable (RFC 2865, section 3). In any other the Authenticator is a signature
+abbrev pub draws : PlainRequest → Bool
+draws q = (packet_of q.octets).code == ACCESS_REQUEST
+
+-- the Authenticator that is drawn for a forwarded packet: the four words of the realm's own stream from
+-- this position on (that the stream's number is the realm's index is ours). Where none is drawn zeros
+-- stand for it, which no packet shows
+abbrev pub drawn_at : RealmConfig → PlainRequest → ℕ → List ℕ
+drawn_at c q position =
+    if draws q then request_authenticator_at c.seed c.index position else zero_octets
+
+-- the position of the stream after it
+abbrev pub position_after : PlainRequest → ℕ → ℕ
+position_after q position = if draws q then next_position position else position
+
+-- what a request is forwarded with
+abbrev pub forwarding : RealmConfig → PlainRequest → ℕ → ℕ → Target → Forwarding
+forwarding c q position ticket target = record {
   from_secret = requester_secret c q.requester;
   to_secret = link_secret c target.link;
   id = target.id;
-  authenticator = zero_octets;
+  authenticator = drawn_at c q position;
   ticket = ticket;
 }
 
--- the forwarded packet (RFC 2865, section 2.3)
-abbrev pub forwarded_octets : RealmConfig → PlainRequest → ℕ → Target → List ℕ
-forwarded_octets c q ticket target =
-    packet_text (forwarded (forwarding c q ticket target) (packet_of q.octets))
+-- the forwarded packet (RFC 2865, section 2.3), with what is drawn from this position on
+abbrev pub forwarded_octets : RealmConfig → PlainRequest → ℕ → ℕ → Target → List ℕ
+forwarded_octets c q position ticket target =
+    packet_text (forwarded (forwarding c q position ticket target) (packet_of q.octets))
 
 -- a request that was forwarded just now: it waits for its reply, and may be sent `tries - 1` times more
-abbrev pub forwarded_entry : RealmConfig → ℕ → PlainRequest → ℕ → Target → PlainEntry
-forwarded_entry c now q ticket target = record {
+abbrev pub forwarded_entry : RealmConfig → ℕ → PlainRequest → ℕ → ℕ → Target → PlainEntry
+forwarded_entry c now q position ticket target = record {
   request = q;
   ticket = ticket;
-  standing = waiting target.link target.id (forwarded_octets c q ticket target) (c.realm.tries - 1)
-      (now + c.realm.wait);
+  standing = waiting target.link target.id (forwarded_octets c q position ticket target)
+      (c.realm.tries - 1) (now + c.realm.wait);
 }
 
--- the state once a request was forwarded: its entry waits, and the link's cursor stands one past the
--- Identifier, cyclic
+-- the state once a request was forwarded: its entry waits, the link's cursor stands one past the
+-- Identifier, cyclic, and the words that it drew are spent
 abbrev pub once_forwarded : RealmConfig → ℕ → RealmState → PlainRequest → ℕ → Target → RealmState
 once_forwarded c now s q ticket target = record s {
-  entries = put (forwarded_entry c now q ticket target) s.entries;
+  entries = put (forwarded_entry c now q s.stream_position ticket target) s.entries;
   cursors = slice_set s.cursors (link_place c target.link) ((target.id + 1) % 256);
+  stream_position = position_after q s.stream_position;
 }
 
 -- a new request beside these entries: it takes the next ticket and is forwarded
 abbrev pub admit : RealmConfig → ℕ → RealmState → List PlainEntry → PlainRequest → Target → Turn
 admit c now s entries q target =
-    sends (packet_to c target.link (forwarded_octets c q s.ticket target) ∷ [])
+    sends (packet_to c target.link (forwarded_octets c q s.stream_position s.ticket target) ∷ [])
     (with_next_ticket (once_forwarded c now (with_entries s entries) q s.ticket target))
 
 -- where all places are held, the done entry of least ticket makes way
@@ -76,13 +95,17 @@ at_target c now s entries q (Some target) =
     then admit c now s entries q target
     else make_way c now s entries q target (first_done entries)
 
+-- the targets of a request, in the order of their use
+abbrev pub targets : RealmConfig → PlainRequest → List Link
+targets c q = links_from c (service_of (packet_of q.octets).code) 0
+
 -- a new request beside these entries: there is a ticket, a target with a free Identifier, and a place
 abbrev pub new_request : RealmConfig → ℕ → RealmState → List PlainEntry → PlainRequest → Turn
 new_request c now s entries q =
     if s.ticket == 2 ^ 63
     then refuses refusal.Exhausted
     else at_target c now s entries q
-    (first_target c s.cursors entries (targets c (packet_of q.octets).code))
+    (first_target c s.cursors entries (targets c q))
 
 -- what a duplicate gets: nothing while its request waits, else the reply that is held, once more
 abbrev pub held_reply : RealmConfig → Key → PlainStanding → List PlainOut

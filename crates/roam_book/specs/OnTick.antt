@@ -22,11 +22,13 @@ abbrev pub silent : RealmState → Progress
 silent s = record { packets = []; state = s }
 
 -- a request that isn't sent to its link again: its Identifier there is free. It goes to the next target
--- under the same ticket, where there is one, else its entry goes. (`s` is the state without the entry.)
+-- under the same ticket, with words drawn anew, where there is one, else its entry goes. (`s` is the
+-- state without the entry.)
 abbrev pub fail_over : RealmConfig → ℕ → RealmState → PlainEntry → Option Target → Progress
 fail_over c now s e None = silent s
 fail_over c now s e (Some target) = record {
-  packets = packet_to c target.link (forwarded_octets c e.request e.ticket target) ∷ [];
+  packets = packet_to c target.link
+      (forwarded_octets c e.request s.stream_position e.ticket target) ∷ [];
   state = once_forwarded c now s e.request e.ticket target;
 }
 

@@ -104,11 +104,7 @@ links_from c service place = server_links service place (drop place c.realm.serv
 abbrev pub service_of : ℕ → Service
 service_of code = if code == ACCESS_REQUEST then service.Authentication else service.Accounting
 
--- the targets of a request, in the order of their use
-abbrev pub targets : RealmConfig → ℕ → List Link
-targets c code = links_from c (service_of code) 0
-
--- the targets after a link
+-- the targets after a link, for a request that goes on to the next server
 abbrev pub later_targets : RealmConfig → Link → List Link
 later_targets c (link.Auth server) = links_from c service.Authentication (server + 1)
 later_targets c (link.Acct server) = links_from c service.Accounting (server + 1)

@@ -5,7 +5,6 @@ use Rattle.std.specs.Prelude.{◌≡◌, ◌≢◌, ℕ, zero, suc, ◌+◌, ◌
 use Rattle.std.specs.List.{AllByRecursion}
 use Rattle.std.specs.Option.{option_map_or}
 use Rattle.roam_wire.specs.Reading.{IsPacketText, packet_of}
-use Rattle.roam_wire.specs.declared.code.TheConstants.{ACCOUNTING_REQUEST}
 use Rattle.roam_conf.specs.declared.place.Link.{Link}
 use Rattle.roam_fwd.specs.Forwarded.{CanBeForwarded}
 use Rattle.roam_ids.specs.LaneState.{LaneState, is_used, ticket_at}
@@ -18,10 +17,9 @@ use Rattle.roam_book.specs.declared.gone.Gone.{Gone}
 use Rattle.roam_book.specs.declared.sending.Asked.{Asked}
 use Rattle.roam_book.specs.declared.numbers.Numbers.{Numbers}
 
--- a request of the realm, of a code that is served so far
+-- a request of the realm
 pub record IsRequest (c : RealmConfig) (q : PlainRequest) : Type 0 where
   pub packet : IsPacketText q.octets
-  pub code : (packet_of q.octets).code ≡ ACCOUNTING_REQUEST
   pub can_be_forwarded : CanBeForwarded (packet_of q.octets)
   pub requester : IsRequester c q.requester
 
@@ -30,7 +28,6 @@ pub record IsWaiting (c : RealmConfig) (q : PlainRequest) (l : Link) (i : ℕ) (
   pub link : IsLink c l
   pub id : i < 256
   pub packet : IsPacketText forwarded
-  pub code : (packet_of forwarded).code ≡ ACCOUNTING_REQUEST
   pub size : length forwarded ≤ length q.octets + 46
 
 abbrev pub StandsWell : RealmConfig → PlainRequest → PlainStanding → Type 0

@@ -3,14 +3,16 @@
 //! First it is decided whether it is a duplicate, refused or admitted, and which entries make way;
 //! that changes nothing. Then a new request is admitted.
 
-ghost use Rattle.std.specs.Prelude.{◌≡◌, ◌≢◌, ℕ, ◌<◌, ◌≤◌, ◌^◌, [], None, Some, IfOk, IsOk, length};
+ghost use Rattle.std.specs.Prelude.{◌≡◌, ◌≢◌, ℕ, ◌<◌, ◌≤◌, ◌^◌, [], None, Some, IfOk, IfSome, IsOk, length};
+ghost use Rattle.std.specs.List.{find};
 ghost use Rattle.roam_pending.specs.EntryList.{besides, find_client};
 ghost use Rattle.roam_pending.specs.PlainEntry.{PlainRequest};
 ghost use Rattle.roam_pending.specs.Shown.{shown_standing};
 ghost use Rattle.roam_book.specs.NewEntry.{Chooses, IsRequestPlan, IsWay, freed_link, once_gone, straight_after, target_at};
-ghost use Rattle.roam_book.specs.OnRequest.{at_target, held_reply, new_request, of_key, on_request};
+ghost use Rattle.roam_book.specs.OnRequest.{at_target, held_reply, new_request, of_key, on_request, targets};
+ghost use Rattle.roam_book.specs.RealmConfig.{IsLink};
 ghost use Rattle.roam_book.specs.RealmTurn.{IsRealm, Turns, TurnsTwice, entries, state};
-ghost use Rattle.roam_book.specs.Sound.{CountsAsGone, IsRequest, gone_ticket, shown_request};
+ghost use Rattle.roam_book.specs.Sound.{CountsAsGone, IsRequest, gone_ticket, is_open, shown_request};
 ghost use Rattle.roam_book.specs.Turn.{packets_of, shown_outs};
 
 use crate::answer::{Answer, Twin, nothing, one_packet, refused};
@@ -22,7 +24,7 @@ use crate::settings::Settings;
 use crate::way::Way;
 use roam_conf::Link;
 use roam_pending::{Entries, Entry, Standing};
-use roam_wire::{NoMemory, Octets, Refusal};
+use roam_wire::{NoMemory, Octets, Refusal, View};
 use std::alloc::Allocator;
 
 /// The latest moment, in milliseconds: an event of a later one is refused.
@@ -124,40 +126,51 @@ impl<A: Allocator + Copy, E: Entries<A>> Realm<'_, '_, '_, '_, A, E> {
         }
     }
 
+    /// The first target of a request that has a free Identifier, or that is `freed`.
+    fn first_target(&self, asked: Asked<'_>, freed: Option<Link>) -> Option<Link>
+        requires realm { IsRealm E.Entries self.now }
+        requires request { IsRequest self.now.settings.now (shown_request asked) }
+        ensures first { result ≡ find (is_open self.now.settings.now self.now.numbers.now.lanes.items
+            freed) (targets self.now.settings.now (shown_request asked.entry)) }
+        ensures link { IfSome result (λ l. IsLink self.now.settings.now l) }
+    {
+        let service = Service::of_code(View::of_packet(asked.octets).code());
+        self.numbers.first_open(self.settings, service, 0, freed)
+    }
+
     /// A new request: there must be a ticket for it, and a target with a free Identifier. The entry
     /// of its key, if there is one, counts as gone.
-    fn way_for(&self, gone: Option<Gone>) -> Result<Way, Refusal>
+    fn way_for(&self, asked: Asked<'_>, gone: Option<Gone>) -> Result<Way, Refusal>
         requires realm { IsRealm E.Entries self.now }
+        requires request { IsRequest self.now.settings.now (shown_request asked) }
         requires gone { CountsAsGone gone (entries E.Entries self.now) }
-        ensures { (q : PlainRequest) → IsRequest self.now.settings.now q
-            → find_client q.key (once_gone gone (entries E.Entries self.now)) ≡ None
-            → Chooses self.now.settings.now (state E.Entries self.now) q result
+        requires key { find_client asked.key (once_gone gone (entries E.Entries self.now)) ≡ None }
+        ensures { Chooses self.now.settings.now (state E.Entries self.now)
+            (shown_request asked.entry) result
             (λ now. new_request self.now.settings.now now (state E.Entries self.now)
-            (once_gone gone (entries E.Entries self.now)) q) }
+            (once_gone gone (entries E.Entries self.now)) (shown_request asked.entry)) }
     {
         if self.numbers.ticket == 1 << 63 {
             return Err(Refusal::Exhausted);
         }
-        match self
-            .numbers
-            .first_open(self.settings, Service::Accounting, 0, freed_link(gone))
-        {
+        match self.first_target(asked, freed_link(gone)) {
             None => Err(Refusal::NoIdentifier),
             Some(link) => self.way_to(gone, link),
         }
     }
 
     /// A new request is refused or admitted, while an entry counts as gone.
-    fn plan_new(&self, gone: Option<Gone>) -> RequestPlan<A>
+    fn plan_new(&self, asked: Asked<'_>, gone: Option<Gone>) -> RequestPlan<A>
         requires realm { IsRealm E.Entries self.now }
+        requires request { IsRequest self.now.settings.now (shown_request asked) }
         requires gone { CountsAsGone gone (entries E.Entries self.now) }
-        ensures { (q : PlainRequest) → IsRequest self.now.settings.now q
-            → find_client q.key (once_gone gone (entries E.Entries self.now)) ≡ None
-            → IsRequestPlan self.now.settings.now (state E.Entries self.now) q result
+        requires key { find_client asked.key (once_gone gone (entries E.Entries self.now)) ≡ None }
+        ensures { IsRequestPlan self.now.settings.now (state E.Entries self.now)
+            (shown_request asked.entry) result
             (λ now. new_request self.now.settings.now now (state E.Entries self.now)
-            (once_gone gone (entries E.Entries self.now)) q) }
+            (once_gone gone (entries E.Entries self.now)) (shown_request asked.entry)) }
     {
-        match self.way_for(gone) {
+        match self.way_for(asked, gone) {
             Ok(way) => RequestPlan::Admitted(way),
             Err(why) => RequestPlan::Answered(refused(self.numbers.alloc, why)),
         }
@@ -178,13 +191,13 @@ impl<A: Allocator + Copy, E: Entries<A>> Realm<'_, '_, '_, '_, A, E> {
             (find_client asked.entry.key (entries E.Entries self.now))) ≡ [] → IsOk result }
     {
         match self.entries.find_client(self.settings.index(), &asked.key) {
-            None => Ok(self.plan_new(None)),
+            None => Ok(self.plan_new(asked, None)),
             Some(entry) => {
                 if entry.request.octets.as_slice() == asked.octets {
                     let answer = held_reply(self.numbers.alloc, self.settings, entry)?;
                     return Ok(RequestPlan::Answered(answer));
                 }
-                Ok(self.plan_new(Some(Gone::of(entry))))
+                Ok(self.plan_new(asked, Some(Gone::of(entry))))
             }
         }
     }

@@ -1,7 +1,8 @@
 //! A request as it is forwarded (RFC 2865, section 2.3).
 
-ghost use Rattle.std.specs.Prelude.{◌≡◌, ℕ, ◌<◌, ◌≤◌, ◌+◌, ◌%◌, ◌^◌, ◌++◌, List, [], ◌∷◌, Some, None, true, IfSome, is_some, length, slice_set, vec_len, vec_capacity};
+ghost use Rattle.std.specs.Prelude.{◌≡◌, ℕ, ◌<◌, ◌≤◌, ◌==◌, ◌+◌, ◌%◌, ◌^◌, ◌++◌, List, [], ◌∷◌, Some, None, true, IfSome, is_some, length, slice_set, vec_len, vec_capacity};
 ghost use Rattle.roam_wire.specs.Reading.{IsPacketText, packet_of};
+ghost use Rattle.roam_wire.specs.declared.code.TheConstants.{ACCESS_REQUEST};
 ghost use Rattle.roam_pending.specs.PlainEntry.{PlainEntry, PlainRequest};
 ghost use Rattle.roam_pending.specs.EntryList.{IsEntryList, find_ticket, put};
 ghost use Rattle.roam_pending.specs.Shown.{shown_standing};
@@ -9,7 +10,7 @@ ghost use Rattle.roam_pending.specs.declared.entry.Standing.TheVariants as stand
 ghost use Rattle.roam_route.specs.Shown.{shown_out};
 ghost use Rattle.roam_book.specs.RealmConfig.{IsLink, link_place, link_count};
 ghost use Rattle.roam_book.specs.RealmState.{next_toward};
-ghost use Rattle.roam_book.specs.OnRequest.{packet_to, packet_back, forwarded_octets, forwarded_entry};
+ghost use Rattle.roam_book.specs.OnRequest.{packet_to, packet_back, drawn_at, position_after, forwarded_octets, forwarded_entry};
 ghost use Rattle.roam_book.specs.Memory.{HasBuffers, HasRoom, IsCopied};
 ghost use Rattle.roam_book.specs.Sound.{shown_request, IsRequest, LanesTell, IsWaiting, lane_of, cursors_of, has_free, tags_of};
 
@@ -19,7 +20,9 @@ use crate::settings::Settings;
 use roam_conf::{Link, Place};
 use roam_fwd::forward_reserved;
 use roam_pending::{Key, Requester, Waiting};
+use roam_random::{next_position, request_authenticator};
 use roam_route::Out;
+use roam_wire::code::ACCESS_REQUEST;
 use roam_wire::{Octets, View};
 use std::alloc::Allocator;
 
@@ -96,10 +99,45 @@ pub(crate) fn sent_to<A: Allocator>(
     }
 }
 
-/// Writes the forwarded packet of a request into an empty buffer that has room for it.
+/// Whether random words are drawn for a request: its octets are a packet's.
+fn draws(octets: &[u8]) -> bool
+    requires { IsPacketText octets.now }
+    ensures { (packet_of octets.now).code == ACCESS_REQUEST ≡ result }
+{
+    View::of_packet(octets).code() == ACCESS_REQUEST
+}
+
+/// The Authenticator that is drawn for a forwarded packet: the four words of the realm's stream from
+/// this position on (RFC 2865, section 3), and zeros where none is drawn.
+fn drawn_at(settings: &Settings<'_>, asked: Asked<'_>, position: u128) -> [u8; 16]
+    requires { IsPacketText asked.octets.now }
+    ensures { result ≡ drawn_at settings.now (shown_request asked.entry) position }
+{
+    if draws(asked.octets) {
+        request_authenticator(settings.seed(), u64::from(settings.index()), position)
+    } else {
+        [0; 16]
+    }
+}
+
+/// The position of the realm's stream after it.
+fn position_after(asked: Asked<'_>, position: u128) -> u128
+    requires { IsPacketText asked.octets.now }
+    ensures { result ≡ position_after (shown_request asked.entry) position }
+{
+    if draws(asked.octets) {
+        next_position(position)
+    } else {
+        position
+    }
+}
+
+/// Writes the forwarded packet of a request into an empty buffer that has room for it, with what is
+/// drawn from this position on.
 fn forward_into<A: Allocator>(
     settings: &Settings<'_>,
     asked: Asked<'_>,
+    position: u128,
     ticket: u64,
     link: Link,
     id: u8,
@@ -109,19 +147,28 @@ fn forward_into<A: Allocator>(
     requires link { IsLink settings.now link }
     requires room { HasRoom (length asked.octets.now + 46) out.old }
     ensures octets { out.new.items
-        ≡ forwarded_octets settings.now (shown_request asked.entry) ticket
+        ≡ forwarded_octets settings.now (shown_request asked.entry) position ticket
         (record { link = link; id = id }) }
     ensures waiting { IsWaiting settings.now (shown_request asked.entry) link id out.new.items }
 {
     let request = View::of_packet(asked.octets);
     let from_secret = settings.secret_of_requester(asked.requester);
     let to_secret = settings.secret_of_link(link);
-    forward_reserved(&request, from_secret, to_secret, id, [0; 16], ticket, out);
+    let authenticator = drawn_at(settings, asked, position);
+    forward_reserved(
+        &request,
+        from_secret,
+        to_secret,
+        id,
+        authenticator,
+        ticket,
+        out,
+    );
 }
 
 /// Forwards a request to a link that has a free Identifier: the next one is its Identifier there,
-/// and belongs to its ticket from now on. Gives the packet that is sent, and how the request then
-/// waits. Takes no memory.
+/// and belongs to its ticket from now on, and the words that it draws are spent. Gives the packet that
+/// is sent, and how the request then waits. Takes no memory.
 pub(crate) fn send_new<A: Allocator + Copy>(
     settings: &Settings<'_>,
     numbers: &mut Numbers<A>,
@@ -142,11 +189,12 @@ pub(crate) fn send_new<A: Allocator + Copy>(
         → next_toward settings.now (cursors_of numbers.old.lanes.items) es link ≡ Some result.1.id }
     ensures out { shown_out result.0.out ≡ packet_to settings.now link
         (forwarded_octets settings.now
-        (shown_request asked.entry) ticket (record { link = link; id = result.1.id })) }
+        (shown_request asked.entry) numbers.old.stream_position ticket
+        (record { link = link; id = result.1.id })) }
     ensures copied { IsCopied (is_some buffers.copy) result.0 }
     ensures standing { shown_standing (standing.Waiting result.1)
-        ≡ (forwarded_entry settings.now now (shown_request asked.entry) ticket
-        (record { link = link; id = result.1.id })).standing }
+        ≡ (forwarded_entry settings.now now (shown_request asked.entry)
+        numbers.old.stream_position ticket (record { link = link; id = result.1.id })).standing }
     ensures waiting { IsWaiting settings.now (shown_request asked.entry) link result.1.id
         result.1.forwarded }
     ensures cursors { cursors_of numbers.new.lanes.items
@@ -157,12 +205,14 @@ pub(crate) fn send_new<A: Allocator + Copy>(
     ensures tells { (es : List PlainEntry) → LanesTell settings.now es numbers.old.lanes.items
         → find_ticket ticket es ≡ None
         → LanesTell settings.now
-        (put (forwarded_entry settings.now now (shown_request asked.entry) ticket
-        (record { link = link; id = result.1.id })) es) numbers.new.lanes.items }
+        (put (forwarded_entry settings.now now (shown_request asked.entry)
+        numbers.old.stream_position ticket (record { link = link; id = result.1.id })) es)
+        numbers.new.lanes.items }
     ensures tags { tags_of numbers.new.lanes.items ≡ tags_of numbers.old.lanes.items }
     ensures count { length numbers.new.lanes.items ≡ length numbers.old.lanes.items }
     ensures ticket { numbers.new.ticket ≡ numbers.old.ticket }
-    ensures stream_position { numbers.new.stream_position ≡ numbers.old.stream_position }
+    ensures stream_position { numbers.new.stream_position
+        ≡ position_after (shown_request asked.entry) numbers.old.stream_position }
 {
     let Some(id) = numbers.take_next(settings, link, ticket) else {
         unreachable!();
@@ -172,7 +222,9 @@ pub(crate) fn send_new<A: Allocator + Copy>(
         kept,
         copy,
     } = buffers;
-    forward_into(settings, asked, ticket, link, id, &mut sent);
+    let position = numbers.stream_position;
+    forward_into(settings, asked, position, ticket, link, id, &mut sent);
+    numbers.stream_position = position_after(asked, position);
     let forwarded = copied_into(kept, sent.as_slice());
     let waiting = Waiting {
         link,

@@ -1,9 +1,10 @@
 //! The two services of a home server.
 
 ghost use Rattle.std.specs.Prelude.{◌≡◌};
-ghost use Rattle.roam_book.specs.RealmConfig.{server_link};
+ghost use Rattle.roam_book.specs.RealmConfig.{server_link, service_of};
 
 use roam_conf::Link;
+use roam_wire::code::ACCESS_REQUEST;
 
 /// What a home server does for a request.
 #[derive(Clone, Copy, Debug, PartialEq, Eq)]
@@ -15,6 +16,17 @@ pub enum Service {
 }
 
 impl Service {
+    /// The service that a request of this code asks for.
+    pub(crate) fn of_code(code: u8) -> Service
+        ensures { result ≡ service_of code }
+    {
+        if code == ACCESS_REQUEST {
+            Service::Authentication
+        } else {
+            Service::Accounting
+        }
+    }
+
     /// The link to the server of this place.
     pub(crate) fn link(self, server: u8) -> Link
         ensures { result ≡ server_link self server }

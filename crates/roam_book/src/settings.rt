@@ -52,6 +52,13 @@ impl<'c> Settings<'c> {
         &self.config.realms[usize::from(self.realm)]
     }
 
+    /// The seed of the random words.
+    pub(crate) fn seed(&self) -> [u8; 32]
+        ensures { result ≡ self.now.seed }
+    {
+        self.config.seed
+    }
+
     /// How often a packet is sent to one server.
     pub(crate) fn tries(&self) -> u8
         ensures { result ≡ self.now.realm.tries }

@@ -2,7 +2,6 @@
 
 ghost use Rattle.std.specs.Prelude.{◌≡◌, ◌⊎◌, ◌↔◌, ◌<◌, ◌≤◌, ◌^◌, [], IfErr, IfNone, IfOk, IsErrOf, IsOk, length};
 ghost use Rattle.roam_wire.specs.Reading.{packet_of};
-ghost use Rattle.roam_wire.specs.declared.code.TheConstants.{ACCOUNTING_REQUEST};
 ghost use Rattle.roam_back.specs.ReplyCheck.{IsTaken};
 ghost use Rattle.roam_back.specs.Returned.{returned_length};
 ghost use Rattle.roam_pending.specs.PlainEntry.{PlainEntry};
@@ -64,7 +63,6 @@ fn returned_packet<A: Allocator + Copy>(
 ) -> Result<Vec<u8, A>, Refusal>
     requires request { IsRequest settings.now (shown_request request.now) }
     requires link { IsLink settings.now link }
-    requires code { forwarded.now.code ≡ ACCOUNTING_REQUEST }
     requires taken { IsTaken (link_secret settings.now link) reply.now forwarded.now }
     ensures octets { IfOk result (λ packet. packet.items
         ≡ returned_octets settings.now (shown_request request.now) link forwarded.now reply.now) }
@@ -122,7 +120,6 @@ fn return_reply<A: Allocator + Copy>(
     requires moment { now ≤ 2 ^ 62 }
     requires request { IsRequest settings.now (shown entry.now).request }
     requires link { IsLink settings.now link }
-    requires code { forwarded.now.code ≡ ACCOUNTING_REQUEST }
     requires taken { IsTaken (link_secret settings.now link) reply.now forwarded.now }
     ensures turn { IfOk result (λ v. IsVerdict v (shown entry.now)
         (λ s. return_reply settings.now now s (shown entry.now) link forwarded.now reply.now)) }

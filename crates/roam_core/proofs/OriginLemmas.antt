@@ -48,10 +48,10 @@ request-later c start es fs q ticket h = record {
 }
 
 pub forwarded-later :
-    (c : RealmConfig) (start : Start) (es fs : List RealmEvent) (q : PlainRequest) (ticket : ℕ)
-    (target : Target) → IsForwarded c start es q ticket target
-    → IsForwarded c start (es ++ fs) q ticket target
-forwarded-later c start es fs q ticket target h = record {
+    (c : RealmConfig) (start : Start) (es fs : List RealmEvent) (q : PlainRequest)
+    (position ticket : ℕ) (target : Target) → IsForwarded c start es q position ticket target
+    → IsForwarded c start (es ++ fs) q position ticket target
+forwarded-later c start es fs q position ticket target h = record {
   request = request-later c start es fs q ticket h.request;
   sent = elim h.sent [
     | inl own ↦ inl own
@@ -76,6 +76,7 @@ returned-later c start es fs q ticket out h = record {
   before = h.before;
   answered_at = h.answered_at;
   target = h.target;
+  position = h.position;
   reply = h.reply;
   after = h.after ++ fs;
   in_order =
@@ -93,8 +94,10 @@ pub stands-later :
     (s : PlainStanding) → StandsFrom c start es q ticket s
     → StandsFrom c start (es ++ fs) q ticket s
 stands-later c start es fs q ticket (waiting l id forwarded sends_left deadline) h = record {
+  position = h.position;
   octets_are = h.octets_are;
-  forwarded = forwarded-later c start es fs q ticket (record { link = l; id = id }) h.forwarded;
+  forwarded = forwarded-later c start es fs q h.position ticket (record { link = l; id = id })
+      h.forwarded;
 }
 stands-later c start es fs q ticket (done reply deadline) h =
     returned-later c start es fs q ticket (packet_back c q.key reply) h
@@ -119,9 +122,10 @@ has-origin-later :
     → HasOrigin c start es out → HasOrigin c start (es ++ fs) out
 has-origin-later c start es fs out (inl h) = inl (record {
   request = h.request;
+  position = h.position;
   ticket = h.ticket;
   target = h.target;
-  forwarded = forwarded-later c start es fs h.request h.ticket h.target h.forwarded;
+  forwarded = forwarded-later c start es fs h.request h.position h.ticket h.target h.forwarded;
   is_forwarded = h.is_forwarded;
 })
 has-origin-later c start es fs out (inr h) = inr (record {

@@ -84,6 +84,7 @@ module _ (c : RealmConfig) (start : Start) (before : List RealmEvent) (now : ℕ
     before = before;
     answered_at = now;
     target = record { link = from; id = id };
+    position = waits.position;
     reply = reply;
     after = [];
     in_order = refl;

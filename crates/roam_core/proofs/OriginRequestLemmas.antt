@@ -3,7 +3,6 @@ use Rattle.std.proofs.Common.{◌≡◌, ℕ, ◌^◌, Bool, List, [], ◌∷◌
 use Rattle.std.specs.Prelude.{nat_eq, not}
 use Rattle.std.specs.Cmp.Lexicographic.{pointwise}
 use Rattle.std.proofs.lemmas.Bool.{cases_Bool}
-use Rattle.roam_wire.specs.Reading.{packet_of}
 use Rattle.roam_pending.specs.declared.key.Key.{Key}
 use Rattle.roam_pending.specs.PlainEntry.{PlainRequest, PlainStanding, PlainEntry, waiting, done, has_key, has_ticket}
 use Rattle.roam_pending.specs.EntryList.{find_client, first_done, without, without_client}
@@ -11,10 +10,10 @@ use Rattle.roam_pending.proofs.TestLemmas.{all-filter, all-find}
 use Rattle.roam_pending.proofs.OrderLemmas.{all-put}
 use Rattle.roam_pending.proofs.ChangeLemmas.{find-passes}
 use Rattle.roam_pending.proofs.ClientLemmas.{key-equal}
-use Rattle.roam_book.specs.RealmConfig.{RealmConfig, targets}
+use Rattle.roam_book.specs.RealmConfig.{RealmConfig}
 use Rattle.roam_book.specs.RealmState.{RealmState, Target, first_target}
 use Rattle.roam_book.specs.Turn.{Turn}
-use Rattle.roam_book.specs.OnRequest.{packet_back, forwarded_entry, admit, make_way, at_target, new_request, held_reply, of_key, on_request}
+use Rattle.roam_book.specs.OnRequest.{packet_back, forwarded_entry, admit, make_way, at_target, new_request, held_reply, of_key, on_request, targets}
 use Rattle.roam_book.specs.OneRealm.{RealmEvent, request_came}
 use Rattle.roam_book.specs.declared.start.Start.{Start}
 use Rattle.roam_core.specs.Provenance.{IsReturned, IsForwarded, StandsFrom, ComesFrom, forwarded_packet}
@@ -38,9 +37,9 @@ module _ (c : RealmConfig) (start : Start) (before : List RealmEvent) (now : ℕ
   -- it is given the next ticket, and its own turn forwards it
   admit-forwarded :
       (es : List PlainEntry) (target : Target) → turn ≡ admit c now s es q target
-      → IsForwarded c start (before ++ request_came now q ∷ []) q s.ticket target
+      → IsForwarded c start (before ++ request_came now q ∷ []) q s.stream_position s.ticket target
   admit-forwarded es target is =
-      let out = forwarded_packet c q s.ticket target in
+      let out = forwarded_packet c q s.stream_position s.ticket target in
       let event = request_came now q in
       let whole : IsTurnAfter c start before event s (admit c now s es q target) =
       record { state = after.state; does = after.does ∙ is } in
@@ -66,15 +65,20 @@ module _ (c : RealmConfig) (start : Start) (before : List RealmEvent) (now : ℕ
   admit-keeps es target each is =
       let events = before ++ request_came now q ∷ [] in
       let forwarded = admit-forwarded es target is in
-      let new = forwarded_entry c now q s.ticket target in
+      let new = forwarded_entry c now q s.stream_position s.ticket target in
       let comes : ComesFrom c start events new = record {
         request = forwarded.request;
-        standing = record { octets_are = refl; forwarded = forwarded };
+        standing = record {
+          position = s.stream_position;
+          octets_are = refl;
+          forwarded = forwarded;
+        };
       } in
       record {
         packets = (
           inl (record {
             request = q;
+            position = s.stream_position;
             ticket = s.ticket;
             target = target;
             forwarded = forwarded;
@@ -114,7 +118,7 @@ module _ (c : RealmConfig) (start : Start) (before : List RealmEvent) (now : ℕ
       → turn ≡ new_request c now s es q
       → TurnKeeps c start (before ++ request_came now q ∷ []) s (new_request c now s es q)
   new_request-keeps es each is =
-      let target = first_target c s.cursors es (targets c (packet_of q.octets).code) in
+      let target = first_target c s.cursors es (targets c q) in
       elim (cases_Bool (eqb s.ticket (2 ^ 63))) [
         | inl y ↦ rw y (record { packets = tt; entries = kept })
         | inr n ↦ rw n (at_target-keeps es target each (rw n at is))

@@ -38,12 +38,13 @@ module _ (c : RealmConfig) (start : Start) (before : List RealmEvent) (now : ℕ
 
   -- what the tick sends for a held entry, to another target
   over-forwarded :
-      (e : PlainEntry) (target : Target) → IsKnown e
-      → IsSentBy c start before (tick_came now) (forwarded_packet c e.request e.ticket target)
-      → IsForwarded c start (before ++ tick_came now ∷ []) e.request e.ticket target
-  over-forwarded e target known sent =
+      (e : PlainEntry) (position : ℕ) (target : Target) → IsKnown e
+      → IsSentBy c start before (tick_came now)
+      (forwarded_packet c e.request position e.ticket target)
+      → IsForwarded c start (before ++ tick_came now ∷ []) e.request position e.ticket target
+  over-forwarded e position target known sent =
       let r = known.request in
-      let out = forwarded_packet c e.request e.ticket target in
+      let out = forwarded_packet c e.request position e.ticket target in
       let held = subst (λ (l : List RealmEvent). IsHeld c start l e.request e.ticket) r.in_order known.held in
       let there = subst (λ (l : List RealmEvent). IsSentBy c start l (tick_came now) out) r.in_order sent in
       record {
@@ -65,17 +66,22 @@ module _ (c : RealmConfig) (start : Start) (before : List RealmEvent) (now : ℕ
       → ProgressKeeps (fail_over c now s e target)
   fail_over-keeps s e None kept known sent = record { packets = tt; entries = kept }
   fail_over-keeps s e (Some target) kept known sent =
-      let forwarded = over-forwarded e target known sent.0 in
-      let anew = forwarded_entry c now e.request e.ticket target in
+      let forwarded = over-forwarded e s.stream_position target known sent.0 in
+      let anew = forwarded_entry c now e.request s.stream_position e.ticket target in
       let anew_known : IsKnown anew = record {
         request = known.request;
         held = known.held;
-        standing = record { octets_are = refl; forwarded = forwarded };
+        standing = record {
+          position = s.stream_position;
+          octets_are = refl;
+          forwarded = forwarded;
+        };
       } in
       record {
         packets = (
           inl (record {
             request = e.request;
+            position = s.stream_position;
             ticket = e.ticket;
             target = target;
             forwarded = forwarded;
@@ -121,6 +127,7 @@ module _ (c : RealmConfig) (start : Start) (before : List RealmEvent) (now : ℕ
           packets = (
             inl (record {
               request = e.request;
+              position = stands.position;
               ticket = e.ticket;
               target = record { link = l; id = id };
               forwarded = stands.forwarded;

@@ -14,10 +14,10 @@ use Rattle.roam_pending.specs.declared.key.Key.{Key}
 use Rattle.roam_pending.specs.DueOrder.{due_list}
 use Rattle.roam_pending.specs.PlainEntry.{PlainRequest, PlainStanding, PlainEntry, waiting, done}
 use Rattle.roam_pending.specs.EntryList.{find_client, find_link, find_ticket, first_done, without, without_client}
-use Rattle.roam_book.specs.RealmConfig.{RealmConfig, targets, later_targets, link_secret, server_links, service_of}
+use Rattle.roam_book.specs.RealmConfig.{RealmConfig, later_targets, link_secret, server_links, service_of}
 use Rattle.roam_book.specs.RealmState.{RealmState, Target, first_target}
 use Rattle.roam_book.specs.Turn.{Turn, refuses, sends, packets_of, in_time}
-use Rattle.roam_book.specs.OnRequest.{packet_back, admit, make_way, at_target, new_request, held_reply, of_key, on_request}
+use Rattle.roam_book.specs.OnRequest.{packet_back, admit, make_way, at_target, new_request, held_reply, of_key, on_request, targets}
 use Rattle.roam_book.specs.OnReply.{return_reply, judge, to_standing, to_entry, reply_fault, on_reply}
 use Rattle.roam_book.specs.OnTick.{Progress, silent, fail_over, without_entry, due_standing, due_entry, due_one, due_each, as_turn, on_tick}
 use Rattle.roam_book.specs.OneRealm.{RealmEvent, request_came, reply_came, tick_came, on_event}
@@ -72,7 +72,7 @@ at_target_for c now s entries q (Some target) =
 
 new_request_for : (c : RealmConfig) (now : ℕ) (s : RealmState) (entries : List PlainEntry) (q : PlainRequest) → SendsFor c.index (new_request c now s entries q)
 new_request_for c now s entries q =
-    let target = first_target c s.cursors entries (targets c (packet_of q.octets).code) in
+    let target = first_target c s.cursors entries (targets c q) in
     either (SendsFor c.index) (s.ticket == 2 ^ 63)
     (refuses refusal.Exhausted) (at_target c now s entries q target)
     (refuses_for c.index refusal.Exhausted) (at_target_for c now s entries q target)

@@ -12,10 +12,10 @@ use Rattle.roam_pending.specs.declared.due.Due.{Due}
 use Rattle.roam_pending.specs.DueOrder.{due_list}
 use Rattle.roam_pending.specs.PlainEntry.{PlainRequest, PlainStanding, PlainEntry, waiting, done}
 use Rattle.roam_pending.specs.EntryList.{find_client, find_link, find_ticket, first_done, without, without_client}
-use Rattle.roam_book.specs.RealmConfig.{RealmConfig, later_targets, link_secret, targets}
+use Rattle.roam_book.specs.RealmConfig.{RealmConfig, later_targets, link_secret}
 use Rattle.roam_book.specs.RealmState.{RealmState, Target, first_target}
 use Rattle.roam_book.specs.Turn.{Turn, state_after, in_time}
-use Rattle.roam_book.specs.OnRequest.{make_way, at_target, new_request, of_key}
+use Rattle.roam_book.specs.OnRequest.{make_way, at_target, new_request, of_key, targets}
 use Rattle.roam_back.specs.ReplyCheck.{reply_fault}
 use Rattle.roam_book.specs.OnReply.{returning, judge, to_standing, to_entry}
 use Rattle.roam_book.specs.OnTick.{Progress, fail_over, without_entry, due_standing, due_entry, due_one, due_each, as_turn}
@@ -47,7 +47,7 @@ at_target-rises c now s es q (Some target) =
 new_request-rises : (c : RealmConfig) (now : ℕ) (s : RealmState) (es : List PlainEntry) (q : PlainRequest) → Rises s (new_request c now s es q)
 new_request-rises c now s es q =
     either (Rises s) (eqb s.ticket (2 ^ 63)) _ _ (stays s)
-    (at_target-rises c now s es q (first_target c s.cursors es (targets c (packet_of q.octets).code)))
+    (at_target-rises c now s es q (first_target c s.cursors es (targets c q)))
 
 of_key-rises : (c : RealmConfig) (now : ℕ) (s : RealmState) (q : PlainRequest) (found : Option PlainEntry) → Rises s (of_key c now s q found)
 of_key-rises c now s q None = new_request-rises c now s (without_client q.key s.entries) q

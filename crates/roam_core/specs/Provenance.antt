@@ -53,19 +53,21 @@ pub record FailsOver (c : RealmConfig) (start : Start) (first : List RealmEvent)
   pub held : IsHeld c start (first ++ request_came asked_at q ∷ between) q ticket
   pub sent : IsSentBy c start (first ++ request_came asked_at q ∷ between) (tick_came now) out
 
--- the packet that is sent to a target for a request, under its ticket
-abbrev pub forwarded_packet : RealmConfig → PlainRequest → ℕ → Target → PlainOut
-forwarded_packet c q ticket target = packet_to c target.link (forwarded_octets c q ticket target)
+-- the packet that is sent to a target for a request, under its ticket. In an Access-Request its
+-- Authenticator is what was drawn from the realm's stream, from this position on
+abbrev pub forwarded_packet : RealmConfig → PlainRequest → ℕ → ℕ → Target → PlainOut
+forwarded_packet c q position ticket target =
+    packet_to c target.link (forwarded_octets c q position ticket target)
 
 -- a request of the list was forwarded to a target: in its own turn, or when it failed over
 pub record IsForwarded (c : RealmConfig) (start : Start) (events : List RealmEvent)
-    (q : PlainRequest) (ticket : ℕ) (target : Target) : Type 0 where
+    (q : PlainRequest) (position ticket : ℕ) (target : Target) : Type 0 where
   pub request : IsRequestOf c start events q ticket
   pub sent :
       IsSentBy c start request.first (request_came request.asked_at q)
-      (forwarded_packet c q ticket target)
+      (forwarded_packet c q position ticket target)
       ⊎ FailsOver c start request.first request.asked_at q request.rest ticket
-      (forwarded_packet c q ticket target)
+      (forwarded_packet c q position ticket target)
 
 -- a packet is the returned one of a request of the list: the request was forwarded to a link; then a
 -- reply came from that link, with the forwarded packet's Identifier; it is taken, for its code, its
@@ -76,27 +78,30 @@ pub record IsReturned (c : RealmConfig) (start : Start) (events : List RealmEven
   pub before : List RealmEvent
   pub answered_at : ℕ
   pub target : Target
+  pub position : ℕ
   pub reply : List ℕ
   pub after : List RealmEvent
   pub in_order : events ≡ before ++ reply_came answered_at target.link reply ∷ after
-  pub forwarded : IsForwarded c start before q ticket target
+  pub forwarded : IsForwarded c start before q position ticket target
   pub identifier : (packet_of reply).id ≡ target.id
   pub taken :
       reply_fault (link_secret c target.link) (packet_of reply)
-      (packet_of (forwarded_octets c q ticket target)) ≡ None
+      (packet_of (forwarded_octets c q position ticket target)) ≡ None
   pub is_returned :
       out ≡ packet_back c q.key (returned_octets c q target.link
-      (packet_of (forwarded_octets c q ticket target)) (packet_of reply))
+      (packet_of (forwarded_octets c q position ticket target)) (packet_of reply))
   pub sent : IsSentBy c start before (reply_came answered_at target.link reply) out
 
--- a packet is the forwarded one of a request of the list: of which, under which ticket, to which link
+-- a packet is the forwarded one of a request of the list: of which, with the words from which position
+-- on, under which ticket, to which link
 pub record IsForwardedPacket (c : RealmConfig) (start : Start) (events : List RealmEvent)
     (out : PlainOut) : Type 0 where
   pub request : PlainRequest
+  pub position : ℕ
   pub ticket : ℕ
   pub target : Target
-  pub forwarded : IsForwarded c start events request ticket target
-  pub is_forwarded : out ≡ forwarded_packet c request ticket target
+  pub forwarded : IsForwarded c start events request position ticket target
+  pub is_forwarded : out ≡ forwarded_packet c request position ticket target
 
 -- it is the returned one of a request of the list
 pub record IsReturnedPacket (c : RealmConfig) (start : Start) (events : List RealmEvent)
@@ -113,8 +118,9 @@ HasOrigin c start events out =
 -- how an entry stands: it waits for the reply to what was forwarded to its link, or its reply was returned
 pub record WaitsFor (c : RealmConfig) (start : Start) (events : List RealmEvent) (q : PlainRequest)
     (ticket : ℕ) (target : Target) (octets : List ℕ) : Type 0 where
-  pub octets_are : octets ≡ forwarded_octets c q ticket target
-  pub forwarded : IsForwarded c start events q ticket target
+  pub position : ℕ
+  pub octets_are : octets ≡ forwarded_octets c q position ticket target
+  pub forwarded : IsForwarded c start events q position ticket target
 
 abbrev pub StandsFrom :
     RealmConfig → Start → List RealmEvent → PlainRequest → ℕ → PlainStanding → Type 0

@@ -59,12 +59,10 @@ returns-clause-fate g c =
       waits = one.waiting;
       cursors = one.cursors;
       tells = one.tells others freed.tells (find-without e.ticket es);
-      same = record {
-        count = one.count;
-        ticket = one.ticket;
-        stream_position = one.stream_position;
-        tags = one.tags;
-      };
+      count = one.count;
+      ticket = one.ticket;
+      stream_position = one.stream_position;
+      tags = one.tags;
     } in
     let of_entry = subst (λ (q : PlainRequest). IsSent c.args.settings.now c.args.now others q
     e.ticket c.in-Some.target c.give_back.new.self new c.send_new-sent.result.0

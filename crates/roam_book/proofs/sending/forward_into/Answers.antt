@@ -8,7 +8,7 @@ use Rattle.roam_book.specs.Sound.{shown_request, IsWaiting}
 use Rattle.roam_book.proofs.SendingLemmas.{forwarded_length-request, IsWaiting-forwarded, octets-written}
 use Rattle.roam_book.proofs.sending.forward_into.Goals as goal
 
--- the buffer has room for 46 octets more, and ten are added
+-- the buffer has room for 46 octets more, and at most so many are added
 pub forward_reserved-requires-clause-room : goal.forward_reserved-requires-clause-room
 forward_reserved-requires-clause-room g c =
     let q : PlainRequest = shown_request c.args.asked in
@@ -23,11 +23,12 @@ returns-clause-waiting g c =
     let q : PlainRequest = shown_request c.args.asked in
     let target : Target = record { link = c.args.link; id = c.args.id } in
     let read : c.of_packet-request.result ≡ packet_of q.octets = c.of_packet-request.ensures in
-    let written : c.forward_reserved.new.out.items ≡ forwarded_octets config q c.args.ticket target =
-    octets-written config q c.args.ticket target c.args.out.now.items
+    let written : c.forward_reserved.new.out.items
+    ≡ forwarded_octets config q c.args.position c.args.ticket target =
+    octets-written config q c.args.position c.args.ticket target c.drawn_at-authenticator.result c.args.out.now.items
     c.forward_reserved.new.out.items c.secret_of_requester-from_secret.result.now
     c.secret_of_link-to_secret.result.now c.of_packet-request.result
     (record { octets = c.forward_reserved.ensures.octets }) c.requires.room.empty
-    c.secret_of_requester-from_secret.ensures.text c.secret_of_link-to_secret.ensures.text read in
-    let waits = IsWaiting-forwarded config q c.args.ticket target c.requires.request c.requires.link in
+    c.drawn_at-authenticator.ensures c.secret_of_requester-from_secret.ensures.text c.secret_of_link-to_secret.ensures.text read in
+    let waits = IsWaiting-forwarded config q c.args.position c.args.ticket target c.requires.request c.requires.link in
     subst (IsWaiting config q c.args.link c.args.id) (sym written) (waits (omega arith))

@@ -11,5 +11,6 @@ returns-clause-tells g c =
     λ es tells none.
     let q : PlainRequest = shown_request c.args.asked in
     let target : Target = record { link = c.args.link; id = c.in-Some.id } in
-    let e : PlainEntry = forwarded_entry c.args.settings.now c.args.now q c.args.ticket target in
+    let e : PlainEntry = forwarded_entry c.args.settings.now c.args.now q c.args.numbers.now.stream_position c.args.ticket
+    target in
     c.in-Some.ensures.tells e es tells none refl (λ l i. refl)

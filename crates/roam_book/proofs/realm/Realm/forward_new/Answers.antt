@@ -41,7 +41,8 @@ returns-clause-keeps g c =
     let sent = c.send_new-sent.ensures in
     let w = c.send_new-sent.result.1 in
     let target : Target = record { link = c.args.link; id = w.id } in
-    let e = forwarded_entry config c.args.now q old.numbers.now.ticket target in
+    let e = forwarded_entry config c.args.now q old.numbers.now.stream_position old.numbers.now.ticket
+    target in
     let is = entry-is q c.args.octets old.numbers.now.ticket _ e.standing c.requires.octets
     sent.standing in
     let become = rw c.index.ensures at c.insert_entry.ensures.entries in

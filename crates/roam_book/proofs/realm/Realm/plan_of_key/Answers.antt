@@ -33,6 +33,16 @@ plan_new-requires-in-Some-clause-gone g c =
     key-gone c.args.asked.key e (entries g.E.Entries r) c.of.result c.requires.realm.list found
     c.of.ensures.ticket c.of.ensures.place
 
+-- its key is then free
+pub plan_new-requires-in-Some-clause-key : goal.plan_new-requires-in-Some-clause-key
+plan_new-requires-in-Some-clause-key g c =
+    let r = c.args.self.now in
+    let e = shown c.in-Some.entry.now in
+    let found : find_client c.args.asked.key (entries g.E.Entries r) ≡ Some e =
+    rw (← c.index.ensures) (sym c.in-Some.ensures.found) in
+    key-free c.args.asked.key e (entries g.E.Entries r) c.of.result.ticket c.requires.realm.list
+    found c.of.ensures.ticket
+
 -- no entry has the key
 pub returns-in-None-clause-plan : goal.returns-in-None-clause-plan
 returns-in-None-clause-plan g c =
@@ -42,7 +52,7 @@ returns-in-None-clause-plan g c =
     let none : find_client c.args.asked.key s.entries ≡ None =
     rw (← c.index.ensures) (sym c.in-None.ensures.found) in
     plan-same r.settings.now s q c.plan_new.result _ _
-    (λ now. of-key-none r.settings.now now s q none) (c.plan_new.ensures q c.requires.request none)
+    (λ now. of-key-none r.settings.now now s q none) c.plan_new.ensures
 
 -- the entry of the key has other octets
 pub returns-else-eq-clause-plan : goal.returns-else-eq-clause-plan
@@ -57,7 +67,6 @@ returns-else-eq-clause-plan g c =
     let test : pointwise nat_eq e.request.octets c.args.asked.octets.now ≡ false =
     rw c.as_slice.ensures at (sym c.eq.ensures ∙ c.if-eq.false) in
     let t = c.of.result.ticket in
-    let key = key-free c.args.asked.key e s.entries t list found c.of.ensures.ticket in
     plan-same r.settings.now s q c.plan_new-in-Some.result _ _
     (λ now. of-key-new r.settings.now now s q e t list found c.of.ensures.ticket test)
-    (c.plan_new-in-Some.ensures q c.requires.request key)
+    c.plan_new-in-Some.ensures
