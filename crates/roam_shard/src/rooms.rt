@@ -1,0 +1,1 @@
+//! The memory of a shard's tick, taken before anything changes.
