@@ -1,1 +1,2 @@
 pub mod ShardLemmas
+pub mod RoomLemmas

@@ -1,25 +1,27 @@
 -- One realm's turn, among all realms.
-use Rattle.std.proofs.Common.{◌≡◌, ◌≢◌, ℕ, zero, suc, ◌+◌, ◌<◌, ◌≤◌, Bool, true, false, List, [], ◌∷◌, length, get_or, set, Option, Some, None, Result, Ok, Err, IsTrue, refl, ap, sym, ◌∙◌, subst, inl, inr, arith}
+use Rattle.std.proofs.Common.{◌≡◌, ◌≢◌, ℕ, zero, suc, ◌+◌, ◌^◌, ◌<◌, ◌≤◌, Bool, true, false, List, [], ◌∷◌, length, get_or, set, Option, Some, None, Result, Ok, Err, IsTrue, refl, ap, sym, ◌∙◌, subst, inl, inr, arith}
 use Rattle.std.specs.Prelude.{nat_lt, slice_get}
 use Rattle.std.proofs.Math.ListN.{length-set}
 use Rattle.std.proofs.lemmas.Bool.{cases_eq, cases_lt}
 use Rattle.std.proofs.lemmas.Bool.Decides.{nat_tests}
 use Rattle.std.proofs.lemmas.List.{set-get_or}
 use Rattle.roam_wire.specs.declared.refusal.NoMemory.{NoMemory}
+use Rattle.roam_wire.specs.declared.refusal.Refusal.TheVariants as refusal
 use Rattle.roam_conf.specs.Config.{ConfigView}
 use Rattle.roam_pending.specs.EntryList.{IsEntryList}
 use Rattle.roam_pending.specs.PlainEntry.{PlainEntry}
 use Rattle.roam_tables.specs.Stands.{RealmView, entries_in, keeps_in}
 use Rattle.roam_tables.proofs.RealmLemmas.{get-set_other, get-set_same}
+use Rattle.roam_book.specs.OnTick.{on_tick}
 use Rattle.roam_book.specs.RealmConfig.{RealmConfig, realm_config}
 use Rattle.roam_book.specs.RealmState.{RealmState}
 use Rattle.roam_book.specs.Sound.{IsSound, OthersStay, state_of}
-use Rattle.roam_book.specs.Turn.{Turn, refuses, sends, state_after, Gives}
+use Rattle.roam_book.specs.Turn.{Turn, refuses, sends, packets_of, shown_outs, state_after, Gives}
 use Rattle.roam_book.specs.declared.answer.Answer.{Answer}
 use Rattle.roam_book.specs.declared.numbers.Numbers.{Numbers}
 use Rattle.roam_core.specs.BrokerView.{BrokerView}
-use Rattle.roam_core.specs.ManyRealms.{no_state, state_at, turn_of_one}
-use Rattle.roam_core.specs.Steps.{GivesAnswer}
+use Rattle.roam_core.specs.ManyRealms.{no_state, packets_in_turn, state_at, states_after, to_tick, turn_of_one}
+use Rattle.roam_core.specs.Steps.{GivesAnswer, IsAnswer}
 use Rattle.roam_shard.specs.ShardView.{IsShards, states_from, states_in}
 
 -- tables that keep the same realms keep as many
@@ -34,6 +36,15 @@ as_many v w same =
     let one = less_same (length v) (length w) (λ r. sym (ap (λ (k : ℕ → Bool). k r) same)) in
     let two = less_same (length w) (length v) (λ r. ap (λ (k : ℕ → Bool). k r) same) in
     omega arith
+
+-- what is sent, and the states that follow, where one realm has its turn
+packets_one : (ss : List RealmState) (k : ℕ) (turn : Turn) → packets_in_turn (turn_of_one ss k turn) ≡ packets_of turn
+packets_one ss k (refuses why) = refl
+packets_one ss k (sends packets state) = refl
+
+states_one : (ss : List RealmState) (k : ℕ) (turn : Turn) → states_after ss (turn_of_one ss k turn) ≡ set ss k (state_after (state_at ss k) turn)
+states_one ss k (refuses why) = sym (set-get_or ss k no_state)
+states_one ss k (sends packets state) = refl
 
 module _ {A : Type 0} where
   -- the states of many realms
@@ -76,6 +87,16 @@ module _ {A : Type 0} where
       (let e : 0 + k ≡ k = omega arith in
       states-set_from E F 0 k ns n (λ q ne. others q (λ is. ne (omega arith))) ∙ ap (λ (q : ℕ). set (states_from E 0 ns) k (state_of (F q) n)) e)
 
+  -- there is a state for each realm
+  pub shards_whole : (config : ConfigView) (tables : List RealmView) (ns : List (Numbers A)) (view : BrokerView) → IsShards config tables ns
+      → record { config = config; states = states_in tables ns } ≡ view → length view.states ≡ length view.config.realms
+  shards_whole config tables ns view are is =
+      subst (λ (v : BrokerView). length v.states ≡ length v.config.realms) is (length-states (entries_in tables) 0 ns ∙ are.count)
+
+  pub shards_count : (config : ConfigView) (tables : List RealmView) (ns : List (Numbers A)) (view : BrokerView)
+      → record { config = config; states = states_in tables ns } ≡ view → length view.states ≡ length ns
+  shards_count config tables ns view is = ap (λ (v : BrokerView). length v.states) (sym is) ∙ length-states (entries_in tables) 0 ns
+
   -- the turn of one realm, among all states
   gives_one : (result : Result (Answer A) NoMemory) (states : List RealmState) (k : ℕ) (new : RealmState) (turn : Turn) → Gives result (state_at states k) new turn → GivesAnswer result states (set states k new) (turn_of_one states k turn)
   gives_one (Err e) states k new turn same = ap (λ (s : RealmState). set states k s) same ∙ set-get_or states k no_state
@@ -103,6 +124,12 @@ module _ {A : Type 0} where
 
     pub realm_list : IsEntryList (entries_in tables c.index)
     realm_list = are.lists c.index
+
+    -- the entries of its state
+    pub realm_entries : (view : BrokerView) → record { config = config; states = states_in tables ns } ≡ view → (state_at view.states k).entries ≡ entries_in tables c.index
+    realm_entries view is =
+        ap (λ (v : BrokerView). (state_at v.states k).entries) (sym is) ∙ ap (λ (s : RealmState). s.entries) (state-of (entries_in tables) k ns n at)
+        ∙ ap (λ (x : RealmConfig). entries_in tables x.index) (sym own)
 
     module _ (tables2 : List RealmView) (n2 : Numbers A) (c2 : RealmConfig) (stays : c2 ≡ c) (keeps : keeps_in tables2 ≡ keeps_in tables)
         (others : OthersStay c.index (entries_in tables) (entries_in tables2)) where
@@ -166,3 +193,25 @@ module _ {A : Type 0} where
           let given = shards_give_written f result m same gives in
           let there = subst (λ (q : ℕ). GivesAnswer result (states_in tables ns) (states_in tables2 (set ns k m)) (turn_of_one (states_in tables ns) q (f (realm_config config q) (state_at (states_in tables ns) q)))) here given in
           subst (λ (w : BrokerView). GivesAnswer result w.states (states_in tables2 (set ns k m)) (turn_of_one w.states j (f (realm_config w.config j) (state_at w.states j)))) is there
+
+      pub ticks_seen : (now : ℕ) (answer : Answer A) (view : BrokerView) → record { config = config; states = states_in tables ns } ≡ view → (m : Numbers A) → m ≡ n2
+          → Gives (Ok answer) (state_of (entries_in tables c.index) n) (state_of (entries_in tables2 c2.index) n2) (on_tick c now (state_of (entries_in tables c.index) n))
+          → (shown_outs answer.outs.items ≡ packets_of (on_tick (realm_config view.config k) now (state_at view.states k)))
+          × (states_in tables2 (set ns k m) ≡ set view.states k (state_after (state_at view.states k) (on_tick (realm_config view.config k) now (state_at view.states k))))
+      ticks_seen now answer view is m same gives =
+          let seen = shards_seen (λ x s. on_tick x now s) (Ok answer) view is k refl m same gives in
+          let turn : Turn = on_tick (realm_config view.config k) now (state_at view.states k) in
+          (seen.packets ∙ packets_one view.states k turn, seen.states ∙ states_one view.states k turn)
+
+      pub states_seen : (now : ℕ) (answer : Answer A) (view : BrokerView) → record { config = config; states = states_in tables ns } ≡ view → (m : Numbers A) → m ≡ n2
+          → Gives (Ok answer) (state_of (entries_in tables c.index) n) (state_of (entries_in tables2 c2.index) n2) (on_tick c now (state_of (entries_in tables c.index) n))
+          → states_in tables2 (set ns k m) ≡ set view.states k (state_after (state_at view.states k) (on_tick (realm_config view.config k) now (state_at view.states k)))
+      states_seen now answer view is m same gives = (ticks_seen now answer view is m same gives).1
+
+-- a tick that comes too late is refused
+pub too_late : {A : Type 0} → (answer : Answer A) (config : ConfigView) (states : List RealmState) (now shard : ℕ) → shard < config.shards → 2 ^ 62 < now → shown_outs answer.outs.items ≡ [] → answer.refusal ≡ Some refusal.Moment
+    → IsAnswer answer states states (to_tick config states now shard)
+too_late answer config states now shard there late packets why =
+    let one : nat_lt shard config.shards ≡ true = grind (arith, nat_tests) in
+    let other : nat_lt (2 ^ 62) now ≡ true = grind (arith, nat_tests) in
+    rw (one, other) (record { packets = packets; refusal = why; states = refl })
