@@ -1,2 +1,3 @@
 pub mod ShardLemmas
 pub mod RoomLemmas
+pub mod OpeningLemmas

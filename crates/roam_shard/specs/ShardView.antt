@@ -1,12 +1,12 @@
 -- What a broker over shared tables stands for, and what it keeps (ours).
-use Rattle.std.specs.Prelude.{◌≡◌, ℕ, ◌+◌, ◌≤◌, List, [], ◌∷◌, Some, length, slice_get}
+use Rattle.std.specs.Prelude.{◌≡◌, ℕ, ◌+◌, ◌≤◌, List, [], ◌∷◌, Some, length, replicate, slice_get}
 use Rattle.roam_conf.specs.Config.{ConfigView}
 use Rattle.roam_pending.specs.EntryList.{IsEntryList}
 use Rattle.roam_pending.specs.PlainEntry.{PlainEntry}
 use Rattle.roam_tables.specs.Stands.{RealmView, entries_in}
-use Rattle.roam_book.specs.RealmConfig.{realm_config}
+use Rattle.roam_book.specs.RealmConfig.{RealmConfig, link_count, realm_config}
 use Rattle.roam_book.specs.RealmState.{RealmState}
-use Rattle.roam_book.specs.Sound.{IsSound, state_of}
+use Rattle.roam_book.specs.Sound.{IsSound, LanesTell, cursors_of, own_tags, state_of, tags_of}
 use Rattle.roam_book.specs.declared.numbers.Numbers.{Numbers}
 
 module _ {A : Type 0} where
@@ -26,3 +26,17 @@ module _ {A : Type 0} where
     pub count : length numbers ≡ length config.realms
     pub kept : length tables ≡ length config.realms
     pub some_shard : 1 ≤ config.shards
+
+-- nothing is in use yet, and the place and the next ticket are 0
+pub record IsFresh {A : Type 0} (c : RealmConfig) (n : Numbers A) : Type 0 where
+  pub count : length n.lanes.items ≡ link_count c
+  pub cursors : cursors_of n.lanes.items ≡ replicate (link_count c) 0
+  pub free : LanesTell c [] n.lanes.items
+  pub tags : tags_of n.lanes.items ≡ own_tags c.index (link_count c)
+  pub ticket : n.ticket ≡ 0
+  pub place : n.stream_position ≡ 0
+
+-- the numbers of the first realms of a fresh broker
+pub record AreFresh {A : Type 0} (config : ConfigView) (count : ℕ) (numbers : List (Numbers A)) : Type 0 where
+  pub number : length numbers ≡ count
+  pub each : (k : ℕ) (n : Numbers A) → slice_get numbers k ≡ Some n → IsFresh (realm_config config k) n

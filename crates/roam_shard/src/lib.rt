@@ -4,6 +4,7 @@
 //! Nothing here touches a socket or a clock: datagrams, moments and packets are values.
 #![tactic(auto)]
 
+mod opening;
 mod packets;
 mod rooms;
 mod shards;

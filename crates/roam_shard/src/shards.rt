@@ -1,6 +1,8 @@
 //! The broker over shared tables.
 
-ghost use Rattle.std.specs.Prelude.{◌≡◌, ◌+◌, ◌<◌, ◌≤◌, ◌++◌, [], None, length, slice_set, IsErr, vec_len, vec_capacity};
+ghost use Rattle.std.specs.Prelude.{◌≡◌, ◌+◌, ◌<◌, ◌≤◌, ◌++◌, [], None, length, slice_set, IfOk, IsErr, vec_len, vec_capacity};
+ghost use Rattle.roam_conf.specs.Shown.{shown};
+ghost use Rattle.roam_core.specs.Openings.{fresh};
 ghost use Rattle.roam_route.specs.Admission.{admitted, admission_by, is_served};
 ghost use Rattle.roam_route.specs.Events.{IsEvent};
 ghost use Rattle.roam_route.specs.Shown.{WantsMemory, shown_arrival, shown_job};
@@ -12,6 +14,7 @@ ghost use Rattle.roam_core.specs.ManyRealms.{state_at, to_arrival, to_tick};
 ghost use Rattle.roam_core.specs.Steps.{GivesAnswer};
 ghost use Rattle.roam_core.specs.ShardRooms.{AllFit, Fits, most_of, most_of_all, tick_in, turn_in};
 
+use crate::opening::fresh_numbers;
 use crate::packets::{append_reserved, rejected};
 use crate::rooms::{ShardRoom, room_of_shard};
 use crate::turns::given;
@@ -48,6 +51,22 @@ impl<'c, A: Allocator> Model for Shards<'c, A> {
 }
 
 impl<'c, A: Allocator + Copy> Shards<'c, A> {
+    /// A fresh broker: no request is pending, and each realm begins at place 0 of its random words and
+    /// ticket 0. `NoMemory` comes where a growth was refused; nothing of the broker is left then.
+    pub fn new(alloc: A, config: &'c Config) -> Result<Shards<'c, A>, NoMemory>
+        ensures config { IfOk result (λ s. s.config ≡ shown config.now) }
+        ensures states { IfOk result (λ s. s.states ≡ fresh (shown config.now)) }
+    {
+        let numbers = fresh_numbers(alloc, config)?;
+        let entries = Tables::new(alloc, config.realms.len())?;
+        Ok(Shards {
+            alloc,
+            config,
+            entries,
+            numbers,
+        })
+    }
+
     /// Gives a job to its realm.
     fn give(&mut self, now: u64, job: &Job<A>) -> Result<Answer<A>, NoMemory>
         requires { IsEvent self.old.config (shown_job job.now) }
