@@ -56,7 +56,7 @@ impl<'c, A: Allocator> Model for Book<'c, A> {
 }
 
 /// A job of these octets as a request of its realm.
-pub(crate) fn asked_by<'a, A: Allocator>(
+pub fn asked_by<'a, A: Allocator>(
     settings: &Settings<'_>,
     job: &Job<A>,
     octets: &'a [u8],

@@ -30,12 +30,12 @@ mod verdict;
 mod way;
 
 pub use answer::{Answer, Twin, refused};
-pub use book::Book;
+pub use book::{Book, asked_by};
 pub use laws::{events, ticks_take_the_least_due_first};
 pub use numbers::Numbers;
 pub use realm::Realm;
 pub use requests::LATEST;
-pub use room::Room;
+pub use room::{Room, room_for};
 pub use sending::Asked;
 pub use settings::Settings;
 pub use start::Start;

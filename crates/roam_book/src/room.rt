@@ -92,7 +92,7 @@ fn slots_for<A: Allocator + Copy, E: Entries<A>>(
 }
 
 /// All the memory of a tick. No memory is wanted where nothing is due.
-pub(crate) fn room_for<A: Allocator + Copy, E: Entries<A>>(
+pub fn room_for<A: Allocator + Copy, E: Entries<A>>(
     alloc: A,
     realm: u16,
     entries: &E,

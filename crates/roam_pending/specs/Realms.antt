@@ -1,6 +1,6 @@
 -- The entries of several realms: a list for each realm's index (ours).
 use Rattle.std.specs.Prelude.{◌≡◌, ◌≢◌, ◌-◌, ◌==◌, ℕ, Bool, List, [], if◌then◌else◌}
-use Rattle.roam_pending.specs.PlainEntry.{PlainEntry, PlainStanding, waiting, done, deadline_of}
+use Rattle.roam_pending.specs.PlainEntry.{PlainEntry, PlainStanding, waiting, done}
 use Rattle.roam_pending.specs.EntryList.{Held}
 
 -- the realm's entries are now these, and every other realm's are as they were
@@ -18,12 +18,17 @@ entries_in p r = if r == p.realm then p.entries else []
 abbrev pub room_in : Held → ℕ → ℕ
 room_in p r = if r == p.realm then p.spare else 0
 
--- what stands for an entry while it is out of its list: its key and ticket, done, with nothing to send
+-- how it stands while it is out of its list: as before, without the octets
+abbrev pub hollow_standing : PlainStanding → PlainStanding
+hollow_standing (waiting link id forwarded sends_left deadline) = waiting link id [] sends_left deadline
+hollow_standing (done reply deadline) = done [] deadline
+
+-- what stands for an entry while it is out of its list: its key, ticket and deadline, without octets
 abbrev pub hollow : PlainEntry → PlainEntry
 hollow e = record {
   request = record { key = e.request.key; requester = e.request.requester; octets = [] };
   ticket = e.ticket;
-  standing = done [] (deadline_of e.standing);
+  standing = hollow_standing e.standing;
 }
 
 -- a forwarded packet was sent once more: one send fewer is left, and the wait lasts until a later moment

@@ -2,12 +2,11 @@
 
 ghost use Rattle.std.specs.Prelude.{◌≡◌, ◌<◌, ◌≤◌, ◌+◌, Some, MatchOption};
 ghost use Rattle.roam_pending.specs.EntryList.{IsNew, HasPlaceOf, find_ticket, put};
-ghost use Rattle.roam_pending.specs.Realms.{RealmBecomes, hollow, sent_again, waits_on, with_standing};
+ghost use Rattle.roam_pending.specs.Realms.{RealmBecomes, hollow, hollow_standing, sent_again, waits_on, with_standing};
 ghost use Rattle.roam_pending.specs.Shown.{shown, shown_standing, taken};
 
 use crate::entries::Entries;
 use crate::entry::{Done, Entry, Request, Standing, Waiting};
-use crate::search::deadline_of;
 use roam_wire::Octets;
 use std::alloc::Allocator;
 
@@ -41,7 +40,27 @@ pub fn replace_entry<A: Allocator, E: Entries<A>>(
     entry
 }
 
-/// What stands for an entry while it is out of its list: its key and ticket, without octets.
+/// How an entry stands while it is out of its list: as before, without the octets.
+fn hollow_standing<A: Allocator + Copy>(alloc: A, standing: &Standing<A>) -> Standing<A>
+    ensures { shown_standing result ≡ hollow_standing (shown_standing standing.now) }
+{
+    match standing {
+        Standing::Waiting(waiting) => Standing::Waiting(Waiting {
+            link: waiting.link,
+            id: waiting.id,
+            forwarded: Octets::from_vec(Vec::new(alloc)),
+            sends_left: waiting.sends_left,
+            deadline: waiting.deadline,
+        }),
+        Standing::Done(done) => Standing::Done(Done {
+            reply: Octets::from_vec(Vec::new(alloc)),
+            deadline: done.deadline,
+        }),
+    }
+}
+
+/// What stands for an entry while it is out of its list: its key, ticket and deadline, without
+/// octets. What keeps the entries in order of deadline has nothing to move for it.
 fn make_hollow<A: Allocator + Copy>(alloc: A, entry: &Entry<A>) -> Entry<A>
     ensures { shown result ≡ hollow (shown entry.now) }
 {
@@ -52,10 +71,7 @@ fn make_hollow<A: Allocator + Copy>(alloc: A, entry: &Entry<A>) -> Entry<A>
             octets: Octets::from_vec(Vec::new(alloc)),
         },
         ticket: entry.ticket,
-        standing: Standing::Done(Done {
-            reply: Octets::from_vec(Vec::new(alloc)),
-            deadline: deadline_of(&entry.standing),
-        }),
+        standing: hollow_standing(alloc, &entry.standing),
     }
 }
 

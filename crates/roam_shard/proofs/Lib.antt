@@ -1,0 +1,3 @@
+pub mod ShardLemmas
+pub mod RoomLemmas
+pub mod OpeningLemmas

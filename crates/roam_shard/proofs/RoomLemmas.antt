@@ -1,0 +1,52 @@
+-- The rooms of a shard's tick, one realm after the other.
+use Rattle.std.proofs.Common.{◌≡◌, ℕ, zero, suc, ◌+◌, ◌<◌, Bool, List, [], ◌∷◌, ◌++◌, length, take, get_or, Option, refl, sym, ap, subst, ◌∙◌, arith}
+use Rattle.std.proofs.lemmas.List.{length-append, take_more}
+use Rattle.roam_conf.specs.Config.{ConfigView}
+use Rattle.roam_book.specs.RealmState.{RealmState}
+use Rattle.roam_book.specs.declared.room.Room.{Room}
+use Rattle.roam_core.specs.Events.{is_in_shard}
+use Rattle.roam_core.specs.ManyRealms.{no_state, state_at}
+use Rattle.roam_core.specs.ShardRooms.{most_of, most_of_all, IsRealmRoom, AreRooms}
+
+-- one room more
+rooms-push : {A : Type 0} → (config : ConfigView) (now shard realm first : ℕ) (ss : List RealmState) (rooms : List (Option (Room A))) (s : RealmState) (room : Option (Room A)) → AreRooms config now shard first ss rooms → realm ≡ first + length ss → IsRealmRoom now (is_in_shard config shard realm) s.entries room → AreRooms config now shard first (ss ++ s ∷ []) (rooms ++ room ∷ [])
+rooms-push config now shard realm first [] [] s room are is own =
+    let same : realm ≡ first = omega arith in
+    (subst (λ (r : ℕ). IsRealmRoom now (is_in_shard config shard r) s.entries room) same own, tt)
+rooms-push config now shard realm first [] (r ∷ rs) s room are is own = absurd are
+rooms-push config now shard realm first (x ∷ xs) [] s room are is own = absurd are
+rooms-push config now shard realm first (x ∷ xs) (r ∷ rs) s room are is own =
+    (are.0, rooms-push config now shard realm (first + 1) xs rs s room are.1 (omega arith) own)
+
+most-push : {A : Type 0} → (rooms : List (Option (Room A))) (room : Option (Room A)) → most_of_all (rooms ++ room ∷ []) ≡ most_of_all rooms + most_of room
+most-push [] room = omega arith
+most-push (r ∷ rs) room = omega (arith, most-push rs room)
+
+-- the rooms of the first realms
+pub record AreGathered {A : Type 0} (config : ConfigView) (now shard count : ℕ) (states : List RealmState) (rooms : List (Option (Room A))) (most : ℕ) : Type 0 where
+  pub each : AreRooms config now shard 0 (take count states) rooms
+  pub number : length (take count states) ≡ count
+  pub packets : most ≡ most_of_all rooms
+
+pub none-gathered : {A : Type 0} → (config : ConfigView) (now shard : ℕ) (states : List RealmState) → AreGathered {A = A} config now shard 0 states [] 0
+none-gathered config now shard states = record { each = tt; number = refl; packets = refl }
+
+pub one-more-gathered : {A : Type 0} → (config : ConfigView) (now shard count : ℕ) (states : List RealmState) (rooms : List (Option (Room A))) (most more : ℕ) (room : Option (Room A)) → AreGathered config now shard count states rooms most → count < length states → IsRealmRoom now (is_in_shard config shard count) (state_at states count).entries room → more ≡ most + most_of room → AreGathered config now shard (count + 1) states (rooms ++ room ∷ []) more
+one-more-gathered config now shard count states rooms most more room are within own sum =
+    let front : take (count + 1) states ≡ take count states ++ state_at states count ∷ [] = take_more states count no_state within in
+    record {
+      each = subst (λ (l : List RealmState). AreRooms config now shard 0 l (rooms ++ room ∷ [])) (sym front)
+          (rooms-push config now shard count 0 (take count states) rooms (state_at states count) room are.each (omega (arith, are.number)) own);
+      number = ap (λ (l : List RealmState). length l) front ∙ omega (arith, length-append (take count states) (state_at states count ∷ []), are.number);
+      packets = sum ∙ ap (λ (n : ℕ). n + most_of room) are.packets ∙ sym (most-push rooms room);
+    }
+
+pub all-gathered : {A : Type 0} → (config : ConfigView) (now shard count : ℕ) (states : List RealmState) (rooms : List (Option (Room A))) (most : ℕ) → AreGathered config now shard count states rooms most → length states ≡ count → AreRooms config now shard 0 states rooms
+all-gathered config now shard count states rooms most are all =
+    subst (λ (l : List RealmState). AreRooms config now shard 0 l rooms) (take_whole states count all) are.each
+  where
+    take_whole : (xs : List RealmState) (n : ℕ) → length xs ≡ n → take n xs ≡ xs
+    take_whole [] zero is = refl
+    take_whole [] (suc n) is = refl
+    take_whole (x ∷ xs) zero is = absurd (omega arith)
+    take_whole (x ∷ xs) (suc n) is = ap (λ (l : List RealmState). x ∷ l) (take_whole xs n (omega arith))

@@ -1,0 +1,84 @@
+-- A job goes to its realm, which is there.
+use Rattle.std.proofs.Common.{◌≡◌, ◌<◌, ◌∙◌, ℕ, length, ap, sym, subst, arith, rules}
+use Rattle.std.specs.Prelude.{Some, slice_get}
+use Rattle.std.proofs.lemmas.List.{length-map}
+use Rattle.roam_conf.specs.Config.{ConfigView}
+use Rattle.roam_conf.specs.Shown.{shown}
+use Rattle.roam_conf.specs.Parts.{shown_realm}
+use Rattle.roam_route.specs.Events.{IsEvent}
+use Rattle.roam_route.specs.Shown.{shown_job}
+use Rattle.roam_route.proofs.RealmLemmas.{event_realm}
+use Rattle.roam_tables.proofs.RealmLemmas.{get-read}
+use Rattle.roam_book.specs.BookView.{AreOctets}
+use Rattle.roam_book.specs.OneRealm.{event_of, on_event}
+use Rattle.roam_book.specs.RealmConfig.{realm_config}
+use Rattle.roam_book.proofs.JobLemmas.{job_of_book}
+use Rattle.roam_core.specs.BrokerView.{BrokerView}
+use Rattle.roam_core.specs.ManyRealms.{turn_of_one, state_at}
+use Rattle.roam_core.specs.Steps.{GivesAnswer}
+use Rattle.roam_shard.proofs.ShardLemmas.{realm_kept, realm_list, realm_sound, shards_seen, shards_written}
+use Rattle.roam_shard.proofs.shards.Shards.give.Goals as goal
+
+pub new-settings-requires : goal.new-settings-requires
+new-settings-requires g c =
+    let realms = event_realm c.args.self.now.config (shown_job c.args.job.now) c.requires in
+    let same = ap (λ (v : BrokerView). length v.config.realms) c.self.view_is in
+    let count = length-map c.self.inside.config.now.realms.items shown_realm in
+    omega (arith, realms, same, count, c.self.inside.config.now.realms.ok.0)
+
+pub index_mut-numbers-requires : goal.index_mut-numbers-requires
+index_mut-numbers-requires g c =
+    let realms = event_realm c.args.self.now.config (shown_job c.args.job.now) c.requires in
+    let same = ap (λ (v : BrokerView). length v.config.realms) c.self.view_is in
+    omega (arith, realms, same, c.from.ensures, c.self.invariant.count, c.self.inside.numbers.ok.0)
+
+pub given-requires-clause-realm : goal.given-requires-clause-realm
+given-requires-clause-realm g c =
+    let i = c.self.inside in
+    let realms = event_realm c.args.self.now.config (shown_job c.args.job.now) c.requires in
+    let same = ap (λ (v : BrokerView). length v.config.realms) c.self.view_is in
+    let lt : c.from.result < length i.numbers.items = omega (arith, realms, same, c.from.ensures, c.self.invariant.count) in
+    let at = get-read i.numbers.items c.from.result c.index_mut-numbers.result.now lt c.index_mut-numbers.ensures.value in
+    let own = c.new-settings.ensures ∙ ap (realm_config (shown i.config.now)) (sym c.from.ensures) in
+    record {
+      kept_here = realm_kept (shown i.config.now) i.entries i.numbers.items c.self.invariant c.from.result c.index_mut-numbers.result.now at c.new-settings.result own (let count = c.self.invariant.count in omega arith);
+      sound = realm_sound (shown i.config.now) i.entries i.numbers.items c.self.invariant c.from.result c.index_mut-numbers.result.now at c.new-settings.result own;
+      list = realm_list (shown i.config.now) i.entries i.numbers.items c.self.invariant c.from.result c.index_mut-numbers.result.now at c.new-settings.result own;
+    }
+
+-- an event of the configuration is a job that the realm takes
+pub given-requires-clause-taken : goal.given-requires-clause-taken
+given-requires-clause-taken g c =
+    let job = shown_job c.args.job.now in
+    let config : ConfigView = shown c.self.inside.config.now in
+    let octets : AreOctets job.octets = subst AreOctets c.as_slice-octets.ensures (λ i. omega (arith, c.type_inv.octets i)) in
+    let event : IsEvent config job = rw (← c.self.view_is) at c.requires in
+    job_of_book config job job.realm c.new-settings.result octets event (search rules) c.new-settings.ensures
+
+pub invariant_of-self : goal.invariant_of-self
+invariant_of-self g c =
+    let i = c.self.inside in
+    let realms = event_realm c.args.self.now.config (shown_job c.args.job.now) c.requires in
+    let same = ap (λ (v : BrokerView). length v.config.realms) c.self.view_is in
+    let lt : c.from.result < length i.numbers.items = omega (arith, realms, same, c.from.ensures, c.self.invariant.count) in
+    let at = get-read i.numbers.items c.from.result c.index_mut-numbers.result.now lt c.index_mut-numbers.ensures.value in
+    let own = c.new-settings.ensures ∙ ap (realm_config (shown i.config.now)) (sym c.from.ensures) in
+    let rest = c.given.ensures.turn.rest in
+    let new = c.given.new.realm in
+    shards_written (shown i.config.now) i.entries i.numbers.items c.self.invariant c.from.result c.index_mut-numbers.result.now at c.new-settings.result own
+    new.entries.now new.numbers.now new.settings.now rest.loans.settings rest.loans.keeps rest.others _ (search rules) lt rest.realm.sound rest.realm.list
+
+pub returns-clause-turn : goal.returns-clause-turn
+returns-clause-turn g c =
+    let i = c.self.inside in
+    let realms = event_realm c.args.self.now.config (shown_job c.args.job.now) c.requires in
+    let same = ap (λ (v : BrokerView). length v.config.realms) c.self.view_is in
+    let lt : c.from.result < length i.numbers.items = omega (arith, realms, same, c.from.ensures, c.self.invariant.count) in
+    let at = get-read i.numbers.items c.from.result c.index_mut-numbers.result.now lt c.index_mut-numbers.ensures.value in
+    let own = c.new-settings.ensures ∙ ap (realm_config (shown i.config.now)) (sym c.from.ensures) in
+    let turn = c.given.ensures.turn in
+    let new = c.given.new.realm in
+    let job = shown_job c.args.job.now in
+    shards_seen (shown i.config.now) i.entries i.numbers.items c.self.invariant c.from.result c.index_mut-numbers.result.now at c.new-settings.result own
+    new.entries.now new.numbers.now new.settings.now turn.rest.loans.settings turn.rest.loans.keeps turn.rest.others (λ x s. on_event x s (event_of c.args.now job)) c.given.result
+    c.args.self.now c.self.view_is c.args.job.now.realm c.from.ensures _ (search rules) turn.gives

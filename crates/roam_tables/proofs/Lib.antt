@@ -1,0 +1,17 @@
+pub mod RisingLemmas
+pub mod ListedLemmas
+pub mod MarkLemmas
+pub mod IndexLemmas
+pub mod SlotLemmas
+pub mod ChangeLemmas
+pub mod FirstLemmas
+pub mod KeyLemmas
+pub mod LookLemmas
+pub mod RoomLemmas
+pub mod StepLemmas
+pub mod RealmLemmas
+pub mod ViewLemmas
+pub mod TablesLemmas
+pub mod UpdateLemmas
+pub mod GrowthLemmas
+pub mod OpeningLemmas

@@ -1,0 +1,79 @@
+//! The runs of each realm.
+
+ghost use Rattle.std.specs.Prelude.{◌≡◌, ◌<◌, Some, IfOk, OnOk, IsOk, length, option_copied, slice_get};
+ghost use Rattle.std.specs.List.{AllByRecursion};
+ghost use Rattle.roam_tables.specs.Marks.{AreEmpty, CanEnter, CanLeave, Changes, Enters, Leaves, SameRuns};
+ghost use Rattle.roam_tables.specs.Stands.{AtRealm, runs_room};
+
+use crate::mark::Mark;
+use crate::runs::Runs;
+use roam_wire::NoMemory;
+use std::alloc::Allocator;
+
+/// The runs of so many realms without entries.
+pub(crate) fn no_entries<A: Allocator + Copy>(
+    alloc: A,
+    count: usize,
+) -> Result<Vec<Runs<A>, A>, NoMemory>
+    ensures count { IfOk result (λ realms. length realms.items ≡ count) }
+    ensures empty { IfOk result (λ realms. AllByRecursion AreEmpty realms.items) }
+{
+    let mut realms = Vec::with_capacity(alloc, count).map_err(|_| NoMemory)?;
+    for _ in 0..count {
+        realms.push_reserved(Runs::new(alloc));
+    }
+    Ok(realms)
+}
+
+/// The runs of a realm, if it is kept here.
+pub(crate) fn runs_of<A: Allocator>(realms: &Vec<Runs<A>, A>, realm: u16) -> Option<&Runs<A>>
+    ensures { option_copied result ≡ slice_get realms.now.items realm }
+{
+    realms.get(usize::from(realm))
+}
+
+/// Makes room in a realm's runs for one entry more. Nothing comes in or goes.
+pub(crate) fn make_room_at<A: Allocator>(
+    realms: &mut Vec<Runs<A>, A>,
+    realm: u16,
+) -> Result<(), NoMemory>
+    requires within { realm < length realms.old.items }
+    ensures ok { OnOk result (0 < runs_room (slice_get realms.new.items realm)) }
+    ensures same { AtRealm SameRuns realms.old.items realms.new.items realm }
+    ensures succeeds { 0 < runs_room (slice_get realms.old.items realm) → IsOk result }
+{
+    realms[usize::from(realm)].reserve()
+}
+
+/// An entry of a realm comes in. Takes no memory.
+pub(crate) fn add_at<A: Allocator>(realms: &mut Vec<Runs<A>, A>, realm: u16, mark: Mark)
+    requires within { realm < length realms.old.items }
+    requires can { (q : _) → slice_get realms.old.items realm ≡ Some q → CanEnter mark q }
+    ensures { AtRealm (Enters mark) realms.old.items realms.new.items realm }
+{
+    realms[usize::from(realm)].add(mark);
+}
+
+/// An entry of a realm goes.
+pub(crate) fn take_at<A: Allocator>(realms: &mut Vec<Runs<A>, A>, realm: u16, mark: Mark)
+    requires within { realm < length realms.old.items }
+    requires can { (q : _) → slice_get realms.old.items realm ≡ Some q → CanLeave mark q }
+    ensures { AtRealm (Leaves mark) realms.old.items realms.new.items realm }
+{
+    realms[usize::from(realm)].take(mark);
+}
+
+/// An entry of a realm has another mark now. Takes no memory.
+pub(crate) fn change_at<A: Allocator>(
+    realms: &mut Vec<Runs<A>, A>,
+    realm: u16,
+    from: Mark,
+    to: Mark,
+)
+    requires within { realm < length realms.old.items }
+    requires leaves { (q : _) → slice_get realms.old.items realm ≡ Some q → CanLeave from q }
+    requires enters { (q p : _) → slice_get realms.old.items realm ≡ Some q → Leaves from q p → CanEnter to p }
+    ensures { AtRealm (Changes from to) realms.old.items realms.new.items realm }
+{
+    realms[usize::from(realm)].change(from, to);
+}
