@@ -16,7 +16,8 @@ use crate::printing::print_packet;
 use crate::reading::read_script;
 use roam_conf::Config;
 use roam_conf_reader::read_config;
-use roam_core::{Broker, Outcome, run};
+use roam_core::{Outcome, run};
+use roam_shard::Shards;
 use roam_route::Out;
 use std::alloc::{Allocator, Global};
 use std::io;
@@ -88,7 +89,7 @@ pub fn simulate<A: Allocator + Copy, W: Write>(
         ⊎ IsSimulatedInPart (shown config.now) script.now (W.contents writer.old) (W.contents writer.new) }
 {
     let events = read_script(alloc, script)?;
-    let mut broker = Broker::new(alloc, config)?;
+    let mut broker = Shards::new(alloc, config)?;
     let outcome = run(alloc, &mut broker, events.as_slice())?;
     print_outcome(writer, &outcome)
 }

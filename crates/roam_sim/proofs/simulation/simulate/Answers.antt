@@ -1,4 +1,4 @@
-use Rattle.std.proofs.Common.{inr}
+use Rattle.std.proofs.Common.{◌≡◌, ◌∙◌, Result, Ok, Err, inr, sym}
 use Rattle.std.proofs.lemmas.List.{length-map}
 use Rattle.roam_conf.specs.Shown.{shown}
 use Rattle.roam_core.specs.Shown.{shown_event, shown_events}
@@ -41,10 +41,14 @@ returns-in_err-events-clause-line g c = λ n.
 pub returns-clause-config : goal.returns-clause-config
 returns-clause-config g c = λ fault. never c.print_outcome.result _ c.print_outcome.ensures.no_text tt
 
+-- what is accepted isn't faulty
+not_both : {X E : Type 0} (r : Result X E) (x : X) (e : E) → r ≡ Ok x → r ≡ Err e → ⊥
+not_both r x e h k = (let bad : Ok x ≡ Err e = sym h ∙ k in cc)
+
 pub returns-clause-line : goal.returns-clause-line
 returns-clause-line g c = λ n. (
   λ is. absurd (never c.print_outcome.result _ c.print_outcome.ensures.no_text tt is),
-  λ is. let stated = c.in_ok-events.ensures.ok in cc,
+  λ is. absurd (not_both _ _ _ c.in_ok-events.ensures.ok is),
 )
 
 pub returns-clause-untouched : goal.returns-clause-untouched
