@@ -15,6 +15,6 @@ pub use laws::{
     nak_answers, nak_carries, nak_reads, returned_authenticators, returned_carries, returned_reads,
     returned_to_the_requester, taken_replies,
 };
-pub use negative_ack::{nak, nak_reserved};
+pub use negative_ack::{nak, nak_len, nak_reserved};
 pub use reply_check::check_reply;
 pub use returning::back;

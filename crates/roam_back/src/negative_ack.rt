@@ -25,8 +25,9 @@ fn nak_code(request: u8) -> u8
     }
 }
 
-/// The size of a request's NAK, in octets: the header, the Error-Cause, the Proxy-States.
-fn nak_len(request: &View<'_>) -> usize
+/// The size of a request's NAK, in octets, at most six more than the request has: the header, the
+/// Error-Cause, the Proxy-States. Takes no memory.
+pub fn nak_len(request: &View<'_>) -> usize
     ensures size { result ≡ nak_length request.now }
     ensures unsigned { (cause : ℕ) → result ≡ packet_length (unsigned_nak cause request.now) }
     ensures at_most { result ≤ packet_length request.now + 6 }

@@ -27,7 +27,7 @@ use Rattle.roam_book.specs.RealmConfig.{RealmConfig, IsLink, link_place, later_t
 use Rattle.roam_book.specs.RealmState.{Target, with_entries, next_toward, first_target}
 use Rattle.roam_book.specs.OnRequest.{packet_to, position_after, forwarded_octets, forwarded_entry}
 use Rattle.roam_book.specs.OnTick.{fail_over, without_entry, due_standing}
-use Rattle.roam_book.specs.Sound.{IsEntry, IsWaiting, StandsWell, IsSound, LanesTell, state_of, cursors_of, lane_of, has_free, is_open, tags_of}
+use Rattle.roam_book.specs.Sound.{AreOwnLanes, IsEntry, IsWaiting, StandsWell, IsSound, LanesTell, state_of, cursors_of, lane_of, has_free, is_open, marks_of}
 use Rattle.roam_book.specs.Fates.{GivesUp, IsHeld, IsFate, fate_entries, once_held}
 use Rattle.roam_book.proofs.SendingLemmas.{position-below}
 use Rattle.roam_book.proofs.SoundLemmas.{kept-put, kept-without, kept-ticket}
@@ -41,20 +41,20 @@ pub record IsSameBut {A : Type 0} (old new : Numbers A) : Type 0 where
   pub ticket : new.ticket ≡ old.ticket
   pub stream_position : new.stream_position ≡ old.stream_position
   pub sessions : new.sessions ≡ old.sessions
-  pub tags : tags_of new.lanes.items ≡ tags_of old.lanes.items
+  pub marks : marks_of new.lanes.items ≡ marks_of old.lanes.items
 
 sound-drawn :
     {A : Type 0} (c : RealmConfig) (es fs : List PlainEntry) (n m : Numbers A) → IsSound c es n
     → length m.lanes.items ≡ length n.lanes.items → m.ticket ≡ n.ticket
     → m.stream_position < 2 ^ 68 → m.sessions ≡ n.sessions
-    → tags_of m.lanes.items ≡ tags_of n.lanes.items
+    → marks_of m.lanes.items ≡ marks_of n.lanes.items
     → AllByRecursion (IsEntry c n.ticket) fs → LanesTell c fs m.lanes.items → IsSound c fs m
-sound-drawn c es fs n m sound count ticket position sessions tags each tells = record {
+sound-drawn c es fs n m sound count ticket position sessions marks each tells = record {
   each = rw ticket each;
   ticket = omega (arith, ticket, sound.ticket);
   stream_position = position;
   lane_count = count ∙ sound.lane_count;
-  tags = tags ∙ sound.tags;
+  lanes = subst (AreOwnLanes c) (sym marks) sound.lanes;
   lanes_tell = tells;
   ledger = ap (λ (l : Ledger). l.limit) sessions ∙ sound.ledger;
 }
@@ -65,11 +65,11 @@ pub sound-changed :
     → IsSound c fs m
 sound-changed c es fs n m sound same each tells =
     sound-drawn c es fs n m sound same.count same.ticket
-    (rw same.stream_position sound.stream_position) same.sessions same.tags each tells
+    (rw same.stream_position sound.stream_position) same.sessions same.marks each tells
 
 same-numbers : {A : Type 0} (n : Numbers A) → IsSameBut n n
 same-numbers n =
-    record { count = refl; ticket = refl; stream_position = refl; sessions = refl; tags = refl }
+    record { count = refl; ticket = refl; stream_position = refl; sessions = refl; marks = refl }
 
 -- A done entry
 
@@ -241,7 +241,7 @@ pub record IsSent {A : Type 0} (c : RealmConfig) (now : ℕ) (es : List PlainEnt
   pub ticket : new.ticket ≡ old.ticket
   pub stream_position : new.stream_position ≡ position_after q old.stream_position
   pub sessions : new.sessions ≡ old.sessions
-  pub tags : tags_of new.lanes.items ≡ tags_of old.lanes.items
+  pub marks : marks_of new.lanes.items ≡ marks_of old.lanes.items
 
 stands-waiting :
     {A : Type 0} (c : RealmConfig) (q : PlainRequest) (l : Link) (w : Waiting A) (f : List ℕ)
@@ -295,7 +295,7 @@ forwarded-freed c now es e n m k l to o w held freed some sent =
     let tells = subst (λ (l : List PlainEntry). LanesTell c l k.lanes.items) (sym put_is) told in
     let count = sent.count ∙ freed.same.count in
     let ticket = sent.ticket ∙ freed.same.ticket in
-    let tags = sent.tags ∙ freed.same.tags in
+    let marks = sent.marks ∙ freed.same.marks in
     let sessions = sent.sessions ∙ freed.same.sessions in
     let position : k.stream_position ≡ position_after e.request n.stream_position =
     rw (← at) sent.stream_position in
@@ -304,5 +304,5 @@ forwarded-freed c now es e n m k l to o w held freed some sent =
     rw first (record {
       packets = ap (λ (p : PlainOut). p ∷ []) out;
       state = rw (put_is, sent.cursors, freed.cursors, ticket, position, sessions) refl;
-      sound = sound-drawn c es _ n k held.sound count ticket below sessions tags each tells;
+      sound = sound-drawn c es _ n k held.sound count ticket below sessions marks each tells;
     })

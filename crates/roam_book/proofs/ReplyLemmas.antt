@@ -16,7 +16,7 @@ use Rattle.roam_book.specs.RealmConfig.{RealmConfig, IsLink}
 use Rattle.roam_book.specs.RealmState.{RealmState}
 use Rattle.roam_book.specs.Turn.{Turn, Answers, refuses}
 use Rattle.roam_book.specs.OnReply.{counted_peer, return_reply, returned_octets, returning}
-use Rattle.roam_book.specs.Sound.{IsEntry, IsSound, LanesTell, StandsWell, tags_of}
+use Rattle.roam_book.specs.Sound.{AreOwnLanes, IsEntry, IsSound, LanesTell, StandsWell, marks_of}
 use Rattle.roam_book.specs.Judged.{Judges, returns_octets}
 use Rattle.roam_book.specs.ReplyPlans.{IsReplyPlan}
 use Rattle.roam_book.specs.declared.replies.Settled.{Settled}
@@ -107,9 +107,9 @@ pub done-sound : {A : Type 0} (c : RealmConfig) (t : ℕ) (e : PlainEntry) (es f
     → LanesTell c (without e.ticket es) new.lanes.items
     → length new.lanes.items ≡ length old.lanes.items → new.ticket ≡ old.ticket
     → new.stream_position ≡ old.stream_position
-    → tags_of new.lanes.items ≡ tags_of old.lanes.items
+    → marks_of new.lanes.items ≡ marks_of old.lanes.items
     → new.sessions.limit ≡ old.sessions.limit → IsSound c fs new
-done-sound c t e es fs reply deadline old new sound at is tells count ticket position tags limit =
+done-sound c t e es fs reply deadline old new sound at is tells count ticket position marks limit =
     let x = with_standing (done reply deadline) e in
     let was : IsEntry c old.ticket e = kept-ticket c old.ticket t e es at sound.each in
     let here : IsEntry c old.ticket x = record { ticket = was.ticket; request = was.request; standing = tt } in
@@ -118,7 +118,7 @@ done-sound c t e es fs reply deadline old new sound at is tells count ticket pos
       ticket = rw ticket sound.ticket;
       stream_position = rw position sound.stream_position;
       lane_count = count ∙ sound.lane_count;
-      tags = tags ∙ sound.tags;
+      lanes = subst (AreOwnLanes c) (sym marks) sound.lanes;
       lanes_tell = subst (λ (l : List PlainEntry). LanesTell c l new.lanes.items) (sym is) (tells-done c es new.lanes.items x refl tells);
       ledger = limit ∙ sound.ledger;
     }

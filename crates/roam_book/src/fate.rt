@@ -10,7 +10,7 @@ ghost use Rattle.roam_book.specs.RealmConfig.{IsLink, link_count, later_targets}
 ghost use Rattle.roam_book.specs.RealmState.{first_target};
 ghost use Rattle.roam_book.specs.OnRequest.{is_reverse, packet_to};
 ghost use Rattle.roam_book.specs.OnTick.{due_standing, fail_over, without_entry};
-ghost use Rattle.roam_book.specs.Sound.{IsEntry, IsRequest, state_of, cursors_of, lane_of, has_free, is_open};
+ghost use Rattle.roam_book.specs.Sound.{AreOwnLanes, IsEntry, IsRequest, cursors_of, has_free, is_open, lane_of, marks_of, state_of};
 ghost use Rattle.roam_book.specs.Fates.{GivesUp, held_for, IsHeld, IsFate, IsFateCopied};
 ghost use Rattle.roam_book.specs.Memory.{HasBuffers, IsCopied};
 
@@ -68,10 +68,13 @@ fn later_target<A: Allocator + Copy>(
     link: Link,
 ) -> Option<Link>
     requires count { length numbers.now.lanes.items ≡ link_count settings.now }
+    requires lanes { AreOwnLanes settings.now (marks_of numbers.now.lanes.items) }
     ensures first { result ≡ find (is_open settings.now numbers.now.lanes.items None)
         (later_targets settings.now link) }
     ensures link { IfSome result (λ l. IsLink settings.now l) }
     ensures free { IfSome result (λ l. has_free (lane_of settings.now numbers.now.lanes.items l)
+        ≡ true) }
+    ensures made { IfSome result (λ l. (lane_of settings.now numbers.now.lanes.items l).made
         ≡ true) }
 {
     match link {
@@ -166,6 +169,7 @@ fn fail_over<A: Allocator + Copy>(
 ) -> Fate<A>
     requires moment { now ≤ 2 ^ 62 }
     requires count { length numbers.old.lanes.items ≡ link_count settings.now }
+    requires lanes { AreOwnLanes settings.now (marks_of numbers.old.lanes.items) }
     requires entry { IsEntry settings.now numbers.old.ticket (shown entry.now) }
     requires link { IsLink settings.now link }
     requires waits { waits_at link id (shown entry.now) ≡ true }
@@ -201,6 +205,7 @@ pub(crate) fn fate_of<A: Allocator + Copy>(
 ) -> Fate<A>
     requires moment { now ≤ 2 ^ 62 }
     requires count { length numbers.old.lanes.items ≡ link_count settings.now }
+    requires lanes { AreOwnLanes settings.now (marks_of numbers.old.lanes.items) }
     requires entry { IsEntry settings.now numbers.old.ticket (shown entry.now) }
     requires buffers { HasBuffers (length entry.now.request.octets + 46) buffers }
     ensures fate { (es : List PlainEntry) → IsHeld settings.now es (shown entry.now) numbers.old

@@ -1,8 +1,9 @@
 //! What a realm keeps besides its entries: the numbers that it hands out, and the ledger of sessions.
 
-ghost use Rattle.std.specs.Prelude.{◌≡◌, ◌<◌, ◌+◌, ◌*◌, ◌%◌, List, [], ◌∷◌, true, Some, None, length, replicate, drop, slice_set, IfSome, IfNone, IfOk, is_some};
+ghost use Rattle.std.specs.Prelude.{◌≡◌, ℕ, ◌<◌, ◌+◌, ◌*◌, ◌%◌, List, [], ◌∷◌, true, Some, None, length, replicate, drop, slice_set, IfSome, IfNone, IfOk, IsOk, OnOk, is_some};
 ghost use Rattle.std.specs.List.{find};
-ghost use Rattle.roam_ids.specs.LaneState.{ticket_at};
+ghost use Rattle.roam_ids.specs.LaneState.{place_at, ticket_at};
+ghost use Rattle.roam_ids.specs.declared.place.Place.TheVariants.{Free};
 ghost use Rattle.roam_pending.specs.PlainEntry.{PlainEntry, waits_at};
 ghost use Rattle.roam_pending.specs.EntryList.{IsEntryList, find_ticket, put, without};
 ghost use Rattle.roam_reverse.specs.Sessions.{Session, applied};
@@ -10,13 +11,13 @@ ghost use Rattle.roam_reverse.specs.Shown.{HasRoomFor};
 ghost use Rattle.roam_book.specs.ReplyPlans.{IsPrepared};
 ghost use Rattle.roam_book.specs.RealmConfig.{IsLink, link_place, link_count, server_links};
 ghost use Rattle.roam_book.specs.RealmState.{next_toward};
-ghost use Rattle.roam_book.specs.Sound.{LanesTell, lane_of, cursors_of, has_free, is_freed, is_open, own_tags, tags_of, WaitsJustAt};
+ghost use Rattle.roam_book.specs.Sound.{AreOwnLanes, LanesTell, lane_of, cursors_of, has_free, is_freed, is_open, marks_of, WaitsJustAt};
 
 use crate::service::Service;
 use crate::settings::Settings;
 use crate::start::Start;
 use roam_conf::Link;
-use roam_ids::Lane;
+use roam_ids::LazyLane;
 use roam_reverse::{Prepared, Sessions};
 use roam_wire::{NoMemory, View};
 use std::alloc::Allocator;
@@ -27,8 +28,9 @@ use std::alloc::Allocator;
 pub struct Numbers<A: Allocator> {
     /// Whence the memory of entries and packets comes.
     pub(crate) alloc: A,
-    /// A lane for each link, in the order of their places.
-    pub(crate) lanes: Vec<Lane, A>,
+    /// A lane for each link, in the order of their places. Toward a peer it is made when a reverse
+    /// request first needs it.
+    pub(crate) lanes: Vec<LazyLane<A>, A>,
     /// The next ticket.
     pub(crate) ticket: u64,
     /// The place of the next random word in the realm's stream.
@@ -45,21 +47,41 @@ fn tag_of(settings: &Settings<'_>, place: usize) -> u32
     u32::from(settings.index()) * 65536 + place as u32
 }
 
+/// The lane of the link at a place, of which nothing is in use. Toward a server its memory is there;
+/// toward a peer it is taken when a reverse request first needs it.
+fn new_lane<A: Allocator>(
+    alloc: A,
+    settings: &Settings<'_>,
+    place: usize,
+) -> Result<LazyLane<A>, NoMemory>
+    requires { place < 272 }
+    ensures tag { IfOk result (λ lane. lane.tag ≡ settings.now.index * 65536 + place) }
+    ensures cursor { IfOk result (λ lane. lane.cursor ≡ 0) }
+    ensures free { IfOk result (λ lane. (id : ℕ) → place_at lane id ≡ Free) }
+    ensures made { IfOk result (λ lane. place < 2 * length settings.now.realm.servers
+        → lane.made ≡ true) }
+{
+    let mut lane = LazyLane::new(alloc, tag_of(settings, place));
+    if place < 2 * settings.server_count() {
+        lane.make()?;
+    }
+    Ok(lane)
+}
+
 /// A lane for each link, of which nothing is in use.
 fn new_lanes<A: Allocator + Copy>(
     alloc: A,
     settings: &Settings<'_>,
-) -> Result<Vec<Lane, A>, NoMemory>
+) -> Result<Vec<LazyLane<A>, A>, NoMemory>
     ensures count { IfOk result (λ lanes. length lanes.items ≡ link_count settings.now) }
     ensures cursors { IfOk result (λ lanes. cursors_of lanes.items ≡ replicate (link_count settings.now) 0) }
     ensures free { IfOk result (λ lanes. LanesTell settings.now [] lanes.items) }
-    ensures tags { IfOk result (λ lanes. tags_of lanes.items
-        ≡ own_tags settings.now.index (link_count settings.now)) }
+    ensures lanes { IfOk result (λ lanes. AreOwnLanes settings.now (marks_of lanes.items)) }
 {
     let count = settings.link_count();
     let mut lanes = Vec::with_capacity(alloc, count).map_err(|_| NoMemory)?;
     for place in 0..count {
-        lanes.push_reserved(Lane::new(tag_of(settings, place)));
+        lanes.push_reserved(new_lane(alloc, settings, place)?);
     }
     Ok(lanes)
 }
@@ -80,8 +102,7 @@ impl<A: Allocator + Copy> Numbers<A> {
         ensures count { IfOk result (λ n. length n.lanes.items ≡ link_count settings.now) }
         ensures cursors { IfOk result (λ n. cursors_of n.lanes.items ≡ replicate (link_count settings.now) 0) }
         ensures free { IfOk result (λ n. LanesTell settings.now [] n.lanes.items) }
-        ensures tags { IfOk result (λ n. tags_of n.lanes.items
-            ≡ own_tags settings.now.index (link_count settings.now)) }
+        ensures lanes { IfOk result (λ n. AreOwnLanes settings.now (marks_of n.lanes.items)) }
         ensures ticket { IfOk result (λ n. n.ticket ≡ start.ticket) }
         ensures place { IfOk result (λ n. n.stream_position ≡ start.place) }
         ensures sessions { IfOk result (λ n. n.sessions.sessions ≡ []) }
@@ -129,9 +150,12 @@ impl<A: Allocator + Copy> Numbers<A> {
         freed: Option<Link>,
     ) -> Option<Link>
         requires count { length self.now.lanes.items ≡ link_count settings.now }
+        requires lanes { AreOwnLanes settings.now (marks_of self.now.lanes.items) }
         ensures first { result ≡ find (is_open settings.now self.now.lanes.items freed)
             (server_links service from (drop from settings.now.realm.servers)) }
         ensures link { IfSome result (λ l. IsLink settings.now l) }
+        ensures made { IfSome result (λ l.
+            (lane_of settings.now self.now.lanes.items l).made ≡ true) }
     {
         for server in from..settings.server_count() {
             let link = service.link(server as u8);
@@ -162,6 +186,29 @@ impl<A: Allocator + Copy> Numbers<A> {
         }
     }
 
+    /// Takes the memory of a link's lane, where that isn't there. What the numbers stand for stays,
+    /// refused or not.
+    pub(crate) fn make_lane(&mut self, settings: &Settings<'_>, link: Link) -> Result<(), NoMemory>
+        requires link { IsLink settings.now link }
+        requires count { length self.old.lanes.items ≡ link_count settings.now }
+        ensures made { OnOk result ((lane_of settings.now self.new.lanes.items link).made ≡ true) }
+        ensures cursors { cursors_of self.new.lanes.items ≡ cursors_of self.old.lanes.items }
+        ensures tells { (es : List PlainEntry) → LanesTell settings.now es self.old.lanes.items
+            → LanesTell settings.now es self.new.lanes.items }
+        ensures lanes { AreOwnLanes settings.now (marks_of self.old.lanes.items)
+            → AreOwnLanes settings.now (marks_of self.new.lanes.items) }
+        ensures count { length self.new.lanes.items ≡ length self.old.lanes.items }
+        ensures ticket { self.new.ticket ≡ self.old.ticket }
+        ensures stream_position { self.new.stream_position ≡ self.old.stream_position }
+        ensures sessions { self.new.sessions ≡ self.old.sessions }
+        ensures succeeds { (lane_of settings.now self.old.lanes.items link).made ≡ true
+            → IsOk result }
+    {
+        let lane = &mut self.lanes[settings.place_of(link)];
+        lane.make()?;
+        Ok(())
+    }
+
     /// Takes the next free Identifier toward a link for a ticket, whose request then waits for its
     /// reply. `None` where all are in use.
     pub(crate) fn take_next(
@@ -172,6 +219,7 @@ impl<A: Allocator + Copy> Numbers<A> {
     ) -> Option<u8>
         requires link { IsLink settings.now link }
         requires count { length self.old.lanes.items ≡ link_count settings.now }
+        requires made { (lane_of settings.now self.old.lanes.items link).made ≡ true }
         ensures next { (es : List PlainEntry) → IsEntryList es → LanesTell settings.now es self.old.lanes.items
             → result ≡ next_toward settings.now (cursors_of self.old.lanes.items) es link }
         ensures free { is_some result ≡ has_free (lane_of settings.now self.old.lanes.items link) }
@@ -186,7 +234,7 @@ impl<A: Allocator + Copy> Numbers<A> {
             → find_ticket ticket es ≡ None → e.ticket ≡ ticket
             → WaitsJustAt link id e
             → LanesTell settings.now (put e es) self.new.lanes.items) }
-        ensures tags { tags_of self.new.lanes.items ≡ tags_of self.old.lanes.items }
+        ensures marks { marks_of self.new.lanes.items ≡ marks_of self.old.lanes.items }
         ensures count { length self.new.lanes.items ≡ length self.old.lanes.items }
         ensures ticket { self.new.ticket ≡ self.old.ticket }
         ensures stream_position { self.new.stream_position ≡ self.old.stream_position }
@@ -210,7 +258,7 @@ impl<A: Allocator + Copy> Numbers<A> {
             → LanesTell settings.now es self.old.lanes.items
             → find_ticket e.ticket es ≡ Some e → waits_at link id e ≡ true
             → LanesTell settings.now (without e.ticket es) self.new.lanes.items }
-        ensures tags { tags_of self.new.lanes.items ≡ tags_of self.old.lanes.items }
+        ensures marks { marks_of self.new.lanes.items ≡ marks_of self.old.lanes.items }
         ensures count { length self.new.lanes.items ≡ length self.old.lanes.items }
         ensures ticket { self.new.ticket ≡ self.old.ticket }
         ensures stream_position { self.new.stream_position ≡ self.old.stream_position }

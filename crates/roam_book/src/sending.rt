@@ -12,7 +12,7 @@ ghost use Rattle.roam_book.specs.RealmConfig.{IsLink, link_place, link_count};
 ghost use Rattle.roam_book.specs.RealmState.{next_toward};
 ghost use Rattle.roam_book.specs.OnRequest.{packet_to, packet_back, drawn_at, position_after, forwarded_octets, forwarded_entry};
 ghost use Rattle.roam_book.specs.Memory.{HasBuffers, HasRoom, IsCopied};
-ghost use Rattle.roam_book.specs.Sound.{shown_request, IsRequest, LanesTell, IsWaiting, lane_of, cursors_of, has_free, tags_of};
+ghost use Rattle.roam_book.specs.Sound.{shown_request, IsRequest, LanesTell, IsWaiting, lane_of, cursors_of, has_free, marks_of};
 
 use crate::buffers::{Buffers, copied_into};
 use crate::numbers::Numbers;
@@ -180,6 +180,7 @@ pub(crate) fn send_new<A: Allocator + Copy>(
     requires link { IsLink settings.now link }
     requires count { length numbers.old.lanes.items ≡ link_count settings.now }
     requires free { has_free (lane_of settings.now numbers.old.lanes.items link) ≡ true }
+    requires made { (lane_of settings.now numbers.old.lanes.items link).made ≡ true }
     requires buffers { HasBuffers (length asked.octets.now + 46) buffers }
     ensures next { (es : List PlainEntry) → IsEntryList es
         → LanesTell settings.now es numbers.old.lanes.items
@@ -205,7 +206,7 @@ pub(crate) fn send_new<A: Allocator + Copy>(
         (put (forwarded_entry settings.now now (shown_request asked.entry)
         numbers.old.stream_position ticket (record { link = link; id = result.1.id })) es)
         numbers.new.lanes.items }
-    ensures tags { tags_of numbers.new.lanes.items ≡ tags_of numbers.old.lanes.items }
+    ensures marks { marks_of numbers.new.lanes.items ≡ marks_of numbers.old.lanes.items }
     ensures count { length numbers.new.lanes.items ≡ length numbers.old.lanes.items }
     ensures ticket { numbers.new.ticket ≡ numbers.old.ticket }
     ensures stream_position { numbers.new.stream_position

@@ -306,16 +306,17 @@ pub fn octets(rt: &impl Abort, alloc: Global, text: &str) -> Vec<u8> {
 }
 
 /// The octets that digits spell, where runs of them may be repeated.
-pub fn spelled(rt: &impl Abort, alloc: Global, digits: &str) -> Result<Vec<u8>, Fail> {
+pub fn spelled(rt: &impl Abort, alloc: Global, digits: &str) -> Vec<u8> {
     let (head, rest) = digits.split_once('*').unwrap_or((digits, ""));
     let (repeated, end) = rest.split_once('*').unwrap_or(("", ""));
     let mut all = octets(rt, alloc, head);
     let repeated = octets(rt, alloc, repeated);
     for _ in 0..15 {
-        all.extend_from_slice(&repeated)?;
+        all.extend_from_slice(&repeated).expect(rt, "memory");
     }
-    all.extend_from_slice(&octets(rt, alloc, end))?;
-    Ok(all)
+    let end = octets(rt, alloc, end);
+    all.extend_from_slice(&end).expect(rt, "memory");
+    all
 }
 
 /// The configuration.

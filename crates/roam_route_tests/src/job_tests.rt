@@ -79,23 +79,30 @@ fn is_number(text: &str, number: u16) -> bool {
     decimal(text, 0, 65535) == Some(u64::from(number))
 }
 
+/// What a row says of an arrival from a sender: a word and its value.
+#[derive(Clone, Copy)]
+struct Said<'r> {
+    side: Side,
+    word: &'r str,
+    value: &'r str,
+}
+
 /// Whether an answer is what a row says.
 fn is_given<A: Allocator>(
     rt: &impl Abort,
     alloc: Global,
-    (word, value): (&str, &str),
-    side: Side,
+    said: Said<'_>,
     answer: &Result<Prepared<A>, Refusal>,
     datagram: &Datagram<A>,
-) -> Result<bool, Fail> {
+) -> bool {
+    let Said { side, word, value } = said;
     match answer {
-        Err(refusal) => Ok(word == "refused" && is_number(value, u16::from(refusal.number()))),
+        Err(refusal) => word == "refused" && is_number(value, u16::from(refusal.number())),
         Ok(Prepared::Job(job)) => {
-            Ok(word == "realm" && is_number(value, job.realm) && is_job_of(job, side, datagram))
+            word == "realm" && is_number(value, job.realm) && is_job_of(job, side, datagram)
         }
         Ok(Prepared::Reject(out)) => {
-            let bytes = spelled(rt, alloc, value)?;
-            Ok(word == "reject" && is_reject_of(out, &bytes, datagram))
+            word == "reject" && is_reject_of(out, &spelled(rt, alloc, value), datagram)
         }
     }
 }
@@ -110,66 +117,75 @@ fn is_frugal(word: &str, growths: u64) -> bool {
     }
 }
 
+/// Whether an arrival gives `NoMemory` just where a growth was refused, and else what a row says.
+fn is_right<'r>(
+    rt: &impl Abort,
+    alloc: Global,
+    config: &Config,
+    refusing: &'r Refusing<Global>,
+    datagram: &Datagram<&'r Refusing<Global>>,
+    said: Said<'_>,
+) -> bool {
+    let answer = prepare(refusing, config, datagram);
+    if refusing.was_refused() {
+        matches!(answer, Err(Refusal::NoMemory))
+    } else {
+        is_given(rt, alloc, said, &answer, datagram)
+    }
+}
+
 /// An arrival of these octets; their growth isn't refused.
 fn arrival<A: Allocator + Copy>(
+    rt: &impl Abort,
     alloc: A,
     at: Place,
     from: Endpoint,
     octets: &[u8],
-) -> Result<Datagram<A>, Fail> {
-    let octets = Octets::from_vec(Vec::from_slice(alloc, octets)?);
-    Ok(Datagram { at, from, octets })
+) -> Datagram<A> {
+    let octets = Octets::from_vec(Vec::from_slice(alloc, octets).expect(rt, "memory"));
+    Datagram { at, from, octets }
 }
 
-/// Lets each growth of the answer to an arrival be refused: `NoMemory` comes just where one was, and
-/// else what the row says.
+/// Lets each growth of the answer to an arrival be refused in turn.
 fn expect_row(
     rt: &impl Abort,
     alloc: Global,
     config: &Config,
     (at, from, side, _): Rows,
     row: &str,
-) -> Result<(), Fail> {
+) {
     let (digits, given) = row.split_once(' ').unwrap_or((row, ""));
     let (word, value) = given.split_once(' ').unwrap_or((given, ""));
+    let said = Said { side, word, value };
     let refusing = Refusing::new(alloc);
-    let octets = spelled(rt, alloc, digits)?;
+    let octets = spelled(rt, alloc, digits);
     let mut growths = 0;
     for n in refusing.each_growth() {
-        let datagram = arrival(&refusing, at, from, &octets)?;
+        let datagram = arrival(rt, &refusing, at, from, &octets);
         refusing.refuse_nth(n);
-        let answer = prepare(&refusing, config, &datagram);
-        let right = if refusing.was_refused() {
+        let right = is_right(rt, alloc, config, &refusing, &datagram, said);
+        if refusing.was_refused() {
             growths = n;
-            matches!(answer, Err(Refusal::NoMemory))
-        } else {
-            is_given(rt, alloc, (word, value), side, &answer, &datagram)?
-                && is_frugal(word, growths)
-        };
+        }
         assert!(rt; right, "{row}");
     }
-    Ok(())
+    assert!(rt; is_frugal(word, growths), "{row}");
 }
 
 /// Each row of each text.
-fn expect_rows(
-    rt: &impl Abort,
-    alloc: Global,
-    config: &Config,
-    tables: &[Rows],
-) -> Result<(), Fail> {
+fn expect_rows(rt: &impl Abort, alloc: Global, config: &Config, tables: &[Rows]) {
     for rows in tables {
         for row in rows.3.lines() {
             if !row.starts_with('#') {
-                expect_row(rt, alloc, config, *rows, row)?;
+                expect_row(rt, alloc, config, *rows, row);
             }
         }
     }
-    Ok(())
 }
 
 #[test]
 fn each_arrival_gives_what_it_should(rt: HostRuntime) -> Result<(), Fail> {
     let config = config(rt.alloc())?;
-    expect_rows(&rt, rt.alloc(), &config, &ARRIVALS)
+    expect_rows(&rt, rt.alloc(), &config, &ARRIVALS);
+    Ok(())
 }

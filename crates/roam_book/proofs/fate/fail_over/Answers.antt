@@ -21,7 +21,7 @@ returns-in_default-clause-fate g c =
         ticket = c.give_back.ensures.ticket;
         stream_position = c.give_back.ensures.stream_position;
         sessions = c.give_back.ensures.sessions;
-        tags = c.give_back.ensures.tags;
+        marks = c.give_back.ensures.marks;
       };
     } in
     gone-freed c.args.settings.now c.args.now es e c.args.numbers.now c.give_back.new.self
@@ -42,7 +42,7 @@ returns-clause-fate g c =
         ticket = c.give_back.ensures.ticket;
         stream_position = c.give_back.ensures.stream_position;
         sessions = c.give_back.ensures.sessions;
-        tags = c.give_back.ensures.tags;
+        marks = c.give_back.ensures.marks;
       };
     } in
     let one = c.send_new-sent.ensures in
@@ -65,7 +65,7 @@ returns-clause-fate g c =
       ticket = one.ticket;
       stream_position = one.stream_position;
       sessions = one.sessions;
-      tags = one.tags;
+      marks = one.marks;
     } in
     let of_entry = subst (λ (q : PlainRequest). IsSent c.args.settings.now c.args.now others q
     e.ticket c.in-Some.target c.give_back.new.self new c.send_new-sent.result.0

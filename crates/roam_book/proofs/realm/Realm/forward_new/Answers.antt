@@ -57,7 +57,7 @@ returns-clause-keeps g c =
         sound = new-sound config es _ old.numbers.now _ e kept.sound refl c.requires.way.request well
             (sent.tells es kept.sound.lanes_tell unheld) c.requires.way.ticket
             (ap (λ (n : ℕ). n + 1) sent.ticket) sent.stream_position sent.sessions sent.count
-            sent.tags here;
+            sent.marks here;
         list = rw here (list-new e es kept.list new);
       };
       loans = record {

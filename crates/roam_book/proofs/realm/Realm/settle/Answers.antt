@@ -27,7 +27,7 @@ returns-clause-keeps g c =
             old.numbers.now c.change_ledger.new.self c.requires.realm.sound found.1 become.here
             (rw made.lanes (back.tells found.0 es c.requires.realm.sound.lanes_tell here found.2))
             (rw made.lanes back.count) (made.ticket ∙ back.ticket)
-            (made.stream_position ∙ back.stream_position) (rw made.lanes back.tags)
+            (made.stream_position ∙ back.stream_position) (rw made.lanes back.marks)
             (made.limit ∙ ap (λ (l : Ledger). l.limit) back.sessions);
         list = rw become.here (list-standing _ found.0 es c.requires.realm.list here);
       };

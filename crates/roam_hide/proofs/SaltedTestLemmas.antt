@@ -11,7 +11,7 @@ use Rattle.roam_wire.specs.Reading.{attributes_of}
 use Rattle.roam_hide.specs.SaltedValues.{microsoft, microsoft_value, IsKeyType, HoldsKey, IsSaltedAttribute, IsSalted}
 use Rattle.roam_hide.specs.SaltedFunctions.{behind_microsoft, microsoft_subs}
 use Rattle.roam_hide.proofs.SaltedFunctionLemmas.{subs_read, read_spells}
-use Rattle.roam_reverse.specs.Salted.{is_key, holds_key, is_salted_attribute, is_salted}
+use Rattle.roam_hide.specs.Salted.{is_key, holds_key, is_salted_attribute, is_salted}
 
 -- a test, and what it means
 abbrev pub Means : Bool → Type 0 → Type 0
