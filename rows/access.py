@@ -2,7 +2,7 @@
 from formulas import *
 from row import Row
 
-SOURCE, STAGE = "access", "access"
+SOURCE = "access"
 EAP = attribute(79, b"\x02\x01\x00\x05\x01")
 CHAP = attribute(3, b"\x01" + bytes(range(16)))
 ANY = bytes(range(16, 32))
@@ -16,13 +16,13 @@ def give(row, now, req, id, ticket, what, attributes=None, **keys):
     return octets
 
 
-row = Row("password-of-each-size", "two-servers", SOURCE, STAGE)
+row = Row("password-of-each-size", "two-servers", SOURCE)
 for n in range(8):
     plain = (b"correct horse battery staple" * 5)[:16 * n + 9].ljust(16 * n + 16, b"\0")
     req = access(n, NAME + password(plain, P, Q) + ps)
     give(row, 0, req, n, n, f"a User-Password of {len(plain)} octets", NAME + password(plain, H1, K(n)) + ps)
 
-row = Row("password-at-the-second-server", "one-try-at-two-servers", SOURCE, STAGE)
+row = Row("password-at-the-second-server", "one-try-at-two-servers", SOURCE)
 plain = b"seventeen octets.".ljust(32, b"\0")
 req = access(1, password(plain, P, Q) + NAME)
 give(row, 0, req, 0, 0, "a User-Password", password(plain, H1, K(0)) + NAME)
@@ -33,7 +33,7 @@ row.reply(1001, response(forward_access(b"", 0, 0), b"", code=2), 14, "the first
 row.reply(1002, good, [given_back(access_back(req, 2, attribute(18, b"hi")), place="auth")],
           "the second one's Accept", source=S2_AUTH)
 
-row = Row("passwords-that-are-not-hidden", "one-server", SOURCE, STAGE)
+row = Row("passwords-that-are-not-hidden", "one-server", SOURCE)
 hidden = attribute(2, ANY)
 req = request(5, A + hidden)
 row.arrive(0, req, [sent(forward(req, 0, 0))], "a User-Password of an Accounting-Request stays")
@@ -46,7 +46,7 @@ give(row, 0, access(4, attribute(69, ANY) + NAME + microsoft(attribute(16, ANY))
      "salted values of a request stay", words=K(3))
 give(row, 0, access(5, NAME + attribute(60, ANY)), 4, 5, "a CHAP-Challenge alone", words=K(4))
 
-row = Row("seals-of-access-requests", "one-server", SOURCE, STAGE)
+row = Row("seals-of-access-requests", "one-server", SOURCE)
 give(row, 0, access(0, seal(1, 0, Q, b"", NAME + ps, P)), 0, 0, "a Message-Authenticator in front", NAME + ps)
 give(row, 0, access(1, seal(1, 1, Q, NAME, ps, P)), 1, 1, "one between", NAME + ps)
 give(row, 0, access(2, seal(1, 2, ANY, NAME + EAP + EAP, b"", P), ANY), 2, 2, "one behind two EAP-Messages",
@@ -59,7 +59,7 @@ row.access(0, access(3, seal(1, 3, Q, NAME, EAP, P) + mac), 7, "a second one")
 row.access(0, access(3, NAME + EAP), 8, "an EAP-Message, and none")
 give(row, 0, access(3, NAME), 3, 3, "none, and no EAP-Message")
 
-row = Row("local-rejects", "one-server", SOURCE, STAGE)
+row = Row("local-rejects", "one-server", SOURCE)
 row.access(0, access(1, attribute(1, b"u@b.example")), [rejected(access(1, b""))], "no such realm")
 row.access(0, access(1, attribute(1, b"a.example")), [rejected(access(1, b""))], "no realm behind an at sign")
 row.access(0, access(1, ps + attribute(1, b"u@") + NAME + ps), [rejected(access(1, b""), ps + ps)],
@@ -82,7 +82,7 @@ give(row, 0, access(1, NAME), 0, 0, "a good one: nothing was kept")
 row.access(0, access(1, b""), [rejected(access(1, b""))], "the same key, rejected")
 row.access(0, access(1, NAME), [], "the good one waits as before")
 
-row = Row("seals-before-local-rejects", "seal-required", SOURCE, STAGE)
+row = Row("seals-before-local-rejects", "seal-required", SOURCE)
 row.access(0, access(1, b""), 8, "no Message-Authenticator, and no User-Name")
 row.access(0, access(1, NAME + hidden + hidden), 8, "none, and two User-Passwords")
 row.access(0, access(1, mac), 7, "a wrong one")
@@ -90,7 +90,7 @@ row.access(0, access(1, seal(1, 1, Q, ps, b"", P)), [rejected(access(1, b""), ps
 row.arrive(0, q5, [sent(f0)], "an Accounting-Request needs none")
 give(row, 0, access(1, seal(1, 1, Q, NAME, b"", P)), 0, 1, "a right one", NAME, words=K(0))
 
-row = Row("words-are-for-access-alone", "one-try-at-three-servers", SOURCE, STAGE)
+row = Row("words-are-for-access-alone", "one-try-at-three-servers", SOURCE)
 give(row, 0, access(1, NAME), 0, 0, "an Access-Request")
 row.arrive(0, q5, [sent(forward(q5, 0, 1))], "an Accounting-Request of the same user: no words, Identifiers of its own")
 give(row, 0, access(2, NAME), 1, 2, "an Access-Request with the next words", words=K(1))
@@ -104,7 +104,7 @@ row.tick(2, [sent(forward_access(NAME, 0, 0, K(4), H3), S3_AUTH), sent(forward(q
 row.tick(3, [], "all are given up")
 give(row, 4, access(1, NAME), 2, 3, "a new one", words=K(6))
 
-row = Row("words-of-two-realms", "two-realms", SOURCE, STAGE)
+row = Row("words-of-two-realms", "two-realms", SOURCE)
 OTHER = named("u@b.example")
 give(row, 0, access(1, OTHER), 0, 0, "the second realm has a stream of its own", realm=1)
 give(row, 0, access(2, NAME), 0, 0, "the first realm's begins")
@@ -114,7 +114,7 @@ row.tick(1000, [sent(forward_access(NAME, 0, 0), S1_AUTH), sent(forward_access(O
 give(row, 1000, access(4, NAME), 1, 1, "the first realm's goes on")
 give(row, 1000, access(5, OTHER), 2, 2, "and the second's", realm=1)
 
-row = Row("challenge-and-answer", "one-server", SOURCE, STAGE)
+row = Row("challenge-and-answer", "one-server", SOURCE)
 req = access(1, seal(1, 1, Q, NAME + EAP, b"", P))
 fwd = give(row, 0, req, 0, 0, "an EAP-Message", NAME + EAP)
 STATE = attribute(24, b"\x01\x02")
@@ -128,7 +128,7 @@ row.reply(3, response(fwd, b"", code=2), [given_back(access_back(again, 2), plac
           "an Accept without an EAP-Message and a Message-Authenticator", source=S1_AUTH)
 row.access(4, req, [given_back(access_back(req, 11, EAP + STATE), place="auth")], "the first one again: its Challenge")
 
-row = Row("access-replies-refused", "two-servers", SOURCE, STAGE)
+row = Row("access-replies-refused", "two-servers", SOURCE)
 req = access(7, NAME + ps)
 fwd = give(row, 0, req, 0, 0, "an Access-Request")
 for code in (1, 4, 5, 12, 41, 44):
@@ -154,7 +154,7 @@ row.reply(1, response(fwd, filled(4075) + T(0), code=2),
           [given_back(access_back(req, 2, filled(4075) + ps), place="auth")], "one of an octet less", source=S1_AUTH)
 row.reply(1, response(fwd, code=3), 14, "another one: nothing waits", source=S1_AUTH)
 
-row = Row("largest-sealed-access-request", "one-server", SOURCE, STAGE)
+row = Row("largest-sealed-access-request", "one-server", SOURCE)
 for size, id in ((4087, 1), (4086, 2)):
     body = filled(size - 18, NAME)
     req = access(id, seal(1, id, Q, b"", body, P))
@@ -163,7 +163,7 @@ for size, id in ((4087, 1), (4086, 2)):
 row.access(0, access(3, filled(4069, NAME)), 10, "one of 4069 octets without")
 give(row, 0, access(3, filled(4068, NAME)), 1, 1, "one of 4068")
 
-row = Row("one-key-at-two-places", "two-places", SOURCE, STAGE)
+row = Row("one-key-at-two-places", "two-places", SOURCE)
 row.arrive(0, q5, [sent(f0)], "an Accounting-Request")
 req = access(5, NAME)
 fwd = give(row, 0, req, 0, 1, "an Access-Request with its Identifier from its port", words=K(0))
@@ -199,7 +199,7 @@ STAYS += [microsoft(*subs) for subs in (
 STAYS += [attribute(70, b"\0\x80\1" + ANY), attribute(2, ANY)]
 STAYS = b"".join(STAYS)
 
-row = Row("salted-values", "two-servers", SOURCE, STAGE)
+row = Row("salted-values", "two-servers", SOURCE)
 req = access(1, NAME + ps)
 fwd = give(row, 0, req, 0, 0, "an Access-Request")
 row.reply(1, response(fwd, salted(H1, K(0)) + T(0), code=2),

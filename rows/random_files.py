@@ -3,23 +3,23 @@ from random_access import AccessScript
 from random_reverse import ReverseScript
 from random_scripts import Script
 
-# For each file, which is named as its configuration: since which packets are served it is written, what makes
-# its scripts, the first seed and how many scripts it has.
+# For each file, which is named as its configuration: what makes its scripts, the first seed and how many
+# scripts it has.
 FILES = {
-    "small": ("accounting", Script, 1, 200),
-    "small-and-shared": ("accounting", Script, 1001, 200),
-    "small-in-two-shards": ("accounting", Script, 2001, 200),
-    "access": ("access", AccessScript, 3001, 200),
-    "access-and-shared": ("access", AccessScript, 4001, 200),
-    "access-in-two-shards": ("access", AccessScript, 5001, 200),
-    "all": ("all", ReverseScript, 6001, 200),
-    "all-and-shared": ("all", ReverseScript, 7001, 200),
-    "all-in-two-shards": ("all", ReverseScript, 8001, 200),
+    "small": (Script, 1, 200),
+    "small-and-shared": (Script, 1001, 200),
+    "small-in-two-shards": (Script, 2001, 200),
+    "access": (AccessScript, 3001, 200),
+    "access-and-shared": (AccessScript, 4001, 200),
+    "access-in-two-shards": (AccessScript, 5001, 200),
+    "all": (ReverseScript, 6001, 200),
+    "all-and-shared": (ReverseScript, 7001, 200),
+    "all-in-two-shards": (ReverseScript, 8001, 200),
 }
 
 
 def file_text(name):
-    _, script, first, count = FILES[name]
+    script, first, count = FILES[name]
     source = script.__module__
     lines = [f"# Random: written by rows/{source}.py and answered by rows/broker.py, seeds {first} to "
              f"{first + count - 1}."]

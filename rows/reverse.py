@@ -2,7 +2,7 @@
 from formulas import *
 from row import Row
 
-SOURCE, STAGE = "reverse", "all"
+SOURCE = "reverse"
 NAS1, NAS4 = attribute(32, b"nas1"), attribute(4, bytes([192, 0, 2, 3]))
 NAS1_IP, NAS3, NAS5 = attribute(4, bytes([192, 0, 2, 1])), attribute(32, b"n"), attribute(32, b"nas5")
 OTHER = named("u@b.example")
@@ -23,7 +23,7 @@ class Story(Row):
     """A row of one realm, which counts its tickets and the Identifiers toward each link."""
 
     def __init__(self, name, configuration):
-        super().__init__(name, configuration, SOURCE, STAGE)
+        super().__init__(name, configuration, SOURCE)
         self.ticket, self.ids, self.now = 0, {}, 0
 
     def take(self, link):
@@ -351,7 +351,7 @@ row.tick(6000, [], "the held NAK goes")
 row.ticket, row.now = 2, 6000
 row.ask("the CoA again", NAS1 + NAME, 43, 8)
 
-row = Row("whence-disconnects-come", "home-servers", SOURCE, STAGE)
+row = Row("whence-disconnects-come", "home-servers", SOURCE)
 body = NAS1 + NAME
 ticket = 0
 for source, secret in ((HOME, H1), ("198.51.100.1:1", H1), (S1, H1), ("198.51.100.9:40000", H2),

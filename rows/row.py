@@ -34,8 +34,8 @@ class Row:
     """A row said by hand: for each event its packets' lines, or its refusal's number."""
     rows = []
 
-    def __init__(self, name, configuration, source, stage="accounting"):
-        self.name, self.configuration, self.source, self.stage = name, configuration, source, stage
+    def __init__(self, name, configuration, source):
+        self.name, self.configuration, self.source = name, configuration, source
         self.lines = []
         Row.rows.append(self)
 

@@ -274,7 +274,8 @@ impl<A: Allocator + Copy, E: Entries<A>> Realm<'_, '_, '_, '_, A, E> {
         }
     }
 
-    /// A request of the realm: a duplicate, or a new one that is forwarded.
+    /// A request of the realm: a duplicate, a reverse request that is answered by a NAK, or a new one
+    /// that is forwarded.
     ///
     /// Refused in this order: `Moment`, `Exhausted`, `NoIdentifier`, `Busy`. `NoMemory` comes where
     /// a growth was refused; the realm is then as it was. A refused request and a duplicate of one
