@@ -1,14 +1,13 @@
 -- How a broker over shared tables begins.
-use Rattle.std.proofs.Common.{◌≡◌, ◌≢◌, ◌⊎◌, ℕ, zero, suc, ◌+◌, ◌^◌, ◌<◌, ◌≤◌, List, [], ◌∷◌, ◌++◌, length, Option, Some, None, replicate, refl, ap, sym, ◌∙◌, subst, inl, inr, arith}
+use Rattle.std.proofs.Common.{◌≡◌, ◌⊎◌, ℕ, zero, suc, ◌+◌, ◌≤◌, List, [], ◌∷◌, ◌++◌, length, Some, None, replicate, refl, ap, sym, ◌∙◌, subst, inl, inr, arith}
 use Rattle.std.specs.Prelude.{slice_get}
 use Rattle.std.proofs.lemmas.List.{length-append}
-use Rattle.std.proofs.lemmas.Option.{slice_get_within}
 use Rattle.roam_conf.specs.Config.{ConfigView}
 use Rattle.roam_pending.specs.EntryList.{IsEntryList}
 use Rattle.roam_pending.specs.PlainEntry.{PlainEntry}
 use Rattle.roam_tables.specs.Stands.{RealmView, entries_in}
 use Rattle.roam_book.specs.RealmConfig.{RealmConfig, realm_config}
-use Rattle.roam_book.specs.RealmState.{RealmState, opening}
+use Rattle.roam_book.specs.RealmState.{opening}
 use Rattle.roam_book.specs.Sound.{IsSound, state_of}
 use Rattle.roam_book.specs.declared.numbers.Numbers.{Numbers}
 use Rattle.roam_core.specs.Openings.{first_start, fresh, openings_from}

@@ -1,4 +1,3 @@
-use Rattle.std.proofs.Common.{◌≡◌}
 use Rattle.roam_conf.specs.Shown.{shown}
 use Rattle.roam_shard.proofs.OpeningLemmas.{fresh_of, one_more_fresh}
 use Rattle.roam_shard.proofs.opening.fresh_numbers.Goals as goal

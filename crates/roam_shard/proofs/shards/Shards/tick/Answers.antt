@@ -1,5 +1,5 @@
 -- All rooms first, then the tick in them.
-use Rattle.std.proofs.Common.{List, ap, subst, ◌∙◌, arith, rules}
+use Rattle.std.proofs.Common.{ap, subst, ◌∙◌, arith, rules}
 use Rattle.roam_conf.specs.Shown.{shown}
 use Rattle.roam_core.specs.ManyRealms.{AllRealms}
 use Rattle.roam_core.specs.BrokerView.{BrokerView}
