@@ -1,8 +1,5 @@
 #!/usr/bin/env python3
-"""A broker for accounting packets (codes 4 and 5) with ticks, written from the rules as they are said in words.
-
-Access packets are covered where they have no password and nothing salted: enough to check the rules
-of entries, Identifiers and ticks against more rows that others computed.
+"""A broker of Access, accounting, Disconnect and CoA, written from the rules as said in words.
 
 broker.py NAME.conf NAME.script            prints the packets' lines
 broker.py --refusals NAME.conf NAME.script prints a refusal number or `-` for each event
@@ -10,136 +7,28 @@ broker.py --events NAME.conf NAME.script   both, event by event
 
 Nothing here is taken from the project's code.
 """
-import hashlib
-import hmac
 import sys
 import tomllib
+from packets import *
 
-ACCESS_REQUEST, ACCOUNTING_REQUEST, ACCOUNTING_RESPONSE = 1, 4, 5
-ACCESS_REPLIES = (2, 3, 11)
-USER_NAME, USER_PASSWORD, CHAP_PASSWORD, VENDOR, TUNNEL_PASSWORD = 1, 2, 3, 26, 69
-PROXY_STATE, EAP_MESSAGE, SEAL = 33, 79, 80
-ZEROS = bytes(16)
 LATEST = 2 ** 62
+LAST_TICKET = 2 ** 63
+START, STOP, INTERIM_UPDATE, ACCOUNTING_ON, ACCOUNTING_OFF = 1, 2, 3, 7, 8
+UNSUPPORTED, NOT_ROUTABLE, NO_SESSION, NO_ANSWER = 401, 502, 503, 505
 
-
-class NotCovered(Exception):
-    """A packet that passed its first checks and isn't of the codes covered here."""
-
-
-class Refused(Exception):
-    def __init__(self, number):
-        self.number = number
-
-
-def md5(*pieces):
-    return hashlib.md5(b"".join(pieces)).digest()
-
-
-def hmac_md5(key, octets):
-    return hmac.new(key, octets, hashlib.md5).digest()
+# The codes that each place takes, and those that each kind of link may answer with.
+REQUESTS_AT = {"auth": (ACCESS_REQUEST,), "acct": (ACCOUNTING_REQUEST,),
+               "reverse": REVERSE_REQUESTS}
+REPLIES_FROM = {"auth": ACCESS_REPLIES, "acct": (ACCOUNTING_RESPONSE,),
+                "coa": (DISCONNECT_ACK, DISCONNECT_NAK, COA_ACK, COA_NAK)}
+# The replies of each request.
+REPLIES_OF = {ACCESS_REQUEST: ACCESS_REPLIES, ACCOUNTING_REQUEST: (ACCOUNTING_RESPONSE,),
+              DISCONNECT_REQUEST: (DISCONNECT_ACK, DISCONNECT_NAK), COA_REQUEST: (COA_ACK, COA_NAK)}
 
 
 def endpoint(text):
     ip, port = text.split(":")
     return (ip, int(port))
-
-
-class Packet:
-    """A datagram that is a packet: 1, 2 and 3 are the refusals of the others."""
-
-    def __init__(self, datagram):
-        if len(datagram) < 20:
-            raise Refused(1)
-        length = int.from_bytes(datagram[2:4], "big")
-        if length < 20 or length > 4096 or length > len(datagram):
-            raise Refused(2)
-        self.octets = datagram[:length]
-        self.code, self.id, self.authenticator = datagram[0], datagram[1], datagram[4:20]
-        self.attributes = []
-        rest = self.octets[20:]
-        while rest:
-            if len(rest) < 2 or rest[1] < 2 or rest[1] > len(rest):
-                raise Refused(3)
-            self.attributes.append((rest[0], rest[2:rest[1]]))
-            rest = rest[rest[1]:]
-
-    def values(self, kind):
-        return [value for k, value in self.attributes if k == kind]
-
-    def well_sealed(self, secret, authenticators):
-        """No seal, or one of sixteen octets that is right for one of the authenticators."""
-        seals = self.values(SEAL)
-        if not seals:
-            return True
-        if len(seals) > 1 or len(seals[0]) != 16:
-            return False
-        blank = [(k, ZEROS if k == SEAL else v) for k, v in self.attributes]
-        return any(
-            hmac_md5(secret, text(self.code, self.id, a, blank)) == seals[0]
-            for a in authenticators
-        )
-
-
-def text(code, id, authenticator, attributes):
-    body = b"".join(bytes([k, len(v) + 2]) + v for k, v in attributes)
-    return bytes([code, id]) + (20 + len(body)).to_bytes(2, "big") + authenticator + body
-
-
-def sealed(code, id, authenticator, attributes, secret):
-    """The attributes, a seal among them made anew over this authenticator."""
-    if all(k != SEAL for k, _ in attributes):
-        return attributes
-    blank = [(k, ZEROS if k == SEAL else v) for k, v in attributes]
-    seal = hmac_md5(secret, text(code, id, authenticator, blank))
-    return [(k, seal if k == SEAL else v) for k, v in attributes]
-
-
-def signed(code, id, authenticator, attributes, secret):
-    """A packet whose authenticator field is the digest over `authenticator`."""
-    attributes = sealed(code, id, authenticator, attributes, secret)
-    digest = md5(text(code, id, authenticator, attributes), secret)
-    return text(code, id, digest, attributes)
-
-
-def seal_in_front(attributes):
-    return [(SEAL, ZEROS)] + [(k, v) for k, v in attributes if k != SEAL]
-
-
-def forwarded(request, id, ticket, secret, words):
-    attributes = request.attributes + [(PROXY_STATE, ticket.to_bytes(8, "big"))]
-    if request.code == ACCESS_REQUEST:
-        attributes = sealed(1, id, words, seal_in_front(attributes), secret)
-        return text(1, id, words, attributes)
-    return signed(request.code, id, ZEROS, attributes, secret)
-
-
-def returned(reply, request, secret):
-    attributes = [(k, v) for k, v in reply.attributes if k != PROXY_STATE]
-    attributes += [(PROXY_STATE, v) for v in request.values(PROXY_STATE)]
-    if reply.code in ACCESS_REPLIES:
-        attributes = seal_in_front(attributes)
-    return signed(reply.code, request.id, request.authenticator, attributes, secret)
-
-
-def chacha_words(seed, stream, number):
-    """Four words of the stream, from word 4 * number on, each little-endian."""
-    def rotate(x, n):
-        return (x << n | x >> 32 - n) & 0xFFFFFFFF
-
-    block, quarter = divmod(number, 4)
-    counter = block.to_bytes(8, "little") + stream.to_bytes(8, "little")
-    octets = b"expand 32-byte k" + seed + counter
-    start = [int.from_bytes(octets[i:i + 4], "little") for i in range(0, 64, 4)]
-    w = list(start)
-    rounds = [(0, 4, 8, 12), (1, 5, 9, 13), (2, 6, 10, 14), (3, 7, 11, 15),
-              (0, 5, 10, 15), (1, 6, 11, 12), (2, 7, 8, 13), (3, 4, 9, 14)]
-    for a, b, c, d in rounds * 10:
-        for x, y, z, n in ((a, b, d, 16), (c, d, b, 12), (a, b, d, 8), (c, d, b, 7)):
-            w[x] = (w[x] + w[y]) & 0xFFFFFFFF
-            w[z] = rotate(w[z] ^ w[x], n)
-    sums = [(x + y) & 0xFFFFFFFF for x, y in zip(w, start)]
-    return b"".join(x.to_bytes(4, "little") for x in sums[4 * quarter:4 * quarter + 4])
 
 
 class Config:
@@ -154,10 +43,12 @@ class Config:
                 server["links"] = {k: endpoint(server[k]) for k in ("auth", "acct")}
 
     def peer_of(self, ip):
-        return next((p for p in self.peers if p["ip"] == ip), None)
+        """The index of the access server with that address."""
+        return next((i for i, p in enumerate(self.peers) if p["ip"] == ip), None)
 
     def realm_named(self, name):
-        if b"@" not in name:
+        """The realm behind the last `@`."""
+        if name is None or b"@" not in name:
             return None
         name = name[name.rindex(b"@") + 1:].lower()
         for index, realm in enumerate(self.realms):
@@ -176,44 +67,101 @@ class Config:
                 return ("coa", index)
         return None
 
-    def is_home(self, realm, ip):
-        return any(
-            ip in (server["links"]["auth"][0], server["links"]["acct"][0])
-            for server in self.realms[realm]["server"]
-        )
+    def home_of(self, realm, ip):
+        """The first home server of the realm with that address."""
+        for server in self.realms[realm]["server"]:
+            if ip in (server["links"]["auth"][0], server["links"]["acct"][0]):
+                return server
+        return None
+
+    def access_server_of(self, request):
+        """The access server that a Disconnect or CoA names, by its address, its name or both."""
+        ip, name = request.first(NAS_IP_ADDRESS), request.first(NAS_IDENTIFIER)
+        for index, peer in enumerate(self.peers):
+            fits_ip = ip is None or "nas_ip" in peer and ip == address(peer["nas_ip"])
+            fits_name = name is None or "nas_id" in peer and name == peer["nas_id"].encode()
+            if "coa" in peer and fits_ip and fits_name and (ip, name) != (None, None):
+                return index
+        return None
+
+
+def address(text):
+    return bytes(int(number) for number in text.split("."))
+
+
+class Request:
+    """A request that a realm was given: its packet, whence it came, and the secret shared with the
+    requester; of an access server its index too."""
+
+    def __init__(self, place, source, packet, secret, peer=None):
+        self.place, self.source, self.packet = place, source, packet
+        self.secret, self.peer = secret, peer
+        self.key = (place, source, packet.id)
 
 
 class Entry:
-    def __init__(self, ticket, key, secret, request):
-        self.ticket, self.key, self.secret, self.request = ticket, key, secret, request
+    def __init__(self, ticket, request):
+        self.ticket, self.request = ticket, request
         self.link = self.id = self.octets = self.sends_left = self.deadline = self.reply = None
 
     def waits(self):
         return self.reply is None
 
 
+class Sessions:
+    """A realm's sessions: pairs of an access server and an Acct-Session-Id, the oldest first."""
+
+    def __init__(self, limit):
+        self.limit, self.pairs = limit, []
+
+    def apply(self, peer, request):
+        """An answered Accounting-Request."""
+        status, id = request.first(ACCT_STATUS_TYPE), request.first(ACCT_SESSION_ID)
+        if status is None or len(status) != 4:
+            return
+        status = int.from_bytes(status, "big")
+        if status in (ACCOUNTING_ON, ACCOUNTING_OFF):
+            self.pairs = [pair for pair in self.pairs if pair[0] != peer]
+        elif status in (START, INTERIM_UPDATE) and id is not None:
+            self.add((peer, id))
+        elif status == STOP and (peer, id) in self.pairs:
+            self.pairs.remove((peer, id))
+
+    def add(self, pair):
+        if pair in self.pairs or self.limit == 0:
+            return
+        if len(self.pairs) == self.limit:
+            self.pairs.pop(0)
+        self.pairs.append(pair)
+
+
 class Realm:
     """The state of one realm, and its rules."""
 
-    def __init__(self, index, table, seed):
-        self.index, self.table, self.seed = index, table, seed
+    def __init__(self, config, index):
+        self.config, self.index, self.table = config, index, config.realms[index]
         self.entries = []
         self.ticket = self.built = 0
         self.cursors = {}
+        self.sessions = Sessions(self.table["max_sessions"])
 
-    def out(self, entry):
-        return (self.index, f"out:{self.index}", self.endpoint_of(entry.link), entry.octets)
+    # Links
 
-    def links(self, code, first):
-        """The targets of a code, from that server on."""
+    def server_links(self, code, first):
+        """The targets of a code among the home servers, from that one on."""
         kind = "auth" if code == ACCESS_REQUEST else "acct"
         return [(kind, server) for server in range(first, len(self.table["server"]))]
 
     def endpoint_of(self, link):
-        return self.table["server"][link[1]]["links"][link[0]]
+        kind, index = link
+        if kind == "coa":
+            return endpoint(self.config.peers[index]["coa"])
+        return self.table["server"][index]["links"][kind]
 
     def secret_of(self, link):
-        return self.table["server"][link[1]]["secret"].encode()
+        kind, index = link
+        table = self.config.peers if kind == "coa" else self.table["server"]
+        return table[index]["secret"].encode()
 
     def free_identifier(self, link, entries):
         used = {e.id for e in entries if e.waits() and e.link == link}
@@ -230,32 +178,72 @@ class Realm:
                 return (link, id)
         return None
 
+    # What is sent
+
+    def out(self, entry):
+        return (self.index, f"out:{self.index}", self.endpoint_of(entry.link), entry.octets)
+
+    def answer(self, request, octets):
+        return (self.index, request.place, request.source, octets)
+
     def words(self, code):
         if code != ACCESS_REQUEST:
             return None
         self.built += 1
-        return chacha_words(self.seed, self.index, self.built - 1)
+        return chacha_words(self.config.seed, self.index, self.built - 1)
 
     def send(self, now, entry, target):
         entry.link, entry.id = target
         self.cursors[entry.link] = (entry.id + 1) % 256
-        words = self.words(entry.request.code)
-        secret = self.secret_of(entry.link)
-        entry.octets = forwarded(entry.request, entry.id, entry.ticket, secret, words)
+        request, secret = entry.request, self.secret_of(entry.link)
+        words = self.words(request.packet.code)
+        entry.octets = forwarded(
+            request.packet, request.secret, entry.id, entry.ticket, secret, words)
         entry.sends_left = self.table["tries"] - 1
         entry.deadline = now + self.table["wait"]
         return [self.out(entry)]
 
-    def on_request(self, now, key, secret, request):
+    def hold(self, now, entry, reply):
+        entry.reply = reply
+        entry.deadline = now + self.table["hold"]
+        return [self.answer(entry.request, reply)]
+
+    # A request
+
+    def on_request(self, now, request):
         if now > LATEST:
             raise Refused(19)
-        known = next((e for e in self.entries if e.key == key), None)
-        if known is not None and known.request.octets == request.octets:
-            return [] if known.waits() else [self.answer(known)]
+        known = next((e for e in self.entries if e.request.key == request.key), None)
+        if known is not None and known.request.packet.octets == request.packet.octets:
+            return [] if known.waits() else [self.answer(request, known.reply)]
+        if request.packet.code not in REVERSE_REQUESTS:
+            links = self.server_links(request.packet.code, 0)
+            return self.take(now, request, known, links)
+        peer = self.config.access_server_of(request.packet)
+        cause = self.cause_against(request.packet, peer)
+        if cause is not None:
+            return [self.answer(request, nak(request.packet, request.secret, cause))]
+        return self.take(now, request, known, [("coa", peer)])
+
+    def cause_against(self, request, peer):
+        """The Error-Cause of a Disconnect or CoA that isn't forwarded."""
+        name, session = request.first(USER_NAME), request.first(ACCT_SESSION_ID)
+        if peer is None:
+            return NOT_ROUTABLE
+        if name is None and session is None:
+            return NOT_ROUTABLE
+        if name is not None and self.config.realm_named(name) != self.index:
+            return NOT_ROUTABLE
+        if name is None and (peer, session) not in self.sessions.pairs:
+            return NO_SESSION
+        return UNSUPPORTED if request.is_salted() else None
+
+    def take(self, now, request, known, links):
+        """A new request, which takes the place of the known one with its key."""
         others = [e for e in self.entries if e is not known]
-        if self.ticket == 2 ** 63:
+        if self.ticket == LAST_TICKET:
             raise Refused(11)
-        target = self.target(self.links(request.code, 0), others)
+        target = self.target(links, others)
         if target is None:
             raise Refused(12)
         if len(others) >= self.table["max_pending"]:
@@ -263,14 +251,12 @@ class Realm:
             if not held:
                 raise Refused(13)
             others.remove(min(held, key=lambda e: e.ticket))
-        entry = Entry(self.ticket, key, secret, request)
+        entry = Entry(self.ticket, request)
         self.entries = others + [entry]
         self.ticket += 1
         return self.send(now, entry, target)
 
-    def answer(self, entry):
-        place, source, _ = entry.key
-        return (self.index, place, source, entry.reply)
+    # A reply
 
     def on_reply(self, now, link, reply):
         if now > LATEST:
@@ -279,26 +265,27 @@ class Realm:
         if not waiting:
             raise Refused(14)
         [entry] = waiting
-        secret = self.secret_of(link)
-        sent = Packet(entry.octets)
-        if reply.code not in {1: ACCESS_REPLIES, 4: (ACCOUNTING_RESPONSE,)}[sent.code]:
+        sent, secret, request = Packet(entry.octets), self.secret_of(link), entry.request
+        self.judge(reply, sent, secret)
+        packet = returned(reply, request.packet, request.secret, sent, secret)
+        if len(packet) > LARGEST:
+            raise Refused(18)
+        if reply.code == ACCOUNTING_RESPONSE:
+            self.sessions.apply(request.peer, request.packet)
+        return self.hold(now, entry, packet)
+
+    def judge(self, reply, sent, secret):
+        if reply.code not in REPLIES_OF[sent.code]:
             raise Refused(15)
-        body = text(reply.code, reply.id, sent.authenticator, reply.attributes)
-        if md5(body, secret) != reply.authenticator:
+        if not reply.is_signed(sent.authenticator, secret):
             raise Refused(16)
         access = reply.code in ACCESS_REPLIES
-        if not reply.well_sealed(secret, [sent.authenticator] + [ZEROS] * (not access)):
+        if not reply.is_well_sealed([sent.authenticator] + [ZEROS] * (not access), secret):
             raise Refused(17)
         if access and reply.values(EAP_MESSAGE) and not reply.values(SEAL):
             raise Refused(17)
-        if reply.code == 2 and (reply.values(VENDOR) or reply.values(TUNNEL_PASSWORD)):
-            raise NotCovered("what may be salted")
-        packet = returned(reply, entry.request, entry.secret)
-        if len(packet) > 4096:
-            raise Refused(18)
-        entry.reply = packet
-        entry.deadline = now + self.table["hold"]
-        return [self.answer(entry)]
+
+    # A tick
 
     def on_tick(self, now):
         packets = []
@@ -315,73 +302,90 @@ class Realm:
             entry.deadline = now + self.table["wait"]
             return [self.out(entry)]
         others = [e for e in self.entries if e is not entry]
-        target = None
-        if entry.waits():
-            target = self.target(self.links(entry.request.code, entry.link[1] + 1), others)
+        if not entry.waits():
+            self.entries = others
+            return []
+        request, (kind, index) = entry.request, entry.link
+        if kind == "coa":
+            return self.hold(now, entry, nak(request.packet, request.secret, NO_ANSWER))
+        target = self.target(self.server_links(request.packet.code, index + 1), others)
         if target is None:
             self.entries = others
             return []
         return self.send(now, entry, target)
 
 
+def is_rejected(request, realm):
+    """Whether an Access-Request is answered by a local Access-Reject."""
+    passwords = request.values(USER_PASSWORD)
+    return (
+        realm is None
+        or len(passwords) > 1
+        or bool(passwords and request.values(CHAP_PASSWORD))
+        or not all(password_fits(value) for value in passwords)
+    )
+
+
 class Broker:
     def __init__(self, config):
         self.config = config
-        self.realms = [Realm(i, t, config.seed) for i, t in enumerate(config.realms)]
+        self.realms = [Realm(config, index) for index in range(len(config.realms))]
 
     def arrive(self, now, place, source, datagram):
         packet = Packet(datagram)
-        if place in ("auth", "acct"):
-            peer = self.config.peer_of(source[0])
-            if peer is None:
-                raise Refused(4)
-            if packet.code != (1 if place == "auth" else ACCOUNTING_REQUEST):
-                raise Refused(5)
-            return self.request(now, place, source, peer, packet)
-        kind, realm = place.split(":")
-        realm = int(realm)
-        if realm >= len(self.realms):
+        kind, _, number = place.partition(":")
+        if number and int(number) >= len(self.realms):
             raise Refused(4)
-        if kind == "reverse":
-            if not self.config.is_home(realm, source[0]):
-                raise Refused(4)
-            if packet.code not in (40, 43):
-                raise Refused(5)
-            raise NotCovered("a reverse request")
-        return self.reply(now, realm, source, packet)
-
-    def request(self, now, place, source, peer, packet):
-        secret = peer["secret"].encode()
-        access = packet.code == ACCESS_REQUEST
-        body = text(packet.code, packet.id, ZEROS, packet.attributes)
-        if not access and md5(body, secret) != packet.authenticator:
-            raise Refused(6)
-        if not packet.well_sealed(secret, [packet.authenticator if access else ZEROS]):
-            raise Refused(7)
-        if access and not packet.values(SEAL):
-            if packet.values(EAP_MESSAGE) or peer.get("require_seal", False):
-                raise Refused(8)
-        names = packet.values(USER_NAME)
-        realm = self.config.realm_named(names[0]) if names else None
-        if access and (realm is None or packet.values(USER_PASSWORD) or packet.values(CHAP_PASSWORD)):
-            raise NotCovered("a local reject or a password")
+        if kind == "out":
+            return self.reply(now, int(number), source, packet)
+        peer, secret, must_seal = self.requester(kind, number, source[0])
+        if packet.code not in REQUESTS_AT[kind]:
+            raise Refused(5)
+        self.check(packet, secret, must_seal)
+        realm = int(number) if number else self.config.realm_named(packet.first(USER_NAME))
+        if packet.code == ACCESS_REQUEST and is_rejected(packet, realm):
+            return self.reject(place, source, packet, secret)
         if realm is None:
             raise Refused(9)
-        grows = 10 + 18 * (access and not packet.values(SEAL))
-        if len(packet.octets) + grows > 4096:
+        if forwarded_size(packet) > LARGEST:
             raise Refused(10)
-        key = (place, source, packet.id)
-        return self.realms[realm].on_request(now, key, secret, packet)
+        return self.realms[realm].on_request(now, Request(place, source, packet, secret, peer))
+
+    def requester(self, kind, number, ip):
+        """An access server's index, the secret, and whether Access-Requests must be sealed."""
+        if kind == "reverse":
+            server = self.config.home_of(int(number), ip)
+            if server is None:
+                raise Refused(4)
+            return None, server["secret"].encode(), False
+        index = self.config.peer_of(ip)
+        if index is None:
+            raise Refused(4)
+        peer = self.config.peers[index]
+        return index, peer["secret"].encode(), peer.get("require_seal", False)
+
+    def check(self, packet, secret, must_seal):
+        """The digest of a request, and its Message-Authenticator."""
+        access = packet.code == ACCESS_REQUEST
+        if not access and not packet.is_signed(ZEROS, secret):
+            raise Refused(6)
+        if not packet.is_well_sealed([packet.authenticator if access else ZEROS], secret):
+            raise Refused(7)
+        if access and not packet.values(SEAL) and (must_seal or packet.values(EAP_MESSAGE)):
+            raise Refused(8)
+
+    def reject(self, place, source, packet, secret):
+        octets = local_reject(packet, secret)
+        if len(octets) > LARGEST:
+            raise Refused(10)
+        return [("-", place, source, octets)]
 
     def reply(self, now, realm, source, packet):
         link = self.config.link_of(realm, source)
         if link is None:
             raise Refused(4)
-        taken = {"auth": (2, 3, 11), "acct": (5,), "coa": (41, 42, 44, 45)}
-        if packet.code not in taken[link[0]]:
+        if packet.code not in REPLIES_FROM[link[0]]:
             raise Refused(5)
-        if link[0] == "coa":
-            raise NotCovered("a reply of an access server")
         return self.realms[realm].on_reply(now, link, packet)
 
     def tick(self, now, shard):
@@ -409,7 +413,7 @@ class Broker:
 
 
 def events_of(script):
-    return [l for l in script.split("\n") if l and not l.startswith("#")]
+    return [line for line in script.split("\n") if line and not line.startswith("#")]
 
 
 def spelled(packet):
@@ -418,7 +422,7 @@ def spelled(packet):
 
 
 def play(conf, script, ticket=0):
-    """For each event its packets' lines and its refusal or None. `ticket` is each realm's first one."""
+    """For each event its packets' lines and its refusal or None, from that first ticket on."""
     broker = Broker(Config(conf))
     for realm in broker.realms:
         realm.ticket = ticket
@@ -447,7 +451,8 @@ def main(words):
     elif how == "--events":
         for line, (lines, refusal) in zip(events_of(script), played):
             print(line[:100])
-            print("   ", "-" if refusal is None else refusal, *(["=> " + l for l in lines]), sep="  ")
+            number = "-" if refusal is None else refusal
+            print("   ", number, *("=> " + line for line in lines), sep="  ")
     else:
         print(expected_text(played), end="")
 

@@ -5,7 +5,8 @@ seed = "{seed}"
 auth = "127.0.0.1:1812"
 acct = "127.0.0.1:1813"
 trace_limit = {trace_limit}
-
+'''
+NAS1 = '''
 [[peer]]
 name = "nas1"
 ip = "192.0.2.1"
@@ -13,6 +14,39 @@ secret = "xyzzy5461"
 coa = "192.0.2.1:3799"
 nas_ip = "192.0.2.1"
 nas_id = "nas1"
+'''
+# An access server that can't be reached by Disconnect and CoA, and whose Access-Requests must be sealed.
+NAS2 = '''
+[[peer]]
+name = "nas2"
+ip = "192.0.2.2"
+secret = "s"
+require_seal = true
+'''
+# Access servers that Disconnect and CoA reach by name alone, and by address alone.
+NAS3 = '''
+[[peer]]
+name = "nas3"
+ip = "192.0.2.3"
+secret = "0123456789abcdef0123456789abcdef0123456789abcdef0123456789abcdef"
+coa = "192.0.2.3:3799"
+nas_id = "n"
+'''
+NAS4 = '''
+[[peer]]
+name = "nas4"
+ip = "192.0.2.4"
+secret = "k4"
+coa = "192.0.2.1:3798"
+nas_ip = "192.0.2.3"
+'''
+# One that is known by name, and has no `coa`.
+NAS5 = '''
+[[peer]]
+name = "nas5"
+ip = "192.0.2.5"
+secret = "k5"
+nas_id = "nas5"
 '''
 REALM = '''
 [[realm]]
@@ -23,18 +57,20 @@ tries = {tries}
 wait = {wait}
 hold = {hold}
 max_pending = {max_pending}
-max_sessions = 100
+max_sessions = {max_sessions}
 '''
 SERVER = '''
 [[realm.server]]
-auth = "{ip}:1812"
-acct = "{ip}:1813"
+auth = "{auth}"
+acct = "{acct}"
 secret = "{secret}"
 '''
 
 
-def server(ip, secret):
-    return SERVER.format(ip=ip, secret=secret)
+def server(ip, secret, auth=":1812", acct=":1813"):
+    """A home server; where they aren't said its endpoints have the usual ports."""
+    endpoints = (end if end[0] != ":" else ip + end for end in (auth, acct))
+    return SERVER.format(secret=secret, auth=next(endpoints), acct=next(endpoints))
 
 
 def servers(count):
@@ -42,17 +78,18 @@ def servers(count):
     return [server(f"198.51.100.{n}", f"h{n}") for n in range(1, count + 1)]
 
 
-def realm(name, servers, tries=2, wait=1000, hold=5000, max_pending=300):
+def realm(name, servers, tries=2, wait=1000, hold=5000, max_pending=300, max_sessions=100):
     """A realm as a function of its index."""
     def table(index):
         return REALM.format(name=name, out=2000 + index, reverse=3000 + index, tries=tries, wait=wait,
-                            hold=hold, max_pending=max_pending) + "".join(servers)
+                            hold=hold, max_pending=max_pending,
+                            max_sessions=max_sessions) + "".join(servers)
     return table
 
 
-def configuration(*realms, shards=1, trace_limit=1000, ip="127.0.0.1"):
+def configuration(*realms, shards=1, trace_limit=1000, ip="127.0.0.1", peers=(NAS1,), seed="0" * 64):
     """A configuration of these realms, whose own sockets have this address."""
-    text = TOP.format(shards=shards, seed="0" * 64, trace_limit=trace_limit)
+    text = TOP.format(shards=shards, seed=seed, trace_limit=trace_limit) + "".join(peers)
     text += "".join(table(index) for index, table in enumerate(realms))
     return text.replace('"127.0.0.1:', f'"{ip}:')
 
@@ -72,6 +109,9 @@ def small(names, count, shards=1, **keys):
     return configuration(*(realm(n, servers(count), **keys) for n in names), shards=shards)
 
 
+# A home server whose secret has the most octets.
+LONG_SECRET = server("198.51.100.2", "0123456789abcdef" * 4)
+
 # Another world for the second realm: other endpoints, another first realm with a secret of its own at the same
 # server, and realms behind.
 OTHER_WORLD = configuration(
@@ -84,6 +124,18 @@ OTHER_WORLD = configuration(
 
 CONFIGURATIONS = {
     "one-server": one(),
+    "seal-required": configuration(realm("a.example", servers(1)), peers=(NAS1 + "require_seal = true\n",)),
+    "no-session": one(max_sessions=0),
+    "one-session": one(max_sessions=1),
+    "access-servers": configuration(realm("a.example", servers(1)), peers=(NAS1, NAS3, NAS4, NAS5)),
+    "access-servers-of-two-sessions": configuration(
+        realm("a.example", servers(1), max_sessions=2), peers=(NAS1, NAS3)),
+    "access-servers-of-many-places": configuration(
+        realm("a.example", servers(1), max_pending=4096), peers=(NAS1, NAS3)),
+    "home-servers": configuration(
+        realm("a.example", [*servers(1), server("198.51.100.1", "h2", ":1912", "198.51.100.9:1913"),
+                            server("198.51.100.9", "h3")]),
+        realm("b.example", [server("198.51.100.1", "zz")])),
     "no-hold": one(hold=0),
     "short-hold": one(2, hold=1000),
     "four-tries": one(tries=4, wait=10),
@@ -95,6 +147,8 @@ CONFIGURATIONS = {
     "one-try-at-two-servers": one(2, tries=1, max_pending=4096),
     "one-try-at-three-servers": one(3, tries=1, wait=1),
     "two-realms": many("ab"),
+    "two-realms-of-200-places": many("ab", max_pending=200),
+    "three-realms-of-one-server": many("abc"),
     "two-shards": configuration(realm("a.example", servers(1)),
                                 realm("b.example", servers(1), wait=500, tries=3), shards=2),
     "two-shards-and-one-realm": configuration(realm("a.example", servers(1), max_pending=1), shards=2),
@@ -118,4 +172,27 @@ CONFIGURATIONS = {
         realm("a", servers(2), wait=10, hold=30, tries=1, max_pending=4),
         realm("b", servers(3), wait=5, hold=20, tries=2, max_pending=3),
         realm("c", servers(2)[::-1], wait=20, hold=10, tries=3, max_pending=5), shards=2),
+    "access": configuration(
+        realm("a", [*servers(1), LONG_SECRET], wait=10, hold=20, max_pending=4),
+        peers=(NAS1, NAS2), seed="0123456789abcdef" * 4),
+    "access-and-shared": configuration(
+        realm("a", servers(1), wait=10, hold=5, max_pending=3),
+        realm("b", servers(1), wait=15, hold=0, tries=1, max_pending=3), peers=(NAS1, NAS2), seed="fF" * 32),
+    "access-in-two-shards": configuration(
+        realm("a", [LONG_SECRET, *servers(1)], wait=10, hold=30, tries=1, max_pending=4),
+        realm("b", servers(2), wait=5, hold=20, tries=2, max_pending=3),
+        realm("c", [server("198.51.100.1", "k")], wait=20, hold=10, tries=3, max_pending=2), shards=2),
+    "all": configuration(
+        realm("a", [*servers(1), LONG_SECRET], wait=10, hold=20, max_pending=5, max_sessions=2),
+        peers=(NAS1, NAS3, NAS5), seed="5a" * 32),
+    "all-and-shared": configuration(
+        realm("a", servers(2), wait=10, hold=5, max_pending=4, max_sessions=1),
+        realm("b", servers(2), wait=15, hold=0, tries=1, max_pending=4, max_sessions=0),
+        peers=(NAS2, NAS1), seed="00ff" * 16),
+    "all-in-two-shards": configuration(
+        realm("a", [*servers(1), server("198.51.100.1", "h2", ":1912", "198.51.100.9:1913")], wait=10, hold=0,
+              max_pending=5, max_sessions=3),
+        realm("b", [server("198.51.100.1", "zz")], wait=8, hold=20, tries=1, max_pending=3, max_sessions=1),
+        realm("c", [LONG_SECRET, *servers(1)], wait=12, hold=10, max_pending=5, max_sessions=2),
+        peers=(NAS5, NAS4, NAS1, NAS3), seed="9" * 64, shards=2),
 }

@@ -1,5 +1,6 @@
-"""Packets, spelled by the formulas of RFC 2865, RFC 2866 and RFC 3579. Nothing here is taken from the project's
-code, nor from broker.py.
+"""Packets, spelled by the formulas of RFC 2865, RFC 2866, RFC 2868, RFC 2548, RFC 3579 and RFC 5176.
+
+Nothing here is taken from the project's code, nor from broker.py.
 """
 import hashlib
 import hmac
@@ -10,6 +11,8 @@ Z = bytes(16)
 NAS, NAS2 = "192.0.2.1:5000", "192.0.2.1:5001"
 S1, S2, S3 = "198.51.100.1:1813", "198.51.100.2:1813", "198.51.100.3:1813"
 S1_AUTH, COA = "198.51.100.1:1812", "192.0.2.1:3799"
+# Where the first home server's Disconnects and CoAs come from.
+HOME = "198.51.100.1:40000"
 STRANGER = "192.0.2.9:5000"
 START, STOP, INTERIM, ON, OFF = (b"\x28\x06" + n.to_bytes(4, "big") for n in (1, 2, 3, 7, 8))
 SESSION = bytes.fromhex("2c043031")
@@ -89,9 +92,9 @@ def sent(octets, to=S1, realm=0):
     return f"{realm} out:{realm} {to} {octets.hex()}"
 
 
-def given_back(octets, to=NAS, realm=0):
+def given_back(octets, to=NAS, realm=0, place="acct"):
     """The line of a packet that is returned."""
-    return f"{realm} acct {to} {octets.hex()}"
+    return f"{realm} {place} {to} {octets.hex()}"
 
 
 # The packets of most rows: three requests, the first as forwarded, its reply, and what is returned for each.
@@ -104,3 +107,100 @@ s2 = forward(q5, 0, 0, H2)
 # A Proxy-State of an access server, and a Message-Authenticator that is right for nothing.
 ps = b"\x21\x03\xaa"
 mac = b"\x50\x12" + bytes(range(16))
+
+
+# Access
+
+# The first 128 octets of ChaCha20's stream 0 under a key of zeros, as they are published, and the first 60 of stream 1:
+# the Request Authenticators of the first eight Access-Requests that a realm forwards.
+STREAMS = [bytes.fromhex(
+    "76b8e0ada0f13d90405d6ae55386bd28bdd219b8a08ded1aa836efcc8b770dc7"
+    "da41597c5157488d7724e03fb8d84a376a43b8f41518a11cc387b669b2ee6586"
+    "9f07e7be5551387a98ba977c732d080dcb0f29a048e3656912c6533e32ee7aed"
+    "29b721769ce64e43d57133b074d839d531ed1f28510afb45ace10a1f4b794d6f"), bytes.fromhex(
+    "ef3fdfd6c61578fbf5cf35bd3dd33b8009631634d21e42ac33960bd138e50d32"
+    "111e4caf237ee53ca8ad6426194a88545ddc497a0b466e7d6bbdb004")]
+# A Request Authenticator of an access server.
+Q = bytes.fromhex("0f403f9473978057bd83d5cb98f4227a")
+S2_AUTH, S3_AUTH = "198.51.100.2:1812", "198.51.100.3:1812"
+
+
+def K(number, realm=0):
+    """The Request Authenticator of the Access-Request that a realm forwards as its first, second, ..."""
+    words = STREAMS[realm][16 * number:16 * number + 16]
+    assert len(words) == 16
+    return words
+
+
+def attribute(kind, value):
+    return bytes([kind, len(value) + 2]) + value
+
+
+def access(id, attributes, authenticator=Q):
+    """An Access-Request without a Message-Authenticator, or with one that stands in the list."""
+    return header(1, id, attributes) + authenticator + attributes
+
+
+def forward_access(attributes, id, ticket, words=None, secret=H1, realm=0):
+    """The Access-Request that is forwarded with this list; its words are the ticket's where they aren't said."""
+    words = K(ticket, realm) if words is None else words
+    attributes = seal(1, id, words, b"", attributes + T(ticket), secret)
+    return header(1, id, attributes) + words + attributes
+
+
+def access_back(req, code, attributes=b"", key=P):
+    """What the access server gets for its Access-Request, with this list."""
+    attributes = seal(code, req[1], req[4:20], b"", attributes, key)
+    head = header(code, req[1], attributes)
+    return head + md5(head, req[4:20], attributes, key) + attributes
+
+
+def rejected(req, proxy_states=b"", to=NAS):
+    """The line of a local Access-Reject."""
+    return f"- auth {to} {access_back(req, 3, proxy_states).hex()}"
+
+
+def hide(plain, secret, start):
+    """RFC 2865 section 5.2, RFC 2868 section 3.5: hidden, of whole blocks."""
+    hidden = b""
+    while plain:
+        pad, block, plain = md5(secret, start), plain[:16], plain[16:]
+        start = bytes(a ^ b for a, b in zip(pad, block))
+        hidden += start
+    return hidden
+
+
+def password(plain, secret, authenticator):
+    """User-Password."""
+    return attribute(2, hide(plain, secret, authenticator))
+
+
+def tunnel(tag, salt, plain, secret, authenticator):
+    """Tunnel-Password (RFC 2868 section 3.5)."""
+    return attribute(69, tag + salt + hide(plain, secret, authenticator + salt))
+
+
+def key(kind, salt, plain, secret, authenticator):
+    """MS-MPPE-Send-Key (16) or MS-MPPE-Recv-Key (17) in a Vendor-Specific (RFC 2548 section 2.4)."""
+    return attribute(kind, salt + hide(plain, secret, authenticator + salt))
+
+
+def microsoft(*subs):
+    return attribute(26, bytes([0, 0, 1, 55]) + b"".join(subs))
+
+
+# Disconnect and CoA
+
+def reverse(code, id, attributes, secret=H1):
+    return request(id, attributes, secret, code)
+
+
+def reverse_back(req, code, attributes=b"", secret=H1):
+    """What a home server gets for its Disconnect or CoA, with this list."""
+    head = header(code, req[1], attributes)
+    return head + md5(head, req[4:20], attributes, secret) + attributes
+
+
+def refused_with(cause, req, proxy_states=b"", secret=H1):
+    """The NAK for a Disconnect or CoA."""
+    return reverse_back(req, req[0] + 2, attribute(101, cause.to_bytes(4, "big")) + proxy_states, secret)

@@ -5,9 +5,6 @@ from broker import PROXY_STATE, SEAL, ZEROS, signed, sealed, text
 from configurations import CONFIGURATIONS
 from row import played
 
-# Each file of random scripts: its configuration, the first seed and how many scripts it has.
-FILES = {"small": (1, 200), "small-and-shared": (1001, 200), "small-in-two-shards": (2001, 200)}
-EVENTS = 24
 PEER = "192.0.2.1"
 SECRET = b"xyzzy5461"
 USER_NAME, CLASS, STATUS, SESSION = 1, 25, 40, 44
@@ -25,6 +22,7 @@ def signed_as_it_is(code, id, authenticator, attributes, secret):
 
 class Script:
     """A script while it is made. Its broker knows what waits, so that most of what is made has an effect."""
+    EVENTS = 24
 
     def __init__(self, configuration, seed):
         self.random = random.Random(seed)
@@ -33,7 +31,7 @@ class Script:
         self.now = 0
         self.asked, self.sent = [], []
         self.lines = [f"#@ {configuration} seed {seed}"]
-        while sum(not line.startswith("#") for line in self.lines) < EVENTS:
+        while sum(not line.startswith("#") for line in self.lines) < self.EVENTS:
             self.now += self.random.choice((0, 0, 1, 2, 5, 12))
             self.random.choices(self.KINDS, self.WEIGHTS)[0](self)
 
@@ -203,11 +201,3 @@ class Script:
     KINDS = (request, repeat, bad_request, reply, late_reply, bad_reply, tick, late_tick, no_shard, too_late)
     WEIGHTS = (26, 12, 8, 18, 6, 9, 14, 4, 1, 2)
 
-
-def file_text(configuration):
-    first, count = FILES[configuration]
-    lines = [f"# Random: written by rows/random_scripts.py and answered by rows/broker.py, seeds {first} to "
-             f"{first + count - 1}."]
-    for seed in range(first, first + count):
-        lines += Script(configuration, seed).lines
-    return "".join(line + "\n" for line in lines)

@@ -1,7 +1,7 @@
 """Rows in the form of crates/roam_rows/data, and what a broker written apart answers to them."""
 import broker
 from configurations import CONFIGURATIONS
-from formulas import NAS, S1
+from formulas import HOME, NAS, S1
 
 
 class Differs(Exception):
@@ -48,6 +48,12 @@ class Row:
 
     def arrive(self, now, octets, expected, what, place="acct", source=NAS, probe=False):
         self.note(what, f"A {now} {place} {source} {octets.hex() or '-'}", expected, probe)
+
+    def access(self, now, octets, expected, what, source=NAS, probe=False):
+        self.arrive(now, octets, expected, what, "auth", source, probe)
+
+    def reverse(self, now, octets, expected, what, realm=0, source=HOME, probe=False):
+        self.arrive(now, octets, expected, what, f"reverse:{realm}", source, probe)
 
     def reply(self, now, octets, expected, what, realm=0, source=S1, probe=False):
         self.arrive(now, octets, expected, what, f"out:{realm}", source, probe)

@@ -1,6 +1,6 @@
 //! Access-Requests as they are forwarded, against octets from outside: computed apart, with Python's
 //! hashlib and hmac, from the formulas of RFC 2865 (sections 2.3, 5.2 and 5.40) and RFC 3579 (section
-//! 3.2). The first two are the examples of RFC 2865, section 7.
+//! 3.2). The first four are the examples of RFC 2865, section 7.
 
 use crate::exchanges::{ACCESS_SERVER, octets};
 use roam_fwd::{can_be_forwarded, forward, forwarded_len};
@@ -20,7 +20,7 @@ struct Row {
     forwarded: &'static str,
 }
 
-const ROWS: [Row; 12] = [
+const ROWS: [Row; 14] = [
     // The PAP request of RFC 2865, section 7.1.
     Row {
         request: "010000380f403f9473978057bd83d5cb98f4227a01066e656d6f02120dbe708d93d413ce3196e43f782a0aee0406c0a80110050600000003",
@@ -38,6 +38,23 @@ const ROWS: [Row; 12] = [
         authenticator: "000102030405060708090a0b0c0d0e0f",
         ticket: 0,
         forwarded: "01000075000102030405060708090a0b0c0d0e0f50120abe5df35c466dc9928c4c9698972f220108666c6f707379031316e97557c316185895f293ff63440772750406c0a801100506000000140606000000020706000000013c122aee86f08d0d55969ca5978e0d3367a2210a0000000000000000",
+    },
+    // The two requests of RFC 2865, section 7.3: the user's name, and what answers the Challenge.
+    Row {
+        request: "01020039f3a47a1f6a6d76710b947ab93041a03901076d6f707379021233657573778289b570885e15084825c50406c0a80110050600000007",
+        secret: b"h1",
+        id: 2,
+        authenticator: "000102030405060708090a0b0c0d0e0f",
+        ticket: 7,
+        forwarded: "01020055000102030405060708090a0b0c0d0e0f5012b19767504e952f884d85e8893dabd04301076d6f70737902121090065c24671fc80d76cfac0a16eb330406c0a80110050600000007210a0000000000000007",
+    },
+    Row {
+        request: "01030043b122556d428a13d0d6253807c457ecf001076d6f7073790212692c1f205fc081b919b95195f561a5810406c0a80110050600000007180a3332373639343330",
+        secret: b"h1",
+        id: 3,
+        authenticator: "000102030405060708090a0b0c0d0e0f",
+        ticket: 8,
+        forwarded: "0103005f000102030405060708090a0b0c0d0e0f5012da446bea7381bbfdeaba0cc0d2874bbf01076d6f70737902124ac156007936479d6876cfac0a16eb330406c0a80110050600000007180a3332373639343330210a0000000000000008",
     },
     // A User-Password, with the first four words of a stream as Authenticator.
     Row {

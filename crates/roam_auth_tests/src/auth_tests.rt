@@ -109,6 +109,51 @@ fn the_access_accept_of_the_rfc_is_signed(rt: HostRuntime) {
     }
 }
 
+/// Replies that are published, and the Request Authenticator of the request for each: the examples of
+/// RFC 2865, sections 7.1 to 7.3, and of RFC 5997, sections 6.1 and 6.2.
+const PUBLISHED_REPLIES: [(&str, [u8; 16]); 6] = [
+    (ACCEPT, REQUEST),
+    (
+        "0201003815efbc7dab26cfa3dc34d9c03c8601a40606000000020706000000010806fffffffe0a06000000020d06000000010c06000005dc",
+        *b"\x2a\xee\x86\xf0\x8d\x0d\x55\x96\x9c\xa5\x97\x8e\x0d\x33\x67\xa2",
+    ),
+    (
+        "0b02004e36f3c8764ae8c71157403c0c71ff9c4512304368616c6c656e67652033323736393433302e2020456e74657220726573706f6e73652061742070726f6d70742e180a3332373639343330",
+        *b"\xf3\xa4\x7a\x1f\x6a\x6d\x76\x71\x0b\x94\x7a\xb9\x30\x41\xa0\x39",
+    ),
+    (
+        "03030014a42f4fca45916c4e09c8340f9e746aa0",
+        *b"\xb1\x22\x55\x6d\x42\x8a\x13\xd0\xd6\x25\x38\x07\xc4\x57\xec\xf0",
+    ),
+    (
+        "02da0014ef0d552a4bf2d693ec2b6fe8b5411d66",
+        *b"\x8a\x54\xf4\x68\x6f\xb3\x94\xc5\x28\x66\xe3\x02\x18\x5d\x06\x23",
+    ),
+    (
+        "05b300140f6f92145f107e2f504e860a4860669c",
+        *b"\x92\x5f\x6b\x66\xdd\x5f\xed\x57\x1f\xcb\x1d\xb7\xad\x38\x82\x60",
+    ),
+];
+
+/// Whether a reply is signed over this Authenticator, and not over its own.
+fn is_signed_over(text: &str, over: [u8; 16]) -> [bool; 2] {
+    let mut room = [0; 160];
+    match View::read(octets(text, &mut room)) {
+        Ok(view) => [
+            response_ok(&view, over, &SECRET),
+            !response_ok(&view, view.authenticator(), &SECRET),
+        ],
+        Err(_) => [false; 2],
+    }
+}
+
+#[test]
+fn published_replies_are_signed(rt: HostRuntime) {
+    for &(text, over) in &PUBLISHED_REPLIES {
+        assert!(rt; is_signed_over(text, over) == [true; 2], "{text}");
+    }
+}
+
 /// A request, its Request Authenticator and the secret.
 const SIGNED: [(&str, [u8; 16], &[u8]); 2] = [
     (
@@ -152,9 +197,10 @@ fn accounting_and_reverse_requests_are_signed(rt: HostRuntime) {
 }
 
 /// A packet, the Authenticator that its Message-Authenticator is over, that attribute's Value, and the
-/// octet at which that begins. The last one's Authenticator is that of the Accounting-Request to which
-/// the response belongs.
-const SEALED: [(&str, [u8; 16], [u8; 16], usize); 3] = [
+/// octet at which that begins. The third one's Authenticator is that of the Accounting-Request to which
+/// the response belongs. The last three are published: the Status-Server packets of RFC 5997, sections
+/// 6.1 to 6.3, sealed over their own Authenticators.
+const SEALED: [(&str, [u8; 16], [u8; 16], usize); 6] = [
     (
         SEALED_ACCESS,
         REQUEST,
@@ -172,6 +218,24 @@ const SEALED: [(&str, [u8; 16], [u8; 16], usize); 3] = [
         *b"\x12\x9c\x88\x8b\x36\x52\x1a\xe6\xbb\xa9\x9f\xcd\xd4\xff\x61\x3f",
         *b"\x77\xa6\x18\x68\x69\xe0\x28\x27\xc2\x56\x37\x20\x75\xd6\x43\x58",
         22,
+    ),
+    (
+        "0cda00268a54f4686fb394c52866e302185d062350125a665e2e1e8411f3e243822097c84fa3",
+        *b"\x8a\x54\xf4\x68\x6f\xb3\x94\xc5\x28\x66\xe3\x02\x18\x5d\x06\x23",
+        *b"\x5a\x66\x5e\x2e\x1e\x84\x11\xf3\xe2\x43\x82\x20\x97\xc8\x4f\xa3",
+        22,
+    ),
+    (
+        "0cb30026925f6b66dd5fed571fcb1db7ad3882605012e8d6eabda910875cd91fdade26367858",
+        *b"\x92\x5f\x6b\x66\xdd\x5f\xed\x57\x1f\xcb\x1d\xb7\xad\x38\x82\x60",
+        *b"\xe8\xd6\xea\xbd\xa9\x10\x87\x5c\xd9\x1f\xda\xde\x26\x36\x78\x58",
+        22,
+    ),
+    (
+        "0c47002cbf58de56ae408ad3b70c8513f9b03fbe0406c00002105012852d6fec61e7ed74b8e32dac2f2a5fb2",
+        *b"\xbf\x58\xde\x56\xae\x40\x8a\xd3\xb7\x0c\x85\x13\xf9\xb0\x3f\xbe",
+        *b"\x85\x2d\x6f\xec\x61\xe7\xed\x74\xb8\xe3\x2d\xac\x2f\x2a\x5f\xb2",
+        28,
     ),
 ];
 
@@ -199,7 +263,7 @@ fn seal_facts(text: &str, over: [u8; 16], seal: [u8; 16], place: usize, bit: u8)
 // As it stands, and with one bit changed of the first octet of its seal, and of the last.
 #[test]
 fn packets_are_well_sealed(rt: HostRuntime) {
-    for (text, over, seal, at) in SEALED {
+    for &(text, over, seal, at) in &SEALED {
         let facts = [
             seal_facts(text, over, seal, at, 0),
             seal_facts(text, over, seal, at, 1),

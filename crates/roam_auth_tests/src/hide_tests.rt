@@ -80,6 +80,32 @@ fn passwords_are_hidden_anew(rt: HostRuntime) {
     }
 }
 
+/// Passwords of RFC 2865, section 7.3, "challenge" and "99101462": the Request Authenticator with which
+/// the secret `xyzzy5461` hides them there, so hidden, and as hidden by H.
+const PUBLISHED_PASSWORDS: [([u8; 16], &str, &str); 2] = [
+    (
+        *b"\xf3\xa4\x7a\x1f\x6a\x6d\x76\x71\x0b\x94\x7a\xb9\x30\x41\xa0\x39",
+        "33657573778289b570885e15084825c5",
+        "57b72a8f28de4af3295839d6fdd73965",
+    ),
+    (
+        *b"\xb1\x22\x55\x6d\x42\x8a\x13\xd0\xd6\x25\x38\x07\xc4\x57\xec\xf0",
+        "692c1f205fc081b919b95195f561a581",
+        "0de67ad3758f12a64c5839d6fdd73965",
+    ),
+];
+
+#[test]
+fn published_passwords_are_hidden_anew(rt: HostRuntime) {
+    for (authenticator, by_rfc, by_h) in &PUBLISHED_PASSWORDS {
+        let rfc = HidingKey {
+            secret: b"xyzzy5461",
+            authenticator,
+        };
+        assert!(rt; is_password_anew(by_rfc, rfc, by_h, h()), "{by_rfc}");
+    }
+}
+
 /// Sizes of passwords, and whether they fit.
 const SIZES: [(usize, bool); 14] = [
     (0, false),
@@ -105,12 +131,17 @@ fn passwords_of_these_sizes_fit(rt: HostRuntime) {
     }
 }
 
-/// An octet 10 for the length, "tunnelpass" and five zero octets, behind a tag and the salt 8001; then
-/// values that stay.
-const TUNNEL_PASSWORDS: [(&str, &str); 9] = [
+/// An octet 10 for the length, "tunnelpass" and five zero octets, behind a tag and the salt 8001; another
+/// one; then values that stay.
+const TUNNEL_PASSWORDS: [(&str, &str); 10] = [
     (
         "018001fc50ccfc9e7381f17368dfe1fb771c90",
         "018001cd3ba3160b74f387a6755c09e6838723",
+    ),
+    // Three blocks: an octet 40 for the length, the octets 0 to 39, and seven zero octets; the salt ffff.
+    (
+        "01ffffaf1c99491879fa30660032135bc189952e988824d84312e4b42e88dac924af443062916447a4437981381336f7af980f",
+        "01ffff91c206ad664076503de8a77eb983334789804b360b375e71f5282e5bf4d3fe913ec0b701679f344668594403dd0c9675",
     ),
     // Strings of no octets, 15 and 24 octets.
     ("018001", "018001"),
@@ -146,7 +177,7 @@ fn is_tunnel_anew(from_home_server: &str, to_access_server: &str) -> bool {
 
 #[test]
 fn tunnel_passwords_are_hidden_anew(rt: HostRuntime) {
-    for (from_home_server, to_access_server) in TUNNEL_PASSWORDS {
+    for &(from_home_server, to_access_server) in &TUNNEL_PASSWORDS {
         assert!(rt;
             is_tunnel_anew(from_home_server, to_access_server),
             "{from_home_server}"

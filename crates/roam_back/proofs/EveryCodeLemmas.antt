@@ -155,7 +155,7 @@ only-without kind (a ∷ all) =
       | inr further ↦ rw (further, further) (only-without kind all)
     ]
 
-only-only : (kind : ℕ) (all : List Attribute) → only_kind kind (only_kind kind all) ≡ only_kind kind all
+pub only-only : (kind : ℕ) (all : List Attribute) → only_kind kind (only_kind kind all) ≡ only_kind kind all
 only-only kind [] = refl
 only-only kind (a ∷ all) =
     elim (cases_Bool (has_kind kind a)) [

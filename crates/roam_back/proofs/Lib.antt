@@ -5,3 +5,4 @@ pub mod ReturnedLemmas
 pub mod EveryCodeLemmas
 pub mod PlainLemmas
 pub mod CarriedLemmas
+pub mod NakLemmas

@@ -3,3 +3,5 @@ pub mod Returned
 pub mod ReturnedLaws
 pub mod Plain
 pub mod CarriedLaws
+pub mod Nak
+pub mod NakLaws

@@ -67,7 +67,7 @@ fn carried_len(reply: &View<'_>, access: bool) -> usize
 }
 
 /// How many octets a packet's Proxy-States take. One pass.
-fn proxy_states_len(request: &View<'_>) -> usize
+pub(crate) fn proxy_states_len(request: &View<'_>) -> usize
     ensures all { result ≡ length (attributes_text (only_kind PROXY_STATE request.now.attributes)) }
     ensures few { result ≤ 4076 }
     ensures packet { IsPacket request.now }
@@ -93,8 +93,19 @@ pub(crate) fn returned_len(reply: &View<'_>, request: &View<'_>) -> usize
     20 + seal_len(access) + carried_len(reply, access) + proxy_states_len(request)
 }
 
+/// Appends octets where the room is there.
+fn append_reserved<A: Allocator>(out: &mut Vec<u8, A>, octets: &[u8])
+    requires { vec_len out.old + length octets.now ≤ vec_capacity out.old }
+    ensures items { out.new.items ≡ out.old.items ++ octets.now }
+    ensures capacity { vec_capacity out.new ≡ vec_capacity out.old }
+{
+    for octet in octets {
+        out.push_reserved(*octet);
+    }
+}
+
 /// Appends a packet's header: Code, Identifier, Length, Authenticator (RFC 2865, section 3).
-fn append_header<A: Allocator>(
+pub(crate) fn append_header<A: Allocator>(
     out: &mut Vec<u8, A>,
     code: u8,
     id: u8,
@@ -105,33 +116,31 @@ fn append_header<A: Allocator>(
     requires size { size ≤ 4096 }
     ensures items { out.new.items
         ≡ out.old.items ++ code ∷ id ∷ (size / 256) ∷ (size % 256) ∷ authenticator.now }
-    ensures capacity { vec_capacity out.old ≤ vec_capacity out.new }
+    ensures capacity { vec_capacity out.new ≡ vec_capacity out.old }
 {
-    out.extend_from_slice(&[code, id, (size / 256) as u8, (size % 256) as u8])
-        .unwrap();
-    out.extend_from_slice(authenticator).unwrap();
+    append_reserved(out, &[code, id, (size / 256) as u8, (size % 256) as u8]);
+    append_reserved(out, authenticator);
 }
 
 /// Appends an attribute: Type, Length, Value (RFC 2865, section 5).
-fn append_attribute<A: Allocator>(out: &mut Vec<u8, A>, attribute: Attr<'_>)
+pub(crate) fn append_attribute<A: Allocator>(out: &mut Vec<u8, A>, attribute: Attr<'_>)
     requires short { IsAttribute (shown attribute) }
     requires room { vec_len out.old + 2 + length attribute.value.now ≤ vec_capacity out.old }
     ensures items { out.new.items ≡ out.old.items ++ attribute_text (shown attribute.entry) }
-    ensures capacity { vec_capacity out.old ≤ vec_capacity out.new }
+    ensures capacity { vec_capacity out.new ≡ vec_capacity out.old }
 {
-    out.extend_from_slice(&[attribute.kind, attribute.value.len() as u8 + 2])
-        .unwrap();
-    out.extend_from_slice(attribute.value).unwrap();
+    append_reserved(out, &[attribute.kind, attribute.value.len() as u8 + 2]);
+    append_reserved(out, attribute.value);
 }
 
 /// Appends a Message-Authenticator that is still to be filled in, to an Access reply.
 fn append_seal<A: Allocator>(out: &mut Vec<u8, A>, access: bool)
     requires { vec_len out.old + length (attributes_text (first_seal access)) ≤ vec_capacity out.old }
     ensures items { out.new.items ≡ out.old.items ++ attributes_text (first_seal access) }
-    ensures capacity { vec_capacity out.old ≤ vec_capacity out.new }
+    ensures capacity { vec_capacity out.new ≡ vec_capacity out.old }
 {
     if access {
-        out.extend_from_slice(&EMPTY_SEAL).unwrap();
+        append_reserved(out, &EMPTY_SEAL);
     }
 }
 
@@ -142,7 +151,7 @@ fn append_carried<A: Allocator>(out: &mut Vec<u8, A>, reply: &View<'_>, access: 
         ≤ vec_capacity out.old }
     ensures items { out.new.items
         ≡ out.old.items ++ attributes_text (filter (is_carried access) reply.now.attributes) }
-    ensures capacity { vec_capacity out.old ≤ vec_capacity out.new }
+    ensures capacity { vec_capacity out.new ≡ vec_capacity out.old }
 {
     for next in reply.attributes() {
         if is_carried(&next, access) {
@@ -152,13 +161,13 @@ fn append_carried<A: Allocator>(out: &mut Vec<u8, A>, reply: &View<'_>, access: 
 }
 
 /// Appends a packet's Proxy-States, in their order (RFC 2865, section 5.33).
-fn append_proxy_states<A: Allocator>(out: &mut Vec<u8, A>, request: &View<'_>)
+pub(crate) fn append_proxy_states<A: Allocator>(out: &mut Vec<u8, A>, request: &View<'_>)
     requires { vec_len out.old
         + length (attributes_text (only_kind PROXY_STATE request.now.attributes))
         ≤ vec_capacity out.old }
     ensures items { out.new.items
         ≡ out.old.items ++ attributes_text (only_kind PROXY_STATE request.now.attributes) }
-    ensures capacity { vec_capacity out.old ≤ vec_capacity out.new }
+    ensures capacity { vec_capacity out.new ≡ vec_capacity out.old }
 {
     for next in request.attributes() {
         if next.kind == PROXY_STATE {

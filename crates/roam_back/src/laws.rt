@@ -1,8 +1,9 @@
-//! Laws of taken replies and of the returned packet, whatever the reply's code. These functions do
-//! nothing: their contracts hold of all replies and requests.
+//! Laws of taken replies, of the returned packet, whatever the reply's code, and of the NAK. These
+//! functions do nothing: their contracts hold of all replies and requests.
 
 ghost use Rattle.roam_back.specs.ReplyCheck.{TakenHasNoFault};
 ghost use Rattle.roam_back.specs.CarriedLaws.{AcceptCarriesAll, AccessCarriesAll, OthersAreCarried};
+ghost use Rattle.roam_back.specs.NakLaws.{NakIsPacket, NakReads, NakHasLength, NakIsShort, NakAnswers, NakHasIdentifier, NakIsSigned, NakHasNoSeal, NakHasOneCause, NakTellsCause, NakHasProxyStates, NakHasNothingElse, NothingElseCounts};
 ghost use Rattle.roam_back.specs.ReturnedLaws.{ReturnedIsPacket, ReturnedReads, ReturnedHasLength, ReturnedIsSigned, ReturnedIsWellSealed, AccessIsSealed, AccessHasSealFirst, CodeIsTheReplys, IdentifierIsTheRequests, ProxyStatesAreTheRequests};
 
 /// The tests of a reply find no fault just where it is taken (RFC 2865, section 2.3).
@@ -39,4 +40,30 @@ pub fn returned_carries()
     ensures accept { AcceptCarriesAll }
     ensures access { AccessCarriesAll }
     ensures others { OthersAreCarried }
+{}
+
+/// A NAK is a packet of the stated size, which reads (RFC 2865, section 3).
+pub fn nak_reads()
+    ensures packet { NakIsPacket }
+    ensures reads { NakReads }
+    ensures length { NakHasLength }
+    ensures short { NakIsShort }
+{}
+
+/// It answers its request, and is signed for the home server (RFC 5176, section 2.3).
+pub fn nak_answers()
+    ensures code { NakAnswers }
+    ensures id { NakHasIdentifier }
+    ensures signed { NakIsSigned }
+{}
+
+/// It carries one Error-Cause and the request's Proxy-States, and nothing else (RFC 5176, sections 2.3
+/// and 3.5).
+pub fn nak_carries()
+    ensures one_cause { NakHasOneCause }
+    ensures cause { NakTellsCause }
+    ensures proxy_states { NakHasProxyStates }
+    ensures no_seal { NakHasNoSeal }
+    ensures nothing_else { NakHasNothingElse }
+    ensures alike { NothingElseCounts }
 {}

@@ -13,14 +13,16 @@ use Rattle.roam_pending.proofs.TestLemmas.{same}
 use Rattle.roam_pending.proofs.OrderLemmas.{list-without}
 use Rattle.roam_pending.proofs.ChangeLemmas.{found-ticket, length-without}
 use Rattle.roam_pending.proofs.ClientLemmas.{done-found}
+use Rattle.roam_reverse.specs.Sessions.{Session}
+use Rattle.roam_reverse.specs.Shown.{Ledger}
 use Rattle.roam_book.specs.declared.gone.Gone.{Gone}
 use Rattle.roam_book.specs.declared.numbers.Numbers.{Numbers}
 use Rattle.roam_book.specs.NewEntry.{MakesWay, target_at}
 use Rattle.roam_book.specs.RealmConfig.{RealmConfig, IsLink}
-use Rattle.roam_book.specs.RealmState.{RealmState, Session, Target, next_toward}
+use Rattle.roam_book.specs.RealmState.{RealmState, Target, next_toward}
 use Rattle.roam_book.specs.OnRequest.{admit, position_after}
 use Rattle.roam_book.specs.Turn.{Turn}
-use Rattle.roam_book.specs.Sound.{CountsAsGone, IsEntry, IsRequest, IsSound, IsWaiting, LanesTell, StandsWell, cursors_of, gone_ticket, standing_place, tags_of}
+use Rattle.roam_book.specs.Sound.{AreOwnLanes, CountsAsGone, IsEntry, IsRequest, IsSound, IsWaiting, LanesTell, StandsWell, cursors_of, gone_ticket, standing_place, marks_of}
 use Rattle.roam_book.proofs.SendingLemmas.{position-below}
 use Rattle.roam_book.proofs.SoundLemmas.{kept-later, kept-put, kept-ticket, kept-without}
 use Rattle.roam_book.proofs.LaneLemmas.{next-tells, tells-gone}
@@ -82,8 +84,9 @@ without-done c es n t e sound found is = record {
   ticket = sound.ticket;
   stream_position = sound.stream_position;
   lane_count = sound.lane_count;
-  tags = sound.tags;
+  lanes = sound.lanes;
   lanes_tell = tells-gone c es n.lanes.items t e sound.lanes_tell found is;
+  ledger = sound.ledger;
 }
 
 pub gone-done :
@@ -102,16 +105,17 @@ without-waiting :
     {A : Type 0} (c : RealmConfig) (es : List PlainEntry) (old new : Numbers A) (t : ℕ)
     → IsSound c es old → LanesTell c (without t es) new.lanes.items → new.ticket ≡ old.ticket
     → new.stream_position ≡ old.stream_position
-    → length new.lanes.items ≡ length old.lanes.items
-    → tags_of new.lanes.items ≡ tags_of old.lanes.items → IsSound c (without t es) new
-without-waiting c es old new t sound tells ticket position count tags = record {
+    → new.sessions ≡ old.sessions → length new.lanes.items ≡ length old.lanes.items
+    → marks_of new.lanes.items ≡ marks_of old.lanes.items → IsSound c (without t es) new
+without-waiting c es old new t sound tells ticket position sessions count marks = record {
   each = subst (λ (m : ℕ). AllByRecursion (IsEntry c m) (without t es)) (sym ticket)
       (kept-without c old.ticket t es sound.each);
   ticket = subst (λ (m : ℕ). m ≤ 2 ^ 63) (sym ticket) sound.ticket;
   stream_position = subst (λ (m : ℕ). m < 2 ^ 68) (sym position) sound.stream_position;
   lane_count = count ∙ sound.lane_count;
-  tags = tags ∙ sound.tags;
+  lanes = subst (AreOwnLanes c) (sym marks) sound.lanes;
   lanes_tell = tells;
+  ledger = ap (λ (l : Ledger). l.limit) sessions ∙ sound.ledger;
 }
 
 -- the lanes no longer tell an entry whose Identifier was given back
@@ -125,11 +129,11 @@ pub gone-waiting :
     (g : Gone) (l : Link) (i : ℕ) → IsSound c es old → CountsAsGone o es → o ≡ Some g
     → g.waits_at ≡ Some (l, i) → GivenBack c old.lanes.items new.lanes.items l i
     → new.ticket ≡ old.ticket → new.stream_position ≡ old.stream_position
-    → length new.lanes.items ≡ length old.lanes.items
-    → tags_of new.lanes.items ≡ tags_of old.lanes.items → IsSound c (besides (gone_ticket o) es) new
-gone-waiting c es old new None g l i sound gone is at back ticket position count tags =
+    → new.sessions ≡ old.sessions → length new.lanes.items ≡ length old.lanes.items
+    → marks_of new.lanes.items ≡ marks_of old.lanes.items → IsSound c (besides (gone_ticket o) es) new
+gone-waiting c es old new None g l i sound gone is at back ticket position sessions count marks =
     absurd (let k : None ≡ Some g = is in cc)
-gone-waiting c es old new (Some x) g l i sound gone is at back ticket position count tags =
+gone-waiting c es old new (Some x) g l i sound gone is at back ticket position sessions count marks =
     let e = gone.0 in
     let same : x ≡ g = cc is in
     let there : x.waits_at ≡ Some (l, i) = ap (λ (y : Gone). y.waits_at) same ∙ at in
@@ -139,7 +143,7 @@ gone-waiting c es old new (Some x) g l i sound gone is at back ticket position c
     let waits = stands-there e.standing l i (sym gone.1.place ∙ there) in
     let tells = back e es sound.lanes_tell found waits in
     let told = subst (λ (t : ℕ). LanesTell c (without t es) new.lanes.items) same_ticket tells in
-    without-waiting c es old new x.ticket sound told ticket position count tags
+    without-waiting c es old new x.ticket sound told ticket position sessions count marks
 
 pub way-sound :
     {A : Type 0} (c : RealmConfig) (es : List PlainEntry) (n : Numbers A) (way : Option ℕ)
@@ -219,9 +223,9 @@ pub new-sound :
     → StandsWell c e.request e.standing → LanesTell c (put e es) new.lanes.items
     → old.ticket < 2 ^ 63 → new.ticket ≡ old.ticket + 1
     → new.stream_position ≡ position_after e.request old.stream_position
-    → length new.lanes.items ≡ length old.lanes.items
-    → tags_of new.lanes.items ≡ tags_of old.lanes.items → fs ≡ put e es → IsSound c fs new
-new-sound c es fs old new e sound ticket request well tells below next position count tags is =
+    → new.sessions ≡ old.sessions → length new.lanes.items ≡ length old.lanes.items
+    → marks_of new.lanes.items ≡ marks_of old.lanes.items → fs ≡ put e es → IsSound c fs new
+new-sound c es fs old new e sound ticket request well tells below next position sessions count marks is =
     let risen : old.ticket ≤ new.ticket = omega (arith, next) in
     let here : IsEntry c new.ticket e = record {
       ticket = omega (arith, ticket, next);
@@ -237,8 +241,9 @@ new-sound c es fs old new e sound ticket request well tells below next position 
       stream_position = subst (λ (m : ℕ). m < 2 ^ 68) (sym position)
           (position-below e.request old.stream_position sound.stream_position);
       lane_count = count ∙ sound.lane_count;
-      tags = tags ∙ sound.tags;
+      lanes = subst (AreOwnLanes c) (sym marks) sound.lanes;
       lanes_tell = subst (λ (xs : List PlainEntry). LanesTell c xs new.lanes.items) (sym is) tells;
+      ledger = ap (λ (l : Ledger). l.limit) sessions ∙ sound.ledger;
     }
 
 -- a request waits well on the link that it was forwarded to

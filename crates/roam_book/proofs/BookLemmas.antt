@@ -13,7 +13,7 @@ use Rattle.roam_book.specs.RealmConfig.{RealmConfig, link_count, realm_config}
 use Rattle.roam_book.specs.RealmState.{RealmState}
 use Rattle.roam_book.specs.Turn.{Turn, Gives, packets_of}
 use Rattle.roam_book.specs.RealmTurn.{GivesTwice}
-use Rattle.roam_book.specs.Sound.{IsSound, LanesTell, own_tags, state_of, tags_of}
+use Rattle.roam_book.specs.Sound.{AreOwnLanes, IsSound, LanesTell, state_of, marks_of}
 use Rattle.roam_book.specs.BookView.{BookView, IsBook, settings_of}
 use Rattle.roam_book.specs.declared.answer.Answer.{Answer}
 use Rattle.roam_book.specs.declared.answer.Twin.{Twin}
@@ -130,8 +130,9 @@ pub new-book : {A : Type 0} (config : Config) (realm : ℕ) (held : Held) (n : N
     → held.entries ≡ [] → c ≡ realm_config (shown config) realm → n.ticket ≡ start.ticket
     → start.ticket ≤ 2 ^ 63 → n.stream_position ≡ start.place → start.place < 2 ^ 68
     → length n.lanes.items ≡ link_count c → LanesTell c [] n.lanes.items
-    → tags_of n.lanes.items ≡ own_tags c.index (link_count c) → IsBook config realm held n
-new-book config realm held n c start configured own none is ticket most place below count free tags =
+    → AreOwnLanes c (marks_of n.lanes.items)
+    → n.sessions.limit ≡ c.realm.max_sessions → IsBook config realm held n
+new-book config realm held n c start configured own none is ticket most place below count free lanes ledger =
     record {
       configured = configured;
       own_entries = own;
@@ -140,8 +141,9 @@ new-book config realm held n c start configured own none is ticket most place be
         ticket = rw ticket most;
         stream_position = rw place below;
         lane_count = count;
-        tags = tags;
+        lanes = lanes;
         lanes_tell = free;
+        ledger = ledger;
       }));
       list = rw none (record { in_order = tt; distinct_keys = tt });
     }

@@ -2,6 +2,7 @@
 use Rattle.std.proofs.Common.{◌≡◌, ℕ, is_some, List, refl, ap, ◌∙◌}
 use Rattle.roam_pending.specs.PlainEntry.{PlainEntry, PlainRequest}
 use Rattle.roam_pending.specs.EntryList.{IsEntryList, besides}
+use Rattle.roam_reverse.specs.Shown.{Ledger}
 use Rattle.roam_book.specs.declared.numbers.Numbers.{Numbers}
 use Rattle.roam_book.specs.declared.way.Way.{Way}
 use Rattle.roam_book.specs.NewEntry.{IsWay, MakesWay, admits, cleared, left_by, once_gone}
@@ -54,5 +55,6 @@ clear-turn c es mid fs n m k way h now q is =
     let target = target-same c old new (once_gone way.gone es) fs way.link
     (way-next c es mid fs n m k way h is.done is.link) in
     admit-same c now q (state_of fs k) (state_of es n) fs (left_by way es) _ _
-    (rw h.same h.slots.ticket) (rw h.same h.slots.cursors) (rw h.same h.slots.stream_position) refl
+    (rw h.same h.slots.ticket) (rw h.same h.slots.cursors) (rw h.same h.slots.stream_position)
+    (rw h.same (ap (λ (l : Ledger). l.sessions) h.slots.sessions))
     (h.done ∙ ap (λ (xs : List PlainEntry). besides way.done xs) h.gone) target

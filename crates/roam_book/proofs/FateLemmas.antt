@@ -6,6 +6,7 @@ use Rattle.std.proofs.lemmas.Bool.Decides.{nat_tests}
 use Rattle.roam_conf.specs.declared.place.Link.{Link}
 use Rattle.roam_conf.specs.declared.place.Link.TheVariants as link
 use Rattle.roam_pending.specs.declared.entry.Standing.TheVariants as standing
+use Rattle.roam_pending.specs.declared.entry.Done.{Done}
 use Rattle.roam_pending.specs.declared.entry.Waiting.{Waiting}
 use Rattle.roam_pending.specs.PlainEntry.{PlainRequest, PlainStanding, PlainEntry, waiting, done, is_done, stands_done}
 use Rattle.roam_pending.specs.EntryList.{without, put}
@@ -16,19 +17,21 @@ use Rattle.roam_pending.proofs.ChangeLemmas.{find-passes, put-without}
 use Rattle.roam_route.specs.Admission.{PlainOut}
 use Rattle.roam_route.specs.Shown.{shown_out}
 use Rattle.roam_ids.specs.LaneState.{LaneState}
+use Rattle.roam_book.specs.declared.fate.Fate.{Fate}
 use Rattle.roam_book.specs.declared.fate.Fate.TheVariants as fate
+use Rattle.roam_reverse.specs.Shown.{Ledger}
 use Rattle.roam_book.specs.declared.numbers.Numbers.{Numbers}
 use Rattle.roam_book.specs.declared.sending.Sent.{Sent}
 use Rattle.roam_book.specs.declared.service.Service.TheVariants as service
 use Rattle.roam_book.specs.RealmConfig.{RealmConfig, IsLink, link_place, later_targets}
-use Rattle.roam_book.specs.RealmState.{Target, next_toward, first_target}
+use Rattle.roam_book.specs.RealmState.{Target, with_entries, next_toward, first_target}
 use Rattle.roam_book.specs.OnRequest.{packet_to, position_after, forwarded_octets, forwarded_entry}
 use Rattle.roam_book.specs.OnTick.{fail_over, without_entry, due_standing}
-use Rattle.roam_book.specs.Sound.{IsEntry, IsWaiting, StandsWell, IsSound, LanesTell, state_of, cursors_of, lane_of, has_free, is_open, tags_of}
-use Rattle.roam_book.specs.Fates.{IsHeld, IsFate}
+use Rattle.roam_book.specs.Sound.{AreOwnLanes, IsEntry, IsWaiting, StandsWell, IsSound, LanesTell, state_of, cursors_of, lane_of, has_free, is_open, marks_of}
+use Rattle.roam_book.specs.Fates.{GivesUp, IsHeld, IsFate, fate_entries, once_held}
 use Rattle.roam_book.proofs.SendingLemmas.{position-below}
 use Rattle.roam_book.proofs.SoundLemmas.{kept-put, kept-without, kept-ticket}
-use Rattle.roam_book.proofs.LaneLemmas.{tells-gone, tells-again, target-tells, target-next, links-are}
+use Rattle.roam_book.proofs.LaneLemmas.{tells-done, tells-gone, tells-again, target-tells, target-next, links-are}
 
 -- A realm whose entries change
 
@@ -37,20 +40,23 @@ pub record IsSameBut {A : Type 0} (old new : Numbers A) : Type 0 where
   pub count : length new.lanes.items ≡ length old.lanes.items
   pub ticket : new.ticket ≡ old.ticket
   pub stream_position : new.stream_position ≡ old.stream_position
-  pub tags : tags_of new.lanes.items ≡ tags_of old.lanes.items
+  pub sessions : new.sessions ≡ old.sessions
+  pub marks : marks_of new.lanes.items ≡ marks_of old.lanes.items
 
 sound-drawn :
     {A : Type 0} (c : RealmConfig) (es fs : List PlainEntry) (n m : Numbers A) → IsSound c es n
     → length m.lanes.items ≡ length n.lanes.items → m.ticket ≡ n.ticket
-    → m.stream_position < 2 ^ 68 → tags_of m.lanes.items ≡ tags_of n.lanes.items
+    → m.stream_position < 2 ^ 68 → m.sessions ≡ n.sessions
+    → marks_of m.lanes.items ≡ marks_of n.lanes.items
     → AllByRecursion (IsEntry c n.ticket) fs → LanesTell c fs m.lanes.items → IsSound c fs m
-sound-drawn c es fs n m sound count ticket position tags each tells = record {
+sound-drawn c es fs n m sound count ticket position sessions marks each tells = record {
   each = rw ticket each;
   ticket = omega (arith, ticket, sound.ticket);
   stream_position = position;
   lane_count = count ∙ sound.lane_count;
-  tags = tags ∙ sound.tags;
+  lanes = subst (AreOwnLanes c) (sym marks) sound.lanes;
   lanes_tell = tells;
+  ledger = ap (λ (l : Ledger). l.limit) sessions ∙ sound.ledger;
 }
 
 pub sound-changed :
@@ -59,10 +65,11 @@ pub sound-changed :
     → IsSound c fs m
 sound-changed c es fs n m sound same each tells =
     sound-drawn c es fs n m sound same.count same.ticket
-    (rw same.stream_position sound.stream_position) same.tags each tells
+    (rw same.stream_position sound.stream_position) same.sessions same.marks each tells
 
 same-numbers : {A : Type 0} (n : Numbers A) → IsSameBut n n
-same-numbers n = record { count = refl; ticket = refl; stream_position = refl; tags = refl }
+same-numbers n =
+    record { count = refl; ticket = refl; stream_position = refl; sessions = refl; marks = refl }
 
 -- A done entry
 
@@ -164,24 +171,53 @@ pub free-target :
 free-target c lanes links None h = tt
 free-target c lanes links (Some l) h = find-passes (is_open c lanes None) links l (sym h)
 
--- no later target has a free Identifier: the entry goes
+-- an entry that is done, or gone, in place of one that waited
+held-done :
+    {A : Type 0} (c : RealmConfig) (es : List PlainEntry) (e : PlainEntry) (n m : Numbers A)
+    (d : Option (Done A)) → IsHeld c es e n → IsFreed c (without e.ticket es) n m
+    → IsSound c (once_held e es d) m
+held-done c es e n m None held freed =
+    let each = kept-without c n.ticket e.ticket es held.sound.each in
+    sound-changed c es (without e.ticket es) n m held.sound freed.same each freed.tells
+held-done c es e n m (Some d) held freed =
+    let new = with_standing (done d.reply d.deadline) e in
+    let old = kept-ticket c n.ticket e.ticket e es held.found held.sound.each in
+    let here : IsEntry c n.ticket new = record {
+      ticket = old.ticket;
+      request = old.request;
+      standing = tt;
+    } in
+    let each = kept-put c n.ticket new es here held.sound.each in
+    sound-changed c es (put new es) n m held.sound freed.same each
+    (tells-done c es m.lanes.items new refl freed.tells)
+
+given-sound :
+    {A : Type 0} (c : RealmConfig) (now : ℕ) (es : List PlainEntry) (e : PlainEntry)
+    (n m : Numbers A) (f : Fate A) → IsHeld c es e n → IsFreed c (without e.ticket es) n m
+    → GivesUp c now e f → IsSound c (fate_entries c now e es f) m
+given-sound c now es e n m fate.Gone held freed given = held-done c es e n m None held freed
+given-sound c now es e n m (fate.Refused sent d) held freed given = held-done c es e n m d held freed
+given-sound c now es e n m (fate.SentAgain sent) held freed given = absurd (given.ends)
+given-sound c now es e n m (fate.Forwarded sent w) held freed given = absurd (given.ends)
+
+-- no later target has a free Identifier: the request is given up
 pub gone-freed :
     {A : Type 0} (c : RealmConfig) (now : ℕ) (es : List PlainEntry) (e : PlainEntry)
-    (n m : Numbers A) (l : Link)
+    (n m : Numbers A) (l : Link) (f : Fate A)
     → IsHeld c es e n → IsFreed c (without e.ticket es) n m
-    → None ≡ find (is_open c m.lanes.items None) (later_targets c l)
-    → IsFate c now es e m fate.Gone (fail_over c now (without_entry (state_of es n) e) e
+    → None ≡ find (is_open c m.lanes.items None) (later_targets c l) → GivesUp c now e f
+    → IsFate c now es e m f (fail_over c now (without_entry (state_of es n) e) e
     (first_target c (cursors_of n.lanes.items) (without e.ticket es) (later_targets c l)))
-gone-freed c now es e n m l held freed none =
+gone-freed c now es e n m l f held freed none given =
     let first = no_target (first_target c (cursors_of n.lanes.items) (without e.ticket es)
     (later_targets c l)) (target-is c es e n m l held freed ∙ sym none) in
-    let each = kept-without c n.ticket e.ticket es held.sound.each in
-    let state : state_of (without e.ticket es) m ≡ without_entry (state_of es n) e = rw
-    (freed.cursors, freed.same.ticket, freed.same.stream_position) refl in
+    let old = without_entry (state_of es n) e in
+    let state : state_of (fate_entries c now e es f) m ≡ with_entries old (fate_entries c now e es f) =
+    rw (freed.cursors, freed.same.ticket, freed.same.stream_position, freed.same.sessions) refl in
     rw first (record {
-      packets = refl;
-      state = state;
-      sound = sound-changed c es (without e.ticket es) n m held.sound freed.same each freed.tells;
+      packets = given.packets old;
+      state = state ∙ given.state old es refl;
+      sound = given-sound c now es e n m f held freed given;
     })
 
 -- where a request is forwarded to
@@ -204,7 +240,8 @@ pub record IsSent {A : Type 0} (c : RealmConfig) (now : ℕ) (es : List PlainEnt
   pub count : length new.lanes.items ≡ length old.lanes.items
   pub ticket : new.ticket ≡ old.ticket
   pub stream_position : new.stream_position ≡ position_after q old.stream_position
-  pub tags : tags_of new.lanes.items ≡ tags_of old.lanes.items
+  pub sessions : new.sessions ≡ old.sessions
+  pub marks : marks_of new.lanes.items ≡ marks_of old.lanes.items
 
 stands-waiting :
     {A : Type 0} (c : RealmConfig) (q : PlainRequest) (l : Link) (w : Waiting A) (f : List ℕ)
@@ -258,13 +295,14 @@ forwarded-freed c now es e n m k l to o w held freed some sent =
     let tells = subst (λ (l : List PlainEntry). LanesTell c l k.lanes.items) (sym put_is) told in
     let count = sent.count ∙ freed.same.count in
     let ticket = sent.ticket ∙ freed.same.ticket in
-    let tags = sent.tags ∙ freed.same.tags in
+    let marks = sent.marks ∙ freed.same.marks in
+    let sessions = sent.sessions ∙ freed.same.sessions in
     let position : k.stream_position ≡ position_after e.request n.stream_position =
     rw (← at) sent.stream_position in
     let below : k.stream_position < 2 ^ 68 =
     rw position (position-below e.request n.stream_position held.sound.stream_position) in
     rw first (record {
       packets = ap (λ (p : PlainOut). p ∷ []) out;
-      state = rw (put_is, sent.cursors, freed.cursors, ticket, position) refl;
-      sound = sound-drawn c es _ n k held.sound count ticket below tags each tells;
+      state = rw (put_is, sent.cursors, freed.cursors, ticket, position, sessions) refl;
+      sound = sound-drawn c es _ n k held.sound count ticket below sessions marks each tells;
     })

@@ -1,8 +1,8 @@
 -- The list of entries once an entry had its fate.
-use Rattle.std.proofs.Common.{◌≡◌, ℕ, ◌+◌, ◌≤◌, List, Some, refl, ap, sym, arith, inl, inr}
+use Rattle.std.proofs.Common.{◌≡◌, ℕ, ◌+◌, ◌≤◌, List, Some, None, refl, ap, sym, arith, inl, inr}
 use Rattle.std.proofs.lemmas.Bool.{cases_eq}
 use Rattle.roam_pending.specs.declared.entry.Standing.TheVariants as standing
-use Rattle.roam_pending.specs.PlainEntry.{PlainEntry}
+use Rattle.roam_pending.specs.PlainEntry.{PlainEntry, done}
 use Rattle.roam_pending.specs.EntryList.{IsEntryList, IsInOrder, find_ticket, without, put}
 use Rattle.roam_pending.specs.Realms.{sent_again, with_standing}
 use Rattle.roam_pending.specs.Shown.{shown_standing}
@@ -46,6 +46,9 @@ size-after c now t e es (fate.SentAgain sent) order found = size-put t
     (sent_again (now + c.realm.wait) e) e es order refl refl found
 size-after c now t e es (fate.Forwarded sent w) order found = size-put t
     (with_standing (shown_standing (standing.Waiting w)) e) e es order refl refl found
+size-after c now t e es (fate.Refused sent None) order found = size-without t e.ticket es
+size-after c now t e es (fate.Refused sent (Some d)) order found =
+    size-put t (with_standing (done d.reply d.deadline) e) e es order refl refl found
 
 -- the list stays one
 list-put :
@@ -63,3 +66,6 @@ list-after c now e es (fate.SentAgain sent) list found =
     list-put (sent_again (now + c.realm.wait) e) e es list refl refl found
 list-after c now e es (fate.Forwarded sent w) list found =
     list-put (with_standing (shown_standing (standing.Waiting w)) e) e es list refl refl found
+list-after c now e es (fate.Refused sent None) list found = list-without e.ticket es list
+list-after c now e es (fate.Refused sent (Some d)) list found =
+    list-put (with_standing (done d.reply d.deadline) e) e es list refl refl found

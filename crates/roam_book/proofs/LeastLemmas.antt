@@ -1,18 +1,20 @@
 -- Taking the least due entry until none is left goes through the list of the due ones.
 use Rattle.std.proofs.Common.{◌≡◌, ℕ, zero, suc, ◌+◌, ◌<◌, ◌≤◌, List, [], ◌∷◌, ◌++◌, Option, Some, None, refl, ap, sym, ◌∙◌, subst, arith, inl, inr, length, ltb}
 use Rattle.std.proofs.lemmas.Bool.{cases_Bool}
+use Rattle.std.proofs.lemmas.Bool.Decides.{nat_tests}
 use Rattle.roam_pending.specs.declared.due.Due.{Due}
 use Rattle.roam_pending.specs.PlainEntry.{PlainEntry, PlainStanding, waiting, done, deadline_of}
 use Rattle.roam_pending.specs.EntryList.{IsInOrder, find_ticket, without, put}
 use Rattle.roam_pending.specs.DueOrder.{due_list, due_after}
-use Rattle.roam_pending.specs.Realms.{sent_again}
+use Rattle.roam_pending.specs.Realms.{sent_again, with_standing}
+use Rattle.roam_reverse.specs.declared.error_cause.TheConstants.{OTHER_PROXY_PROCESSING_ERROR}
 use Rattle.roam_pending.proofs.OrderLemmas.{order-put, order-filter, without-absent}
 use Rattle.roam_pending.proofs.ChangeLemmas.{found-ticket, put-without}
 use Rattle.roam_pending.proofs.DueListLemmas.{due-taken, due-put}
 use Rattle.roam_book.specs.RealmConfig.{RealmConfig, later_targets}
 use Rattle.roam_book.specs.RealmState.{RealmState, Target, first_target}
-use Rattle.roam_book.specs.OnRequest.{forwarded_entry}
-use Rattle.roam_book.specs.OnTick.{Progress, fail_over, without_entry, due_standing, due_entry, due_one, due_each}
+use Rattle.roam_book.specs.OnRequest.{forwarded_entry, is_reverse, nak_octets}
+use Rattle.roam_book.specs.OnTick.{Progress, fail_over, given_up, once_refused, without_entry, due_standing, due_entry, due_one, due_each}
 use Rattle.roam_book.specs.LeastFirst.{least_first}
 
 -- the list stays in order, and what is due is what was due without a ticket
@@ -29,12 +31,36 @@ rest-put :
 rest-put now e es order later = record
     { order = order-put e es order; due = due-put now e es order later }
 
+-- an entry that is held from now on isn't due
+rest-held :
+    (c : RealmConfig) (now : ℕ) (s : RealmState) (e : PlainEntry) (octets : List ℕ)
+    → IsInOrder s.entries
+    → IsRest now e.ticket s.entries (once_refused c now (without_entry s e) e octets).entries
+rest-held c now s e octets order =
+    let new = with_standing (done octets (now + c.realm.hold)) e in
+    elim (cases_Bool (ltb 0 c.realm.hold)) [
+      | inl y ↦
+          let later : now < now + c.realm.hold = grind (arith, nat_tests, y) in
+          rw (y, put-without new s.entries) (rest-put now new s.entries order later)
+      | inr n ↦ rw n (rest-without now e.ticket s.entries order)
+    ]
+
+rest-given :
+    (c : RealmConfig) (now : ℕ) (s : RealmState) (e : PlainEntry) → IsInOrder s.entries
+    → IsRest now e.ticket s.entries (given_up c now (without_entry s e) e).state.entries
+rest-given c now s e order =
+    let refused = nak_octets c e.request OTHER_PROXY_PROCESSING_ERROR in
+    elim (cases_Bool (is_reverse e.request)) [
+      | inl y ↦ rw y (rest-held c now s e refused order)
+      | inr n ↦ rw n (rest-without now e.ticket s.entries order)
+    ]
+
 rest-failed :
     (c : RealmConfig) (now : ℕ) (s : RealmState) (e : PlainEntry) (o : Option Target)
     → 1 ≤ c.realm.wait
     → IsInOrder s.entries
     → IsRest now e.ticket s.entries (fail_over c now (without_entry s e) e o).state.entries
-rest-failed c now s e None wait order = rest-without now e.ticket s.entries order
+rest-failed c now s e None wait order = rest-given c now s e order
 rest-failed c now s e (Some target) wait order =
     let new = forwarded_entry c now e.request s.stream_position e.ticket target in
     rw (put-without new s.entries) (rest-put now new s.entries order (omega arith))

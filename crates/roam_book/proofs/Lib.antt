@@ -9,6 +9,7 @@ pub mod LaneLemmas
 pub mod LeastLemmas
 pub mod LinkLaneLemmas
 pub mod MemoryLemmas
+pub mod NakLemmas
 pub mod RealmLemmas
 pub mod ReplyLemmas
 pub mod RequestLemmas
@@ -17,6 +18,7 @@ pub mod SendingLemmas
 pub mod SoundLemmas
 pub mod TakenLaneLemmas
 pub mod TickLemmas
+pub mod TurnLemmas
 pub mod UsedLemmas
 pub mod WaitingLemmas
 pub mod WayLemmas

@@ -1,19 +1,22 @@
 -- The links of the servers that are open, and the lane of a link.
-use Rattle.std.proofs.Common.{◌≡◌, ◌≢◌, inl, inr, ℕ, ◌+◌, ◌%◌, ◌<◌, ◌↔◌, ◌||◌, Bool, true, false, not, cond, List, [], ◌∷◌, Option, Some, None, is_some, IsTrue, refl, ap, sym, ◌∙◌, arith, get_or, set, length, drop, drop-cons, add-one}
+use Rattle.std.proofs.Common.{◌≡◌, ◌≢◌, inl, inr, ℕ, ◌+◌, ◌*◌, ◌%◌, ◌<◌, ◌↔◌, ◌||◌, Bool, true, false, not, cond, List, [], ◌∷◌, Option, Some, None, is_some, IsTrue, refl, ap, sym, subst, ◌∙◌, arith, get_or, get_or-set_same, get_or-set_other, set, length, drop, drop-cons, add-one}
 use Rattle.std.specs.List.{find}
-use Rattle.std.proofs.lemmas.List.{get_or_default, map-set, set-get_or}
+use Rattle.std.proofs.Math.ListN as lists
+use Rattle.std.proofs.lemmas.List.{get_or_default, length-map, map-set, set-get_or}
 use Rattle.std.proofs.Math.Seq.{map-set_same}
 use Rattle.roam_conf.specs.Config.{ServerView}
 use Rattle.roam_conf.specs.declared.place.Link.{Link}
 use Rattle.roam_ids.specs.declared.place.Place.{Place}
 use Rattle.roam_ids.specs.declared.place.Place.TheVariants.{Free, Out, Parked}
 use Rattle.roam_ids.specs.LaneState.{LaneState, is_used, put_at, cursor_past}
+use Rattle.roam_ids.specs.Making.{with_memory}
 use Rattle.roam_ids.specs.NextIdentifier.{AllUsed, IsNextIdentifier, next_identifier}
 use Rattle.roam_ids.proofs.NextIdentifierLemmas.{next_identifier-is_next, below_256}
 use Rattle.roam_book.specs.declared.service.Service.{Service}
+use Rattle.roam_book.specs.declared.service.Service.TheVariants as service
 use Rattle.roam_book.specs.RealmConfig.{RealmConfig, IsLink, link_place, server_link, server_links}
-use Rattle.roam_book.specs.Sound.{is_freed, is_open, has_free, cursors_of, lane_of, no_lane, tags_of}
-use Rattle.std.proofs.lemmas.Bool.{cases_Bool}
+use Rattle.roam_book.specs.Sound.{is_freed, is_open, has_free, cursors_of, lane_of, no_lane, Mark, mark_of, marks_of, AreOwnLanes}
+use Rattle.std.proofs.lemmas.Bool.{cases_Bool, cases_eq}
 use Rattle.roam_conf.specs.declared.place.Link.TheVariants as link
 use Rattle.roam_pending.specs.PlainEntry.{PlainEntry, same_link}
 use Rattle.roam_pending.specs.EntryList.{IsEntryList}
@@ -159,21 +162,19 @@ cursors-freed lanes place id i lane out new is out_is new_is =
     let cursor : LaneState → ℕ = λ x. x.cursor in
     map-set_same cursor lanes place new lane (ap cursor new_is ∙ ap cursor out_is ∙ ap cursor is)
 
--- the tags stay, whatever is put twice at an Identifier
-pub tags-taken :
+-- the marks stay, whatever is put twice at an Identifier
+pub marks-taken :
     (lanes : List LaneState) (place id i : ℕ) (a : Place) (lane out new : LaneState)
     → lane ≡ get_or lanes place lane → out ≡ cursor_past (put_at lane id Out) id
-    → new ≡ put_at out i a → tags_of (set lanes place new) ≡ tags_of lanes
-tags-taken lanes place id i a lane out new is out_is new_is =
-    let tag : LaneState → ℕ = λ x. x.tag in
-    map-set_same tag lanes place new lane (ap tag new_is ∙ ap tag out_is ∙ ap tag is)
+    → new ≡ put_at out i a → marks_of (set lanes place new) ≡ marks_of lanes
+marks-taken lanes place id i a lane out new is out_is new_is =
+    map-set_same mark_of lanes place new lane (ap mark_of new_is ∙ ap mark_of out_is ∙ ap mark_of is)
 
-pub tags-freed :
+pub marks-freed :
     (lanes : List LaneState) (place id i : ℕ) (lane out new : LaneState) → lane ≡ get_or lanes place lane
-    → out ≡ put_at lane id Out → new ≡ put_at out i Free → tags_of (set lanes place new) ≡ tags_of lanes
-tags-freed lanes place id i lane out new is out_is new_is =
-    let tag : LaneState → ℕ = λ x. x.tag in
-    map-set_same tag lanes place new lane (ap tag new_is ∙ ap tag out_is ∙ ap tag is)
+    → out ≡ put_at lane id Out → new ≡ put_at out i Free → marks_of (set lanes place new) ≡ marks_of lanes
+marks-freed lanes place id i lane out new is out_is new_is =
+    map-set_same mark_of lanes place new lane (ap mark_of new_is ∙ ap mark_of out_is ∙ ap mark_of is)
 
 -- the next Identifier of the lane that is read is the next toward the link
 pub next-read :
@@ -186,3 +187,70 @@ next-read c es lanes l place lane link at within is list tells =
     let lane_is = lane-read c lanes l place lane at within is in
     let next : LaneState → Option ℕ = λ x. next_identifier (is_used x) x.cursor in
     ap next lane_is ∙ sym (next-tells c es lanes l list tells link)
+
+-- Lanes whose memory is taken
+
+-- the cursors stay; so do the tags, and what is there
+pub cursors-made :
+    (lanes : List LaneState) (place : ℕ) (lane new : LaneState) → lane ≡ get_or lanes place lane
+    → new ≡ with_memory lane → cursors_of (set lanes place new) ≡ cursors_of lanes
+cursors-made lanes place lane new is new_is =
+    let cursor : LaneState → ℕ = λ x. x.cursor in
+    map-set_same cursor lanes place new lane (ap cursor new_is ∙ ap cursor is)
+
+made_there :
+    (marks : List Mark) (place k : ℕ) (m d : Mark) → place < length marks → m.made ≡ true
+    → (get_or marks k d).made ≡ true → (get_or (set marks place m) k d).made ≡ true
+made_there marks place k m d within made old =
+    let is_made : Mark → Bool = λ x. x.made in
+    elim (cases_eq k place) [
+      | inl same ↦ ap is_made (ap (λ (i : ℕ). get_or (set marks place m) i d) same ∙ get_or-set_same marks place m d within) ∙ made
+      | inr other ↦ ap is_made (get_or-set_other marks place k m d other) ∙ old
+    ]
+
+pub lanes-made :
+    (c : RealmConfig) (lanes : List LaneState) (place : ℕ) (lane new : LaneState) → place < length lanes
+    → lane ≡ get_or lanes place lane → new ≡ with_memory lane → AreOwnLanes c (marks_of lanes)
+    → AreOwnLanes c (marks_of (set lanes place new))
+lanes-made c lanes place lane new within is new_is own =
+    let tag : Mark → ℕ = λ m. m.tag in
+    let there : get_or (marks_of lanes) place (mark_of lane) ≡ mark_of lane =
+    lists.get_or-map mark_of lanes place lane ∙ sym (ap mark_of is) in
+    let same = ap (λ (x : LaneState). x.tag) new_is ∙ sym (ap tag there) in
+    let in_marks : place < length (marks_of lanes) = omega (arith, length-map lanes mark_of) in
+    subst (AreOwnLanes c) (sym (map-set mark_of lanes place new)) (record {
+      tags = map-set_same tag (marks_of lanes) place (mark_of new) (mark_of lane) same ∙ own.tags;
+      servers = λ k server. made_there (marks_of lanes) place k (mark_of new) (mark_of no_lane) in_marks
+          (ap (λ (x : LaneState). x.made) new_is) (own.servers k server);
+    })
+
+-- the memory of a server's lane is there
+place-made :
+    (c : RealmConfig) (lanes : List LaneState) (place : ℕ) → AreOwnLanes c (marks_of lanes)
+    → place < 2 * length c.realm.servers → (get_or lanes place no_lane).made ≡ true
+place-made c lanes place own within =
+    ap (λ (m : Mark). m.made) (sym (lists.get_or-map mark_of lanes place no_lane)) ∙ own.servers place within
+
+pub server-made :
+    (c : RealmConfig) (lanes : List LaneState) (s : Service) (k : ℕ) (l : Link)
+    → AreOwnLanes c (marks_of lanes) → k < length c.realm.servers → l ≡ server_link s k
+    → (lane_of c lanes l).made ≡ true
+server-made c lanes service.Authentication k l own within at =
+    rw at (place-made c lanes k own (omega arith))
+server-made c lanes service.Accounting k l own within at =
+    rw at (place-made c lanes (length c.realm.servers + k) own (omega arith))
+
+-- a lane's memory is there where it was, if the marks are the same
+made_of-marks :
+    (lanes : List LaneState) (place : ℕ)
+    → (get_or (marks_of lanes) place (mark_of no_lane)).made ≡ (get_or lanes place no_lane).made
+made_of-marks lanes place = ap (λ (m : Mark). m.made) (lists.get_or-map mark_of lanes place no_lane)
+
+pub made-same :
+    (c : RealmConfig) (old new : List LaneState) (l : Link) → marks_of new ≡ marks_of old
+    → (lane_of c old l).made ≡ true → (lane_of c new l).made ≡ true
+made-same c old new l same made =
+    let place : ℕ = link_place c l in
+    sym (made_of-marks new place)
+    ∙ ap (λ (ms : List Mark). (get_or ms place (mark_of no_lane)).made) same
+    ∙ made_of-marks old place ∙ made

@@ -15,9 +15,9 @@ use Rattle.roam_pending.proofs.OrderLemmas.{list-changed}
 use Rattle.roam_book.specs.RealmConfig.{RealmConfig, IsLink}
 use Rattle.roam_book.specs.RealmState.{RealmState}
 use Rattle.roam_book.specs.Turn.{Turn, Answers, refuses}
-use Rattle.roam_book.specs.OnReply.{return_reply, returned_octets, returning}
-use Rattle.roam_book.specs.Sound.{IsEntry, IsSound, LanesTell, StandsWell, tags_of}
-use Rattle.roam_book.specs.Judged.{once_done, returns_octets}
+use Rattle.roam_book.specs.OnReply.{counted_peer, return_reply, returned_octets, returning}
+use Rattle.roam_book.specs.Sound.{AreOwnLanes, IsEntry, IsSound, LanesTell, StandsWell, marks_of}
+use Rattle.roam_book.specs.Judged.{Judges, returns_octets}
 use Rattle.roam_book.specs.ReplyPlans.{IsReplyPlan}
 use Rattle.roam_book.specs.declared.replies.Settled.{Settled}
 use Rattle.roam_book.specs.declared.verdict.Verdict.{Verdict}
@@ -43,14 +43,15 @@ and_right false b h = absurd (let k : false ≡ true = h in cc)
 
 -- the returned packet is short enough, and is sent and held
 pub returned-turn : (c : RealmConfig) (now : ℕ) (s : RealmState) (e : PlainEntry) (l : Link)
-    (forwarded reply : Packet) (octets : List ℕ)
+    (forwarded reply : Packet) (peer : Option ℕ) (octets : List ℕ)
     → (4096 < returned_length (returning c e.request l forwarded) reply (packet_of e.request.octets) → ⊥)
     → octets ≡ returned_octets c e.request l forwarded reply
-    → returns_octets c now e.request.key octets e s ≡ return_reply c now s e l forwarded reply
-returned-turn c now s e l forwarded reply octets short is =
+    → peer ≡ counted_peer e.request.requester reply
+    → returns_octets c now e.request.key peer octets e s ≡ return_reply c now s e l forwarded reply
+returned-turn c now s e l forwarded reply peer octets short is counts =
     let size = returned_length (returning c e.request l forwarded) reply (packet_of e.request.octets) in
     let no : ltb 4096 size ≡ false = is_false (ltb 4096 size) (λ t. short (let lt : 4096 < size = grind (arith, nat_tests, t) in lt)) in
-    rw (no, is) refl
+    rw (no, is, counts) refl
 
 -- the returned packet is too long
 pub long-turn : (c : RealmConfig) (now : ℕ) (s : RealmState) (e : PlainEntry) (l : Link)
@@ -70,6 +71,11 @@ same-turn a old after new turn other h at is = record {
   refusal = rw (← is) h.refusal;
   state = rw (at, ← is) h.state;
 }
+
+-- a verdict is one for the same turn
+pub same-verdict : {A : Type 0} (c : RealmConfig) (v : Verdict A) (e : PlainEntry) (s : RealmState)
+    (turn other : Turn) → Judges c v e s turn → turn ≡ other → Judges c v e s other
+same-verdict c v e s turn other h is = subst (λ (t : Turn). Judges c v e s t) is h
 
 -- The entry that a reply is for
 
@@ -101,8 +107,9 @@ pub done-sound : {A : Type 0} (c : RealmConfig) (t : ℕ) (e : PlainEntry) (es f
     → LanesTell c (without e.ticket es) new.lanes.items
     → length new.lanes.items ≡ length old.lanes.items → new.ticket ≡ old.ticket
     → new.stream_position ≡ old.stream_position
-    → tags_of new.lanes.items ≡ tags_of old.lanes.items → IsSound c fs new
-done-sound c t e es fs reply deadline old new sound at is tells count ticket position tags =
+    → marks_of new.lanes.items ≡ marks_of old.lanes.items
+    → new.sessions.limit ≡ old.sessions.limit → IsSound c fs new
+done-sound c t e es fs reply deadline old new sound at is tells count ticket position marks limit =
     let x = with_standing (done reply deadline) e in
     let was : IsEntry c old.ticket e = kept-ticket c old.ticket t e es at sound.each in
     let here : IsEntry c old.ticket x = record { ticket = was.ticket; request = was.request; standing = tt } in
@@ -111,8 +118,9 @@ done-sound c t e es fs reply deadline old new sound at is tells count ticket pos
       ticket = rw ticket sound.ticket;
       stream_position = rw position sound.stream_position;
       lane_count = count ∙ sound.lane_count;
-      tags = tags ∙ sound.tags;
+      lanes = subst (AreOwnLanes c) (sym marks) sound.lanes;
       lanes_tell = subst (λ (l : List PlainEntry). LanesTell c l new.lanes.items) (sym is) (tells-done c es new.lanes.items x refl tells);
+      ledger = limit ∙ sound.ledger;
     }
 
 -- a list stays one where an entry stands otherwise
@@ -124,16 +132,21 @@ list-standing s e es list found = list-changed (with_standing s e) es list (rw f
 
 -- where the reply isn't taken, or its entry is done, the answer's turn is that of the plan
 pub plan-none : {A : Type 0} (c : RealmConfig) (s : RealmState) (e : PlainEntry) (v : Verdict A)
-    (turn : Turn) → v.done ≡ None → Answers v.answer s (once_done s e v.done) turn
+    (turn : Turn) → v.done ≡ None → Judges c v e s turn
     → IsReplyPlan c s (record { answer = v.answer; settled = None }) turn
-plan-none c s e v turn is h = record { settles = tt; answers = rw is at h }
+plan-none c s e v turn is h = record {
+  settles = tt;
+  answers = rw is at h.answers;
+  silent = λ none. refl;
+}
 
 pub plan-some : {A : Type 0} (c : RealmConfig) (s : RealmState) (e : PlainEntry) (v : Verdict A)
-    (turn : Turn) (d : Settled A) → v.done ≡ Some d.done → IsLink c d.link → d.ticket ≡ e.ticket
+    (turn : Turn) (d : Settled A) → v.done ≡ Some d.done → v.counted ≡ d.counted → IsLink c d.link
+    → d.ticket ≡ e.ticket
     → find_ticket e.ticket s.entries ≡ Some e → waits_at d.link d.id e ≡ true
-    → Answers v.answer s (once_done s e v.done) turn
-    → IsReplyPlan c s (record { answer = v.answer; settled = Some d }) turn
-plan-some c s e v turn d is link ticket found waits h = record {
+    → Judges c v e s turn → IsReplyPlan c s (record { answer = v.answer; settled = Some d }) turn
+plan-some c s e v turn d is counts link ticket found waits h = record {
   settles = (link, rw (ticket, found) waits);
-  answers = rw (ticket, found) (rw is at h);
+  answers = rw (ticket, found) (rw (is, counts) at h.answers);
+  silent = λ none. absurd (let k : Some d.done ≡ None = sym is ∙ h.silent none in cc);
 }

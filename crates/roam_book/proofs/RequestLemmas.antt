@@ -1,6 +1,7 @@
 -- Which case of a request's definition comes to pass.
-use Rattle.std.proofs.Common.{◌≡◌, ◌≢◌, ℕ, ◌^◌, Bool, true, false, List, Option, Some, None, refl, ap, sym, ◌∙◌, subst, cond, eqb, is_some}
-use Rattle.std.specs.Prelude.{nat_eq, option_map, unwrap_or}
+use Rattle.std.proofs.Common.{◌≡◌, ◌≢◌, ℕ, ◌^◌, Bool, true, false, List, [], ◌∷◌, ◌<◌, length, inl, inr, Option, Some, None, refl, ap, sym, ◌∙◌, subst, cond, eqb, is_some}
+use Rattle.std.specs.Prelude.{IfSome, nat_eq, option_map, unwrap_or}
+use Rattle.std.proofs.lemmas.Bool.{cases_Bool}
 use Rattle.std.specs.Cmp.Lexicographic.{pointwise}
 use Rattle.std.specs.List.{AllByRecursion, find}
 use Rattle.roam_wire.specs.Reading.{packet_of}
@@ -11,15 +12,16 @@ use Rattle.roam_pending.specs.EntryList.{IsEntryList, besides, find_client, find
 use Rattle.roam_pending.specs.declared.key.Key.{Key}
 use Rattle.roam_pending.proofs.TestLemmas.{differs}
 use Rattle.roam_pending.proofs.ChangeLemmas.{find-passes, found-is}
-use Rattle.roam_pending.proofs.ClientLemmas.{client-without, key-equal, without_client-absent, without_client-found}
+use Rattle.roam_pending.proofs.ClientLemmas.{client-without, key-equal, without_client-found}
 use Rattle.roam_book.specs.NewEntry.{HasNext, freed_link, target_at}
-use Rattle.roam_book.specs.OnRequest.{at_target, held_reply, new_request, of_key, targets}
+use Rattle.roam_book.specs.OnRequest.{at_target, coa_links, first_seen, held_reply, is_reverse, nak_octets, nak_or_new, new_request, of_key, packet_back, reverse_cause, targets}
 use Rattle.roam_book.specs.RealmConfig.{RealmConfig, IsLink, service_of}
 use Rattle.roam_book.specs.RealmState.{RealmState, Target, first_target, next_toward}
 use Rattle.roam_book.specs.Sound.{CountsAsGone, IsSound, cursors_of, gone_ticket, is_open, standing_place, state_of}
 use Rattle.roam_book.specs.Turn.{Turn, refuses, sends}
 use Rattle.roam_book.specs.declared.gone.Gone.{Gone}
 use Rattle.roam_book.specs.declared.numbers.Numbers.{Numbers}
+use Rattle.roam_book.proofs.JobLemmas.{target-within}
 use Rattle.roam_book.proofs.LaneLemmas.{links-are, target-freed, target-next, target-tells}
 
 -- the first target is the link that was found, with its next free Identifier
@@ -66,6 +68,19 @@ open-is c es n (Some g) links sound list gone are =
     target-freed c n.ticket es n.lanes.items links g.ticket gone.0 g.waits_at list sound.each
     sound.lanes_tell are gone.1.found (sym gone.1.place)
 
+-- each target is a link of the realm
+coa-links : (c : RealmConfig) (o : Option ℕ) → IfSome o (λ peer. peer < length c.peers)
+    → AllByRecursion (IsLink c) (coa_links o)
+coa-links c None h = tt
+coa-links c (Some peer) h = (h, tt)
+
+targets-links : (c : RealmConfig) (q : PlainRequest) → AllByRecursion (IsLink c) (targets c q)
+targets-links c q =
+    elim (cases_Bool (is_reverse q)) [
+      | inl y ↦ rw y (coa-links c _ (target-within c.peers (packet_of q.octets).attributes))
+      | inr n ↦ rw n (links-are c (service_of (packet_of q.octets).code) 0)
+    ]
+
 targets-open :
     {A : Type 0} (c : RealmConfig) (es : List PlainEntry) (n : Numbers A) (o : Option Gone)
     (q : PlainRequest) → IsSound c es n → IsEntryList es → CountsAsGone o es
@@ -73,7 +88,7 @@ targets-open :
     (first_target c (cursors_of n.lanes.items) (besides (gone_ticket o) es) (targets c q))
     ≡ find (is_open c n.lanes.items (freed_link o)) (targets c q)
 targets-open c es n o q sound list gone =
-    open-is c es n o (targets c q) sound list gone (links-are c (service_of (packet_of q.octets).code) 0)
+    open-is c es n o (targets c q) sound list gone (targets-links c q)
 
 -- a new request, while there is a ticket
 pub in-else : (b : Bool) (x y : Turn) → b ≡ false → cond b x y ≡ y
@@ -137,7 +152,7 @@ key-gone k e es g list at ticket place =
     let here = subst (λ (t : ℕ). find_ticket t es ≡ Some e) (sym ticket) found in
     (e, record { found = here; place = place })
 
-rest-of :
+pub rest-of :
     (k : Key) (e : PlainEntry) (es : List PlainEntry) (t : ℕ) → IsEntryList es
     → find_client k es ≡ Some e → t ≡ e.ticket → without_client k es ≡ without t es
 rest-of k e es t list at ticket =
@@ -155,22 +170,30 @@ key-free k e es t list at ticket =
 pub of-key-none :
     (c : RealmConfig) (now : ℕ) (s : RealmState) (q : PlainRequest)
     → find_client q.key s.entries ≡ None
-    → of_key c now s q (find_client q.key s.entries) ≡ new_request c now s s.entries q
-of-key-none c now s q at =
-    ap (of_key c now s q) at
-    ∙ ap (λ (xs : List PlainEntry). new_request c now s xs q)
-    (without_client-absent q.key s.entries at)
+    → of_key c now s q (find_client q.key s.entries) ≡ first_seen c now s q
+of-key-none c now s q at = ap (of_key c now s q) at
 
 pub of-key-new :
-    (c : RealmConfig) (now : ℕ) (s : RealmState) (q : PlainRequest) (e : PlainEntry) (t : ℕ)
-    → IsEntryList s.entries → find_client q.key s.entries ≡ Some e → t ≡ e.ticket
-    → pointwise nat_eq e.request.octets q.octets ≡ false
-    → of_key c now s q (find_client q.key s.entries) ≡ new_request c now s (without t s.entries) q
-of-key-new c now s q e t list at ticket differs =
+    (c : RealmConfig) (now : ℕ) (s : RealmState) (q : PlainRequest) (e : PlainEntry)
+    → find_client q.key s.entries ≡ Some e → pointwise nat_eq e.request.octets q.octets ≡ false
+    → of_key c now s q (find_client q.key s.entries) ≡ first_seen c now s q
+of-key-new c now s q e at differs =
     ap (of_key c now s q) at
     ∙ in-else (pointwise nat_eq e.request.octets q.octets) _ _ differs
-    ∙ ap (λ (xs : List PlainEntry). new_request c now s xs q)
-    (rest-of q.key e s.entries t list at ticket)
+
+-- one that is no duplicate is new where there is no cause for a NAK, and else it gets one
+pub seen-new :
+    (c : RealmConfig) (now : ℕ) (s : RealmState) (es : List PlainEntry) (q : PlainRequest)
+    → es ≡ without_client q.key s.entries → None ≡ reverse_cause c s q
+    → first_seen c now s q ≡ new_request c now s es q
+seen-new c now s es q rest none =
+    ap (nak_or_new c now s q) (sym none) ∙ ap (λ (xs : List PlainEntry). new_request c now s xs q) (sym rest)
+
+pub seen-refused :
+    (c : RealmConfig) (now : ℕ) (s : RealmState) (q : PlainRequest) (why : ℕ)
+    → Some why ≡ reverse_cause c s q
+    → first_seen c now s q ≡ sends (packet_back c q.key (nak_octets c q why) ∷ []) s
+seen-refused c now s q why some = ap (nak_or_new c now s q) (sym some)
 
 pub of-key-same :
     (c : RealmConfig) (now : ℕ) (s : RealmState) (q : PlainRequest) (e : PlainEntry)

@@ -1,5 +1,6 @@
 -- What a contract sees of a book, and which events its realm takes (ours).
 use Rattle.std.specs.Prelude.{◌≡◌, ℕ, ◌<◌, Bool, true, false, List, slice_index, vec_len}
+use Rattle.roam_wire.specs.Packet.{AreOctets}
 use Rattle.roam_wire.specs.Reading.{IsPacketText}
 use Rattle.roam_conf.specs.Config.{ConfigView}
 use Rattle.roam_conf.specs.Shown.{shown}
@@ -44,10 +45,6 @@ abbrev pub IsTakenFrom : RealmConfig → PlainJob → Side → Type 0
 IsTakenFrom c job (side.Peer peer) = IsRequest c (request_of job (requester.Peer peer))
 IsTakenFrom c job (side.Home server) = IsRequest c (request_of job (requester.Home server))
 IsTakenFrom c job (side.Link l) = IsPacketText job.octets
-
--- numbers that are octets
-abbrev pub AreOctets : List ℕ → Type 0
-AreOctets octets = (i : ℕ) → slice_index octets i < 256
 
 -- an event of a configuration is a job that its realm takes
 abbrev pub EventIsTaken : Type 0

@@ -1,28 +1,44 @@
 -- What comes of a reply for the entry that it is for: words of private functions alone (ours).
-use Rattle.std.specs.Prelude.{ℕ, ◌+◌, List, [], ◌∷◌, Option, Some, None}
+use Rattle.std.specs.Prelude.{◌≡◌, ℕ, ◌+◌, List, [], ◌∷◌, Option, Some, None}
 use Rattle.roam_pending.specs.declared.key.Key.{Key}
 use Rattle.roam_pending.specs.declared.entry.Done.{Done}
 use Rattle.roam_pending.specs.PlainEntry.{PlainEntry, done}
 use Rattle.roam_pending.specs.EntryList.{put}
 use Rattle.roam_pending.specs.Realms.{with_standing}
 use Rattle.roam_book.specs.RealmConfig.{RealmConfig}
-use Rattle.roam_book.specs.RealmState.{RealmState, with_entries}
-use Rattle.roam_book.specs.Turn.{Turn, Answers, sends}
+use Rattle.roam_book.specs.RealmState.{RealmState}
+use Rattle.roam_book.specs.Turn.{Turn, Answers, packets_of, sends}
+use Rattle.roam_book.specs.OnReply.{counted}
 use Rattle.roam_book.specs.OnRequest.{packet_back}
 use Rattle.roam_book.specs.declared.verdict.Verdict.{Verdict}
 
--- the state once an entry is done, where it is
-abbrev pub once_done : {A : Type 0} → RealmState → PlainEntry → Option (Done A) → RealmState
-once_done s e None = s
-once_done s e (Some d) =
-    with_entries s (put (with_standing (done d.reply d.deadline) e) s.entries)
+-- the state once an entry is done, where it is, and a peer's sessions are counted, if they are
+abbrev pub once_done :
+    {A : Type 0} → RealmConfig → RealmState → PlainEntry → Option (Done A) → Option ℕ → RealmState
+once_done c s e None peer = s
+once_done c s e (Some d) peer = record s {
+  entries = put (with_standing (done d.reply d.deadline) e) s.entries;
+  sessions = counted c e.request peer s.sessions;
+}
 
--- a verdict on an entry's reply is what this turn does, whatever else the realm holds
-abbrev pub IsVerdict : {A : Type 0} → Verdict A → PlainEntry → (RealmState → Turn) → Type 0
-IsVerdict v e turn = (s : RealmState) → Answers v.answer s (once_done s e v.done) (turn s)
+-- a verdict on an entry's reply does this turn; where nothing is sent the entry isn't done
+pub record Judges {A : Type 0} (c : RealmConfig) (v : Verdict A) (e : PlainEntry) (s : RealmState)
+    (turn : Turn) : Type 0 where
+  pub answers : Answers v.answer s (once_done c s e v.done v.counted) turn
+  pub silent : packets_of turn ≡ [] → v.done ≡ None
 
--- these octets are returned to the sender of the request, and held until `now + hold`
-abbrev pub returns_octets : RealmConfig → ℕ → Key → List ℕ → PlainEntry → RealmState → Turn
-returns_octets c now key octets e s =
+-- it does this turn whatever else the realm holds
+abbrev pub IsVerdict :
+    {A : Type 0} → RealmConfig → Verdict A → PlainEntry → (RealmState → Turn) → Type 0
+IsVerdict c v e turn = (s : RealmState) → Judges c v e s (turn s)
+
+-- these octets are returned to the sender of the request, and held until `now + hold`; a peer's
+-- sessions are counted, if they are
+abbrev pub returns_octets :
+    RealmConfig → ℕ → Key → Option ℕ → List ℕ → PlainEntry → RealmState → Turn
+returns_octets c now key peer octets e s =
     sends (packet_back c key octets ∷ [])
-    (with_entries s (put (with_standing (done octets (now + c.realm.hold)) e) s.entries))
+    (record s {
+      entries = put (with_standing (done octets (now + c.realm.hold)) e) s.entries;
+      sessions = counted c e.request peer s.sessions;
+    })

@@ -1,18 +1,22 @@
 -- What a reply does to its realm: it is returned to the sender of the request, and held (RFC 2865,
 -- section 2.3; how long it is held is ours).
-use Rattle.std.specs.Prelude.{ℕ, ◌+◌, nat_lt, List, [], ◌∷◌, Option, Some, None, if◌then◌else◌}
+use Rattle.std.specs.Prelude.{ℕ, ◌+◌, ◌==◌, nat_lt, List, [], ◌∷◌, Option, Some, None, if◌then◌else◌}
 use Rattle.roam_wire.specs.Packet.{Packet, packet_text}
 use Rattle.roam_wire.specs.Reading.{packet_of}
+use Rattle.roam_wire.specs.declared.code.TheConstants.{ACCOUNTING_RESPONSE}
 use Rattle.roam_wire.specs.declared.refusal.Refusal.{Refusal}
 use Rattle.roam_wire.specs.declared.refusal.Refusal.TheVariants as refusal
 use Rattle.roam_conf.specs.declared.place.Link.{Link}
 pub use Rattle.roam_back.specs.ReplyCheck.{reply_fault}
 use Rattle.roam_back.specs.Returned.{Returning, returned, returned_length}
+use Rattle.roam_reverse.specs.Sessions.{Session, applied}
+use Rattle.roam_pending.specs.declared.key.Requester.{Requester}
+use Rattle.roam_pending.specs.declared.key.Requester.TheVariants as requester
 use Rattle.roam_pending.specs.PlainEntry.{PlainRequest, PlainStanding, PlainEntry, waiting, done}
 use Rattle.roam_pending.specs.EntryList.{find_link, put}
 use Rattle.roam_pending.specs.Realms.{with_standing}
 use Rattle.roam_book.specs.RealmConfig.{RealmConfig, link_secret, requester_secret}
-use Rattle.roam_book.specs.RealmState.{RealmState, with_entries}
+use Rattle.roam_book.specs.RealmState.{RealmState}
 use Rattle.roam_book.specs.Turn.{Turn, refuses, sends, in_time}
 use Rattle.roam_book.specs.OnRequest.{packet_back}
 
@@ -29,16 +33,34 @@ abbrev pub returned_octets : RealmConfig → PlainRequest → Link → Packet �
 returned_octets c q l forwarded reply =
     packet_text (returned (returning c q l forwarded) reply (packet_of q.octets))
 
--- a reply that is taken, for an entry: its packet is returned, the entry's Identifier is free, and the
--- entry is done until `now + hold`
+-- whose sessions change when a reply was returned: those of the peer that sent the Accounting-Request
+-- which an Accounting-Response answers (RFC 2866, section 2; that a ledger is kept is ours)
+abbrev pub counted_peer : Requester → Packet → Option ℕ
+counted_peer (requester.Peer peer) reply =
+    if reply.code == ACCOUNTING_RESPONSE then Some peer else None
+counted_peer (requester.Home server) reply = None
+
+-- the ledger once a peer's request was answered, or, where none is counted, as it was
+abbrev pub counted : RealmConfig → PlainRequest → Option ℕ → List Session → List Session
+counted c q None sessions = sessions
+counted c q (Some peer) sessions =
+    applied c.realm.max_sessions peer (packet_of q.octets).attributes sessions
+
+-- the state once a reply was returned for an entry: its Identifier is free, it is done until
+-- `now + hold`, and the ledger tells its request
+abbrev pub once_returned : RealmConfig → ℕ → RealmState → PlainEntry → Packet → List ℕ → RealmState
+once_returned c now s e reply octets = record s {
+  entries = put (with_standing (done octets (now + c.realm.hold)) e) s.entries;
+  sessions = counted c e.request (counted_peer e.request.requester reply) s.sessions;
+}
+
+-- a reply that is taken, for an entry: its packet is returned
 abbrev pub return_reply : RealmConfig → ℕ → RealmState → PlainEntry → Link → Packet → Packet → Turn
 return_reply c now s e l forwarded reply =
     if nat_lt 4096 (returned_length (returning c e.request l forwarded) reply (packet_of e.request.octets))
     then refuses refusal.ReplyTooLong
     else sends (packet_back c e.request.key (returned_octets c e.request l forwarded reply) ∷ [])
-    (with_entries s
-    (put (with_standing (done (returned_octets c e.request l forwarded reply) (now + c.realm.hold)) e)
-    s.entries))
+    (once_returned c now s e reply (returned_octets c e.request l forwarded reply))
 
 -- a reply with what is wrong with it, if anything is
 abbrev pub judge : RealmConfig → ℕ → RealmState → PlainEntry → Link → Packet → Packet → Option Refusal → Turn

@@ -1,16 +1,22 @@
--- What a request does to its realm: a duplicate, or a new request that is forwarded (RFC 2865, section
--- 2.3; duplicates, tickets and limits are ours).
+-- What a request does to its realm: a duplicate, a reverse request that is answered by a NAK, or a new
+-- request that is forwarded (RFC 2865, section 2.3; RFC 5176, section 2; duplicates, tickets and limits
+-- are ours).
 use Rattle.std.specs.Prelude.{ℕ, Bool, ◌+◌, ◌-◌, ◌%◌, ◌^◌, ◌==◌, nat_lt, nat_eq, List, [], ◌∷◌, length, slice_set, Option, Some, None, if◌then◌else◌}
 use Rattle.std.specs.Cmp.Lexicographic.{pointwise}
+use Rattle.roam_wire.specs.Codes.{is_reverse_request}
 use Rattle.roam_wire.specs.Packet.{packet_text}
 use Rattle.roam_wire.specs.Reading.{packet_of}
 use Rattle.roam_wire.specs.declared.code.TheConstants.{ACCESS_REQUEST}
 use Rattle.roam_wire.specs.declared.refusal.Refusal.TheVariants as refusal
 use Rattle.roam_auth.specs.Authenticators.{zero_octets}
 use Rattle.roam_conf.specs.declared.place.Link.{Link}
+use Rattle.roam_conf.specs.declared.place.Link.TheVariants as link
 use Rattle.roam_conf.specs.declared.place.Place.TheVariants as place
 use Rattle.roam_fwd.specs.Forwarded.{Forwarding, forwarded}
+use Rattle.roam_back.specs.Nak.{nak}
 use Rattle.roam_route.specs.Admission.{PlainOut}
+use Rattle.roam_reverse.specs.Causes.{cause}
+use Rattle.roam_reverse.specs.Target as reverse
 use Rattle.roam_random.specs.RandomWords.{next_position, request_authenticator_at}
 use Rattle.roam_pending.specs.declared.key.Key.{Key}
 use Rattle.roam_pending.specs.PlainEntry.{PlainRequest, PlainStanding, PlainEntry, waiting, done}
@@ -95,9 +101,23 @@ at_target c now s entries q (Some target) =
     then admit c now s entries q target
     else make_way c now s entries q target (first_done entries)
 
--- the targets of a request, in the order of their use
+-- whether a request is a reverse one, which a home server sends to an access server (RFC 5176, section
+-- 2)
+abbrev pub is_reverse : PlainRequest → Bool
+is_reverse q = is_reverse_request (packet_of q.octets).code
+
+-- the access server that a reverse request is for, as the one target
+abbrev pub coa_links : Option ℕ → List Link
+coa_links None = []
+coa_links (Some peer) = link.Coa peer ∷ []
+
+-- the targets of a request, in the order of their use: of a reverse request the first peer that takes
+-- such requests and fits; of any other the home servers
 abbrev pub targets : RealmConfig → PlainRequest → List Link
-targets c q = links_from c (service_of (packet_of q.octets).code) 0
+targets c q =
+    if is_reverse q
+    then coa_links (reverse.target c.peers (packet_of q.octets).attributes)
+    else links_from c (service_of (packet_of q.octets).code) 0
 
 -- a new request beside these entries: there is a ticket, a target with a free Identifier, and a place
 abbrev pub new_request : RealmConfig → ℕ → RealmState → List PlainEntry → PlainRequest → Turn
@@ -107,19 +127,40 @@ new_request c now s entries q =
     else at_target c now s entries q
     (first_target c s.cursors entries (targets c q))
 
+-- the NAK of a reverse request, with its Error-Cause (RFC 5176, sections 2.3 and 3.5)
+abbrev pub nak_octets : RealmConfig → PlainRequest → ℕ → List ℕ
+nak_octets c q why = packet_text (nak (requester_secret c q.requester) why (packet_of q.octets))
+
+-- why a reverse request isn't forwarded, if it isn't; of other requests nothing is asked
+abbrev pub reverse_cause : RealmConfig → RealmState → PlainRequest → Option ℕ
+reverse_cause c s q =
+    if is_reverse q
+    then cause c.peers c.realm (packet_of q.octets).attributes s.sessions
+    else None
+
+-- a request that is no duplicate, with the cause for which it isn't forwarded, if there is one: then it
+-- gets a NAK, and the state stays as it is; else it is new, and the entry of its key counts as gone
+abbrev pub nak_or_new : RealmConfig → ℕ → RealmState → PlainRequest → Option ℕ → Turn
+nak_or_new c now s q (Some why) = sends (packet_back c q.key (nak_octets c q why) ∷ []) s
+nak_or_new c now s q None = new_request c now s (without_client q.key s.entries) q
+
+-- a request that is no duplicate
+abbrev pub first_seen : RealmConfig → ℕ → RealmState → PlainRequest → Turn
+first_seen c now s q = nak_or_new c now s q (reverse_cause c s q)
+
 -- what a duplicate gets: nothing while its request waits, else the reply that is held, once more
 abbrev pub held_reply : RealmConfig → Key → PlainStanding → List PlainOut
 held_reply c key (waiting l id forwarded sends_left deadline) = []
 held_reply c key (done reply deadline) = packet_back c key reply ∷ []
 
 -- a request whose key an entry has: a duplicate where the octets are equal too, and the state stays as
--- it is; else it is new, and the entry of its key counts as gone
+-- it is
 abbrev pub of_key : RealmConfig → ℕ → RealmState → PlainRequest → Option PlainEntry → Turn
-of_key c now s q None = new_request c now s (without_client q.key s.entries) q
+of_key c now s q None = first_seen c now s q
 of_key c now s q (Some e) =
     if pointwise nat_eq e.request.octets q.octets
     then sends (held_reply c q.key e.standing) s
-    else new_request c now s (without_client q.key s.entries) q
+    else first_seen c now s q
 
 -- what a request does
 abbrev pub on_request : RealmConfig → ℕ → RealmState → PlainRequest → Turn

@@ -6,11 +6,12 @@ use Rattle.roam_pending.specs.declared.due.Due.{Due}
 use Rattle.roam_pending.specs.DueOrder.{due_list}
 use Rattle.roam_pending.specs.PlainEntry.{PlainStanding, PlainEntry, waiting, done}
 use Rattle.roam_pending.specs.EntryList.{find_ticket, without, put}
-use Rattle.roam_pending.specs.Realms.{sent_again}
+use Rattle.roam_pending.specs.Realms.{sent_again, with_standing}
+use Rattle.roam_reverse.specs.declared.error_cause.TheConstants.{OTHER_PROXY_PROCESSING_ERROR}
 use Rattle.roam_book.specs.RealmConfig.{RealmConfig, later_targets}
 use Rattle.roam_book.specs.RealmState.{RealmState, Target, with_entries, first_target}
 use Rattle.roam_book.specs.Turn.{Turn, sends, in_time}
-use Rattle.roam_book.specs.OnRequest.{packet_to, forwarded_octets, once_forwarded}
+use Rattle.roam_book.specs.OnRequest.{packet_to, packet_back, forwarded_octets, is_reverse, nak_octets, once_forwarded}
 
 -- what was sent so far, and the state that follows
 pub record Progress : Type 0 where
@@ -21,11 +22,32 @@ pub record Progress : Type 0 where
 abbrev pub silent : RealmState → Progress
 silent s = record { packets = []; state = s }
 
+-- the state once a reverse request was given up: its entry is done until `now + hold`, or gone where
+-- replies aren't held. (`s` is the state without the entry.)
+abbrev pub once_refused : RealmConfig → ℕ → RealmState → PlainEntry → List ℕ → RealmState
+once_refused c now s e octets =
+    if nat_lt 0 c.realm.hold
+    then with_entries s (put (with_standing (done octets (now + c.realm.hold)) e) s.entries)
+    else s
+
+-- a request that no target answers. (`s` is the state without the entry.) A reverse request gets a NAK,
+-- which is then held as a reply is, where replies are held (RFC 5176, section 3.5); of any other nothing
+-- more is said
+abbrev pub given_up : RealmConfig → ℕ → RealmState → PlainEntry → Progress
+given_up c now s e =
+    if is_reverse e.request
+    then record {
+      packets = packet_back c e.request.key
+          (nak_octets c e.request OTHER_PROXY_PROCESSING_ERROR) ∷ [];
+      state = once_refused c now s e (nak_octets c e.request OTHER_PROXY_PROCESSING_ERROR);
+    }
+    else silent s
+
 -- a request that isn't sent to its link again: its Identifier there is free. It goes to the next target
--- under the same ticket, with words drawn anew, where there is one, else its entry goes. (`s` is the
+-- under the same ticket, with words drawn anew, where there is one, else it is given up. (`s` is the
 -- state without the entry.)
 abbrev pub fail_over : RealmConfig → ℕ → RealmState → PlainEntry → Option Target → Progress
-fail_over c now s e None = silent s
+fail_over c now s e None = given_up c now s e
 fail_over c now s e (Some target) = record {
   packets = packet_to c target.link
       (forwarded_octets c e.request s.stream_position e.ticket target) ∷ [];

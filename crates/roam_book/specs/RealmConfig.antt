@@ -100,7 +100,8 @@ server_links service place (s ∷ ss) = server_link service place ∷ server_lin
 abbrev pub links_from : RealmConfig → Service → ℕ → List Link
 links_from c service place = server_links service place (drop place c.realm.servers)
 
--- the service that a request of this code asks for (RFC 2865 section 4, RFC 2866 section 4)
+-- the service of a home server that a request of this code asks for (RFC 2865 section 4, RFC 2866
+-- section 4)
 abbrev pub service_of : ℕ → Service
 service_of code = if code == ACCESS_REQUEST then service.Authentication else service.Accounting
 

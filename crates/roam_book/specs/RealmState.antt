@@ -5,16 +5,12 @@ use Rattle.roam_conf.specs.declared.place.Link.{Link}
 use Rattle.roam_ids.specs.NextIdentifier.{next_identifier}
 use Rattle.roam_pending.specs.PlainEntry.{PlainEntry}
 use Rattle.roam_pending.specs.EntryList.{identifiers_on}
+use Rattle.roam_reverse.specs.Sessions.{Session}
 use Rattle.roam_book.specs.RealmConfig.{RealmConfig, link_place, link_count}
 use Rattle.roam_book.specs.declared.start.Start.{Start}
 
--- a session of a peer, by the octets of its Acct-Session-Id (RFC 2866, section 5.5)
-pub record Session : Type 0 where
-  pub peer : ℕ
-  pub id : List ℕ
-
 -- the entries in order of ticket, the next ticket, a cursor for each link in the order of their
--- places, the place in the stream of random words, and the sessions
+-- places, the place in the stream of random words, and the ledger of the sessions that are open
 pub record RealmState : Type 0 where
   pub entries : List PlainEntry
   pub ticket : ℕ

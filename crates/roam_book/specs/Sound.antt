@@ -1,7 +1,7 @@
 -- What the code's entries and numbers stand for (`state_of`, which a book's view shows), and what a
 -- realm keeps (ours): of each entry, and between its entries and its lanes. No definition of what the
 -- broker does rests on this file; each rule's contract says that it is kept.
-use Rattle.std.specs.Prelude.{◌≡◌, ◌≢◌, ℕ, zero, suc, ◌+◌, ◌*◌, ◌++◌, ◌∷◌, ◌<◌, ◌≤◌, ◌^◌, ◌==◌, ◌&&◌, ◌||◌, Bool, false, List, [], length, map, Option, Some, None, option_map, is_some, slice_index_or}
+use Rattle.std.specs.Prelude.{◌≡◌, ◌≢◌, ℕ, zero, suc, ◌+◌, ◌*◌, ◌++◌, ◌∷◌, ◌<◌, ◌≤◌, ◌^◌, ◌==◌, ◌&&◌, ◌||◌, Bool, true, false, List, [], length, map, Option, Some, None, option_map, is_some, slice_index_or}
 use Rattle.std.specs.List.{AllByRecursion}
 use Rattle.std.specs.Option.{option_map_or}
 use Rattle.roam_wire.specs.Reading.{IsPacketText, packet_of}
@@ -42,7 +42,7 @@ pub record IsEntry (c : RealmConfig) (next : ℕ) (e : PlainEntry) : Type 0 wher
 
 -- a lane that holds nothing: what a link has that isn't there
 abbrev pub no_lane : LaneState
-no_lane = record { tag = 0; cursor = 0; places = [] }
+no_lane = record { tag = 0; cursor = 0; places = []; made = false }
 
 -- the lane of a link
 abbrev pub lane_of : RealmConfig → List LaneState → Link → LaneState
@@ -70,13 +70,27 @@ LanesTell c entries lanes =
 abbrev pub cursors_of : List LaneState → List ℕ
 cursors_of lanes = map (λ lane. lane.cursor) lanes
 
-abbrev pub tags_of : List LaneState → List ℕ
-tags_of lanes = map (λ lane. lane.tag) lanes
+-- what stays of a lane whatever is taken from it: its tag, and whether its memory is there
+pub record Mark : Type 0 where
+  pub tag : ℕ
+  pub made : Bool
+
+abbrev pub mark_of : LaneState → Mark
+mark_of lane = record { tag = lane.tag; made = lane.made }
+
+abbrev pub marks_of : List LaneState → List Mark
+marks_of lanes = map mark_of lanes
 
 -- the tags of a realm's lanes: each is made of the realm's index and of the lane's own place
 abbrev pub own_tags : ℕ → ℕ → List ℕ
 own_tags index zero = []
 own_tags index (suc place) = own_tags index place ++ (index * 65536 + place) ∷ []
+
+-- a realm's lanes have their own tags, and the memory of each toward a server is there
+pub record AreOwnLanes (c : RealmConfig) (marks : List Mark) : Type 0 where
+  pub tags : map (λ m. m.tag) marks ≡ own_tags c.index (link_count c)
+  pub servers : (place : ℕ) → place < 2 * length c.realm.servers
+      → (slice_index_or marks place (mark_of no_lane)).made ≡ true
 
 abbrev pub state_of : {A : Type 0} → List PlainEntry → Numbers A → RealmState
 state_of entries numbers = record {
@@ -84,14 +98,16 @@ state_of entries numbers = record {
   ticket = numbers.ticket;
   cursors = cursors_of numbers.lanes.items;
   stream_position = numbers.stream_position;
-  sessions = [];
+  sessions = numbers.sessions.sessions;
 }
 
 -- the numbers are as they were, but for which Identifiers are in use
 pub record IsSameButSlots {A : Type 0} (old new : Numbers A) : Type 0 where
   pub cursors : cursors_of new.lanes.items ≡ cursors_of old.lanes.items
+  pub marks : marks_of new.lanes.items ≡ marks_of old.lanes.items
   pub ticket : new.ticket ≡ old.ticket
   pub stream_position : new.stream_position ≡ old.stream_position
+  pub sessions : new.sessions ≡ old.sessions
 
 -- what a realm keeps
 pub record IsSound {A : Type 0} (c : RealmConfig) (entries : List PlainEntry) (numbers : Numbers A) : Type 0 where
@@ -99,8 +115,9 @@ pub record IsSound {A : Type 0} (c : RealmConfig) (entries : List PlainEntry) (n
   pub ticket : numbers.ticket ≤ 2 ^ 63
   pub stream_position : numbers.stream_position < 2 ^ 68
   pub lane_count : length numbers.lanes.items ≡ link_count c
-  pub tags : tags_of numbers.lanes.items ≡ own_tags c.index (link_count c)
+  pub lanes : AreOwnLanes c (marks_of numbers.lanes.items)
   pub lanes_tell : LanesTell c entries numbers.lanes.items
+  pub ledger : numbers.sessions.limit ≡ c.realm.max_sessions
 
 -- a lane has a free Identifier
 abbrev pub has_free : LaneState → Bool

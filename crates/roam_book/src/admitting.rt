@@ -1,14 +1,15 @@
 //! How a new request is admitted, once its way is chosen: memory is taken, way is made, and the
 //! request is forwarded.
 
-ghost use Rattle.std.specs.Prelude.{◌≡◌, ℕ, ◌+◌, ◌<◌, ◌≤◌, ◌^◌, ◌∷◌, [], IfErr, IfOk, is_some, length};
+ghost use Rattle.std.specs.Prelude.{◌≡◌, ℕ, ◌+◌, ◌<◌, ◌≤◌, ◌^◌, ◌∷◌, [], true, IfErr, IfOk, OnOk, is_some, length};
 ghost use Rattle.roam_pending.specs.PlainEntry.{PlainRequest};
 ghost use Rattle.roam_pending.specs.EntryList.{besides};
 ghost use Rattle.roam_route.specs.Shown.{shown_out};
 ghost use Rattle.roam_book.specs.Memory.{HasBuffers, IsCopied, Tells};
+ghost use Rattle.roam_book.specs.RealmConfig.{IsLink};
 ghost use Rattle.roam_book.specs.NewEntry.{AreSupplies, IsWay, MakesWay, admits, cleared, straight_to};
 ghost use Rattle.roam_book.specs.RealmTurn.{IsRealm, Keeps, entries, room, state};
-ghost use Rattle.roam_book.specs.Sound.{CountsAsGone, IsSameButSlots, gone_ticket, shown_request};
+ghost use Rattle.roam_book.specs.Sound.{CountsAsGone, IsSameButSlots, gone_ticket, lane_of, marks_of, shown_request};
 ghost use Rattle.roam_book.specs.Turn.{packets_of, state_after};
 
 use crate::answer::Told;
@@ -96,11 +97,26 @@ impl<A: Allocator + Copy, E: Entries<A>> Realm<'_, '_, '_, '_, A, E> {
             → IsWay self.old.settings.now (state E.Entries self.old) q way
             → admits self.old.settings.now now (state E.Entries self.new) q (cleared way)
             ≡ admits self.old.settings.now now (state E.Entries self.old) q way }
+        ensures marks { marks_of self.new.numbers.now.lanes.items
+            ≡ marks_of self.old.numbers.now.lanes.items }
         ensures room { room E.Entries self.old ≤ room E.Entries self.new }
         ensures keeps { Keeps E.Entries self.old self.new }
     {
         self.take_away_gone(way.gone);
         self.take_away_done(way.done);
+    }
+
+    /// Takes the memory of a link's lane, where that isn't there. The realm is as it was.
+    fn make_lane(&mut self, link: Link) -> Result<(), NoMemory>
+        requires realm { IsRealm E.Entries self.old }
+        requires link { IsLink self.old.settings.now link }
+        ensures made { OnOk result
+            ((lane_of self.old.settings.now self.new.numbers.now.lanes.items link).made ≡ true) }
+        ensures state { state E.Entries self.new ≡ state E.Entries self.old }
+        ensures room { room E.Entries self.new ≡ room E.Entries self.old }
+        ensures keeps { Keeps E.Entries self.old self.new }
+    {
+        self.numbers.make_lane(self.settings, link)
     }
 
     /// Forwards a new request to a link that has a free Identifier, under the next ticket. Its
@@ -117,6 +133,8 @@ impl<A: Allocator + Copy, E: Entries<A>> Realm<'_, '_, '_, '_, A, E> {
         requires moment { now ≤ 2 ^ 62 }
         requires way { IsWay self.old.settings.now (state E.Entries self.old) (shown_request asked)
             (straight_to link) }
+        requires made { (lane_of self.old.settings.now self.old.numbers.now.lanes.items link).made
+            ≡ true }
         requires room { 0 < room E.Entries self.old }
         requires octets { octets ≡ asked.octets.now }
         requires buffers { HasBuffers (length asked.octets.now + 46) buffers }
@@ -165,6 +183,8 @@ impl<A: Allocator + Copy, E: Entries<A>> Realm<'_, '_, '_, '_, A, E> {
         requires moment { now ≤ 2 ^ 62 }
         requires way { IsWay self.old.settings.now (state E.Entries self.old)
             (shown_request asked) way }
+        requires made { (lane_of self.old.settings.now self.old.numbers.now.lanes.items way.link).made
+            ≡ true }
         requires room { 0 < room E.Entries self.old }
         requires supplies { AreSupplies asked.octets.now supplies }
         ensures turn { Tells supplies.outs.twice result (state E.Entries self.old)
@@ -204,6 +224,7 @@ impl<A: Allocator + Copy, E: Entries<A>> Realm<'_, '_, '_, '_, A, E> {
         ensures keeps { Keeps E.Entries self.old self.new }
     {
         let supplies = Supplies::new(self.numbers.alloc, asked.octets, twice)?;
+        self.make_lane(way.link)?;
         self.entries.reserve(self.settings.index())?;
         Ok(self.admit_reserved(now, asked, way, supplies))
     }

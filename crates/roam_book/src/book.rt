@@ -138,8 +138,9 @@ impl<'c, A: Allocator + Copy> Book<'c, A> {
         }
     }
 
-    /// A request of the realm, at a moment in milliseconds (RFC 2865, section 2.3): a duplicate, or a
-    /// new one that is forwarded.
+    /// A request of the realm, at a moment in milliseconds (RFC 2865, section 2.3): a duplicate, a
+    /// reverse request that is answered by a NAK (RFC 5176, section 3.5), or a new one that is
+    /// forwarded.
     ///
     /// Refused in this order: `Moment`, `Exhausted`, `NoIdentifier`, `Busy`. `NoMemory` comes where a
     /// growth was refused; the book is then as it was. Where no packet is sent no memory is wanted.

@@ -8,19 +8,23 @@ ghost use Rattle.roam_pending.specs.Shown.{shown};
 ghost use Rattle.roam_route.specs.Shown.{shown_out};
 ghost use Rattle.roam_book.specs.RealmConfig.{IsLink, link_count, later_targets};
 ghost use Rattle.roam_book.specs.RealmState.{first_target};
-ghost use Rattle.roam_book.specs.OnRequest.{packet_to};
+ghost use Rattle.roam_book.specs.OnRequest.{is_reverse, packet_to};
 ghost use Rattle.roam_book.specs.OnTick.{due_standing, fail_over, without_entry};
-ghost use Rattle.roam_book.specs.Sound.{IsEntry, state_of, cursors_of, lane_of, has_free, is_open};
-ghost use Rattle.roam_book.specs.Fates.{IsHeld, IsFate, IsFateCopied};
+ghost use Rattle.roam_book.specs.Sound.{AreOwnLanes, IsEntry, IsRequest, cursors_of, has_free, is_open, lane_of, marks_of, state_of};
+ghost use Rattle.roam_book.specs.Fates.{GivesUp, held_for, IsHeld, IsFate, IsFateCopied};
 ghost use Rattle.roam_book.specs.Memory.{HasBuffers, IsCopied};
 
 use crate::buffers::{Buffers, copied_into};
 use crate::numbers::Numbers;
-use crate::sending::{Asked, Sent, send_new, sent_to};
+use crate::sending::{Asked, Sent, packet_back, packet_to, send_new};
 use crate::service::Service;
 use crate::settings::Settings;
+use roam_back::nak_reserved;
 use roam_conf::Link;
-use roam_pending::{Entry, Standing, Waiting};
+use roam_pending::{Done, Entry, Standing, Waiting};
+use roam_reverse::error_cause::OTHER_PROXY_PROCESSING_ERROR;
+use roam_route::is_reverse_request;
+use roam_wire::{Octets, View};
 use std::alloc::Allocator;
 
 /// What becomes of an entry that is due.
@@ -32,6 +36,8 @@ pub(crate) enum Fate<A: Allocator> {
     SentAgain(Sent<A>),
     /// Its request is forwarded to another link, where it then waits.
     Forwarded(Sent<A>, Waiting<A>),
+    /// Its request, a reverse one, is answered by a NAK, which is then held, or it goes.
+    Refused(Sent<A>, Option<Done<A>>),
 }
 
 /// The forwarded packet of a waiting request, once more.
@@ -52,7 +58,7 @@ fn packet_again<A: Allocator>(
         copy,
     } = buffers;
     let bytes = copied_into(sent, waiting.forwarded.as_slice());
-    sent_to(settings, waiting.link, bytes, copy)
+    Sent::new(packet_to(settings, waiting.link, bytes), copy)
 }
 
 /// The first target after a link that has a free Identifier.
@@ -62,10 +68,13 @@ fn later_target<A: Allocator + Copy>(
     link: Link,
 ) -> Option<Link>
     requires count { length numbers.now.lanes.items ≡ link_count settings.now }
+    requires lanes { AreOwnLanes settings.now (marks_of numbers.now.lanes.items) }
     ensures first { result ≡ find (is_open settings.now numbers.now.lanes.items None)
         (later_targets settings.now link) }
     ensures link { IfSome result (λ l. IsLink settings.now l) }
     ensures free { IfSome result (λ l. has_free (lane_of settings.now numbers.now.lanes.items l)
+        ≡ true) }
+    ensures made { IfSome result (λ l. (lane_of settings.now numbers.now.lanes.items l).made
         ≡ true) }
 {
     match link {
@@ -84,6 +93,69 @@ fn later_target<A: Allocator + Copy>(
     }
 }
 
+/// How a reply is held from a moment on: until `now + hold`, where replies are held.
+fn held_for<A: Allocator>(settings: &Settings<'_>, now: u64, reply: Octets<A>) -> Option<Done<A>>
+    requires { now ≤ 2 ^ 62 }
+    ensures { result ≡ held_for settings.now now reply }
+{
+    if settings.hold() == 0 {
+        return None;
+    }
+    Some(Done {
+        reply,
+        deadline: now + u64::from(settings.hold()),
+    })
+}
+
+/// The NAK of a reverse request that no access server answered (RFC 5176, section 3.5): it is sent,
+/// and held until `now + hold` where replies are held.
+fn refuse<A: Allocator>(
+    settings: &Settings<'_>,
+    now: u64,
+    entry: &Entry<A>,
+    buffers: Buffers<A>,
+) -> Fate<A>
+    requires moment { now ≤ 2 ^ 62 }
+    requires request { IsRequest settings.now (shown entry.now).request }
+    requires reverse { is_reverse (shown entry.now).request ≡ true }
+    requires buffers { HasBuffers (length entry.now.request.octets + 46) buffers }
+    ensures fate { GivesUp settings.now now (shown entry.now) result }
+    ensures copied { IsFateCopied (is_some buffers.copy) result }
+{
+    let request = View::of_packet(entry.request.octets.as_slice());
+    let secret = settings.secret_of_requester(entry.request.requester);
+    let Buffers {
+        mut sent,
+        kept,
+        copy,
+    } = buffers;
+    nak_reserved(&request, OTHER_PROXY_PROCESSING_ERROR, secret, &mut sent);
+    let held = held_for(settings, now, copied_into(kept, sent.as_slice()));
+    let out = packet_back(settings, entry.request.key, Octets::from_vec(sent));
+    Fate::Refused(Sent::new(out, copy), held)
+}
+
+/// A request that no target answers: a reverse request is answered by a NAK, any other just goes.
+fn give_up<A: Allocator>(
+    settings: &Settings<'_>,
+    now: u64,
+    entry: &Entry<A>,
+    buffers: Buffers<A>,
+) -> Fate<A>
+    requires moment { now ≤ 2 ^ 62 }
+    requires request { IsRequest settings.now (shown entry.now).request }
+    requires buffers { HasBuffers (length entry.now.request.octets + 46) buffers }
+    ensures fate { GivesUp settings.now now (shown entry.now) result }
+    ensures copied { IsFateCopied (is_some buffers.copy) result }
+{
+    let request = View::of_packet(entry.request.octets.as_slice());
+    if is_reverse_request(request.code()) {
+        refuse(settings, now, entry, buffers)
+    } else {
+        Fate::Gone
+    }
+}
+
 /// Gives back the Identifier of an entry that isn't sent to its link again, and forwards its
 /// request to the next target, where there is one.
 fn fail_over<A: Allocator + Copy>(
@@ -97,6 +169,7 @@ fn fail_over<A: Allocator + Copy>(
 ) -> Fate<A>
     requires moment { now ≤ 2 ^ 62 }
     requires count { length numbers.old.lanes.items ≡ link_count settings.now }
+    requires lanes { AreOwnLanes settings.now (marks_of numbers.old.lanes.items) }
     requires entry { IsEntry settings.now numbers.old.ticket (shown entry.now) }
     requires link { IsLink settings.now link }
     requires waits { waits_at link id (shown entry.now) ≡ true }
@@ -111,7 +184,7 @@ fn fail_over<A: Allocator + Copy>(
 {
     numbers.give_back(settings, link, id);
     let Some(target) = later_target(settings, numbers, link) else {
-        return Fate::Gone;
+        return give_up(settings, now, entry, buffers);
     };
     let asked = Asked {
         key: entry.request.key,
@@ -132,6 +205,7 @@ pub(crate) fn fate_of<A: Allocator + Copy>(
 ) -> Fate<A>
     requires moment { now ≤ 2 ^ 62 }
     requires count { length numbers.old.lanes.items ≡ link_count settings.now }
+    requires lanes { AreOwnLanes settings.now (marks_of numbers.old.lanes.items) }
     requires entry { IsEntry settings.now numbers.old.ticket (shown entry.now) }
     requires buffers { HasBuffers (length entry.now.request.octets + 46) buffers }
     ensures fate { (es : List PlainEntry) → IsHeld settings.now es (shown entry.now) numbers.old

@@ -1,33 +1,42 @@
-//! The numbers that a realm hands out.
+//! What a realm keeps besides its entries: the numbers that it hands out, and the ledger of sessions.
 
-ghost use Rattle.std.specs.Prelude.{◌≡◌, ◌<◌, ◌+◌, ◌*◌, ◌%◌, List, [], true, Some, None, length, replicate, drop, slice_set, IfSome, IfNone, IfOk, is_some};
+ghost use Rattle.std.specs.Prelude.{◌≡◌, ℕ, ◌<◌, ◌+◌, ◌*◌, ◌%◌, List, [], ◌∷◌, true, Some, None, length, replicate, drop, slice_set, IfSome, IfNone, IfOk, IsOk, OnOk, is_some};
 ghost use Rattle.std.specs.List.{find};
-ghost use Rattle.roam_ids.specs.LaneState.{ticket_at};
+ghost use Rattle.roam_ids.specs.LaneState.{place_at, ticket_at};
+ghost use Rattle.roam_ids.specs.declared.place.Place.TheVariants.{Free};
 ghost use Rattle.roam_pending.specs.PlainEntry.{PlainEntry, waits_at};
 ghost use Rattle.roam_pending.specs.EntryList.{IsEntryList, find_ticket, put, without};
+ghost use Rattle.roam_reverse.specs.Sessions.{Session, applied};
+ghost use Rattle.roam_reverse.specs.Shown.{HasRoomFor};
+ghost use Rattle.roam_book.specs.ReplyPlans.{IsPrepared};
 ghost use Rattle.roam_book.specs.RealmConfig.{IsLink, link_place, link_count, server_links};
 ghost use Rattle.roam_book.specs.RealmState.{next_toward};
-ghost use Rattle.roam_book.specs.Sound.{LanesTell, lane_of, cursors_of, has_free, is_freed, is_open, own_tags, tags_of, WaitsJustAt};
+ghost use Rattle.roam_book.specs.Sound.{AreOwnLanes, LanesTell, lane_of, cursors_of, has_free, is_freed, is_open, marks_of, WaitsJustAt};
 
 use crate::service::Service;
 use crate::settings::Settings;
 use crate::start::Start;
 use roam_conf::Link;
-use roam_ids::Lane;
-use roam_wire::NoMemory;
+use roam_ids::LazyLane;
+use roam_reverse::{Prepared, Sessions};
+use roam_wire::{NoMemory, View};
 use std::alloc::Allocator;
 
-/// The numbers that a realm hands out: Identifiers toward its links, tickets, and random words.
+/// What a realm keeps besides its entries: the numbers that it hands out (Identifiers toward its
+/// links, tickets, and random words), and the ledger of the sessions that are open.
 #[derive(Drop)]
 pub struct Numbers<A: Allocator> {
     /// Whence the memory of entries and packets comes.
     pub(crate) alloc: A,
-    /// A lane for each link, in the order of their places.
-    pub(crate) lanes: Vec<Lane, A>,
+    /// A lane for each link, in the order of their places. Toward a peer it is made when a reverse
+    /// request first needs it.
+    pub(crate) lanes: Vec<LazyLane<A>, A>,
     /// The next ticket.
     pub(crate) ticket: u64,
     /// The place of the next random word in the realm's stream.
     pub(crate) stream_position: u128,
+    /// The sessions that are open.
+    pub(crate) sessions: Sessions<A>,
 }
 
 /// The tag of a lane: its realm's index, and the place of its link.
@@ -38,21 +47,41 @@ fn tag_of(settings: &Settings<'_>, place: usize) -> u32
     u32::from(settings.index()) * 65536 + place as u32
 }
 
+/// The lane of the link at a place, of which nothing is in use. Toward a server its memory is there;
+/// toward a peer it is taken when a reverse request first needs it.
+fn new_lane<A: Allocator>(
+    alloc: A,
+    settings: &Settings<'_>,
+    place: usize,
+) -> Result<LazyLane<A>, NoMemory>
+    requires { place < 272 }
+    ensures tag { IfOk result (λ lane. lane.tag ≡ settings.now.index * 65536 + place) }
+    ensures cursor { IfOk result (λ lane. lane.cursor ≡ 0) }
+    ensures free { IfOk result (λ lane. (id : ℕ) → place_at lane id ≡ Free) }
+    ensures made { IfOk result (λ lane. place < 2 * length settings.now.realm.servers
+        → lane.made ≡ true) }
+{
+    let mut lane = LazyLane::new(alloc, tag_of(settings, place));
+    if place < 2 * settings.server_count() {
+        lane.make()?;
+    }
+    Ok(lane)
+}
+
 /// A lane for each link, of which nothing is in use.
 fn new_lanes<A: Allocator + Copy>(
     alloc: A,
     settings: &Settings<'_>,
-) -> Result<Vec<Lane, A>, NoMemory>
+) -> Result<Vec<LazyLane<A>, A>, NoMemory>
     ensures count { IfOk result (λ lanes. length lanes.items ≡ link_count settings.now) }
     ensures cursors { IfOk result (λ lanes. cursors_of lanes.items ≡ replicate (link_count settings.now) 0) }
     ensures free { IfOk result (λ lanes. LanesTell settings.now [] lanes.items) }
-    ensures tags { IfOk result (λ lanes. tags_of lanes.items
-        ≡ own_tags settings.now.index (link_count settings.now)) }
+    ensures lanes { IfOk result (λ lanes. AreOwnLanes settings.now (marks_of lanes.items)) }
 {
     let count = settings.link_count();
     let mut lanes = Vec::with_capacity(alloc, count).map_err(|_| NoMemory)?;
     for place in 0..count {
-        lanes.push_reserved(Lane::new(tag_of(settings, place)));
+        lanes.push_reserved(new_lane(alloc, settings, place)?);
     }
     Ok(lanes)
 }
@@ -73,10 +102,11 @@ impl<A: Allocator + Copy> Numbers<A> {
         ensures count { IfOk result (λ n. length n.lanes.items ≡ link_count settings.now) }
         ensures cursors { IfOk result (λ n. cursors_of n.lanes.items ≡ replicate (link_count settings.now) 0) }
         ensures free { IfOk result (λ n. LanesTell settings.now [] n.lanes.items) }
-        ensures tags { IfOk result (λ n. tags_of n.lanes.items
-            ≡ own_tags settings.now.index (link_count settings.now)) }
+        ensures lanes { IfOk result (λ n. AreOwnLanes settings.now (marks_of n.lanes.items)) }
         ensures ticket { IfOk result (λ n. n.ticket ≡ start.ticket) }
         ensures place { IfOk result (λ n. n.stream_position ≡ start.place) }
+        ensures sessions { IfOk result (λ n. n.sessions.sessions ≡ []) }
+        ensures ledger { IfOk result (λ n. n.sessions.limit ≡ settings.now.realm.max_sessions) }
     {
         let lanes = new_lanes(alloc, settings)?;
         Ok(Numbers {
@@ -84,6 +114,7 @@ impl<A: Allocator + Copy> Numbers<A> {
             lanes,
             ticket: start.ticket,
             stream_position: start.place,
+            sessions: Sessions::new(alloc, settings.max_sessions()),
         })
     }
 
@@ -119,9 +150,12 @@ impl<A: Allocator + Copy> Numbers<A> {
         freed: Option<Link>,
     ) -> Option<Link>
         requires count { length self.now.lanes.items ≡ link_count settings.now }
+        requires lanes { AreOwnLanes settings.now (marks_of self.now.lanes.items) }
         ensures first { result ≡ find (is_open settings.now self.now.lanes.items freed)
             (server_links service from (drop from settings.now.realm.servers)) }
         ensures link { IfSome result (λ l. IsLink settings.now l) }
+        ensures made { IfSome result (λ l.
+            (lane_of settings.now self.now.lanes.items l).made ≡ true) }
     {
         for server in from..settings.server_count() {
             let link = service.link(server as u8);
@@ -130,6 +164,49 @@ impl<A: Allocator + Copy> Numbers<A> {
             }
         }
         None
+    }
+
+    /// A link, where it has a free Identifier, or is `freed`.
+    pub(crate) fn if_open(
+        &self,
+        settings: &Settings<'_>,
+        link: Link,
+        freed: Option<Link>,
+    ) -> Option<Link>
+        requires link { IsLink settings.now link }
+        requires count { length self.now.lanes.items ≡ link_count settings.now }
+        ensures open { result ≡ find (is_open settings.now self.now.lanes.items freed)
+            (link ∷ []) }
+        ensures link { IfSome result (λ l. IsLink settings.now l) }
+    {
+        if is_freed(freed, link) || self.has_free(settings, link) {
+            Some(link)
+        } else {
+            None
+        }
+    }
+
+    /// Takes the memory of a link's lane, where that isn't there. What the numbers stand for stays,
+    /// refused or not.
+    pub(crate) fn make_lane(&mut self, settings: &Settings<'_>, link: Link) -> Result<(), NoMemory>
+        requires link { IsLink settings.now link }
+        requires count { length self.old.lanes.items ≡ link_count settings.now }
+        ensures made { OnOk result ((lane_of settings.now self.new.lanes.items link).made ≡ true) }
+        ensures cursors { cursors_of self.new.lanes.items ≡ cursors_of self.old.lanes.items }
+        ensures tells { (es : List PlainEntry) → LanesTell settings.now es self.old.lanes.items
+            → LanesTell settings.now es self.new.lanes.items }
+        ensures lanes { AreOwnLanes settings.now (marks_of self.old.lanes.items)
+            → AreOwnLanes settings.now (marks_of self.new.lanes.items) }
+        ensures count { length self.new.lanes.items ≡ length self.old.lanes.items }
+        ensures ticket { self.new.ticket ≡ self.old.ticket }
+        ensures stream_position { self.new.stream_position ≡ self.old.stream_position }
+        ensures sessions { self.new.sessions ≡ self.old.sessions }
+        ensures succeeds { (lane_of settings.now self.old.lanes.items link).made ≡ true
+            → IsOk result }
+    {
+        let lane = &mut self.lanes[settings.place_of(link)];
+        lane.make()?;
+        Ok(())
     }
 
     /// Takes the next free Identifier toward a link for a ticket, whose request then waits for its
@@ -142,6 +219,7 @@ impl<A: Allocator + Copy> Numbers<A> {
     ) -> Option<u8>
         requires link { IsLink settings.now link }
         requires count { length self.old.lanes.items ≡ link_count settings.now }
+        requires made { (lane_of settings.now self.old.lanes.items link).made ≡ true }
         ensures next { (es : List PlainEntry) → IsEntryList es → LanesTell settings.now es self.old.lanes.items
             → result ≡ next_toward settings.now (cursors_of self.old.lanes.items) es link }
         ensures free { is_some result ≡ has_free (lane_of settings.now self.old.lanes.items link) }
@@ -156,10 +234,11 @@ impl<A: Allocator + Copy> Numbers<A> {
             → find_ticket ticket es ≡ None → e.ticket ≡ ticket
             → WaitsJustAt link id e
             → LanesTell settings.now (put e es) self.new.lanes.items) }
-        ensures tags { tags_of self.new.lanes.items ≡ tags_of self.old.lanes.items }
+        ensures marks { marks_of self.new.lanes.items ≡ marks_of self.old.lanes.items }
         ensures count { length self.new.lanes.items ≡ length self.old.lanes.items }
         ensures ticket { self.new.ticket ≡ self.old.ticket }
         ensures stream_position { self.new.stream_position ≡ self.old.stream_position }
+        ensures sessions { self.new.sessions ≡ self.old.sessions }
     {
         let lane = &mut self.lanes[settings.place_of(link)];
         let slot = lane.take()?;
@@ -179,14 +258,49 @@ impl<A: Allocator + Copy> Numbers<A> {
             → LanesTell settings.now es self.old.lanes.items
             → find_ticket e.ticket es ≡ Some e → waits_at link id e ≡ true
             → LanesTell settings.now (without e.ticket es) self.new.lanes.items }
-        ensures tags { tags_of self.new.lanes.items ≡ tags_of self.old.lanes.items }
+        ensures marks { marks_of self.new.lanes.items ≡ marks_of self.old.lanes.items }
         ensures count { length self.new.lanes.items ≡ length self.old.lanes.items }
         ensures ticket { self.new.ticket ≡ self.old.ticket }
         ensures stream_position { self.new.stream_position ≡ self.old.stream_position }
+        ensures sessions { self.new.sessions ≡ self.old.sessions }
     {
         let lane = &mut self.lanes[settings.place_of(link)];
         if let Some((slot, _)) = lane.claim(id) {
             lane.free(slot);
+        }
+    }
+
+    /// Makes all growth of the ledger that an Accounting-Request of a peer wants, and changes no
+    /// session.
+    pub(crate) fn prepare_ledger(
+        &mut self,
+        peer: u16,
+        request: &View<'_>,
+    ) -> Result<Prepared<A>, NoMemory>
+        ensures change { IfOk result (λ change. IsPrepared self.new.sessions (Some change)
+            (applied self.old.sessions.limit peer request.now.attributes
+            self.old.sessions.sessions)) }
+        ensures sessions { self.new.sessions.sessions ≡ self.old.sessions.sessions }
+        ensures limit { self.new.sessions.limit ≡ self.old.sessions.limit }
+        ensures lanes { self.new.lanes.items ≡ self.old.lanes.items }
+        ensures ticket { self.new.ticket ≡ self.old.ticket }
+        ensures stream_position { self.new.stream_position ≡ self.old.stream_position }
+    {
+        self.sessions.prepare(peer, request)
+    }
+
+    /// Makes a change of the ledger that was prepared, if one was. Takes no memory.
+    pub(crate) fn change_ledger(&mut self, change: Option<Prepared<A>>)
+        requires { IfSome change (λ made. HasRoomFor made self.old.sessions) }
+        ensures sessions { (sessions : List Session) → IsPrepared self.old.sessions change sessions
+            → self.new.sessions.sessions ≡ sessions }
+        ensures limit { self.new.sessions.limit ≡ self.old.sessions.limit }
+        ensures lanes { self.new.lanes.items ≡ self.old.lanes.items }
+        ensures ticket { self.new.ticket ≡ self.old.ticket }
+        ensures stream_position { self.new.stream_position ≡ self.old.stream_position }
+    {
+        if let Some(change) = change {
+            self.sessions.apply_prepared(change);
         }
     }
 }

@@ -1,9 +1,9 @@
 //! What a reply does to its realm (RFC 2865, section 2.3).
 //!
-//! First it is decided what the answer is and which entry is done then, and all memory is taken;
-//! that changes nothing. Then the entry is settled.
+//! First it is decided what the answer is and which entry is done then, and all memory is taken, that
+//! of the ledger of sessions too; that changes nothing. Then the entry is settled.
 
-ghost use Rattle.std.specs.Prelude.{◌≡◌, ◌≤◌, ◌^◌, [], IfOk, IsOk};
+ghost use Rattle.std.specs.Prelude.{◌≡◌, ◌≤◌, ◌^◌, [], None, IfOk, IsOk};
 ghost use Rattle.roam_wire.specs.Reading.{IsPacketText};
 ghost use Rattle.roam_pending.specs.EntryList.{find_link};
 ghost use Rattle.roam_pending.specs.Shown.{seen};
@@ -12,7 +12,7 @@ ghost use Rattle.roam_book.specs.RealmState.{RealmState};
 ghost use Rattle.roam_book.specs.Turn.{packets_of, refuses};
 ghost use Rattle.roam_book.specs.OnReply.{on_reply, to_entry};
 ghost use Rattle.roam_book.specs.RealmTurn.{IsRealm, Keeps, Turns, TurnsTwice, entries, state};
-ghost use Rattle.roam_book.specs.ReplyPlans.{CanSettle, IsReplyPlan, once_settled};
+ghost use Rattle.roam_book.specs.ReplyPlans.{CanSettle, IsPrepared, IsReplyPlan, once_settled};
 
 use crate::answer::{Answer, Twin, refused};
 use crate::realm::Realm;
@@ -20,6 +20,7 @@ use crate::requests::LATEST;
 use crate::verdict::{Verdict, to_standing};
 use roam_conf::Link;
 use roam_pending::{Done, Entries, Entry, Standing, set_standing};
+use roam_reverse::Prepared;
 use roam_wire::{NoMemory, Refusal, View};
 use std::alloc::Allocator;
 
@@ -30,6 +31,8 @@ pub(crate) struct Settled<A: Allocator> {
     pub link: Link,
     pub id: u8,
     pub done: Done<A>,
+    /// The peer whose sessions change then, if any do.
+    pub counted: Option<u16>,
 }
 
 /// What a reply does: its answer, and the entry that is then done, if one is.
@@ -81,13 +84,11 @@ impl<A: Allocator + Copy, E: Entries<A>> Realm<'_, '_, '_, '_, A, E> {
         let Some(entry) = self.waiting_at(link, id) else {
             return Ok(refused_reply(self.numbers.alloc, Refusal::NoEntry));
         };
-        let Verdict { answer, done } = to_standing(
-            self.numbers.alloc,
-            self.settings,
-            now,
-            entry,
-            reply,
-        )?;
+        let Verdict {
+            answer,
+            done,
+            counted,
+        } = to_standing(self.numbers.alloc, self.settings, now, entry, reply)?;
         let settled = match done {
             None => None,
             Some(done) => {
@@ -96,6 +97,7 @@ impl<A: Allocator + Copy, E: Entries<A>> Realm<'_, '_, '_, '_, A, E> {
                     link,
                     id,
                     done,
+                    counted,
                 })
             }
         };
@@ -118,12 +120,44 @@ impl<A: Allocator + Copy, E: Entries<A>> Realm<'_, '_, '_, '_, A, E> {
         self.reply_to_entry(now, link, &View::of_packet(octets))
     }
 
-    /// The entry that is to be done, if one is, is done: its Identifier is then free. Takes no
-    /// memory.
-    fn settle(&mut self, settled: Option<Settled<A>>)
+    /// Makes all growth of the ledger that an entry wants which is to be done, and changes no
+    /// session. Gives the change, if there is one.
+    fn prepare_ledger(
+        &mut self,
+        settled: &Option<Settled<A>>,
+    ) -> Result<Option<Prepared<A>>, NoMemory>
+        requires realm { IsRealm E.Entries self.old }
+        ensures change { IfOk result (λ change. IsPrepared self.new.numbers.now.sessions change
+            (once_settled self.old.settings.now (state E.Entries self.old) settled.now).sessions) }
+        ensures succeeds { settled.now ≡ None → IsOk result }
+        ensures entries { entries E.Entries self.new ≡ entries E.Entries self.old }
+        ensures state { state E.Entries self.new ≡ state E.Entries self.old }
+        ensures keeps { Keeps E.Entries self.old self.new }
+    {
+        let Some(settled) = settled else {
+            return Ok(None);
+        };
+        let Some(peer) = settled.counted else {
+            return Ok(None);
+        };
+        let realm = self.settings.index();
+        let Some(entry) = self.entries.find_ticket(realm, settled.ticket) else {
+            return Ok(None);
+        };
+        let request = View::of_packet(entry.request.octets.as_slice());
+        let change = self.numbers.prepare_ledger(peer, &request)?;
+        Ok(Some(change))
+    }
+
+    /// The entry that is to be done, if one is, is done: its Identifier is then free, and the change
+    /// of the ledger, if there is one, is made. Takes no memory.
+    fn settle(&mut self, settled: Option<Settled<A>>, change: Option<Prepared<A>>)
         requires realm { IsRealm E.Entries self.old }
         requires settled { CanSettle self.old.settings.now (entries E.Entries self.old) settled }
-        ensures state { state E.Entries self.new ≡ once_settled (state E.Entries self.old) settled }
+        requires change { IsPrepared self.old.numbers.now.sessions change
+            (once_settled self.old.settings.now (state E.Entries self.old) settled).sessions }
+        ensures state { state E.Entries self.new
+            ≡ once_settled self.old.settings.now (state E.Entries self.old) settled }
         ensures keeps { Keeps E.Entries self.old self.new }
     {
         let Some(settled) = settled else {
@@ -138,6 +172,7 @@ impl<A: Allocator + Copy, E: Entries<A>> Realm<'_, '_, '_, '_, A, E> {
         );
         self.numbers
             .give_back(self.settings, settled.link, settled.id);
+        self.numbers.change_ledger(change);
     }
 
     /// A reply that came from a link: it is returned, and held until `now + hold`, where the
@@ -153,7 +188,8 @@ impl<A: Allocator + Copy, E: Entries<A>> Realm<'_, '_, '_, '_, A, E> {
             (λ s. on_reply self.old.settings.now now s link octets.now) }
     {
         let ReplyPlan { answer, settled } = self.plan_reply(now, link, octets)?;
-        self.settle(settled);
+        let change = self.prepare_ledger(&settled)?;
+        self.settle(settled, change);
         Ok(answer)
     }
 
@@ -171,7 +207,8 @@ impl<A: Allocator + Copy, E: Entries<A>> Realm<'_, '_, '_, '_, A, E> {
     {
         let ReplyPlan { answer, settled } = self.plan_reply(now, link, octets)?;
         let copy = answer.copy(self.numbers.alloc)?;
-        self.settle(settled);
+        let change = self.prepare_ledger(&settled)?;
+        self.settle(settled, change);
         Ok(Twin { answer, copy })
     }
 }

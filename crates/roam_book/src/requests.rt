@@ -1,15 +1,16 @@
 //! What a request does to its realm (RFC 2865, section 2.3).
 //!
-//! First it is decided whether it is a duplicate, refused or admitted, and which entries make way;
-//! that changes nothing. Then a new request is admitted.
+//! First it is decided whether it is a duplicate, answered by a NAK, refused or admitted, and which
+//! entries make way; that changes nothing. Then a new request is admitted.
 
-ghost use Rattle.std.specs.Prelude.{◌≡◌, ◌≢◌, ℕ, ◌<◌, ◌≤◌, ◌^◌, [], None, Some, IfOk, IfSome, IsOk, length};
+ghost use Rattle.std.specs.Prelude.{◌≡◌, ◌≢◌, ℕ, ◌<◌, ◌≤◌, ◌^◌, ◌∷◌, [], true, None, Some, IfOk, IfSome, IsOk, length};
 ghost use Rattle.std.specs.List.{find};
-ghost use Rattle.roam_pending.specs.EntryList.{besides, find_client};
+ghost use Rattle.roam_wire.specs.Reading.{IsPacketText};
+ghost use Rattle.roam_pending.specs.EntryList.{besides, find_client, without_client};
 ghost use Rattle.roam_pending.specs.PlainEntry.{PlainRequest};
 ghost use Rattle.roam_pending.specs.Shown.{shown_standing};
 ghost use Rattle.roam_book.specs.NewEntry.{Chooses, IsRequestPlan, IsWay, freed_link, once_gone, straight_after, target_at};
-ghost use Rattle.roam_book.specs.OnRequest.{at_target, held_reply, new_request, of_key, on_request, targets};
+ghost use Rattle.roam_book.specs.OnRequest.{at_target, first_seen, held_reply, is_reverse, nak_octets, new_request, of_key, on_request, packet_back, reverse_cause, targets};
 ghost use Rattle.roam_book.specs.RealmConfig.{IsLink};
 ghost use Rattle.roam_book.specs.RealmTurn.{IsRealm, Turns, TurnsTwice, entries, state};
 ghost use Rattle.roam_book.specs.Sound.{CountsAsGone, IsRequest, gone_ticket, is_open, shown_request};
@@ -22,8 +23,10 @@ use crate::sending::{Asked, packet_back};
 use crate::service::Service;
 use crate::settings::Settings;
 use crate::way::Way;
+use roam_back::nak;
 use roam_conf::Link;
 use roam_pending::{Entries, Entry, Standing};
+use roam_route::is_reverse_request;
 use roam_wire::{NoMemory, Octets, Refusal, View};
 use std::alloc::Allocator;
 
@@ -33,7 +36,7 @@ pub const LATEST: u64 = 1 << 62;
 /// What a request is to do.
 #[derive(Drop)]
 pub(crate) enum RequestPlan<A: Allocator> {
-    /// It is a duplicate, or refused: nothing changes.
+    /// It is a duplicate, answered by a NAK, or refused: nothing changes.
     Answered(Answer<A>),
     /// It is admitted.
     Admitted(Way),
@@ -58,6 +61,26 @@ fn held_reply<A: Allocator + Copy>(
             one_packet(alloc, packet_back(settings, entry.request.key, reply))
         }
     }
+}
+
+/// The NAK that answers a reverse request which isn't forwarded (RFC 5176, sections 2.3 and 3.5).
+fn refused_by_nak<A: Allocator + Copy>(
+    alloc: A,
+    settings: &Settings<'_>,
+    asked: Asked<'_>,
+    cause: u32,
+) -> Result<Answer<A>, NoMemory>
+    requires request { IsRequest settings.now (shown_request asked) }
+    requires reverse { is_reverse (shown_request asked) ≡ true }
+    ensures outs { IfOk result (λ a. shown_outs a.outs.items
+        ≡ packet_back settings.now asked.entry.key
+        (nak_octets settings.now (shown_request asked.entry) cause) ∷ []) }
+    ensures refusal { IfOk result (λ a. a.refusal ≡ None) }
+{
+    let request = View::of_packet(asked.octets);
+    let secret = settings.secret_of_requester(asked.requester);
+    let octets = Octets::from_vec(nak(alloc, &request, cause, secret)?);
+    one_packet(alloc, packet_back(settings, asked.key, octets))
 }
 
 /// The link where an Identifier becomes free once an entry is gone.
@@ -134,7 +157,12 @@ impl<A: Allocator + Copy, E: Entries<A>> Realm<'_, '_, '_, '_, A, E> {
             freed) (targets self.now.settings.now (shown_request asked.entry)) }
         ensures link { IfSome result (λ l. IsLink self.now.settings.now l) }
     {
-        let service = Service::of_code(View::of_packet(asked.octets).code());
+        let request = View::of_packet(asked.octets);
+        if is_reverse_request(request.code()) {
+            let peer = self.settings.target_of(&request)?;
+            return self.numbers.if_open(self.settings, Link::Coa(peer), freed);
+        }
+        let service = Service::of_code(request.code());
         self.numbers.first_open(self.settings, service, 0, freed)
     }
 
@@ -176,6 +204,50 @@ impl<A: Allocator + Copy, E: Entries<A>> Realm<'_, '_, '_, '_, A, E> {
         }
     }
 
+    /// Why a reverse request isn't forwarded, if it isn't; of other requests nothing is asked.
+    fn reverse_cause(&self, asked: Asked<'_>) -> Option<u32>
+        requires { IsPacketText asked.octets.now }
+        ensures cause { result ≡ reverse_cause self.now.settings.now (state E.Entries self.now)
+            (shown_request asked.entry) }
+        ensures reverse { IfSome result (λ cause. is_reverse (shown_request asked.entry) ≡ true) }
+    {
+        let request = View::of_packet(asked.octets);
+        if is_reverse_request(request.code()) {
+            self.settings.cause_of(&request, &self.numbers.sessions)
+        } else {
+            None
+        }
+    }
+
+    /// A request that is no duplicate: a reverse request that can't be forwarded is answered by a
+    /// NAK, and any other is new.
+    fn plan_first_seen(
+        &self,
+        asked: Asked<'_>,
+        gone: Option<Gone>,
+    ) -> Result<RequestPlan<A>, NoMemory>
+        requires realm { IsRealm E.Entries self.now }
+        requires request { IsRequest self.now.settings.now (shown_request asked) }
+        requires gone { CountsAsGone gone (entries E.Entries self.now) }
+        requires key { find_client asked.key (once_gone gone (entries E.Entries self.now)) ≡ None }
+        requires rest { once_gone gone (entries E.Entries self.now)
+            ≡ without_client asked.key (entries E.Entries self.now) }
+        ensures plan { IfOk result (λ p. IsRequestPlan self.now.settings.now
+            (state E.Entries self.now) (shown_request asked.entry) p
+            (λ now. first_seen self.now.settings.now now (state E.Entries self.now)
+            (shown_request asked.entry))) }
+        ensures succeeds { (now : ℕ) → packets_of (first_seen self.now.settings.now now
+            (state E.Entries self.now) (shown_request asked.entry)) ≡ [] → IsOk result }
+    {
+        match self.reverse_cause(asked) {
+            Some(cause) => {
+                let answer = refused_by_nak(self.numbers.alloc, self.settings, asked, cause)?;
+                Ok(RequestPlan::Answered(answer))
+            }
+            None => Ok(self.plan_new(asked, gone)),
+        }
+    }
+
     /// A request in time: a duplicate where the entry of its key has its octets too, else a new
     /// one.
     fn plan_of_key(&self, asked: Asked<'_>) -> Result<RequestPlan<A>, NoMemory>
@@ -191,18 +263,19 @@ impl<A: Allocator + Copy, E: Entries<A>> Realm<'_, '_, '_, '_, A, E> {
             (find_client asked.entry.key (entries E.Entries self.now))) ≡ [] → IsOk result }
     {
         match self.entries.find_client(self.settings.index(), &asked.key) {
-            None => Ok(self.plan_new(asked, None)),
+            None => self.plan_first_seen(asked, None),
             Some(entry) => {
                 if entry.request.octets.as_slice() == asked.octets {
                     let answer = held_reply(self.numbers.alloc, self.settings, entry)?;
                     return Ok(RequestPlan::Answered(answer));
                 }
-                Ok(self.plan_new(asked, Some(Gone::of(entry))))
+                self.plan_first_seen(asked, Some(Gone::of(entry)))
             }
         }
     }
 
-    /// A request of the realm: a duplicate, or a new one that is forwarded.
+    /// A request of the realm: a duplicate, a reverse request that is answered by a NAK, or a new one
+    /// that is forwarded.
     ///
     /// Refused in this order: `Moment`, `Exhausted`, `NoIdentifier`, `Busy`. `NoMemory` comes where
     /// a growth was refused; the realm is then as it was. A refused request and a duplicate of one

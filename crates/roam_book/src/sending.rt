@@ -12,7 +12,7 @@ ghost use Rattle.roam_book.specs.RealmConfig.{IsLink, link_place, link_count};
 ghost use Rattle.roam_book.specs.RealmState.{next_toward};
 ghost use Rattle.roam_book.specs.OnRequest.{packet_to, packet_back, drawn_at, position_after, forwarded_octets, forwarded_entry};
 ghost use Rattle.roam_book.specs.Memory.{HasBuffers, HasRoom, IsCopied};
-ghost use Rattle.roam_book.specs.Sound.{shown_request, IsRequest, LanesTell, IsWaiting, lane_of, cursors_of, has_free, tags_of};
+ghost use Rattle.roam_book.specs.Sound.{shown_request, IsRequest, LanesTell, IsWaiting, lane_of, cursors_of, has_free, marks_of};
 
 use crate::buffers::{Buffers, copied_into};
 use crate::numbers::Numbers;
@@ -74,28 +74,25 @@ pub(crate) fn packet_back<A: Allocator>(
     }
 }
 
-/// A packet of the realm toward a link, and its copy where there is a buffer for one.
-pub(crate) fn sent_to<A: Allocator>(
-    settings: &Settings<'_>,
-    link: Link,
-    bytes: Octets<A>,
-    copy: Option<Vec<u8, A>>,
-) -> Sent<A>
-    requires link { IsLink settings.now link }
-    requires copy { IfSome copy (λ v. HasRoom (length bytes) v) }
-    ensures out { shown_out result.out ≡ packet_to settings.now link bytes }
-    ensures copied { IsCopied (is_some copy) result }
-{
-    let copy = match copy {
-        None => None,
-        Some(buffer) => {
-            let equal = copied_into(buffer, bytes.as_slice());
-            Some(packet_to(settings, link, equal))
-        }
-    };
-    Sent {
-        out: packet_to(settings, link, bytes),
-        copy,
+impl<A: Allocator> Sent<A> {
+    /// A packet, and its copy where there is a buffer for one.
+    pub(crate) fn new(out: Out<A>, copy: Option<Vec<u8, A>>) -> Sent<A>
+        requires copy { IfSome copy (λ v. HasRoom (length out.bytes) v) }
+        ensures out { result.out ≡ out }
+        ensures copied { IsCopied (is_some copy) result }
+    {
+        let copy = match copy {
+            None => None,
+            Some(buffer) => {
+                Some(Out {
+                    realm: out.realm,
+                    from: out.from,
+                    to: out.to,
+                    bytes: copied_into(buffer, out.bytes.as_slice()),
+                })
+            }
+        };
+        Sent { out, copy }
     }
 }
 
@@ -183,6 +180,7 @@ pub(crate) fn send_new<A: Allocator + Copy>(
     requires link { IsLink settings.now link }
     requires count { length numbers.old.lanes.items ≡ link_count settings.now }
     requires free { has_free (lane_of settings.now numbers.old.lanes.items link) ≡ true }
+    requires made { (lane_of settings.now numbers.old.lanes.items link).made ≡ true }
     requires buffers { HasBuffers (length asked.octets.now + 46) buffers }
     ensures next { (es : List PlainEntry) → IsEntryList es
         → LanesTell settings.now es numbers.old.lanes.items
@@ -208,11 +206,12 @@ pub(crate) fn send_new<A: Allocator + Copy>(
         (put (forwarded_entry settings.now now (shown_request asked.entry)
         numbers.old.stream_position ticket (record { link = link; id = result.1.id })) es)
         numbers.new.lanes.items }
-    ensures tags { tags_of numbers.new.lanes.items ≡ tags_of numbers.old.lanes.items }
+    ensures marks { marks_of numbers.new.lanes.items ≡ marks_of numbers.old.lanes.items }
     ensures count { length numbers.new.lanes.items ≡ length numbers.old.lanes.items }
     ensures ticket { numbers.new.ticket ≡ numbers.old.ticket }
     ensures stream_position { numbers.new.stream_position
         ≡ position_after (shown_request asked.entry) numbers.old.stream_position }
+    ensures sessions { numbers.new.sessions ≡ numbers.old.sessions }
 {
     let Some(id) = numbers.take_next(settings, link, ticket) else {
         unreachable!();
@@ -233,8 +232,6 @@ pub(crate) fn send_new<A: Allocator + Copy>(
         sends_left: settings.tries().saturating_sub(1),
         deadline: now + u64::from(settings.wait()),
     };
-    (
-        sent_to(settings, link, Octets::from_vec(sent), copy),
-        waiting,
-    )
+    let out = packet_to(settings, link, Octets::from_vec(sent));
+    (Sent::new(out, copy), waiting)
 }

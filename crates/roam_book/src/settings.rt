@@ -1,12 +1,17 @@
 //! What the rules of a realm read of the configuration.
 
-ghost use Rattle.std.specs.Prelude.{◌≡◌, ◌↔◌, ℕ, ◌<◌, ◌≤◌, ◌+◌, IsTrue, length, unwrap_or, vec_len};
+ghost use Rattle.std.specs.Prelude.{◌≡◌, ◌↔◌, ℕ, ◌<◌, ◌≤◌, ◌+◌, IfSome, IsTrue, length, unwrap_or, vec_len};
 ghost use Rattle.roam_conf.specs.Shown.{shown};
 ghost use Rattle.roam_conf.specs.Parts.{shown_realm, shown_peer, shown_server};
+ghost use Rattle.roam_reverse.specs.Causes.{cause};
+ghost use Rattle.roam_reverse.specs.Target.{target};
 ghost use Rattle.roam_book.specs.RealmConfig.{realm_config, server_secret, peer_secret, link_secret, requester_secret, link_endpoint, link_place, link_count, nowhere, IsLink, IsRequester};
 
 use roam_conf::{Config, Endpoint, Link, Peer, Realm, Server};
 use roam_pending::Requester;
+use roam_reverse::{Sessions, target, verdict};
+use roam_wire::View;
+use std::alloc::Allocator;
 use std::marker::Model;
 
 /// What the rules of one realm read of a configuration: the seed, the realm's index and entry, and
@@ -78,6 +83,13 @@ impl<'c> Settings<'c> {
         ensures { result ≡ self.now.realm.hold }
     {
         self.realm().hold
+    }
+
+    /// How many sessions the ledger holds at most.
+    pub(crate) fn max_sessions(&self) -> u32
+        ensures { result ≡ self.now.realm.max_sessions }
+    {
+        self.realm().max_sessions
     }
 
     /// How many requests may be pending.
@@ -166,6 +178,26 @@ impl<'c> Settings<'c> {
             Requester::Peer(peer) => self.secret_of_peer(peer),
             Requester::Home(server) => self.secret_of_server(server),
         }
+    }
+
+    /// The peer that a reverse request is for, if there is one.
+    pub(crate) fn target_of(&self, request: &View<'_>) -> Option<u16>
+        ensures target { result ≡ target self.now.peers request.now.attributes }
+        ensures there { IfSome result (λ peer. peer < length self.now.peers) }
+    {
+        target(self.config, request)
+    }
+
+    /// Why a reverse request isn't forwarded, as an Error-Cause, if it isn't (RFC 5176, section 3.5).
+    pub(crate) fn cause_of<A: Allocator + Copy>(
+        &self,
+        request: &View<'_>,
+        sessions: &Sessions<A>,
+    ) -> Option<u32>
+        ensures { result ≡ cause self.now.peers self.now.realm request.now.attributes
+            sessions.now.sessions }
+    {
+        verdict(self.config, self.realm, request, sessions)
     }
 
     /// The endpoint of a link of the realm.

@@ -9,7 +9,7 @@ ghost use Rattle.roam_book.specs.OnTick.{on_tick, due_one};
 ghost use Rattle.roam_book.specs.Memory.{HasBuffers, HasPlace, IsOuts, Tells};
 ghost use Rattle.roam_book.specs.RealmTurn.{IsRealm, Keeps, KeepsLoans, Turns, TurnsTwice, entries, state};
 ghost use Rattle.roam_book.specs.Rooms.{IsRoomFor, size_of};
-ghost use Rattle.roam_book.specs.Fates.{IsFateCopied, fate_packets, fate_entries};
+ghost use Rattle.roam_book.specs.Fates.{IsFateCopied, fate_packets, fate_entries, once_held};
 
 use crate::answer::{Answer, Told, Twin};
 use crate::fate::{Fate, fate_of};
@@ -17,11 +17,32 @@ use crate::outs::Outs;
 use crate::realm::Realm;
 use crate::requests::LATEST;
 use crate::room::{Room, Slot};
-use roam_pending::{Entries, Standing, send_again, set_standing};
+use roam_pending::{Done, Entries, Standing, send_again, set_standing};
 use roam_wire::Refusal;
 use std::alloc::Allocator;
 
 impl<A: Allocator + Copy, E: Entries<A>> Realm<'_, '_, '_, '_, A, E> {
+    /// An entry is done, and its reply is held, or it goes.
+    fn hold(&mut self, ticket: u64, held: Option<Done<A>>)
+        ensures entries { IfSome (find_ticket ticket (entries E.Entries self.old))
+            (λ e. RealmBecomes self.old.settings.now.index
+            (once_held e (entries E.Entries self.old) held)
+            (E.entries_of self.old.entries.now) (E.entries_of self.new.entries.now)) }
+        ensures numbers { self.new.numbers.now ≡ self.old.numbers.now }
+        ensures loans { KeepsLoans E.Entries self.old self.new }
+    {
+        let realm = self.settings.index();
+        match held {
+            None => {
+                let _gone = self.entries.remove(realm, ticket);
+            }
+            Some(done) => {
+                let standing = Standing::Done(done);
+                set_standing(self.numbers.alloc, self.entries, realm, ticket, standing);
+            }
+        }
+    }
+
     /// Lets an entry have its fate: what is sent for it goes to the packets, where there is a
     /// place.
     fn meet_fate(&mut self, now: u64, ticket: u64, fate: Fate<A>, outs: &mut Outs<A>)
@@ -42,9 +63,7 @@ impl<A: Allocator + Copy, E: Entries<A>> Realm<'_, '_, '_, '_, A, E> {
         let realm = self.settings.index();
         let alloc = self.numbers.alloc;
         match fate {
-            Fate::Gone => {
-                let _gone = self.entries.remove(realm, ticket);
-            }
+            Fate::Gone => self.hold(ticket, None),
             Fate::SentAgain(sent) => {
                 outs.push(sent);
                 let deadline = now + u64::from(self.settings.wait());
@@ -54,6 +73,10 @@ impl<A: Allocator + Copy, E: Entries<A>> Realm<'_, '_, '_, '_, A, E> {
                 outs.push(sent);
                 let standing = Standing::Waiting(waiting);
                 set_standing(alloc, self.entries, realm, ticket, standing);
+            }
+            Fate::Refused(sent, held) => {
+                outs.push(sent);
+                self.hold(ticket, held);
             }
         }
     }

@@ -6,10 +6,10 @@ ghost use Rattle.roam_back.specs.ReplyCheck.{IsTaken};
 ghost use Rattle.roam_back.specs.Returned.{returned_length};
 ghost use Rattle.roam_pending.specs.PlainEntry.{PlainEntry};
 ghost use Rattle.roam_pending.specs.Shown.{shown, shown_request, shown_standing};
-ghost use Rattle.roam_book.specs.RealmConfig.{IsLink, link_secret};
+ghost use Rattle.roam_book.specs.RealmConfig.{IsLink, RealmConfig, link_secret};
 ghost use Rattle.roam_book.specs.RealmState.{RealmState};
 ghost use Rattle.roam_book.specs.Turn.{packets_of, refuses};
-ghost use Rattle.roam_book.specs.OnReply.{judge, reply_fault, return_reply, returned_octets, returning, to_standing};
+ghost use Rattle.roam_book.specs.OnReply.{counted_peer, judge, reply_fault, return_reply, returned_octets, returning, to_standing};
 ghost use Rattle.roam_book.specs.Sound.{IsRequest, IsWaiting, StandsWell};
 ghost use Rattle.roam_book.specs.Judged.{IsVerdict, returns_octets};
 
@@ -18,7 +18,8 @@ use crate::sending::packet_back;
 use crate::settings::Settings;
 use roam_back::{back, check_reply};
 use roam_conf::Link;
-use roam_pending::{Done, Entry, Key, Request, Standing, Waiting};
+use roam_pending::{Done, Entry, Key, Request, Requester, Standing, Waiting};
+use roam_wire::code::ACCOUNTING_RESPONSE;
 use roam_wire::{NoMemory, Octets, Refusal, View};
 use std::alloc::Allocator;
 
@@ -28,15 +29,18 @@ pub(crate) struct Verdict<A: Allocator> {
     pub answer: Answer<A>,
     /// How the entry is done from now on. `None` where the reply isn't taken.
     pub done: Option<Done<A>>,
+    /// The peer whose sessions change, if any do.
+    pub counted: Option<u16>,
 }
 
 /// A reply that isn't taken. Takes no memory.
 fn not_taken<A: Allocator>(alloc: A, why: Refusal) -> Verdict<A>
-    ensures { (e : PlainEntry) → IsVerdict result e (λ s. refuses why) }
+    ensures { (c : RealmConfig) (e : PlainEntry) → IsVerdict c result e (λ s. refuses why) }
 {
     Verdict {
         answer: refused(alloc, why),
         done: None,
+        counted: None,
     }
 }
 
@@ -85,17 +89,36 @@ fn returned_packet<A: Allocator + Copy>(
     }
 }
 
+/// Whose sessions change when a reply was returned: those of the peer that sent the Accounting-Request
+/// which an Accounting-Response answers (RFC 2866, section 2).
+fn counted_peer(requester: Requester, reply: &View<'_>) -> Option<u16>
+    ensures { result ≡ counted_peer requester reply.now }
+{
+    match requester {
+        Requester::Peer(peer) => {
+            if reply.code() == ACCOUNTING_RESPONSE {
+                Some(peer)
+            } else {
+                None
+            }
+        }
+        Requester::Home(_) => None,
+    }
+}
+
 /// A packet goes back to the sender of a request, and is held until `now + hold`.
 fn return_packet<A: Allocator + Copy>(
     alloc: A,
     settings: &Settings<'_>,
     now: u64,
     key: Key,
+    counted: Option<u16>,
     packet: Vec<u8, A>,
 ) -> Result<Verdict<A>, NoMemory>
     requires moment { now ≤ 2 ^ 62 }
     ensures { IfOk result (λ v. (e : PlainEntry)
-        → IsVerdict v e (λ s. returns_octets settings.now now key packet.items e s)) }
+        → IsVerdict settings.now v e
+        (λ s. returns_octets settings.now now key counted packet.items e s)) }
 {
     let reply = Octets::copy_of(alloc, packet.as_slice())?;
     let deadline = now + u64::from(settings.hold());
@@ -104,6 +127,7 @@ fn return_packet<A: Allocator + Copy>(
     Ok(Verdict {
         answer,
         done: Some(Done { reply, deadline }),
+        counted,
     })
 }
 
@@ -121,13 +145,16 @@ fn return_reply<A: Allocator + Copy>(
     requires request { IsRequest settings.now (shown entry.now).request }
     requires link { IsLink settings.now link }
     requires taken { IsTaken (link_secret settings.now link) reply.now forwarded.now }
-    ensures turn { IfOk result (λ v. IsVerdict v (shown entry.now)
+    ensures turn { IfOk result (λ v. IsVerdict settings.now v (shown entry.now)
         (λ s. return_reply settings.now now s (shown entry.now) link forwarded.now reply.now)) }
     ensures succeeds { (s : RealmState) → packets_of (return_reply settings.now now s
         (shown entry.now) link forwarded.now reply.now) ≡ [] → IsOk result }
 {
     match returned_packet(alloc, settings, &entry.request, link, forwarded, reply) {
-        Ok(packet) => return_packet(alloc, settings, now, entry.request.key, packet),
+        Ok(packet) => {
+            let counted = counted_peer(entry.request.requester, reply);
+            return_packet(alloc, settings, now, entry.request.key, counted, packet)
+        }
         Err(Refusal::ReplyTooLong) => Ok(not_taken(alloc, Refusal::ReplyTooLong)),
         Err(_) => Err(NoMemory),
     }
@@ -146,7 +173,7 @@ fn judge<A: Allocator + Copy>(
     requires request { IsRequest settings.now (shown entry.now).request }
     requires waiting { IsWaiting settings.now (shown entry.now).request waiting.now.link waiting.now.id
         waiting.now.forwarded }
-    ensures turn { IfOk result (λ v. IsVerdict v (shown entry.now)
+    ensures turn { IfOk result (λ v. IsVerdict settings.now v (shown entry.now)
         (λ s. judge settings.now now s (shown entry.now) waiting.now.link
         (packet_of waiting.now.forwarded) reply.now
         (reply_fault (link_secret settings.now waiting.now.link) reply.now
@@ -175,7 +202,7 @@ pub(crate) fn to_standing<A: Allocator + Copy>(
     requires moment { now ≤ 2 ^ 62 }
     requires request { IsRequest settings.now (shown entry.now).request }
     requires standing { StandsWell settings.now (shown entry.now).request (shown entry.now).standing }
-    ensures turn { IfOk result (λ v. IsVerdict v (shown entry.now)
+    ensures turn { IfOk result (λ v. IsVerdict settings.now v (shown entry.now)
         (λ s. to_standing settings.now now s (shown entry.now) reply.now (shown entry.now).standing)) }
     ensures succeeds { (s : RealmState) → packets_of (to_standing settings.now now s
         (shown entry.now) reply.now (shown entry.now).standing) ≡ [] → IsOk result }

@@ -10,7 +10,7 @@ use Rattle.roam_conf.specs.declared.place.Place.{Place}
 use Rattle.roam_conf.specs.declared.place.Place.TheVariants as place
 use Rattle.roam_route.specs.UserName.{realm_of}
 use Rattle.roam_route.specs.LocalReject.{is_rejected}
-use Rattle.roam_route.specs.Admission.{Arrival, PlainJob, PlainOut, Admission, refused, rejected, admitted, sender, checked, given_to, forwarded_for, rejected_for, named, routed, request_admission, packet_admission, sent_admission, read_admission, admission_by, peer_secret, home_secret, is_rightly_signed, is_rightly_sealed, has_needed_seal, seal_required}
+use Rattle.roam_route.specs.Admission.{Arrival, PlainJob, PlainOut, Admission, refused, rejected, admitted, sender, checked, given_to, forwarded_for, rejected_for, named, routed, request_admission, packet_admission, sent_admission, read_admission, admission, is_taken, peer_secret, home_secret, is_rightly_signed, is_rightly_sealed, has_needed_seal, seal_required}
 use Rattle.roam_route.specs.declared.job.Side.{Side}
 use Rattle.roam_route.specs.declared.job.Side.TheVariants as side
 
@@ -77,15 +77,15 @@ packet_so config a (side.Link l) p place.Auth = refused_so refusal.WrongCode
 packet_so config a (side.Link l) p place.Acct = refused_so refusal.WrongCode
 packet_so config a (side.Link l) p (place.Reverse realm) = refused_so refusal.WrongCode
 
-sent_so : (takes : Place → Side → ℕ → Bool) (config : ConfigView) (a : Arrival) (p : Packet) (s : Option Side) → RejectsForNone (sent_admission takes config a p s)
-sent_so takes config a p None = refused_so refusal.UnknownSource
-sent_so takes config a p (Some s) =
-    checked_so (takes a.at s p.code) refusal.WrongCode (packet_admission config a s p a.at) (packet_so config a s p a.at)
+sent_so : (config : ConfigView) (a : Arrival) (p : Packet) (s : Option Side) → RejectsForNone (sent_admission config a p s)
+sent_so config a p None = refused_so refusal.UnknownSource
+sent_so config a p (Some s) =
+    checked_so (is_taken a.at s p.code) refusal.WrongCode (packet_admission config a s p a.at) (packet_so config a s p a.at)
 
-read_so : (takes : Place → Side → ℕ → Bool) (config : ConfigView) (a : Arrival) (r : Result Packet Refusal) → RejectsForNone (read_admission takes config a r)
-read_so takes config a (Err why) = refused_so why
-read_so takes config a (Ok p) = sent_so takes config a p (sender config a a.at)
+read_so : (config : ConfigView) (a : Arrival) (r : Result Packet Refusal) → RejectsForNone (read_admission config a r)
+read_so config a (Err why) = refused_so why
+read_so config a (Ok p) = sent_so config a p (sender config a a.at)
 
-pub rejects_for_none : (takes : Place → Side → ℕ → Bool) (config : ConfigView) (a : Arrival) → RejectsForNone (admission_by takes config a)
-unfolding admission_by
-rejects_for_none takes config a = read_so takes config a (reading a.octets)
+pub rejects_for_none : (config : ConfigView) (a : Arrival) → RejectsForNone (admission config a)
+unfolding admission
+rejects_for_none config a = read_so config a (reading a.octets)

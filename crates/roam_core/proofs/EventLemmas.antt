@@ -8,8 +8,9 @@ use Rattle.std.proofs.lemmas.Bool.Decides.{nat_tests}
 use Rattle.std.proofs.lemmas.List.{append-nil, length-set, get_or-set_same, get_or-set_other, get_or_past}
 use Rattle.roam_wire.specs.declared.refusal.Refusal.TheVariants as refusal
 use Rattle.roam_conf.specs.Config.{ConfigView, RealmView}
-use Rattle.roam_route.specs.Admission.{PlainOut, Admission, refused, rejected, admitted, admission_by, is_served}
-use Rattle.roam_book.specs.RealmConfig.{RealmConfig, realm_config, no_realm}
+use Rattle.roam_route.specs.Admission.{Arrival, PlainOut, Admission, refused, rejected, admitted, admission}
+use Rattle.roam_route.proofs.EventLemmas.{admitted_realm}
+use Rattle.roam_book.specs.RealmConfig.{RealmConfig, realm_config}
 use Rattle.roam_book.specs.RealmState.{RealmState}
 use Rattle.roam_book.specs.Turn.{Turn, refuses, sends, packets_of, state_after, in_time}
 use Rattle.roam_book.specs.OnTick.{as_turn, due_each, on_tick}
@@ -19,7 +20,7 @@ use Rattle.roam_core.specs.Events.{PlainEvent, arrives, ticks, given_by, is_in_s
 use Rattle.roam_core.specs.Isolation.{packets_for, packets_for_none, HasRealm}
 use Rattle.roam_core.specs.ManyRealms.{BrokerTurn, refuses_it, packets_in_turn, states_after, no_state, state_at, turn_of_one, to_arrival, tick_from, tick_all, answer_to}
 use Rattle.roam_core.proofs.PacketLemmas.{none_of_others, all_of_own, none_without_realm, all_have_realms, alone_for_none, alone_for_no_realm, alone_has_realm, same_index, other_index}
-use Rattle.roam_core.proofs.SentLemmas.{SendsFor, on_event_for, absent_is_silent}
+use Rattle.roam_core.proofs.SentLemmas.{SendsFor, on_event_for}
 use Rattle.roam_core.proofs.AdmissionLemmas.{RejectsForNone, rejects_for_none}
 use Rattle.roam_core.proofs.TickLemmas.{tick_from_for, tick_from-length, tick_packets, tick_states}
 
@@ -131,7 +132,7 @@ tick_turn config states realm now shard false late some within in_range is_late 
 -- one event, for one realm
 pub event_turn : (config : ConfigView) (states : List RealmState) (realm : ℕ) (e : PlainEvent) → 1 ≤ config.shards → realm < length states → IsOwnTurn config states realm (given_to_realm config realm e) (answer_to config states e)
 event_turn config states realm (arrives now a) some within =
-    arrival_turn config states realm now (admission_by is_served config a) within (rejects_for_none is_served config a)
+    arrival_turn config states realm now (admission config a) within (rejects_for_none config a)
 event_turn config states realm (ticks now shard) some within =
     tick_turn config states realm now shard (nat_lt shard config.shards) (nat_lt (2 ^ 62) now) some within refl refl
 
@@ -152,7 +153,7 @@ tick-length config states now shard true false = tick_from-length config now sha
 tick-length config states now shard false late = refl
 
 pub event-length : (config : ConfigView) (states : List RealmState) (e : PlainEvent) → length (states_after states (answer_to config states e)) ≡ length states
-event-length config states (arrives now a) = arrival-length config states now (admission_by is_served config a)
+event-length config states (arrives now a) = arrival-length config states now (admission config a)
 event-length config states (ticks now shard) =
     tick-length config states now shard (nat_lt shard config.shards) (nat_lt (2 ^ 62) now)
 
@@ -179,44 +180,26 @@ tick_rejects config states now shard false late = refl
 
 pub event_rejects : (config : ConfigView) (states : List RealmState) (e : PlainEvent) → packets_for_none (packets_in_turn (answer_to config states e)) ≡ rejects_by config e
 event_rejects config states (arrives now a) =
-    arrival_rejects config states now (admission_by is_served config a) (rejects_for_none is_served config a)
+    arrival_rejects config states now (admission config a) (rejects_for_none config a)
 event_rejects config states (ticks now shard) =
     tick_rejects config states now shard (nat_lt shard config.shards) (nat_lt (2 ^ 62) now)
 
--- each packet is for a realm that is there, or for none: one that isn't there has no servers, and its
--- turn sends nothing
+-- each packet is for a realm that is there, or for none
 turn_realms : (count : ℕ) (states : List RealmState) (realm : ℕ) (turn : Turn) → SendsFor realm turn → realm < count → AllByRecursion (HasRealm count) (packets_in_turn (turn_of_one states realm turn))
 unfolding SendsFor
 turn_realms count states realm (refuses why) own within = tt
 turn_realms count states realm (sends packets state) own within =
     all_have_realms realm (realm + 1) count packets (omega arith) own
 
-silent_turn : (count : ℕ) (states : List RealmState) (realm : ℕ) (turn : Turn) → packets_of turn ≡ [] → AllByRecursion (HasRealm count) (packets_in_turn (turn_of_one states realm turn))
-silent_turn count states realm (refuses why) silent = tt
-silent_turn count states realm (sends packets state) silent =
-    subst (λ (l : List PlainOut). AllByRecursion (HasRealm count) l) (sym silent) tt
-
-absent_turn : (config : ConfigView) (states : List RealmState) (realm : ℕ) (e : RealmEvent) → length states ≤ realm → length config.realms ≤ realm → packets_of (on_event (realm_config config realm) (state_at states realm) e) ≡ []
-absent_turn config states realm e stateless absent =
-    let c : RealmConfig = realm_config config realm in
-    ap (λ (s : RealmState). packets_of (on_event c s e)) (get_or_past states realm no_state stateless)
-    ∙ absent_is_silent c e (ap (λ (r : RealmView). r.servers) (get_or_past config.realms realm no_realm absent))
-
-admitted_realms : (config : ConfigView) (states : List RealmState) (realm : ℕ) (e : RealmEvent) (there : Bool) → nat_lt realm (length config.realms) ≡ there → length states ≡ length config.realms → AllByRecursion (HasRealm (length config.realms)) (packets_in_turn (turn_of_one states realm (on_event (realm_config config realm) (state_at states realm) e)))
-admitted_realms config states realm e true test whole =
-    turn_realms (length config.realms) states realm (on_event (realm_config config realm) (state_at states realm) e)
-    (on_event_for (realm_config config realm) (state_at states realm) e) (grind (arith, nat_tests, test))
-admitted_realms config states realm e false test whole =
-    let past : length config.realms ≤ realm = grind (arith, nat_tests, test) in
-    silent_turn (length config.realms) states realm (on_event (realm_config config realm) (state_at states realm) e)
-    (absent_turn config states realm e (omega (arith, past, whole)) past)
-
-arrival_realms : (config : ConfigView) (states : List RealmState) (now : ℕ) (given : Admission) → RejectsForNone given → length states ≡ length config.realms → AllByRecursion (HasRealm (length config.realms)) (packets_in_turn (to_arrival config states now given))
+arrival_realms : (config : ConfigView) (states : List RealmState) (now : ℕ) (a : Arrival) (given : Admission) → RejectsForNone given → admission config a ≡ given → AllByRecursion (HasRealm (length config.realms)) (packets_in_turn (to_arrival config states now given))
 unfolding RejectsForNone
-arrival_realms config states now (refused why) none whole = tt
-arrival_realms config states now (rejected out) none whole = alone_has_realm (length config.realms) out none
-arrival_realms config states now (admitted job) none whole =
-    admitted_realms config states job.realm (event_of now job) (nat_lt job.realm (length config.realms)) refl whole
+arrival_realms config states now a (refused why) none is = tt
+arrival_realms config states now a (rejected out) none is = alone_has_realm (length config.realms) out none
+arrival_realms config states now a (admitted job) none is =
+    let c = realm_config config job.realm in
+    let s = state_at states job.realm in
+    turn_realms (length config.realms) states job.realm (on_event c s (event_of now job))
+    (on_event_for c s (event_of now job)) (admitted_realm config a job is)
 
 tick_realms : (config : ConfigView) (states : List RealmState) (now shard : ℕ) (there late : Bool) → length states ≡ length config.realms → AllByRecursion (HasRealm (length config.realms)) (packets_in_turn (if there then if late then refuses_it refusal.Moment else tick_all config states now shard else refuses_it refusal.NoShard))
 tick_realms config states now shard true true whole = tt
@@ -226,6 +209,6 @@ tick_realms config states now shard false late whole = tt
 
 pub event_realms : (config : ConfigView) (states : List RealmState) (e : PlainEvent) → length states ≡ length config.realms → AllByRecursion (HasRealm (length config.realms)) (packets_in_turn (answer_to config states e))
 event_realms config states (arrives now a) whole =
-    arrival_realms config states now (admission_by is_served config a) (rejects_for_none is_served config a) whole
+    arrival_realms config states now a (admission config a) (rejects_for_none config a) refl
 event_realms config states (ticks now shard) whole =
     tick_realms config states now shard (nat_lt shard config.shards) (nat_lt (2 ^ 62) now) whole

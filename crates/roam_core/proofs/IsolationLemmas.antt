@@ -7,7 +7,7 @@ use Rattle.roam_book.specs.RealmConfig.{RealmConfig, realm_config}
 use Rattle.roam_book.specs.RealmState.{RealmState, opening}
 use Rattle.roam_book.specs.OneRealm.{RealmEvent, one_realm_run}
 use Rattle.roam_core.specs.Events.{PlainEvent, given_to_realm, events_of_realm, rejects_by, local_rejects}
-use Rattle.roam_core.specs.Isolation.{packets_for, packets_for_none, HasRealm, IsIsolated, IsIsolatedFromStart, EachIsIsolatedFromStart, EachRealmIsIsolated, EachRealmStandsAlone, EachRealmOpens, SameInTwoWorlds, SameInTwoWorldsFromStart}
+use Rattle.roam_core.specs.Isolation.{packets_for, packets_for_none, HasRealm, IsIsolated, IsIsolatedFromStart, EachIsIsolatedFromStart, EachRealmIsIsolated, EachRealmStandsAlone, EachRealmOpens, SameInTwoWorlds, SameInTwoWorldsFromStart, EachLedgerIsIsolated}
 use Rattle.roam_core.specs.ManyRealms.{BrokerTurn, packets_in_turn, states_after, state_at, answer_to, answers_to}
 use Rattle.roam_core.specs.Openings.{openings, openings_from, start_of}
 use Rattle.roam_book.specs.declared.start.Start.{Start}
@@ -110,6 +110,18 @@ pub isolated_from_start : EachIsIsolatedFromStart
 isolated_from_start config starts events some =
     let states = openings config starts in
     from_start config states starts events (answers_to config states events).packets refl (isolated config states events some)
+
+-- a realm's ledger, which is a part of how the realm stands
+pub each_ledger : EachLedgerIsIsolated
+each_ledger config starts events realm some within =
+    let states = openings config starts in
+    let c = realm_config config realm in
+    let own = events_of_realm config realm events in
+    let count = openings-length config 0 starts in
+    let alone = stands_alone config states events realm some (omega (arith, count, within)) in
+    let opens = each_opens config starts realm within in
+    ap (λ (s : RealmState). s.sessions)
+    (alone ∙ ap (λ (s : RealmState). (one_realm_run c s own).state) opens)
 
 pub same_in_two_worlds_from_start : SameInTwoWorldsFromStart
 same_in_two_worlds_from_start realm one other ss ts es fs some_one some_other here there configs starts events =

@@ -13,7 +13,7 @@ use Rattle.roam_book.specs.OnRequest.{packet_back}
 use Rattle.roam_book.specs.OneRealm.{RealmEvent, request_came, reply_came, tick_came, on_event}
 use Rattle.roam_book.specs.declared.start.Start.{Start}
 use Rattle.roam_core.specs.Openings.{state_then}
-use Rattle.roam_core.specs.Provenance.{IsRequestOf, IsSentBy, IsForwarded, IsReturned, HasOrigin, StandsFrom, ComesFrom}
+use Rattle.roam_core.specs.Provenance.{IsRequestOf, IsSentBy, IsForwarded, IsReturned, HasOrigin, StandsFrom, ComesFrom, IsNak}
 use Rattle.roam_core.proofs.RealmRunLemmas.{state-next}
 
 -- of all: that they come from the events, have their origin there, were sent by an event's turn
@@ -89,6 +89,21 @@ returned-later c start es fs q ticket out h = record {
   sent = h.sent;
 }
 
+pub nak-later :
+    (c : RealmConfig) (es fs : List RealmEvent) (q : PlainRequest) (out : PlainOut)
+    → IsNak c es q out → IsNak c (es ++ fs) q out
+nak-later c es fs q out h = record {
+  first = h.first;
+  asked_at = h.asked_at;
+  rest = h.rest ++ fs;
+  in_order =
+      ap (λ (l : List RealmEvent). l ++ fs) h.in_order
+      ∙ append_assoc h.first (request_came h.asked_at q ∷ h.rest) fs;
+  reverse = h.reverse;
+  cause = h.cause;
+  is_nak = h.is_nak;
+}
+
 pub stands-later :
     (c : RealmConfig) (start : Start) (es fs : List RealmEvent) (q : PlainRequest) (ticket : ℕ)
     (s : PlainStanding) → StandsFrom c start es q ticket s
@@ -99,8 +114,10 @@ stands-later c start es fs q ticket (waiting l id forwarded sends_left deadline)
   forwarded = forwarded-later c start es fs q h.position ticket (record { link = l; id = id })
       h.forwarded;
 }
-stands-later c start es fs q ticket (done reply deadline) h =
-    returned-later c start es fs q ticket (packet_back c q.key reply) h
+stands-later c start es fs q ticket (done reply deadline) (inl h) =
+    inl (returned-later c start es fs q ticket (packet_back c q.key reply) h)
+stands-later c start es fs q ticket (done reply deadline) (inr h) =
+    inr (nak-later c es fs q (packet_back c q.key reply) h)
 
 comes-later :
     (c : RealmConfig) (start : Start) (es fs : List RealmEvent) (e : PlainEntry)
@@ -128,11 +145,13 @@ has-origin-later c start es fs out (inl h) = inl (record {
   forwarded = forwarded-later c start es fs h.request h.position h.ticket h.target h.forwarded;
   is_forwarded = h.is_forwarded;
 })
-has-origin-later c start es fs out (inr h) = inr (record {
+has-origin-later c start es fs out (inr (inl h)) = inr (inl (record {
   request = h.request;
   ticket = h.ticket;
   returned = returned-later c start es fs h.request h.ticket out h.returned;
-})
+}))
+has-origin-later c start es fs out (inr (inr h)) =
+    inr (inr (record { request = h.request; nak = nak-later c es fs h.request out h.nak }))
 
 pub origin-later :
     (c : RealmConfig) (start : Start) (es fs : List RealmEvent) (outs : List PlainOut)

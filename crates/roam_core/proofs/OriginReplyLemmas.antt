@@ -123,10 +123,13 @@ module _ (c : RealmConfig) (start : Start) (before : List RealmEvent) (now : ℕ
             let returned = answered-returned e.request e.ticket id forwarded waits at taken out.0 in
             let settled_comes : ComesFrom c start events settled = record {
               request = request-later c start before (event ∷ []) e.request e.ticket comes.request;
-              standing = returned;
+              standing = inl returned;
             } in
             rw n (record {
-              packets = (inr (record { request = e.request; ticket = e.ticket; returned = returned }), tt);
+              packets = (
+                inr (inl (record { request = e.request; ticket = e.ticket; returned = returned })),
+                tt,
+              );
               entries = all-put (ComesFrom c start events) settled s.entries settled_comes still;
             })
       ]

@@ -1,5 +1,5 @@
 -- A request keeps what is known: a new one is forwarded, and a duplicate gets the held reply.
-use Rattle.std.proofs.Common.{◌≡◌, ℕ, ◌^◌, Bool, List, [], ◌∷◌, ◌++◌, Option, Some, None, refl, ap, subst, ◌∙◌, eqb, ltb, inl, inr, length}
+use Rattle.std.proofs.Common.{◌≡◌, ℕ, ◌^◌, Bool, List, [], ◌∷◌, ◌++◌, Option, Some, None, refl, ap, subst, ◌∙◌, eqb, ltb, inl, inr, length, true}
 use Rattle.std.specs.Prelude.{nat_eq, not}
 use Rattle.std.specs.Cmp.Lexicographic.{pointwise}
 use Rattle.std.proofs.lemmas.Bool.{cases_Bool}
@@ -13,10 +13,10 @@ use Rattle.roam_pending.proofs.ClientLemmas.{key-equal}
 use Rattle.roam_book.specs.RealmConfig.{RealmConfig}
 use Rattle.roam_book.specs.RealmState.{RealmState, Target, first_target}
 use Rattle.roam_book.specs.Turn.{Turn}
-use Rattle.roam_book.specs.OnRequest.{packet_back, forwarded_entry, admit, make_way, at_target, new_request, held_reply, of_key, on_request, targets}
+use Rattle.roam_book.specs.OnRequest.{packet_back, forwarded_entry, admit, make_way, at_target, new_request, held_reply, first_seen, is_reverse, nak_or_new, of_key, on_request, reverse_cause, targets}
 use Rattle.roam_book.specs.OneRealm.{RealmEvent, request_came}
 use Rattle.roam_book.specs.declared.start.Start.{Start}
-use Rattle.roam_core.specs.Provenance.{IsReturned, IsForwarded, StandsFrom, ComesFrom, forwarded_packet}
+use Rattle.roam_core.specs.Provenance.{IsReturned, IsNak, IsForwarded, StandsFrom, ComesFrom, forwarded_packet}
 use Rattle.roam_core.proofs.OriginLemmas.{EachComes, EachHasOrigin, TurnKeeps, IsTurnAfter, sent-by, state-by}
 
 -- a reply that is held goes back to the key of its request
@@ -25,9 +25,22 @@ held-origin :
     (key : Key) (s : PlainStanding) → q.key ≡ key → StandsFrom c start events q ticket s
     → EachHasOrigin c start events (held_reply c key s)
 held-origin c start events q ticket key (waiting l id forwarded sends_left deadline) is h = tt
-held-origin c start events q ticket key (done reply deadline) is h =
+held-origin c start events q ticket key (done reply deadline) is (inl h) =
     let back = subst (λ (k : Key). IsReturned c start events q ticket (packet_back c k reply)) is h in
-    (inr (record { request = q; ticket = ticket; returned = back }), tt)
+    (inr (inl (record { request = q; ticket = ticket; returned = back })), tt)
+held-origin c start events q ticket key (done reply deadline) is (inr h) =
+    let back = subst (λ (k : Key). IsNak c events q (packet_back c k reply)) is h in
+    (inr (inr (record { request = q; nak = back })), tt)
+
+-- there is a cause for a NAK to a reverse request alone
+cause-reverse :
+    (c : RealmConfig) (s : RealmState) (q : PlainRequest) (why : ℕ)
+    → reverse_cause c s q ≡ Some why → is_reverse q ≡ true
+cause-reverse c s q why some =
+    elim (cases_Bool (is_reverse q)) [
+      | inl y ↦ y
+      | inr n ↦ absurd (let k : None ≡ Some why = rw n at some in cc)
+    ]
 
 -- of a request that comes after some events, in a state whose entries come from them
 module _ (c : RealmConfig) (start : Start) (before : List RealmEvent) (now : ℕ) (q : PlainRequest)
@@ -124,25 +137,52 @@ module _ (c : RealmConfig) (start : Start) (before : List RealmEvent) (now : ℕ
         | inr n ↦ rw n (at_target-keeps es target each (rw n at is))
       ]
 
-  of_key-keeps :
-      (found : Option PlainEntry) → find_client q.key s.entries ≡ found
-      → turn ≡ of_key c now s q found
-      → TurnKeeps c start (before ++ request_came now q ∷ []) s (of_key c now s q found)
-  of_key-keeps None at is =
+  -- a reverse request that isn't forwarded
+  nak_or_new-keeps :
+      (why : Option ℕ) → reverse_cause c s q ≡ why → turn ≡ nak_or_new c now s q why
+      → TurnKeeps c start (before ++ request_came now q ∷ []) s (nak_or_new c now s q why)
+  nak_or_new-keeps None at is =
       let events = before ++ request_came now q ∷ [] in
       let stays : PlainEntry → Bool = λ x. not (has_key q.key x) in
       let others = all-filter (ComesFrom c start events) stays s.entries kept in
       new_request-keeps (without_client q.key s.entries) others is
+  nak_or_new-keeps (Some why) at is = record {
+    packets = (
+      inr (inr (record {
+        request = q;
+        nak = record {
+          first = before;
+          asked_at = now;
+          rest = [];
+          in_order = refl;
+          reverse = cause-reverse c s q why at;
+          cause = why;
+          is_nak = refl;
+        };
+      })),
+      tt,
+    );
+    entries = kept;
+  }
+
+  first_seen-keeps :
+      turn ≡ first_seen c now s q
+      → TurnKeeps c start (before ++ request_came now q ∷ []) s (first_seen c now s q)
+  first_seen-keeps is = nak_or_new-keeps (reverse_cause c s q) refl is
+
+  of_key-keeps :
+      (found : Option PlainEntry) → find_client q.key s.entries ≡ found
+      → turn ≡ of_key c now s q found
+      → TurnKeeps c start (before ++ request_came now q ∷ []) s (of_key c now s q found)
+  of_key-keeps None at is = first_seen-keeps is
   of_key-keeps (Some e) at is =
       let events = before ++ request_came now q ∷ [] in
-      let stays : PlainEntry → Bool = λ x. not (has_key q.key x) in
-      let others = all-filter (ComesFrom c start events) stays s.entries kept in
       let same = key-equal e.request.key q.key (find-passes (has_key q.key) s.entries e at) in
       let comes = all-find (ComesFrom c start events) (has_key q.key) s.entries e at kept in
       let held = held-origin c start events e.request e.ticket q.key e.standing same comes.standing in
       elim (cases_Bool (pointwise nat_eq e.request.octets q.octets)) [
         | inl y ↦ rw y (record { packets = held; entries = kept })
-        | inr n ↦ rw n (new_request-keeps (without_client q.key s.entries) others (rw n at is))
+        | inr n ↦ rw n (first_seen-keeps (rw n at is))
       ]
 
   in_range-keeps :

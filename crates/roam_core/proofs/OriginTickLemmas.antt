@@ -1,5 +1,5 @@
 -- A tick keeps what is known: an entry is forwarded again or anew, or it goes.
-use Rattle.std.proofs.Common.{◌≡◌, ℕ, ◌+◌, List, Bool, [], ◌∷◌, ◌++◌, Option, Some, None, refl, sym, ap, subst, ltb, inl, inr}
+use Rattle.std.proofs.Common.{◌≡◌, ℕ, ◌+◌, List, Bool, [], ◌∷◌, ◌++◌, Option, Some, None, refl, sym, ap, subst, ◌∙◌, true, ltb, inl, inr, append_assoc}
 use Rattle.std.specs.Prelude.{not}
 use Rattle.std.specs.List.{AllByRecursion}
 use Rattle.std.proofs.lemmas.Bool.{cases_Bool}
@@ -8,18 +8,19 @@ use Rattle.roam_pending.specs.declared.due.Due.{Due}
 use Rattle.roam_pending.specs.DueOrder.{due_list}
 use Rattle.roam_pending.specs.PlainEntry.{PlainRequest, PlainStanding, PlainEntry, waiting, done, has_ticket}
 use Rattle.roam_pending.specs.EntryList.{find_ticket, without}
-use Rattle.roam_pending.specs.Realms.{sent_again, waits_on}
+use Rattle.roam_pending.specs.Realms.{sent_again, waits_on, with_standing}
+use Rattle.roam_reverse.specs.declared.error_cause.TheConstants.{OTHER_PROXY_PROCESSING_ERROR}
 use Rattle.roam_pending.proofs.TestLemmas.{all-append, all-filter, all-find, all-weaker}
 use Rattle.roam_pending.proofs.OrderLemmas.{all-put}
 use Rattle.roam_book.specs.RealmConfig.{RealmConfig, later_targets}
 use Rattle.roam_book.specs.RealmState.{RealmState, Target, first_target}
 use Rattle.roam_book.specs.Turn.{packets_of}
-use Rattle.roam_book.specs.OnRequest.{forwarded_entry, packet_to}
-use Rattle.roam_book.specs.OnTick.{Progress, fail_over, without_entry, due_standing, due_entry, due_one, due_each, as_turn, on_tick}
-use Rattle.roam_book.specs.OneRealm.{RealmEvent, tick_came}
+use Rattle.roam_book.specs.OnRequest.{forwarded_entry, is_reverse, nak_octets, packet_back, packet_to}
+use Rattle.roam_book.specs.OnTick.{Progress, fail_over, given_up, once_refused, without_entry, due_standing, due_entry, due_one, due_each, as_turn, on_tick}
+use Rattle.roam_book.specs.OneRealm.{RealmEvent, request_came, tick_came}
 use Rattle.roam_book.specs.declared.start.Start.{Start}
 use Rattle.roam_core.specs.Openings.{state_then}
-use Rattle.roam_core.specs.Provenance.{IsRequestOf, IsSentBy, IsHeld, IsForwarded, StandsFrom, ComesFrom, forwarded_packet}
+use Rattle.roam_core.specs.Provenance.{IsRequestOf, IsSentBy, IsHeld, IsForwarded, IsNak, StandsFrom, ComesFrom, forwarded_packet}
 use Rattle.roam_core.proofs.RealmRunLemmas.{all-in, all-left, all-right, in-all}
 use Rattle.roam_core.proofs.OriginLemmas.{EachComes, EachHasOrigin, AreSentBy, TurnKeeps, request-later, stands-later, in_time-keeps}
 
@@ -59,12 +60,59 @@ module _ (c : RealmConfig) (start : Start) (before : List RealmEvent) (now : ℕ
         });
       }
 
+  -- a reverse request that is given up gets a NAK
+  nak-of : (e : PlainEntry) (why : ℕ) → IsKnown e → is_reverse e.request ≡ true
+      → IsNak c (before ++ tick_came now ∷ []) e.request
+      (packet_back c e.request.key (nak_octets c e.request why))
+  nak-of e why known reverse =
+      let r = known.request in
+      record {
+        first = r.first;
+        asked_at = r.asked_at;
+        rest = r.rest ++ tick_came now ∷ [];
+        in_order =
+            ap (λ (l : List RealmEvent). l ++ tick_came now ∷ []) r.in_order
+            ∙ append_assoc r.first (request_came r.asked_at e.request ∷ r.rest) (tick_came now ∷ []);
+        reverse = reverse;
+        cause = why;
+        is_nak = refl;
+      }
+
+  once_refused-keeps :
+      (s : RealmState) (e : PlainEntry) (why : ℕ)
+      → AllByRecursion IsKnown s.entries → IsKnown e → is_reverse e.request ≡ true
+      → AllByRecursion IsKnown (once_refused c now s e (nak_octets c e.request why)).entries
+  once_refused-keeps s e why kept known reverse =
+      let refused = with_standing (done (nak_octets c e.request why) (now + c.realm.hold)) e in
+      let refused_known : IsKnown refused = record {
+        request = known.request;
+        held = known.held;
+        standing = inr (nak-of e why known reverse);
+      } in
+      elim (cases_Bool (ltb 0 c.realm.hold)) [
+        | inl y ↦ rw y (all-put IsKnown refused s.entries refused_known kept)
+        | inr n ↦ rw n kept
+      ]
+
+  given_up-keeps :
+      (s : RealmState) (e : PlainEntry) → AllByRecursion IsKnown s.entries → IsKnown e
+      → ProgressKeeps (given_up c now s e)
+  given_up-keeps s e kept known =
+      let why = OTHER_PROXY_PROCESSING_ERROR in
+      elim (cases_Bool (is_reverse e.request)) [
+        | inl y ↦ rw y (record {
+          packets = (inr (inr (record { request = e.request; nak = nak-of e why known y })), tt);
+          entries = once_refused-keeps s e why kept known y;
+        })
+        | inr n ↦ rw n (record { packets = tt; entries = kept })
+      ]
+
   fail_over-keeps :
       (s : RealmState) (e : PlainEntry) (target : Option Target)
       → AllByRecursion IsKnown s.entries → IsKnown e
       → AreSentBy c start before (tick_came now) (fail_over c now s e target).packets
       → ProgressKeeps (fail_over c now s e target)
-  fail_over-keeps s e None kept known sent = record { packets = tt; entries = kept }
+  fail_over-keeps s e None kept known sent = given_up-keeps s e kept known
   fail_over-keeps s e (Some target) kept known sent =
       let forwarded = over-forwarded e s.stream_position target known sent.0 in
       let anew = forwarded_entry c now e.request s.stream_position e.ticket target in

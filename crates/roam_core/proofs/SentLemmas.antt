@@ -17,7 +17,7 @@ use Rattle.roam_pending.specs.EntryList.{find_client, find_link, find_ticket, fi
 use Rattle.roam_book.specs.RealmConfig.{RealmConfig, later_targets, link_secret, server_links, service_of}
 use Rattle.roam_book.specs.RealmState.{RealmState, Target, first_target}
 use Rattle.roam_book.specs.Turn.{Turn, refuses, sends, packets_of, in_time}
-use Rattle.roam_book.specs.OnRequest.{packet_back, admit, make_way, at_target, new_request, held_reply, of_key, on_request, targets}
+use Rattle.roam_book.specs.OnRequest.{packet_back, admit, make_way, at_target, new_request, held_reply, first_seen, is_reverse, nak_octets, nak_or_new, of_key, on_request, reverse_cause, targets}
 use Rattle.roam_book.specs.OnReply.{return_reply, judge, to_standing, to_entry, reply_fault, on_reply}
 use Rattle.roam_book.specs.OnTick.{Progress, silent, fail_over, without_entry, due_standing, due_entry, due_one, due_each, as_turn, on_tick}
 use Rattle.roam_book.specs.OneRealm.{RealmEvent, request_came, reply_came, tick_came, on_event}
@@ -81,12 +81,17 @@ held_reply_for : (c : RealmConfig) (key : Key) (standing : PlainStanding) (s : R
 held_reply_for c key (waiting l id forwarded sends_left deadline) s = nothing_for c.index s
 held_reply_for c key (done reply deadline) s = one_for c.index (packet_back c key reply) s refl
 
+nak_or_new_for : (c : RealmConfig) (now : ℕ) (s : RealmState) (q : PlainRequest) (why : Option ℕ)
+    → SendsFor c.index (nak_or_new c now s q why)
+nak_or_new_for c now s q None = new_request_for c now s (without_client q.key s.entries) q
+nak_or_new_for c now s q (Some why) = one_for c.index (packet_back c q.key (nak_octets c q why)) s refl
+
 of_key_for : (c : RealmConfig) (now : ℕ) (s : RealmState) (q : PlainRequest) (e : Option PlainEntry) → SendsFor c.index (of_key c now s q e)
-of_key_for c now s q None = new_request_for c now s (without_client q.key s.entries) q
+of_key_for c now s q None = nak_or_new_for c now s q (reverse_cause c s q)
 of_key_for c now s q (Some e) =
     either (SendsFor c.index) (pointwise nat_eq e.request.octets q.octets)
-    (sends (held_reply c q.key e.standing) s) (new_request c now s (without_client q.key s.entries) q)
-    (held_reply_for c q.key e.standing s) (new_request_for c now s (without_client q.key s.entries) q)
+    (sends (held_reply c q.key e.standing) s) (first_seen c now s q)
+    (held_reply_for c q.key e.standing s) (nak_or_new_for c now s q (reverse_cause c s q))
 
 on_request_for : (c : RealmConfig) (now : ℕ) (s : RealmState) (q : PlainRequest) → SendsFor c.index (on_request c now s q)
 on_request_for c now s q =
@@ -127,7 +132,9 @@ unfolding MadeFor
 made_for index out s is = (own index out is, tt)
 
 fail_over_for : (c : RealmConfig) (now : ℕ) (s : RealmState) (e : PlainEntry) (target : Option Target) → MadeFor c.index (fail_over c now s e target)
-fail_over_for c now s e None = silent_for c.index s
+fail_over_for c now s e None =
+    either (MadeFor c.index) (is_reverse e.request) _ (silent s) (made_for c.index _ _ refl)
+    (silent_for c.index s)
 fail_over_for c now s e (Some target) = made_for c.index _ _ refl
 
 due_standing_for : (c : RealmConfig) (now : ℕ) (s : RealmState) (e : PlainEntry) (standing : PlainStanding) → MadeFor c.index (due_standing c now s e standing)
@@ -164,23 +171,3 @@ pub on_event_for : (c : RealmConfig) (s : RealmState) (e : RealmEvent) → Sends
 on_event_for c s (request_came now q) = on_request_for c now s q
 on_event_for c s (reply_came now l octets) = on_reply_for c now s l octets
 on_event_for c s (tick_came now) = on_tick_for c now s
-
--- a realm that isn't there has no servers, and sends nothing
-abbrev Silent : Turn → Type 0
-Silent turn = packets_of turn ≡ []
-
-in_time_silent : (now : ℕ) (turn : Turn) → Silent turn → Silent (in_time now turn)
-in_time_silent now turn h = either Silent (nat_lt (2 ^ 62) now) (refuses refusal.Moment) turn refl h
-
-request_silent : (c : RealmConfig) (now : ℕ) (q : PlainRequest) → c.realm.servers ≡ [] → Silent (of_key c now no_state q None)
-request_silent c now q none =
-    let service = service_of (packet_of q.octets).code in
-    ap (λ (servers : List ServerView). packets_of (at_target c now no_state [] q (first_target c [] [] (server_links service 0 servers)))) none
-
-pub absent_is_silent : (c : RealmConfig) (e : RealmEvent) → c.realm.servers ≡ [] → Silent (on_event c no_state e)
-absent_is_silent c (request_came now q) none =
-    in_time_silent now (of_key c now no_state q None) (request_silent c now q none)
-absent_is_silent c (reply_came now l octets) none =
-    in_time_silent now (to_entry c now no_state (packet_of octets) None) refl
-absent_is_silent c (tick_came now) none =
-    in_time_silent now (as_turn (silent no_state)) refl

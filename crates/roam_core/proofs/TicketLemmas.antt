@@ -15,10 +15,10 @@ use Rattle.roam_pending.specs.EntryList.{find_client, find_link, find_ticket, fi
 use Rattle.roam_book.specs.RealmConfig.{RealmConfig, later_targets, link_secret}
 use Rattle.roam_book.specs.RealmState.{RealmState, Target, first_target}
 use Rattle.roam_book.specs.Turn.{Turn, state_after, in_time}
-use Rattle.roam_book.specs.OnRequest.{make_way, at_target, new_request, of_key, targets}
+use Rattle.roam_book.specs.OnRequest.{make_way, at_target, is_reverse, nak_or_new, new_request, of_key, reverse_cause, targets}
 use Rattle.roam_back.specs.ReplyCheck.{reply_fault}
 use Rattle.roam_book.specs.OnReply.{returning, judge, to_standing, to_entry}
-use Rattle.roam_book.specs.OnTick.{Progress, fail_over, without_entry, due_standing, due_entry, due_one, due_each, as_turn}
+use Rattle.roam_book.specs.OnTick.{Progress, fail_over, once_refused, without_entry, due_standing, due_entry, due_one, due_each, as_turn}
 use Rattle.roam_book.specs.OneRealm.{RealmEvent, request_came, reply_came, tick_came, on_event}
 use Rattle.roam_book.specs.declared.start.Start.{Start}
 use Rattle.roam_core.specs.Openings.{state_then}
@@ -49,11 +49,15 @@ new_request-rises c now s es q =
     either (Rises s) (eqb s.ticket (2 ^ 63)) _ _ (stays s)
     (at_target-rises c now s es q (first_target c s.cursors es (targets c q)))
 
+nak_or_new-rises : (c : RealmConfig) (now : ℕ) (s : RealmState) (q : PlainRequest) (why : Option ℕ) → Rises s (nak_or_new c now s q why)
+nak_or_new-rises c now s q None = new_request-rises c now s (without_client q.key s.entries) q
+nak_or_new-rises c now s q (Some why) = stays s
+
 of_key-rises : (c : RealmConfig) (now : ℕ) (s : RealmState) (q : PlainRequest) (found : Option PlainEntry) → Rises s (of_key c now s q found)
-of_key-rises c now s q None = new_request-rises c now s (without_client q.key s.entries) q
+of_key-rises c now s q None = nak_or_new-rises c now s q (reverse_cause c s q)
 of_key-rises c now s q (Some e) =
     either (Rises s) (pointwise nat_eq e.request.octets q.octets) _ _ (stays s)
-    (new_request-rises c now s (without_client q.key s.entries) q)
+    (nak_or_new-rises c now s q (reverse_cause c s q))
 
 in_time-rises : (now : ℕ) (s : RealmState) (turn : Turn) → Rises s turn → Rises s (in_time now turn)
 in_time-rises now s turn h = either (Rises s) (ltb (2 ^ 62) now) _ _ (stays s) h
@@ -78,8 +82,12 @@ to_entry-rises c now s reply (Some e) = to_standing-rises c now s e reply e.stan
 abbrev Keeps : RealmState → Progress → Type 0
 Keeps old p = p.state.ticket ≡ old.ticket
 
+once_refused-keeps : (c : RealmConfig) (now : ℕ) (s : RealmState) (e : PlainEntry) (octets : List ℕ) → (once_refused c now s e octets).ticket ≡ s.ticket
+once_refused-keeps c now s e octets = either (λ (t : RealmState). t.ticket ≡ s.ticket) (ltb 0 c.realm.hold) _ _ refl refl
+
 fail_over-keeps : (c : RealmConfig) (now : ℕ) (s : RealmState) (e : PlainEntry) (target : Option Target) → Keeps s (fail_over c now s e target)
-fail_over-keeps c now s e None = refl
+fail_over-keeps c now s e None =
+    either (Keeps s) (is_reverse e.request) _ _ (once_refused-keeps c now s e _) refl
 fail_over-keeps c now s e (Some target) = refl
 
 due_standing-keeps : (c : RealmConfig) (now : ℕ) (s : RealmState) (e : PlainEntry) (standing : PlainStanding) → Keeps s (due_standing c now s e standing)

@@ -2,7 +2,7 @@
 use Rattle.std.specs.Prelude.{ℕ, ◌+◌, ◌==◌, ◌%◌, Bool, List, [], ◌∷◌, ◌++◌, if◌then◌else◌}
 use Rattle.std.specs.List.{list_any}
 use Rattle.roam_conf.specs.Config.{ConfigView}
-use Rattle.roam_route.specs.Admission.{Arrival, PlainOut, Admission, refused, rejected, admitted, admission_by, is_served}
+use Rattle.roam_route.specs.Admission.{Arrival, PlainOut, Admission, refused, rejected, admitted, admission}
 use Rattle.roam_book.specs.OneRealm.{RealmEvent, tick_came, event_of}
 
 -- an event, with its moment in milliseconds: a datagram arrives, or a shard's timer fires
@@ -22,7 +22,7 @@ is_in_shard config shard realm = realm % config.shards == shard
 
 -- what an event gives to the realm of an index
 abbrev pub given_to_realm : ConfigView → ℕ → PlainEvent → List RealmEvent
-given_to_realm config realm (arrives now a) = given_by realm now (admission_by is_served config a)
+given_to_realm config realm (arrives now a) = given_by realm now (admission config a)
 given_to_realm config realm (ticks now shard) =
     if is_in_shard config shard realm then tick_came now ∷ [] else []
 
@@ -38,7 +38,7 @@ reject_of (rejected out) = out ∷ []
 reject_of (admitted job) = []
 
 abbrev pub rejects_by : ConfigView → PlainEvent → List PlainOut
-rejects_by config (arrives now a) = reject_of (admission_by is_served config a)
+rejects_by config (arrives now a) = reject_of (admission config a)
 rejects_by config (ticks now shard) = []
 
 -- those of a list of events

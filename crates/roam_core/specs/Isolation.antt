@@ -15,7 +15,7 @@ use Rattle.roam_book.specs.OneRealm.{one_realm_run}
 use Rattle.roam_book.specs.declared.start.Start.{Start}
 use Rattle.roam_core.specs.Events.{PlainEvent, events_of_realm}
 use Rattle.roam_core.specs.ManyRealms.{state_at, answers_to}
-use Rattle.roam_core.specs.Openings.{openings, start_of, one_realm_packets}
+use Rattle.roam_core.specs.Openings.{openings, start_of, state_then, one_realm_packets}
 
 -- a packet's realm is this one
 abbrev pub is_realm : ℕ → Option ℕ → Bool
@@ -76,6 +76,17 @@ EachRealmStandsAlone =
     → state_at (answers_to config states events).states realm
     ≡ (one_realm_run (realm_config config realm) (state_at states realm)
     (events_of_realm config realm events)).state
+
+-- the isolation of ledgers: which sessions a realm's ledger holds, its own events alone decide, begun with
+-- none; so no other realm's accounting lets a reverse request of this realm pass, however its sessions
+-- are named
+abbrev pub EachLedgerIsIsolated : Type 0
+EachLedgerIsIsolated =
+    (config : ConfigView) (starts : List Start) (events : List PlainEvent) (realm : ℕ)
+    → 1 ≤ config.shards → realm < length starts
+    → (state_at (answers_to config (openings config starts) events).states realm).sessions
+    ≡ (state_then (realm_config config realm) (start_of starts realm)
+    (events_of_realm config realm events)).sessions
 
 -- what `openings` says of one realm: it begins at its own start, and at nothing else
 abbrev pub EachRealmOpens : Type 0

@@ -4,7 +4,7 @@ use Rattle.std.specs.Prelude.{ℕ, ◌+◌, ◌^◌, nat_lt, List, [], ◌∷◌
 use Rattle.roam_wire.specs.declared.refusal.Refusal.{Refusal}
 use Rattle.roam_wire.specs.declared.refusal.Refusal.TheVariants as refusal
 use Rattle.roam_conf.specs.Config.{ConfigView}
-use Rattle.roam_route.specs.Admission.{PlainOut, Admission, refused, rejected, admitted, admission_by, is_served}
+use Rattle.roam_route.specs.Admission.{PlainOut, Admission, refused, rejected, admitted, admission}
 use Rattle.roam_book.specs.RealmConfig.{realm_config}
 use Rattle.roam_book.specs.RealmState.{RealmState}
 use Rattle.roam_book.specs.Turn.{Turn, refuses, sends, packets_of, state_after}
@@ -87,7 +87,7 @@ to_tick config states now shard =
 
 -- what the broker answers an event with
 abbrev pub answer_to : ConfigView → List RealmState → PlainEvent → BrokerTurn
-answer_to config states (arrives now a) = to_arrival config states now (admission_by is_served config a)
+answer_to config states (arrives now a) = to_arrival config states now (admission config a)
 answer_to config states (ticks now shard) = to_tick config states now shard
 
 -- the answers to a list of events, one after the other: what is sent, and the states at the end

@@ -1,7 +1,7 @@
 -- Provenance (ours): where each packet of a realm comes from, and each of its entries. In all of this `c`
 -- is what the realm reads of the configuration, `start` where it begins, and `events` a list of its own
 -- events, in order.
-use Rattle.std.specs.Prelude.{◌≡◌, ◌⊎◌, ◌+◌, ℕ, List, [], ◌∷◌, ◌++◌, None}
+use Rattle.std.specs.Prelude.{◌≡◌, ◌⊎◌, ◌+◌, ℕ, true, List, [], ◌∷◌, ◌++◌, None}
 use Rattle.roam_wire.specs.Reading.{packet_of}
 use Rattle.roam_route.specs.Admission.{PlainOut}
 use Rattle.roam_pending.specs.ListLaws.{IsIn}
@@ -9,7 +9,7 @@ use Rattle.roam_pending.specs.PlainEntry.{PlainEntry, PlainRequest, PlainStandin
 use Rattle.roam_book.specs.RealmConfig.{RealmConfig, link_secret}
 use Rattle.roam_book.specs.RealmState.{Target}
 use Rattle.roam_book.specs.Turn.{packets_of}
-use Rattle.roam_book.specs.OnRequest.{packet_to, packet_back, forwarded_octets}
+use Rattle.roam_book.specs.OnRequest.{packet_to, packet_back, forwarded_octets, is_reverse, nak_octets}
 use Rattle.roam_back.specs.ReplyCheck.{reply_fault}
 use Rattle.roam_book.specs.OnReply.{returned_octets}
 use Rattle.roam_book.specs.OneRealm.{RealmEvent, request_came, reply_came, tick_came, on_event}
@@ -92,6 +92,18 @@ pub record IsReturned (c : RealmConfig) (start : Start) (events : List RealmEven
       (packet_of (forwarded_octets c q position ticket target)) (packet_of reply))
   pub sent : IsSentBy c start before (reply_came answered_at target.link reply) out
 
+-- a packet is the NAK of a reverse request of the list, with some Error-Cause, and goes back to the home
+-- server that sent the request (RFC 5176, sections 2.3 and 3.5)
+pub record IsNak (c : RealmConfig) (events : List RealmEvent) (q : PlainRequest)
+    (out : PlainOut) : Type 0 where
+  pub first : List RealmEvent
+  pub asked_at : ℕ
+  pub rest : List RealmEvent
+  pub in_order : events ≡ first ++ request_came asked_at q ∷ rest
+  pub reverse : is_reverse q ≡ true
+  pub cause : ℕ
+  pub is_nak : out ≡ packet_back c q.key (nak_octets c q cause)
+
 -- a packet is the forwarded one of a request of the list: of which, with the words from which position
 -- on, under which ticket, to which link
 pub record IsForwardedPacket (c : RealmConfig) (start : Start) (events : List RealmEvent)
@@ -110,12 +122,19 @@ pub record IsReturnedPacket (c : RealmConfig) (start : Start) (events : List Rea
   pub ticket : ℕ
   pub returned : IsReturned c start events request ticket out
 
--- each packet is one of the two: there are no others
+-- it is the NAK of a reverse request of the list
+pub record IsNakPacket (c : RealmConfig) (events : List RealmEvent) (out : PlainOut) : Type 0 where
+  pub request : PlainRequest
+  pub nak : IsNak c events request out
+
+-- each packet is one of the three: there are no others
 abbrev pub HasOrigin : RealmConfig → Start → List RealmEvent → PlainOut → Type 0
 HasOrigin c start events out =
-    IsForwardedPacket c start events out ⊎ IsReturnedPacket c start events out
+    IsForwardedPacket c start events out
+    ⊎ (IsReturnedPacket c start events out ⊎ IsNakPacket c events out)
 
--- how an entry stands: it waits for the reply to what was forwarded to its link, or its reply was returned
+-- how an entry stands: it waits for the reply to what was forwarded to its link, or its reply was
+-- returned, or it was answered by a NAK
 pub record WaitsFor (c : RealmConfig) (start : Start) (events : List RealmEvent) (q : PlainRequest)
     (ticket : ℕ) (target : Target) (octets : List ℕ) : Type 0 where
   pub position : ℕ
@@ -128,6 +147,7 @@ StandsFrom c start events q ticket (waiting l id forwarded sends_left deadline) 
     WaitsFor c start events q ticket (record { link = l; id = id }) forwarded
 StandsFrom c start events q ticket (done reply deadline) =
     IsReturned c start events q ticket (packet_back c q.key reply)
+    ⊎ IsNak c events q (packet_back c q.key reply)
 
 -- an entry is that of a request of the list, and stands so
 pub record ComesFrom (c : RealmConfig) (start : Start) (events : List RealmEvent)

@@ -2,7 +2,7 @@
 use Rattle.std.specs.Prelude.{◌≡◌, ◌<◌, ◌≤◌, ◌^◌, List, Result, Ok, Err}
 use Rattle.roam_wire.specs.declared.refusal.NoMemory.{NoMemory}
 use Rattle.roam_conf.specs.Config.{ConfigView}
-use Rattle.roam_route.specs.Admission.{admission_by, is_served}
+use Rattle.roam_route.specs.Admission.{admission}
 use Rattle.roam_route.specs.Shown.{WantsMemory}
 use Rattle.roam_book.specs.RealmState.{RealmState}
 use Rattle.roam_book.specs.Turn.{shown_outs}
@@ -28,5 +28,5 @@ GivesAnswer (Err e) old new turn = new ≡ old
 -- shard that is there, at a moment that isn't above 2^62 milliseconds. What is refused before that is
 -- refused for its cause, whatever memory there is
 abbrev pub EventWantsMemory : ConfigView → PlainEvent → Type 0
-EventWantsMemory config (arrives now a) = WantsMemory (admission_by is_served config a)
+EventWantsMemory config (arrives now a) = WantsMemory (admission config a)
 EventWantsMemory config (ticks now shard) = (shard < config.shards) × (now ≤ 2 ^ 62)

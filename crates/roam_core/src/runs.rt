@@ -66,8 +66,8 @@ pub fn run<A: Allocator + Copy, S: Stepper<A>>(
         → IfOk result (λ o. IsIsolatedFromStart (S.config stepper.old) starts
         (kept o.lost.items (shown_events events.now)) (shown_outs o.outs.items)) }
 
-    // And each of those packets has its origin in the realm's own events, as the forwarded or the
-    // returned packet of one of them.
+    // And each of those packets has its origin in the realm's own events, as the forwarded packet, the
+    // returned packet or the NAK of one of them.
     ensures provenance { (starts : List Start)
         → S.states stepper.old ≡ openings (S.config stepper.old) starts
         → IfOk result (λ o. HasProvenance (S.config stepper.old) starts

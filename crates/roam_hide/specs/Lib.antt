@@ -3,5 +3,6 @@ pub mod HidingKeys
 pub mod HidingLaws
 pub mod SaltedValues
 pub mod SaltedFunctions
+pub mod Salted
 pub mod SaltedLaws
 pub mod PacketAnew

@@ -1,11 +1,12 @@
 -- What follows from the definitions of salted values. Each is the contract of a function of
 -- src/laws.rt.
-use Rattle.std.specs.Prelude.{◌≡◌, ℕ, List, length}
-use Rattle.roam_wire.specs.Packet.{AreOctets, Attribute, attributes_text}
+use Rattle.std.specs.Prelude.{◌≡◌, ◌↔◌, ℕ, List, IsTrue, length}
+use Rattle.roam_wire.specs.Packet.{AreOctets, Attribute, Packet, attributes_text}
 use Rattle.roam_hide.specs.Hiding.{Key, IsHiddenAnew, hidden_anew}
 use Rattle.roam_hide.specs.HidingLaws.{IsTheOne}
-use Rattle.roam_hide.specs.SaltedValues.{IsTunnelAnew, IsVendorAnew}
+use Rattle.roam_hide.specs.SaltedValues.{IsTunnelAnew, IsVendorAnew, IsSalted}
 use Rattle.roam_hide.specs.SaltedFunctions.{tunnel_anew, vendor_anew}
+use Rattle.roam_hide.specs.Salted.{is_salted}
 
 -- octets are those of one list of sub-attributes at most
 abbrev pub OneListOfSubAttributes : Type 0
@@ -47,3 +48,7 @@ TunnelAnewIsOctets = (from to : Key) (old : List ℕ) → AreOctets old
 abbrev pub VendorAnewIsOctets : Type 0
 VendorAnewIsOctets = (from to : Key) (old : List ℕ) → AreOctets old
     → AreOctets (vendor_anew from to old)
+
+-- the test of salted strings is true just where the packet has one
+abbrev pub SaltedIsDecided : Type 0
+SaltedIsDecided = (packet : Packet) → IsTrue (is_salted packet.attributes) ↔ IsSalted packet

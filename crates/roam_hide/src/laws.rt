@@ -2,7 +2,7 @@
 //! one law, and it does nothing.
 
 ghost use Rattle.roam_hide.specs.HidingLaws.{OneHiddenText, OnePlainText, OneTextAnew, SameKeyChangesNothing, FirstKeyBringsBack, PasswordSizeIsDecided};
-ghost use Rattle.roam_hide.specs.SaltedLaws.{OneListOfSubAttributes, OneTunnelAnew, OneVendorAnew, HiddenAnewKeepsSize, TunnelAnewKeepsSize, VendorAnewKeepsSize, HiddenAnewIsOctets, TunnelAnewIsOctets, VendorAnewIsOctets};
+ghost use Rattle.roam_hide.specs.SaltedLaws.{OneListOfSubAttributes, OneTunnelAnew, OneVendorAnew, HiddenAnewKeepsSize, TunnelAnewKeepsSize, VendorAnewKeepsSize, HiddenAnewIsOctets, TunnelAnewIsOctets, VendorAnewIsOctets, SaltedIsDecided};
 
 /// A plain text of whole blocks has just one hidden text.
 pub fn one_hidden_text()
@@ -61,4 +61,9 @@ pub fn octets_stay()
 /// The test of a password's size is true just where it may have that size.
 pub fn password_size_decided()
     ensures { PasswordSizeIsDecided }
+{}
+
+/// The test of salted strings is true just where a packet has one.
+pub fn salted_decided()
+    ensures { SaltedIsDecided }
 {}

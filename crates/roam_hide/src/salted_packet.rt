@@ -1,7 +1,8 @@
 //! Whether a packet holds a salted string.
 
-ghost use Rattle.std.specs.Prelude.{◌↔◌, IsTrue};
+ghost use Rattle.std.specs.Prelude.{◌≡◌, ◌↔◌, IsTrue};
 ghost use Rattle.roam_wire.specs.Shown.{shown};
+ghost use Rattle.roam_hide.specs.Salted.{is_salted};
 ghost use Rattle.roam_hide.specs.SaltedValues.{IsSalted, IsSaltedAttribute};
 
 use crate::vendor_specific::holds_key;
@@ -19,10 +20,8 @@ fn is_salted(attribute: &Attr<'_>) -> bool
     }
 }
 
-/// Whether a packet has a Tunnel-Password (type 69), of whatever size, or a Vendor-Specific (type
-/// 26) of vendor 311 whose sub-attributes are well formed and hold an MS-MPPE-Send-Key or
-/// MS-MPPE-Recv-Key (types 16 and 17).
-pub fn salted(view: &View<'_>) -> bool
+/// Whether a packet has an attribute with a salted string. One pass.
+fn has_salted(view: &View<'_>) -> bool
     ensures { IsTrue result ↔ IsSalted view.now }
 {
     for attribute in view.attributes() {
@@ -31,4 +30,14 @@ pub fn salted(view: &View<'_>) -> bool
         }
     }
     false
+}
+
+/// Whether a packet has a Tunnel-Password (type 69), of whatever size, or a Vendor-Specific (type
+/// 26) of vendor 311 whose sub-attributes are well formed and hold an MS-MPPE-Send-Key or
+/// MS-MPPE-Recv-Key (types 16 and 17).
+pub fn salted(view: &View<'_>) -> bool
+    ensures salted { IsTrue result ↔ IsSalted view.now }
+    ensures test { result ≡ is_salted view.now.attributes }
+{
+    has_salted(view)
 }

@@ -3,3 +3,4 @@ pub mod WordLemmas
 pub mod SearchLemmas
 pub mod LaneLemmas
 pub mod WorkedFacts
+pub mod LazyLemmas

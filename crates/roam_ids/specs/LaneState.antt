@@ -4,11 +4,13 @@ use Rattle.roam_ids.specs.declared.place.Place.{Place}
 use Rattle.roam_ids.specs.declared.place.Place.TheVariants.{Free}
 use Rattle.roam_ids.specs.Standing.{is_in_use, ticket_of}
 
--- its tag, where the search for a free Identifier begins, and what stands at each Identifier
+-- its tag, where the search for a free Identifier begins, what stands at each Identifier, and
+-- whether its memory is there
 pub record LaneState : Type 0 where
   pub tag : ℕ
   pub cursor : ℕ
   pub places : List Place
+  pub made : Bool
 
 -- there are 256 Identifiers, and the cursor is one of them (RFC 2865, section 3: one octet)
 pub record HasIdentifiers (lane : LaneState) : Type 0 where

@@ -1,6 +1,7 @@
 pub mod IdSlot
 pub mod LaneState
 pub mod Laws
+pub mod Making
 pub mod Marks
 pub mod NextIdentifier
 pub mod Standing

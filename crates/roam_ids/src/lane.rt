@@ -5,6 +5,7 @@ ghost use Rattle.roam_ids.specs.NextIdentifier.{next_identifier, AllUsed};
 ghost use Rattle.roam_ids.specs.IdSlot.{slot_id, claimed_ticket};
 ghost use Rattle.roam_ids.specs.Marks.{is_marked};
 ghost use Rattle.roam_ids.specs.LaneState.{HasIdentifiers, place_at, ticket_at, is_used, put_at, cursor_past};
+ghost use Rattle.roam_ids.specs.Making.{fresh_lane, with_memory};
 
 use crate::place::Place;
 use crate::slot::IdSlot;
@@ -30,8 +31,10 @@ impl Model for Lane {
     ghost Value = { LaneState };
 
     ghost use Rattle.roam_ids.specs.Marks.{WordsTell};
+    ghost use Rattle.std.specs.Prelude.{true};
 
-    ghost view = { λ lane. record { tag = lane.tag; cursor = lane.cursor; places = lane.places } };
+    ghost view = { λ lane.
+        record { tag = lane.tag; cursor = lane.cursor; places = lane.places; made = true } };
 
     ghost invariant = { λ lane. WordsTell lane.words lane.places };
 }
@@ -43,6 +46,7 @@ impl Lane {
         ensures cursor { result.cursor ≡ 0 }
         ensures free { (id : ℕ) → place_at result id ≡ Place.Free }
         ensures whole { HasIdentifiers result }
+        ensures fresh { result ≡ with_memory (fresh_lane tag) }
     {
         Lane {
             tag,

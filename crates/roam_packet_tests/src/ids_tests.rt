@@ -1,7 +1,9 @@
 //! Lanes of Identifiers, by example. Which Identifier is next is worked out by hand from the rule:
 //! the first at or after the cursor, cyclic in 0..255, that isn't in use.
 
-use roam_ids::Lane;
+use roam_ids::{Lane, LazyLane};
+use roam_testing::Refusing;
+use std::alloc::Allocator;
 
 /// Takes the next free Identifier and parks it with this ticket.
 fn admit(lane: &mut Lane, ticket: u64) -> Option<u8> {
@@ -111,5 +113,47 @@ const WORDS: [(u8, [u64; 4]); 6] = [
 fn words_have_a_bit_for_each_identifier_in_use(rt: HostRuntime) {
     for (id, words) in WORDS {
         assert!(rt; words_without(id) == words, "without {id}");
+    }
+}
+
+/// Claims an Identifier of a lane that may not be made, and frees it.
+fn settle_lazily<A: Allocator>(lane: &mut LazyLane<A>, id: u8) -> Option<u64> {
+    let (slot, ticket) = lane.claim(id)?;
+    lane.free(slot);
+    Some(ticket)
+}
+
+/// What stands at Identifier 0 before the lane is made, which is tried twice; the Identifier that is
+/// taken then, and parked with ticket 9; what stands at 0; what is claimed there; what stands there.
+fn lazily<A: Allocator>(alloc: A) -> [Option<u64>; 6] {
+    let mut lane = LazyLane::new(alloc, 7);
+    let (stands, claimed) = (lane.holder(0), settle_lazily(&mut lane, 0));
+    if lane.make().is_err() && lane.make().is_err() {
+        return [None; 6];
+    }
+    let taken = match lane.take() {
+        Some(slot) => {
+            let id = slot.id();
+            lane.park(slot, 9);
+            Some(u64::from(id))
+        }
+        None => None,
+    };
+    let then = lane.holder(0);
+    let settled = settle_lazily(&mut lane, 0);
+    [stands, claimed, taken, then, settled, lane.holder(0)]
+}
+
+// Each growth refused in turn, and the same call again.
+#[test]
+fn a_lane_is_made_when_it_is_needed(rt: HostRuntime) {
+    let refusing = Refusing::new(rt.alloc());
+    for n in refusing.each_growth() {
+        refusing.refuse_nth(n);
+        let lane = lazily(&refusing);
+        assert!(rt;
+            lane == [None, None, Some(0), Some(9), Some(9), None],
+            "at growth {n}"
+        );
     }
 }

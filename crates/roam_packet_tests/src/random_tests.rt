@@ -1,6 +1,6 @@
-//! Request Authenticators of a seed, a stream and a position. The first four are the first block of
-//! RFC 8439, appendix A.1; the others were computed apart, by a ChaCha20 written from the formulas of
-//! that RFC, with 64 bits for the counter and 64 for the stream's number.
+//! Request Authenticators of a seed, a stream and a position: those that are published, and others
+//! that were computed apart, by a ChaCha20 written from the formulas of RFC 8439, with 64 bits for the
+//! counter and 64 for the stream's number (`rows/vectors.py`).
 use roam_random::{next_position, request_authenticator};
 
 const ZERO_SEED: [u8; 32] = [0; 32];
@@ -11,19 +11,61 @@ const COUNTING_SEED: [u8; 32] = [
     26, 27, 28, 29, 30, 31,
 ];
 
+/// Thirty-one octets 0 and a 1.
+const ONE_SEED: [u8; 32] = [
+    0, 0, 0, 0, 0, 0, 0, 0, 0, 0, 0, 0, 0, 0, 0, 0, 0, 0, 0, 0, 0, 0, 0, 0, 0, 0, 0, 0, 0, 0, 0, 1,
+];
+
+/// An octet 0, an octet 255, and thirty octets 0.
+const FF_SEED: [u8; 32] = [
+    0, 255, 0, 0, 0, 0, 0, 0, 0, 0, 0, 0, 0, 0, 0, 0, 0, 0, 0, 0, 0, 0, 0, 0, 0, 0, 0, 0, 0, 0, 0,
+    0,
+];
+
 /// The last two positions of a stream are this one and the one after it.
 const LAST_TWO: u128 = (1 << 68) - 2;
 
 /// Seed, stream, position, and the 16 octets as a number with the first one high.
-const AUTHENTICATORS: [([u8; 32], u64, u128, u128); 10] = [
+const AUTHENTICATORS: [([u8; 32], u64, u128, u128); 21] = [
+    // RFC 8439, appendix A.1, the first five: a nonce of 96 bits that begins with 32 zero bits is a
+    // stream of 64.
     (ZERO_SEED, 0, 0, 0x76b8e0ada0f13d90405d6ae55386bd28),
     (ZERO_SEED, 0, 4, 0xbdd219b8a08ded1aa836efcc8b770dc7),
     (ZERO_SEED, 0, 8, 0xda41597c5157488d7724e03fb8d84a37),
     (ZERO_SEED, 0, 12, 0x6a43b8f41518a11cc387b669b2ee6586),
+    (ZERO_SEED, 0, 16, 0x9f07e7be5551387a98ba977c732d080d),
+    (ONE_SEED, 0, 16, 0x3aeb5224ecf849929b9d828db1ced4dd),
+    (FF_SEED, 0, 32, 0x72d54dfbf12ec44b362692df94137f32),
+    (ZERO_SEED, 2 << 56, 0, 0xc2c64d378cd536374ae204b9ef933fcd),
+    // The draft from which that RFC came, with streams of 64 bits (draft-agl-tls-chacha20poly1305-04,
+    // section 7).
+    (ONE_SEED, 0, 0, 0x4540f05a9f1fb296d7736e7b208e3c96),
+    (ZERO_SEED, 1 << 56, 0, 0xde9cba7bf3d69ef5e786dc63973f653a),
+    (ZERO_SEED, 1, 0, 0xef3fdfd6c61578fbf5cf35bd3dd33b80),
+    (
+        COUNTING_SEED,
+        0x0706_0504_0302_0100,
+        0,
+        0xf798a189f195e66982105ffb640bb775,
+    ),
+    (
+        COUNTING_SEED,
+        0x0706_0504_0302_0100,
+        12,
+        0x05d3be59ea1c53f15916155c2be8241a,
+    ),
+    // Computed: the counter's 32 low bits are used up, and it goes on.
+    (
+        ZERO_SEED,
+        0,
+        (1 << 36) - 4,
+        0xf1696281dafc3e684593937023b58b1d,
+    ),
+    (ZERO_SEED, 0, 1 << 36, 0x3db41d3aa0d329285de6f225e6e24bd5),
     // From the fourth block into the fifth.
     (ZERO_SEED, 0, 62, 0xe86a1e6c3167167ee5a688742b47c5ad),
     // Another realm of the same seed.
-    (ZERO_SEED, 1, 0, 0xef3fdfd6c61578fbf5cf35bd3dd33b80),
+    (ZERO_SEED, 2, 0, 0xd0c5b9b7442870728d812f034c635e81),
     (COUNTING_SEED, 1, 0, 0x2fa4f10250808e89a25231e50fdf6ee0),
     (COUNTING_SEED, 255, 1000, 0x93db2412b450908b3995ce9222263215),
     // Over the end of a stream, at which it begins anew.
@@ -38,7 +80,7 @@ const AUTHENTICATORS: [([u8; 32], u64, u128, u128); 10] = [
 
 #[test]
 fn request_authenticators_are_words_of_the_stream(rt: HostRuntime) {
-    for (seed, stream, position, expected) in AUTHENTICATORS {
+    for &(seed, stream, position, expected) in &AUTHENTICATORS {
         let drawn = u128::from_be_bytes(request_authenticator(seed, stream, position));
         assert!(rt; drawn == expected, "stream {stream} at {position}");
     }

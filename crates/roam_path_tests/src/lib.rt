@@ -1,5 +1,6 @@
 //! Packets that leave, against octets from outside: what is forwarded for a request, which replies
-//! are taken, and what is returned for them. Accounting from end to end is played by rows.
+//! are taken, what is returned for them, and what a reverse request is refused with. Accounting from
+//! end to end is played by rows.
 #![tactic(auto)]
 
 #[cfg(test)]
@@ -8,6 +9,8 @@ mod back_tests;
 mod exchanges;
 #[cfg(test)]
 mod fwd_tests;
+#[cfg(test)]
+mod nak_tests;
 #[cfg(test)]
 mod octets;
 #[cfg(test)]

@@ -7,7 +7,7 @@ use Rattle.roam_wire.specs.Attributes.{first_value}
 use Rattle.roam_wire.specs.declared.attribute_type.TheConstants.{ACCT_SESSION_ID, USER_NAME}
 use Rattle.roam_conf.specs.Config.{RealmView}
 use Rattle.roam_reverse.specs.Sessions.{Session}
-use Rattle.roam_reverse.specs.Salted.{is_salted}
+use Rattle.roam_hide.specs.Salted.{is_salted}
 use Rattle.roam_reverse.specs.Causes.{cause_at_target, cause_by_name, cause_by_salt}
 
 -- with a User-Name the ledger doesn't matter

@@ -2,5 +2,4 @@ pub mod SameLemmas
 pub mod SessionLemmas
 pub mod ShownLemmas
 pub mod TargetLemmas
-pub mod SaltedLemmas
 pub mod CauseLemmas

@@ -1,18 +1,13 @@
 -- Laws of the causes (ours). Each is what a function of `laws` ensures.
-use Rattle.std.specs.Prelude.{◌≡◌, ℕ, ◌↔◌, IsTrue, false, List, Some, None}
-use Rattle.roam_wire.specs.Packet.{Attribute, Packet}
+use Rattle.std.specs.Prelude.{◌≡◌, ℕ, false, List, Some, None}
+use Rattle.roam_wire.specs.Packet.{Attribute}
 use Rattle.roam_wire.specs.Attributes.{first_value}
 use Rattle.roam_wire.specs.declared.attribute_type.TheConstants.{USER_NAME}
 use Rattle.roam_conf.specs.Config.{PeerView, RealmView}
-use Rattle.roam_hide.specs.SaltedValues.{IsSalted}
 use Rattle.roam_reverse.specs.Sessions.{Session}
-use Rattle.roam_reverse.specs.Salted.{is_salted}
+use Rattle.roam_hide.specs.Salted.{is_salted}
 use Rattle.roam_reverse.specs.Target.{target}
 use Rattle.roam_reverse.specs.Causes.{cause}
-
--- the test of salted strings means what the relation says
-abbrev pub SaltedAsTested : Type 0
-SaltedAsTested = (packet : Packet) → IsTrue (is_salted packet.attributes) ↔ IsSalted packet
 
 -- a request with a User-Name has the same cause whatever sessions are in the ledger
 abbrev pub NamedRequestsNeedNoSession : Type 0

@@ -9,7 +9,7 @@ use Rattle.roam_wire.specs.declared.attribute_type.TheConstants.{ACCT_SESSION_ID
 use Rattle.roam_conf.specs.Config.{PeerView, RealmView}
 use Rattle.roam_route.specs.UserName.{realm_part}
 use Rattle.roam_reverse.specs.Sessions.{Session, has_session}
-use Rattle.roam_reverse.specs.Salted.{is_salted}
+use Rattle.roam_hide.specs.Salted.{is_salted}
 use Rattle.roam_reverse.specs.Target.{target}
 use Rattle.roam_reverse.specs.declared.error_cause.TheConstants.{UNSUPPORTED_ATTRIBUTE, REQUEST_NOT_ROUTABLE, SESSION_CONTEXT_NOT_FOUND}
 

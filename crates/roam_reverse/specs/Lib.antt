@@ -1,5 +1,4 @@
 pub mod Target
-pub mod Salted
 pub mod Sessions
 pub mod Shown
 pub mod Causes

@@ -5,7 +5,6 @@ ghost use Rattle.roam_wire.specs.Attributes.{first_value};
 ghost use Rattle.roam_conf.specs.Config.{RealmView};
 ghost use Rattle.roam_conf.specs.Parts.{shown_realm};
 ghost use Rattle.roam_conf.specs.Shown.{shown};
-ghost use Rattle.roam_reverse.specs.Salted.{is_salted};
 ghost use Rattle.roam_reverse.specs.Causes.{cause, cause_by_name, cause_by_salt, names_realm};
 
 use crate::ledger::Sessions;
@@ -68,18 +67,11 @@ fn cause_by_name<A: Allocator + Copy>(
     }
 }
 
-/// Whether a request holds a salted string.
-fn is_salted(request: &View<'_>) -> bool
-    ensures { result ≡ is_salted request.now.attributes }
-{
-    salted(request)
-}
-
 /// Why a request isn't forwarded for a salted string, if it holds one.
 fn cause_by_salt(request: &View<'_>) -> Option<u32>
     ensures { result ≡ cause_by_salt request.now.attributes }
 {
-    if is_salted(request) {
+    if salted(request) {
         Some(UNSUPPORTED_ATTRIBUTE)
     } else {
         None

@@ -1,6 +1,6 @@
 //! Laws of targets, ledgers and causes, for callers' proofs. They do nothing when they run.
 
-ghost use Rattle.roam_reverse.specs.CauseLaws.{ForwardedHasTarget, NamedRequestsNeedNoSession, SaltedAsTested};
+ghost use Rattle.roam_reverse.specs.CauseLaws.{ForwardedHasTarget, NamedRequestsNeedNoSession};
 ghost use Rattle.roam_reverse.specs.SessionLaws.{ClosedIsGone, LimitOfNoneHoldsNone, NoneOfThePeerIsLeft, OpenedIsThere, OpenedTwiceIsOpenedOnce, OtherPeersSessionsStay, OthersStayOpen, RequestsKeepTheLedger};
 ghost use Rattle.roam_reverse.specs.TargetLaws.{NamelessIsForNone, NoTargetIsThere, TargetIsTheFirst};
 
@@ -33,11 +33,6 @@ pub fn closed_sessions()
 pub fn sessions_of_a_peer()
     ensures gone { NoneOfThePeerIsLeft }
     ensures others { OtherPeersSessionsStay }
-{}
-
-/// The test of salted strings says what the relation says.
-pub fn salted_as_tested()
-    ensures { SaltedAsTested }
 {}
 
 /// Where a request has a User-Name, the ledger isn't looked at.

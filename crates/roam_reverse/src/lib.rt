@@ -16,7 +16,7 @@ mod session;
 pub use error_cause::verdict;
 pub use laws::{
     closed_sessions, forwarded_has_target, ledgers_stay_ledgers, named_requests_need_no_session,
-    opened_sessions, salted_as_tested, sessions_of_a_peer, target_is_the_first,
+    opened_sessions, sessions_of_a_peer, target_is_the_first,
 };
 pub use ledger::Sessions;
 pub use nas_match::target;

@@ -1,134 +1,430 @@
--- What is prepared is a job, and the arrival of its own octets gives it again.
-use Rattle.std.proofs.Common.{◌≡◌, ℕ, Bool, true, false, List, Option, Some, None, inl, inr, refl, sym, ap, subst, ◌∙◌, arith}
-use Rattle.std.specs.Prelude.{Result, Ok, Err, IfOk, nat_le}
+-- What is prepared of an arrival, and what holds of each event.
+use Rattle.std.proofs.Common.{◌≡◌, ◌<◌, ℕ, Bool, true, false, List, [], ◌∷◌, length, drop, Option, Some, None, IsSome, inl, inr, refl, sym, ap, subst, ◌∙◌, arith}
+use Rattle.std.specs.Prelude.{◌==◌, if◌then◌else◌, Result, Ok, Err, IfOk, nat_le, nat_lt, option_map}
+use Rattle.std.specs.List.{AllByRecursion}
+use Rattle.std.specs.Option.{option_map_or}
+use Rattle.std.proofs.lemmas.Bool.{cases_Bool}
 use Rattle.std.proofs.lemmas.Bool.Decides.{nat_tests}
-use Rattle.roam_wire.specs.Packet.{Packet, IsPacket, packet_text}
-use Rattle.roam_wire.specs.Reading.{reading}
+use Rattle.roam_wire.specs.Packet.{AreOctets, Attribute, Packet, IsPacket, packet_length, packet_text}
+use Rattle.roam_wire.specs.Reading.{HasLength, IsPacketText, attributes_of, front_of, has_length, packet_of, reading}
+use Rattle.roam_wire.specs.declared.code.TheConstants.{ACCESS_REQUEST}
 use Rattle.roam_wire.specs.declared.refusal.Refusal.{Refusal}
 use Rattle.roam_wire.specs.declared.refusal.Refusal.TheVariants as refusal
-use Rattle.roam_wire.proofs.PacketLemmas.{ReadsAs-packet_text, ReadsAs-follows}
+use Rattle.roam_wire.proofs.PacketLemmas.{IsPacketText-front, IsPacketText-packet_text, ReadsAs-packet_text, ReadsAs-follows, length-packet_text, packet_of-packet_text}
 use Rattle.roam_wire.proofs.ReadingLemmas.{reading-ok}
+use Rattle.roam_auth.specs.Authenticators.{zero_octets}
+use Rattle.roam_auth.specs.MessageAuthenticator.{HasAtMostOneMessageAuthenticator, IsWellSealed}
+use Rattle.roam_auth.proofs.DecidingLemmas.{well_sealed_decided}
 use Rattle.roam_conf.specs.Config.{ConfigView}
+use Rattle.roam_conf.specs.Lookup.{peer_with_ip}
 use Rattle.roam_conf.specs.declared.place.Place.{Place}
 use Rattle.roam_conf.specs.declared.place.Place.TheVariants as place
-use Rattle.roam_fwd.specs.Forwarded.{forwarded_length}
+use Rattle.roam_fwd.specs.Forwarded.{CanBeForwarded, HasPasswordBlocks, forwarded_length}
 use Rattle.roam_route.specs.UserName.{realm_of}
-use Rattle.roam_route.specs.Admission.{Arrival, PlainJob, PlainOut, Admission, refused, rejected, admitted, sender, checked, given_to, forwarded_for, named, routed, request_admission, packet_admission, sent_admission, read_admission, admission_by, is_served, is_rightly_signed, is_rightly_sealed, has_needed_seal, seal_required, peer_secret, home_secret}
-use Rattle.roam_route.specs.Events.{arrival_of, IsEvent, IsPrepared}
+use Rattle.roam_route.specs.LocalReject.{is_rejected, local_reject, reject_length}
+use Rattle.roam_route.specs.Admission.{Arrival, PlainJob, PlainOut, Admission, refused, rejected, admitted, sender, checked, given_to, forwarded_for, rejected_for, named, routed, request_admission, packet_admission, sent_admission, read_admission, admission, is_taken, is_rightly_signed, is_rightly_sealed, has_needed_seal, seal_required, peer_secret, home_secret}
+use Rattle.roam_route.specs.Events.{arrival_of, IsEvent, IsPrepared, IsConfigured, IsForwardable, EventHasRealm, EventIsSound}
 use Rattle.roam_route.specs.Shown.{Answers, shown_job}
 use Rattle.roam_route.specs.declared.job.Prepared.{Prepared}
 use Rattle.roam_route.specs.declared.job.Prepared.TheVariants as prepared
 use Rattle.roam_route.specs.declared.job.Side.{Side}
 use Rattle.roam_route.specs.declared.job.Side.TheVariants as side
+use Rattle.roam_route.proofs.PasswordLemmas.{unrejected_blocks}
+use Rattle.roam_route.proofs.SenderLemmas.{realm_of_within, peer_known, link_known, home_known}
 
 -- the arrival of a packet without padding
 abbrev without_padding : Arrival → Packet → Arrival
 without_padding a p = record { at = a.at; from = a.from; octets = packet_text p }
 
--- no local reject; and a job has the place and the source of the arrival, and the packet's octets
-Keeps : Arrival → Packet → Admission → Type 0
-Keeps a p (refused why) = Unit {0}
-Keeps a p (rejected out) = ⊥
-Keeps a p (admitted job) = arrival_of job ≡ without_padding a p
+-- ---- what is admitted of a packet
 
-keeps_refused : (a : Arrival) (p : Packet) (why : Refusal) → Keeps a p (refused why)
-unfolding Keeps
-keeps_refused a p why = tt
+-- a job has the place and the source of the arrival and the packet's octets; its code is taken;
+-- its realm and its sender are configured; and what is a request can be forwarded
+record IsAdmitted (config : ConfigView) (a : Arrival) (p : Packet) (job : PlainJob) : Type 0 where
+  arrival : arrival_of job ≡ without_padding a p
+  code : is_taken job.place job.side p.code ≡ true
+  realm : job.realm < length config.realms
+  sender : IsConfigured config job.realm job.side
+  forwardable : IsForwardable job.side p
 
-keeps_checked : (a : Arrival) (p : Packet) (holds : Bool) (why : Refusal) (further : Admission) → (holds ≡ true → Keeps a p further) → Keeps a p (checked holds why further)
-keeps_checked a p true why further h = h refl
-keeps_checked a p false why further h = keeps_refused a p why
+Admits : ConfigView → Arrival → Packet → Admission → Type 0
+Admits config a p (refused why) = Unit {0}
+Admits config a p (rejected out) = Unit {0}
+Admits config a p (admitted job) = IsAdmitted config a p job
 
-keeps_given : (a : Arrival) (s : Side) (p : Packet) (realm : ℕ) → Keeps a p (given_to a s p realm)
-unfolding Keeps
-keeps_given a s p realm = refl
+refused_admits : (config : ConfigView) (a : Arrival) (p : Packet) (why : Refusal)
+    → Admits config a p (refused why)
+unfolding Admits
+refused_admits config a p why = tt
 
-keeps_forwarded : (a : Arrival) (s : Side) (p : Packet) (realm : ℕ) → Keeps a p (forwarded_for a s p realm)
-keeps_forwarded a s p realm =
-    keeps_checked a p (nat_le (forwarded_length p) 4096) refusal.TooLong (given_to a s p realm) (λ _. keeps_given a s p realm)
+rejected_admits : (config : ConfigView) (a : Arrival) (p : Packet) (out : PlainOut)
+    → Admits config a p (rejected out)
+unfolding Admits
+rejected_admits config a p out = tt
 
-keeps_named : (a : Arrival) (s : Side) (p : Packet) (realm : Option ℕ) → Keeps a p (named a s p realm)
-keeps_named a s p None = keeps_refused a p refusal.NoRealm
-keeps_named a s p (Some realm) = keeps_forwarded a s p realm
+checked_admits : (config : ConfigView) (a : Arrival) (p : Packet) (holds : Bool) (why : Refusal)
+    (further : Admission)
+    → (holds ≡ true → Admits config a p further) → Admits config a p (checked holds why further)
+checked_admits config a p true why further h = h refl
+checked_admits config a p false why further h = refused_admits config a p why
 
--- at `Auth` alone a local reject may come
-keeps_routed : (config : ConfigView) (secret : List ℕ) (a : Arrival) (s : Side) (p : Packet) (at : Place) → (at ≡ place.Auth → ⊥) → Keeps a p (routed config secret a s p at)
-keeps_routed config secret a s p place.Auth elsewhere = absurd (elsewhere refl)
-keeps_routed config secret a s p place.Acct elsewhere = keeps_named a s p (realm_of config p.attributes)
-keeps_routed config secret a s p (place.Out realm) elsewhere = keeps_named a s p (realm_of config p.attributes)
-keeps_routed config secret a s p (place.Reverse realm) elsewhere = keeps_forwarded a s p realm
+-- a packet that a realm is given: its code is taken, and the realm and its sender are configured
+record IsFor (config : ConfigView) (a : Arrival) (s : Side) (p : Packet) (realm : ℕ) : Type 0 where
+  code : is_taken a.at s p.code ≡ true
+  within : realm < length config.realms
+  sender : IsConfigured config realm s
 
-keeps_request : (config : ConfigView) (secret : List ℕ) (a : Arrival) (s : Side) (p : Packet) → (a.at ≡ place.Auth → ⊥) → Keeps a p (request_admission config secret a s p)
-keeps_request config secret a s p elsewhere =
-    let needed : Admission = checked (has_needed_seal (seal_required config s) p) refusal.MissingMessageAuthenticator (routed config secret a s p a.at) in
-    let sealed : Admission = checked (is_rightly_sealed secret p) refusal.BadMessageAuthenticator needed in
-    keeps_checked a p (is_rightly_signed secret p) refusal.BadAuthenticator sealed (λ _.
-    keeps_checked a p (is_rightly_sealed secret p) refusal.BadMessageAuthenticator needed (λ _.
-    keeps_checked a p (has_needed_seal (seal_required config s) p) refusal.MissingMessageAuthenticator (routed config secret a s p a.at) (λ _.
-    keeps_routed config secret a s p a.at elsewhere)))
+given_admits : (config : ConfigView) (a : Arrival) (s : Side) (p : Packet) (realm : ℕ)
+    → IsFor config a s p realm → IsForwardable s p → Admits config a p (given_to a s p realm)
+unfolding Admits
+given_admits config a s p realm h forwardable = record {
+  arrival = refl;
+  code = h.code;
+  realm = h.within;
+  sender = h.sender;
+  forwardable = forwardable;
+}
 
-keeps_packet : (config : ConfigView) (a : Arrival) (s : Side) (p : Packet) (at : Place) → (a.at ≡ place.Auth → ⊥) → Keeps a p (packet_admission config a s p at)
-keeps_packet config a s p (place.Out realm) elsewhere = keeps_given a s p realm
-keeps_packet config a (side.Peer i) p place.Auth elsewhere = keeps_request config (peer_secret config i) a (side.Peer i) p elsewhere
-keeps_packet config a (side.Peer i) p place.Acct elsewhere = keeps_request config (peer_secret config i) a (side.Peer i) p elsewhere
-keeps_packet config a (side.Peer i) p (place.Reverse realm) elsewhere = keeps_request config (peer_secret config i) a (side.Peer i) p elsewhere
-keeps_packet config a (side.Home i) p (place.Reverse realm) elsewhere = keeps_request config (home_secret config realm i) a (side.Home i) p elsewhere
-keeps_packet config a (side.Home i) p place.Auth elsewhere = keeps_refused a p refusal.WrongCode
-keeps_packet config a (side.Home i) p place.Acct elsewhere = keeps_refused a p refusal.WrongCode
-keeps_packet config a (side.Link l) p place.Auth elsewhere = keeps_refused a p refusal.WrongCode
-keeps_packet config a (side.Link l) p place.Acct elsewhere = keeps_refused a p refusal.WrongCode
-keeps_packet config a (side.Link l) p (place.Reverse realm) elsewhere = keeps_refused a p refusal.WrongCode
+-- a request that can be sealed and whose passwords can be hidden anew
+record IsSealable (p : Packet) : Type 0 where
+  seal : HasAtMostOneMessageAuthenticator p
+  passwords : p.code ≡ ACCESS_REQUEST → AllByRecursion HasPasswordBlocks p.attributes
 
--- nothing is served at `Auth`
-auth_unserved : (s : Side) (code : ℕ) → is_served place.Auth s code ≡ false
-auth_unserved (side.Peer i) code = grind (arith, nat_tests)
-auth_unserved (side.Link l) code = refl
-auth_unserved (side.Home i) code = refl
+forwardable_from : (s : Side) (p : Packet) → CanBeForwarded p → IsForwardable s p
+forwardable_from (side.Peer i) p h = h
+forwardable_from (side.Link l) p h = tt
+forwardable_from (side.Home i) p h = h
 
-pub served_elsewhere : (at : Place) (s : Side) (code : ℕ) → is_served at s code ≡ true → at ≡ place.Auth → ⊥
-served_elsewhere at s code served here =
-    let unserved : is_served at s code ≡ false = ap (λ (x : Place). is_served x s code) here ∙ auth_unserved s code in
-    absurd (cc (sym served ∙ unserved))
+forwarded_admits : (config : ConfigView) (a : Arrival) (s : Side) (p : Packet) (realm : ℕ)
+    → IsFor config a s p realm → IsSealable p → Admits config a p (forwarded_for a s p realm)
+forwarded_admits config a s p realm h sealable =
+    checked_admits config a p (nat_le (forwarded_length p) 4096) refusal.TooLong
+    (given_to a s p realm) (λ short. given_admits config a s p realm h (forwardable_from s p (record {
+      message_authenticator = sealable.seal;
+      passwords = sealable.passwords;
+      size = grind (arith, nat_tests, short);
+    })))
 
-keeps_sent : (config : ConfigView) (a : Arrival) (p : Packet) (s : Option Side) → Keeps a p (sent_admission is_served config a p s)
-keeps_sent config a p None = keeps_refused a p refusal.UnknownSource
-keeps_sent config a p (Some s) =
-    keeps_checked a p (is_served a.at s p.code) refusal.WrongCode (packet_admission config a s p a.at)
-    (λ served. keeps_packet config a s p a.at (served_elsewhere a.at s p.code served))
+-- a request of a peer may go to each configured realm
+IsFromPeer : ConfigView → Arrival → ℕ → Packet → Type 0
+IsFromPeer config a i p =
+    (realm : ℕ) → realm < length config.realms → IsFor config a (side.Peer i) p realm
+
+named_admits : (config : ConfigView) (a : Arrival) (i : ℕ) (p : Packet) (realm : Option ℕ)
+    → ((x : ℕ) → realm ≡ Some x → IsFor config a (side.Peer i) p x) → IsSealable p
+    → Admits config a p (named a (side.Peer i) p realm)
+named_admits config a i p None h sealable = refused_admits config a p refusal.NoRealm
+named_admits config a i p (Some realm) h sealable =
+    forwarded_admits config a (side.Peer i) p realm (h realm refl) sealable
+
+-- where it names one
+own_realm_admits : (config : ConfigView) (a : Arrival) (i : ℕ) (p : Packet)
+    → IsFromPeer config a i p → IsSealable p
+    → Admits config a p (named a (side.Peer i) p (realm_of config p.attributes))
+unfolding IsFromPeer
+own_realm_admits config a i p h sealable =
+    named_admits config a i p (realm_of config p.attributes)
+    (λ x is. h x (realm_of_within config p.attributes x is)) sealable
+
+-- a local reject, or an Access-Request whose passwords can be hidden anew
+either_admits : (config : ConfigView) (a : Arrival) (p : Packet) (rejects : Bool)
+    (reject further : Admission)
+    → Admits config a p reject → (rejects ≡ false → Admits config a p further)
+    → Admits config a p (if rejects then reject else further)
+either_admits config a p true reject further first second = first
+either_admits config a p false reject further first second = second refl
+
+reject_admits : (config : ConfigView) (secret : List ℕ) (a : Arrival) (p : Packet)
+    → Admits config a p (rejected_for secret a p)
+reject_admits config secret a p =
+    let bytes : List ℕ = packet_text (local_reject secret p) in
+    let out : PlainOut = record { realm = None; from = a.at; to = a.from; bytes = bytes } in
+    checked_admits config a p (nat_le (reject_length p) 4096) refusal.TooLong (rejected out)
+    (λ _. rejected_admits config a p out)
+
+-- what is well sealed has at most one Message-Authenticator
+sealed_once : (secret : List ℕ) (p : Packet) → is_rightly_sealed secret p ≡ true
+    → HasAtMostOneMessageAuthenticator p
+sealed_once secret p h =
+    let own : List ℕ = if p.code == ACCESS_REQUEST then p.authenticator else zero_octets in
+    let sealed : IsWellSealed secret (own ∷ []) p = (well_sealed_decided secret (own ∷ []) p).0 h in
+    elim sealed [ inl none ↦ inl none | inr one ↦ inr one.0 ]
+
+-- a request whose signature and seal are right
+request_admits : (config : ConfigView) (secret : List ℕ) (a : Arrival) (s : Side) (p : Packet)
+    → (HasAtMostOneMessageAuthenticator p → Admits config a p (routed config secret a s p a.at))
+    → Admits config a p (request_admission config secret a s p)
+request_admits config secret a s p h =
+    let has_seal : Bool = has_needed_seal (seal_required config s) p in
+    let last : Admission = routed config secret a s p a.at in
+    let third : Admission = checked has_seal refusal.MissingMessageAuthenticator last in
+    let second : Admission = checked (is_rightly_sealed secret p) refusal.BadMessageAuthenticator third in
+    checked_admits config a p (is_rightly_signed secret p) refusal.BadAuthenticator second (λ _.
+    checked_admits config a p (is_rightly_sealed secret p) refusal.BadMessageAuthenticator third (λ well.
+    checked_admits config a p has_seal refusal.MissingMessageAuthenticator last (λ _.
+    h (sealed_once secret p well))))
+
+-- the codes of an access server at each place, and of a home server
+code_at_acct : (s : Side) (code : ℕ) → is_taken place.Acct s code ≡ true → code ≡ ACCESS_REQUEST
+    → ⊥
+code_at_acct (side.Peer i) code taken access = grind (arith, nat_tests, taken, access)
+code_at_acct (side.Link l) code taken access = absurd (cc taken)
+code_at_acct (side.Home i) code taken access = absurd (cc taken)
+
+code_at_reverse : (realm i code : ℕ) → is_taken (place.Reverse realm) (side.Home i) code ≡ true
+    → code ≡ ACCESS_REQUEST → ⊥
+code_at_reverse realm i code taken access = grind (arith, nat_tests, taken, access)
+
+-- a peer's request, where it goes from its place
+peer_admits : (config : ConfigView) (secret : List ℕ) (a : Arrival) (i : ℕ) (p : Packet)
+    (at : Place)
+    → is_taken at (side.Peer i) p.code ≡ true → IsFromPeer config a i p
+    → HasAtMostOneMessageAuthenticator p
+    → Admits config a p (routed config secret a (side.Peer i) p at)
+unfolding IsFromPeer
+peer_admits config secret a i p place.Auth test h seal =
+    let named_one : Admission = named a (side.Peer i) p (realm_of config p.attributes) in
+    either_admits config a p (is_rejected config p) (rejected_for secret a p) named_one
+    (reject_admits config secret a p)
+    (λ passes. own_realm_admits config a i p h (record {
+      seal = seal;
+      passwords = λ _. unrejected_blocks config p passes;
+    }))
+peer_admits config secret a i p place.Acct test h seal =
+    own_realm_admits config a i p h (record {
+      seal = seal;
+      passwords = λ access. absurd (code_at_acct (side.Peer i) p.code test access);
+    })
+peer_admits config secret a i p (place.Out realm) test h seal = absurd (cc test)
+peer_admits config secret a i p (place.Reverse realm) test h seal = absurd (cc test)
+
+-- a home server's goes to the realm of its place
+home_admits : (config : ConfigView) (secret : List ℕ) (a : Arrival) (i : ℕ) (p : Packet) (realm : ℕ)
+    → is_taken (place.Reverse realm) (side.Home i) p.code ≡ true
+    → IsFor config a (side.Home i) p realm → HasAtMostOneMessageAuthenticator p
+    → Admits config a p (routed config secret a (side.Home i) p (place.Reverse realm))
+home_admits config secret a i p realm test h seal =
+    forwarded_admits config a (side.Home i) p realm h (record {
+      seal = seal;
+      passwords = λ access. absurd (code_at_reverse realm i p.code test access);
+    })
+
+from_peer : (config : ConfigView) (a : Arrival) (i : ℕ) (p : Packet)
+    → option_map (λ n. side.Peer n) (peer_with_ip config.peers a.from.ip) ≡ Some (side.Peer i)
+    → is_taken a.at (side.Peer i) p.code ≡ true → IsFromPeer config a i p
+unfolding IsFromPeer
+from_peer config a i p from test = λ realm within. record {
+  code = test;
+  within = within;
+  sender = peer_known config a i from;
+}
+
+-- the same by the place of the arrival
+taken_at : (a : Arrival) (s : Side) (p : Packet) (at : Place) → a.at ≡ at
+    → is_taken at s p.code ≡ true → is_taken a.at s p.code ≡ true
+taken_at a s p at is test = ap (λ (x : Place). is_taken x s p.code) is ∙ test
+
+routed_at : (config : ConfigView) (secret : List ℕ) (a : Arrival) (s : Side) (p : Packet)
+    (at : Place)
+    → a.at ≡ at → Admits config a p (routed config secret a s p at)
+    → Admits config a p (routed config secret a s p a.at)
+routed_at config secret a s p at is h =
+    subst (λ (x : Place). Admits config a p (routed config secret a s p x)) (sym is) h
+
+-- a packet from a sender that is known, and of a code that is taken
+packet_admits : (config : ConfigView) (a : Arrival) (s : Side) (p : Packet) (at : Place)
+    → a.at ≡ at → sender config a at ≡ Some s → is_taken at s p.code ≡ true
+    → Admits config a p (packet_admission config a s p at)
+packet_admits config a (side.Link l) p (place.Out realm) is from test =
+    let known = link_known config a realm l from in
+    given_admits config a (side.Link l) p realm (record {
+      code = taken_at a (side.Link l) p (place.Out realm) is test;
+      within = known.0;
+      sender = known.1;
+    }) tt
+packet_admits config a (side.Peer i) p (place.Out realm) is from test = absurd (cc test)
+packet_admits config a (side.Home i) p (place.Out realm) is from test = absurd (cc test)
+packet_admits config a (side.Peer i) p place.Auth is from test =
+    let secret = peer_secret config i in
+    let of_peer = from_peer config a i p from (taken_at a (side.Peer i) p place.Auth is test) in
+    request_admits config secret a (side.Peer i) p (λ seal.
+    routed_at config secret a (side.Peer i) p place.Auth is
+    (peer_admits config secret a i p place.Auth test of_peer seal))
+packet_admits config a (side.Peer i) p place.Acct is from test =
+    let secret = peer_secret config i in
+    let of_peer = from_peer config a i p from (taken_at a (side.Peer i) p place.Acct is test) in
+    request_admits config secret a (side.Peer i) p (λ seal.
+    routed_at config secret a (side.Peer i) p place.Acct is
+    (peer_admits config secret a i p place.Acct test of_peer seal))
+packet_admits config a (side.Peer i) p (place.Reverse realm) is from test = absurd (cc test)
+packet_admits config a (side.Home i) p (place.Reverse realm) is from test =
+    let secret = home_secret config realm i in
+    let known = home_known config a realm i from in
+    request_admits config secret a (side.Home i) p (λ seal.
+    routed_at config secret a (side.Home i) p (place.Reverse realm) is
+    (home_admits config secret a i p realm test (record {
+      code = taken_at a (side.Home i) p (place.Reverse realm) is test;
+      within = known.0;
+      sender = known.1;
+    }) seal))
+packet_admits config a (side.Home i) p place.Auth is from test = absurd (cc test)
+packet_admits config a (side.Home i) p place.Acct is from test = absurd (cc test)
+packet_admits config a (side.Link l) p place.Auth is from test = absurd (cc test)
+packet_admits config a (side.Link l) p place.Acct is from test = absurd (cc test)
+packet_admits config a (side.Link l) p (place.Reverse realm) is from test = absurd (cc test)
+
+sent_admits : (config : ConfigView) (a : Arrival) (p : Packet) (s : Option Side)
+    → sender config a a.at ≡ s → Admits config a p (sent_admission config a p s)
+sent_admits config a p None from = refused_admits config a p refusal.UnknownSource
+sent_admits config a p (Some s) from =
+    checked_admits config a p (is_taken a.at s p.code) refusal.WrongCode
+    (packet_admission config a s p a.at) (λ test. packet_admits config a s p a.at refl from test)
+
+-- ---- what is prepared
 
 -- a packet's octets read as that packet
 reading-packet_text : (p : Packet) → IsPacket p → reading (packet_text p) ≡ Ok p
 reading-packet_text p h =
     let reads = ReadsAs-packet_text p h in
     let follows = ReadsAs-follows (packet_text p) p reads in
-    reading-ok (packet_text p) reads.has_header follows.length follows.attributes ∙ ap (λ (x : Packet). Ok x) follows.packet
+    reading-ok (packet_text p) reads.has_header follows.length follows.attributes
+    ∙ ap (λ (x : Packet). Ok x) follows.packet
 
 -- the arrival without its padding gives the same
-same_without_padding : (config : ConfigView) (a : Arrival) (p : Packet) → IsPacket p → admission_by is_served config (without_padding a p) ≡ sent_admission is_served config a p (sender config a a.at)
-unfolding admission_by
+same_without_padding : (config : ConfigView) (a : Arrival) (p : Packet) → IsPacket p
+    → admission config (without_padding a p)
+    ≡ sent_admission config a p (sender config a a.at)
+unfolding admission
 same_without_padding config a p packet =
-    ap (λ (r : Result Packet Refusal). read_admission is_served config (without_padding a p) r) (reading-packet_text p packet)
+    ap (read_admission config (without_padding a p)) (reading-packet_text p packet)
 
-own_arrival : (config : ConfigView) (a : Arrival) (p : Packet) (job : PlainJob) → IsPacket p → sent_admission is_served config a p (sender config a a.at) ≡ admitted job → IsEvent config job
-unfolding Keeps
+own_arrival : (config : ConfigView) (a : Arrival) (p : Packet) (job : PlainJob) → IsPacket p
+    → sent_admission config a p (sender config a a.at) ≡ admitted job
+    → IsEvent config job
+unfolding Admits
 own_arrival config a p job packet is =
-    let keeps : Keeps a p (admitted job) = subst (Keeps a p) is (keeps_sent config a p (sender config a a.at)) in
-    ap (λ (x : Arrival). admission_by is_served config x) keeps ∙ same_without_padding config a p packet ∙ is
+    let all = sent_admits config a p (sender config a a.at) refl in
+    let admits : Admits config a p (admitted job) = subst (Admits config a p) is all in
+    ap (admission config) admits.arrival ∙ same_without_padding config a p packet ∙ is
 
-no_reject : (config : ConfigView) (a : Arrival) (p : Packet) (out : PlainOut) → sent_admission is_served config a p (sender config a a.at) ≡ rejected out → ⊥
-unfolding Keeps
-no_reject config a p out is = subst (Keeps a p) is (keeps_sent config a p (sender config a a.at))
+-- what the packet of an arrival gives, the arrival gives
+same_as_sent : (config : ConfigView) (a : Arrival) (p : Packet) → reading a.octets ≡ Ok p
+    → admission config a ≡ sent_admission config a p (sender config a a.at)
+unfolding admission
+same_as_sent config a p read = ap (read_admission config a) read
 
--- what is prepared of a packet
-pub prepared_of_packet : {A : Type 0} → (config : ConfigView) (a : Arrival) (p : Packet) (r : Result (Prepared A) Refusal) → IsPacket p → Answers r (sent_admission is_served config a p (sender config a a.at)) → IfOk r (IsPrepared config)
-prepared_of_packet config a p (Err why) packet answers = tt
-prepared_of_packet config a p (Ok (prepared.Job j)) packet answers =
-    elim answers [ inl none ↦ absurd (cc none) | inr is ↦ own_arrival config a p (shown_job j) packet (sym is) ]
-prepared_of_packet config a p (Ok (prepared.Reject out)) packet answers =
-    elim answers [ inl none ↦ absurd (cc none) | inr is ↦ no_reject config a p _ (sym is) ]
+sent_of_taken : (config : ConfigView) (a : Arrival) (p : Packet) (s : Side)
+    → sender config a a.at ≡ Some s → is_taken a.at s p.code ≡ true
+    → sent_admission config a p (sender config a a.at) ≡ packet_admission config a s p a.at
+sent_of_taken config a p s from test = rw (from, test) refl
 
--- what is prepared of a packet whose sender is known, and whose code is served
-pub prepared_of_served : {A : Type 0} → (config : ConfigView) (a : Arrival) (p : Packet) (s : Side) (r : Result (Prepared A) Refusal) → IsPacket p → sender config a a.at ≡ Some s → is_served a.at s p.code ≡ true → Answers r (packet_admission config a s p a.at) → IfOk r (IsPrepared config)
-prepared_of_served config a p s r packet from test answers =
-    let sent : sent_admission is_served config a p (sender config a a.at) ≡ packet_admission config a s p a.at = rw (from, test) refl in
-    prepared_of_packet config a p r packet (subst (Answers r) (sym sent) answers)
+-- what is prepared of a packet whose sender is known, and whose code is taken
+pub prepared_of_taken : {A : Type 0}
+    → (config : ConfigView) (a : Arrival) (p : Packet) (s : Side) (r : Result (Prepared A) Refusal)
+    → IsPacket p → reading a.octets ≡ Ok p → sender config a a.at ≡ Some s
+    → is_taken a.at s p.code ≡ true → Answers r (packet_admission config a s p a.at)
+    → IfOk r (IsPrepared config a)
+prepared_of_taken config a p s (Err why) packet read from test answers = tt
+prepared_of_taken config a p s (Ok (prepared.Job j)) packet read from test answers =
+    let sent = sent_of_taken config a p s from test in
+    elim answers [
+      | inl none ↦ absurd (cc none)
+      | inr is ↦ own_arrival config a p (shown_job j) packet (sent ∙ sym is)
+    ]
+prepared_of_taken config a p s (Ok (prepared.Reject out)) packet read from test answers =
+    let sent = sent_of_taken config a p s from test in
+    elim answers [
+      | inl none ↦ absurd (cc none)
+      | inr is ↦ same_as_sent config a p read ∙ sent ∙ sym is
+    ]
+
+-- ---- laws
+
+-- what is read is a packet
+test_fits : (d : List ℕ) → has_length d ≡ true → HasLength d
+test_fits d h = record {
+  at_least_header = grind (arith, nat_tests, h);
+  at_most_4096 = grind (arith, nat_tests, h);
+  all_came = grind (arith, nat_tests, h);
+}
+
+-- the answer, whatever attributes there are
+abbrev answer : Packet → List Attribute → Result Packet Refusal
+answer p all = Ok p
+
+some_answered : (o : Option (List Attribute)) (q p : Packet)
+    → option_map_or (answer q) o (Err refusal.BadAttribute) ≡ Ok p → IsSome o × (q ≡ p)
+some_answered None q p h = absurd (cc h)
+some_answered (Some all) q p h = (refl, cc h)
+
+pub read_packet : (d : List ℕ) (p : Packet) → AreOctets d → reading d ≡ Ok p → IsPacket p
+unfolding reading
+read_packet d p octets h =
+    elim (cases_Bool (nat_lt (length d) 20)) [
+      | inl short ↦ absurd (let k : Err refusal.Short ≡ Ok p = rw short at h in cc)
+      | inr long ↦ elim (cases_Bool (has_length d)) [
+        | inl fits ↦
+            let q : Packet = packet_of (front_of d) in
+            let all = attributes_of (drop 20 (front_of d)) in
+            let k : option_map_or (answer q) all (Err refusal.BadAttribute) ≡ Ok p = rw (long, fits) at h in
+            let some = some_answered all q p k in
+            subst IsPacket some.1 (IsPacketText-front d octets (test_fits d fits) some.0).packet
+        | inr bad ↦ absurd (let k : Err refusal.BadLength ≡ Ok p = rw (long, bad) at h in cc)
+      ]
+    ]
+
+-- an event is of the packet that its octets read as
+record IsOfPacket (config : ConfigView) (job : PlainJob) (read : Result Packet Refusal) : Type 0
+  where
+    packet : Packet
+    reads : read ≡ Ok packet
+    admitted : IsAdmitted config (arrival_of job) packet job
+
+event_of_packet : (config : ConfigView) (job : PlainJob) (read : Result Packet Refusal)
+    → read_admission config (arrival_of job) read ≡ admitted job
+    → IsOfPacket config job read
+unfolding Admits
+event_of_packet config job (Err why) is = absurd (cc is)
+event_of_packet config job (Ok p) is =
+    let a : Arrival = arrival_of job in
+    let all = sent_admits config a p (sender config a job.place) refl in
+    record { packet = p; reads = refl; admitted = subst (Admits config a p) is all }
+
+event_packet : (config : ConfigView) (job : PlainJob) → IsEvent config job
+    → IsOfPacket config job (reading job.octets)
+unfolding admission
+event_packet config job is = event_of_packet config job (reading job.octets) is
+
+-- whatever an arrival is admitted for is a configured realm
+realm_of_read : (config : ConfigView) (a : Arrival) (job : PlainJob) (read : Result Packet Refusal)
+    → read_admission config a read ≡ admitted job → job.realm < length config.realms
+unfolding Admits
+realm_of_read config a job (Err why) is = absurd (cc is)
+realm_of_read config a job (Ok p) is =
+    let all = sent_admits config a p (sender config a a.at) refl in
+    let admits : Admits config a p (admitted job) = subst (Admits config a p) is all in
+    admits.realm
+
+pub admitted_realm : (config : ConfigView) (a : Arrival) (job : PlainJob)
+    → admission config a ≡ admitted job → job.realm < length config.realms
+unfolding admission
+admitted_realm config a job is = realm_of_read config a job (reading a.octets) is
+
+pub event_realm : EventHasRealm
+event_realm config job is = (event_packet config job is).admitted.realm
+
+pub event_sound : EventIsSound
+event_sound config job octets is =
+    let of = event_packet config job is in
+    let p : Packet = of.packet in
+    let h = of.admitted in
+    let packet : IsPacket p = read_packet job.octets p octets of.reads in
+    let text : job.octets ≡ packet_text p = ap (λ (a : Arrival). a.octets) h.arrival in
+    let same : packet_of job.octets ≡ p = ap packet_of text ∙ packet_of-packet_text p packet in
+    record {
+      packet = subst IsPacketText (sym text) (IsPacketText-packet_text p packet);
+      size = ap packet_length same ∙ sym (length-packet_text p packet) ∙ sym (ap length text);
+      code = subst (λ (x : Packet). is_taken job.place job.side x.code ≡ true) (sym same) h.code;
+      sender = h.sender;
+      forwardable = subst (IsForwardable job.side) (sym same) h.forwardable;
+    }

@@ -1,5 +1,6 @@
 pub mod CheckLemmas
 pub mod EventLemmas
-pub mod RealmLemmas
 pub mod NameLemmas
+pub mod PasswordLemmas
 pub mod RejectLemmas
+pub mod SenderLemmas

@@ -158,26 +158,16 @@ packet_admission config a (side.Home i) p (place.Reverse realm) =
 packet_admission config a s p _ = refused refusal.WrongCode
 
 -- what a packet gives: the source first, then the code
-abbrev pub sent_admission : (Place → Side → ℕ → Bool) → ConfigView → Arrival → Packet → Option Side → Admission
-sent_admission takes config a p None = refused refusal.UnknownSource
-sent_admission takes config a p (Some s) =
-    checked (takes a.at s p.code) refusal.WrongCode (packet_admission config a s p a.at)
+abbrev pub sent_admission : ConfigView → Arrival → Packet → Option Side → Admission
+sent_admission config a p None = refused refusal.UnknownSource
+sent_admission config a p (Some s) =
+    checked (is_taken a.at s p.code) refusal.WrongCode (packet_admission config a s p a.at)
 
 -- what is read, and what it gives
-abbrev pub read_admission : (Place → Side → ℕ → Bool) → ConfigView → Arrival → Result Packet Refusal → Admission
-read_admission takes config a (Err why) = refused why
-read_admission takes config a (Ok p) = sent_admission takes config a p (sender config a a.at)
-
--- what an arrival gives, where these codes are taken
-unfoldable pub admission_by : (Place → Side → ℕ → Bool) → ConfigView → Arrival → Admission
-admission_by takes config a = read_admission takes config a (reading a.octets)
+abbrev pub read_admission : ConfigView → Arrival → Result Packet Refusal → Admission
+read_admission config a (Err why) = refused why
+read_admission config a (Ok p) = sent_admission config a p (sender config a a.at)
 
 -- what an arrival gives
-abbrev pub admission : ConfigView → Arrival → Admission
-admission config a = admission_by is_taken config a
-
--- the codes that are served so far: accounting requests and responses. All others are refused as
--- WrongCode until they are served
-abbrev pub is_served : Place → Side → ℕ → Bool
-is_served at s code =
-    is_taken at s code && (code == ACCOUNTING_REQUEST || code == ACCOUNTING_RESPONSE)
+unfoldable pub admission : ConfigView → Arrival → Admission
+admission config a = read_admission config a (reading a.octets)

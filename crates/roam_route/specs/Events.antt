@@ -1,10 +1,16 @@
 -- The events that a configuration gives to its realms. Ours.
-use Rattle.std.specs.Prelude.{◌≡◌, ◌<◌, length}
+use Rattle.std.specs.Prelude.{◌≡◌, ℕ, ◌<◌, true, length}
+use Rattle.roam_wire.specs.Packet.{AreOctets, Packet, packet_length}
+use Rattle.roam_wire.specs.Reading.{IsPacketText, packet_of}
 use Rattle.roam_conf.specs.Config.{ConfigView}
+use Rattle.roam_conf.specs.Lookup.{IsLinkIn, servers_in}
+use Rattle.roam_fwd.specs.Forwarded.{CanBeForwarded}
 use Rattle.roam_route.specs.declared.job.Prepared.{Prepared}
 use Rattle.roam_route.specs.declared.job.Prepared.TheVariants as prepared
-use Rattle.roam_route.specs.Admission.{Arrival, PlainJob, admitted, admission_by, is_served}
-use Rattle.roam_route.specs.Shown.{shown_job}
+use Rattle.roam_route.specs.declared.job.Side.{Side}
+use Rattle.roam_route.specs.declared.job.Side.TheVariants as side
+use Rattle.roam_route.specs.Admission.{Arrival, PlainJob, admitted, rejected, admission, is_taken}
+use Rattle.roam_route.specs.Shown.{shown_job, shown_out}
 
 -- the arrival of a job's own octets, from its source at its place
 abbrev pub arrival_of : PlainJob → Arrival
@@ -13,14 +19,42 @@ arrival_of job = record { at = job.place; from = job.from; octets = job.octets }
 -- a job is an event of this configuration where the arrival of its own octets is admitted as just this
 -- job
 abbrev pub IsEvent : ConfigView → PlainJob → Type 0
-IsEvent config job = admission_by is_served config (arrival_of job) ≡ admitted job
+IsEvent config job = admission config (arrival_of job) ≡ admitted job
 
--- what is prepared is such a job; so far no local reject comes
-abbrev pub IsPrepared : {A : Type 0} → ConfigView → Prepared A → Type 0
-IsPrepared config (prepared.Job j) = IsEvent config (shown_job j)
-IsPrepared config (prepared.Reject out) = ⊥
+-- what is prepared of an arrival: such a job, or the local reject of just this arrival
+abbrev pub IsPrepared : {A : Type 0} → ConfigView → Arrival → Prepared A → Type 0
+IsPrepared config a (prepared.Job j) = IsEvent config (shown_job j)
+IsPrepared config a (prepared.Reject out) =
+    admission config a ≡ rejected (shown_out out)
+
+-- who sent a packet of a realm is configured, so it shares a secret with the broker (RFC 2865,
+-- section 3)
+abbrev pub IsConfigured : ConfigView → ℕ → Side → Type 0
+IsConfigured config realm (side.Peer i) = i < length config.peers
+IsConfigured config realm (side.Link l) = IsLinkIn config realm l
+IsConfigured config realm (side.Home i) = i < length (servers_in config realm)
+
+-- a request can be forwarded; a reply comes from a link
+abbrev pub IsForwardable : Side → Packet → Type 0
+IsForwardable (side.Peer i) p = CanBeForwarded p
+IsForwardable (side.Link l) p = Unit {0}
+IsForwardable (side.Home i) p = CanBeForwarded p
+
+-- an event of a realm: octets that are one packet's, of a code that is taken from its sender, who
+-- is configured; and what is a request can be forwarded
+pub record IsSoundEvent (config : ConfigView) (job : PlainJob) : Type 0 where
+  pub packet : IsPacketText job.octets
+  pub size : packet_length (packet_of job.octets) ≡ length job.octets
+  pub code : is_taken job.place job.side (packet_of job.octets).code ≡ true
+  pub sender : IsConfigured config job.realm job.side
+  pub forwardable : IsForwardable job.side (packet_of job.octets)
 
 -- the realm of an event is configured
 abbrev pub EventHasRealm : Type 0
 EventHasRealm = (config : ConfigView) (job : PlainJob) → IsEvent config job →
     job.realm < length config.realms
+
+-- an event whose numbers are octets is sound
+abbrev pub EventIsSound : Type 0
+EventIsSound = (config : ConfigView) (job : PlainJob) → AreOctets job.octets → IsEvent config job →
+    IsSoundEvent config job

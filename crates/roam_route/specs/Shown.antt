@@ -1,7 +1,10 @@
 -- What the code's datagrams, jobs and packets are seen as.
-use Rattle.std.specs.Prelude.{◌≡◌, ◌⊎◌, Result, Ok, Err}
+use Rattle.std.specs.Prelude.{◌≡◌, ◌⊎◌, ℕ, ◌<◌, length, vec_len, Result, Ok, Err, IsErrOf}
 use Rattle.roam_wire.specs.declared.refusal.Refusal.{Refusal}
 use Rattle.roam_wire.specs.declared.refusal.Refusal.TheVariants as refusal
+use Rattle.roam_conf.specs.Lookup.{servers_in}
+use Rattle.roam_conf.specs.Shown.{shown as shown_config}
+use Rattle.roam_conf.specs.declared.config.Config.{Config}
 use Rattle.roam_route.specs.declared.datagram.Datagram.{Datagram}
 use Rattle.roam_route.specs.declared.datagram.Out.{Out}
 use Rattle.roam_route.specs.declared.job.Job.{Job}
@@ -36,3 +39,15 @@ abbrev pub WantsMemory : Admission → Type 0
 WantsMemory (refused why) = ⊥
 WantsMemory (rejected out) = Unit {0}
 WantsMemory (admitted job) = Unit {0}
+
+-- a home server of a configured realm
+pub record IsHome (config : Config) (realm server : ℕ) : Type 0 where
+  pub configured : realm < vec_len config.realms
+  pub there : server < length (servers_in (shown_config config) realm)
+
+-- what a call answers of an arrival: this admission, and want of memory only where it wants memory.
+-- So what is refused is refused for its cause, whatever memory there is
+pub record Prepares {A : Type 0} (result : Result (Prepared A) Refusal) (admission : Admission)
+    : Type 0 where
+  pub answer : Answers result admission
+  pub memory : IsErrOf result refusal.NoMemory → WantsMemory admission

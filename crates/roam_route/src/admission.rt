@@ -1,17 +1,16 @@
-//! What an arrival gives: a refusal, or the event of a realm.
+//! What an arrival gives: a refusal, a local reject, or the event of a realm.
 
-ghost use Rattle.std.specs.Prelude.{◌≡◌, ℕ, ◌<◌, true, vec_len, IfOk, IsErrOf};
-ghost use Rattle.roam_wire.specs.declared.code.TheConstants.{ACCOUNTING_REQUEST};
+ghost use Rattle.std.specs.Prelude.{◌≡◌, ℕ, ◌<◌, ◌≤◌, length, true, vec_len, IfOk, IsErrOf};
 ghost use Rattle.roam_conf.specs.Shown.{shown};
-ghost use Rattle.roam_route.specs.Admission.{admission_by, forwarded_for, given_to, is_served, named, packet_admission, peer_secret, request_admission};
+ghost use Rattle.roam_route.specs.Admission.{admission, forwarded_for, given_to, is_taken, named, packet_admission, rejected_for, request_admission, routed};
 ghost use Rattle.roam_route.specs.Events.{IsPrepared};
-ghost use Rattle.roam_route.specs.Shown.{Answers, WantsMemory, shown_arrival};
-ghost use Rattle.roam_route.specs.UserName.{realm_of};
+ghost use Rattle.roam_route.specs.Shown.{Answers, IsHome, Prepares, WantsMemory, shown_arrival};
 
-use crate::checks::{is_rightly_sealed, is_rightly_signed};
-use crate::datagram::Datagram;
+use crate::checks::{has_bad_password, has_needed_seal, is_rightly_sealed, is_rightly_signed};
+use crate::datagram::{Datagram, Out};
 use crate::job::{Job, Prepared, Side};
-use crate::source::{is_served, secret_of_peer, sender};
+use crate::rejecting::reject;
+use crate::source::{is_taken, seal_required, secret_of_home, secret_of_peer, sender};
 use crate::user_name::realm_of;
 use roam_conf::{Config, Place};
 use roam_fwd::forwarded_len;
@@ -26,7 +25,7 @@ fn given_to<A: Allocator + Copy>(
     view: &View<'_>,
     realm: u16,
 ) -> Result<Prepared<A>, Refusal>
-    ensures { Answers result (given_to (shown_arrival datagram.now) side view.now realm) }
+    ensures { Prepares result (given_to (shown_arrival datagram.now) side view.now realm) }
 {
     let octets = Octets::copy_of(alloc, view.octets())?;
     Ok(Prepared::Job(Job {
@@ -46,9 +45,7 @@ fn forwarded_for<A: Allocator + Copy>(
     view: &View<'_>,
     realm: u16,
 ) -> Result<Prepared<A>, Refusal>
-    ensures answer { Answers result (forwarded_for (shown_arrival datagram.now) side view.now realm) }
-    ensures memory { IsErrOf result Refusal.NoMemory
-        → WantsMemory (forwarded_for (shown_arrival datagram.now) side view.now realm) }
+    ensures { Prepares result (forwarded_for (shown_arrival datagram.now) side view.now realm) }
 {
     if forwarded_len(view) > MAX_PACKET_LENGTH {
         return Err(Refusal::TooLong);
@@ -56,108 +53,155 @@ fn forwarded_for<A: Allocator + Copy>(
     given_to(alloc, datagram, side, view, realm)
 }
 
-/// A request of the realm that it names.
+/// A request of the realm that it names, if it names one.
 fn named<A: Allocator + Copy>(
     alloc: A,
-    config: &Config,
     datagram: &Datagram<A>,
     side: Side,
     view: &View<'_>,
+    realm: Option<u16>,
 ) -> Result<Prepared<A>, Refusal>
-    ensures answer { Answers result (named (shown_arrival datagram.now) side view.now
-        (realm_of (shown config.now) view.now.attributes)) }
-    ensures memory { IsErrOf result Refusal.NoMemory
-        → WantsMemory (named (shown_arrival datagram.now) side view.now
-        (realm_of (shown config.now) view.now.attributes)) }
+    ensures { Prepares result (named (shown_arrival datagram.now) side view.now realm) }
 {
-    match realm_of(config, view) {
+    match realm {
         None => Err(Refusal::NoRealm),
         Some(realm) => forwarded_for(alloc, datagram, side, view, realm),
     }
 }
 
-/// What an accounting request of a peer gives: its signature is looked at, then its seal, then its
-/// realm.
-fn accounting_request<A: Allocator + Copy>(
+/// The local reject of an Access-Request, where it has at most 4096 octets.
+fn rejected_for<A: Allocator + Copy>(
+    alloc: A,
+    datagram: &Datagram<A>,
+    view: &View<'_>,
+    secret: &[u8],
+) -> Result<Prepared<A>, Refusal>
+    requires at_least_one { 1 ≤ length secret.now }
+    requires at_most_64 { length secret.now ≤ 64 }
+    ensures { Prepares result (rejected_for secret.now (shown_arrival datagram.now) view.now) }
+{
+    let bytes = reject(alloc, view, secret)?;
+    Ok(Prepared::Reject(Out {
+        realm: None,
+        from: datagram.at,
+        to: datagram.from,
+        bytes,
+    }))
+}
+
+/// What a request gives that is rightly signed and sealed: it goes to the realm of its place where
+/// it came from a home server, else to the one that it names. An Access-Request that names none, or
+/// whose passwords can't be carried, is answered by a local reject.
+fn routed<A: Allocator + Copy>(
     alloc: A,
     config: &Config,
     datagram: &Datagram<A>,
-    peer: u16,
+    side: Side,
+    secret: &[u8],
     view: &View<'_>,
 ) -> Result<Prepared<A>, Refusal>
-    requires known { peer < vec_len config.now.peers }
-    requires place { datagram.now.at ≡ Place.Acct }
-    requires code { view.now.code ≡ ACCOUNTING_REQUEST }
-    ensures answer { Answers result (request_admission (shown config.now)
-        (peer_secret (shown config.now) peer) (shown_arrival datagram.now) (Side.Peer peer) view.now) }
-    ensures memory { IsErrOf result Refusal.NoMemory
-        → WantsMemory (request_admission (shown config.now)
-        (peer_secret (shown config.now) peer) (shown_arrival datagram.now) (Side.Peer peer) view.now) }
+    requires at_least_one { 1 ≤ length secret.now }
+    requires at_most_64 { length secret.now ≤ 64 }
+    ensures { Prepares result (routed (shown config.now) secret.now (shown_arrival datagram.now)
+        side view.now datagram.now.at) }
 {
-    let secret = secret_of_peer(config, peer);
+    if let Place::Reverse(realm) = datagram.at {
+        return forwarded_for(alloc, datagram, side, view, realm);
+    }
+    let realm = realm_of(config, view);
+    if datagram.at == Place::Auth && (realm.is_none() || has_bad_password(view)) {
+        return rejected_for(alloc, datagram, view, secret);
+    }
+    named(alloc, datagram, side, view, realm)
+}
+
+/// What a request gives: its signature is looked at, then its seal, then where it goes.
+fn request<A: Allocator + Copy>(
+    alloc: A,
+    config: &Config,
+    datagram: &Datagram<A>,
+    side: Side,
+    secret: &[u8],
+    view: &View<'_>,
+) -> Result<Prepared<A>, Refusal>
+    requires at_least_one { 1 ≤ length secret.now }
+    requires at_most_64 { length secret.now ≤ 64 }
+    requires peer { (i : ℕ) → side ≡ Side.Peer i → i < vec_len config.now.peers }
+    ensures { Prepares result (request_admission (shown config.now) secret.now
+        (shown_arrival datagram.now) side view.now) }
+{
     if !is_rightly_signed(view, secret) {
         return Err(Refusal::BadAuthenticator);
     }
     if !is_rightly_sealed(view, secret) {
         return Err(Refusal::BadMessageAuthenticator);
     }
-    named(alloc, config, datagram, Side::Peer(peer), view)
+    if !has_needed_seal(view, seal_required(config, side)) {
+        return Err(Refusal::MissingMessageAuthenticator);
+    }
+    routed(alloc, config, datagram, side, secret, view)
 }
 
-/// What a packet gives whose sender is known, and whose code is served: a reply goes to the realm of
+/// What a packet gives whose sender is known, and whose code is taken: a reply goes to the realm of
 /// its place as it is, and is judged there.
-fn served<A: Allocator + Copy>(
+fn taken<A: Allocator + Copy>(
     alloc: A,
     config: &Config,
     datagram: &Datagram<A>,
     side: Side,
     view: &View<'_>,
 ) -> Result<Prepared<A>, Refusal>
-    requires served { is_served datagram.now.at side view.now.code ≡ true }
-    requires known { (i : ℕ) → side ≡ Side.Peer i → i < vec_len config.now.peers }
-    ensures answer { Answers result (packet_admission (shown config.now) (shown_arrival datagram.now)
-        side view.now datagram.now.at) }
-    ensures memory { IsErrOf result Refusal.NoMemory
-        → WantsMemory (packet_admission (shown config.now) (shown_arrival datagram.now)
+    requires peer { (i : ℕ) → side ≡ Side.Peer i → i < vec_len config.now.peers }
+    requires home { (realm i : ℕ) → datagram.now.at ≡ Place.Reverse realm → side ≡ Side.Home i
+        → IsHome config.now realm i }
+    ensures { Prepares result (packet_admission (shown config.now) (shown_arrival datagram.now)
         side view.now datagram.now.at) }
 {
     if let Place::Out(realm) = datagram.at {
         return given_to(alloc, datagram, side, view, realm);
     }
     match side {
-        Side::Peer(peer) => accounting_request(alloc, config, datagram, peer, view),
-        Side::Link(_) | Side::Home(_) => Err(Refusal::WrongCode),
+        Side::Peer(peer) => {
+            let secret = secret_of_peer(config, peer);
+            request(alloc, config, datagram, side, secret, view)
+        }
+        Side::Home(server) => match datagram.at {
+            Place::Reverse(realm) => {
+                let secret = secret_of_home(config, realm, server);
+                request(alloc, config, datagram, side, secret, view)
+            }
+            _ => Err(Refusal::WrongCode),
+        },
+        Side::Link(_) => Err(Refusal::WrongCode),
     }
 }
 
-/// What an arrival gives: the event of a realm, with the packet's octets, or the first of `Short` to
-/// `TooLong` whose cause holds. `NoMemory` comes where a growth was refused, and nowhere else: memory
-/// is wanted only for what passes.
-///
-/// So far accounting packets alone are served: a packet of any other code is refused as `WrongCode`
-/// where the checks before it pass, and no local reject comes.
-#[tactic(auto, unfolding(crate::specs::Admission::admission_by))]
+/// What an arrival gives: the event of a realm, with the packet's octets, or a local reject, or the
+/// first of `Short` to `TooLong` whose cause holds. `NoMemory` comes where a growth was refused,
+/// and nowhere else: memory is wanted only for what passes, and for a reject that is sent.
+#[tactic(auto, unfolding(crate::specs::Admission::admission))]
 pub fn prepare<A: Allocator + Copy>(
     alloc: A,
     config: &Config,
     datagram: &Datagram<A>,
 ) -> Result<Prepared<A>, Refusal>
     ensures answer { Answers result
-        (admission_by is_served (shown config.now) (shown_arrival datagram.now)) }
+        (admission (shown config.now) (shown_arrival datagram.now)) }
 
     // What is refused is refused for its cause, whatever memory there is.
     ensures memory { IsErrOf result Refusal.NoMemory
-        → WantsMemory (admission_by is_served (shown config.now) (shown_arrival datagram.now)) }
+        → WantsMemory (admission (shown config.now) (shown_arrival datagram.now)) }
 
-    // What passes is a job with the packet's octets, which alone would give that job again.
-    ensures job { IfOk result (IsPrepared (shown config.now)) }
+    // What passes is a job with the packet's octets, which alone would give that job again; what is
+    // rejected is this arrival.
+    ensures prepared { IfOk result (IsPrepared (shown config.now) (shown_arrival datagram.now)) }
 {
     let view = View::read(datagram.octets.as_slice())?;
     let Some(side) = sender(config, datagram) else {
         return Err(Refusal::UnknownSource);
     };
-    if !is_served(datagram.at, side, view.code()) {
+    if !is_taken(datagram.at, side, view.code()) {
         return Err(Refusal::WrongCode);
     }
-    served(alloc, config, datagram, side, &view)
+    taken(alloc, config, datagram, side, &view)
 }

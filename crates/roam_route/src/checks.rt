@@ -1,11 +1,16 @@
-//! The checks of a request's signature and seal.
+//! The checks of a request: its signature, its seal, its passwords.
 
-ghost use Rattle.std.specs.Prelude.{◌≡◌, ◌≤◌, [], ◌∷◌, length};
+ghost use Rattle.std.specs.Prelude.{◌≡◌, ◌≤◌, [], ◌∷◌, false, length, not, option_map};
+ghost use Rattle.std.specs.Option.{option_map_or};
 ghost use Rattle.roam_auth.specs.Deciding.{is_well_sealed};
-ghost use Rattle.roam_route.specs.Admission.{is_rightly_sealed, is_rightly_signed};
+ghost use Rattle.roam_hide.specs.Hiding.{password_fits};
+ghost use Rattle.roam_route.specs.Admission.{has_needed_seal, is_rightly_sealed, is_rightly_signed};
+ghost use Rattle.roam_route.specs.LocalReject.{has_bad_password};
 
 use roam_auth::{ZERO_OCTETS, message_ok, request_ok};
+use roam_hide::password_fits;
 use roam_wire::View;
+use roam_wire::attribute_type::{CHAP_PASSWORD, EAP_MESSAGE, MESSAGE_AUTHENTICATOR, USER_PASSWORD};
 use roam_wire::code::ACCESS_REQUEST;
 
 /// Whether a request is signed where its code says that it is (RFC 2866, section 3; RFC 5176, section
@@ -39,4 +44,36 @@ pub(crate) fn is_rightly_sealed(request: &View<'_>, secret: &[u8]) -> bool
     } else {
         is_sealed_over(request, secret, ZERO_OCTETS)
     }
+}
+
+/// Whether an Access-Request has a Message-Authenticator where it must: with an EAP-Message (RFC
+/// 3579, section 3.1), and where its sender is required to seal.
+pub(crate) fn has_needed_seal(request: &View<'_>, required: bool) -> bool
+    ensures { result ≡ has_needed_seal required request.now }
+{
+    request.code() != ACCESS_REQUEST
+        || request.count(MESSAGE_AUTHENTICATOR) > 0
+        || (request.count(EAP_MESSAGE) == 0 && !required)
+}
+
+/// Whether a User-Password has a size that it can't have (RFC 2865, section 5.2).
+fn is_of_wrong_size(password: Option<&[u8]>) -> bool
+    ensures { result ≡ option_map_or (λ value. not (password_fits value))
+        (option_map (λ value. value.now) password.entry) false }
+{
+    match password {
+        Some(value) => !password_fits(value.len()),
+        None => false,
+    }
+}
+
+/// Whether an Access-Request's passwords can't be carried: both User-Password and CHAP-Password,
+/// two User-Passwords, or one of another size (RFC 2865, sections 4.1 and 5.2).
+pub(crate) fn has_bad_password(request: &View<'_>) -> bool
+    ensures { result ≡ has_bad_password request.now }
+{
+    let passwords = request.count(USER_PASSWORD);
+    (passwords > 0 && request.count(CHAP_PASSWORD) > 0)
+        || passwords > 1
+        || is_of_wrong_size(request.first(USER_PASSWORD))
 }

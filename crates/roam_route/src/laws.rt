@@ -1,7 +1,7 @@
 //! Laws of names, events and local rejects. These functions do nothing: their contracts hold of all
 //! names, configurations, jobs and requests.
 
-ghost use Rattle.roam_route.specs.Events.{EventHasRealm};
+ghost use Rattle.roam_route.specs.Events.{EventHasRealm, EventIsSound};
 ghost use Rattle.roam_route.specs.NameLaws.{LastAtSignDecides, NameWithoutAtSign};
 ghost use Rattle.roam_route.specs.RejectLaws.{RejectCarriesProxyStates, RejectHasLength, RejectHasSealFirst, RejectIsSigned, RejectIsWellSealed, RejectReads};
 
@@ -11,9 +11,11 @@ pub fn names()
     ensures last { LastAtSignDecides }
 {}
 
-/// What the event of a realm is.
+/// What the event of a realm is: its realm and its sender are configured, its octets are a packet's
+/// of a code that is taken, and what is a request can be forwarded.
 pub fn events()
-    ensures { EventHasRealm }
+    ensures realm { EventHasRealm }
+    ensures sound { EventIsSound }
 {}
 
 /// What the local reject of a request is: a packet that reads, signed and sealed for the access server,

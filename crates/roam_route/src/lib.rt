@@ -20,4 +20,5 @@ pub use job::{Job, Prepared, Side};
 pub use laws::{events, names, rejects};
 pub use nas::{NasName, nas_of};
 pub use rejecting::reject;
+pub use source::is_reverse_request;
 pub use user_name::{realm_of, realm_part};

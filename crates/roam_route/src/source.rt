@@ -3,8 +3,8 @@
 ghost use Rattle.std.specs.Prelude.{◌≡◌, ℕ, ◌<◌, ◌≤◌, Some, length, vec_len};
 ghost use Rattle.roam_conf.specs.Shown.{shown};
 ghost use Rattle.roam_wire.specs.Codes.{is_reverse_reply, is_reverse_request};
-ghost use Rattle.roam_route.specs.Admission.{is_code_of_link, is_served, is_taken, peer_secret, sender};
-ghost use Rattle.roam_route.specs.Shown.{shown_arrival};
+ghost use Rattle.roam_route.specs.Admission.{home_secret, is_code_of_link, is_taken, peer_secret, seal_required, sender};
+ghost use Rattle.roam_route.specs.Shown.{IsHome, shown_arrival};
 
 use crate::datagram::Datagram;
 use crate::job::Side;
@@ -21,6 +21,8 @@ pub(crate) fn sender<A: Allocator>(config: &Config, datagram: &Datagram<A>) -> O
     ensures value { result
         ≡ sender (shown config.now) (shown_arrival datagram.now) datagram.now.at }
     ensures peer { (i : ℕ) → result ≡ Some (Side.Peer i) → i < vec_len config.now.peers }
+    ensures home { (realm i : ℕ) → datagram.now.at ≡ Place.Reverse realm
+        → result ≡ Some (Side.Home i) → IsHome config.now realm i }
 {
     match datagram.at {
         Place::Auth | Place::Acct => match config.peer_by_ip(datagram.from.ip) {
@@ -48,8 +50,31 @@ pub(crate) fn secret_of_peer(config: &Config, peer: u16) -> &[u8]
     config.peers[usize::from(peer)].secret.as_bytes()
 }
 
+/// The secret shared with a home server of a realm.
+pub(crate) fn secret_of_home(config: &Config, realm: u16, server: u8) -> &[u8]
+    requires { IsHome config.now realm server }
+    ensures text { result.now ≡ home_secret (shown config.now) realm server }
+    ensures at_least_one { 1 ≤ length result.now }
+    ensures at_most_64 { length result.now ≤ 64 }
+{
+    config.realms[usize::from(realm)].servers[usize::from(server)]
+        .secret
+        .as_bytes()
+}
+
+/// Whether a sender is a peer that is required to seal its Access-Requests.
+pub(crate) fn seal_required(config: &Config, side: Side) -> bool
+    requires { (i : ℕ) → side ≡ Side.Peer i → i < vec_len config.now.peers }
+    ensures { result ≡ seal_required (shown config.now) side }
+{
+    match side {
+        Side::Peer(peer) => config.peers[usize::from(peer)].require_seal,
+        Side::Link(_) | Side::Home(_) => false,
+    }
+}
+
 /// Whether a code is a Disconnect- or CoA-Request (RFC 5176, section 2.3).
-fn is_reverse_request(code: u8) -> bool
+pub fn is_reverse_request(code: u8) -> bool
     ensures { result ≡ is_reverse_request code }
 {
     code == DISCONNECT_REQUEST || code == COA_REQUEST
@@ -74,7 +99,7 @@ fn is_code_of_link(link: Link, code: u8) -> bool
 }
 
 /// Whether a code is taken at a place from a sender.
-fn is_taken(at: Place, side: Side, code: u8) -> bool
+pub(crate) fn is_taken(at: Place, side: Side, code: u8) -> bool
     ensures { result ≡ is_taken at side code }
 {
     match (at, side) {
@@ -84,11 +109,4 @@ fn is_taken(at: Place, side: Side, code: u8) -> bool
         (Place::Reverse(_), Side::Home(_)) => is_reverse_request(code),
         _ => false,
     }
-}
-
-/// Whether a code is taken at a place from a sender, and served so far: accounting alone is.
-pub(crate) fn is_served(at: Place, side: Side, code: u8) -> bool
-    ensures { result ≡ is_served at side code }
-{
-    is_taken(at, side, code) && (code == ACCOUNTING_REQUEST || code == ACCOUNTING_RESPONSE)
 }

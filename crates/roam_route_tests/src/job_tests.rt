@@ -1,8 +1,8 @@
-//! What names a realm and an access server, and each growth of an answer.
+//! What names a realm and an access server, and what each arrival gives, with each of its growths.
 
-use crate::arrivals::{ARRIVALS, Arrival, START, config, octets};
-use roam_conf::{Config, Endpoint, Place};
-use roam_route::{Datagram, NasName, Prepared, Side, nas_of, prepare, realm_of};
+use crate::arrivals::{ARRIVALS, Rows, START, config, octets, spelled};
+use roam_conf::{Config, Endpoint, Place, decimal};
+use roam_route::{Datagram, Job, NasName, Out, Prepared, Side, nas_of, prepare, realm_of};
 use roam_testing::Refusing;
 use roam_wire::{Octets, Refusal, View};
 use std::alloc::{Allocator, Global};
@@ -57,80 +57,135 @@ fn the_first_of_each_name_counts(rt: HostRuntime) -> Result<(), Fail> {
     expect_names(&rt, rt.alloc(), &config, &NAMED)
 }
 
-/// The realm and side of what an arrival of these octets gives; its place, source and octets are
-/// looked at here.
-fn given<A: Allocator + Copy>(
+/// Whether a job is of this sender, and has the place, the source and the packet of its arrival.
+fn is_job_of<A: Allocator>(job: &Job<A>, side: Side, datagram: &Datagram<A>) -> bool {
+    let packet = match View::read(datagram.octets.as_slice()) {
+        Ok(view) => view.octets() == job.octets.as_slice(),
+        Err(_) => false,
+    };
+    packet && job.side == side && job.place == datagram.at && job.from == datagram.from
+}
+
+/// Whether a local reject has these octets, and goes back to where the arrival came from.
+fn is_reject_of<A: Allocator>(out: &Out<A>, bytes: &[u8], datagram: &Datagram<A>) -> bool {
+    out.realm.is_none()
+        && out.from == datagram.at
+        && out.to == datagram.from
+        && out.bytes.as_slice() == bytes
+}
+
+/// Whether a number is what a text states.
+fn is_number(text: &str, number: u16) -> bool {
+    decimal(text, 0, 65535) == Some(u64::from(number))
+}
+
+/// What a row says of an arrival from a sender: a word and its value.
+#[derive(Clone, Copy)]
+struct Said<'r> {
+    side: Side,
+    word: &'r str,
+    value: &'r str,
+}
+
+/// Whether an answer is what a row says.
+fn is_given<A: Allocator>(
     rt: &impl Abort,
-    alloc: A,
-    config: &Config,
+    alloc: Global,
+    said: Said<'_>,
+    answer: &Result<Prepared<A>, Refusal>,
     datagram: &Datagram<A>,
-) -> Result<(u16, Side), Refusal> {
-    match prepare(alloc, config, datagram)? {
-        Prepared::Job(job) => {
-            let same = job.place == datagram.at
-                && job.from == datagram.from
-                && job.octets.as_slice() == datagram.octets.as_slice();
-            assert!(rt; same, "the place, the source and the octets");
-            Ok((job.realm, job.side))
+) -> bool {
+    let Said { side, word, value } = said;
+    match answer {
+        Err(refusal) => word == "refused" && is_number(value, u16::from(refusal.number())),
+        Ok(Prepared::Job(job)) => {
+            word == "realm" && is_number(value, job.realm) && is_job_of(job, side, datagram)
         }
-        Prepared::Reject(_) => Err(Refusal::Misplaced),
+        Ok(Prepared::Reject(out)) => {
+            word == "reject" && is_reject_of(out, &spelled(rt, alloc, value), datagram)
+        }
+    }
+}
+
+/// Whether so many growths are asked for as should be: none for a refusal, one for a job's copy, and
+/// some for a local reject.
+fn is_frugal(word: &str, growths: u64) -> bool {
+    match word {
+        "refused" => growths == 0,
+        "realm" => growths == 1,
+        _ => growths > 0,
+    }
+}
+
+/// Whether an arrival gives `NoMemory` just where a growth was refused, and else what a row says.
+fn is_right<'r>(
+    rt: &impl Abort,
+    alloc: Global,
+    config: &Config,
+    refusing: &'r Refusing<Global>,
+    datagram: &Datagram<&'r Refusing<Global>>,
+    said: Said<'_>,
+) -> bool {
+    let answer = prepare(refusing, config, datagram);
+    if refusing.was_refused() {
+        matches!(answer, Err(Refusal::NoMemory))
+    } else {
+        is_given(rt, alloc, said, &answer, datagram)
     }
 }
 
 /// An arrival of these octets; their growth isn't refused.
 fn arrival<A: Allocator + Copy>(
+    rt: &impl Abort,
     alloc: A,
     at: Place,
     from: Endpoint,
     octets: &[u8],
-) -> Result<Datagram<A>, Fail> {
-    let octets = Octets::from_vec(Vec::from_slice(alloc, octets)?);
-    Ok(Datagram { at, from, octets })
+) -> Datagram<A> {
+    let octets = Octets::from_vec(Vec::from_slice(alloc, octets).expect(rt, "memory"));
+    Datagram { at, from, octets }
 }
 
-/// Lets each growth of the answer to an arrival be refused: `NoMemory` comes just where one was.
-/// How many there are.
-fn refused_growths(
+/// Lets each growth of the answer to an arrival be refused in turn.
+fn expect_row(
     rt: &impl Abort,
-    config: &Config,
     alloc: Global,
-    (what, at, from, digits, expected, _): Arrival,
-) -> Result<u64, Fail> {
+    config: &Config,
+    (at, from, side, _): Rows,
+    row: &str,
+) {
+    let (digits, given) = row.split_once(' ').unwrap_or((row, ""));
+    let (word, value) = given.split_once(' ').unwrap_or((given, ""));
+    let said = Said { side, word, value };
     let refusing = Refusing::new(alloc);
-    let octets = octets(rt, alloc, digits);
-    let mut refused = 0;
+    let octets = spelled(rt, alloc, digits);
+    let mut growths = 0;
     for n in refusing.each_growth() {
-        let datagram = arrival(&refusing, at, from, &octets)?;
+        let datagram = arrival(rt, &refusing, at, from, &octets);
         refusing.refuse_nth(n);
-        let given = given(rt, &refusing, config, &datagram);
+        let right = is_right(rt, alloc, config, &refusing, &datagram, said);
         if refusing.was_refused() {
-            refused = n;
+            growths = n;
         }
-        let memory = refusing.was_refused() && given == Err(Refusal::NoMemory);
-        assert!(rt;
-            memory || (!refusing.was_refused() && given == expected),
-            "{what}"
-        );
+        assert!(rt; right, "{row}");
     }
-    Ok(refused)
+    assert!(rt; is_frugal(word, growths), "{row}");
 }
 
-/// Each arrival gives what is expected, with as many growths.
-fn expect_growths(
-    rt: &impl Abort,
-    config: &Config,
-    alloc: Global,
-    arrivals: &[Arrival],
-) -> Result<(), Fail> {
-    for arrival in arrivals {
-        let refused = refused_growths(rt, config, alloc, *arrival)?;
-        assert!(rt; refused == arrival.5, "{}", arrival.0);
+/// Each row of each text.
+fn expect_rows(rt: &impl Abort, alloc: Global, config: &Config, tables: &[Rows]) {
+    for rows in tables {
+        for row in rows.3.lines() {
+            if !row.starts_with('#') {
+                expect_row(rt, alloc, config, *rows, row);
+            }
+        }
     }
-    Ok(())
 }
 
 #[test]
-fn a_job_is_copied_once_and_a_refusal_wants_no_memory(rt: HostRuntime) -> Result<(), Fail> {
+fn each_arrival_gives_what_it_should(rt: HostRuntime) -> Result<(), Fail> {
     let config = config(rt.alloc())?;
-    expect_growths(&rt, &config, rt.alloc(), &ARRIVALS)
+    expect_rows(&rt, rt.alloc(), &config, &ARRIVALS);
+    Ok(())
 }

@@ -1,8 +1,9 @@
-//! What `prepare` asks of memory for accounting, and what names a realm and an access server.
+//! What `prepare` gives of arrivals, what it asks of memory, and what names a realm and an access
+//! server.
 //!
-//! Two realms share one home server; one peer is configured. The packets are those of the worked
-//! exchanges, and packets made and signed apart, with Python's hashlib and hmac. Which arrivals pass,
-//! and the refusal of each that doesn't, is shown by rows.
+//! Two realms share one home server; of two peers one must seal its Access-Requests. The packets are
+//! those of the worked exchanges, and packets made, sealed and signed apart, with Python's hashlib and
+//! hmac.
 #![tactic(auto)]
 
 #[cfg(test)]

@@ -3,7 +3,7 @@
 ghost use Rattle.std.specs.Prelude.{◌≡◌, ◌+◌, ◌<◌, ◌≤◌, ◌++◌, [], None, length, slice_set, IfOk, IsErr, vec_len, vec_capacity};
 ghost use Rattle.roam_conf.specs.Shown.{shown};
 ghost use Rattle.roam_core.specs.Openings.{fresh};
-ghost use Rattle.roam_route.specs.Admission.{admitted, admission_by, is_served};
+ghost use Rattle.roam_route.specs.Admission.{admitted, admission};
 ghost use Rattle.roam_route.specs.Events.{IsEvent};
 ghost use Rattle.roam_route.specs.Shown.{WantsMemory, shown_arrival, shown_job};
 ghost use Rattle.roam_book.specs.OnTick.{on_tick};
@@ -89,10 +89,10 @@ impl<'c, A: Allocator + Copy> Shards<'c, A> {
     fn arrive(&mut self, now: u64, datagram: &Datagram<A>) -> Result<Answer<A>, NoMemory>
         ensures turn { GivesAnswer result self.old.states self.new.states
             (to_arrival self.old.config self.old.states now
-            (admission_by is_served self.old.config (shown_arrival datagram.now))) }
+            (admission self.old.config (shown_arrival datagram.now))) }
         ensures config { self.new.config ≡ self.old.config }
         ensures memory { IsErr result
-            → WantsMemory (admission_by is_served self.old.config (shown_arrival datagram.now)) }
+            → WantsMemory (admission self.old.config (shown_arrival datagram.now)) }
         ensures whole { length self.old.states ≡ length self.old.config.realms }
         ensures shards { 1 ≤ self.old.config.shards }
     {

@@ -1,4 +1,4 @@
-use Rattle.std.proofs.Common.{◌≤◌, vec_len, vec_capacity}
+use Rattle.std.proofs.Common.{◌≡◌, vec_len, vec_capacity}
 use Rattle.roam_back.specs.Plain.{is_carried}
 use Rattle.roam_back.proofs.KeptLemmas.{IsAppending}
 use Rattle.roam_back.proofs.appending.append_carried.Given as goal
@@ -7,5 +7,5 @@ use Rattle.roam_back.proofs.appending.append_carried.Given as goal
 abbrev pub invariant-loop-next : goal.invariant-loop-next
 invariant-loop-next g l = record {
   appending : IsAppending (is_carried l.fn.access) l.fn.reply.attributes l.next-iterator l.fn.out.items l.out.items (vec_len l.out) (vec_capacity l.out);
-  capacity : vec_capacity l.fn.out ≤ vec_capacity l.out;
+  capacity : vec_capacity l.out ≡ vec_capacity l.fn.out;
 }

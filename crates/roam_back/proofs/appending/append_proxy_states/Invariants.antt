@@ -1,4 +1,4 @@
-use Rattle.std.proofs.Common.{◌≤◌, vec_len, vec_capacity}
+use Rattle.std.proofs.Common.{◌≡◌, vec_len, vec_capacity}
 use Rattle.roam_wire.specs.Attributes.{has_kind}
 use Rattle.roam_wire.specs.declared.attribute_type.TheConstants.{PROXY_STATE}
 use Rattle.roam_back.proofs.KeptLemmas.{IsAppending}
@@ -8,5 +8,5 @@ use Rattle.roam_back.proofs.appending.append_proxy_states.Given as goal
 abbrev pub invariant-loop-next : goal.invariant-loop-next
 invariant-loop-next g l = record {
   appending : IsAppending (has_kind PROXY_STATE) l.fn.request.attributes l.next-iterator l.fn.out.items l.out.items (vec_len l.out) (vec_capacity l.out);
-  capacity : vec_capacity l.fn.out ≤ vec_capacity l.out;
+  capacity : vec_capacity l.out ≡ vec_capacity l.fn.out;
 }

@@ -20,11 +20,12 @@ returns-in_default-clause-fate g c =
         count = c.give_back.ensures.count;
         ticket = c.give_back.ensures.ticket;
         stream_position = c.give_back.ensures.stream_position;
-        tags = c.give_back.ensures.tags;
+        sessions = c.give_back.ensures.sessions;
+        marks = c.give_back.ensures.marks;
       };
     } in
     gone-freed c.args.settings.now c.args.now es e c.args.numbers.now c.give_back.new.self
-    c.args.link held freed c.in_default.ensures.first
+    c.args.link c.give_up.result held freed c.in_default.ensures.first c.give_up.ensures.fate
 
 -- the request goes to the target that was found
 pub returns-clause-fate : goal.returns-clause-fate
@@ -40,7 +41,8 @@ returns-clause-fate g c =
         count = c.give_back.ensures.count;
         ticket = c.give_back.ensures.ticket;
         stream_position = c.give_back.ensures.stream_position;
-        tags = c.give_back.ensures.tags;
+        sessions = c.give_back.ensures.sessions;
+        marks = c.give_back.ensures.marks;
       };
     } in
     let one = c.send_new-sent.ensures in
@@ -62,7 +64,8 @@ returns-clause-fate g c =
       count = one.count;
       ticket = one.ticket;
       stream_position = one.stream_position;
-      tags = one.tags;
+      sessions = one.sessions;
+      marks = one.marks;
     } in
     let of_entry = subst (λ (q : PlainRequest). IsSent c.args.settings.now c.args.now others q
     e.ticket c.in-Some.target c.give_back.new.self new c.send_new-sent.result.0

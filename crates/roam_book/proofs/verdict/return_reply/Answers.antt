@@ -5,7 +5,7 @@ use Rattle.roam_pending.specs.PlainEntry.{PlainEntry}
 use Rattle.roam_pending.specs.Shown.{shown}
 use Rattle.roam_book.specs.OnReply.{return_reply}
 use Rattle.roam_book.specs.Judged.{IsVerdict, returns_octets}
-use Rattle.roam_book.proofs.ReplyLemmas.{long-turn, returned-turn, same-turn}
+use Rattle.roam_book.proofs.ReplyLemmas.{long-turn, returned-turn, same-verdict}
 use Rattle.roam_book.proofs.verdict.return_reply.Goals as goal
 
 -- the packet fits, and is sent and held
@@ -14,11 +14,14 @@ returns-in-Ok-clause-turn g c =
     let e : PlainEntry = shown c.args.entry.now in
     let octets : List ℕ = c.in-Ok.packet.items in
     IfOk-weaker c.return_packet.result
-    (λ v. (x : PlainEntry) → IsVerdict v x (λ s. returns_octets c.args.settings.now c.args.now e.request.key octets x s))
-    (λ v. IsVerdict v e (λ s. return_reply c.args.settings.now c.args.now s e c.args.link c.args.forwarded.now c.args.reply.now))
-    (λ v h s. same-turn v.answer s _ _ _ _ (h e s) refl
-    (returned-turn c.args.settings.now c.args.now s e c.args.link c.args.forwarded.now c.args.reply.now octets
-    (λ lt. absurd (let k = c.in-Ok.ensures.too_long.1 lt in cc)) c.in-Ok.ensures.octets))
+    (λ v. (x : PlainEntry) → IsVerdict c.args.settings.now v x
+    (λ s. returns_octets c.args.settings.now c.args.now e.request.key c.counted_peer-counted.result octets x s))
+    (λ v. IsVerdict c.args.settings.now v e (λ s. return_reply c.args.settings.now c.args.now s e c.args.link c.args.forwarded.now c.args.reply.now))
+    (λ v h s. same-verdict c.args.settings.now v e s _ _ (h e s)
+    (returned-turn c.args.settings.now c.args.now s e c.args.link c.args.forwarded.now c.args.reply.now
+    c.counted_peer-counted.result octets
+    (λ lt. absurd (let k = c.in-Ok.ensures.too_long.1 lt in cc)) c.in-Ok.ensures.octets
+    c.counted_peer-counted.ensures))
     c.return_packet.ensures
 
 -- the packet doesn't fit
@@ -26,5 +29,5 @@ pub returns-in-Err-ReplyTooLong-clause-turn : goal.returns-in-Err-ReplyTooLong-c
 returns-in-Err-ReplyTooLong-clause-turn g c =
     let e : PlainEntry = shown c.args.entry.now in
     let long = c.in-Err-ReplyTooLong.ensures.too_long.0 (ap Err c.in-Err-ReplyTooLong.field-0-is) in
-    λ s. same-turn c.not_taken.result.answer s _ _ _ _ (c.not_taken.ensures e s) refl
+    λ s. same-verdict c.args.settings.now c.not_taken.result e s _ _ (c.not_taken.ensures c.args.settings.now e s)
     (long-turn c.args.settings.now c.args.now s e c.args.link c.args.forwarded.now c.args.reply.now long)

@@ -1,16 +1,25 @@
-use Rattle.std.proofs.Common.{◌≡◌, true, sym}
+use Rattle.std.proofs.Common.{◌≡◌, Some, true, sym, ap, rules}
+use Rattle.std.specs.Prelude.{Ok}
+use Rattle.roam_wire.specs.Reading.{reading}
 use Rattle.roam_conf.specs.Shown.{shown}
-use Rattle.roam_route.specs.Admission.{is_served}
+use Rattle.roam_route.specs.Admission.{is_taken}
 use Rattle.roam_route.specs.Shown.{shown_arrival}
-use Rattle.roam_route.proofs.EventLemmas.{prepared_of_served}
+use Rattle.roam_route.proofs.EventLemmas.{prepared_of_taken}
+use Rattle.roam_route.specs.declared.job.Side.{Side}
 use Rattle.roam_route.proofs.admission.prepare.Goals as goal
 
--- the packet is one, its sender is known, and its code is served
-pub returns-clause-job : goal.returns-clause-job
-returns-clause-job g c =
+-- a home server that was found is one of the realm of its place
+pub taken-requires-clause-home : goal.taken-requires-clause-home
+taken-requires-clause-home g c = λ realm i at home.
+    c.in-Some.ensures.home realm i at (ap (λ (s : Side). Some s) home)
+
+-- the packet is one, its sender is known, and its code is taken
+pub returns-clause-prepared : goal.returns-clause-prepared
+returns-clause-prepared g c =
     let packet = c.in_ok-view.ensures.packet.packet in
+    let read : reading c.args.datagram.now.octets ≡ Ok c.in_ok-view.view = search rules in
     let from = sym c.in-Some.ensures.value in
-    let test : is_served c.args.datagram.now.at c.in-Some.side c.in_ok-view.view.code ≡ true =
-    rw (← c.code.ensures, ← c.is_served.ensures) c.if-not-is_served.false in
-    prepared_of_served (shown c.args.config.now) (shown_arrival c.args.datagram.now) c.in_ok-view.view
-    c.in-Some.side c.served.result packet from test c.served.ensures.answer
+    let test : is_taken c.args.datagram.now.at c.in-Some.side c.in_ok-view.view.code ≡ true =
+    rw (← c.code.ensures, ← c.is_taken.ensures) c.if-not-is_taken.false in
+    prepared_of_taken (shown c.args.config.now) (shown_arrival c.args.datagram.now) c.in_ok-view.view
+    c.in-Some.side c.taken.result packet read from test c.taken.ensures.answer

@@ -1,6 +1,6 @@
-use Rattle.roam_route.proofs.RealmLemmas.{event_realm}
+use Rattle.roam_route.proofs.EventLemmas.{event_realm, event_sound}
 use Rattle.roam_route.proofs.laws.events.Goals as goal
 
--- the law is the lemma
+-- the laws are the lemmas
 pub returns : goal.returns
-returns c = event_realm
+returns c = record { realm = event_realm; sound = event_sound }

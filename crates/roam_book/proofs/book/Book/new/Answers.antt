@@ -8,4 +8,4 @@ invariant_of-result g c =
     new-book c.args.config.now c.args.realm c.new-entries.result c.in_ok-numbers.numbers
     c.new-settings.result c.args.start c.requires.configured c.new-entries.ensures.realm
     c.new-entries.ensures.entries c.new-settings.ensures n.ticket c.requires.ticket n.place
-    c.requires.place n.count n.free n.tags
+    c.requires.place n.count n.free n.lanes n.ledger

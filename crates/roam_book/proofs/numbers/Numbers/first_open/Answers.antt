@@ -2,7 +2,7 @@ use Rattle.std.proofs.Common.{◌≡◌, ◌<◌, ◌∙◌, true, arith, drop, 
 use Rattle.std.specs.List.{find}
 use Rattle.roam_book.specs.RealmConfig.{server_links}
 use Rattle.roam_book.specs.Sound.{is_open}
-use Rattle.roam_book.proofs.LinkLaneLemmas.{link-hit, link-skip, open-by_freed, open-by_lane, open-not}
+use Rattle.roam_book.proofs.LinkLaneLemmas.{link-hit, link-skip, server-made, open-by_freed, open-by_lane, open-not}
 use Rattle.roam_book.proofs.numbers.Numbers.first_open.Goals as goal
 use Rattle.roam_book.proofs.numbers.Numbers.first_open.Goals.{then-is_freed-via-then-is_freed, then-is_freed-via-else-is_freed+then-has_free}
 
@@ -43,3 +43,12 @@ loop-server-preserved g c =
     link-skip (is_open settings lanes freed) c.args.service servers c.loop-server.server link
     (find (is_open settings lanes freed) (server_links c.args.service c.args.from (drop c.args.from servers)))
     within c.link-link.ensures shut c.loop-server.invariant
+
+-- and the memory of its lane is there
+pub returns-then-is_freed-clause-made : goal.returns-then-is_freed-clause-made
+returns-then-is_freed-clause-made g c =
+    let settings = c.args.settings.now in
+    let count = c.server_count-server-end.ensures.count in
+    let within : c.loop-server.server < length settings.realm.servers = omega (arith, c.loop-server-test.true, count) in
+    server-made settings c.args.self.now.lanes.items c.args.service c.loop-server.server
+    c.link-link.result c.requires.lanes within c.link-link.ensures

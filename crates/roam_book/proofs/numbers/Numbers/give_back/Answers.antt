@@ -1,6 +1,6 @@
 use Rattle.std.proofs.Common.{◌≡◌, ◌<◌, arith, ap, length}
 use Rattle.roam_ids.specs.IdSlot.{slot_id}
-use Rattle.roam_book.proofs.LinkLaneLemmas.{cursors-freed, tags-freed}
+use Rattle.roam_book.proofs.LinkLaneLemmas.{cursors-freed, marks-freed}
 use Rattle.roam_book.proofs.TakenLaneLemmas.{tells-freed}
 use Rattle.roam_book.proofs.numbers.Numbers.give_back.Goals as goal
 
@@ -23,9 +23,9 @@ returns-in-Some-clause-tells g c e es tells found waits =
     c.place_of.ensures.place within c.index_mut-lane.ensures.value octet c.claim.ensures.whole
     c.in-Some.ensures.claimed id_is c.free.ensures.free tells found waits
 
--- the lane keeps its tag
-pub returns-in-Some-clause-tags : goal.returns-in-Some-clause-tags
-returns-in-Some-clause-tags g c =
-    tags-freed c.args.self.now.lanes.items c.place_of.result c.args.id c.in-Some.slot.id
+-- the lane keeps its mark
+pub returns-in-Some-clause-marks : goal.returns-in-Some-clause-marks
+returns-in-Some-clause-marks g c =
+    marks-freed c.args.self.now.lanes.items c.place_of.result c.args.id c.in-Some.slot.id
     c.index_mut-lane.result.now c.claim.new.self c.free.new.self c.index_mut-lane.ensures.value
     c.in-Some.ensures.claimed c.free.ensures.free

@@ -1,7 +1,7 @@
 use Rattle.std.proofs.Common.{◌<◌, ◌∙◌, Some, arith, ap, length}
 use Rattle.roam_ids.specs.declared.place.Place.TheVariants.{Parked}
-use Rattle.roam_book.specs.Sound.{tags_of}
-use Rattle.roam_book.proofs.LinkLaneLemmas.{cursors-taken, lane-back, next-read, tags-taken}
+use Rattle.roam_book.specs.Sound.{marks_of}
+use Rattle.roam_book.proofs.LinkLaneLemmas.{cursors-taken, lane-back, next-read, marks-taken}
 use Rattle.roam_book.proofs.TakenLaneLemmas.{tells-taken}
 use Rattle.roam_book.proofs.numbers.Numbers.take_next.Goals as goal
 
@@ -53,16 +53,16 @@ returns-clause-tells g c e es tells fresh ticket_is waits =
     c.in_ok-slot.ensures.next c.take.ensures.whole c.in_ok-slot.ensures.taken c.park.ensures.parked
     tells fresh ticket_is waits
 
--- the lane keeps its tag
-pub returns-in_err-slot-clause-tags : goal.returns-in_err-slot-clause-tags
-returns-in_err-slot-clause-tags g c =
+-- the lane keeps its mark
+pub returns-in_err-slot-clause-marks : goal.returns-in_err-slot-clause-marks
+returns-in_err-slot-clause-marks g c =
     let lane = c.index_mut-lane.result.now in
     let back = lane-back c.args.self.now.lanes.items c.place_of.result lane c.take.new.self
     c.index_mut-lane.ensures.value c.in_err-slot.ensures.none in
-    ap tags_of back
+    ap marks_of back
 
-pub returns-clause-tags : goal.returns-clause-tags
-returns-clause-tags g c =
-    tags-taken c.args.self.now.lanes.items c.place_of.result c.in_ok-slot.slot.id
+pub returns-clause-marks : goal.returns-clause-marks
+returns-clause-marks g c =
+    marks-taken c.args.self.now.lanes.items c.place_of.result c.in_ok-slot.slot.id
     c.in_ok-slot.slot.id (Parked c.args.ticket) c.index_mut-lane.result.now c.take.new.self
     c.park.new.self c.index_mut-lane.ensures.value c.in_ok-slot.ensures.taken c.park.ensures.parked

@@ -1,11 +1,12 @@
-use Rattle.std.proofs.Common.{◌≡◌, [], ◌∷◌, ap, ◌∙◌, refl, subst, sym}
+use Rattle.std.proofs.Common.{◌≡◌, true, [], ◌∷◌, ap, ◌∙◌, refl, subst, sym}
 use Rattle.roam_route.specs.Shown.{shown_out}
 use Rattle.roam_book.specs.RealmConfig.{RealmConfig}
 use Rattle.roam_book.specs.RealmTurn.{state}
 use Rattle.roam_book.specs.Turn.{packets_of, state_after}
 use Rattle.roam_book.specs.NewEntry.{IsWay, admits, cleared}
 use Rattle.roam_book.specs.Memory.{IsCopied}
-use Rattle.roam_book.specs.Sound.{shown_request}
+use Rattle.roam_book.specs.Sound.{lane_of, shown_request}
+use Rattle.roam_book.proofs.LinkLaneLemmas.{made-same}
 use Rattle.roam_book.proofs.MemoryLemmas.{has-place, told-tells}
 use Rattle.roam_book.proofs.RealmLemmas.{keeps-both}
 use Rattle.roam_book.proofs.realm.Realm.admit_reserved.Goals as goal
@@ -17,6 +18,15 @@ forward_new-sent-requires-clause-way g c =
     let q = shown_request c.args.asked in
     subst (λ (k : RealmConfig). IsWay k (state g.E.Entries mid) q (cleared c.args.way))
     (sym c.make_way.ensures.keeps.loans.settings) (c.make_way.ensures.way q c.requires.way)
+
+-- the memory of the link's lane is there
+pub forward_new-sent-requires-clause-made : goal.forward_new-sent-requires-clause-made
+forward_new-sent-requires-clause-made g c =
+    let mid = c.make_way.new.self.numbers.now.lanes.items in
+    subst (λ (k : RealmConfig). (lane_of k mid c.args.way.link).made ≡ true)
+    (sym c.make_way.ensures.keeps.loans.settings)
+    (made-same c.args.self.now.settings.now c.args.self.now.numbers.now.lanes.items mid
+    c.args.way.link c.make_way.ensures.marks c.requires.made)
 
 -- there is a place for the one packet, and it has its copy
 pub push-requires-clause-place : goal.push-requires-clause-place

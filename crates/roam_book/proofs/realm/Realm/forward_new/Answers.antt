@@ -56,7 +56,8 @@ returns-clause-keeps g c =
         kept_here = rw c.insert_entry.ensures.keeps kept.kept_here;
         sound = new-sound config es _ old.numbers.now _ e kept.sound refl c.requires.way.request well
             (sent.tells es kept.sound.lanes_tell unheld) c.requires.way.ticket
-            (ap (λ (n : ℕ). n + 1) sent.ticket) sent.stream_position sent.count sent.tags here;
+            (ap (λ (n : ℕ). n + 1) sent.ticket) sent.stream_position sent.sessions sent.count
+            sent.marks here;
         list = rw here (list-new e es kept.list new);
       };
       loans = record {

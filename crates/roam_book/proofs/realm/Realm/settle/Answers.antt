@@ -2,6 +2,7 @@ use Rattle.std.proofs.Common.{◌≡◌, ℕ, ap, ◌∙◌, refl, true, Some}
 use Rattle.roam_pending.specs.PlainEntry.{PlainEntry, waits_at}
 use Rattle.roam_pending.specs.EntryList.{find_ticket}
 use Rattle.roam_pending.proofs.ChangeLemmas.{found-ticket}
+use Rattle.roam_reverse.specs.Shown.{Ledger}
 use Rattle.roam_book.specs.RealmTurn.{entries}
 use Rattle.roam_book.proofs.ReplyLemmas.{done-sound, found-with, list-standing}
 use Rattle.roam_book.proofs.realm.Realm.settle.Goals as goal
@@ -18,13 +19,16 @@ returns-clause-keeps g c =
     let here : find_ticket found.0.ticket es ≡ Some found.0 = ap (λ (n : ℕ). find_ticket n es) (found-ticket t es found.0 found.1) ∙ found.1 in
     let become = rw (c.index.ensures, found.1) at c.set_standing.ensures.entries in
     let back = c.give_back.ensures in
+    let made = c.change_ledger.ensures in
     record {
       realm = record {
         kept_here = rw c.set_standing.ensures.keeps c.requires.realm.kept_here;
         sound = done-sound config t found.0 es _ c.in-Some.settled.done.reply c.in-Some.settled.done.deadline
-            old.numbers.now c.give_back.new.self c.requires.realm.sound found.1 become.here
-            (back.tells found.0 es c.requires.realm.sound.lanes_tell here found.2)
-            back.count back.ticket back.stream_position back.tags;
+            old.numbers.now c.change_ledger.new.self c.requires.realm.sound found.1 become.here
+            (rw made.lanes (back.tells found.0 es c.requires.realm.sound.lanes_tell here found.2))
+            (rw made.lanes back.count) (made.ticket ∙ back.ticket)
+            (made.stream_position ∙ back.stream_position) (rw made.lanes back.marks)
+            (made.limit ∙ ap (λ (l : Ledger). l.limit) back.sessions);
         list = rw become.here (list-standing _ found.0 es c.requires.realm.list here);
       };
       loans = record {

@@ -30,7 +30,7 @@ returns-in-Some-waits_at-clause-keeps g c =
         sound = rw left (gone-waiting old.settings.now es old.numbers.now c.give_back.new.self
             c.args.gone c.in-Some.gone c.in-Some-waits_at.link c.in-Some-waits_at.id kept.sound
             c.requires.gone c.in-Some.is c.in-Some-waits_at.is back.tells back.ticket
-            back.stream_position back.count back.tags);
+            back.stream_position back.sessions back.count back.marks);
         list = rw left (list-besides (gone_ticket c.args.gone) es kept.list);
       };
       loans = record {

@@ -4,7 +4,7 @@ use Rattle.roam_conf.specs.Config.{ConfigView}
 use Rattle.roam_conf.specs.Shown.{shown}
 use Rattle.roam_route.specs.Events.{IsEvent}
 use Rattle.roam_route.specs.Shown.{shown_job}
-use Rattle.roam_route.proofs.RealmLemmas.{event_realm}
+use Rattle.roam_route.proofs.EventLemmas.{event_realm}
 use Rattle.roam_book.specs.RealmConfig.{RealmConfig, realm_config}
 use Rattle.roam_book.specs.RealmState.{RealmState}
 use Rattle.roam_book.specs.Turn.{Turn}

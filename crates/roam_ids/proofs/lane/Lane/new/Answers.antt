@@ -1,3 +1,5 @@
+use Rattle.std.proofs.Common.{refl}
+use Rattle.roam_ids.specs.Making.{all_free}
 use Rattle.roam_ids.proofs.LaneLemmas.{zeros_tell, free_everywhere}
 use Rattle.roam_ids.proofs.lane.Lane.new.Goals as goal
 
@@ -7,3 +9,7 @@ invariant_of-result c = zeros_tell
 
 pub returns-clause-free : goal.returns-clause-free
 returns-clause-free c id = free_everywhere 256 id
+
+pub returns-clause-fresh : goal.returns-clause-fresh
+unfolding all_free
+returns-clause-fresh c = refl

@@ -1,0 +1,118 @@
+-- The NAK of a reverse request.
+use Rattle.std.proofs.Common.{◌≡◌, ◌≢◌, ℕ, ◌+◌, ◌≤◌, true, false, List, [], ◌∷◌, ◌++◌, length, Option, Some, None, refl, ap, sym, inl, inr, ltb, arith}
+use Rattle.std.specs.Prelude.{IfSome}
+use Rattle.std.specs.declared.vec.Vec.{Vec}
+use Rattle.std.proofs.lemmas.Bool.{cases_Bool}
+use Rattle.std.proofs.lemmas.Bool.Decides.{nat_tests}
+use Rattle.roam_wire.specs.Packet.{Packet, packet_length, packet_text}
+use Rattle.roam_wire.specs.Reading.{packet_of}
+use Rattle.roam_wire.specs.declared.code.TheConstants.{ACCESS_REQUEST}
+use Rattle.roam_wire.proofs.PacketLemmas.{length-packet_text}
+use Rattle.roam_fwd.specs.Forwarded.{forwarded_length}
+use Rattle.roam_fwd.proofs.ForwardedLemmas.{forwarded_length-is}
+use Rattle.roam_back.specs.Nak.{nak, nak_length}
+use Rattle.roam_back.specs.NakLaws.{CanBeRefused}
+use Rattle.roam_back.proofs.NakLemmas.{IsPacket-nak, nak_length-at_most, nak_length-is}
+use Rattle.roam_pending.specs.declared.entry.Done.{Done}
+use Rattle.roam_pending.specs.PlainEntry.{PlainEntry, PlainRequest, done}
+use Rattle.roam_pending.specs.EntryList.{without}
+use Rattle.roam_pending.specs.Realms.{with_standing}
+use Rattle.roam_pending.proofs.ChangeLemmas.{put-without}
+use Rattle.roam_reverse.specs.declared.error_cause.TheConstants.{OTHER_PROXY_PROCESSING_ERROR}
+use Rattle.roam_route.specs.Admission.{PlainOut}
+use Rattle.roam_route.specs.Shown.{shown_out}
+use Rattle.roam_book.specs.declared.fate.Fate.{Fate}
+use Rattle.roam_book.specs.declared.fate.Fate.TheVariants as fate
+use Rattle.roam_book.specs.declared.sending.Sent.{Sent}
+use Rattle.roam_book.specs.RealmConfig.{RealmConfig, requester_secret}
+use Rattle.roam_book.specs.RealmState.{RealmState, with_entries}
+use Rattle.roam_book.specs.OnRequest.{is_reverse, nak_octets, packet_back}
+use Rattle.roam_book.specs.OnTick.{given_up, once_refused}
+use Rattle.roam_book.specs.Fates.{GivesUp, fate_entries, held_for, once_held}
+use Rattle.roam_book.specs.Memory.{HasRoom}
+use Rattle.roam_book.specs.Sound.{IsRequest}
+
+-- the forwarded packet of a reverse request is ten octets longer than it, and short enough
+reverse-code : (q : PlainRequest) → is_reverse q ≡ true → (packet_of q.octets).code ≢ ACCESS_REQUEST
+reverse-code q reverse = λ is. absurd (grind (arith, nat_tests, reverse, is))
+
+pub refused-fits : (c : RealmConfig) (q : PlainRequest) → IsRequest c q → is_reverse q ≡ true
+    → packet_length (packet_of q.octets) ≤ 4086
+refused-fits c q h reverse =
+    let grown = forwarded_length-is (packet_of q.octets) (reverse-code q reverse) in
+    let size = h.can_be_forwarded.size in
+    omega (arith, grown, size)
+
+-- so its NAK is a packet, and not much longer than it
+pub room-for-nak : (c : RealmConfig) (q : PlainRequest) → IsRequest c q
+    → nak_length (packet_of q.octets) ≤ length q.octets + 6
+room-for-nak c q h =
+    let request : Packet = packet_of q.octets in
+    let spelt : length q.octets ≡ length (packet_text request) = ap length h.packet.spelt in
+    let size = length-packet_text request h.packet.packet in
+    let most = nak_length-at_most request in
+    omega arith
+
+pub length-nak_octets : (c : RealmConfig) (q : PlainRequest) (why : ℕ) → IsRequest c q
+    → is_reverse q ≡ true → length (nak_octets c q why) ≤ length q.octets + 46
+length-nak_octets c q why h reverse =
+    let request : Packet = packet_of q.octets in
+    let secret = requester_secret c q.requester in
+    let can : CanBeRefused request = record {
+      packet = h.packet.packet;
+      short = refused-fits c q h reverse;
+    } in
+    let size = length-packet_text (nak secret why request) (IsPacket-nak secret why request can) in
+    let is = nak_length-is secret why request in
+    let most = room-for-nak c q h in
+    omega arith
+
+-- what was written into an empty buffer, with the home server's secret
+pub nak-written : (c : RealmConfig) (q : PlainRequest) (why : ℕ) (old new secret : List ℕ) (p : Packet)
+    → new ≡ old ++ packet_text (nak secret why p) → old ≡ [] → secret ≡ requester_secret c q.requester
+    → p ≡ packet_of q.octets → new ≡ nak_octets c q why
+nak-written c q why old new secret p written empty secret_is read =
+    rw (written, empty, secret_is, read) refl
+
+-- a buffer with room for more has room for less
+pub room-less : {A : Type 0} (n m : ℕ) (b : Vec ℕ A) → HasRoom m b → n ≤ m → HasRoom n b
+room-less n m b h le = record { empty = h.empty; length = h.length; room = omega (arith, le, h.room) }
+
+pub copy-less : {A : Type 0} (n m : ℕ) (o : Option (Vec ℕ A)) → IfSome o (λ b. HasRoom m b) → n ≤ m
+    → IfSome o (λ b. HasRoom n b)
+copy-less n m None h le = tt
+copy-less n m (Some b) h le = room-less n m b h le
+
+-- a reverse request that is given up
+pub gives-up : {A : Type 0} (c : RealmConfig) (now : ℕ) (e : PlainEntry) (sent : Sent A)
+    (held : Option (Done A)) → is_reverse e.request ≡ true
+    → shown_out sent.out
+    ≡ packet_back c e.request.key (nak_octets c e.request OTHER_PROXY_PROCESSING_ERROR)
+    → held ≡ held_for c now (nak_octets c e.request OTHER_PROXY_PROCESSING_ERROR)
+    → GivesUp c now e (fate.Refused sent held)
+gives-up {A} c now e sent held reverse out is = record {
+  packets = λ s. rw reverse (ap (λ (o : PlainOut). o ∷ []) out);
+  state = λ s es rest. rw (reverse, is) (held-state s es rest);
+  ends = tt;
+}
+  where
+    octets : List ℕ
+    octets = nak_octets c e.request OTHER_PROXY_PROCESSING_ERROR
+
+    held-state : (s : RealmState) (es : List PlainEntry) → s.entries ≡ without e.ticket es
+        → with_entries s (once_held e es (held_for {A = A} c now octets)) ≡ once_refused c now s e octets
+    held-state s es rest =
+        let new = with_standing (done octets (now + c.realm.hold)) e in
+        elim (cases_Bool (ltb 0 c.realm.hold)) [
+          | inl y ↦ rw (y, rest) (ap (λ (fs : List PlainEntry). with_entries s fs) (sym (put-without new es)))
+          | inr n ↦ rw n (rw (← rest) refl)
+        ]
+
+-- any other just goes
+pub goes : {A : Type 0} (c : RealmConfig) (now : ℕ) (e : PlainEntry)
+    → is_reverse e.request ≡ false → GivesUp {A = A} c now e fate.Gone
+goes c now e other = record {
+  packets = λ s. rw other refl;
+  state = λ s es rest. rw other (rw (← rest) refl);
+  ends = tt;
+}

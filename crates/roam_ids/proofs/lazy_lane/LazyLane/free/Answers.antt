@@ -1,0 +1,45 @@
+use Rattle.std.proofs.Common.{◌∙◌, sym, ap, subst, arith}
+use Rattle.roam_ids.specs.declared.place.Place.TheVariants.{Free}
+use Rattle.roam_ids.specs.LaneState.{LaneState, HasIdentifiers, place_at, put_at}
+use Rattle.roam_ids.specs.Making.{with_memory}
+use Rattle.roam_ids.proofs.LazyLemmas.{kept-out, kept-first, kept-put}
+use Rattle.roam_ids.proofs.lazy_lane.LazyLane.free.Goals as goal
+
+-- an Identifier is out, so the lane is made
+pub index_mut-requires : goal.index_mut-requires
+index_mut-requires g c =
+    let l = c.self.inside in
+    let some = kept-out l.tag l.lane.items c.args.self.now c.args.slot.id c.self.view_is c.requires.out in
+    omega (arith, l.lane.ok.0, some)
+
+-- it is the one that is seen
+pub free-requires-clause-tag : goal.free-requires-clause-tag
+free-requires-clause-tag g c =
+    let l = c.self.inside in
+    let some = kept-out l.tag l.lane.items c.args.self.now c.args.slot.id c.self.view_is c.requires.out in
+    let same = kept-first l.tag l.lane.items c.args.self.now c.index_mut.result.now c.self.view_is some c.index_mut.ensures.value in
+    c.requires.tag ∙ ap (λ (lane : LaneState). lane.tag) (sym same)
+
+pub free-requires-clause-out : goal.free-requires-clause-out
+free-requires-clause-out g c =
+    let l = c.self.inside in
+    let some = kept-out l.tag l.lane.items c.args.self.now c.args.slot.id c.self.view_is c.requires.out in
+    let same = kept-first l.tag l.lane.items c.args.self.now c.index_mut.result.now c.self.view_is some c.index_mut.ensures.value in
+    ap (λ (lane : LaneState). place_at lane c.args.slot.id) same ∙ c.requires.out
+
+-- and it is written in its place
+pub returns-clause-free : goal.returns-clause-free
+returns-clause-free g c =
+    let l = c.self.inside in
+    let some = kept-out l.tag l.lane.items c.args.self.now c.args.slot.id c.self.view_is c.requires.out in
+    let same = kept-first l.tag l.lane.items c.args.self.now c.index_mut.result.now c.self.view_is some c.index_mut.ensures.value in
+    kept-put l.tag l.lane.items c.free.new.self some
+    ∙ ap with_memory c.free.ensures.free ∙ ap (λ (lane : LaneState). put_at lane c.args.slot.id Free) same
+
+pub returns-clause-whole : goal.returns-clause-whole
+returns-clause-whole g c =
+    let l = c.self.inside in
+    let some = kept-out l.tag l.lane.items c.args.self.now c.args.slot.id c.self.view_is c.requires.out in
+    let whole : HasIdentifiers (with_memory c.free.new.self) =
+    record { count = c.free.ensures.whole.count; cursor_is_one = c.free.ensures.whole.cursor_is_one } in
+    subst HasIdentifiers (sym (kept-put l.tag l.lane.items c.free.new.self some)) whole

@@ -1,0 +1,136 @@
+//! A lane whose memory is taken when it is first needed.
+ghost use Rattle.std.specs.Prelude.{◌≡◌, ℕ, ◌↔◌, true, false, IsOk, IsTrue, IfSome, IfNone, OnSome, OnOk, OnErr};
+ghost use Rattle.std.specs.Option.{option_map};
+ghost use Rattle.roam_ids.specs.NextIdentifier.{next_identifier, AllUsed};
+ghost use Rattle.roam_ids.specs.declared.place.Place.{Place};
+ghost use Rattle.roam_ids.specs.IdSlot.{slot_id, claimed_ticket};
+ghost use Rattle.roam_ids.specs.LaneState.{HasIdentifiers, place_at, ticket_at, is_used, put_at, cursor_past};
+ghost use Rattle.roam_ids.specs.Making.{with_memory};
+
+use crate::lane::Lane;
+use crate::slot::IdSlot;
+use std::alloc::{AllocError, Allocator};
+use std::marker::Model;
+
+/// LazyLane: a lane of which, until it is made, nothing is there but its tag.
+///
+/// Until then it is a fresh lane, of which nothing can be taken. A contract sees the lane, and
+/// whether it is made. Only `make` takes memory.
+#[derive(Drop)]
+pub struct LazyLane<A: Allocator> {
+    tag: u32,
+    /// The lane alone, once it is made.
+    lane: Vec<Lane, A>,
+}
+
+impl<A: Allocator> Model for LazyLane<A> {
+    ghost use Rattle.roam_ids.specs.LaneState.{LaneState};
+    ghost use Rattle.roam_ids.specs.Making.{kept_or_fresh};
+
+    ghost Value = { LaneState };
+
+    ghost view = { λ l. kept_or_fresh l.tag l.lane.items };
+}
+
+impl<A: Allocator> LazyLane<A> {
+    /// A lane with this tag, of which nothing is in use. It isn't made.
+    pub fn new(alloc: A, tag: u32) -> LazyLane<A>
+        ensures tag { result.tag ≡ tag }
+        ensures cursor { result.cursor ≡ 0 }
+        ensures free { (id : ℕ) → place_at result id ≡ Place.Free }
+        ensures whole { HasIdentifiers result }
+        ensures made { result.made ≡ false }
+    {
+        LazyLane {
+            tag,
+            lane: Vec::new(alloc),
+        }
+    }
+
+    /// Takes the lane's memory, where that isn't there. The lane stays as it is.
+    pub fn make(&mut self) -> Result<(), AllocError>
+        ensures ok { OnOk result (self.new ≡ with_memory self.old) }
+        ensures err { OnErr result (self.new ≡ self.old) }
+        ensures succeeds { self.old.made ≡ true → IsOk result }
+    {
+        if self.lane.is_empty() {
+            self.lane.reserve_exact(1)?;
+            self.lane.push_reserved(Lane::new(self.tag));
+        }
+        Ok(())
+    }
+
+    /// Takes the next free Identifier of a lane that is made, as `Lane::take` does.
+    pub fn take(&mut self) -> Option<IdSlot>
+        requires made { self.old.made ≡ true }
+        ensures next { option_map slot_id result
+            ≡ next_identifier (is_used self.old) self.old.cursor }
+        ensures tag { IfSome result (λ slot. slot.tag ≡ self.old.tag) }
+        ensures taken { IfSome result (λ slot.
+            self.new ≡ cursor_past (put_at self.old slot.id Place.Out) slot.id) }
+        ensures none { IfNone result (self.new ≡ self.old) }
+
+        // So the slot can be parked or freed here.
+        ensures out { IfSome result (λ slot. place_at self.new slot.id ≡ Place.Out) }
+        ensures whole { HasIdentifiers self.new }
+    {
+        self.lane[0].take()
+    }
+
+    /// Parks an Identifier with the ticket of the request that waits for a reply to it.
+    pub fn park(&mut self, slot: IdSlot, ticket: u64)
+        requires tag { slot.tag ≡ self.old.tag }
+        requires out { place_at self.old slot.id ≡ Place.Out }
+        ensures parked { self.new ≡ put_at self.old slot.id (Place.Parked ticket) }
+        ensures whole { HasIdentifiers self.new }
+    {
+        self.lane[0].park(slot, ticket);
+    }
+
+    /// Claims a parked Identifier, with its ticket. It is then out. `None` where nothing is parked
+    /// there: the lane is as it was.
+    pub fn claim(&mut self, id: u8) -> Option<(IdSlot, u64)>
+        ensures ticket { option_map claimed_ticket result ≡ ticket_at self.old id }
+        ensures slot { IfSome result (λ claimed.
+            claimed.0 ≡ record { tag = self.old.tag; id = id }) }
+        ensures claimed { OnSome result (self.new ≡ put_at self.old id Place.Out) }
+        ensures none { IfNone result (self.new ≡ self.old) }
+
+        // So the slot can be parked or freed here.
+        ensures out { OnSome result (place_at self.new id ≡ Place.Out) }
+        ensures whole { HasIdentifiers self.new }
+    {
+        if self.lane.is_empty() {
+            return None;
+        }
+        self.lane[0].claim(id)
+    }
+
+    /// The ticket that is parked at an Identifier.
+    pub fn holder(&self, id: u8) -> Option<u64>
+        ensures ticket { result ≡ ticket_at self.now id }
+        ensures whole { HasIdentifiers self.now }
+    {
+        if self.lane.is_empty() {
+            return None;
+        }
+        self.lane[0].holder(id)
+    }
+
+    /// Whether all 256 Identifiers are in use, parked or out.
+    pub fn is_full(&self) -> bool
+        ensures { IsTrue result ↔ AllUsed (is_used self.now) }
+    {
+        !self.lane.is_empty() && self.lane[0].is_full()
+    }
+
+    /// Gives an Identifier back: it is free again.
+    pub fn free(&mut self, slot: IdSlot)
+        requires tag { slot.tag ≡ self.old.tag }
+        requires out { place_at self.old slot.id ≡ Place.Out }
+        ensures free { self.new ≡ put_at self.old slot.id Place.Free }
+        ensures whole { HasIdentifiers self.new }
+    {
+        self.lane[0].free(slot);
+    }
+}
