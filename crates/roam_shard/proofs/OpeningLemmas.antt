@@ -1,14 +1,13 @@
 -- How a broker over shared tables begins.
-use Rattle.std.proofs.Common.{◌≡◌, ◌≢◌, ◌⊎◌, ℕ, zero, suc, ◌+◌, ◌^◌, ◌<◌, ◌≤◌, List, [], ◌∷◌, ◌++◌, length, Option, Some, None, replicate, refl, ap, sym, ◌∙◌, subst, inl, inr, arith}
+use Rattle.std.proofs.Common.{◌≡◌, ◌⊎◌, ℕ, zero, suc, ◌+◌, ◌≤◌, List, [], ◌∷◌, ◌++◌, length, Some, None, replicate, refl, ap, sym, ◌∙◌, subst, inl, inr, arith}
 use Rattle.std.specs.Prelude.{slice_get}
 use Rattle.std.proofs.lemmas.List.{length-append}
-use Rattle.std.proofs.lemmas.Option.{slice_get_within}
 use Rattle.roam_conf.specs.Config.{ConfigView}
 use Rattle.roam_pending.specs.EntryList.{IsEntryList}
 use Rattle.roam_pending.specs.PlainEntry.{PlainEntry}
 use Rattle.roam_tables.specs.Stands.{RealmView, entries_in}
 use Rattle.roam_book.specs.RealmConfig.{RealmConfig, realm_config}
-use Rattle.roam_book.specs.RealmState.{RealmState, opening}
+use Rattle.roam_book.specs.RealmState.{opening}
 use Rattle.roam_book.specs.Sound.{IsSound, state_of}
 use Rattle.roam_book.specs.declared.numbers.Numbers.{Numbers}
 use Rattle.roam_core.specs.Openings.{first_start, fresh, openings_from}
@@ -47,12 +46,13 @@ module _ {A : Type 0} where
     ticket = omega (arith, one.ticket);
     stream_position = omega (arith, one.place);
     lane_count = one.count;
-    tags = one.tags;
+    lanes = one.lanes;
     lanes_tell = one.free;
+    ledger = one.ledger;
   })
 
   state_fresh : (c : RealmConfig) (es : List PlainEntry) (n : Numbers A) → es ≡ [] → IsFresh c n → state_of es n ≡ opening c first_start
-  state_fresh c es n none one = λ j. record { entries = none j; ticket = one.ticket j; cursors = one.cursors j; stream_position = one.place j; sessions = [] }
+  state_fresh c es n none one = λ j. record { entries = none j; ticket = one.ticket j; cursors = one.cursors j; stream_position = one.place j; sessions = one.sessions j }
 
   states_fresh : (config : ConfigView) (E : ℕ → List PlainEntry) (r : ℕ) (ns : List (Numbers A)) → ((q : ℕ) → E q ≡ []) → ((k : ℕ) (n : Numbers A) → slice_get ns k ≡ Some n → IsFresh (realm_config config (r + k)) n)
       → states_from E r ns ≡ openings_from config r (replicate (length ns) first_start)

@@ -1,11 +1,14 @@
 -- One realm's turn, among all realms.
-use Rattle.std.proofs.Common.{◌≡◌, ◌≢◌, ℕ, zero, suc, ◌+◌, ◌^◌, ◌<◌, ◌≤◌, Bool, true, false, List, [], ◌∷◌, length, get_or, set, Option, Some, None, Result, Ok, Err, IsTrue, refl, ap, sym, ◌∙◌, subst, inl, inr, arith}
-use Rattle.std.specs.Prelude.{nat_lt, slice_get}
+use Rattle.std.proofs.Common.{◌≡◌, ◌≢◌, ℕ, zero, suc, ◌+◌, ◌^◌, ◌<◌, ◌≤◌, Bool, true, false, List, [], ◌∷◌, length, set, Some, None, Result, Ok, Err, IsTrue, refl, ap, sym, ◌∙◌, subst, inl, inr, arith}
+use Rattle.std.specs.Prelude.{◌⊎◌, IsErr, nat_lt, slice_get}
+use Rattle.roam_route.specs.Admission.{Admission, refused}
+use Rattle.roam_route.specs.Shown.{Answers}
 use Rattle.std.proofs.Math.ListN.{length-set}
 use Rattle.std.proofs.lemmas.Bool.{cases_eq, cases_lt}
 use Rattle.std.proofs.lemmas.Bool.Decides.{nat_tests}
 use Rattle.std.proofs.lemmas.List.{set-get_or}
 use Rattle.roam_wire.specs.declared.refusal.NoMemory.{NoMemory}
+use Rattle.roam_wire.specs.declared.refusal.Refusal.{Refusal}
 use Rattle.roam_wire.specs.declared.refusal.Refusal.TheVariants as refusal
 use Rattle.roam_conf.specs.Config.{ConfigView}
 use Rattle.roam_pending.specs.EntryList.{IsEntryList}
@@ -20,8 +23,9 @@ use Rattle.roam_book.specs.Turn.{Turn, refuses, sends, packets_of, shown_outs, s
 use Rattle.roam_book.specs.declared.answer.Answer.{Answer}
 use Rattle.roam_book.specs.declared.numbers.Numbers.{Numbers}
 use Rattle.roam_core.specs.BrokerView.{BrokerView}
-use Rattle.roam_core.specs.ManyRealms.{no_state, packets_in_turn, state_at, states_after, to_tick, turn_of_one}
+use Rattle.roam_core.specs.ManyRealms.{no_state, packets_in_turn, state_at, states_after, to_arrival, to_tick, turn_of_one}
 use Rattle.roam_core.specs.Steps.{GivesAnswer, IsAnswer}
+use Rattle.roam_shard.specs.Lost.{IsLostOrRefused}
 use Rattle.roam_shard.specs.ShardView.{IsShards, states_from, states_in}
 
 -- tables that keep the same realms keep as many
@@ -209,6 +213,34 @@ module _ {A : Type 0} where
       states_seen now answer view is m same gives = (ticks_seen now answer view is m same gives).1
 
 -- a tick that comes too late is refused
+-- why an arrival isn't given to a realm: it is refused, or memory was wanted
+pub refusal_gives : {A : Type 0} (r : Result (Answer A) NoMemory) (why : Refusal) (config : ConfigView)
+    (states : List RealmState) (now : ℕ) (given : Admission) → IsLostOrRefused r why
+    → (why ≡ refusal.NoMemory) ⊎ (refused why ≡ given)
+    → GivesAnswer r states states (to_arrival config states now given)
+refusal_gives (Ok a) why config states now given h (inl lost) = absurd (h.differs lost)
+refusal_gives (Ok a) why config states now given h (inr is) =
+    rw (← is) (record { packets = h.outs; refusal = h.cause; states = refl })
+refusal_gives (Err e) why config states now given h is = refl
+
+-- what `prepare` says of a refusal, by what the broker reads of its configuration
+pub refusal_of : {A : Type 0} (why : Refusal) (config other : ConfigView) (given : ConfigView → Admission)
+    → Answers {A = A} (Err why) (given config) → config ≡ other
+    → (why ≡ refusal.NoMemory) ⊎ (refused why ≡ given other)
+refusal_of why config other given (inl lost) same = inl (cc lost)
+refusal_of why config other given (inr is) same = inr (is ∙ ap given same)
+
+pub refusal_wants : {A : Type 0} (r : Result (Answer A) NoMemory) (why : Refusal) → IsLostOrRefused r why
+    → IsErr r → why ≡ refusal.NoMemory
+refusal_wants (Ok a) why h err = absurd (cc err)
+refusal_wants (Err e) why h err = h
+
+pub no_such_shard : {A : Type 0} → (answer : Answer A) (config : ConfigView) (states : List RealmState) (now shard : ℕ) → config.shards ≤ shard → shown_outs answer.outs.items ≡ [] → answer.refusal ≡ Some refusal.NoShard
+    → IsAnswer answer states states (to_tick config states now shard)
+no_such_shard answer config states now shard past packets why =
+    let one : nat_lt shard config.shards ≡ false = grind (arith, nat_tests) in
+    rw one (record { packets = packets; refusal = why; states = refl })
+
 pub too_late : {A : Type 0} → (answer : Answer A) (config : ConfigView) (states : List RealmState) (now shard : ℕ) → shard < config.shards → 2 ^ 62 < now → shown_outs answer.outs.items ≡ [] → answer.refusal ≡ Some refusal.Moment
     → IsAnswer answer states states (to_tick config states now shard)
 too_late answer config states now shard there late packets why =

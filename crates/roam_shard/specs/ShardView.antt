@@ -6,7 +6,7 @@ use Rattle.roam_pending.specs.PlainEntry.{PlainEntry}
 use Rattle.roam_tables.specs.Stands.{RealmView, entries_in}
 use Rattle.roam_book.specs.RealmConfig.{RealmConfig, link_count, realm_config}
 use Rattle.roam_book.specs.RealmState.{RealmState}
-use Rattle.roam_book.specs.Sound.{IsSound, LanesTell, cursors_of, own_tags, state_of, tags_of}
+use Rattle.roam_book.specs.Sound.{AreOwnLanes, IsSound, LanesTell, cursors_of, marks_of, state_of}
 use Rattle.roam_book.specs.declared.numbers.Numbers.{Numbers}
 
 module _ {A : Type 0} where
@@ -32,9 +32,11 @@ pub record IsFresh {A : Type 0} (c : RealmConfig) (n : Numbers A) : Type 0 where
   pub count : length n.lanes.items ≡ link_count c
   pub cursors : cursors_of n.lanes.items ≡ replicate (link_count c) 0
   pub free : LanesTell c [] n.lanes.items
-  pub tags : tags_of n.lanes.items ≡ own_tags c.index (link_count c)
+  pub lanes : AreOwnLanes c (marks_of n.lanes.items)
   pub ticket : n.ticket ≡ 0
   pub place : n.stream_position ≡ 0
+  pub sessions : n.sessions.sessions ≡ []
+  pub ledger : n.sessions.limit ≡ c.realm.max_sessions
 
 -- the numbers of the first realms of a fresh broker
 pub record AreFresh {A : Type 0} (config : ConfigView) (count : ℕ) (numbers : List (Numbers A)) : Type 0 where

@@ -3,10 +3,11 @@
 ghost use Rattle.std.specs.Prelude.{◌≡◌, ◌+◌, ◌≤◌, ◌++◌, [], ◌∷◌, None, length, IfOk, vec_len, vec_capacity};
 ghost use Rattle.roam_route.specs.Shown.{shown_out};
 ghost use Rattle.roam_book.specs.Turn.{shown_outs};
+ghost use Rattle.roam_shard.specs.Lost.{IsLostOrRefused};
 
-use roam_book::Answer;
+use roam_book::{Answer, refused};
 use roam_route::Out;
-use roam_wire::NoMemory;
+use roam_wire::{NoMemory, Refusal};
 use std::alloc::Allocator;
 
 /// A local reject is sent.
@@ -20,6 +21,17 @@ pub(crate) fn rejected<A: Allocator>(alloc: A, out: Out<A>) -> Result<Answer<A>,
         outs,
         refusal: None,
     })
+}
+
+/// What an arrival is answered with that wasn't prepared: its refusal, or it is lost for want of
+/// memory. Takes no memory.
+pub(crate) fn lost_or_refused<A: Allocator>(alloc: A, why: Refusal) -> Result<Answer<A>, NoMemory>
+    ensures { IsLostOrRefused result why }
+{
+    if why == Refusal::NoMemory {
+        return Err(NoMemory);
+    }
+    Ok(refused(alloc, why))
 }
 
 /// Appends packets for which there are places. Takes no memory.

@@ -3,7 +3,7 @@
 ghost use Rattle.std.specs.Prelude.{◌≡◌, ◌+◌, ◌<◌, ◌≤◌, ◌++◌, [], None, length, slice_set, IfOk, IsErr, vec_len, vec_capacity};
 ghost use Rattle.roam_conf.specs.Shown.{shown};
 ghost use Rattle.roam_core.specs.Openings.{fresh};
-ghost use Rattle.roam_route.specs.Admission.{admission, admitted};
+ghost use Rattle.roam_route.specs.Admission.{admitted, admission};
 ghost use Rattle.roam_route.specs.Events.{IsEvent};
 ghost use Rattle.roam_route.specs.Shown.{WantsMemory, shown_arrival, shown_job};
 ghost use Rattle.roam_book.specs.OnTick.{on_tick};
@@ -15,7 +15,7 @@ ghost use Rattle.roam_core.specs.Steps.{GivesAnswer};
 ghost use Rattle.roam_core.specs.ShardRooms.{AllFit, Fits, most_of, most_of_all, tick_in, turn_in};
 
 use crate::opening::fresh_numbers;
-use crate::packets::{append_reserved, rejected};
+use crate::packets::{append_reserved, lost_or_refused, rejected};
 use crate::rooms::{ShardRoom, room_of_shard};
 use crate::turns::given;
 use roam_book::{Answer, LATEST, Numbers, Realm, Room, Settings, refused};
@@ -99,8 +99,7 @@ impl<'c, A: Allocator + Copy> Shards<'c, A> {
         match prepare(self.alloc, self.config, datagram) {
             Ok(Prepared::Job(job)) => self.give(now, &job),
             Ok(Prepared::Reject(out)) => rejected(self.alloc, out),
-            Err(Refusal::NoMemory) => Err(NoMemory),
-            Err(why) => Ok(refused(self.alloc, why)),
+            Err(why) => lost_or_refused(self.alloc, why),
         }
     }
 

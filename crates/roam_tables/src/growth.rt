@@ -22,8 +22,10 @@ pub(crate) fn grow<A: Allocator + Copy>(
     realm: u16,
 ) -> Result<(), NoMemory>
     requires within { realm < length realms.old.items }
-    ensures ok { OnOk result (0 < room_at slots.new by_ticket.new by_client.new realms.new.items realm) }
-    ensures succeeds { 0 < room_at slots.old by_ticket.old by_client.old realms.old.items realm → IsOk result }
+    ensures ok { OnOk result (0 < room_at slots.new by_ticket.new by_client.new
+        realms.new.items realm) }
+    ensures succeeds { 0 < room_at slots.old by_ticket.old by_client.old realms.old.items realm
+        → IsOk result }
 
     // What the tables hold stays, and no room is lost.
     ensures slots { place slots.new ≡ place slots.old }

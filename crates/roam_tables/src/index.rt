@@ -56,7 +56,8 @@ pub(crate) fn note_ticket<A: Allocator + Copy>(
     slot: usize,
 )
     requires { 0 < spare index.old }
-    ensures puts { Puts ticket_eq (ticket_at index.old) (ticket_at index.new) (ticket_key_of realm ticket) (Some slot) }
+    ensures puts { Puts ticket_eq (ticket_at index.old) (ticket_at index.new)
+        (ticket_key_of realm ticket) (Some slot) }
     ensures room { spare index.old ≤ spare index.new + 1 }
 
     // A ticket is a `u64`.

@@ -1,5 +1,10 @@
 //! The entries of all realms of a shard in shared tables.
 //!
+//! [`Tables`] keeps what a list for each realm keeps, by the same contracts
+//! ([`roam_pending::Entries`]). The entries lie in one slab; one index finds each by its realm and
+//! ticket, and one by its realm and request key. Beside them each realm has three runs in order: when
+//! its waiting entries are due, when its done ones are, and the tickets of the done ones.
+//!
 //! Nothing here builds or reads a packet, looks at a clock or chooses a target.
 #![tactic(auto)]
 

@@ -72,7 +72,8 @@ pub(crate) fn change_at<A: Allocator>(
 )
     requires within { realm < length realms.old.items }
     requires leaves { (q : _) → slice_get realms.old.items realm ≡ Some q → CanLeave from q }
-    requires enters { (q p : _) → slice_get realms.old.items realm ≡ Some q → Leaves from q p → CanEnter to p }
+    requires enters { (q p : _) → slice_get realms.old.items realm ≡ Some q → Leaves from q p
+        → CanEnter to p }
     ensures { AtRealm (Changes from to) realms.old.items realms.new.items realm }
 {
     realms[usize::from(realm)].change(from, to);

@@ -42,7 +42,8 @@ pub(crate) fn take<A: Allocator>(slots: &mut Slab<Slot<A>, A>, at: usize) -> Slo
 pub(crate) fn exchange<A: Allocator>(slots: &mut Slab<Slot<A>, A>, at: usize, entry: &mut Entry<A>)
     requires { IsSome (place slots.old at) }
     ensures was { option_map (λ x. x.entry) (place slots.old at) ≡ Some (shown entry.new) }
-    ensures puts { PutsAt (place slots.old) (place slots.new) at (with_entry (shown entry.old) (place slots.old at)) }
+    ensures puts { PutsAt (place slots.old) (place slots.new) at
+        (with_entry (shown entry.old) (place slots.old at)) }
     ensures room { slab_room slots.old ≤ slab_room slots.new }
 {
     match slots.get_mut(at) {

@@ -47,7 +47,8 @@ impl<A: Allocator> Model for Tables<A> {
 
     ghost view = { λ t. tables_view t.slots t.by_ticket t.by_client t.realms.items };
 
-    ghost invariant = { λ t. Sound (place t.slots) (ticket_at t.by_ticket) (client_at t.by_client) t.realms.items };
+    ghost invariant = { λ t. Sound (place t.slots) (ticket_at t.by_ticket) (client_at t.by_client)
+        t.realms.items };
 }
 
 impl<A: Allocator + Copy> Tables<A> {
@@ -147,7 +148,9 @@ impl<A: Allocator + Copy> Tables<A> {
     pub fn insert_reserved(&mut self, realm: u16, entry: Entry<A>)
         requires new { IsNew (shown entry) (entries_in self.old realm) }
         requires room { 0 < room_in self.old realm }
-        ensures entries { RealmBecomes realm (put (shown entry) (entries_in self.old realm)) (entries_in self.old) (entries_in self.new) }
+        ensures entries { RealmBecomes realm
+            (put (shown entry) (entries_in self.old realm))
+            (entries_in self.old) (entries_in self.new) }
         ensures room { room_in self.old realm ≤ room_in self.new realm + 1 }
         ensures realms { length self.new ≡ length self.old }
     {
@@ -165,7 +168,9 @@ impl<A: Allocator + Copy> Tables<A> {
     /// Takes out the entry of a ticket. Its place is room for another one. Takes no memory.
     pub fn remove(&mut self, realm: u16, ticket: u64) -> Option<Entry<A>>
         ensures found { taken result ≡ find_ticket ticket (entries_in self.old realm) }
-        ensures entries { RealmBecomes realm (without ticket (entries_in self.old realm)) (entries_in self.old) (entries_in self.new) }
+        ensures entries { RealmBecomes realm
+            (without ticket (entries_in self.old realm))
+            (entries_in self.old) (entries_in self.new) }
         ensures room { room_in self.old realm ≤ room_in self.new realm }
         ensures realms { length self.new ≡ length self.old }
     {
@@ -188,8 +193,11 @@ impl<A: Allocator + Copy> Tables<A> {
     /// Changes an entry with the one that has its key and ticket. Takes no memory.
     pub fn swap(&mut self, realm: u16, entry: &mut Entry<A>)
         requires { HasPlaceOf (shown entry.old) (entries_in self.old realm) }
-        ensures found { Some (shown entry.new) ≡ find_ticket entry.old.ticket (entries_in self.old realm) }
-        ensures entries { RealmBecomes realm (put (shown entry.old) (entries_in self.old realm)) (entries_in self.old) (entries_in self.new) }
+        ensures found { Some (shown entry.new)
+            ≡ find_ticket entry.old.ticket (entries_in self.old realm) }
+        ensures entries { RealmBecomes realm
+            (put (shown entry.old) (entries_in self.old realm))
+            (entries_in self.old) (entries_in self.new) }
         ensures room { room_in self.old realm ≤ room_in self.new realm }
         ensures realms { length self.new ≡ length self.old }
     {

@@ -1,7 +1,6 @@
-use Rattle.std.proofs.Common.{◌≡◌, ◌<◌, ◌∙◌, ℕ, length, subst, ap, sym, arith}
+use Rattle.std.proofs.Common.{◌<◌, ℕ, length, subst, ap, sym, arith}
 use Rattle.std.specs.Prelude.{◌==◌}
 use Rattle.roam_conf.specs.Shown.{shown}
-use Rattle.roam_pending.specs.PlainEntry.{PlainEntry}
 use Rattle.roam_tables.specs.Stands.{entries_in}
 use Rattle.roam_tables.proofs.RealmLemmas.{get-read}
 use Rattle.roam_book.specs.RealmState.{RealmState}

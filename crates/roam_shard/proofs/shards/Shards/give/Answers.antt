@@ -1,21 +1,18 @@
 -- A job goes to its realm, which is there.
-use Rattle.std.proofs.Common.{◌≡◌, ◌<◌, ◌∙◌, ℕ, length, ap, sym, subst, arith, rules}
-use Rattle.std.specs.Prelude.{Some, slice_get}
+use Rattle.std.proofs.Common.{◌<◌, ◌∙◌, length, ap, sym, subst, arith, rules}
 use Rattle.std.proofs.lemmas.List.{length-map}
 use Rattle.roam_conf.specs.Config.{ConfigView}
 use Rattle.roam_conf.specs.Shown.{shown}
 use Rattle.roam_conf.specs.Parts.{shown_realm}
 use Rattle.roam_route.specs.Events.{IsEvent}
 use Rattle.roam_route.specs.Shown.{shown_job}
-use Rattle.roam_route.proofs.RealmLemmas.{event_realm}
+use Rattle.roam_route.proofs.EventLemmas.{event_realm}
 use Rattle.roam_tables.proofs.RealmLemmas.{get-read}
-use Rattle.roam_book.specs.BookView.{AreOctets}
+use Rattle.roam_wire.specs.Packet.{AreOctets}
 use Rattle.roam_book.specs.OneRealm.{event_of, on_event}
 use Rattle.roam_book.specs.RealmConfig.{realm_config}
 use Rattle.roam_book.proofs.JobLemmas.{job_of_book}
 use Rattle.roam_core.specs.BrokerView.{BrokerView}
-use Rattle.roam_core.specs.ManyRealms.{turn_of_one, state_at}
-use Rattle.roam_core.specs.Steps.{GivesAnswer}
 use Rattle.roam_shard.proofs.ShardLemmas.{realm_kept, realm_list, realm_sound, shards_seen, shards_written}
 use Rattle.roam_shard.proofs.shards.Shards.give.Goals as goal
 

@@ -1,12 +1,12 @@
 -- All rooms first, then the tick in them.
-use Rattle.std.proofs.Common.{List, ap, subst, ◌∙◌, arith, rules}
+use Rattle.std.proofs.Common.{ap, subst, ◌∙◌, arith, rules}
 use Rattle.roam_conf.specs.Shown.{shown}
 use Rattle.roam_core.specs.ManyRealms.{AllRealms}
 use Rattle.roam_core.specs.BrokerView.{BrokerView}
 use Rattle.roam_core.specs.ShardRooms.{AreRooms}
 use Rattle.roam_core.proofs.ShardLemmas.{all-fit, tick-in, ticked}
 use Rattle.roam_shard.specs.ShardView.{states_in}
-use Rattle.roam_shard.proofs.ShardLemmas.{shards_whole, too_late}
+use Rattle.roam_shard.proofs.ShardLemmas.{no_such_shard, shards_whole, too_late}
 use Rattle.roam_shard.proofs.shards.Shards.tick.Goals as goal
 
 pub tick_in-requires-clause-rooms : goal.tick_in-requires-clause-rooms
@@ -46,3 +46,9 @@ pub returns-then-now-gt-LATEST-clause-turn : goal.returns-then-now-gt-LATEST-cla
 returns-then-now-gt-LATEST-clause-turn g c =
     let shards = ap (λ (v : BrokerView). v.config.shards) c.self.view_is in
     too_late c.refused-then-now-gt-LATEST.result c.args.self.now.config c.args.self.now.states c.args.now c.args.shard (omega (arith, shards, c.if-shard-self.false)) (omega (arith, c.if-now-gt-LATEST.true)) (search rules) (search rules)
+
+pub returns-then-shard-self-clause-turn : goal.returns-then-shard-self-clause-turn
+returns-then-shard-self-clause-turn g c =
+    let shards = ap (λ (v : BrokerView). v.config.shards) c.self.view_is in
+    no_such_shard c.refused.result c.args.self.now.config c.args.self.now.states c.args.now c.args.shard
+    (omega (arith, shards, c.if-shard-self.true)) c.refused.ensures.outs c.refused.ensures.refusal

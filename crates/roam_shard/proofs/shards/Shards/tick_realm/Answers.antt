@@ -1,5 +1,5 @@
 -- One realm's tick.
-use Rattle.std.proofs.Common.{◌≡◌, ◌<◌, ◌∙◌, ℕ, List, length, ap, sym, subst, arith, refl, rules}
+use Rattle.std.proofs.Common.{◌<◌, List, length, subst, arith, refl, rules}
 use Rattle.std.proofs.lemmas.List.{length-map}
 use Rattle.roam_conf.specs.Shown.{shown}
 use Rattle.roam_conf.specs.Parts.{shown_realm}
