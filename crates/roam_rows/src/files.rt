@@ -1,5 +1,6 @@
 //! The files of rows: what is played of each, and how.
 
+use crate::brokers::Kept;
 use crate::player::{Over, Player};
 use crate::row::{Row, RowFault};
 use roam_conf::Config;
@@ -13,7 +14,8 @@ use std::{fs, io};
 const MOST_EVENTS: usize = 64;
 
 impl<'p, 'r> Player<'p, 'r> {
-    /// Plays a row with growths refused.
+    /// Plays a row with growths refused: over lists each one of each event in one pass, and over tables each one
+    /// over brokers of its own too.
     fn plays_without_memory(
         &mut self,
         row: &Row<Over<'r>>,
@@ -23,7 +25,7 @@ impl<'p, 'r> Player<'p, 'r> {
     ) {
         self.opens_refused(row, config);
         self.plays_in_one_pass(row, config);
-        if row.steps.len() <= MOST_EVENTS {
+        if self.kept == Kept::InTables && row.steps.len() <= MOST_EVENTS {
             self.plays_each(row, config);
             self.plays_runs_refused(row, config, events, script);
         }

@@ -1,7 +1,8 @@
 //! Growths of events refused in turn: the call answers want of memory, and then all is as if it had never been made.
 
 use crate::answers::WANTING;
-use crate::player::{Over, Player, Playing};
+use crate::brokers::Playing;
+use crate::player::{Over, Player};
 use crate::row::{Row, Step};
 use roam_conf::Config;
 use std::mem::swap;

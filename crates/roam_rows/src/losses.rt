@@ -2,10 +2,11 @@
 //! the run.
 
 use crate::answers::print_packets;
+use crate::brokers::Playing;
 use crate::player::{Over, Player};
 use crate::row::Row;
 use roam_conf::Config;
-use roam_core::{Broker, Event, Outcome, Stepper, run};
+use roam_core::{Event, Outcome};
 use roam_sim::simulate;
 use roam_wire::NoMemory;
 use std::io;
@@ -40,7 +41,7 @@ impl<'p, 'r> Player<'p, 'r> {
     pub(crate) fn opens_refused(&mut self, row: &Row<Over<'r>>, config: &Config) {
         for n in 1..u64::MAX {
             self.over.refuse_nth(n);
-            let is_wanting = Broker::new(self.over, config).is_err();
+            let is_wanting = Playing::new(self.over, config, self.kept).is_err();
             if !self.is_refused(row.line, "a fresh broker", is_wanting) {
                 return;
             }
@@ -113,7 +114,7 @@ impl<'p, 'r> Player<'p, 'r> {
                 return;
             };
             self.over.refuse_nth(n);
-            let outcome = run(self.over, &mut broker, events);
+            let outcome = broker.run(self.over, events);
             let is_wanting = self.is_wanting(row, losses, outcome);
             if !self.is_refused(row.line, "run", is_wanting) {
                 return;

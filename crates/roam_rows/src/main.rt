@@ -6,6 +6,7 @@
 #![tactic(auto)]
 
 mod answers;
+mod brokers;
 mod faulty;
 mod files;
 mod growths;
@@ -15,6 +16,7 @@ mod playing;
 mod row;
 mod tally;
 
+use crate::brokers::Kept;
 use crate::player::Player;
 use roam_testing::Refusing;
 use std::process::ExitCode;
@@ -45,8 +47,11 @@ fn plays_folder(player: &mut Player<'_, '_>, folder: &str) -> io::Result<()> {
 fn plays_all(rt: &HostRuntime) -> io::Result<bool> {
     let refusing = Refusing::new(rt.alloc());
     let mut player = Player::new(rt, &refusing);
-    plays_folder(&mut player, "rows")?;
-    plays_folder(&mut player, "random")?;
+    for kept in [Kept::InLists, Kept::InTables] {
+        player.kept = kept;
+        plays_folder(&mut player, "rows")?;
+        plays_folder(&mut player, "random")?;
+    }
     player.file = String::from_str(rt.alloc(), "faulty-lines")?;
     let faulty = fs::read_to_string(rt, "faulty-lines")?;
     player.finds_faults(faulty.as_str())?;

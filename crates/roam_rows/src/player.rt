@@ -1,10 +1,11 @@
 //! What plays rows: it compares answers with the row, and tells what differs.
 
 use crate::answers::{WANTING, first_difference, print_answer};
+use crate::brokers::{Kept, Playing};
 use crate::row::Step;
 use crate::tally::Tally;
 use roam_conf::Config;
-use roam_core::{Broker, Event, Stepper};
+use roam_core::Event;
 use roam_testing::Refusing;
 use std::alloc::Global;
 use std::io;
@@ -12,9 +13,6 @@ use std::io::Write;
 
 /// The allocator over which brokers and events grow.
 pub(crate) type Over<'r> = &'r Refusing<Global>;
-
-/// The broker that plays.
-pub(crate) type Playing<'c, 'r> = Broker<'c, Over<'r>>;
 
 /// How many differences are told. The others are counted alone.
 const MOST_TOLD: u64 = 20;
@@ -24,6 +22,8 @@ const MOST_TOLD: u64 = 20;
 pub(crate) struct Player<'p, 'r> {
     pub(crate) rt: &'p HostRuntime,
     pub(crate) over: Over<'r>,
+    /// Which broker plays.
+    pub(crate) kept: Kept,
     pub(crate) tally: Tally,
     /// The file of the row that is played.
     pub(crate) file: String,
@@ -36,6 +36,7 @@ impl<'p, 'r> Player<'p, 'r> {
         Player {
             rt,
             over,
+            kept: Kept::InLists,
             tally: Tally::new(),
             file: String::new(rt.alloc()),
             got: Vec::new(rt.alloc()),
@@ -90,7 +91,7 @@ impl<'p, 'r> Player<'p, 'r> {
     /// A fresh broker of a configuration, for which there is memory.
     pub(crate) fn fresh<'c>(&mut self, config: &'c Config) -> Option<Playing<'c, 'r>> {
         self.over.refuse_nth(0);
-        let broker = Broker::new(self.over, config).ok();
+        let broker = Playing::new(self.over, config, self.kept).ok();
         if broker.is_none() {
             self.tell(0, "a fresh broker", "a broker", "want of memory");
         }

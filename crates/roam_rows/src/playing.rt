@@ -4,7 +4,7 @@ use crate::answers::print_packets;
 use crate::player::{Over, Player};
 use crate::row::Row;
 use roam_conf::Config;
-use roam_core::{Event, run};
+use roam_core::Event;
 use roam_sim::sim;
 use std::io::Write;
 
@@ -72,7 +72,7 @@ impl<'p, 'r> Player<'p, 'r> {
             return false;
         };
         self.got.clear();
-        let how = match run(self.over, &mut broker, events) {
+        let how = match broker.run(self.over, events) {
             Ok(outcome) => {
                 let printed = print_packets(&mut self.got, &outcome.outs);
                 self.needs(printed);
