@@ -132,10 +132,7 @@ impl<'c, A: Allocator + Copy> Book<'c, A> {
         ensures ticket { result.ticket ≡ self.now.state.ticket }
         ensures ticket_range { result.ticket ≤ 2 ^ 63 }
     {
-        Start {
-            place: self.numbers.stream_position,
-            ticket: self.numbers.ticket,
-        }
+        self.numbers.start()
     }
 
     /// A request of the realm, at a moment in milliseconds (RFC 2865, section 2.3): a duplicate, a

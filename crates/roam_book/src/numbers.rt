@@ -118,6 +118,17 @@ impl<A: Allocator + Copy> Numbers<A> {
         })
     }
 
+    /// The place in the stream of random words and the next ticket, as a start. Takes no memory.
+    pub fn start(&self) -> Start
+        ensures place { result.place ≡ self.now.stream_position }
+        ensures ticket { result.ticket ≡ self.now.ticket }
+    {
+        Start {
+            place: self.stream_position,
+            ticket: self.ticket,
+        }
+    }
+
     /// Whether an Identifier is free toward a link.
     fn has_free(&self, settings: &Settings<'_>, link: Link) -> bool
         requires link { IsLink settings.now link }

@@ -30,7 +30,7 @@ impl<'c, 'r> Playing<'c, 'r> {
     ) -> Result<Playing<'c, 'r>, NoMemory> {
         match kept {
             Kept::InLists => Ok(Playing::Lists(Broker::new(over, config)?)),
-            Kept::InTables => Ok(Playing::Tables(Shards::new(over, config)?)),
+            Kept::InTables => Ok(Playing::Tables(Shards::fresh(over, config)?)),
         }
     }
 

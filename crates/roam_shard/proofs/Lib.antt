@@ -1,3 +1,7 @@
 pub mod ShardLemmas
-pub mod RoomLemmas
+pub mod DueLemmas
 pub mod OpeningLemmas
+pub mod RoomLemmas
+pub mod TickLemmas
+pub mod AcrossLemmas
+pub mod LostLemmas

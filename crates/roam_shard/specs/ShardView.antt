@@ -1,44 +1,72 @@
--- What a broker over shared tables stands for, and what it keeps (ours).
-use Rattle.std.specs.Prelude.{◌≡◌, ℕ, ◌+◌, ◌≤◌, List, [], ◌∷◌, Some, length, replicate, slice_get}
+-- What a shard over shared tables stands for, and what it keeps (ours).
+use Rattle.std.specs.Prelude.{◌≡◌, ℕ, ◌+◌, ◌<◌, ◌≤◌, ◌^◌, Bool, List, [], ◌∷◌, Option, Some, None, is_some, length, slice_get}
+use Rattle.std.specs.List.{AllByRecursion}
 use Rattle.roam_conf.specs.Config.{ConfigView}
+use Rattle.roam_conf.specs.Shown.{shown}
 use Rattle.roam_pending.specs.EntryList.{IsEntryList}
 use Rattle.roam_pending.specs.PlainEntry.{PlainEntry}
 use Rattle.roam_tables.specs.Stands.{RealmView, entries_in}
-use Rattle.roam_book.specs.RealmConfig.{RealmConfig, link_count, realm_config}
-use Rattle.roam_book.specs.RealmState.{RealmState}
-use Rattle.roam_book.specs.Sound.{AreOwnLanes, IsSound, LanesTell, cursors_of, marks_of, state_of}
+use Rattle.roam_book.specs.RealmConfig.{realm_config}
+use Rattle.roam_book.specs.RealmState.{RealmState, opening}
+use Rattle.roam_book.specs.Sound.{IsSound, state_of}
 use Rattle.roam_book.specs.declared.numbers.Numbers.{Numbers}
+use Rattle.roam_book.specs.declared.start.Start.{Start}
+use Rattle.roam_core.specs.Events.{is_in_shard}
+use Rattle.roam_core.specs.Openings.{openings, start_of}
+use Rattle.roam_shard.specs.declared.opening.Opening.{Opening}
+
+-- how a shard began: its number, the configuration, and where each realm began
+pub record OpeningView : Type 0 where
+  pub shard : ℕ
+  pub config : ConfigView
+  pub starts : List Start
+
+abbrev pub shown_opening : {A : Type 0} → Opening A → OpeningView
+shown_opening o = record { shard = o.shard; config = shown o.config.now; starts = o.starts.items }
+
+-- where a realm can begin: its place in the stream of random words, and its next ticket
+pub record IsStart (s : Start) : Type 0 where
+  pub place : s.place < 2 ^ 68
+  pub ticket : s.ticket ≤ 2 ^ 63
+
+-- starts of the realms of a configuration, one for each
+pub record AreStarts (config : ConfigView) (starts : List Start) : Type 0 where
+  pub each : AllByRecursion IsStart starts
+  pub count : length starts ≡ length config.realms
+
+-- a shard: how it began, and the state of each realm, in the order of their indexes. A realm of
+-- another shard stays as it began
+pub record ShardView : Type 0 where
+  pub opening : OpeningView
+  pub states : List RealmState
+
+-- all realms as they began
+abbrev pub opened : OpeningView → List RealmState
+opened o = openings o.config o.starts
 
 module _ {A : Type 0} where
-  -- the states of the realms from r on: each realm's entries, and its numbers
-  unfoldable pub states_from : (ℕ → List PlainEntry) → ℕ → List (Numbers A) → List RealmState
-  states_from E r [] = []
-  states_from E r (n ∷ ns) = state_of (E r) n ∷ states_from E (r + 1) ns
+  -- the state of a realm: that of its entries and numbers, where it is one of the shard's
+  abbrev pub state_seen : OpeningView → ℕ → List PlainEntry → Option (Numbers A) → RealmState
+  state_seen o r entries None = opening (realm_config o.config r) (start_of o.starts r)
+  state_seen o r entries (Some n) = state_of entries n
 
-  abbrev pub states_in : List RealmView → List (Numbers A) → List RealmState
-  states_in tables numbers = states_from (entries_in tables) 0 numbers
+  -- the states of the realms from r on
+  unfoldable pub states_from :
+      OpeningView → (ℕ → List PlainEntry) → ℕ → List (Option (Numbers A)) → List RealmState
+  states_from o E r [] = []
+  states_from o E r (n ∷ ns) = state_seen o r (E r) n ∷ states_from o E (r + 1) ns
 
-  -- what is kept: each realm's entries fit its numbers, and each realm of the configuration is here
-  pub record IsShards (config : ConfigView) (tables : List RealmView) (numbers : List (Numbers A)) : Type 0 where
-    pub sound : (r : ℕ) (n : Numbers A) → slice_get numbers r ≡ Some n
-        → IsSound (realm_config config r) (entries_in tables r) n
+  abbrev pub states_in : OpeningView → List RealmView → List (Option (Numbers A)) → List RealmState
+  states_in o tables numbers = states_from o (entries_in tables) 0 numbers
+
+  -- what is kept: each of the shard's own realms has numbers that its entries fit, and no other has
+  pub record IsShard (o : OpeningView) (tables : List RealmView) (numbers : List (Option (Numbers A)))
+      : Type 0 where
+    pub own : (r : ℕ) (n : Option (Numbers A)) → slice_get numbers r ≡ Some n
+        → is_some n ≡ is_in_shard o.config o.shard r
+    pub sound : (r : ℕ) (n : Numbers A) → slice_get numbers r ≡ Some (Some n)
+        → IsSound (realm_config o.config r) (entries_in tables r) n
     pub lists : (r : ℕ) → IsEntryList (entries_in tables r)
-    pub count : length numbers ≡ length config.realms
-    pub kept : length tables ≡ length config.realms
-    pub some_shard : 1 ≤ config.shards
-
--- nothing is in use yet, and the place and the next ticket are 0
-pub record IsFresh {A : Type 0} (c : RealmConfig) (n : Numbers A) : Type 0 where
-  pub count : length n.lanes.items ≡ link_count c
-  pub cursors : cursors_of n.lanes.items ≡ replicate (link_count c) 0
-  pub free : LanesTell c [] n.lanes.items
-  pub lanes : AreOwnLanes c (marks_of n.lanes.items)
-  pub ticket : n.ticket ≡ 0
-  pub place : n.stream_position ≡ 0
-  pub sessions : n.sessions.sessions ≡ []
-  pub ledger : n.sessions.limit ≡ c.realm.max_sessions
-
--- the numbers of the first realms of a fresh broker
-pub record AreFresh {A : Type 0} (config : ConfigView) (count : ℕ) (numbers : List (Numbers A)) : Type 0 where
-  pub number : length numbers ≡ count
-  pub each : (k : ℕ) (n : Numbers A) → slice_get numbers k ≡ Some n → IsFresh (realm_config config k) n
+    pub count : length numbers ≡ length o.config.realms
+    pub kept : length tables ≡ length o.config.realms
+    pub there : o.shard < o.config.shards

@@ -4,10 +4,16 @@
 //! Nothing here touches a socket or a clock: datagrams, moments and packets are values.
 #![tactic(auto)]
 
+mod dues;
+mod numbers;
 mod opening;
 mod packets;
 mod rooms;
+mod shard;
 mod shards;
+mod ticking;
 mod turns;
 
+pub use opening::{Opening, first_starts};
+pub use shard::Shard;
 pub use shards::Shards;

@@ -1,31 +1,36 @@
-//! How the realms begin.
+//! How a shard began.
 
-ghost use Rattle.std.specs.Prelude.{◌≡◌, IfOk, vec_len};
+ghost use Rattle.std.specs.Prelude.{◌≡◌, IfOk};
 ghost use Rattle.roam_conf.specs.Shown.{shown};
-ghost use Rattle.roam_shard.specs.ShardView.{AreFresh};
+ghost use Rattle.roam_core.specs.Openings.{fresh_starts};
+ghost use Rattle.roam_shard.specs.ShardView.{AreStarts};
 
-use roam_book::{Numbers, Settings, Start};
+use roam_book::Start;
 use roam_conf::Config;
 use roam_wire::NoMemory;
 use std::alloc::Allocator;
 
-/// The numbers of the realms of a fresh broker: each begins at place 0 of its random words and
-/// ticket 0.
-pub(crate) fn fresh_numbers<A: Allocator + Copy>(
-    alloc: A,
-    config: &Config,
-) -> Result<Vec<Numbers<A>, A>, NoMemory>
-    ensures { IfOk result (λ numbers. AreFresh (shown config.now) (vec_len config.now.realms) numbers.items) }
+/// How a shard began: its number, the configuration, and where each realm began, in the order of
+/// their indexes.
+#[derive(Drop)]
+pub struct Opening<'c, A: Allocator> {
+    pub shard: u16,
+    pub config: &'c Config,
+    pub starts: Vec<Start, A>,
+}
+
+/// Where the realms of a first broker begin: each at place 0 of its random words, and ticket 0.
+pub fn first_starts<A: Allocator>(alloc: A, config: &Config) -> Result<Vec<Start, A>, NoMemory>
+    ensures starts { IfOk result (λ starts. starts.items ≡ fresh_starts (shown config.now)) }
+    ensures good { IfOk result (λ starts. AreStarts (shown config.now) starts.items) }
 {
-    let count = config.realms.len() as u16;
-    let mut numbers = Vec::with_capacity(alloc, config.realms.len())?;
-    for realm in 0..count {
-        let settings = Settings::new(config, realm);
-        let start = Start {
-            place: 0,
-            ticket: 0,
-        };
-        numbers.push(Numbers::new(alloc, &settings, start)?)?;
+    let first = Start {
+        place: 0,
+        ticket: 0,
+    };
+    let mut starts = Vec::with_capacity(alloc, config.realms.len())?;
+    for _realm in 0..config.realms.len() {
+        starts.push(first)?;
     }
-    Ok(numbers)
+    Ok(starts)
 }

@@ -3,9 +3,9 @@
 ghost use Rattle.std.specs.Prelude.{◌≡◌, ◌+◌, ◌≤◌, ◌++◌, [], ◌∷◌, None, length, IfOk, vec_len, vec_capacity};
 ghost use Rattle.roam_route.specs.Shown.{shown_out};
 ghost use Rattle.roam_book.specs.Turn.{shown_outs};
-ghost use Rattle.roam_shard.specs.Lost.{IsLostOrRefused};
+ghost use Rattle.roam_shard.specs.Lost.{IsFirst, IsLostOrRefused};
 
-use roam_book::{Answer, refused};
+use roam_book::{Answer, Twin, refused};
 use roam_route::Out;
 use roam_wire::{NoMemory, Refusal};
 use std::alloc::Allocator;
@@ -32,6 +32,16 @@ pub(crate) fn lost_or_refused<A: Allocator>(alloc: A, why: Refusal) -> Result<An
         return Err(NoMemory);
     }
     Ok(refused(alloc, why))
+}
+
+/// The first of two answers. Takes no memory.
+pub(crate) fn first<A: Allocator>(twin: Result<Twin<A>, NoMemory>) -> Result<Answer<A>, NoMemory>
+    ensures { IsFirst twin result }
+{
+    match twin {
+        Ok(twin) => Ok(twin.answer),
+        Err(_) => Err(NoMemory),
+    }
 }
 
 /// Appends packets for which there are places. Takes no memory.

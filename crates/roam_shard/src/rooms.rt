@@ -1,23 +1,24 @@
 //! The memory of a shard's tick, taken before anything changes.
 
-ghost use Rattle.std.specs.Prelude.{◌≡◌, ◌+◌, ◌≤◌, [], length, IfOk, vec_len, vec_capacity};
+ghost use Rattle.std.specs.Prelude.{◌≡◌, ◌+◌, ◌≤◌, [], false, true, is_some, length, IfOk, IfSome, vec_len};
 ghost use Rattle.roam_conf.specs.Shown.{shown};
 ghost use Rattle.roam_tables.specs.Stands.{entries_in};
 ghost use Rattle.roam_core.specs.ShardRooms.{AreRooms, IsRealmRoom, most_of, most_of_all};
-ghost use Rattle.roam_shard.specs.ShardView.{states_in};
+ghost use Rattle.roam_shard.specs.Rooms.{AllTwice, HasPlaces, IsTwice};
+ghost use Rattle.roam_shard.specs.ShardView.{IsShard, shown_opening, states_in};
 
+use crate::opening::Opening;
+use crate::ticking::Both;
 use roam_book::{Numbers, Room, room_for};
-use roam_conf::Config;
-use roam_route::Out;
 use roam_tables::Tables;
 use roam_wire::NoMemory;
 use std::alloc::Allocator;
 
 /// The memory of a shard's tick: a room for each realm that belongs to the shard, in the order of all
-/// realms, and a place for each packet that may be sent.
+/// realms, and two places for each packet that may be sent.
 pub(crate) struct ShardRoom<A: Allocator> {
     pub rooms: Vec<Option<Room<A>>, A>,
-    pub outs: Vec<Out<A>, A>,
+    pub both: Both<A>,
 }
 
 /// The room of a realm, where it takes part.
@@ -28,12 +29,13 @@ fn room_at<A: Allocator + Copy>(
     now: u64,
     takes_part: bool,
 ) -> Result<Option<Room<A>>, NoMemory>
-    ensures { IfOk result (IsRealmRoom now takes_part (entries_in entries.now realm)) }
+    ensures room { IfOk result (IsRealmRoom now takes_part (entries_in entries.now realm)) }
+    ensures twice { IfOk result IsTwice }
 {
     if !takes_part {
         return Ok(None);
     }
-    let room = room_for(alloc, realm, entries, now, false)?;
+    let room = room_for(alloc, realm, entries, now, true)?;
     Ok(Some(room))
 }
 
@@ -54,31 +56,29 @@ fn with_room<A: Allocator>(most: usize, room: &Option<Room<A>>) -> Result<usize,
     most.checked_add(most_of(room)).ok_or(NoMemory)
 }
 
-/// All the memory of a shard's tick, for all realms.
+/// All the memory of a shard's tick, for all its realms.
 pub(crate) fn room_of_shard<A: Allocator + Copy>(
     alloc: A,
-    config: &Config,
+    opening: &Opening<'_, A>,
     entries: &Tables<A>,
-    numbers: &[Numbers<A>],
+    numbers: &[Option<Numbers<A>>],
     now: u64,
-    shard: u16,
 ) -> Result<ShardRoom<A>, NoMemory>
-    requires { length numbers.now ≤ 65536 }
-    ensures rooms { IfOk result (λ room. AreRooms (shown config.now) now shard 0
-        (states_in entries.now numbers.now) room.rooms.items) }
-    ensures empty { IfOk result (λ room. room.outs.items ≡ []) }
-    ensures len { IfOk result (λ room. vec_len room.outs ≡ 0) }
-    ensures places { IfOk result (λ room. most_of_all room.rooms.items ≤ vec_capacity room.outs) }
+    requires { IsShard (shown_opening opening.now) entries.now numbers.now }
+    ensures rooms { IfOk result (λ room. AreRooms (shown opening.now.config.now) now opening.now.shard 0
+        (states_in (shown_opening opening.now) entries.now numbers.now) room.rooms.items) }
+    ensures twice { IfOk result (λ room. AllTwice room.rooms.items) }
+    ensures sent { IfOk result (λ room. room.both.sent.items ≡ []) }
+    ensures copies { IfOk result (λ room. room.both.copies.items ≡ []) }
+    ensures places { IfOk result (λ room. HasPlaces (most_of_all room.rooms.items) room.both) }
 {
     let mut rooms = Vec::new(alloc);
     let mut most: usize = 0;
-    for (realm, _) in numbers.iter().enumerate() {
-        let index = realm as u16;
-        let takes_part = config.shard_of(index) == shard;
-        let room = room_at(alloc, entries, index, now, takes_part)?;
+    for (realm, own) in numbers.iter().enumerate() {
+        let room = room_at(alloc, entries, realm as u16, now, own.is_some())?;
         most = with_room(most, &room)?;
         rooms.push(room)?;
     }
-    let outs = Vec::with_capacity(alloc, most)?;
-    Ok(ShardRoom { rooms, outs })
+    let both = Both::new(alloc, most)?;
+    Ok(ShardRoom { rooms, both })
 }

@@ -4,9 +4,9 @@ ghost use Rattle.std.specs.Prelude.{◌≡◌};
 ghost use Rattle.roam_route.specs.Shown.{shown_job};
 ghost use Rattle.roam_book.specs.BookView.{IsTakenFrom};
 ghost use Rattle.roam_book.specs.OneRealm.{event_of, on_event};
-ghost use Rattle.roam_book.specs.RealmTurn.{IsRealm, Turns};
+ghost use Rattle.roam_book.specs.RealmTurn.{IsRealm, TurnsTwice};
 
-use roam_book::{Answer, Realm, asked_by};
+use roam_book::{Realm, Twin, asked_by};
 use roam_pending::Entries;
 use roam_route::{Job, Side};
 use roam_wire::NoMemory;
@@ -18,18 +18,18 @@ pub(crate) fn given<A: Allocator + Copy, E: Entries<A>>(
     now: u64,
     job: &Job<A>,
     octets: &[u8],
-) -> Result<Answer<A>, NoMemory>
+) -> Result<Twin<A>, NoMemory>
     requires realm { IsRealm E.Entries realm.old }
     requires octets { octets.now ≡ job.now.octets }
     requires taken { IsTakenFrom realm.old.settings.now (shown_job job.now) job.now.side }
-    ensures turn { Turns E.Entries realm.old realm.new result
+    ensures turn { TurnsTwice E.Entries realm.old realm.new result
         (λ s. on_event realm.old.settings.now s (event_of now (shown_job job.now))) }
 {
     match job.side {
-        Side::Link(link) => realm.on_reply(now, link, octets),
+        Side::Link(link) => realm.on_reply_twice(now, link, octets),
         Side::Peer(_) | Side::Home(_) => {
             let asked = asked_by(realm.settings, job, octets);
-            realm.on_request(now, asked)
+            realm.on_request_twice(now, asked)
         }
     }
 }

@@ -89,7 +89,7 @@ pub fn simulate<A: Allocator + Copy, W: Write>(
         ⊎ IsSimulatedInPart (shown config.now) script.now (W.contents writer.old) (W.contents writer.new) }
 {
     let events = read_script(alloc, script)?;
-    let mut broker = Shards::new(alloc, config)?;
+    let mut broker = Shards::fresh(alloc, config)?;
     let outcome = run(alloc, &mut broker, events.as_slice())?;
     print_outcome(writer, &outcome)
 }

@@ -1,36 +1,35 @@
 use Rattle.std.proofs.Common.{◌<◌, ℕ, length, subst, ap, sym, arith}
-use Rattle.std.specs.Prelude.{◌==◌}
-use Rattle.roam_conf.specs.Shown.{shown}
 use Rattle.roam_tables.specs.Stands.{entries_in}
 use Rattle.roam_tables.proofs.RealmLemmas.{get-read}
-use Rattle.roam_book.specs.RealmState.{RealmState}
-use Rattle.roam_core.specs.Events.{is_in_shard}
 use Rattle.roam_core.specs.ShardRooms.{IsRealmRoom}
-use Rattle.roam_shard.specs.ShardView.{states_in}
-use Rattle.roam_shard.proofs.RoomLemmas.{all-gathered, one-more-gathered}
-use Rattle.roam_shard.proofs.ShardLemmas.{length-states, state-of}
+use Rattle.roam_shard.specs.ShardView.{shown_opening, states_in}
+use Rattle.roam_shard.proofs.RoomLemmas.{all-gathered, one-more-gathered, room_seen}
+use Rattle.roam_shard.proofs.ShardLemmas.{length-states}
 use Rattle.roam_shard.proofs.rooms.room_of_shard.Goals as goal
 
 pub loop-realm-preserved : goal.loop-realm-preserved
 loop-realm-preserved g c =
+    let o = shown_opening c.args.opening.now in
     let realm = c.loop-realm.realm in
     let numbers = c.args.numbers.now in
     let entries = c.args.entries.now in
     let room = c.in_ok-room.room in
-    let states = states_in entries numbers in
-    let at = get-read numbers realm c.index-numbers-realm.result c.loop-realm-test.true c.index-numbers-realm.is in
-    let own = subst (λ (n : ℕ). IsRealmRoom c.args.now (n == c.args.shard) (entries_in entries realm) room) c.shard_of.ensures.value c.in_ok-room.ensures in
-    let shows = ap (λ (s : RealmState). s.entries) (sym (state-of (entries_in entries) realm numbers c.index-numbers-realm.result at)) in
-    let count = length-states (entries_in entries) 0 numbers in
-    let here : realm < length states = omega (arith, c.loop-realm-test.true, count) in
+    let own = c.index-numbers-realm.result in
+    let at = get-read numbers realm own c.loop-realm-test.true c.index-numbers-realm.is in
+    let is = c.requires.own realm own at in
+    let given = subst (λ b. IsRealmRoom c.args.now b (entries_in entries realm) room) c.is_some.ensures c.in_ok-room.ensures.room in
+    let seen = room_seen o c.args.now realm (entries_in entries) numbers own room at is given in
+    let count = length-states o (entries_in entries) 0 numbers in
+    let here : realm < length (states_in o entries numbers) = omega (arith, c.loop-realm-test.true, count) in
     rw c.in_ok-push.ensures.items
-    (one-more-gathered (shown c.args.config.now) c.args.now c.args.shard realm states c.loop-realm.rooms.items c.loop-realm.most _ room
-    c.loop-realm.invariant here (subst (λ es. IsRealmRoom c.args.now (is_in_shard (shown c.args.config.now) c.args.shard realm) es room) shows own) c.in_ok-most.ensures)
+    (one-more-gathered o.config c.args.now o.shard realm (states_in o entries numbers) c.loop-realm.rooms.items c.loop-realm.most _ room
+    c.loop-realm.invariant here seen c.in_ok-room.ensures.twice c.in_ok-most.ensures)
 
 pub returns-clause-rooms : goal.returns-clause-rooms
 returns-clause-rooms g c =
+    let o = shown_opening c.args.opening.now in
     let numbers = c.args.numbers.now in
     let entries = c.args.entries.now in
-    let count = length-states (entries_in entries) 0 numbers in
-    all-gathered (shown c.args.config.now) c.args.now c.args.shard c.loop-realm.realm (states_in entries numbers) c.loop-realm.rooms.items c.loop-realm.most c.loop-realm.invariant
+    let count = length-states o (entries_in entries) 0 numbers in
+    all-gathered o.config c.args.now o.shard c.loop-realm.realm (states_in o entries numbers) c.loop-realm.rooms.items c.loop-realm.most c.loop-realm.invariant
     (omega (arith, count, c.loop-realm-test.false, c.loop-realm.auto.realm-end))

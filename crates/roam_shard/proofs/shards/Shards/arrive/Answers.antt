@@ -6,17 +6,18 @@ use Rattle.roam_conf.specs.Shown.{shown}
 use Rattle.roam_route.specs.Admission.{admission}
 use Rattle.roam_route.specs.Shown.{WantsMemory, shown_arrival}
 use Rattle.roam_core.specs.BrokerView.{BrokerView}
-use Rattle.roam_shard.proofs.ShardLemmas.{refusal_gives, refusal_of, refusal_wants, shards_whole}
+use Rattle.roam_shard.proofs.AcrossLemmas.{whole_across}
+use Rattle.roam_shard.proofs.LostLemmas.{refusal_gives, refusal_of, refusal_wants}
 use Rattle.roam_shard.proofs.shards.Shards.arrive.Goals as goal
 
 pub returns-in-Ok-Job-clause-whole : goal.returns-in-Ok-Job-clause-whole
-returns-in-Ok-Job-clause-whole g c = shards_whole (shown c.self.inside.config.now) c.self.inside.entries c.self.inside.numbers.items c.args.self.now c.self.invariant c.self.view_is
+returns-in-Ok-Job-clause-whole g c = whole_across (shown c.self.inside.config.now) c.self.inside.shards.items c.args.self.now c.self.view_is
 
 pub returns-in-Ok-Reject-clause-whole : goal.returns-in-Ok-Reject-clause-whole
-returns-in-Ok-Reject-clause-whole g c = shards_whole (shown c.self.inside.config.now) c.self.inside.entries c.self.inside.numbers.items c.args.self.now c.self.invariant c.self.view_is
+returns-in-Ok-Reject-clause-whole g c = whole_across (shown c.self.inside.config.now) c.self.inside.shards.items c.args.self.now c.self.view_is
 
 pub returns-in-Err-clause-whole : goal.returns-in-Err-clause-whole
-returns-in-Err-clause-whole g c = shards_whole (shown c.self.inside.config.now) c.self.inside.entries c.self.inside.numbers.items c.args.self.now c.self.invariant c.self.view_is
+returns-in-Err-clause-whole g c = whole_across (shown c.self.inside.config.now) c.self.inside.shards.items c.args.self.now c.self.view_is
 
 pub returns-in-Err-clause-turn : goal.returns-in-Err-clause-turn
 returns-in-Err-clause-turn g c =

@@ -1,81 +1,68 @@
--- A job goes to its realm, which is there.
-use Rattle.std.proofs.Common.{◌<◌, ◌∙◌, length, ap, sym, subst, arith, rules}
-use Rattle.std.proofs.lemmas.List.{length-map}
+-- A job goes to the shard of its realm.
+use Rattle.std.proofs.Common.{◌≡◌, ◌%◌, ◌==◌, ◌<◌, true, length, set, ap, sym, subst, ◌∙◌, arith}
+use Rattle.std.proofs.lemmas.Bool.Decides.{nat_tests}
 use Rattle.roam_conf.specs.Config.{ConfigView}
 use Rattle.roam_conf.specs.Shown.{shown}
-use Rattle.roam_conf.specs.Parts.{shown_realm}
 use Rattle.roam_route.specs.Events.{IsEvent}
 use Rattle.roam_route.specs.Shown.{shown_job}
+use Rattle.roam_route.specs.Admission.{admitted}
 use Rattle.roam_route.proofs.EventLemmas.{event_realm}
 use Rattle.roam_tables.proofs.RealmLemmas.{get-read}
-use Rattle.roam_wire.specs.Packet.{AreOctets}
-use Rattle.roam_book.specs.OneRealm.{event_of, on_event}
-use Rattle.roam_book.specs.RealmConfig.{realm_config}
-use Rattle.roam_book.proofs.JobLemmas.{job_of_book}
 use Rattle.roam_core.specs.BrokerView.{BrokerView}
-use Rattle.roam_shard.proofs.ShardLemmas.{realm_kept, realm_list, realm_sound, shards_seen, shards_written}
+use Rattle.roam_core.specs.Events.{is_in_shard}
+use Rattle.roam_core.specs.ManyRealms.{to_arrival}
+use Rattle.roam_core.specs.Steps.{GivesAnswer}
+use Rattle.roam_shard.specs.Across.{all_states}
+use Rattle.roam_shard.specs.Twins.{GivesTwin}
+use Rattle.roam_shard.proofs.AcrossLemmas.{gives_across, job_length, still_sharded}
 use Rattle.roam_shard.proofs.shards.Shards.give.Goals as goal
 
-pub new-settings-requires : goal.new-settings-requires
-new-settings-requires g c =
-    let realms = event_realm c.args.self.now.config (shown_job c.args.job.now) c.requires in
-    let same = ap (λ (v : BrokerView). length v.config.realms) c.self.view_is in
-    let count = length-map c.self.inside.config.now.realms.items shown_realm in
-    omega (arith, realms, same, count, c.self.inside.config.now.realms.ok.0)
-
-pub index_mut-numbers-requires : goal.index_mut-numbers-requires
-index_mut-numbers-requires g c =
-    let realms = event_realm c.args.self.now.config (shown_job c.args.job.now) c.requires in
-    let same = ap (λ (v : BrokerView). length v.config.realms) c.self.view_is in
-    omega (arith, realms, same, c.from.ensures, c.self.invariant.count, c.self.inside.numbers.ok.0)
-
-pub given-requires-clause-realm : goal.given-requires-clause-realm
-given-requires-clause-realm g c =
+-- the shard has the broker's configuration
+pub step-requires-clause-event : goal.step-requires-clause-event
+step-requires-clause-event g c =
     let i = c.self.inside in
-    let realms = event_realm c.args.self.now.config (shown_job c.args.job.now) c.requires in
-    let same = ap (λ (v : BrokerView). length v.config.realms) c.self.view_is in
-    let lt : c.from.result < length i.numbers.items = omega (arith, realms, same, c.from.ensures, c.self.invariant.count) in
-    let at = get-read i.numbers.items c.from.result c.index_mut-numbers.result.now lt c.index_mut-numbers.ensures.value in
-    let own = c.new-settings.ensures ∙ ap (realm_config (shown i.config.now)) (sym c.from.ensures) in
-    record {
-      kept_here = realm_kept (shown i.config.now) i.entries i.numbers.items c.self.invariant c.from.result c.index_mut-numbers.result.now at c.new-settings.result own (let count = c.self.invariant.count in omega arith);
-      sound = realm_sound (shown i.config.now) i.entries i.numbers.items c.self.invariant c.from.result c.index_mut-numbers.result.now at c.new-settings.result own;
-      list = realm_list (shown i.config.now) i.entries i.numbers.items c.self.invariant c.from.result c.index_mut-numbers.result.now at c.new-settings.result own;
-    }
-
--- an event of the configuration is a job that the realm takes
-pub given-requires-clause-taken : goal.given-requires-clause-taken
-given-requires-clause-taken g c =
     let job = shown_job c.args.job.now in
-    let config : ConfigView = shown c.self.inside.config.now in
-    let octets : AreOctets job.octets = subst AreOctets c.as_slice-octets.ensures (λ i. omega (arith, c.type_inv.octets i)) in
-    let event : IsEvent config job = rw (← c.self.view_is) at c.requires in
-    job_of_book config job job.realm c.new-settings.result octets event (search rules) c.new-settings.ensures
+    let lt : c.from.result < length i.shards.items = omega (arith, c.from.ensures, c.shard_of-shard.ensures.bound, c.self.invariant.count) in
+    let at = get-read i.shards.items c.from.result c.index_mut.result.now lt c.index_mut.ensures.value in
+    let same = (c.self.invariant.each c.from.result c.index_mut.result.now at).same_config in
+    let event = subst (λ (v : BrokerView). IsEvent v.config job) (sym c.self.view_is) c.requires in
+    subst (λ (x : ConfigView). IsEvent x job) (sym same) event
+
+-- the realm is one of the shard's
+pub step-requires-clause-own : goal.step-requires-clause-own
+step-requires-clause-own g c =
+    let i = c.self.inside in
+    let lt : c.from.result < length i.shards.items = omega (arith, c.from.ensures, c.shard_of-shard.ensures.bound, c.self.invariant.count) in
+    let at = get-read i.shards.items c.from.result c.index_mut.result.now lt c.index_mut.ensures.value in
+    let own = c.self.invariant.each c.from.result c.index_mut.result.now at in
+    let here : c.args.job.now.realm % (shown i.config.now).shards ≡ c.from.result = sym (c.from.ensures ∙ c.shard_of-shard.ensures.value) in
+    let is : is_in_shard (shown i.config.now) c.from.result c.args.job.now.realm ≡ true = grind (arith, nat_tests, here) in
+    subst (λ (x : ConfigView). is_in_shard x c.index_mut.result.now.opening.shard c.args.job.now.realm ≡ true) (sym own.same_config)
+    (subst (λ n. is_in_shard (shown i.config.now) n c.args.job.now.realm ≡ true) (sym own.own_number) is)
 
 pub invariant_of-self : goal.invariant_of-self
 invariant_of-self g c =
     let i = c.self.inside in
-    let realms = event_realm c.args.self.now.config (shown_job c.args.job.now) c.requires in
-    let same = ap (λ (v : BrokerView). length v.config.realms) c.self.view_is in
-    let lt : c.from.result < length i.numbers.items = omega (arith, realms, same, c.from.ensures, c.self.invariant.count) in
-    let at = get-read i.numbers.items c.from.result c.index_mut-numbers.result.now lt c.index_mut-numbers.ensures.value in
-    let own = c.new-settings.ensures ∙ ap (realm_config (shown i.config.now)) (sym c.from.ensures) in
-    let rest = c.given.ensures.turn.rest in
-    let new = c.given.new.realm in
-    shards_written (shown i.config.now) i.entries i.numbers.items c.self.invariant c.from.result c.index_mut-numbers.result.now at c.new-settings.result own
-    new.entries.now new.numbers.now new.settings.now rest.loans.settings rest.loans.keeps rest.others _ (search rules) lt rest.realm.sound rest.realm.list
+    let config : ConfigView = shown i.config.now in
+    let old = c.index_mut.result.now in
+    let lt : c.from.result < length i.shards.items = omega (arith, c.from.ensures, c.shard_of-shard.ensures.bound, c.self.invariant.count) in
+    let at = get-read i.shards.items c.from.result old lt c.index_mut.ensures.value in
+    let many = job_length c.step.result old.opening.config old.states c.step.new.self.states c.args.now (shown_job c.args.job.now) c.step.ensures.turn in
+    still_sharded config i.shards.items c.from.result old c.step.new.self at lt c.self.invariant c.step.ensures.opening many
 
 pub returns-clause-turn : goal.returns-clause-turn
 returns-clause-turn g c =
     let i = c.self.inside in
-    let realms = event_realm c.args.self.now.config (shown_job c.args.job.now) c.requires in
-    let same = ap (λ (v : BrokerView). length v.config.realms) c.self.view_is in
-    let lt : c.from.result < length i.numbers.items = omega (arith, realms, same, c.from.ensures, c.self.invariant.count) in
-    let at = get-read i.numbers.items c.from.result c.index_mut-numbers.result.now lt c.index_mut-numbers.ensures.value in
-    let own = c.new-settings.ensures ∙ ap (realm_config (shown i.config.now)) (sym c.from.ensures) in
-    let turn = c.given.ensures.turn in
-    let new = c.given.new.realm in
+    let config : ConfigView = shown i.config.now in
     let job = shown_job c.args.job.now in
-    shards_seen (shown i.config.now) i.entries i.numbers.items c.self.invariant c.from.result c.index_mut-numbers.result.now at c.new-settings.result own
-    new.entries.now new.numbers.now new.settings.now turn.rest.loans.settings turn.rest.loans.keeps turn.rest.others (λ x s. on_event x s (event_of c.args.now job)) c.given.result
-    c.args.self.now c.self.view_is c.args.job.now.realm c.from.ensures _ (search rules) turn.gives
+    let old = c.index_mut.result.now in
+    let new = c.step.new.self in
+    let lt : c.from.result < length i.shards.items = omega (arith, c.from.ensures, c.shard_of-shard.ensures.bound, c.self.invariant.count) in
+    let at = get-read i.shards.items c.from.result old lt c.index_mut.ensures.value in
+    let own = c.self.invariant.each c.from.result old at in
+    let here : c.args.job.now.realm % config.shards ≡ c.from.result = sym (c.from.ensures ∙ c.shard_of-shard.ensures.value) in
+    let event = subst (λ (v : BrokerView). IsEvent v.config job) (sym c.self.view_is) c.requires in
+    let realm = event_realm config job event in
+    let told = subst (λ (x : ConfigView). GivesTwin c.step.result old.states new.states (to_arrival x old.states c.args.now (admitted job))) own.same_config c.step.ensures.turn in
+    let seen = gives_across config i.shards.items c.from.result old new at lt c.step.result c.first.result c.args.now job realm here own.whole c.first.ensures told in
+    subst (λ (v : BrokerView). GivesAnswer c.first.result v.states (all_states config (set i.shards.items c.from.result new)) (to_arrival v.config v.states c.args.now (admitted job))) c.self.view_is seen

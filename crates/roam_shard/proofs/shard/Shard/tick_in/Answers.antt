@@ -1,0 +1,102 @@
+-- The loop over the rooms: each realm has its part in its turn.
+use Rattle.std.specs.Vec.Iter.{into_iter_items}
+use Rattle.std.proofs.Common.{◌≡◌, ◌++◌, List, refl, sym, ap, subst, ◌∙◌, arith, length, set}
+use Rattle.roam_conf.specs.Config.{ConfigView}
+use Rattle.roam_route.specs.Admission.{PlainOut}
+use Rattle.roam_book.specs.Turn.{packets_of, shown_outs, state_after}
+use Rattle.roam_core.specs.ManyRealms.{state_at}
+use Rattle.roam_core.specs.ShardRooms.{most_of_all, turn_in}
+use Rattle.roam_core.proofs.ShardLemmas.{ticking-start, ticking-next, ticking-turn, ticking-end, nothing-left}
+use Rattle.roam_shard.specs.ShardView.{OpeningView}
+use Rattle.roam_shard.specs.Rooms.{HasPlaces}
+use Rattle.roam_shard.proofs.TickLemmas.{next_own, next_twice}
+use Rattle.roam_shard.proofs.shard.Shard.tick_in.Goals as goal
+
+-- all rooms are left
+pub loop-room-init : goal.loop-room-init
+loop-room-init g c =
+    let iter = c.into_iter-room-iterator.ensures.into_iter_gives in
+    record {
+      ticking = rw (iter.0, c.requires.sent) (ticking-start c.args.self.now.opening.config c.args.now c.args.self.now.states c.args.room.rooms.items c.requires.rooms);
+      copies = rw (c.requires.sent, c.requires.copies) refl;
+      opening = refl;
+      rooms = rw (iter.0) (record { own = c.requires.own; twice = c.requires.twice; places = c.requires.places });
+      left = iter.1 ∙ c.args.room.rooms.ok.0 ∙ ap length (sym iter.0);
+      count = omega (arith, ap length (iter.0));
+    }
+
+-- the next room is the next realm's
+pub tick_one-requires-clause-there : goal.tick_one-requires-clause-there
+tick_one-requires-clause-there g c =
+    (ticking-next _ _ _ _ _ _ _ _ _ c.in-Some.room c.in-Some.ensures.steps.0 c.loop-room.invariant.ticking).there
+
+pub tick_one-requires-clause-own : goal.tick_one-requires-clause-own
+tick_one-requires-clause-own g c =
+    let inv = c.loop-room.invariant in
+    let own = (next_own c.args.self.now.opening c.loop-room.realm _ _ c.in-Some.room c.in-Some.ensures.steps.0 inv.rooms.own).0 in
+    rw inv.opening own
+
+pub tick_one-requires-clause-room : goal.tick_one-requires-clause-room
+tick_one-requires-clause-room g c =
+    (ticking-next _ _ _ _ _ _ _ _ _ c.in-Some.room c.in-Some.ensures.steps.0 c.loop-room.invariant.ticking).fits
+
+pub tick_one-requires-clause-twice : goal.tick_one-requires-clause-twice
+tick_one-requires-clause-twice g c =
+    (next_twice _ _ c.in-Some.room c.in-Some.ensures.steps.0 c.loop-room.invariant.rooms.twice).0
+
+pub tick_one-requires-clause-places : goal.tick_one-requires-clause-places
+tick_one-requires-clause-places g c =
+    let has = c.loop-room.invariant.rooms.places in
+    let fewer = ap most_of_all c.in-Some.ensures.steps.0 in
+    record { sent = omega (arith, has.sent, fewer); copies = omega (arith, has.copies, fewer) }
+
+pub overflow_add-realm : goal.overflow_add-realm
+overflow_add-realm g c =
+    let one = ap length c.in-Some.ensures.steps.0 in
+    omega (arith, one, c.loop-room.invariant.count, c.args.room.rooms.ok.0)
+
+-- that realm had its part
+pub loop-room-preserved : goal.loop-room-preserved
+loop-room-preserved g c =
+    let inv = c.loop-room.invariant in
+    let steps = c.in-Some.ensures.steps in
+    let one = c.tick_one.ensures in
+    let short = ap length steps.0 in
+    let states = c.loop-room.self.states in
+    let realm = c.loop-room.realm in
+    let packets = subst (λ (o : OpeningView). shown_outs c.tick_one.new.both.sent.items ≡ shown_outs c.loop-room.both.sent.items ++ packets_of (turn_in o.config c.args.now realm (state_at states realm) c.in-Some.room)) inv.opening one.packets in
+    let stand = subst (λ (o : OpeningView). c.tick_one.new.self.states ≡ set states realm (state_after (state_at states realm) (turn_in o.config c.args.now realm (state_at states realm) c.in-Some.room))) inv.opening one.states in
+    let has = subst (λ (n : _). HasPlaces n c.loop-room.both) (ap most_of_all steps.0) inv.rooms.places in
+    record {
+      ticking = ticking-turn _ _ _ _ _ _ _ _ _ _ _ c.in-Some.room steps.0 inv.ticking packets stand;
+      copies = one.copies
+          ∙ ap (λ (l : List PlainOut). l ++ packets_of (turn_in c.loop-room.self.opening.config c.args.now realm (state_at states realm) c.in-Some.room)) inv.copies
+          ∙ sym one.packets;
+      opening = one.opening ∙ inv.opening;
+      rooms = record {
+        own = (next_own c.args.self.now.opening realm _ _ c.in-Some.room steps.0 inv.rooms.own).1;
+        twice = (next_twice _ _ c.in-Some.room steps.0 inv.rooms.twice).1;
+        places = one.places _ has;
+      };
+      left = omega (arith, short, steps.1, inv.left);
+      count = omega (arith, short, inv.count);
+    }
+
+-- all realms had their part
+pub returns-clause-packets : goal.returns-clause-packets
+returns-clause-packets g c =
+    let inv = c.loop-room.invariant in
+    let none = nothing-left (into_iter_items c.loop-room.room-iterator) (sym inv.left ∙ c.in-None.ensures.steps.0) in
+    ap (λ v. shown_outs v.items) c.into_twin.ensures.sent ∙ (ticking-end _ _ _ _ _ _ _ _ none inv.ticking).packets
+
+pub returns-clause-copies : goal.returns-clause-copies
+returns-clause-copies g c =
+    let inv = c.loop-room.invariant in
+    let none = nothing-left (into_iter_items c.loop-room.room-iterator) (sym inv.left ∙ c.in-None.ensures.steps.0) in
+    ap (λ v. shown_outs v.items) c.into_twin.ensures.copies ∙ inv.copies ∙ (ticking-end _ _ _ _ _ _ _ _ none inv.ticking).packets
+
+pub returns-clause-states : goal.returns-clause-states
+returns-clause-states g c =
+    let inv = c.loop-room.invariant in
+    let none = nothing-left (into_iter_items c.loop-room.room-iterator) (sym inv.left ∙ c.in-None.ensures.steps.0) in
+    (ticking-end _ _ _ _ _ _ _ _ none inv.ticking).stand

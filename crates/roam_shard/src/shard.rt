@@ -1,0 +1,253 @@
+//! One shard of the broker: its realms' entries in shared tables.
+
+ghost use Rattle.std.specs.Prelude.{◌≡◌, ℕ, ◌+◌, ◌<◌, ◌≤◌, ◌^◌, ◌++◌, [], None, Some, true, length, slice_set, IfOk, IsOk, vec_len};
+ghost use Rattle.roam_conf.specs.Shown.{shown};
+ghost use Rattle.roam_route.specs.Admission.{admitted};
+ghost use Rattle.roam_route.specs.Events.{IsEvent};
+ghost use Rattle.roam_route.specs.Shown.{shown_job};
+ghost use Rattle.roam_book.specs.OneRealm.{event_of, on_event};
+ghost use Rattle.roam_book.specs.OnTick.{on_tick};
+ghost use Rattle.roam_book.specs.RealmConfig.{realm_config};
+ghost use Rattle.roam_book.specs.Rooms.{IsRoomFor};
+ghost use Rattle.roam_book.specs.Turn.{packets_of, shown_outs, state_after};
+ghost use Rattle.roam_core.specs.Events.{is_in_shard};
+ghost use Rattle.roam_core.specs.ManyRealms.{state_at, to_arrival, to_tick};
+ghost use Rattle.roam_core.specs.Openings.{openings};
+ghost use Rattle.roam_core.specs.ShardRooms.{AllFit, Fits, most_of, most_of_all, tick_in, turn_in};
+ghost use Rattle.roam_shard.specs.Rooms.{AllTwice, HasPlaces, IsTwice};
+ghost use Rattle.roam_shard.specs.ShardView.{AreStarts, IsStart, shown_opening};
+ghost use Rattle.roam_shard.specs.Twins.{AreOwnRooms, GivesTwin, IsOwnRoom, NothingDue};
+
+use crate::dues::any_due;
+use crate::numbers::opened_numbers;
+use crate::opening::Opening;
+use crate::rooms::{ShardRoom, room_of_shard};
+use crate::ticking::Both;
+use crate::turns::given;
+use roam_book::{LATEST, Numbers, Realm, Room, Settings, Start, Twin, refused};
+use roam_conf::Config;
+use roam_route::Job;
+use roam_tables::Tables;
+use roam_wire::{NoMemory, Refusal};
+use std::alloc::Allocator;
+use std::marker::Model;
+
+/// One shard of the broker: the realms whose index is the shard's number modulo the number of shards,
+/// with their entries in shared tables. Contracts see how it began, and the state of each realm in the
+/// order of their indexes; a realm of another shard stays as it began.
+#[derive(Drop)]
+pub struct Shard<'c, A: Allocator> {
+    alloc: A,
+    opening: Opening<'c, A>,
+    entries: Tables<A>,
+    /// The numbers that each of the shard's own realms hands out, by the index of the realm.
+    numbers: Vec<Option<Numbers<A>>, A>,
+}
+
+impl<'c, A: Allocator> Model for Shard<'c, A> {
+    ghost use Rattle.roam_shard.specs.ShardView.{ShardView, IsShard, shown_opening, states_in};
+
+    ghost Value = { ShardView };
+
+    ghost view = { λ s. record {
+      opening = shown_opening s.opening;
+      states = states_in (shown_opening s.opening) s.entries s.numbers.items;
+    } };
+
+    ghost invariant = { λ s. IsShard (shown_opening s.opening) s.entries s.numbers.items };
+}
+
+/// An answer that refuses, twice. Takes no memory.
+fn refused_twice<A: Allocator + Copy>(alloc: A, why: Refusal) -> Twin<A>
+    ensures outs { shown_outs result.answer.outs.items ≡ [] }
+    ensures refusal { result.answer.refusal ≡ Some why }
+    ensures copies { shown_outs result.copy.outs.items ≡ [] }
+    ensures copy_refusal { result.copy.refusal ≡ Some why }
+{
+    Twin {
+        answer: refused(alloc, why),
+        copy: refused(alloc, why),
+    }
+}
+
+impl<'c, A: Allocator + Copy> Shard<'c, A> {
+    /// A shard with no request pending: each of its realms begins at its start. There is one start
+    /// for each realm, by its index, and a copy is kept. `NoMemory` comes where a growth was refused;
+    /// nothing of the shard is left then.
+    pub fn new(
+        alloc: A,
+        config: &'c Config,
+        shard: u16,
+        starts: &[Start],
+    ) -> Result<Shard<'c, A>, NoMemory>
+        requires shard { shard < config.now.shards }
+        requires starts { AreStarts (shown config.now) starts.now }
+        ensures opening { IfOk result (λ s. s.opening
+            ≡ record { shard = shard; config = shown config.now; starts = starts.now }) }
+        ensures states { IfOk result (λ s. s.states ≡ openings (shown config.now) starts.now) }
+    {
+        let numbers = opened_numbers(alloc, config, shard, starts)?;
+        let entries = Tables::new(alloc, config.realms.len())?;
+        let starts = Vec::from_slice(alloc, starts)?;
+        Ok(Shard {
+            alloc,
+            opening: Opening {
+                shard,
+                config,
+                starts,
+            },
+            entries,
+            numbers,
+        })
+    }
+
+    /// How the shard began. Takes no memory.
+    pub fn opening(&self) -> &Opening<'c, A>
+        ensures { shown_opening result.now ≡ self.now.opening }
+    {
+        &self.opening
+    }
+
+    /// Where a realm of the shard would begin that went on from here, if no request were pending: its
+    /// place in the stream of random words, and its next ticket. Takes no memory.
+    pub fn start(&self, realm: u16) -> Start
+        requires configured { realm < length self.now.opening.config.realms }
+        requires own { is_in_shard self.now.opening.config self.now.opening.shard realm ≡ true }
+        ensures place { result.place ≡ (state_at self.now.states realm).stream_position }
+        ensures ticket { result.ticket ≡ (state_at self.now.states realm).ticket }
+        ensures start { IsStart result }
+    {
+        let Some(numbers) = &self.numbers[usize::from(realm)] else {
+            unreachable!();
+        };
+        numbers.start()
+    }
+
+    /// Gives a job to its realm, at a moment in milliseconds: the answer twice, one to send and one to
+    /// keep. See `Book::request` and `Book::reply` for the refusals. `NoMemory` comes where a growth
+    /// was refused, and the shard is then as it was; where no packet is sent no memory is wanted.
+    pub fn step(&mut self, now: u64, job: &Job<A>) -> Result<Twin<A>, NoMemory>
+        requires event { IsEvent self.old.opening.config (shown_job job.now) }
+        requires own { is_in_shard self.old.opening.config self.old.opening.shard job.now.realm ≡ true }
+        ensures turn { GivesTwin result self.old.states self.new.states
+            (to_arrival self.old.opening.config self.old.states now (admitted (shown_job job.now))) }
+        ensures succeeds { packets_of (on_event (realm_config self.old.opening.config job.now.realm)
+            (state_at self.old.states job.now.realm) (event_of now (shown_job job.now))) ≡ []
+            → IsOk result }
+        ensures opening { self.new.opening ≡ self.old.opening }
+    {
+        let settings = Settings::new(self.opening.config, job.realm);
+        let octets = job.octets.as_slice();
+        let Some(numbers) = &mut self.numbers[usize::from(job.realm)] else {
+            unreachable!();
+        };
+        let mut realm = Realm {
+            settings: &settings,
+            entries: &mut self.entries,
+            numbers,
+        };
+        given(&mut realm, now, job, octets)
+    }
+
+    /// A tick of one realm, in the room that was made for it. Takes no memory.
+    fn tick_realm(&mut self, now: u64, realm: usize, room: Room<A>) -> Twin<A>
+        requires there { realm < length self.old.states }
+        requires own { is_in_shard self.old.opening.config self.old.opening.shard realm ≡ true }
+        requires room { IsRoomFor now (state_at self.old.states realm).entries room }
+        requires twice { room.outs.twice ≡ true }
+        ensures packets { shown_outs result.answer.outs.items ≡ packets_of
+            (on_tick (realm_config self.old.opening.config realm) now (state_at self.old.states realm)) }
+        ensures copies { shown_outs result.copy.outs.items ≡ packets_of
+            (on_tick (realm_config self.old.opening.config realm) now (state_at self.old.states realm)) }
+        ensures states { self.new.states ≡ slice_set self.old.states realm
+            (state_after (state_at self.old.states realm)
+            (on_tick (realm_config self.old.opening.config realm) now (state_at self.old.states realm))) }
+        ensures opening { self.new.opening ≡ self.old.opening }
+        ensures most { length result.answer.outs.items ≤ length room.slots.items }
+    {
+        let settings = Settings::new(self.opening.config, realm as u16);
+        let Some(numbers) = &mut self.numbers[realm] else {
+            unreachable!();
+        };
+        let mut one = Realm {
+            settings: &settings,
+            entries: &mut self.entries,
+            numbers,
+        };
+        one.on_tick_twice(now, room)
+    }
+
+    /// A realm's part of a tick, in the room that was made for it, if one was. Takes no memory.
+    fn tick_one(&mut self, now: u64, realm: usize, room: Option<Room<A>>, both: &mut Both<A>)
+        requires there { realm < length self.old.states }
+        requires own { IsOwnRoom self.old.opening realm room }
+        requires room { Fits now (state_at self.old.states realm).entries room }
+        requires twice { IsTwice room }
+        requires places { HasPlaces (most_of room) both.old }
+        ensures packets { shown_outs both.new.sent.items ≡ shown_outs both.old.sent.items ++ packets_of
+            (turn_in self.old.opening.config now realm (state_at self.old.states realm) room) }
+        ensures copies { shown_outs both.new.copies.items ≡ shown_outs both.old.copies.items ++ packets_of
+            (turn_in self.old.opening.config now realm (state_at self.old.states realm) room) }
+        ensures states { self.new.states ≡ slice_set self.old.states realm
+            (state_after (state_at self.old.states realm)
+            (turn_in self.old.opening.config now realm (state_at self.old.states realm) room)) }
+        ensures opening { self.new.opening ≡ self.old.opening }
+        ensures places { (n : ℕ) → HasPlaces (most_of room + n) both.old → HasPlaces n both.new }
+    {
+        let Some(room) = room else {
+            return;
+        };
+        let twin = self.tick_realm(now, realm, room);
+        both.append(twin);
+    }
+
+    /// A tick of the realms that have a room, in rising index. Takes no memory.
+    fn tick_in(&mut self, now: u64, room: ShardRoom<A>) -> Twin<A>
+        requires rooms { AllFit now self.old.states room.rooms.items }
+        requires own { AreOwnRooms self.old.opening 0 room.rooms.items }
+        requires twice { AllTwice room.rooms.items }
+        requires sent { room.both.sent.items ≡ [] }
+        requires copies { room.both.copies.items ≡ [] }
+        requires places { HasPlaces (most_of_all room.rooms.items) room.both }
+        ensures packets { shown_outs result.answer.outs.items
+            ≡ (tick_in self.old.opening.config now 0 self.old.states room.rooms.items).packets }
+        ensures copies { shown_outs result.copy.outs.items
+            ≡ (tick_in self.old.opening.config now 0 self.old.states room.rooms.items).packets }
+        ensures refusal { result.answer.refusal ≡ None }
+        ensures copy_refusal { result.copy.refusal ≡ None }
+        ensures states { self.new.states
+            ≡ (tick_in self.old.opening.config now 0 self.old.states room.rooms.items).states }
+        ensures opening { self.new.opening ≡ self.old.opening }
+    {
+        let ShardRoom { rooms, mut both } = room;
+        let mut realm = 0;
+        for room in rooms {
+            self.tick_one(now, realm, room, &mut both);
+            realm += 1;
+        }
+        both.into_twin()
+    }
+
+    /// A tick of the shard, at a moment in milliseconds: its realms in rising index, each of whose due
+    /// entries is taken once, in order of deadline and ticket. The answer is given twice. Refused
+    /// where the moment is above 2^62 milliseconds (`Moment`).
+    ///
+    /// All memory is taken before anything changes: `NoMemory` comes where a growth was refused, and
+    /// the shard is then as it was. Where nothing is due no memory is wanted.
+    pub fn tick(&mut self, now: u64) -> Result<Twin<A>, NoMemory>
+        ensures turn { GivesTwin result self.old.states self.new.states
+            (to_tick self.old.opening.config self.old.states now self.old.opening.shard) }
+        ensures nothing_due { NothingDue now self.old.states → IsOk result }
+        ensures too_late { 2 ^ 62 < now → IsOk result }
+        ensures opening { self.new.opening ≡ self.old.opening }
+    {
+        if now > LATEST {
+            return Ok(refused_twice(self.alloc, Refusal::Moment));
+        }
+        if !any_due(&self.entries, &self.numbers, now) {
+            return Ok(Both::none(self.alloc).into_twin());
+        }
+        let room = room_of_shard(self.alloc, &self.opening, &self.entries, &self.numbers, now)?;
+        Ok(self.tick_in(now, room))
+    }
+}
