@@ -1,28 +1,31 @@
 //! Whether receipts stand in what was recorded.
 
-ghost use Rattle.std.specs.Prelude.{◌≡◌, ◌↔◌, ◌<◌, IsTrue, length};
+ghost use Rattle.std.specs.Prelude.{◌≡◌, ◌↔◌, IsTrue, false};
 ghost use Rattle.std.specs.List.{All};
 ghost use Rattle.roam_audit.specs.Shown.{recorded, shown_receipt, shown_receipts};
-ghost use Rattle.roam_audit.specs.Audit.{Stands, AreOfOneCall, IsRightAt};
-ghost use Rattle.roam_audit.specs.Findings.{FindsWrong};
+ghost use Rattle.roam_audit.specs.Audit.{Stands, are_of_one_call};
+ghost use Rattle.roam_audit.specs.Findings.{IsRightAfter, FindsWrong};
 
 use crate::audit_fault::AuditFault;
 use crate::receipt::Receipt;
 use crate::report::Report;
 use std::alloc::Allocator;
 
-/// Whether no receipt of these is of the call of another one.
-fn is_alone<A: Allocator>(before: &[Receipt<A>], receipt: &Receipt<A>) -> bool
-    ensures { IsTrue result ↔ All
-        (λ earlier. ¬ AreOfOneCall earlier (shown_receipt receipt.now))
-        (shown_receipts before.now) }
+/// Whether two receipts are of one call.
+fn are_of_one_call<A: Allocator>(one: &Receipt<A>, other: &Receipt<A>) -> bool
+    ensures { result ≡ are_of_one_call (shown_receipt one.now) (shown_receipt other.now) }
 {
-    for earlier in before {
-        if earlier.shard == receipt.shard && earlier.number == receipt.number {
-            return false;
-        }
-    }
-    true
+    one.shard == other.shard && one.number == other.number
+}
+
+/// Whether none of these receipts is of the call of another one.
+fn is_alone<A: Allocator>(before: &[Receipt<A>], receipt: &Receipt<A>) -> bool
+    ensures { IsTrue result ↔ All (λ earlier. are_of_one_call (shown_receipt earlier)
+        (shown_receipt receipt.now) ≡ false) before.now }
+{
+    before
+        .iter()
+        .all(|earlier| !are_of_one_call(earlier, receipt))
 }
 
 impl<A: Allocator> Report<A> {
@@ -39,13 +42,12 @@ impl<A: Allocator> Report<A> {
         }
     }
 
-    /// Whether the receipt of that place is right after those before it.
-    fn is_right_at(&self, receipts: &[Receipt<A>], place: usize) -> bool
-        requires { place < length receipts.now }
-        ensures { IsTrue result ↔ IsRightAt (recorded self.now) (shown_receipts receipts.now) place }
+    /// Whether a receipt is right after others.
+    fn is_right(&self, before: &[Receipt<A>], receipt: &Receipt<A>) -> bool
+        ensures { IsTrue result ↔ IsRightAfter (recorded self.now) (shown_receipts before.now)
+            (shown_receipt receipt.now) }
     {
-        let receipt = &receipts[place];
-        self.has(receipt) && is_alone(receipts.split_at(place).0, receipt)
+        self.has(receipt) && is_alone(before, receipt)
     }
 
     /// Compares each receipt in turn with the steps, and with the receipts before it.
@@ -53,8 +55,8 @@ impl<A: Allocator> Report<A> {
         ensures { FindsWrong (recorded self.now) (shown_receipts receipts.now) result }
     {
         for place in 0..receipts.len() {
-            if !self.is_right_at(receipts, place) {
-                let receipt = &receipts[place];
+            let receipt = &receipts[place];
+            if !self.is_right(receipts.split_at(place).0, receipt) {
                 return Err(AuditFault::Receipt {
                     shard: receipt.shard,
                     number: receipt.number,

@@ -23,7 +23,7 @@ impl<A: Allocator> Report<A> {
     ghost use Rattle.std.specs.Prelude.{◌≡◌, ◌↔◌, ℕ, length, Err, IsOk};
     ghost use Rattle.std.specs.List.{All};
     ghost use Rattle.roam_audit.specs.Shown.{recorded, shown_receipts};
-    ghost use Rattle.roam_audit.specs.Audit.{IsInOrder, IsFirstUneven, IsFirstWrong};
+    ghost use Rattle.roam_audit.specs.Audit.{IsInOrder, IsFirstUneven, AreOfFirstWrong};
 
     /// Compares what was recorded with what the callers have. Takes no memory.
     ///
@@ -36,9 +36,12 @@ impl<A: Allocator> Report<A> {
         ensures seats { (shard : ℕ) → (result ≡ Err (AuditFault.Seats shard))
             ↔ IsFirstUneven (recorded self.now) seats.now shard }
         ensures receipt { (shard number : ℕ) → (result ≡ Err (AuditFault.Receipt shard number))
-            ↔ IsFirstWrong (recorded self.now) seats.now (shown_receipts receipts.now) shard number }
+            ↔ AreOfFirstWrong (recorded self.now) seats.now (shown_receipts receipts.now)
+            shard number }
     {
-        self.check_seats(seats)?;
-        self.check_receipts(receipts)
+        match self.check_seats(seats) {
+            Ok(()) => self.check_receipts(receipts),
+            Err(fault) => Err(fault),
+        }
     }
 }

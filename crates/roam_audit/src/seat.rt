@@ -1,7 +1,7 @@
 //! What one caller counts of its calls.
 
 ghost use Rattle.std.specs.Prelude.{◌≡◌, ◌<◌, ◌-◌, ◌^◌, length, IfOk, IfErr};
-ghost use Rattle.roam_audit.specs.Seats.{new_seat, noted};
+ghost use Rattle.roam_audit.specs.Seats.{new_seat, noted, tally_of};
 
 use crate::tally::Tally;
 use roam_wire::NoMemory;
@@ -37,6 +37,22 @@ impl<A: Allocator> Seat<A> {
         ensures { result.now ≡ self.now }
     {
         self.tallies.as_slice()
+    }
+
+    /// How many calls of a shard it counted.
+    pub(crate) fn calls(&self, shard: usize) -> u64
+        requires { shard < length self.now }
+        ensures { result ≡ (tally_of self.now shard).calls }
+    {
+        self.tallies[shard].calls
+    }
+
+    /// Whether it is marked at a shard.
+    pub(crate) fn is_marked(&self, shard: usize) -> bool
+        requires { shard < length self.now }
+        ensures { result ≡ (tally_of self.now shard).is_marked }
+    {
+        self.tallies[shard].is_marked
     }
 
     /// Counts a call that was recorded under this number of the shard. Takes no memory.

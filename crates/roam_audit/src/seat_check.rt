@@ -1,10 +1,10 @@
 //! Whether the seats counted what was recorded.
 
-ghost use Rattle.std.specs.Prelude.{◌≡◌, ◌↔◌, ◌<◌, ℕ, length, vec_len, true, IsTrue};
-ghost use Rattle.std.specs.List.{All, list_any};
+ghost use Rattle.std.specs.Prelude.{◌≡◌, ◌↔◌, ◌<◌, length, vec_len, false, IsTrue};
+ghost use Rattle.std.specs.List.{All};
 ghost use Rattle.roam_audit.specs.Seats.{tally_of};
 ghost use Rattle.roam_audit.specs.Shown.{recorded};
-ghost use Rattle.roam_audit.specs.Audit.{calls_of, Agrees};
+ghost use Rattle.roam_audit.specs.Audit.{steps_of, calls_of, Agrees};
 ghost use Rattle.roam_audit.specs.Findings.{FindsUneven};
 
 use crate::audit_fault::AuditFault;
@@ -19,27 +19,35 @@ fn calls_of<A: Allocator>(seats: &[Seat<A>], shard: usize) -> u128
 {
     let mut calls = 0;
     for seat in seats {
-        calls += u128::from(seat.tallies()[shard].calls);
+        calls += u128::from(seat.calls(shard));
     }
     calls
 }
 
-/// Whether a seat is marked at a shard.
-fn is_marked<A: Allocator>(seats: &[Seat<A>], shard: usize) -> bool
+/// Whether no seat is marked at a shard.
+fn are_unmarked<A: Allocator>(seats: &[Seat<A>], shard: usize) -> bool
     requires { All (λ seat. shard < length seat) seats.now }
-    ensures { result ≡ list_any (λ seat. (tally_of seat shard).is_marked) seats.now }
+    ensures { IsTrue result ↔ All (λ seat. (tally_of seat shard).is_marked ≡ false) seats.now }
 {
-    seats.iter().any(|seat| seat.tallies()[shard].is_marked)
+    seats.iter().all(|seat| !seat.is_marked(shard))
 }
 
 impl<A: Allocator> Report<A> {
+    /// How many steps a shard has.
+    fn steps_at(&self, shard: usize) -> usize
+        requires { shard < vec_len self.now.steps }
+        ensures { result ≡ length (steps_of (recorded self.now) shard) }
+    {
+        self.steps[shard].len()
+    }
+
     /// Whether the seats agree with a shard.
     fn agrees(&self, seats: &[Seat<A>], shard: usize) -> bool
         requires shard { shard < vec_len self.now.steps }
         requires seats { All (λ seat. length seat ≡ vec_len self.now.steps) seats.now }
         ensures { IsTrue result ↔ Agrees (recorded self.now) seats.now shard }
     {
-        !is_marked(seats, shard) && calls_of(seats, shard) == self.steps[shard].len() as u128
+        calls_of(seats, shard) == self.steps_at(shard) as u128 && are_unmarked(seats, shard)
     }
 
     /// Compares the seats with each shard in turn.

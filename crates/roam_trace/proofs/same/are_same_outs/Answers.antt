@@ -1,4 +1,4 @@
-use Rattle.std.proofs.Common.{◌≡◌, IsTrue, ◌<◌, length, arith}
+use Rattle.std.proofs.Common.{IsTrue, ◌<◌, length, arith}
 use Rattle.roam_route.specs.Shown.{shown_out}
 use Rattle.roam_trace.proofs.ListLemmas.{seen_at}
 use Rattle.roam_trace.proofs.same.are_same_outs.Goals as goal
