@@ -14,7 +14,8 @@ steps_of steps shard = slice_index_or steps shard []
 abbrev pub calls_of : List (List Tally) → ℕ → ℕ
 calls_of seats shard = sum_by (λ seat. (tally_of seat shard).calls) seats
 
--- the seats agree with a shard: they counted as many calls as it has steps, and none is marked there
+-- the seats agree with a shard: they counted as many calls as it has steps, and none is marked
+-- there
 pub record Agrees (steps : List (List PlainStep)) (seats : List (List Tally)) (shard : ℕ)
     : Type 0 where
   pub calls : calls_of seats shard ≡ length (steps_of steps shard)
@@ -50,8 +51,8 @@ pub record IsFirstUneven (steps : List (List PlainStep)) (seats : List (List Tal
   pub before : (lower : ℕ) → lower < shard → Agrees steps seats lower
   pub against : ¬ Agrees steps seats shard
 
--- the first receipt that isn't right: those before it are, and with it they aren't. So of two receipts
--- of one call it is the later
+-- the first receipt that isn't right: those before it are, and with it they aren't. So of two
+-- receipts of one call it is the later
 pub record IsFirstWrong (steps : List (List PlainStep)) (receipts : List PlainReceipt)
     (receipt : PlainReceipt) : Type 0 where
   pub place : ℕ
@@ -59,7 +60,8 @@ pub record IsFirstWrong (steps : List (List PlainStep)) (receipts : List PlainRe
   pub before : AreRight steps (take place receipts)
   pub against : ¬ AreRight steps (take (place + 1) receipts)
 
--- the shard and the number of the first receipt that isn't right, where the seats agree with every shard
+-- the shard and the number of the first receipt that isn't right, where the seats agree with every
+-- shard
 pub record AreOfFirstWrong (steps : List (List PlainStep)) (seats : List (List Tally))
     (receipts : List PlainReceipt) (shard number : ℕ) : Type 0 where
   pub agree : AllAgree steps seats

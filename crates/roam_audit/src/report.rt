@@ -27,8 +27,8 @@ impl<A: Allocator> Report<A> {
 
     /// Compares what was recorded with what the callers have. Takes no memory.
     ///
-    /// Each shard is looked at before any receipt. A receipt costs a comparison of its step and a look
-    /// at the receipts before it; without receipts no step is looked at.
+    /// Each shard is looked at before any receipt. A receipt costs a comparison of its step and a
+    /// look at the receipts before it; without receipts no step is looked at.
     pub fn audit(&self, seats: &[Seat<A>], receipts: &[Receipt<A>]) -> Result<(), AuditFault>
         requires { All (λ seat. length seat ≡ vec_len self.now.steps) seats.now }
         ensures ok { IsOk result

@@ -8,8 +8,8 @@ use roam_wire::NoMemory;
 use std::alloc::Allocator;
 use std::marker::Model;
 
-/// Seat: what one caller counts of its recorded calls, for each shard. Contracts see it as the list of
-/// its tallies, by shard.
+/// Seat: what one caller counts of its recorded calls, for each shard. Contracts see it as the list
+/// of its tallies, by shard.
 #[derive(Drop)]
 pub struct Seat<A: Allocator> {
     tallies: Vec<Tally, A>,

@@ -7,8 +7,11 @@ use Rattle.roam_audit.proofs.seat_check.calls_of.Goals as goal
 pub overflow_add-calls : goal.overflow_add-calls
 overflow_add-calls g c = omega arith
 
+-- one seat more
 pub loop-seat-preserved : goal.loop-seat-preserved
 loop-seat-preserved g c =
-    let more = sum_by_more (λ seat. (tally_of seat c.args.shard).calls) c.args.seats.now c.loop-seat.seat-index
+    let seats = c.args.seats.now in
+    let more =
+    sum_by_more (λ seat. (tally_of seat c.args.shard).calls) seats c.loop-seat.seat-index
     c.seat-item.result (omega arith) in
     (cc, omega arith)

@@ -5,14 +5,17 @@ use Rattle.roam_audit.specs.Audit.{are_of_one_call}
 use Rattle.roam_audit.proofs.ListLemmas.{All-map, All-from_map}
 use Rattle.roam_audit.proofs.report.Report.is_right.Goals as goal
 
+-- it stands, so what is left to tell is whether it is alone
 pub returns-then-has : goal.returns-then-has
 returns-then-has g c =
-    let apart = λ (earlier : PlainReceipt). are_of_one_call earlier (shown_receipt c.args.receipt.now) ≡ false in (
+    let receipt = shown_receipt c.args.receipt.now in
+    let before = c.args.before.now in
+    let apart = λ (earlier : PlainReceipt). are_of_one_call earlier receipt ≡ false in (
       λ alone. record {
         stands = c.has.ensures.0 c.if-has.true;
-        alone = All-map shown_receipt apart c.args.before.now (c.is_alone.ensures.0 alone);
+        alone = All-map shown_receipt apart before (c.is_alone.ensures.0 alone);
       },
-      λ right. c.is_alone.ensures.1 (All-from_map shown_receipt apart c.args.before.now right.alone),
+      λ right. c.is_alone.ensures.1 (All-from_map shown_receipt apart before right.alone),
     )
 
 pub returns-else-has : goal.returns-else-has
