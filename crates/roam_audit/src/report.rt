@@ -20,10 +20,19 @@ pub struct Report<A: Allocator> {
 }
 
 impl<A: Allocator> Report<A> {
-    ghost use Rattle.std.specs.Prelude.{◌≡◌, ◌↔◌, ℕ, length, Err, IsOk};
+    ghost use Rattle.std.specs.Prelude.{◌≡◌, ◌↔◌, ℕ, length, Err, IsOk, IsTrue};
     ghost use Rattle.std.specs.List.{All};
     ghost use Rattle.roam_audit.specs.Shown.{recorded, shown_receipts};
     ghost use Rattle.roam_audit.specs.Audit.{IsInOrder, IsFirstUneven, AreOfFirstWrong};
+
+    /// Whether each of these seats has as many shards as there are here, as an audit requires. Takes
+    /// no memory.
+    pub fn takes(&self, seats: &[Seat<A>]) -> bool
+        ensures { IsTrue result ↔ All (λ seat. length seat ≡ vec_len self.now.steps) seats.now }
+    {
+        let shards = self.steps.len();
+        seats.iter().all(|seat| seat.shards() == shards)
+    }
 
     /// Compares what was recorded with what the callers have. Takes no memory.
     ///
