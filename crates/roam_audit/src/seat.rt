@@ -68,17 +68,25 @@ impl<A: Allocator> Seat<A> {
     }
 }
 
+/// A seat that counted no call, for so many shards.
+fn unused<A: Allocator>(alloc: A, shards: usize) -> Result<Seat<A>, NoMemory>
+    ensures { IfOk result (λ s. s ≡ new_seat shards) }
+{
+    let no_calls = Tally {
+        calls: 0,
+        next: 0,
+        is_marked: false,
+    };
+    let tallies = vec![in alloc; no_calls; shards]?;
+    Ok(Seat { tallies })
+}
+
 impl<A: Allocator + Copy> Seat<A> {
     /// A seat that counted no call, for so many shards.
     pub fn new(alloc: A, shards: u16) -> Result<Seat<A>, NoMemory>
         ensures { IfOk result (λ s. s ≡ new_seat shards) }
     {
-        let tallies = vec![in alloc; Tally {
-            calls: 0,
-            next: 0,
-            is_marked: false
-        }; usize::from(shards)]?;
-        Ok(Seat { tallies })
+        unused(alloc, usize::from(shards))
     }
 }
 
@@ -89,14 +97,8 @@ pub fn split<A: Allocator + Copy>(seat: Seat<A>) -> Result<(Seat<A>, Seat<A>), (
     ensures new { IfOk result (λ seats. seats.1 ≡ new_seat (length seat)) }
     ensures err { IfErr result (λ e. e.0 ≡ seat) }
 {
-    let alloc = *seat.tallies.allocator();
-    match vec![in alloc; Tally {
-        calls: 0,
-        next: 0,
-        is_marked: false
-    }; seat.tallies.len()]
-    {
-        Ok(tallies) => Ok((seat, Seat { tallies })),
-        Err(_) => Err((seat, NoMemory)),
+    match unused(*seat.tallies.allocator(), seat.tallies.len()) {
+        Ok(new) => Ok((seat, new)),
+        Err(refused) => Err((seat, refused)),
     }
 }
