@@ -3,6 +3,7 @@
 //! Nothing here touches a socket, a clock or a lock: events, moments and packets are values.
 #![tactic(auto)]
 
+mod same;
 mod step;
 
 pub use step::Step;

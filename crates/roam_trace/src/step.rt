@@ -1,9 +1,10 @@
 //! A step of a history.
 
-ghost use Rattle.std.specs.Prelude.{◌≡◌};
+ghost use Rattle.std.specs.Prelude.{◌≡◌, ◌↔◌, IsTrue};
 ghost use Rattle.roam_core.specs.Shown.{shown_event};
 ghost use Rattle.roam_trace.specs.Steps.{shown_answer};
 
+use crate::same::{is_same_answer, is_same_event};
 use roam_book::Answer;
 use roam_core::Event;
 use std::alloc::Allocator;
@@ -32,5 +33,13 @@ impl<A: Allocator> Step<A> {
         ensures answer { result.answer ≡ shown_answer answer }
     {
         Step { event, answer }
+    }
+
+    /// Whether it is the step of this event and this answer. Takes no memory.
+    pub fn is_of(&self, event: &Event<A>, answer: &Answer<A>) -> bool
+        ensures { IsTrue result ↔ (self.now
+            ≡ record { event = shown_event event.now; answer = shown_answer answer.now }) }
+    {
+        is_same_event(&self.event, event) && is_same_answer(&self.answer, answer)
     }
 }

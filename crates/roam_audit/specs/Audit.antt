@@ -1,0 +1,71 @@
+-- What an audit asks (ours): whether what was recorded, shard by shard, is what the callers have.
+use Rattle.std.specs.Prelude.{◌≡◌, ℕ, ◌+◌, ◌<◌, ◌==◌, ◌&&◌, Bool, List, [], length, take, sum_by, Some, slice_get, slice_index_or, false}
+use Rattle.std.specs.List.{All, AllPairs}
+use Rattle.roam_trace.specs.Steps.{PlainStep}
+use Rattle.roam_audit.specs.declared.tally.Tally.{Tally}
+use Rattle.roam_audit.specs.Seats.{tally_of}
+use Rattle.roam_audit.specs.Receipts.{PlainReceipt}
+
+-- the steps of a shard: none of a shard that isn't there
+abbrev pub steps_of : List (List PlainStep) → ℕ → List PlainStep
+steps_of steps shard = slice_index_or steps shard []
+
+-- how many calls of a shard the seats counted together
+abbrev pub calls_of : List (List Tally) → ℕ → ℕ
+calls_of seats shard = sum_by (λ seat. (tally_of seat shard).calls) seats
+
+-- the seats agree with a shard: they counted as many calls as it has steps, and none is marked
+-- there
+pub record Agrees (steps : List (List PlainStep)) (seats : List (List Tally)) (shard : ℕ)
+    : Type 0 where
+  pub calls : calls_of seats shard ≡ length (steps_of steps shard)
+  pub unmarked : All (λ seat. (tally_of seat shard).is_marked ≡ false) seats
+
+-- the seats agree with every shard
+abbrev pub AllAgree : List (List PlainStep) → List (List Tally) → Type 0
+AllAgree steps seats = (shard : ℕ) → shard < length steps → Agrees steps seats shard
+
+-- a receipt stands in the steps: its shard has its step at its number
+abbrev pub Stands : List (List PlainStep) → PlainReceipt → Type 0
+Stands steps receipt = slice_get (steps_of steps receipt.shard) receipt.number ≡ Some receipt.step
+
+-- whether two receipts are of one call: they have one number of one shard
+abbrev pub are_of_one_call : PlainReceipt → PlainReceipt → Bool
+are_of_one_call one other = one.shard == other.shard && one.number == other.number
+
+-- receipts are right: each stands in the steps, and no two are of one call
+pub record AreRight (steps : List (List PlainStep)) (receipts : List PlainReceipt) : Type 0 where
+  pub stand : All (Stands steps) receipts
+  pub apart : AllPairs (λ one other. are_of_one_call one other ≡ false) receipts
+
+-- all is as it must be
+pub record IsInOrder (steps : List (List PlainStep)) (seats : List (List Tally))
+    (receipts : List PlainReceipt) : Type 0 where
+  pub agree : AllAgree steps seats
+  pub right : AreRight steps receipts
+
+-- the least shard with which the seats don't agree
+pub record IsFirstUneven (steps : List (List PlainStep)) (seats : List (List Tally)) (shard : ℕ)
+    : Type 0 where
+  pub there : shard < length steps
+  pub before : (lower : ℕ) → lower < shard → Agrees steps seats lower
+  pub against : ¬ Agrees steps seats shard
+
+-- the first receipt that isn't right: those before it are, and with it they aren't. So of two
+-- receipts of one call it is the later
+pub record IsFirstWrong (steps : List (List PlainStep)) (receipts : List PlainReceipt)
+    (receipt : PlainReceipt) : Type 0 where
+  pub place : ℕ
+  pub there : slice_get receipts place ≡ Some receipt
+  pub before : AreRight steps (take place receipts)
+  pub against : ¬ AreRight steps (take (place + 1) receipts)
+
+-- the shard and the number of the first receipt that isn't right, where the seats agree with every
+-- shard
+pub record AreOfFirstWrong (steps : List (List PlainStep)) (seats : List (List Tally))
+    (receipts : List PlainReceipt) (shard number : ℕ) : Type 0 where
+  pub agree : AllAgree steps seats
+  pub receipt : PlainReceipt
+  pub first : IsFirstWrong steps receipts receipt
+  pub its_shard : receipt.shard ≡ shard
+  pub its_number : receipt.number ≡ number

@@ -1,0 +1,5 @@
+pub mod Seats
+pub mod Receipts
+pub mod Shown
+pub mod Audit
+pub mod Findings

@@ -1,0 +1,12 @@
+//! What one caller counts of one shard.
+
+/// What one caller counts of its recorded calls in one shard.
+#[derive(Clone, Copy, Debug, PartialEq, Eq)]
+pub struct Tally {
+    /// How many there were. At 2^64 - 1 it stays.
+    pub calls: u64,
+    /// The number after that of the last one; 0 before the first.
+    pub next: u64,
+    /// A call's number was below `next`, or `calls` could rise no further.
+    pub is_marked: bool,
+}
