@@ -3,7 +3,11 @@
 //! Nothing here touches a socket, a clock or a lock: events, moments and packets are values.
 #![tactic(auto)]
 
+mod fault;
 mod same;
 mod step;
+mod traced;
 
+pub use fault::TraceFault;
 pub use step::Step;
+pub use traced::{Traced, job_event};

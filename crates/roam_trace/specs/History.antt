@@ -1,0 +1,69 @@
+-- Histories of one shard: the written answers, one after the other (ours).
+use Rattle.std.specs.Prelude.{◌≡◌, ℕ, ◌≤◌, true, List, [], ◌∷◌, ◌++◌, length}
+use Rattle.roam_conf.specs.Config.{ConfigView}
+use Rattle.roam_route.specs.Admission.{PlainJob, admission, admitted}
+use Rattle.roam_book.specs.RealmState.{RealmState}
+use Rattle.roam_core.specs.Events.{PlainEvent, arrives, ticks, is_in_shard}
+use Rattle.roam_core.specs.ManyRealms.{BrokerTurn, answer_to, packets_in_turn, refusal_given, states_after}
+use Rattle.roam_shard.specs.ShardView.{OpeningView, opened}
+use Rattle.roam_trace.specs.Steps.{PlainAnswer, PlainStep}
+
+-- what is answered, as a turn of the broker says
+abbrev pub answer_in : BrokerTurn → PlainAnswer
+answer_in turn = record { packets = packets_in_turn turn; refusal = refusal_given turn }
+
+-- an arrival is given to a realm of the shard
+pub record IsForShard (config : ConfigView) (shard : ℕ) (job : PlainJob) : Type 0 where
+  pub own : is_in_shard config shard job.realm ≡ true
+
+-- an event of a shard: its own tick, or an arrival that gives a job to one of its realms
+abbrev pub IsOfShard : ConfigView → ℕ → PlainEvent → Type 0
+IsOfShard config shard (ticks now s) = s ≡ shard
+IsOfShard config shard (arrives now a) =
+    (job : PlainJob) × (admission config a ≡ admitted job) × IsForShard config shard job
+
+-- the states after an event
+abbrev pub states_next : ConfigView → List RealmState → PlainEvent → List RealmState
+states_next config states event = states_after states (answer_to config states event)
+
+-- the states after some steps
+abbrev pub states_then : ConfigView → List RealmState → List PlainStep → List RealmState
+states_then config states [] = states
+states_then config states (s ∷ ss) = states_then config (states_next config states s.event) ss
+
+-- a step of a shard: one of its events, with the written answer
+pub record IsStep (config : ConfigView) (shard : ℕ) (states : List RealmState) (s : PlainStep) : Type 0 where
+  pub event : IsOfShard config shard s.event
+  pub answer : s.answer ≡ answer_in (answer_to config states s.event)
+
+-- some steps, one after the other, from these states
+abbrev pub AreSteps : ConfigView → ℕ → List RealmState → List PlainStep → Type 0
+AreSteps config shard states [] = Unit {0}
+AreSteps config shard states (s ∷ ss) =
+    IsStep config shard states s × AreSteps config shard (states_next config states s.event) ss
+
+-- a history of a shard from its opening
+abbrev pub IsHistory : OpeningView → List PlainStep → Type 0
+IsHistory o steps = AreSteps o.config o.shard (opened o) steps
+
+-- where it ends
+abbrev pub end_of : OpeningView → List PlainStep → List RealmState
+end_of o steps = states_then o.config (opened o) steps
+
+-- a trace: how its shard began, its steps, and how many it can hold
+pub record TraceView : Type 0 where
+  pub opening : OpeningView
+  pub steps : List PlainStep
+  pub limit : ℕ
+
+-- a trace with one step more
+abbrev pub with_step : TraceView → PlainStep → TraceView
+with_step t s = record t { steps = t.steps ++ s ∷ [] }
+
+-- what a trace keeps: its steps are a history of its shard, where it ends the shard stands, and there
+-- are at most as many as the limit
+pub record IsTrace (o : OpeningView) (states : List RealmState) (steps : List PlainStep) (limit : ℕ)
+    : Type 0 where
+  pub history : IsHistory o steps
+  pub stands : states ≡ end_of o steps
+  pub fits : length steps ≤ limit

@@ -1,0 +1,35 @@
+//! Why a step isn't recorded.
+
+use roam_wire::NoMemory;
+use std::{error, fmt};
+
+/// Why a step isn't recorded: nothing changes then. `TraceFull` is looked at first.
+#[derive(Clone, Copy, Debug, PartialEq, Eq)]
+pub enum TraceFault {
+    /// The trace holds as many steps as its limit (refusal 22).
+    TraceFull,
+    /// A growth was refused (refusal 21).
+    NoMemory,
+}
+
+impl fmt::Display for TraceFault {
+    fn fmt<W: fmt::Write>(&self, f: &mut fmt::Formatter<W>) -> fmt::Result {
+        f.write_str(match self {
+            TraceFault::TraceFull => "the trace is full",
+            TraceFault::NoMemory => "out of memory",
+        })
+    }
+}
+
+impl error::Error for TraceFault {}
+
+impl From<NoMemory> for TraceFault {
+    ghost use Rattle.std.specs.Prelude.{◌≡◌};
+    ghost use Rattle.roam_trace.specs.declared.fault.TraceFault.TheVariants.{NoMemory};
+
+    ghost from_gives = { λ _ given. given ≡ NoMemory };
+
+    fn from(_: NoMemory) -> TraceFault {
+        TraceFault::NoMemory
+    }
+}
