@@ -1,0 +1,4 @@
+pub mod Listening
+pub mod Port
+pub mod Sending
+pub mod Sockets

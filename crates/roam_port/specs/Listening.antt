@@ -1,0 +1,50 @@
+-- What is heard at a socket, and how many of its receives failed in a row (ours).
+use Rattle.std.specs.Prelude.{◌≡◌, ◌⊎◌, ◌==◌, ℕ, ◌+◌, min, List, Option, if◌then◌else◌}
+use Rattle.roam_conf.specs.declared.place.Place.{Place}
+use Rattle.roam_route.specs.Admission.{Arrival}
+use Rattle.roam_route.specs.Shown.{shown_arrival}
+use Rattle.roam_port.specs.Port.{PortCall, came, nothing_came, receive_failed, went, send_failed, IsOneCall}
+use Rattle.roam_port.specs.declared.heard.Heard.{Heard}
+use Rattle.roam_port.specs.declared.heard.Heard.TheVariants as heard
+use Rattle.roam_port.specs.declared.heard.TheConstants.{FAULTS_TO_GIVE_UP}
+
+-- what is heard, without its memory
+pub data PlainHeard : Type 0 where
+  datagram : Arrival → PlainHeard
+  nothing : PlainHeard
+  give_up : PlainHeard
+  no_memory : PlainHeard
+
+abbrev pub shown_heard : {A : Type 0} → Heard A → PlainHeard
+shown_heard (heard.Datagram d) = datagram (shown_arrival d)
+shown_heard heard.Nothing = nothing
+shown_heard heard.GiveUp = give_up
+shown_heard heard.NoMemory = no_memory
+
+-- how many receives failed in a row after one more, up to the last that counts
+abbrev pub faults_after_fault : ℕ → ℕ
+faults_after_fault faults = min FAULTS_TO_GIVE_UP (faults + 1)
+
+-- what a receive leaves of that count, and what is heard by it; a datagram is lost for want of memory alone
+abbrev pub IsHeard : PortCall → Place → ℕ → ℕ → PlainHeard → Type 0
+IsHeard (came octets from) at old new h =
+    (new ≡ 0)
+    × ((h ≡ datagram (record { at = at; from = from; octets = octets })) ⊎ (h ≡ no_memory))
+IsHeard nothing_came at old new h = (new ≡ 0) × (h ≡ nothing)
+IsHeard receive_failed at old new h =
+    (new ≡ faults_after_fault old)
+    × (h ≡ (if faults_after_fault old == FAULTS_TO_GIVE_UP then give_up else nothing))
+IsHeard (went to octets) at old new h = ⊥
+IsHeard (send_failed to octets) at old new h = ⊥
+
+-- one receive was made, and no other call; and that is what was heard by it
+pub record Listens
+    {A : Type 0}
+    (old new : Option (List PortCall))
+    (at : Place)
+    (old_faults new_faults : ℕ)
+    (result : Heard A)
+    : Type 0 where
+  pub call : PortCall
+  pub made : IsOneCall old new call
+  pub heard : IsHeard call at old_faults new_faults (shown_heard result)

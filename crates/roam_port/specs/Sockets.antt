@@ -1,0 +1,19 @@
+-- Which socket is which place's, by its number: `auth`, `acct`, then `out` and `reverse` of each realm
+-- (ours).
+use Rattle.std.specs.Prelude.{ℕ, ◌+◌, ◌*◌, List}
+use Rattle.roam_conf.specs.declared.endpoint.Endpoint.{Endpoint}
+use Rattle.roam_conf.specs.declared.place.Place.{Place}
+use Rattle.roam_conf.specs.declared.place.Place.TheVariants as place
+use Rattle.roam_conf.specs.Config.{ConfigView}
+use Rattle.roam_conf.specs.Duplicates.{own_endpoints}
+
+-- the number of a place's socket
+abbrev pub socket_number : Place → ℕ
+socket_number place.Auth = 0
+socket_number place.Acct = 1
+socket_number (place.Out realm) = 2 * realm + 2
+socket_number (place.Reverse realm) = 2 * realm + 3
+
+-- where the sockets are bound, in order of their numbers
+abbrev pub socket_endpoints : ConfigView → List Endpoint
+socket_endpoints config = own_endpoints config.auth config.acct config.realms

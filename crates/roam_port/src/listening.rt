@@ -1,0 +1,56 @@
+//! One receive at a socket.
+
+ghost use Rattle.std.specs.Prelude.{◌≡◌, ◌≤◌};
+ghost use Rattle.roam_port.specs.Listening.{Listens, IsHeard, shown_heard, faults_after_fault};
+ghost use Rattle.roam_port.specs.Port.{receive_failed};
+ghost use Rattle.roam_conf.specs.declared.place.Place.{Place};
+
+use crate::{FAULTS_TO_GIVE_UP, Heard, Port};
+use roam_conf::Place;
+use roam_route::Datagram;
+use roam_wire::Octets;
+use std::alloc::Allocator;
+
+/// Receives once at the socket of a place, and counts the receives that failed in a row.
+///
+/// A receive that doesn't fail sets the count to 0. Want of memory loses the datagram.
+pub fn listen<P: Port, A: Allocator + Copy>(
+    alloc: A,
+    port: &mut P,
+    at: Place,
+    buffer: &mut [u8],
+    faults: &mut u32,
+) -> Heard<A>
+    requires { faults.old ≤ FAULTS_TO_GIVE_UP }
+    ensures bound { faults.new ≤ FAULTS_TO_GIVE_UP }
+    ensures listens { Listens (P.calls port.old) (P.calls port.new) at faults.old faults.new result }
+{
+    match port.receive(buffer) {
+        Err(_) => after_fault(faults),
+        Ok(None) => {
+            *faults = 0;
+            Heard::Nothing
+        }
+        Ok(Some((size, from))) => {
+            *faults = 0;
+            match Octets::copy_of(alloc, &buffer[..size]) {
+                Ok(octets) => Heard::Datagram(Datagram { at, from, octets }),
+                Err(_) => Heard::NoMemory,
+            }
+        }
+    }
+}
+
+/// Counts a receive that failed.
+fn after_fault<A: Allocator>(faults: &mut u32) -> Heard<A>
+    requires { faults.old ≤ FAULTS_TO_GIVE_UP }
+    ensures bound { faults.new ≤ FAULTS_TO_GIVE_UP }
+    ensures heard { (at : Place) → IsHeard receive_failed at faults.old faults.new (shown_heard result) }
+{
+    *faults = (*faults + 1).min(FAULTS_TO_GIVE_UP);
+    if *faults == FAULTS_TO_GIVE_UP {
+        Heard::GiveUp
+    } else {
+        Heard::Nothing
+    }
+}

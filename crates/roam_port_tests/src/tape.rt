@@ -1,0 +1,70 @@
+//! A port that does what a test says.
+
+ghost use Rattle.std.specs.Prelude.{◌≤◌, length};
+
+use roam_conf::Endpoint;
+use roam_port::{Port, PortFault};
+use std::alloc::Global;
+
+/// One answer of a [`Tape`] to a receive.
+#[derive(Clone, Copy)]
+pub enum Answer {
+    Fault,
+    Nothing,
+    Datagram,
+}
+
+/// A port that plays answers: receives give them in turn, and then faults. The sends of the places in
+/// `failing`, counted from 0, fail.
+#[derive(Drop)]
+pub struct Tape<'a> {
+    pub alloc: Global,
+    pub answers: &'a [Answer],
+    pub played: usize,
+    /// What each datagram holds, and where it comes from.
+    pub octets: &'a [u8],
+    pub from: Endpoint,
+    pub failing: &'a [usize],
+    pub sends: usize,
+    /// The first octet of each packet that went out.
+    pub went: Vec<u8>,
+}
+
+impl Tape<'_> {
+    /// Puts the datagram into the buffer, as far as it fits.
+    fn datagram(&self, buffer: &mut [u8]) -> usize
+        ensures { result ≤ length buffer.new }
+    {
+        let size = self.octets.len().min(buffer.len());
+        buffer[..size].copy_from_slice(&self.octets[..size]);
+        size
+    }
+}
+
+impl Port for Tape<'_> {
+    ghost use Rattle.std.specs.Prelude.{None};
+
+    // The trait's clauses on the account of calls say nothing of a port that keeps none.
+    ghost calls = { λ _. None };
+
+    fn receive(&mut self, buffer: &mut [u8]) -> Result<Option<(usize, Endpoint)>, PortFault> {
+        let answer = self.answers.get(self.played).copied();
+        self.played = self.played.saturating_add(1);
+        match answer {
+            Some(Answer::Datagram) => Ok(Some((self.datagram(buffer), self.from))),
+            Some(Answer::Nothing) => Ok(None),
+            Some(Answer::Fault) | None => Err(PortFault),
+        }
+    }
+
+    fn send(&mut self, _to: Endpoint, octets: &[u8]) -> Result<(), PortFault> {
+        let place = self.sends;
+        self.sends = self.sends.saturating_add(1);
+        if self.failing.contains(&place) {
+            return Err(PortFault);
+        }
+        self.went
+            .push(octets.first().copied().unwrap_or(0))
+            .map_err(|_| PortFault)
+    }
+}
