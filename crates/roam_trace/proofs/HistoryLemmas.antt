@@ -52,6 +52,7 @@ keeps_one answer o old new steps limit event kept ne own told =
       });
       stands = told.states ∙ ap (λ (l : List RealmState). states_next o.config l event) kept.stands ∙ sym (then-append o.config (opened o) steps s);
       fits = (let lt = below (length steps) limit kept.fits ne in omega (arith, length-append steps (s ∷ []), lt));
+      size = kept.size;
     }
 
 pub keeps_step : {A : Type 0} → (answer : Answer A) (o p : OpeningView) (old new : List RealmState) (steps items : List PlainStep) (limit : ℕ) (event : PlainEvent) (s : PlainStep)

@@ -1,5 +1,5 @@
 -- Histories of one shard: the written answers, one after the other (ours).
-use Rattle.std.specs.Prelude.{◌≡◌, ℕ, ◌≤◌, true, List, [], ◌∷◌, ◌++◌, length}
+use Rattle.std.specs.Prelude.{◌≡◌, ℕ, ◌<◌, ◌≤◌, ◌^◌, true, List, [], ◌∷◌, ◌++◌, length}
 use Rattle.roam_conf.specs.Config.{ConfigView}
 use Rattle.roam_route.specs.Admission.{PlainJob, admission, admitted}
 use Rattle.roam_book.specs.RealmState.{RealmState}
@@ -67,3 +67,4 @@ pub record IsTrace (o : OpeningView) (states : List RealmState) (steps : List Pl
   pub history : IsHistory o steps
   pub stands : states ≡ end_of o steps
   pub fits : length steps ≤ limit
+  pub size : limit < 2 ^ 64

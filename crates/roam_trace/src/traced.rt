@@ -1,6 +1,6 @@
 //! A shard with its stored history.
 
-ghost use Rattle.std.specs.Prelude.{◌≡◌, ◌≢◌, ◌↔◌, ◌<◌, ◌^◌, [], true, length, vec_len, IfOk, IsErrOf, IsOk, OnErr};
+ghost use Rattle.std.specs.Prelude.{◌≡◌, ◌↔◌, ◌<◌, ◌≤◌, ◌^◌, [], true, length, vec_len, IfOk, IsErrOf, IsOk, OnErr};
 ghost use Rattle.roam_conf.specs.Shown.{shown};
 ghost use Rattle.roam_route.specs.Events.{IsEvent, arrival_of};
 ghost use Rattle.roam_route.specs.Shown.{shown_job};
@@ -74,7 +74,9 @@ impl<'c, A: Allocator + Copy> Traced<'c, A> {
 
     /// How many steps are stored. Takes no memory.
     pub fn len(&self) -> usize
-        ensures { result ≡ length self.now.steps }
+        ensures value { result ≡ length self.now.steps }
+        ensures fits { length self.now.steps ≤ self.now.limit }
+        ensures limit { self.now.limit < 2 ^ 64 }
     {
         self.steps.len()
     }

@@ -1,0 +1,25 @@
+-- The shards of a hub that is closed: words of private functions alone (ours).
+use Rattle.std.specs.Prelude.{◌≡◌, ℕ, List, Some, length, map, slice_get}
+use Rattle.std.specs.declared.vec.Vec.{Vec}
+use Rattle.roam_shard.specs.ShardView.{ShardView}
+use Rattle.roam_trace.specs.History.{IsHistory, end_of}
+use Rattle.roam_trace.specs.Steps.{PlainStep}
+use Rattle.roam_audit.specs.Shown.{items_of}
+use Rattle.roam_hub.specs.HubOpening.{HubOpening, opening_at}
+
+abbrev pub all_steps : {A : Type 0} → List (Vec PlainStep A) → List (List PlainStep)
+all_steps steps = map items_of steps
+
+-- a shard that was cut from its steps: it stands where they end
+pub record IsClosed (o : HubOpening) (number : ℕ) (s : ShardView) (steps : List PlainStep) : Type 0 where
+  pub opening : s.opening ≡ opening_at o number
+  pub states : s.states ≡ end_of (opening_at o number) steps
+  pub history : IsHistory (opening_at o number) steps
+
+-- so many of them
+pub record AreClosed (o : HubOpening) (count : ℕ) (shards : List ShardView) (steps : List (List PlainStep))
+    : Type 0 where
+  pub shard_count : length shards ≡ count
+  pub step_count : length steps ≡ count
+  pub each : (k : ℕ) (s : ShardView) (ss : List PlainStep) → slice_get shards k ≡ Some s
+      → slice_get steps k ≡ Some ss → IsClosed o k s ss

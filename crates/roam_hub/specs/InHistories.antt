@@ -1,0 +1,27 @@
+-- Each realm in its shard's history (ours): the packets that were sent for it there are those that its
+-- own written broker sends for its own events.
+use Rattle.std.specs.Prelude.{◌≡◌, ℕ, ◌<◌, ◌≤◌, List, [], ◌∷◌, ◌++◌, length, map}
+use Rattle.roam_route.specs.Admission.{PlainOut}
+use Rattle.roam_book.specs.RealmConfig.{realm_config}
+use Rattle.roam_core.specs.Events.{PlainEvent, events_of_realm}
+use Rattle.roam_core.specs.Isolation.{packets_for}
+use Rattle.roam_core.specs.Openings.{one_realm_packets, start_of}
+use Rattle.roam_shard.specs.ShardView.{OpeningView}
+use Rattle.roam_trace.specs.History.{IsHistory}
+use Rattle.roam_trace.specs.Steps.{PlainStep}
+
+-- the events of some steps, and all that was sent in them
+abbrev pub events_in : List PlainStep → List PlainEvent
+events_in steps = map (λ s. s.event) steps
+
+abbrev pub packets_in : List PlainStep → List PlainOut
+packets_in [] = []
+packets_in (s ∷ ss) = s.answer.packets ++ packets_in ss
+
+abbrev pub RealmsInHistories : Type 0
+RealmsInHistories =
+    (o : OpeningView) (steps : List PlainStep) (realm : ℕ)
+    → 1 ≤ o.config.shards → realm < length o.starts → IsHistory o steps
+    → packets_for realm (packets_in steps)
+    ≡ one_realm_packets (realm_config o.config realm) (start_of o.starts realm)
+    (events_of_realm o.config realm (events_in steps))

@@ -1,0 +1,3 @@
+pub mod HubOpening
+pub mod InHistories
+pub mod Closing

@@ -1,0 +1,106 @@
+//! The end of a hub: its locks are taken apart.
+
+ghost use Rattle.std.specs.Prelude.{◌≡◌, ◌+◌, ◌<◌, ◌≤◌, ◌^◌, ◌++◌, [], ◌∷◌, length, vec_len, IfOk};
+ghost use Rattle.roam_conf.specs.Shown.{shown};
+ghost use Rattle.roam_shard.specs.ShardView.{AreStarts, IsStart};
+ghost use Rattle.roam_audit.specs.Shown.{items_of, recorded};
+ghost use Rattle.roam_hub.specs.Closing.{AreClosed, all_steps};
+ghost use Rattle.roam_hub.specs.HubOpening.{AreHistories, starts_at_end};
+
+use crate::fault::HubFault;
+use crate::hub::Hub;
+use crate::kept::Kept;
+use crate::opened::Opened;
+use roam_audit::Report;
+use roam_book::Start;
+use roam_conf::Config;
+use roam_shard::Shard;
+use roam_trace::Step;
+use roam_wire::NoMemory;
+use std::alloc::Allocator;
+use std::sync::Mutex;
+
+/// The shards of a hub that is closed, and their steps, in the order of their numbers.
+#[derive(Drop)]
+pub(crate) struct Closed<'c, A: Allocator> {
+    pub shards: Vec<Shard<'c, A>, A>,
+    pub steps: Vec<Vec<Step<A>, A>, A>,
+}
+
+/// Appends a value to a list.
+fn append<T: Drop, A: Allocator>(list: &mut Vec<T, A>, value: T) -> Result<(), NoMemory>
+    ensures items { IfOk result (λ _. list.new.items ≡ list.old.items ++ value ∷ []) }
+    ensures len { IfOk result (λ _. vec_len list.new ≡ vec_len list.old + 1) }
+{
+    list.push(value)?;
+    Ok(())
+}
+
+/// Takes the locks apart, one at a time.
+fn taken_apart<'c, A: Allocator + Copy, N: Opened>(
+    alloc: A,
+    locks: Vec<Mutex<Kept<'c, A, N>>, A>,
+) -> Result<Closed<'c, A>, HubFault>
+    requires { vec_len locks < 2 ^ 16 }
+    ensures closed { IfOk result (λ c.
+        AreClosed N.opening (vec_len locks.entry) c.shards.items (all_steps c.steps.items)) }
+    ensures few { IfOk result (λ c. vec_len c.steps ≡ vec_len locks.entry) }
+{
+    let mut shards = Vec::new(alloc);
+    let mut steps = Vec::new(alloc);
+    let mut number: u16 = 0;
+    for lock in locks {
+        let (shard, its_steps) = lock.into_inner().cut(number)?;
+        append(&mut shards, shard)?;
+        append(&mut steps, its_steps)?;
+        number += 1;
+    }
+    Ok(Closed { shards, steps })
+}
+
+/// Where the realms stand at the end, by index.
+fn starts_of<'c, A: Allocator + Copy, N: Opened>(
+    alloc: A,
+    config: &'c Config,
+    closed: &Closed<'c, A>,
+) -> Result<Vec<Start, A>, NoMemory>
+    requires config { shown config.now ≡ N.opening.config }
+    requires closed { AreClosed N.opening config.now.shards closed.now.shards.items
+        (all_steps closed.now.steps.items) }
+    ensures starts { IfOk result (λ starts. starts.items
+        ≡ starts_at_end N.opening (all_steps closed.now.steps.items)) }
+    ensures good { IfOk result (λ starts. AreStarts N.opening.config starts.items) }
+{
+    let mut starts = Vec::with_capacity(alloc, config.realms.len())?;
+    for realm in 0..config.realms.len() {
+        let index = realm as u16;
+        let shard = config.shard_of(index);
+        starts.push(closed.shards[usize::from(shard)].start(index))?;
+    }
+    Ok(starts)
+}
+
+impl<'c, A: Allocator + Copy, N: Opened> Hub<'c, A, N> {
+    /// Ends the hub, once nobody calls any more: the steps of each shard, and where each realm would
+    /// begin that went on from there.
+    ///
+    /// # Errors
+    ///
+    /// `Misplaced` where a lock holds another shard's trace, `NoMemory` where a growth was refused. The
+    /// hub is gone then too.
+    pub fn close(self) -> Result<Report<A>, HubFault>
+        ensures histories { IfOk result (λ r. AreHistories N.opening (recorded r)) }
+        ensures starts { IfOk result (λ r. r.starts.items ≡ starts_at_end N.opening (recorded r)) }
+        ensures good { IfOk result (λ r. AreStarts N.opening.config r.starts.items) }
+    {
+        let Hub {
+            alloc,
+            config,
+            locks,
+        } = self;
+        let closed = taken_apart(alloc, locks)?;
+        let starts = starts_of::<A, N>(alloc, config, &closed)?;
+        let Closed { shards: _, steps } = closed;
+        Ok(Report { steps, starts })
+    }
+}

@@ -1,0 +1,51 @@
+//! Why a hub's call isn't recorded.
+
+use roam_trace::TraceFault;
+use roam_wire::NoMemory;
+use std::{error, fmt};
+
+/// Why a call of a hub isn't recorded: nothing changes then. They are looked at in this order.
+#[derive(Clone, Copy, Debug, PartialEq, Eq)]
+pub enum HubFault {
+    /// A tick names no shard (refusal 20).
+    NoShard,
+    /// The lock holds another shard's trace (refusal 23).
+    Misplaced,
+    /// The trace holds as many steps as its limit (refusal 22).
+    TraceFull,
+    /// A growth was refused (refusal 21).
+    NoMemory,
+}
+
+impl fmt::Display for HubFault {
+    fn fmt<W: fmt::Write>(&self, f: &mut fmt::Formatter<W>) -> fmt::Result {
+        f.write_str(match self {
+            HubFault::NoShard => "no such shard",
+            HubFault::Misplaced => "another shard's trace",
+            HubFault::TraceFull => "the trace is full",
+            HubFault::NoMemory => "out of memory",
+        })
+    }
+}
+
+impl error::Error for HubFault {}
+
+impl From<NoMemory> for HubFault {
+    ghost use Rattle.std.specs.Prelude.{◌≡◌};
+    ghost use Rattle.roam_hub.specs.declared.fault.HubFault.TheVariants.{NoMemory};
+
+    ghost from_gives = { λ _ given. given ≡ NoMemory };
+
+    fn from(_: NoMemory) -> HubFault {
+        HubFault::NoMemory
+    }
+}
+
+impl From<TraceFault> for HubFault {
+    fn from(fault: TraceFault) -> HubFault {
+        match fault {
+            TraceFault::TraceFull => HubFault::TraceFull,
+            TraceFault::NoMemory => HubFault::NoMemory,
+        }
+    }
+}

@@ -1,0 +1,22 @@
+//! Running threads over traced shards: a lock for each shard, and what callers and a hub's end have to
+//! show of it.
+//!
+//! A call holds the one lock of its shard, and no call holds two. Nothing here touches a socket or a
+//! clock: events, moments and packets are values.
+#![tactic(auto)]
+
+mod closing;
+mod fault;
+mod gate;
+mod hub;
+mod kept;
+mod laws;
+mod opened;
+
+pub use fault::HubFault;
+pub use gate::{Gate, Open};
+pub use hub::Hub;
+pub use laws::realms_in_histories;
+pub use opened::Opened;
+pub use roam_audit::{AuditFault, Receipt, Report, Seat, split};
+pub use roam_ring::{Intake, Outlet, ring};
