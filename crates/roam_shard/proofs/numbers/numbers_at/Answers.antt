@@ -14,6 +14,18 @@ returns g c =
     let is : (c.shard_of.result == c.args.shard) ≡ true = grind (arith, nat_tests, same) in
     record {
       own = sym (ap (λ (q : ℕ). q == c.args.shard) (sym c.shard_of.ensures.value) ∙ is);
-      fresh = subst (λ (x : RealmConfig). IsFresh x c.args.start c.in_ok-numbers.numbers) c.new-settings.ensures
-          (record { count = n.count; cursors = n.cursors; free = n.free; lanes = n.lanes; ticket = n.ticket; place = n.place; sessions = n.sessions; ledger = n.ledger });
+      fresh =
+          subst (λ (x : RealmConfig). IsFresh x c.args.start c.in_ok-numbers.numbers)
+          c.new-settings.ensures
+          (record {
+            count = n.count;
+            cursors = n.cursors;
+            free = n.free;
+            lanes = n.lanes;
+            ticket =
+                n.ticket;
+            place = n.place;
+            sessions = n.sessions;
+            ledger = n.ledger;
+          });
     }
