@@ -1,26 +1,26 @@
 -- The states of all realms, each in its own shard.
-use Rattle.std.proofs.Common.{◌≡◌, ◌≢◌, ℕ, zero, suc, ◌+◌, ◌%◌, ◌<◌, ◌≤◌, ◌^◌, ◌==◌, Bool, true, false, List, [], ◌∷◌, ◌++◌, length, set, Option, Some, None, Result, Ok, Err, refl, ap, sym, ◌∙◌, subst, inl, inr, arith}
+use Rattle.std.proofs.Common.{◌≡◌, ◌≢◌, ℕ, zero, suc, ◌+◌, ◌%◌, ◌<◌, ◌≤◌, ◌^◌, ◌==◌, Bool, true, false, List, [], ◌∷◌, ◌++◌, length, set, Some, None, Result, Ok, Err, refl, ap, sym, ◌∙◌, subst, inl, inr, arith}
 use Rattle.std.specs.Prelude.{◌⊎◌, if◌then◌else◌, IsErr, IsOk, nat_lt, slice_get, slice_index_or}
 use Rattle.std.proofs.Math.ListN.{length-set}
-use Rattle.std.proofs.lemmas.Bool.{cases_eq, cases_lt}
+use Rattle.std.proofs.lemmas.Bool.{cases_eq}
 use Rattle.std.proofs.lemmas.Bool.Decides.{nat_tests}
 use Rattle.std.proofs.lemmas.List.{get_or-set_same, get_or-set_other, length-append}
 use Rattle.std.proofs.lemmas.Option.{slice_get-get_or}
 use Rattle.roam_wire.specs.declared.refusal.NoMemory.{NoMemory}
 use Rattle.roam_wire.specs.declared.refusal.Refusal.TheVariants as refusal
 use Rattle.roam_conf.specs.Config.{ConfigView}
-use Rattle.roam_route.specs.Admission.{PlainJob, PlainOut, admitted}
+use Rattle.roam_route.specs.Admission.{PlainJob, admitted}
 use Rattle.roam_book.specs.OneRealm.{event_of, on_event}
 use Rattle.roam_book.specs.OnTick.{on_tick}
 use Rattle.roam_book.specs.RealmConfig.{realm_config}
 use Rattle.roam_book.specs.RealmState.{RealmState}
-use Rattle.roam_book.specs.Turn.{Turn, refuses, sends, packets_of, refusal_of, shown_outs, state_after}
+use Rattle.roam_book.specs.Turn.{Turn, refuses, sends, packets_of, refusal_of, state_after}
 use Rattle.roam_book.specs.declared.answer.Answer.{Answer}
 use Rattle.roam_book.specs.declared.answer.Twin.{Twin}
 use Rattle.roam_book.specs.declared.start.Start.{Start}
 use Rattle.roam_core.specs.BrokerView.{BrokerView}
-use Rattle.roam_core.specs.Events.{is_in_shard, ticks}
-use Rattle.roam_core.specs.ManyRealms.{AllRealms, BrokerTurn, no_state, packets_in_turn, refusal_given, refuses_it, sends_all, state_at, states_after, tick_all, tick_from, tick_of, to_arrival, to_tick, turn_of_one}
+use Rattle.roam_core.specs.Events.{ticks}
+use Rattle.roam_core.specs.ManyRealms.{BrokerTurn, no_state, refusal_given, refuses_it, state_at, states_after, tick_all, tick_from, tick_of, to_arrival, to_tick, turn_of_one}
 use Rattle.roam_core.specs.Openings.{openings, openings_from}
 use Rattle.roam_core.specs.Steps.{GivesAnswer, IsAnswer}
 use Rattle.roam_core.proofs.EventLemmas.{event-length}

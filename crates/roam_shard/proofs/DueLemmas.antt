@@ -1,20 +1,19 @@
 -- Whether a tick has anything to do.
 use Rattle.std.proofs.Common.{◌≡◌, ℕ, zero, suc, ◌+◌, ◌<◌, ◌≤◌, ◌^◌, Bool, true, false, List, [], ◌∷◌, Option, Some, None, is_some, length, refl, ap, sym, ◌∙◌, subst, inl, inr, arith}
 use Rattle.std.specs.Prelude.{find, if◌then◌else◌, nat_lt, slice_get}
-use Rattle.std.specs.List.{AllByRecursion}
 use Rattle.std.proofs.lemmas.Bool.{cases_eq}
 use Rattle.std.proofs.lemmas.Bool.Decides.{nat_tests}
 use Rattle.roam_conf.specs.Config.{ConfigView}
 use Rattle.roam_pending.specs.DueOrder.{due_after, due_list, is_after}
 use Rattle.roam_pending.specs.PlainEntry.{PlainEntry}
 use Rattle.roam_pending.specs.declared.due.Due.{Due}
-use Rattle.roam_book.specs.OnTick.{as_turn, due_each, on_tick, silent}
+use Rattle.roam_book.specs.OnTick.{on_tick}
 use Rattle.roam_book.specs.RealmConfig.{RealmConfig, realm_config}
 use Rattle.roam_book.specs.RealmState.{RealmState}
-use Rattle.roam_book.specs.Turn.{Turn, in_time, sends}
+use Rattle.roam_book.specs.Turn.{sends}
 use Rattle.roam_book.specs.declared.numbers.Numbers.{Numbers}
 use Rattle.roam_core.specs.Events.{is_in_shard}
-use Rattle.roam_core.specs.ManyRealms.{AllRealms, tick_from, tick_of}
+use Rattle.roam_core.specs.ManyRealms.{tick_from, tick_of}
 use Rattle.roam_shard.specs.ShardView.{OpeningView, states_from}
 use Rattle.roam_shard.specs.Twins.{NothingDue}
 

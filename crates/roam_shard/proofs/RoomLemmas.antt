@@ -1,7 +1,6 @@
 -- The rooms of a shard's tick, one realm after the other.
 use Rattle.std.proofs.Common.{◌≡◌, ℕ, zero, suc, ◌+◌, ◌<◌, Bool, true, false, List, [], ◌∷◌, ◌++◌, length, take, Option, Some, None, is_some, refl, sym, ap, subst, ◌∙◌, arith}
 use Rattle.std.specs.Prelude.{slice_get}
-use Rattle.std.specs.List.{AllByRecursion}
 use Rattle.std.proofs.lemmas.List.{length-append, take_more}
 use Rattle.roam_conf.specs.Config.{ConfigView}
 use Rattle.roam_pending.specs.PlainEntry.{PlainEntry}
@@ -14,7 +13,7 @@ use Rattle.roam_core.specs.ShardRooms.{most_of, most_of_all, Fits, IsRealmRoom, 
 use Rattle.roam_shard.specs.Rooms.{AllTwice, IsTwice}
 use Rattle.roam_shard.specs.ShardView.{OpeningView, state_seen, states_from}
 use Rattle.roam_shard.specs.Twins.{AreOwnRooms}
-use Rattle.roam_shard.proofs.ShardLemmas.{length-states, state-seen}
+use Rattle.roam_shard.proofs.ShardLemmas.{state-seen}
 
 -- one room more
 rooms-push : {A : Type 0} → (config : ConfigView) (now shard realm first : ℕ) (ss : List RealmState)

@@ -1,5 +1,5 @@
 -- A shard's tick, whose packets are given twice.
-use Rattle.std.proofs.Common.{◌≡◌, ℕ, ◌+◌, ◌<◌, ◌≤◌, ◌^◌, true, false, List, [], ◌∷◌, ◌++◌, length, Option, Some, None, refl, ap, sym, ◌∙◌, subst, arith, vec_len, vec_capacity}
+use Rattle.std.proofs.Common.{◌≡◌, ℕ, ◌+◌, ◌<◌, ◌≤◌, ◌^◌, true, false, List, [], ◌∷◌, length, Option, Some, refl, ap, sym, ◌∙◌, subst, arith}
 use Rattle.std.specs.Prelude.{nat_lt}
 use Rattle.std.proofs.lemmas.Bool.Decides.{nat_tests}
 use Rattle.std.proofs.lemmas.List.{length-map}
@@ -11,9 +11,8 @@ use Rattle.roam_route.specs.declared.datagram.Out.{Out}
 use Rattle.roam_book.specs.RealmState.{RealmState}
 use Rattle.roam_book.specs.Turn.{shown_outs}
 use Rattle.roam_book.specs.declared.answer.Answer.{Answer}
-use Rattle.roam_book.specs.declared.answer.Twin.{Twin}
 use Rattle.roam_book.specs.declared.room.Room.{Room}
-use Rattle.roam_core.specs.ManyRealms.{AllRealms, tick_from, to_tick}
+use Rattle.roam_core.specs.ManyRealms.{to_tick}
 use Rattle.roam_core.specs.ShardRooms.{most_of_all}
 use Rattle.roam_core.specs.Steps.{IsAnswer}
 use Rattle.roam_shard.specs.Rooms.{AllTwice, HasPlaces, IsTwice}

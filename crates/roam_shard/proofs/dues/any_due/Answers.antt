@@ -1,4 +1,4 @@
-use Rattle.std.proofs.Common.{◌<◌, arith}
+use Rattle.std.proofs.Common.{arith}
 use Rattle.roam_tables.specs.Stands.{entries_in}
 use Rattle.roam_tables.proofs.RealmLemmas.{get-read}
 use Rattle.roam_shard.proofs.DueLemmas.{none_more, nothing_due, own_none, within}

@@ -1,8 +1,7 @@
 use Rattle.std.proofs.Common.{◌==◌, ◌≡◌, ℕ, true, ap, sym, subst, ◌∙◌, arith}
 use Rattle.std.proofs.lemmas.Bool.Decides.{nat_tests}
 use Rattle.roam_conf.specs.Shown.{shown}
-use Rattle.roam_book.specs.RealmConfig.{RealmConfig, realm_config}
-use Rattle.roam_core.specs.Events.{is_in_shard}
+use Rattle.roam_book.specs.RealmConfig.{RealmConfig}
 use Rattle.roam_shard.specs.NumbersView.{IsFresh}
 use Rattle.roam_shard.proofs.numbers.numbers_at.Goals as goal
 

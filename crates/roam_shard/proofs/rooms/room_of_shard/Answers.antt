@@ -1,4 +1,4 @@
-use Rattle.std.proofs.Common.{◌<◌, ℕ, length, subst, ap, sym, arith}
+use Rattle.std.proofs.Common.{◌<◌, length, subst, arith}
 use Rattle.roam_tables.specs.Stands.{entries_in}
 use Rattle.roam_tables.proofs.RealmLemmas.{get-read}
 use Rattle.roam_core.specs.ShardRooms.{IsRealmRoom}

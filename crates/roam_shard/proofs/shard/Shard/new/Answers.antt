@@ -1,11 +1,11 @@
-use Rattle.std.proofs.Common.{◌≡◌, ◌∙◌, List, refl, arith, ap, sym, subst, vec_len, length}
+use Rattle.std.proofs.Common.{◌∙◌, List, refl, arith, ap, sym, subst, length}
 use Rattle.std.proofs.lemmas.List.{length-map}
 use Rattle.roam_conf.specs.Parts.{shown_realm}
 use Rattle.roam_conf.specs.Shown.{shown}
 use Rattle.roam_book.specs.declared.start.Start.{Start}
 use Rattle.roam_core.specs.Openings.{openings}
 use Rattle.roam_shard.specs.NumbersView.{AreOpened}
-use Rattle.roam_shard.specs.ShardView.{AreStarts, shown_opening}
+use Rattle.roam_shard.specs.ShardView.{AreStarts}
 use Rattle.roam_shard.proofs.OpeningLemmas.{begins_opened, shard_opened}
 use Rattle.roam_shard.proofs.shard.Shard.new.Goals as goal
 

@@ -1,7 +1,5 @@
 -- All rooms first, then the tick in them.
-use Rattle.std.proofs.Common.{◌≡◌, ◌<◌, ◌≤◌, ◌^◌, List, [], true, false, length, refl, ap, sym, subst, ◌∙◌, arith}
-use Rattle.roam_route.specs.Admission.{PlainOut}
-use Rattle.roam_book.specs.RealmState.{RealmState}
+use Rattle.std.proofs.Common.{◌≡◌, ◌<◌, ◌≤◌, ◌^◌, [], true, false, ap, sym, subst, ◌∙◌, arith}
 use Rattle.roam_book.specs.Turn.{shown_outs}
 use Rattle.roam_core.specs.ManyRealms.{AllRealms, tick_from}
 use Rattle.roam_core.specs.ShardRooms.{AreRooms}

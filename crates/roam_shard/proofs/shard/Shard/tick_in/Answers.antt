@@ -1,7 +1,6 @@
 -- The loop over the rooms: each realm has its part in its turn.
 use Rattle.std.specs.Vec.Iter.{into_iter_items}
 use Rattle.std.proofs.Common.{◌≡◌, ◌++◌, List, refl, sym, ap, subst, ◌∙◌, arith, length, set}
-use Rattle.roam_conf.specs.Config.{ConfigView}
 use Rattle.roam_route.specs.Admission.{PlainOut}
 use Rattle.roam_book.specs.Turn.{packets_of, shown_outs, state_after}
 use Rattle.roam_core.specs.ManyRealms.{state_at}

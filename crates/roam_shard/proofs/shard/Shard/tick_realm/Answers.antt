@@ -1,7 +1,6 @@
 -- One realm's tick.
-use Rattle.std.proofs.Common.{◌≡◌, ◌<◌, ◌∙◌, List, Some, true, length, ap, sym, subst, arith, refl, rules}
+use Rattle.std.proofs.Common.{◌≡◌, ◌<◌, ◌∙◌, List, Some, true, length, ap, subst, arith, refl}
 use Rattle.std.proofs.lemmas.List.{length-map}
-use Rattle.roam_conf.specs.Shown.{shown}
 use Rattle.roam_conf.specs.Parts.{shown_realm}
 use Rattle.roam_pending.specs.PlainEntry.{PlainEntry}
 use Rattle.roam_tables.proofs.RealmLemmas.{get-read}

@@ -1,5 +1,5 @@
 -- A job goes to the shard of its realm.
-use Rattle.std.proofs.Common.{◌≡◌, ◌%◌, ◌==◌, ◌<◌, true, length, set, ap, sym, subst, ◌∙◌, arith}
+use Rattle.std.proofs.Common.{◌≡◌, ◌%◌, ◌<◌, true, length, set, sym, subst, ◌∙◌, arith}
 use Rattle.std.proofs.lemmas.Bool.Decides.{nat_tests}
 use Rattle.roam_conf.specs.Config.{ConfigView}
 use Rattle.roam_conf.specs.Shown.{shown}

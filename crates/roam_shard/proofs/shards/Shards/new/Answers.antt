@@ -1,4 +1,4 @@
-use Rattle.std.proofs.Common.{◌≡◌, arith}
+use Rattle.std.proofs.Common.{arith}
 use Rattle.roam_conf.specs.Shown.{shown}
 use Rattle.roam_shard.proofs.AcrossLemmas.{all_opened, all_sharded, one_shard_more}
 use Rattle.roam_shard.proofs.shards.Shards.new.Goals as goal
