@@ -28,15 +28,13 @@ fn arrives<A: Allocator + Copy>(
 ) -> Result<Twin<A>, Refusal> {
     let config = shard.opening().config;
     let own = shard.opening().shard;
-    match prepare(alloc, config, datagram)? {
-        Prepared::Job(job) => {
-            if config.shard_of(job.realm) != own {
-                return Err(Refusal::NoShard);
-            }
-            Ok(shard.step(now, &job)?)
-        }
-        Prepared::Reject(_) => Err(Refusal::NoRealm),
+    let Prepared::Job(job) = prepare(alloc, config, datagram)? else {
+        return Err(Refusal::NoRealm);
+    };
+    if config.shard_of(job.realm) != own {
+        return Err(Refusal::NoShard);
     }
+    Ok(shard.step(now, &job)?)
 }
 
 /// Gives a shard an event, where it is its own.

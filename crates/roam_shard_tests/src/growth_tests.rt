@@ -26,24 +26,38 @@ fn each_growth_of_steps_and_ticks(rt: HostRuntime) {
     }
 }
 
-/// Whether each refused growth of a new shard is told, and the one made then is as it begins.
-fn new_is_refused(rt: &impl Abort, alloc: Global) -> bool {
-    let config = two_realms(rt, alloc, 2);
-    let over = Refusing::new(alloc);
+/// Makes a shard: whether it is as it begins, where there was memory for it.
+fn made(over: &Refusing<Global>, config: &Config) -> Option<bool> {
+    match later_shard(over, config, 1) {
+        Ok(shard) => Some(is_as_opened(&shard)),
+        Err(_) => None,
+    }
+}
+
+/// Makes a shard, with each growth refused in turn: whether each refusal is told, and a shard is made then.
+fn is_refused(over: &Refusing<Global>, config: &Config) -> bool {
     for n in over.each_growth() {
         over.refuse_nth(n);
-        let is_refused = later_shard(&over, &config, 1).is_err();
-        if is_refused != over.was_refused() {
+        let first = made(over, config);
+        if first.is_none() != over.was_refused() {
             return false;
         }
-        if is_refused {
-            let shard = later_shard(&over, &config, 1).expect(rt, "a shard");
-            if !is_as_opened(&shard) {
-                return false;
-            }
+        let last = if first.is_none() {
+            made(over, config)
+        } else {
+            first
+        };
+        if last != Some(true) {
+            return false;
         }
     }
     true
+}
+
+fn new_is_refused(rt: &impl Abort, alloc: Global) -> bool {
+    let config = two_realms(rt, alloc, 2);
+    let over = Refusing::new(alloc);
+    is_refused(&over, &config)
 }
 
 #[test]
