@@ -1,7 +1,6 @@
 -- The rooms of a shard's tick, one realm after the other.
 use Rattle.std.proofs.Common.{◌≡◌, ℕ, zero, suc, ◌+◌, ◌<◌, Bool, true, false, List, [], ◌∷◌, ◌++◌, length, take, Option, Some, None, is_some, refl, sym, ap, subst, ◌∙◌, arith}
 use Rattle.std.specs.Prelude.{slice_get}
-use Rattle.std.specs.List.{AllByRecursion}
 use Rattle.std.proofs.lemmas.List.{length-append, take_more}
 use Rattle.roam_conf.specs.Config.{ConfigView}
 use Rattle.roam_pending.specs.PlainEntry.{PlainEntry}
@@ -14,10 +13,14 @@ use Rattle.roam_core.specs.ShardRooms.{most_of, most_of_all, Fits, IsRealmRoom, 
 use Rattle.roam_shard.specs.Rooms.{AllTwice, IsTwice}
 use Rattle.roam_shard.specs.ShardView.{OpeningView, state_seen, states_from}
 use Rattle.roam_shard.specs.Twins.{AreOwnRooms}
-use Rattle.roam_shard.proofs.ShardLemmas.{length-states, state-seen}
+use Rattle.roam_shard.proofs.ShardLemmas.{state-seen}
 
 -- one room more
-rooms-push : {A : Type 0} → (config : ConfigView) (now shard realm first : ℕ) (ss : List RealmState) (rooms : List (Option (Room A))) (s : RealmState) (room : Option (Room A)) → AreRooms config now shard first ss rooms → realm ≡ first + length ss → IsRealmRoom now (is_in_shard config shard realm) s.entries room → AreRooms config now shard first (ss ++ s ∷ []) (rooms ++ room ∷ [])
+rooms-push : {A : Type 0} → (config : ConfigView) (now shard realm first : ℕ) (ss : List RealmState)
+    (rooms : List (Option (Room A))) (s : RealmState) (room : Option (Room A))
+    → AreRooms config now shard first ss rooms → realm ≡ first + length ss
+    → IsRealmRoom now (is_in_shard config shard realm) s.entries room
+    → AreRooms config now shard first (ss ++ s ∷ []) (rooms ++ room ∷ [])
 rooms-push config now shard realm first [] [] s room are is own =
     let same : realm ≡ first = omega arith in
     (subst (λ (r : ℕ). IsRealmRoom now (is_in_shard config shard r) s.entries room) same own, tt)
@@ -26,66 +29,108 @@ rooms-push config now shard realm first (x ∷ xs) [] s room are is own = absurd
 rooms-push config now shard realm first (x ∷ xs) (r ∷ rs) s room are is own =
     (are.0, rooms-push config now shard realm (first + 1) xs rs s room are.1 (omega arith) own)
 
-most-push : {A : Type 0} → (rooms : List (Option (Room A))) (room : Option (Room A)) → most_of_all (rooms ++ room ∷ []) ≡ most_of_all rooms + most_of room
+most-push : {A : Type 0} → (rooms : List (Option (Room A))) (room : Option (Room A))
+    → most_of_all (rooms ++ room ∷ []) ≡ most_of_all rooms + most_of room
 most-push [] room = omega arith
 most-push (r ∷ rs) room = omega (arith, most-push rs room)
 
-twice-push : {A : Type 0} → (rooms : List (Option (Room A))) (room : Option (Room A)) → AllTwice rooms → IsTwice room → AllTwice (rooms ++ room ∷ [])
+twice-push : {A : Type 0} → (rooms : List (Option (Room A))) (room : Option (Room A))
+    → AllTwice rooms → IsTwice room → AllTwice (rooms ++ room ∷ [])
 twice-push [] room all one = (one, tt)
 twice-push (r ∷ rs) room all one = (all.0, twice-push rs room all.1 one)
 
 -- the rooms of the first realms
-pub record AreGathered {A : Type 0} (config : ConfigView) (now shard count : ℕ) (states : List RealmState) (rooms : List (Option (Room A))) (most : ℕ) : Type 0 where
+pub record AreGathered {A : Type 0} (config : ConfigView) (now shard count : ℕ)
+    (states : List RealmState) (rooms : List (Option (Room A))) (most : ℕ) : Type 0 where
   pub each : AreRooms config now shard 0 (take count states) rooms
   pub twice : AllTwice rooms
   pub number : length (take count states) ≡ count
   pub packets : most ≡ most_of_all rooms
 
-pub none-gathered : {A : Type 0} → (config : ConfigView) (now shard : ℕ) (states : List RealmState) → AreGathered {A = A} config now shard 0 states [] 0
-none-gathered config now shard states = record { each = tt; twice = tt; number = refl; packets = refl }
+pub none-gathered : {A : Type 0} → (config : ConfigView) (now shard : ℕ) (states : List RealmState)
+    → AreGathered {A = A} config now shard 0 states [] 0
+none-gathered config now shard states =
+    record { each = tt; twice = tt; number = refl; packets = refl }
 
-pub one-more-gathered : {A : Type 0} → (config : ConfigView) (now shard count : ℕ) (states : List RealmState) (rooms : List (Option (Room A))) (most more : ℕ) (room : Option (Room A)) → AreGathered config now shard count states rooms most → count < length states → IsRealmRoom now (is_in_shard config shard count) (state_at states count).entries room → IsTwice room → more ≡ most + most_of room → AreGathered config now shard (count + 1) states (rooms ++ room ∷ []) more
+pub one-more-gathered : {A : Type 0}
+    → (config : ConfigView) (now shard count : ℕ) (states : List RealmState)
+    (rooms : List (Option (Room A))) (most more : ℕ) (room : Option (Room A))
+    → AreGathered config now shard count states rooms most → count < length states
+    → IsRealmRoom now (is_in_shard config shard count) (state_at states count).entries room
+    → IsTwice room → more ≡ most + most_of room
+    → AreGathered config now shard (count + 1) states (rooms ++ room ∷ []) more
 one-more-gathered config now shard count states rooms most more room are within own twice sum =
-    let front : take (count + 1) states ≡ take count states ++ state_at states count ∷ [] = take_more states count no_state within in
+    let front : take (count + 1) states ≡ take count states ++ state_at states count ∷ [] =
+    take_more states count no_state within in
     record {
-      each = subst (λ (l : List RealmState). AreRooms config now shard 0 l (rooms ++ room ∷ [])) (sym front)
-          (rooms-push config now shard count 0 (take count states) rooms (state_at states count) room are.each (omega (arith, are.number)) own);
+      each =
+          subst (λ (l : List RealmState). AreRooms config now shard 0 l (rooms ++ room ∷ []))
+          (sym front)
+          (rooms-push config now shard count 0 (take count states) rooms (state_at states count)
+          room are.each (omega (arith, are.number)) own);
       twice = twice-push rooms room are.twice twice;
-      number = ap (λ (l : List RealmState). length l) front ∙ omega (arith, length-append (take count states) (state_at states count ∷ []), are.number);
+      number =
+          ap (λ (l : List RealmState). length l) front
+          ∙ omega (
+            arith,
+            length-append (take count states) (state_at states count ∷ []),
+            are.number,
+          );
       packets = sum ∙ ap (λ (n : ℕ). n + most_of room) are.packets ∙ sym (most-push rooms room);
     }
 
-pub all-gathered : {A : Type 0} → (config : ConfigView) (now shard count : ℕ) (states : List RealmState) (rooms : List (Option (Room A))) (most : ℕ) → AreGathered config now shard count states rooms most → length states ≡ count → AreRooms config now shard 0 states rooms
+pub all-gathered : {A : Type 0}
+    → (config : ConfigView) (now shard count : ℕ) (states : List RealmState)
+    (rooms : List (Option (Room A))) (most : ℕ)
+    → AreGathered config now shard count states rooms most → length states ≡ count
+    → AreRooms config now shard 0 states rooms
 all-gathered config now shard count states rooms most are all =
-    subst (λ (l : List RealmState). AreRooms config now shard 0 l rooms) (take_whole states count all) are.each
+    subst (λ (l : List RealmState). AreRooms config now shard 0 l rooms)
+    (take_whole states count all) are.each
   where
     take_whole : (xs : List RealmState) (n : ℕ) → length xs ≡ n → take n xs ≡ xs
     take_whole [] zero is = refl
     take_whole [] (suc n) is = refl
     take_whole (x ∷ xs) zero is = absurd (omega arith)
-    take_whole (x ∷ xs) (suc n) is = ap (λ (l : List RealmState). x ∷ l) (take_whole xs n (omega arith))
+    take_whole (x ∷ xs) (suc n) is =
+        ap (λ (l : List RealmState). x ∷ l) (take_whole xs n (omega arith))
 
 -- the room of a realm is that of its state: none where it isn't one of the shard's own
-fits_seen : {A : Type 0} → (o : OpeningView) (now r : ℕ) (entries : List PlainEntry) (n : Option (Numbers A)) (room : Option (Room A)) → IsRealmRoom now (is_some n) entries room → Fits now (state_seen o r entries n).entries room
+fits_seen : {A : Type 0} → (o : OpeningView) (now r : ℕ) (entries : List PlainEntry)
+    (n : Option (Numbers A)) (room : Option (Room A)) → IsRealmRoom now (is_some n) entries room
+    → Fits now (state_seen o r entries n).entries room
 fits_seen o now r entries None None own = tt
 fits_seen o now r entries None (Some room) own = absurd (let bad : true ≡ false = own.part in cc)
 fits_seen o now r entries (Some m) room own = own.fits
 
-pub room_seen : {A : Type 0} → (o : OpeningView) (now r : ℕ) (E : ℕ → List PlainEntry) (ns : List (Option (Numbers A))) (n : Option (Numbers A)) (room : Option (Room A)) → slice_get ns r ≡ Some n → is_some n ≡ is_in_shard o.config o.shard r
-    → IsRealmRoom now (is_some n) (E r) room → IsRealmRoom now (is_in_shard o.config o.shard r) (state_at (states_from o E 0 ns) r).entries room
+pub room_seen : {A : Type 0}
+    → (o : OpeningView) (now r : ℕ) (E : ℕ → List PlainEntry) (ns : List (Option (Numbers A)))
+    (n : Option (Numbers A)) (room : Option (Room A)) → slice_get ns r ≡ Some n
+    → is_some n ≡ is_in_shard o.config o.shard r
+    → IsRealmRoom now (is_some n) (E r) room
+    → IsRealmRoom now (is_in_shard o.config o.shard r)
+    (state_at (states_from o E 0 ns) r).entries room
 room_seen o now r E ns n room at is own = record {
   part = own.part ∙ is;
-  fits = subst (λ (s : RealmState). Fits now s.entries room) (sym (state-seen o E r ns n at)) (fits_seen o now r (E r) n room own);
+  fits =
+      subst (λ (s : RealmState). Fits now s.entries room) (sym (state-seen o E r ns n at))
+      (fits_seen o now r (E r) n room own);
 }
 
 -- a room is there just for a realm of the shard
-own_room : {A : Type 0} → (now : ℕ) (own : Bool) (entries : List PlainEntry) (room : Option (Room A)) → IsRealmRoom now own entries room → is_some room ≡ true → own ≡ true
+own_room : {A : Type 0} → (now : ℕ) (own : Bool) (entries : List PlainEntry)
+    (room : Option (Room A)) → IsRealmRoom now own entries room → is_some room ≡ true → own ≡ true
 own_room now own entries room is there = sym is.part ∙ there
 
-pub own_rooms : {A : Type 0} → (o : OpeningView) (now r : ℕ) (ss : List RealmState) (rooms : List (Option (Room A))) → AreRooms o.config now o.shard r ss rooms → AreOwnRooms o r rooms
+pub own_rooms : {A : Type 0}
+    → (o : OpeningView) (now r : ℕ) (ss : List RealmState) (rooms : List (Option (Room A)))
+    → AreRooms o.config now o.shard r ss rooms → AreOwnRooms o r rooms
 own_rooms o now r [] [] are = tt
 own_rooms o now r [] (room ∷ rooms) are = absurd are
 own_rooms o now r (s ∷ ss) [] are = absurd are
 own_rooms o now r (s ∷ ss) (None ∷ rooms) are = (tt, own_rooms o now (r + 1) ss rooms are.1)
-own_rooms o now r (s ∷ ss) (Some room ∷ rooms) are =
-    (own_room now (is_in_shard o.config o.shard r) s.entries (Some room) are.0 refl, own_rooms o now (r + 1) ss rooms are.1)
+own_rooms o now r (s ∷ ss) (Some room ∷ rooms) are = (
+  own_room now (is_in_shard o.config o.shard r) s.entries (Some room) are.0 refl,
+  own_rooms o now
+      (r + 1) ss rooms are.1,
+)

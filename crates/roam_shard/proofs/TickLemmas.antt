@@ -1,5 +1,5 @@
 -- A shard's tick, whose packets are given twice.
-use Rattle.std.proofs.Common.{◌≡◌, ℕ, ◌+◌, ◌<◌, ◌≤◌, ◌^◌, true, false, List, [], ◌∷◌, ◌++◌, length, Option, Some, None, refl, ap, sym, ◌∙◌, subst, arith, vec_len, vec_capacity}
+use Rattle.std.proofs.Common.{◌≡◌, ℕ, ◌+◌, ◌<◌, ◌≤◌, ◌^◌, true, false, List, [], ◌∷◌, length, Option, Some, refl, ap, sym, ◌∙◌, subst, arith}
 use Rattle.std.specs.Prelude.{nat_lt}
 use Rattle.std.proofs.lemmas.Bool.Decides.{nat_tests}
 use Rattle.std.proofs.lemmas.List.{length-map}
@@ -11,9 +11,8 @@ use Rattle.roam_route.specs.declared.datagram.Out.{Out}
 use Rattle.roam_book.specs.RealmState.{RealmState}
 use Rattle.roam_book.specs.Turn.{shown_outs}
 use Rattle.roam_book.specs.declared.answer.Answer.{Answer}
-use Rattle.roam_book.specs.declared.answer.Twin.{Twin}
 use Rattle.roam_book.specs.declared.room.Room.{Room}
-use Rattle.roam_core.specs.ManyRealms.{AllRealms, tick_from, to_tick}
+use Rattle.roam_core.specs.ManyRealms.{to_tick}
 use Rattle.roam_core.specs.ShardRooms.{most_of_all}
 use Rattle.roam_core.specs.Steps.{IsAnswer}
 use Rattle.roam_shard.specs.Rooms.{AllTwice, HasPlaces, IsTwice}
@@ -22,36 +21,50 @@ use Rattle.roam_shard.specs.Twins.{AreOwnRooms, IsOwnRoom}
 use Rattle.roam_shard.specs.declared.ticking.Both.{Both}
 
 -- lists that show the same have as many packets
-pub as_many_shown : {A : Type 0} → (one two : List (Out A)) (packets : List PlainOut) → shown_outs one ≡ packets → shown_outs two ≡ packets → length one ≡ length two
+pub as_many_shown : {A : Type 0} → (one two : List (Out A)) (packets : List PlainOut)
+    → shown_outs one ≡ packets → shown_outs two ≡ packets → length one ≡ length two
 as_many_shown one two packets first second =
     let same = ap (λ (l : List PlainOut). length l) (first ∙ sym second) in
     omega (arith, length-map one shown_out, length-map two shown_out, same)
 
 -- what has places for some packets has them for fewer
-pub fewer_places : {A : Type 0} → (many few : ℕ) (b : Both A) → few ≤ many → HasPlaces many b → HasPlaces few b
-fewer_places many few b le has = record { sent = omega (arith, has.sent, le); copies = omega (arith, has.copies, le) }
+pub fewer_places : {A : Type 0} → (many few : ℕ) (b : Both A) → few ≤ many → HasPlaces many b
+    → HasPlaces few b
+fewer_places many few b le has =
+    record { sent = omega (arith, has.sent, le); copies = omega (arith, has.copies, le) }
 
 -- the rooms that are left
-pub record AreLeft {A : Type 0} (o : OpeningView) (realm : ℕ) (left : List (Option (Room A))) (b : Both A) : Type 0 where
+pub record AreLeft {A : Type 0} (o : OpeningView) (realm : ℕ) (left : List (Option (Room A)))
+    (b : Both A) : Type 0 where
   pub own : AreOwnRooms o realm left
   pub twice : AllTwice left
   pub places : HasPlaces (most_of_all left) b
 
-pub next_own : {A : Type 0} → (o : OpeningView) (realm : ℕ) (left after : List (Option (Room A))) (room : Option (Room A)) → left ≡ room ∷ after → AreOwnRooms o realm left → IsOwnRoom o realm room × AreOwnRooms o (realm + 1) after
+pub next_own : {A : Type 0}
+    → (o : OpeningView) (realm : ℕ) (left after : List (Option (Room A))) (room : Option (Room A))
+    → left ≡ room ∷ after → AreOwnRooms o realm left
+    → IsOwnRoom o realm room × AreOwnRooms o (realm + 1) after
 next_own o realm left after room is own = subst (λ l. AreOwnRooms o realm l) is own
 
-pub next_twice : {A : Type 0} → (left after : List (Option (Room A))) (room : Option (Room A)) → left ≡ room ∷ after → AllTwice left → IsTwice room × AllTwice after
+pub next_twice : {A : Type 0} → (left after : List (Option (Room A))) (room : Option (Room A))
+    → left ≡ room ∷ after → AllTwice left → IsTwice room × AllTwice after
 next_twice left after room is twice = subst (λ l. AllTwice l) is twice
 
 -- an answer that refuses a tick that comes too late, and one to a tick with nothing to do
-pub too_late : {A : Type 0} → (answer : Answer A) (config : ConfigView) (states : List RealmState) (now shard : ℕ) → shard < config.shards → 2 ^ 62 < now → shown_outs answer.outs.items ≡ [] → answer.refusal ≡ Some refusal.Moment
+pub too_late : {A : Type 0}
+    → (answer : Answer A) (config : ConfigView) (states : List RealmState) (now shard : ℕ)
+    → shard < config.shards → 2 ^ 62 < now → shown_outs answer.outs.items ≡ []
+    → answer.refusal ≡ Some refusal.Moment
     → IsAnswer answer states states (to_tick config states now shard)
 too_late answer config states now shard there late packets why =
     let one : nat_lt shard config.shards ≡ true = grind (arith, nat_tests) in
     let other : nat_lt (2 ^ 62) now ≡ true = grind (arith, nat_tests) in
     rw (one, other) (record { packets = packets; refusal = why; states = refl })
 
-pub no_such_shard : {A : Type 0} → (answer : Answer A) (config : ConfigView) (states : List RealmState) (now shard : ℕ) → config.shards ≤ shard → shown_outs answer.outs.items ≡ [] → answer.refusal ≡ Some refusal.NoShard
+pub no_such_shard : {A : Type 0}
+    → (answer : Answer A) (config : ConfigView) (states : List RealmState) (now shard : ℕ)
+    → config.shards ≤ shard → shown_outs answer.outs.items ≡ []
+    → answer.refusal ≡ Some refusal.NoShard
     → IsAnswer answer states states (to_tick config states now shard)
 no_such_shard answer config states now shard past packets why =
     let one : nat_lt shard config.shards ≡ false = grind (arith, nat_tests) in

@@ -3,7 +3,7 @@ use Rattle.std.specs.Prelude.{◌≡◌, ℕ, zero, suc, ◌+◌, ◌≤◌, ◌
 use Rattle.roam_conf.specs.Config.{ConfigView}
 use Rattle.roam_book.specs.RealmState.{RealmState}
 use Rattle.roam_core.specs.ManyRealms.{state_at}
-use Rattle.roam_shard.specs.ShardView.{OpeningView, ShardView}
+use Rattle.roam_shard.specs.ShardView.{ShardView}
 
 -- what stands for a shard that isn't there
 abbrev pub no_shard : ConfigView → ShardView

@@ -1,5 +1,5 @@
 -- The numbers of a shard's realms when it begins: words of private functions alone (ours).
-use Rattle.std.specs.Prelude.{◌≡◌, ℕ, Bool, List, [], Option, Some, None, is_some, IfSome, length, replicate, slice_get}
+use Rattle.std.specs.Prelude.{◌≡◌, ℕ, Bool, List, [], Option, Some, is_some, IfSome, length, replicate, slice_get}
 use Rattle.roam_conf.specs.Config.{ConfigView}
 use Rattle.roam_book.specs.RealmConfig.{RealmConfig, link_count, realm_config}
 use Rattle.roam_book.specs.Sound.{AreOwnLanes, LanesTell, cursors_of, marks_of}

@@ -2,7 +2,6 @@
 use Rattle.std.specs.Prelude.{◌≡◌, ℕ, ◌+◌, true, List, [], ◌∷◌, Option, IfSome, Result, Ok, Err}
 use Rattle.std.specs.List.{AllByRecursion}
 use Rattle.roam_wire.specs.declared.refusal.NoMemory.{NoMemory}
-use Rattle.roam_conf.specs.Config.{ConfigView}
 use Rattle.roam_pending.specs.DueOrder.{due_list}
 use Rattle.roam_book.specs.RealmState.{RealmState}
 use Rattle.roam_book.specs.declared.answer.Twin.{Twin}

@@ -18,7 +18,9 @@ pub on_ok : {X E : Type 0} (P Q : Type 0) (r : Result X E) → (P → Q) → OnO
 on_ok P Q (Ok x) f h = f h
 on_ok P Q (Err e) f h = tt
 
-module _ {A H : Type 0} (s : Slab (Slot A)) (t : IndexMap TicketKey ℕ H) (c : IndexMap ClientKey ℕ H) (rs : List (Runs A)) (sound : Sound (place s) (ticket_at t) (client_at c) rs)
+module _ {A H : Type 0} (s : Slab (Slot A)) (t : IndexMap TicketKey ℕ H)
+    (c : IndexMap ClientKey ℕ H) (rs : List (Runs A))
+    (sound : Sound (place s) (ticket_at t) (client_at c) rs)
     (v : List RealmView) (is : tables_view s t c rs ≡ v) where
   pub kept_within : (r : ℕ) → r < length v → r < length rs
   kept_within r lt = (let k = seen_length s t c rs sound v is in omega arith)
@@ -26,8 +28,10 @@ module _ {A H : Type 0} (s : Slab (Slot A)) (t : IndexMap TicketKey ℕ H) (c : 
   pub grow_room_was : (r : ℕ) → 0 < room_in v r → 0 < room_at s t c rs r
   grow_room_was r h = (let k = seen_room s t c rs sound v is r in omega arith)
 
-  module _ (r : ℕ) (s2 : Slab (Slot A)) (t2 : IndexMap TicketKey ℕ H) (c2 : IndexMap ClientKey ℕ H) (rs2 : List (Runs A))
-      (slots : place s2 ≡ place s) (tickets : ticket_at t2 ≡ ticket_at t) (clients : client_at c2 ≡ client_at c) (runs : AtRealm SameRuns rs rs2 r) where
+  module _ (r : ℕ) (s2 : Slab (Slot A)) (t2 : IndexMap TicketKey ℕ H) (c2 : IndexMap ClientKey ℕ H)
+      (rs2 : List (Runs A))
+      (slots : place s2 ≡ place s) (tickets : ticket_at t2 ≡ ticket_at t)
+      (clients : client_at c2 ≡ client_at c) (runs : AtRealm SameRuns rs rs2 r) where
     pub grow_sound : Sound (place s2) (ticket_at t2) (client_at c2) rs2
     grow_sound =
         subst (λ (S : ℕ → Option Stored). Sound S (ticket_at t2) (client_at c2) rs2) (sym slots)
@@ -38,17 +42,25 @@ module _ {A H : Type 0} (s : Slab (Slot A)) (t : IndexMap TicketKey ℕ H) (c : 
     pub grow_entries : entries_in (tables_view s2 t2 c2 rs2) ≡ entries_in v
     grow_entries =
         seen_entries s2 t2 c2 rs2 grow_sound (tables_view s2 t2 c2 rs2) refl
-        ∙ ap (λ (S : ℕ → Option Stored). entries_at S (ticket_at t2)) slots ∙ ap (λ (T : TicketKey → Option ℕ). entries_at (place s) T) tickets
+        ∙ ap (λ (S : ℕ → Option Stored). entries_at S (ticket_at t2)) slots
+        ∙ ap (λ (T : TicketKey → Option ℕ). entries_at (place s) T) tickets
         ∙ sym (seen_entries s t c rs sound v is)
 
-    pub grow_room : slab_room s ≤ slab_room s2 → spare t ≤ spare t2 → spare c ≤ spare c2 → room_in v r ≤ room_in (tables_view s2 t2 c2 rs2) r
+    pub grow_room : slab_room s ≤ slab_room s2 → spare t ≤ spare t2 → spare c ≤ spare c2
+        → room_in v r ≤ room_in (tables_view s2 t2 c2 rs2) r
     grow_room x y z =
-        let k = tables_room s t c rs sound v is s2 t2 c2 rs2 grow_sound (tables_view s2 t2 c2 rs2) refl r 0
-        (four_fewer _ _ _ _ _ _ _ _ 0 (omega arith) (omega arith) (omega arith) (at_realm_fewer SameRuns rs rs2 r 0 runs runs.becomes.as_many (let a = runs.becomes.waits_len in let b = runs.becomes.holds_len in omega arith))) in
+        let k = tables_room s t c rs sound v is s2 t2 c2 rs2 grow_sound (tables_view s2 t2 c2 rs2)
+        refl r 0
+        (four_fewer _ _ _ _ _ _ _ _ 0 (omega arith) (omega arith) (omega arith)
+        (at_realm_fewer SameRuns rs rs2 r 0 runs runs.becomes.as_many
+        (let a = runs.becomes.waits_len in let b = runs.becomes.holds_len in omega arith))) in
         omega arith
 
     pub grow_realms : length (tables_view s2 t2 c2 rs2) ≡ length v
-    grow_realms = tables_realms s t c rs sound v is s2 t2 c2 rs2 grow_sound (tables_view s2 t2 c2 rs2) refl runs.same_length
+    grow_realms =
+        tables_realms s t c rs sound v is s2 t2 c2 rs2 grow_sound (tables_view s2 t2 c2 rs2) refl
+        runs.same_length
 
     pub grow_ok : 0 < room_at s2 t2 c2 rs2 r → 0 < room_in (tables_view s2 t2 c2 rs2) r
-    grow_ok h = (let k = seen_room s2 t2 c2 rs2 grow_sound (tables_view s2 t2 c2 rs2) refl r in omega arith)
+    grow_ok h =
+        (let k = seen_room s2 t2 c2 rs2 grow_sound (tables_view s2 t2 c2 rs2) refl r in omega arith)

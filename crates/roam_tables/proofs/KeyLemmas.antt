@@ -28,8 +28,10 @@ equal a b h = grind (arith, nat_tests, h)
 pub ticket_equality : IsEquality ticket_eq
 ticket_equality = record {
   same = λ a b h. (
-      let realm = equal a.realm b.realm (and_left (eqb a.realm b.realm) (eqb a.ticket b.ticket) h) in
-      let ticket = equal a.ticket b.ticket (and_right (eqb a.realm b.realm) (eqb a.ticket b.ticket) h) in
+      let realm =
+      equal a.realm b.realm (and_left (eqb a.realm b.realm) (eqb a.ticket b.ticket) h) in
+      let ticket =
+      equal a.ticket b.ticket (and_right (eqb a.realm b.realm) (eqb a.ticket b.ticket) h) in
       λ i. record { realm = realm i; ticket = ticket i });
   itself = λ a. rw (same a.realm a.realm refl) (same a.ticket a.ticket refl);
 }
@@ -59,8 +61,11 @@ regroup false b c = refl
 
 key_tests : (a b : Key) → (keys.ghosts).eq a b ≡ same_key a b
 key_tests a b =
-    let parts : (keys.ghosts).eq a b ≡ ((places.ghosts).eq a.place b.place && (same_endpoint a.from b.from && eqb a.id b.id)) = refl in
-    parts ∙ ap (λ (t : Bool). t && (same_endpoint a.from b.from && eqb a.id b.id)) (place_tests a.place b.place)
+    let parts : (keys.ghosts).eq a b
+    ≡ ((places.ghosts).eq a.place b.place && (same_endpoint a.from b.from && eqb a.id b.id)) =
+    refl in
+    parts ∙ ap (λ (t : Bool). t && (same_endpoint a.from b.from && eqb a.id b.id))
+    (place_tests a.place b.place)
     ∙ regroup (same_place a.place b.place) (same_endpoint a.from b.from) (eqb a.id b.id)
 
 client_tests : (a b : ClientKey) → client_eq a b ≡ (eqb a.realm b.realm && same_key a.key b.key)
@@ -70,8 +75,10 @@ pub client_equality : IsEquality client_eq
 client_equality = record {
   same = λ a b h. (
       let both = sym (client_tests a b) ∙ h in
-      let realm = equal a.realm b.realm (and_left (eqb a.realm b.realm) (same_key a.key b.key) both) in
-      let key = key-equal a.key b.key (and_right (eqb a.realm b.realm) (same_key a.key b.key) both) in
+      let realm =
+      equal a.realm b.realm (and_left (eqb a.realm b.realm) (same_key a.key b.key) both) in
+      let key =
+      key-equal a.key b.key (and_right (eqb a.realm b.realm) (same_key a.key b.key) both) in
       λ i. record { realm = realm i; key = key i });
   itself = λ a. client_tests a a ∙ rw (same a.realm a.realm refl) (key_is_same a.key);
 }

@@ -14,30 +14,41 @@ use Rattle.roam_tables.specs.Marks.{AreEmpty, IsRunsOf, Tells, part_at, waits_pa
 use Rattle.roam_tables.specs.Stands.{Sound, Stored, entries_at, entry_at}
 use Rattle.roam_tables.proofs.ListedLemmas.{listed_nobody}
 
-all_get : {X : Type 0} (P : X → Type 0) (xs : List X) (k : ℕ) (x : X) → AllByRecursion P xs → slice_get xs k ≡ Some x → P x
+all_get : {X : Type 0} (P : X → Type 0) (xs : List X) (k : ℕ) (x : X) → AllByRecursion P xs
+    → slice_get xs k ≡ Some x → P x
 all_get P [] k x all at = absurd (let bad : None ≡ Some x = at in cc)
-all_get P (y ∷ ys) zero x all at = (let some : Some y ≡ Some x = at in let is : y ≡ x = cc in subst P is all.0)
+all_get P (y ∷ ys) zero x all at =
+    (let some : Some y ≡ Some x = at in let is : y ≡ x = cc in subst P is all.0)
 all_get P (y ∷ ys) (suc k) x all at = all_get P ys k x all.1 at
 
-tells_nothing : {X : Type 0} (cmp : X → X → Ordering) (part : Mark → Option X) (f : ℕ → Option PlainEntry) (xs : List X) → ((t : ℕ) → f t ≡ None) → xs ≡ [] → Tells cmp (part_at part f) xs
+tells_nothing : {X : Type 0} (cmp : X → X → Ordering) (part : Mark → Option X)
+    (f : ℕ → Option PlainEntry) (xs : List X) → ((t : ℕ) → f t ≡ None) → xs ≡ []
+    → Tells cmp (part_at part f) xs
 tells_nothing cmp part f xs none empty = rw empty (record {
   rises = tt;
-  told = λ t x at. absurd (let here : part_at part f t ≡ None = rw (none t) refl in let bad : None ≡ Some x = sym here ∙ at in cc);
+  told =
+      λ t x at. absurd (let here : part_at part f t ≡ None = rw (none t) refl in
+      let bad : None ≡ Some x = sym here ∙ at in cc);
   only = λ x held. absurd held;
 })
 
-runs_of_nothing : {A : Type 0} (f : ℕ → Option PlainEntry) (q : Runs A) → ((t : ℕ) → f t ≡ None) → AreEmpty q → IsRunsOf f q
+runs_of_nothing : {A : Type 0} (f : ℕ → Option PlainEntry) (q : Runs A) → ((t : ℕ) → f t ≡ None)
+    → AreEmpty q → IsRunsOf f q
 runs_of_nothing f q none empty = record {
   waits = tells_nothing due_cmp waits_part f q.waits.items none empty.waits;
   holds = tells_nothing due_cmp holds_part f q.holds.items none empty.holds;
   tickets = tells_nothing nat_cmp tickets_part f q.tickets.items none empty.tickets;
   count = ap length (listed_nobody f 0 tickets_end none) ∙ sym empty.held;
   paired = empty.paired;
-  room = (let h = empty.held in record { waits = omega arith; holds = omega arith; tickets = omega arith });
+  room =
+      (let h = empty.held in record
+      { waits = omega arith; holds = omega arith; tickets = omega arith });
 }
 
-module _ {A : Type 0} (S : ℕ → Option Stored) (T : TicketKey → Option ℕ) (C : ClientKey → Option ℕ) (rs : List (Runs A))
-    (slots : (i : ℕ) → S i ≡ None) (tickets : (k : TicketKey) → T k ≡ None) (clients : (k : ClientKey) → C k ≡ None) where
+module _ {A : Type 0} (S : ℕ → Option Stored) (T : TicketKey → Option ℕ) (C : ClientKey → Option ℕ)
+    (rs : List (Runs A))
+    (slots : (i : ℕ) → S i ≡ None) (tickets : (k : TicketKey) → T k ≡ None)
+    (clients : (k : ClientKey) → C k ≡ None) where
   nobody : (r t : ℕ) → entry_at S T r t ≡ None
   nobody r t = rw (tickets (record { realm = r; ticket = t })) refl
 
@@ -47,14 +58,19 @@ module _ {A : Type 0} (S : ℕ → Option Stored) (T : TicketKey → Option ℕ)
   pub sound_empty : AllByRecursion AreEmpty rs → Sound S T C rs
   sound_empty all = record {
     tickets = record {
-      points = λ k i at. absurd (let none = tickets k in let bad : None ≡ Some i = sym none ∙ at in cc);
-      finds = λ i x at. absurd (let none = slots i in let bad : None ≡ Some x = sym none ∙ at in cc);
+      points =
+          λ k i at. absurd (let none = tickets k in let bad : None ≡ Some i = sym none ∙ at in cc);
+      finds =
+          λ i x at. absurd (let none = slots i in let bad : None ≡ Some x = sym none ∙ at in cc);
     };
     clients = record {
-      points = λ k i at. absurd (let none = clients k in let bad : None ≡ Some i = sym none ∙ at in cc);
-      finds = λ i x at. absurd (let none = slots i in let bad : None ≡ Some x = sym none ∙ at in cc);
+      points =
+          λ k i at. absurd (let none = clients k in let bad : None ≡ Some i = sym none ∙ at in cc);
+      finds =
+          λ i x at. absurd (let none = slots i in let bad : None ≡ Some x = sym none ∙ at in cc);
     };
     within = λ i x at. absurd (let none = slots i in let bad : None ≡ Some x = sym none ∙ at in cc);
-    below_end = λ i x at. absurd (let none = slots i in let bad : None ≡ Some x = sym none ∙ at in cc);
+    below_end =
+        λ i x at. absurd (let none = slots i in let bad : None ≡ Some x = sym none ∙ at in cc);
     runs = λ r q at. runs_of_nothing (entry_at S T r) q (nobody r) (all_get AreEmpty rs r q all at);
   }

@@ -13,7 +13,8 @@ less_of_three a b c h x y z = omega arith
 least_three : (a b c h : ℕ) → 0 < min a (min b c) - h → (h + 1 ≤ a) × (h + 1 ≤ b) × (h + 1 ≤ c)
 least_three a b c h x = (omega arith, omega arith, omega arith)
 
-three_fewer : (a b c h a2 b2 c2 h2 n : ℕ) → a ≤ a2 → b ≤ b2 → c ≤ c2 → h2 ≤ h + n → min a (min b c) - h ≤ (min a2 (min b2 c2) - h2) + n
+three_fewer : (a b c h a2 b2 c2 h2 n : ℕ) → a ≤ a2 → b ≤ b2 → c ≤ c2 → h2 ≤ h + n
+    → min a (min b c) - h ≤ (min a2 (min b2 c2) - h2) + n
 three_fewer a b c h a2 b2 c2 h2 n x y z w = omega arith
 
 pub four_positive : (a b c d : ℕ) → 0 < a → 0 < b → 0 < c → 0 < d → 0 < least_room a b c d
@@ -25,16 +26,22 @@ each_positive a b c d h = (omega arith, omega arith, omega arith, omega arith)
 two_fewer : (a b a2 b2 n : ℕ) → a ≤ a2 + n → b ≤ b2 + n → min a b ≤ min a2 b2 + n
 two_fewer a b a2 b2 n x y = omega arith
 
-pub four_fewer : (a b c d a2 b2 c2 d2 n : ℕ) → a ≤ a2 + n → b ≤ b2 + n → c ≤ c2 + n → d ≤ d2 + n → least_room a b c d ≤ least_room a2 b2 c2 d2 + n
-four_fewer a b c d a2 b2 c2 d2 n x y z w = two_fewer (min a b) (min c d) (min a2 b2) (min c2 d2) n (two_fewer a b a2 b2 n x y) (two_fewer c d c2 d2 n z w)
+pub four_fewer : (a b c d a2 b2 c2 d2 n : ℕ) → a ≤ a2 + n → b ≤ b2 + n → c ≤ c2 + n → d ≤ d2 + n
+    → least_room a b c d ≤ least_room a2 b2 c2 d2 + n
+four_fewer a b c d a2 b2 c2 d2 n x y z w =
+    two_fewer (min a b) (min c d) (min a2 b2) (min c2 d2) n (two_fewer a b a2 b2 n x y)
+    (two_fewer c d c2 d2 n z w)
 
 module _ {A : Type 0} where
   pub holds_room : (q : Runs A) → Holds q (held q + 1) → 0 < runs_room (Some q)
-  holds_room q h = less_of_three (deque_capacity q.waits) (deque_capacity q.holds) (deque_capacity q.tickets) (held q) h.waits h.holds h.tickets
+  holds_room q h =
+      less_of_three (deque_capacity q.waits) (deque_capacity q.holds) (deque_capacity q.tickets)
+      (held q) h.waits h.holds h.tickets
 
   pub room_holds : (q : Runs A) → 0 < runs_room (Some q) → Holds q (held q + 1)
   room_holds q h = (
-      let k = least_three (deque_capacity q.waits) (deque_capacity q.holds) (deque_capacity q.tickets) (held q) h in
+      let k = least_three (deque_capacity q.waits) (deque_capacity q.holds)
+      (deque_capacity q.tickets) (held q) h in
       record { waits = k.0; holds = k.1; tickets = k.2 })
 
   -- there is a realm where there is room for its entries
@@ -45,15 +52,22 @@ module _ {A : Type 0} where
       by None at k = absurd (omega arith)
       by (Some q) at k = slice_get_within rs r q at
 
-  pub room_of : (rs : List (Runs A)) (r : ℕ) → 0 < runs_room (slice_get rs r) → (q : Runs A) → slice_get rs r ≡ Some q → Holds q (held q + 1)
+  pub room_of : (rs : List (Runs A)) (r : ℕ) → 0 < runs_room (slice_get rs r) → (q : Runs A)
+      → slice_get rs r ≡ Some q → Holds q (held q + 1)
   room_of rs r h q at = room_holds q (subst (λ (o : Option (Runs A)). 0 < runs_room o) at h)
 
-  pub runs_fewer : (old new : Runs A) (n : ℕ) → HoldsAsMany old new → held new ≤ held old + n → runs_room (Some old) ≤ runs_room (Some new) + n
-  runs_fewer old new n many le = three_fewer _ _ _ (held old) _ _ _ (held new) n many.waits many.holds many.tickets le
+  pub runs_fewer : (old new : Runs A) (n : ℕ) → HoldsAsMany old new → held new ≤ held old + n
+      → runs_room (Some old) ≤ runs_room (Some new) + n
+  runs_fewer old new n many le =
+      three_fewer _ _ _ (held old) _ _ _ (held new) n many.waits many.holds many.tickets le
 
   -- how much room is left at the realm of a change
-  pub at_realm_fewer : (Becomes : Runs A → Runs A → Type 0) (rs rs2 : List (Runs A)) (r n : ℕ) (c : AtRealm Becomes rs rs2 r)
-      → HoldsAsMany c.before c.after → held c.after ≤ held c.before + n → runs_room (slice_get rs r) ≤ runs_room (slice_get rs2 r) + n
+  pub at_realm_fewer : (Becomes : Runs A → Runs A → Type 0) (rs rs2 : List (Runs A)) (r n : ℕ)
+      (c : AtRealm Becomes rs rs2 r)
+      → HoldsAsMany c.before c.after → held c.after ≤ held c.before + n
+      → runs_room (slice_get rs r) ≤ runs_room (slice_get rs2 r) + n
   at_realm_fewer Becomes rs rs2 r n c many le =
-      subst (λ (o : Option (Runs A)). runs_room o ≤ runs_room (slice_get rs2 r) + n) (sym c.before_is)
-      (subst (λ (o : Option (Runs A)). runs_room (Some c.before) ≤ runs_room o + n) (sym c.after_is) (runs_fewer c.before c.after n many le))
+      subst (λ (o : Option (Runs A)). runs_room o ≤ runs_room (slice_get rs2 r) + n)
+      (sym c.before_is)
+      (subst (λ (o : Option (Runs A)). runs_room (Some c.before) ≤ runs_room o + n) (sym c.after_is)
+      (runs_fewer c.before c.after n many le))

@@ -24,18 +24,28 @@ use Rattle.roam_tables.proofs.StepLemmas.{changed_becomes, changed_sound, gone_b
 use Rattle.roam_tables.proofs.TablesLemmas.{tables_become, tables_realms, tables_room, tables_ticket}
 use Rattle.roam_tables.proofs.ViewLemmas.{seen_at, seen_room}
 
-module _ {A H : Type 0} (s : Slab (Slot A)) (t : IndexMap TicketKey ℕ H) (c : IndexMap ClientKey ℕ H) (rs : List (Runs A)) (sound : Sound (place s) (ticket_at t) (client_at c) rs)
+module _ {A H : Type 0} (s : Slab (Slot A)) (t : IndexMap TicketKey ℕ H)
+    (c : IndexMap ClientKey ℕ H) (rs : List (Runs A))
+    (sound : Sound (place s) (ticket_at t) (client_at c) rs)
     (v : List RealmView) (is : tables_view s t c rs ≡ v) where
-  stored_at : (r n i : ℕ) (x : Stored) → ticket_at t (ticket_key_of r n) ≡ Some i → place s i ≡ Some x → (x.realm ≡ r) × (x.entry.ticket ≡ n)
+  stored_at : (r n i : ℕ) (x : Stored) → ticket_at t (ticket_key_of r n) ≡ Some i
+      → place s i ≡ Some x → (x.realm ≡ r) × (x.entry.ticket ≡ n)
   stored_at r n i x noted at =
       let p = sound.tickets.points (ticket_key_of r n) i noted in
-      let same : p.0 ≡ x = (let k : Some p.0 ≡ Some x = sym p.1 ∙ at in cc) in
-      (ap (λ (z : Stored). z.realm) (sym same) ∙ ap (λ (z : TicketKey). z.realm) p.2, ap (λ (z : Stored). z.entry.ticket) (sym same) ∙ ap (λ (z : TicketKey). z.ticket) p.2)
+      let same : p.0 ≡ x = (let k : Some p.0 ≡ Some x = sym p.1 ∙ at in cc) in (
+        ap (λ (z : Stored). z.realm) (sym same)
+            ∙ ap (λ (z : TicketKey). z.realm) p.2,
+        ap (λ (z : Stored). z.entry.ticket) (sym same)
+            ∙ ap (λ (z : TicketKey). z.ticket) p.2,
+      )
 
   -- Room
 
-  pub room_positive : (r : ℕ) → 0 < room_in v r → (0 < slab_room s) × (0 < spare t) × (0 < spare c) × (0 < runs_room (slice_get rs r))
-  room_positive r room = (let k = seen_room s t c rs sound v is r in each_positive (slab_room s) (spare t) (spare c) (runs_room (slice_get rs r)) (omega arith))
+  pub room_positive : (r : ℕ) → 0 < room_in v r
+      → (0 < slab_room s) × (0 < spare t) × (0 < spare c) × (0 < runs_room (slice_get rs r))
+  room_positive r room =
+      (let k = seen_room s t c rs sound v is r in
+      each_positive (slab_room s) (spare t) (spare c) (runs_room (slice_get rs r)) (omega arith))
 
   pub room_for_one : (r : ℕ) → 0 < room_in v r → HasRoomFor s 1
   room_for_one r room = (let p = (room_positive r room).0 in omega arith)
@@ -43,53 +53,85 @@ module _ {A H : Type 0} (s : Slab (Slot A)) (t : IndexMap TicketKey ℕ H) (c : 
   pub within_realms : (r : ℕ) → 0 < room_in v r → r < length rs
   within_realms r room = room_within rs r (room_positive r room).3
 
-  fresh : (r : ℕ) (e : PlainEntry) → IsNew e (entries_in v r) → IsNew e (entries_at (place s) (ticket_at t) r)
+  fresh : (r : ℕ) (e : PlainEntry) → IsNew e (entries_in v r)
+      → IsNew e (entries_at (place s) (ticket_at t) r)
   fresh r e new = subst (λ (es : List PlainEntry). IsNew e es) (seen_at s t c rs sound v is r) new
 
   -- A new entry
 
-  pub insert_can : (r : ℕ) (e : PlainEntry) (m : Mark) → m ≡ mark_of e → IsNew e (entries_in v r) → 0 < room_in v r → (q : Runs A) → slice_get rs r ≡ Some q → CanEnter m q
+  pub insert_can : (r : ℕ) (e : PlainEntry) (m : Mark) → m ≡ mark_of e → IsNew e (entries_in v r)
+      → 0 < room_in v r → (q : Runs A) → slice_get rs r ≡ Some q → CanEnter m q
   insert_can r e m mark new room q at =
-      let none : entry_at (place s) (ticket_at t) r e.ticket ≡ None = ticket_found (place s) (ticket_at t) (client_at c) rs sound r e.ticket ∙ (fresh r e new).ticket in
-      can_enter (entry_at (place s) (ticket_at t) r) (numbered (place s) (ticket_at t) (client_at c) rs sound r) q (sound.runs r q at) e.ticket m none (ap (λ (z : Mark). z.due.ticket) mark)
+      let none : entry_at (place s) (ticket_at t) r e.ticket ≡ None =
+      ticket_found (place s) (ticket_at t) (client_at c) rs sound r e.ticket
+      ∙ (fresh r e new).ticket in
+      can_enter (entry_at (place s) (ticket_at t) r)
+      (numbered (place s) (ticket_at t) (client_at c) rs sound r) q (sound.runs r q at) e.ticket
+      m none (ap (λ (z : Mark). z.due.ticket) mark)
       (room_of rs r (room_positive r room).3 q at)
 
-  module _ (r n i : ℕ) (e : PlainEntry) (m : Mark) (mark : m ≡ mark_of e) (s2 : Slab (Slot A)) (t2 : IndexMap TicketKey ℕ H) (c2 : IndexMap ClientKey ℕ H) (rs2 : List (Runs A))
-      (new : IsNew e (entries_in v r)) (room : 0 < room_in v r) (ticket : n ≡ e.ticket) (small : n < tickets_end) (free : place s i ≡ None)
+  module _ (r n i : ℕ) (e : PlainEntry) (m : Mark) (mark : m ≡ mark_of e) (s2 : Slab (Slot A))
+      (t2 : IndexMap TicketKey ℕ H) (c2 : IndexMap ClientKey ℕ H) (rs2 : List (Runs A))
+      (new : IsNew e (entries_in v r)) (room : 0 < room_in v r) (ticket : n ≡ e.ticket)
+      (small : n < tickets_end) (free : place s i ≡ None)
       (at : PutsAt (place s) (place s2) i (Some (record { realm = r; entry = e })))
       (notes : Puts ticket_eq (ticket_at t) (ticket_at t2) (ticket_key_of r n) (Some i))
-      (names : Puts client_eq (client_at c) (client_at c2) (record { realm = r; key = e.request.key }) (Some i))
+      (names : Puts client_eq (client_at c) (client_at c2)
+      (record { realm = r; key = e.request.key }) (Some i))
       (runs : AtRealm (Enters m) rs rs2 r) where
     own_notes : Puts ticket_eq (ticket_at t) (ticket_at t2) (ticket_key_of r e.ticket) (Some i)
-    own_notes = subst (λ (k : ℕ). (q : TicketKey) → ticket_at t2 q ≡ (if ticket_eq (ticket_key_of r k) q then Some i else ticket_at t q)) ticket notes
+    own_notes =
+        subst (λ (k : ℕ). (q : TicketKey)
+        → ticket_at t2 q ≡ (if ticket_eq (ticket_key_of r k) q then Some i else ticket_at t q))
+        ticket notes
 
     own_runs : AtRealm (Enters (mark_of e)) rs rs2 r
     own_runs = subst (λ (z : Mark). AtRealm (Enters z) rs rs2 r) mark runs
 
     pub insert_sound : Sound (place s2) (ticket_at t2) (client_at c2) rs2
-    insert_sound = new_sound (place s) (ticket_at t) (client_at c) rs sound r e i (place s2) (ticket_at t2) (client_at c2) rs2 (fresh r e new) (within_realms r room) (omega arith) free at own_notes names
+    insert_sound =
+        new_sound (place s) (ticket_at t) (client_at c) rs sound r e i (place s2) (ticket_at t2)
+        (client_at c2) rs2 (fresh r e new) (within_realms r room) (omega arith) free at own_notes
+        names
         own_runs (room_of rs r (room_positive r room).3)
 
-    pub insert_becomes : RealmBecomes r (put e (entries_in v r)) (entries_in v) (entries_in (tables_view s2 t2 c2 rs2))
-    insert_becomes = tables_become s t c rs sound v is s2 t2 c2 rs2 insert_sound (tables_view s2 t2 c2 rs2) refl r (put e)
-        (new_becomes (place s) (ticket_at t) (client_at c) rs sound r e i (place s2) (ticket_at t2) (client_at c2) rs2 (fresh r e new) (within_realms r room) (omega arith) free at own_notes names)
+    pub insert_becomes : RealmBecomes r (put e (entries_in v r)) (entries_in v)
+        (entries_in (tables_view s2 t2 c2 rs2))
+    insert_becomes =
+        tables_become s t c rs sound v is s2 t2 c2 rs2 insert_sound (tables_view s2 t2 c2 rs2) refl
+        r (put e)
+        (new_becomes (place s) (ticket_at t) (client_at c) rs sound r e i (place s2) (ticket_at t2)
+        (client_at c2) rs2 (fresh r e new) (within_realms r room) (omega arith) free
+        at own_notes names)
 
-    pub insert_room : slab_room s ≤ slab_room s2 + 1 → spare t ≤ spare t2 + 1 → spare c ≤ spare c2 + 1 → room_in v r ≤ room_in (tables_view s2 t2 c2 rs2) r + 1
-    insert_room x y z = tables_room s t c rs sound v is s2 t2 c2 rs2 insert_sound (tables_view s2 t2 c2 rs2) refl r 1
-        (four_fewer _ _ _ _ _ _ _ _ 1 x y z (at_realm_fewer (Enters m) rs rs2 r 1 runs runs.becomes.as_many (let k = runs.becomes.held in omega arith)))
+    pub insert_room : slab_room s ≤ slab_room s2 + 1 → spare t ≤ spare t2 + 1
+        → spare c ≤ spare c2 + 1 → room_in v r ≤ room_in (tables_view s2 t2 c2 rs2) r + 1
+    insert_room x y z =
+        tables_room s t c rs sound v is s2 t2 c2 rs2 insert_sound (tables_view s2 t2 c2 rs2) refl r
+        1
+        (four_fewer _ _ _ _ _ _ _ _ 1 x y z
+        (at_realm_fewer (Enters m) rs rs2 r 1 runs runs.becomes.as_many
+        (let k = runs.becomes.held in omega arith)))
 
     pub insert_realms : length (tables_view s2 t2 c2 rs2) ≡ length v
-    insert_realms = tables_realms s t c rs sound v is s2 t2 c2 rs2 insert_sound (tables_view s2 t2 c2 rs2) refl runs.same_length
+    insert_realms =
+        tables_realms s t c rs sound v is s2 t2 c2 rs2 insert_sound (tables_view s2 t2 c2 rs2) refl
+        runs.same_length
 
   -- An entry that goes
 
-  pub remove_nothing : (r n : ℕ) → ticket_at t (ticket_key_of r n) ≡ None → RealmBecomes r (without n (entries_in v r)) (entries_in v) (entries_in v)
+  pub remove_nothing : (r n : ℕ) → ticket_at t (ticket_key_of r n) ≡ None
+      → RealmBecomes r (without n (entries_in v r)) (entries_in v) (entries_in v)
   remove_nothing r n none = record {
-    here = sym (without-absent n (entries_in v r) (sym (tables_ticket s t c rs sound v is r n None none)));
+    here =
+        sym (without-absent n (entries_in v r)
+        (sym (tables_ticket s t c rs sound v is r n None none)));
     others = λ q ne. refl;
   }
 
-  module _ (r n i : ℕ) (slot : Slot A) (e : PlainEntry) (m : Mark) (mark : m ≡ mark_of e) (noted : ticket_at t (ticket_key_of r n) ≡ Some i) (was : place s i ≡ Some (record { realm = slot.realm; entry = e })) where
+  module _ (r n i : ℕ) (slot : Slot A) (e : PlainEntry) (m : Mark) (mark : m ≡ mark_of e)
+      (noted : ticket_at t (ticket_key_of r n) ≡ Some i)
+      (was : place s i ≡ Some (record { realm = slot.realm; entry = e })) where
     remove_own : (slot.realm ≡ r) × (e.ticket ≡ n)
     remove_own = stored_at r n i (record { realm = slot.realm; entry = e }) noted was
 
@@ -97,52 +139,90 @@ module _ {A H : Type 0} (s : Slab (Slot A)) (t : IndexMap TicketKey ℕ H) (c : 
     remove_was = was ∙ λ j. Some (record { realm = remove_own.0 j; entry = e })
 
     pub remove_found : Some e ≡ find_ticket n (entries_in v r)
-    remove_found = sym (ap (option_map (λ (x : Stored). x.entry)) was) ∙ tables_ticket s t c rs sound v is r n (Some i) noted
+    remove_found =
+        sym (ap (option_map (λ (x : Stored). x.entry)) was)
+        ∙ tables_ticket s t c rs sound v is r n (Some i) noted
 
     remove_at : entry_at (place s) (ticket_at t) r n ≡ Some e
-    remove_at = ticket_found (place s) (ticket_at t) (client_at c) rs sound r n ∙ ap (find_ticket n) (sym (seen_at s t c rs sound v is r)) ∙ sym remove_found
+    remove_at =
+        ticket_found (place s) (ticket_at t) (client_at c) rs sound r n
+        ∙ ap (find_ticket n) (sym (seen_at s t c rs sound v is r)) ∙ sym remove_found
 
     pub remove_can : (q : Runs A) → slice_get rs r ≡ Some q → CanLeave m q
-    remove_can q at = subst (λ (z : Mark). CanLeave z q) (sym mark) (can_leave (entry_at (place s) (ticket_at t) r) (numbered (place s) (ticket_at t) (client_at c) rs sound r) q (sound.runs r q at) n e remove_at)
+    remove_can q at =
+        subst (λ (z : Mark). CanLeave z q) (sym mark)
+        (can_leave (entry_at (place s) (ticket_at t) r)
+        (numbered (place s) (ticket_at t) (client_at c) rs sound r) q (sound.runs r q at) n e
+        remove_at)
 
-    module _ (s2 : Slab (Slot A)) (t2 : IndexMap TicketKey ℕ H) (c2 : IndexMap ClientKey ℕ H) (rs2 : List (Runs A))
-        (at : PutsAt (place s) (place s2) i None) (notes : Puts ticket_eq (ticket_at t) (ticket_at t2) (ticket_key_of r n) None)
-        (names : Puts client_eq (client_at c) (client_at c2) (record { realm = r; key = e.request.key }) None) (runs : AtRealm (Leaves m) rs rs2 r) where
-      left_notes : Puts ticket_eq (ticket_at t) (ticket_at t2) (ticket_key_of r e.ticket) None
-      left_notes = subst (λ (k : ℕ). (q : TicketKey) → ticket_at t2 q ≡ (if ticket_eq (ticket_key_of r k) q then None else ticket_at t q)) (sym remove_own.1) notes
+    module _ (s2 : Slab (Slot A)) (t2 : IndexMap TicketKey ℕ H) (c2 : IndexMap ClientKey ℕ H)
+        (rs2 : List (Runs A))
+        (at : PutsAt (place s) (place s2) i None)
+        (notes : Puts ticket_eq (ticket_at t) (ticket_at t2) (ticket_key_of r n) None)
+        (names : Puts client_eq (client_at c) (client_at c2)
+        (record { realm = r; key = e.request.key }) None) (runs : AtRealm (Leaves m) rs rs2 r)
+      where
+        left_notes : Puts ticket_eq (ticket_at t) (ticket_at t2) (ticket_key_of r e.ticket) None
+        left_notes =
+            subst (λ (k : ℕ). (q : TicketKey)
+            → ticket_at t2 q ≡ (if ticket_eq (ticket_key_of r k) q then None else ticket_at t q))
+            (sym remove_own.1) notes
 
-      left_runs : AtRealm (Leaves (mark_of e)) rs rs2 r
-      left_runs = subst (λ (z : Mark). AtRealm (Leaves z) rs rs2 r) mark runs
+        left_runs : AtRealm (Leaves (mark_of e)) rs rs2 r
+        left_runs = subst (λ (z : Mark). AtRealm (Leaves z) rs rs2 r) mark runs
 
-      pub remove_sound : Sound (place s2) (ticket_at t2) (client_at c2) rs2
-      remove_sound = gone_sound (place s) (ticket_at t) (client_at c) rs sound i (record { realm = r; entry = e }) (place s2) (ticket_at t2) (client_at c2) rs2 remove_was at left_notes names left_runs
+        pub remove_sound : Sound (place s2) (ticket_at t2) (client_at c2) rs2
+        remove_sound =
+            gone_sound (place s) (ticket_at t) (client_at c) rs sound i
+            (record { realm = r; entry = e }) (place s2) (ticket_at t2) (client_at c2) rs2
+            remove_was
+            at left_notes names left_runs
 
-      pub remove_becomes : RealmBecomes r (without n (entries_in v r)) (entries_in v) (entries_in (tables_view s2 t2 c2 rs2))
-      remove_becomes = tables_become s t c rs sound v is s2 t2 c2 rs2 remove_sound (tables_view s2 t2 c2 rs2) refl r (without n)
-          (subst (λ (k : ℕ). RealmBecomes r (without k (entries_at (place s) (ticket_at t) r)) (entries_at (place s) (ticket_at t)) (entries_at (place s2) (ticket_at t2))) remove_own.1
-          (gone_becomes (place s) (ticket_at t) (client_at c) rs sound i (record { realm = r; entry = e }) (place s2) (ticket_at t2) (client_at c2) rs2 remove_was at left_notes names))
+        pub remove_becomes : RealmBecomes r (without n (entries_in v r)) (entries_in v)
+            (entries_in (tables_view s2 t2 c2 rs2))
+        remove_becomes =
+            tables_become s t c rs sound v is s2 t2 c2 rs2 remove_sound (tables_view s2 t2 c2 rs2)
+            refl r (without n)
+            (subst (λ (k : ℕ). RealmBecomes r (without k (entries_at (place s) (ticket_at t) r))
+            (entries_at (place s) (ticket_at t)) (entries_at (place s2) (ticket_at t2)))
+            remove_own.1
+            (gone_becomes (place s) (ticket_at t) (client_at c) rs sound i
+            (record { realm = r; entry = e }) (place s2) (ticket_at t2) (client_at c2) rs2
+            remove_was at left_notes names))
 
-      pub remove_room : slab_room s ≤ slab_room s2 → spare t ≤ spare t2 → spare c ≤ spare c2 → room_in v r ≤ room_in (tables_view s2 t2 c2 rs2) r
-      remove_room x y z =
-          let k = tables_room s t c rs sound v is s2 t2 c2 rs2 remove_sound (tables_view s2 t2 c2 rs2) refl r 0
-          (four_fewer _ _ _ _ _ _ _ _ 0 (omega arith) (omega arith) (omega arith) (at_realm_fewer (Leaves m) rs rs2 r 0 runs runs.becomes.as_many (let k = runs.becomes.held in omega arith))) in
-          omega arith
+        pub remove_room : slab_room s ≤ slab_room s2 → spare t ≤ spare t2 → spare c ≤ spare c2
+            → room_in v r ≤ room_in (tables_view s2 t2 c2 rs2) r
+        remove_room x y z =
+            let k = tables_room s t c rs sound v is s2 t2 c2 rs2 remove_sound
+            (tables_view s2 t2 c2 rs2) refl r 0
+            (four_fewer _ _ _ _ _ _ _ _ 0 (omega arith) (omega arith) (omega arith)
+            (at_realm_fewer (Leaves m) rs rs2 r 0 runs runs.becomes.as_many
+            (let k = runs.becomes.held in omega arith))) in
+            omega arith
 
-      pub remove_realms : length (tables_view s2 t2 c2 rs2) ≡ length v
-      remove_realms = tables_realms s t c rs sound v is s2 t2 c2 rs2 remove_sound (tables_view s2 t2 c2 rs2) refl runs.same_length
+        pub remove_realms : length (tables_view s2 t2 c2 rs2) ≡ length v
+        remove_realms =
+            tables_realms s t c rs sound v is s2 t2 c2 rs2 remove_sound (tables_view s2 t2 c2 rs2)
+            refl runs.same_length
 
   -- An entry that changes
 
-  pub swap_nowhere : (r : ℕ) (e : PlainEntry) → ticket_at t (ticket_key_of r e.ticket) ≡ None → HasPlaceOf e (entries_in v r) → ⊥
-  swap_nowhere r e none place_of = subst (λ (o : Option PlainEntry). IsSomeAnd o (λ old. old.request.key ≡ e.request.key)) (sym (tables_ticket s t c rs sound v is r e.ticket None none)) place_of
+  pub swap_nowhere : (r : ℕ) (e : PlainEntry) → ticket_at t (ticket_key_of r e.ticket) ≡ None
+      → HasPlaceOf e (entries_in v r) → ⊥
+  swap_nowhere r e none place_of =
+      subst (λ (o : Option PlainEntry). IsSomeAnd o (λ old. old.request.key ≡ e.request.key))
+      (sym (tables_ticket s t c rs sound v is r e.ticket None none)) place_of
 
-  module _ (r i : ℕ) (e old : PlainEntry) (from to : Mark) (mark_from : from ≡ mark_of old) (mark_to : to ≡ mark_of e) (place_of : HasPlaceOf e (entries_in v r))
-      (noted : ticket_at t (ticket_key_of r e.ticket) ≡ Some i) (was : option_map (λ (x : Stored). x.entry) (place s i) ≡ Some old) where
+  module _ (r i : ℕ) (e old : PlainEntry) (from to : Mark) (mark_from : from ≡ mark_of old)
+      (mark_to : to ≡ mark_of e) (place_of : HasPlaceOf e (entries_in v r))
+      (noted : ticket_at t (ticket_key_of r e.ticket) ≡ Some i)
+      (was : option_map (λ (x : Stored). x.entry) (place s i) ≡ Some old) where
     swap_was : place s i ≡ Some (record { realm = r; entry = old })
     swap_was =
         let p = sound.tickets.points (ticket_key_of r e.ticket) i noted in
         let own = stored_at r e.ticket i p.0 noted p.1 in
-        let some : Some p.0.entry ≡ Some old = sym (ap (option_map (λ (x : Stored). x.entry)) p.1) ∙ was in
+        let some : Some p.0.entry ≡ Some old =
+        sym (ap (option_map (λ (x : Stored). x.entry)) p.1) ∙ was in
         let same : p.0.entry ≡ old = cc in
         p.1 ∙ λ j. Some (record { realm = own.0 j; entry = same j })
 
@@ -153,39 +233,63 @@ module _ {A H : Type 0} (s : Slab (Slot A)) (t : IndexMap TicketKey ℕ H) (c : 
     swap_found = sym was ∙ tables_ticket s t c rs sound v is r e.ticket (Some i) noted
 
     swap_key : e.request.key ≡ old.request.key
-    swap_key = sym (subst (λ (o : Option PlainEntry). IsSomeAnd o (λ x. x.request.key ≡ e.request.key)) (sym swap_found) place_of)
+    swap_key =
+        sym (subst (λ (o : Option PlainEntry). IsSomeAnd o (λ x. x.request.key ≡ e.request.key))
+        (sym swap_found) place_of)
 
     swap_at : entry_at (place s) (ticket_at t) r e.ticket ≡ Some old
-    swap_at = ticket_found (place s) (ticket_at t) (client_at c) rs sound r e.ticket ∙ ap (find_ticket e.ticket) (sym (seen_at s t c rs sound v is r)) ∙ sym swap_found
+    swap_at =
+        ticket_found (place s) (ticket_at t) (client_at c) rs sound r e.ticket
+        ∙ ap (find_ticket e.ticket) (sym (seen_at s t c rs sound v is r)) ∙ sym swap_found
 
     pub swap_leaves : (q : Runs A) → slice_get rs r ≡ Some q → CanLeave from q
-    swap_leaves q at = subst (λ (z : Mark). CanLeave z q) (sym mark_from) (can_leave (entry_at (place s) (ticket_at t) r) (numbered (place s) (ticket_at t) (client_at c) rs sound r) q (sound.runs r q at) e.ticket old swap_at)
+    swap_leaves q at =
+        subst (λ (z : Mark). CanLeave z q) (sym mark_from)
+        (can_leave (entry_at (place s) (ticket_at t) r)
+        (numbered (place s) (ticket_at t) (client_at c) rs sound r) q (sound.runs r q at) e.ticket
+        old swap_at)
 
     pub swap_enters : (q p : Runs A) → slice_get rs r ≡ Some q → Leaves from q p → CanEnter to p
     swap_enters q p at leaves =
         let num = numbered (place s) (ticket_at t) (client_at c) rs sound r in
         subst (λ (z : Mark). CanEnter z p) (sym mark_to)
-        (can_come_back (entry_at (place s) (ticket_at t) r) (entry_at (place s) (ticket_at t) r) num num e.ticket (below_end (place s) (ticket_at t) (client_at c) rs sound r e.ticket old swap_at) old e swap_at
+        (can_come_back (entry_at (place s) (ticket_at t) r) (entry_at (place s) (ticket_at t) r) num
+        num e.ticket (below_end (place s) (ticket_at t) (client_at c) rs sound r e.ticket old
+        swap_at) old e swap_at
         q (sound.runs r q at) refl p (subst (λ (z : Mark). Leaves z q p) mark_from leaves))
 
-    module _ (s2 : Slab (Slot A)) (rs2 : List (Runs A)) (at : PutsAt (place s) (place s2) i (with_entry e (place s i))) (runs : AtRealm (Changes from to) rs rs2 r) where
+    module _ (s2 : Slab (Slot A)) (rs2 : List (Runs A))
+        (at : PutsAt (place s) (place s2) i (with_entry e (place s i)))
+        (runs : AtRealm (Changes from to) rs rs2 r) where
       swap_puts : PutsAt (place s) (place s2) i (Some (record { realm = r; entry = e }))
       swap_puts = record { changed = at.changed ∙ ap (with_entry e) swap_was; others = at.others }
 
       swap_runs : AtRealm (Changes (mark_of old) (mark_of e)) rs rs2 r
-      swap_runs = subst (λ (z : Mark). AtRealm (Changes (mark_of old) z) rs rs2 r) mark_to (subst (λ (z : Mark). AtRealm (Changes z to) rs rs2 r) mark_from runs)
+      swap_runs =
+          subst (λ (z : Mark). AtRealm (Changes (mark_of old) z) rs rs2 r) mark_to
+          (subst (λ (z : Mark). AtRealm (Changes z to) rs rs2 r) mark_from runs)
 
       pub swap_sound : Sound (place s2) (ticket_at t) (client_at c) rs2
-      swap_sound = changed_sound (place s) (ticket_at t) (client_at c) rs sound i (record { realm = r; entry = old }) e (place s2) rs2 swap_was swap_puts swap_ticket swap_key swap_runs
+      swap_sound =
+          changed_sound (place s) (ticket_at t) (client_at c) rs sound i
+          (record { realm = r; entry = old }) e (place s2) rs2 swap_was swap_puts swap_ticket
+          swap_key swap_runs
 
-      pub swap_becomes : RealmBecomes r (put e (entries_in v r)) (entries_in v) (entries_in (tables_view s2 t c rs2))
-      swap_becomes = tables_become s t c rs sound v is s2 t c rs2 swap_sound (tables_view s2 t c rs2) refl r (put e)
-          (changed_becomes (place s) (ticket_at t) (client_at c) rs sound i (record { realm = r; entry = old }) e (place s2) rs2 swap_was swap_puts swap_ticket swap_key)
+      pub swap_becomes : RealmBecomes r (put e (entries_in v r)) (entries_in v)
+          (entries_in (tables_view s2 t c rs2))
+      swap_becomes =
+          tables_become s t c rs sound v is s2 t c rs2 swap_sound (tables_view s2 t c rs2) refl r
+          (put e)
+          (changed_becomes (place s) (ticket_at t) (client_at c) rs sound i
+          (record { realm = r; entry = old }) e (place s2) rs2 swap_was swap_puts swap_ticket
+          swap_key)
 
       swap_many : HoldsAsMany runs.before runs.after
       swap_many = elim runs.becomes as (λ _. HoldsAsMany runs.before runs.after) [
-        | inl stays ↦ subst (λ (z : Runs A). HoldsAsMany runs.before z) (sym stays.1) (record { waits = omega arith; holds = omega arith; tickets = omega arith })
-        | inr moves ↦ (let a = moves.leaves.as_many in let b = moves.enters.as_many in record { waits = omega arith; holds = omega arith; tickets = omega arith })
+        | inl stays ↦ subst (λ (z : Runs A). HoldsAsMany runs.before z) (sym stays.1)
+            (record { waits = omega arith; holds = omega arith; tickets = omega arith })
+        | inr moves ↦ (let a = moves.leaves.as_many in let b = moves.enters.as_many in
+            record { waits = omega arith; holds = omega arith; tickets = omega arith })
       ]
 
       swap_held : held runs.after ≤ held runs.before + 0
@@ -196,9 +300,13 @@ module _ {A H : Type 0} (s : Slab (Slot A)) (t : IndexMap TicketKey ℕ H) (c : 
 
       pub swap_room : slab_room s ≤ slab_room s2 → room_in v r ≤ room_in (tables_view s2 t c rs2) r
       swap_room x =
-          let k = tables_room s t c rs sound v is s2 t c rs2 swap_sound (tables_view s2 t c rs2) refl r 0
-          (four_fewer _ _ _ _ _ _ _ _ 0 (omega arith) (omega arith) (omega arith) (at_realm_fewer (Changes from to) rs rs2 r 0 runs swap_many swap_held)) in
+          let k = tables_room s t c rs sound v is s2 t c rs2 swap_sound (tables_view s2 t c rs2)
+          refl r 0
+          (four_fewer _ _ _ _ _ _ _ _ 0 (omega arith) (omega arith) (omega arith)
+          (at_realm_fewer (Changes from to) rs rs2 r 0 runs swap_many swap_held)) in
           omega arith
 
       pub swap_realms : length (tables_view s2 t c rs2) ≡ length v
-      swap_realms = tables_realms s t c rs sound v is s2 t c rs2 swap_sound (tables_view s2 t c rs2) refl runs.same_length
+      swap_realms =
+          tables_realms s t c rs sound v is s2 t c rs2 swap_sound (tables_view s2 t c rs2) refl
+          runs.same_length

@@ -1,4 +1,4 @@
-use Rattle.std.proofs.Common.{◌<◌, arith}
+use Rattle.std.proofs.Common.{arith}
 use Rattle.roam_tables.specs.Stands.{entries_in}
 use Rattle.roam_tables.proofs.RealmLemmas.{get-read}
 use Rattle.roam_shard.proofs.DueLemmas.{none_more, nothing_due, own_none, within}
@@ -16,7 +16,8 @@ pub returns-clause-none : goal.returns-clause-none
 returns-clause-none g c = λ o is.
     let ns = c.args.numbers.now in
     nothing_due o c.args.now (entries_in c.args.entries.now) ns
-    (λ k n at. (let lt = within ns k _ at in c.loop-realm.invariant k n (omega (arith, lt, c.loop-realm-test.false)) at))
+    (λ k n at. (let lt = within ns k _ at in
+    c.loop-realm.invariant k n (omega (arith, lt, c.loop-realm-test.false)) at))
 
 pub returns-then-own_due-clause-some : goal.returns-then-own_due-clause-some
 returns-then-own_due-clause-some g c = λ o none.

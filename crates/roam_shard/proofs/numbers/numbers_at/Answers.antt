@@ -1,8 +1,7 @@
 use Rattle.std.proofs.Common.{◌==◌, ◌≡◌, ℕ, true, ap, sym, subst, ◌∙◌, arith}
 use Rattle.std.proofs.lemmas.Bool.Decides.{nat_tests}
 use Rattle.roam_conf.specs.Shown.{shown}
-use Rattle.roam_book.specs.RealmConfig.{RealmConfig, realm_config}
-use Rattle.roam_core.specs.Events.{is_in_shard}
+use Rattle.roam_book.specs.RealmConfig.{RealmConfig}
 use Rattle.roam_shard.specs.NumbersView.{IsFresh}
 use Rattle.roam_shard.proofs.numbers.numbers_at.Goals as goal
 
@@ -14,6 +13,18 @@ returns g c =
     let is : (c.shard_of.result == c.args.shard) ≡ true = grind (arith, nat_tests, same) in
     record {
       own = sym (ap (λ (q : ℕ). q == c.args.shard) (sym c.shard_of.ensures.value) ∙ is);
-      fresh = subst (λ (x : RealmConfig). IsFresh x c.args.start c.in_ok-numbers.numbers) c.new-settings.ensures
-          (record { count = n.count; cursors = n.cursors; free = n.free; lanes = n.lanes; ticket = n.ticket; place = n.place; sessions = n.sessions; ledger = n.ledger });
+      fresh =
+          subst (λ (x : RealmConfig). IsFresh x c.args.start c.in_ok-numbers.numbers)
+          c.new-settings.ensures
+          (record {
+            count = n.count;
+            cursors = n.cursors;
+            free = n.free;
+            lanes = n.lanes;
+            ticket =
+                n.ticket;
+            place = n.place;
+            sessions = n.sessions;
+            ledger = n.ledger;
+          });
     }

@@ -1,4 +1,4 @@
-use Rattle.std.proofs.Common.{◌≡◌, ◌++◌, [], ◌∷◌, ap, ◌∙◌, length, vec_len, replicate, arith}
+use Rattle.std.proofs.Common.{◌++◌, [], ◌∷◌, ap, ◌∙◌, replicate, arith}
 use Rattle.std.proofs.lemmas.List.{length-map}
 use Rattle.roam_conf.specs.Parts.{shown_realm}
 use Rattle.roam_conf.specs.Shown.{shown}
@@ -15,11 +15,26 @@ pub returns-clause-starts : goal.returns-clause-starts
 returns-clause-starts g c =
     let realms = length-map c.args.config.now.realms.items shown_realm in
     c.loop-realm.invariant
-    ∙ ap (λ n. replicate n first_start) (omega (arith, realms, c.args.config.now.realms.ok.0, c.loop-realm-test.false, c.loop-realm.auto._realm-end, c.len-realm-end.ensures))
+    ∙ ap (λ n. replicate n first_start)
+    (omega (
+      arith,
+      realms,
+      c.args.config.now.realms.ok.0,
+      c.loop-realm-test.false,
+      c.loop-realm.auto._realm-end,
+      c.len-realm-end.ensures,
+    ))
 
 pub returns-clause-good : goal.returns-clause-good
 returns-clause-good g c =
     let realms = length-map c.args.config.now.realms.items shown_realm in
     rw (c.loop-realm.invariant)
     (first_good (shown c.args.config.now) c.loop-realm._realm
-    (omega (arith, realms, c.args.config.now.realms.ok.0, c.loop-realm-test.false, c.loop-realm.auto._realm-end, c.len-realm-end.ensures)))
+    (omega (
+      arith,
+      realms,
+      c.args.config.now.realms.ok.0,
+      c.loop-realm-test.false,
+      c.loop-realm.auto._realm-end,
+      c.len-realm-end.ensures,
+    )))

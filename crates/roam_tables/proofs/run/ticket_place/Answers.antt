@@ -7,5 +7,7 @@ use Rattle.roam_tables.proofs.run.ticket_place.Goals as goal
 
 pub returns : goal.returns
 returns g c =
-    let bound = subst (λ (n : ℕ). IsSearchInRange c.binary_search.result n) c.args.run.now.ok.0 c.binary_search.ensures.bound in
-    place_in nat_cmp nat_cmp_total nat_same c.args.run.now.items c.args.ticket c.binary_search.result c.requires bound c.binary_search.ensures.position
+    let bound = subst (λ (n : ℕ). IsSearchInRange c.binary_search.result n) c.args.run.now.ok.0
+    c.binary_search.ensures.bound in
+    place_in nat_cmp nat_cmp_total nat_same c.args.run.now.items c.args.ticket
+    c.binary_search.result c.requires bound c.binary_search.ensures.position

@@ -1,7 +1,5 @@
 -- All rooms first, then the tick in them.
-use Rattle.std.proofs.Common.{◌≡◌, ◌<◌, ◌≤◌, ◌^◌, List, [], true, false, length, refl, ap, sym, subst, ◌∙◌, arith}
-use Rattle.roam_route.specs.Admission.{PlainOut}
-use Rattle.roam_book.specs.RealmState.{RealmState}
+use Rattle.std.proofs.Common.{◌≡◌, ◌<◌, ◌≤◌, ◌^◌, [], true, false, ap, sym, subst, ◌∙◌, arith}
 use Rattle.roam_book.specs.Turn.{shown_outs}
 use Rattle.roam_core.specs.ManyRealms.{AllRealms, tick_from}
 use Rattle.roam_core.specs.ShardRooms.{AreRooms}
@@ -15,12 +13,15 @@ use Rattle.roam_shard.proofs.shard.Shard.tick.Goals as goal
 
 pub returns-then-now-gt-LATEST-clause-turn : goal.returns-then-now-gt-LATEST-clause-turn
 returns-then-now-gt-LATEST-clause-turn g c =
-    let there = subst (λ (v : ShardView). v.opening.shard < v.opening.config.shards) c.self.view_is c.self.invariant.there in
+    let there = subst (λ (v : ShardView). v.opening.shard < v.opening.config.shards) c.self.view_is
+    c.self.invariant.there in
     let late : 2 ^ 62 < c.args.now = omega (arith, c.if-now-gt-LATEST.true) in
     let o = c.args.self.now.opening in
     let told = c.refused_twice.ensures in (
-      too_late c.refused_twice.result.answer o.config c.args.self.now.states c.args.now o.shard there late told.outs told.refusal,
-      too_late c.refused_twice.result.copy o.config c.args.self.now.states c.args.now o.shard there late told.copies told.copy_refusal,
+      too_late c.refused_twice.result.answer o.config c.args.self.now.states c.args.now o.shard
+          there late told.outs told.refusal,
+      too_late c.refused_twice.result.copy o.config c.args.self.now.states c.args.now o.shard there
+          late told.copies told.copy_refusal,
     )
 
 -- with nothing due nothing is sent, and nothing changes
@@ -28,25 +29,41 @@ pub returns-then-not-any_due-clause-turn : goal.returns-then-not-any_due-clause-
 returns-then-not-any_due-clause-turn g c =
     let i = c.self.inside in
     let o = c.args.self.now.opening in
-    let there = subst (λ (v : ShardView). v.opening.shard < v.opening.config.shards) c.self.view_is c.self.invariant.there in
+    let there = subst (λ (v : ShardView). v.opening.shard < v.opening.config.shards) c.self.view_is
+    c.self.invariant.there in
     let none = c.any_due.ensures.none (shown_opening i.opening) c.if-not-any_due.true in
-    let seen = subst (λ ns. NothingDue c.args.now (states_in (shown_opening i.opening) i.entries ns)) c.deref.ensures.value none in
+    let seen = subst (λ ns. NothingDue c.args.now
+    (states_in (shown_opening i.opening) i.entries ns)) c.deref.ensures.value none in
     let quiet = subst (λ (v : ShardView). NothingDue c.args.now v.states) c.self.view_is seen in
-    let all = nothing_ticked o.config c.args.now o.shard 0 c.args.self.now.states (omega (arith, c.if-now-gt-LATEST.false)) quiet in
-    let packets : [] ≡ (tick_from o.config c.args.now o.shard 0 c.args.self.now.states).packets = ap (λ (x : AllRealms). x.packets) (sym all) in
-    let states : c.args.self.now.states ≡ (tick_from o.config c.args.now o.shard 0 c.args.self.now.states).states = ap (λ (x : AllRealms). x.states) (sym all) in
-    let sent : shown_outs c.into_twin.result.answer.outs.items ≡ [] = ap (λ v. shown_outs v.items) c.into_twin.ensures.sent ∙ ap (λ l. shown_outs l) c.none.ensures.sent in
-    let copies : shown_outs c.into_twin.result.copy.outs.items ≡ [] = ap (λ v. shown_outs v.items) c.into_twin.ensures.copies ∙ ap (λ l. shown_outs l) c.none.ensures.copies in (
-      ticked c.into_twin.result.answer o.config c.args.self.now.states c.args.self.now.states c.args.now o.shard there (omega (arith, c.if-now-gt-LATEST.false)) (sent ∙ packets) c.into_twin.ensures.refusal states,
-      ticked c.into_twin.result.copy o.config c.args.self.now.states c.args.self.now.states c.args.now o.shard there (omega (arith, c.if-now-gt-LATEST.false)) (copies ∙ packets) c.into_twin.ensures.copy_refusal states,
+    let all = nothing_ticked o.config c.args.now o.shard 0 c.args.self.now.states
+    (omega (arith, c.if-now-gt-LATEST.false)) quiet in
+    let packets : [] ≡ (tick_from o.config c.args.now o.shard 0 c.args.self.now.states).packets =
+    ap (λ (x : AllRealms). x.packets) (sym all) in
+    let states : c.args.self.now.states
+    ≡ (tick_from o.config c.args.now o.shard 0 c.args.self.now.states).states =
+    ap (λ (x : AllRealms). x.states) (sym all) in
+    let sent : shown_outs c.into_twin.result.answer.outs.items ≡ [] =
+    ap (λ v. shown_outs v.items) c.into_twin.ensures.sent
+    ∙ ap (λ l. shown_outs l) c.none.ensures.sent in
+    let copies : shown_outs c.into_twin.result.copy.outs.items ≡ [] =
+    ap (λ v. shown_outs v.items) c.into_twin.ensures.copies
+    ∙ ap (λ l. shown_outs l) c.none.ensures.copies in (
+      ticked c.into_twin.result.answer o.config c.args.self.now.states c.args.self.now.states
+          c.args.now o.shard there (omega (arith, c.if-now-gt-LATEST.false)) (sent ∙ packets)
+          c.into_twin.ensures.refusal states,
+      ticked c.into_twin.result.copy o.config c.args.self.now.states c.args.self.now.states
+          c.args.now o.shard there (omega (arith, c.if-now-gt-LATEST.false)) (copies ∙ packets)
+          c.into_twin.ensures.copy_refusal states,
     )
 
 -- memory is wanted only where something is due
 pub returns-in_err-room-clause-nothing_due : goal.returns-in_err-room-clause-nothing_due
 returns-in_err-room-clause-nothing_due g c = λ none.
     let i = c.self.inside in
-    let seen = subst (λ (v : ShardView). NothingDue c.args.now v.states) (sym c.self.view_is) none in
-    let here = subst (λ ns. NothingDue c.args.now (states_in (shown_opening i.opening) i.entries ns)) (sym c.deref.ensures.value) seen in
+    let seen =
+    subst (λ (v : ShardView). NothingDue c.args.now v.states) (sym c.self.view_is) none in
+    let here = subst (λ ns. NothingDue c.args.now
+    (states_in (shown_opening i.opening) i.entries ns)) (sym c.deref.ensures.value) seen in
     let is : c.any_due.result ≡ false = c.any_due.ensures.some (shown_opening i.opening) here in
     absurd (let bad : false ≡ true = sym is ∙ c.if-not-any_due.false in cc)
 
@@ -55,17 +72,24 @@ tick_in-requires-clause-rooms g c =
     let i = c.self.inside in
     let rooms = c.in_ok-room.room.rooms.items in
     let o = shown_opening i.opening in
-    let seen = subst (λ ns. AreRooms o.config c.args.now o.shard 0 (states_in o i.entries ns) rooms) c.deref-2.ensures.value c.in_ok-room.ensures.rooms in
-    let are = subst (λ (v : ShardView). AreRooms v.opening.config c.args.now v.opening.shard 0 v.states rooms) c.self.view_is seen in
-    all-fit c.args.self.now.opening.config c.args.now c.args.self.now.opening.shard 0 c.args.self.now.states rooms are
+    let seen = subst (λ ns. AreRooms o.config c.args.now o.shard 0 (states_in o i.entries ns) rooms)
+    c.deref-2.ensures.value c.in_ok-room.ensures.rooms in
+    let are = subst (λ (v : ShardView).
+    AreRooms v.opening.config c.args.now v.opening.shard 0 v.states rooms) c.self.view_is seen
+    in
+    all-fit c.args.self.now.opening.config c.args.now c.args.self.now.opening.shard 0
+    c.args.self.now.states rooms are
 
 pub tick_in-requires-clause-own : goal.tick_in-requires-clause-own
 tick_in-requires-clause-own g c =
     let i = c.self.inside in
     let rooms = c.in_ok-room.room.rooms.items in
     let o = shown_opening i.opening in
-    let seen = subst (λ ns. AreRooms o.config c.args.now o.shard 0 (states_in o i.entries ns) rooms) c.deref-2.ensures.value c.in_ok-room.ensures.rooms in
-    let are = subst (λ (v : ShardView). AreRooms v.opening.config c.args.now v.opening.shard 0 v.states rooms) c.self.view_is seen in
+    let seen = subst (λ ns. AreRooms o.config c.args.now o.shard 0 (states_in o i.entries ns) rooms)
+    c.deref-2.ensures.value c.in_ok-room.ensures.rooms in
+    let are = subst (λ (v : ShardView).
+    AreRooms v.opening.config c.args.now v.opening.shard 0 v.states rooms) c.self.view_is seen
+    in
     own_rooms c.args.self.now.opening c.args.now 0 c.args.self.now.states rooms are
 
 pub returns-clause-turn : goal.returns-clause-turn
@@ -73,16 +97,24 @@ returns-clause-turn g c =
     let i = c.self.inside in
     let rooms = c.in_ok-room.room.rooms.items in
     let p = shown_opening i.opening in
-    let seen = subst (λ ns. AreRooms p.config c.args.now p.shard 0 (states_in p i.entries ns) rooms) c.deref-2.ensures.value c.in_ok-room.ensures.rooms in
-    let are = subst (λ (v : ShardView). AreRooms v.opening.config c.args.now v.opening.shard 0 v.states rooms) c.self.view_is seen in
+    let seen = subst (λ ns. AreRooms p.config c.args.now p.shard 0 (states_in p i.entries ns) rooms)
+    c.deref-2.ensures.value c.in_ok-room.ensures.rooms in
+    let are = subst (λ (v : ShardView).
+    AreRooms v.opening.config c.args.now v.opening.shard 0 v.states rooms) c.self.view_is seen
+    in
     let o = c.args.self.now.opening in
     let states = c.args.self.now.states in
-    let there = subst (λ (v : ShardView). v.opening.shard < v.opening.config.shards) c.self.view_is c.self.invariant.there in
+    let there = subst (λ (v : ShardView). v.opening.shard < v.opening.config.shards) c.self.view_is
+    c.self.invariant.there in
     let early : c.args.now ≤ 2 ^ 62 = omega (arith, c.if-now-gt-LATEST.false) in
     let all = tick-in o.config c.args.now o.shard 0 states rooms are in
     let told = c.tick_in.ensures in (
-      ticked c.tick_in.result.answer o.config states c.tick_in.new.self.states c.args.now o.shard there early
-          (told.packets ∙ ap (λ (x : AllRealms). x.packets) all) told.refusal (told.states ∙ ap (λ (x : AllRealms). x.states) all),
-      ticked c.tick_in.result.copy o.config states c.tick_in.new.self.states c.args.now o.shard there early
-          (told.copies ∙ ap (λ (x : AllRealms). x.packets) all) told.copy_refusal (told.states ∙ ap (λ (x : AllRealms). x.states) all),
+      ticked c.tick_in.result.answer o.config states c.tick_in.new.self.states c.args.now o.shard
+          there early
+          (told.packets ∙ ap (λ (x : AllRealms). x.packets) all) told.refusal
+          (told.states ∙ ap (λ (x : AllRealms). x.states) all),
+      ticked c.tick_in.result.copy o.config states c.tick_in.new.self.states c.args.now o.shard
+          there early
+          (told.copies ∙ ap (λ (x : AllRealms). x.packets) all) told.copy_refusal
+          (told.states ∙ ap (λ (x : AllRealms). x.states) all),
     )

@@ -1,7 +1,6 @@
 -- The loop over the rooms: each realm has its part in its turn.
 use Rattle.std.specs.Vec.Iter.{into_iter_items}
 use Rattle.std.proofs.Common.{◌≡◌, ◌++◌, List, refl, sym, ap, subst, ◌∙◌, arith, length, set}
-use Rattle.roam_conf.specs.Config.{ConfigView}
 use Rattle.roam_route.specs.Admission.{PlainOut}
 use Rattle.roam_book.specs.Turn.{packets_of, shown_outs, state_after}
 use Rattle.roam_core.specs.ManyRealms.{state_at}
@@ -17,10 +16,19 @@ pub loop-room-init : goal.loop-room-init
 loop-room-init g c =
     let iter = c.into_iter-room-iterator.ensures.into_iter_gives in
     record {
-      ticking = rw (iter.0, c.requires.sent) (ticking-start c.args.self.now.opening.config c.args.now c.args.self.now.states c.args.room.rooms.items c.requires.rooms);
+      ticking =
+          rw (iter.0, c.requires.sent)
+          (ticking-start c.args.self.now.opening.config c.args.now c.args.self.now.states
+          c.args.room.rooms.items c.requires.rooms);
       copies = rw (c.requires.sent, c.requires.copies) refl;
       opening = refl;
-      rooms = rw (iter.0) (record { own = c.requires.own; twice = c.requires.twice; places = c.requires.places });
+      rooms =
+          rw (iter.0) (record {
+            own = c.requires.own;
+            twice = c.requires.twice;
+            places =
+                c.requires.places;
+          });
       left = iter.1 ∙ c.args.room.rooms.ok.0 ∙ ap length (sym iter.0);
       count = omega (arith, ap length (iter.0));
     }
@@ -28,17 +36,20 @@ loop-room-init g c =
 -- the next room is the next realm's
 pub tick_one-requires-clause-there : goal.tick_one-requires-clause-there
 tick_one-requires-clause-there g c =
-    (ticking-next _ _ _ _ _ _ _ _ _ c.in-Some.room c.in-Some.ensures.steps.0 c.loop-room.invariant.ticking).there
+    (ticking-next _ _ _ _ _ _ _ _ _ c.in-Some.room c.in-Some.ensures.steps.0
+    c.loop-room.invariant.ticking).there
 
 pub tick_one-requires-clause-own : goal.tick_one-requires-clause-own
 tick_one-requires-clause-own g c =
     let inv = c.loop-room.invariant in
-    let own = (next_own c.args.self.now.opening c.loop-room.realm _ _ c.in-Some.room c.in-Some.ensures.steps.0 inv.rooms.own).0 in
+    let own = (next_own c.args.self.now.opening c.loop-room.realm _ _ c.in-Some.room
+    c.in-Some.ensures.steps.0 inv.rooms.own).0 in
     rw inv.opening own
 
 pub tick_one-requires-clause-room : goal.tick_one-requires-clause-room
 tick_one-requires-clause-room g c =
-    (ticking-next _ _ _ _ _ _ _ _ _ c.in-Some.room c.in-Some.ensures.steps.0 c.loop-room.invariant.ticking).fits
+    (ticking-next _ _ _ _ _ _ _ _ _ c.in-Some.room c.in-Some.ensures.steps.0
+    c.loop-room.invariant.ticking).fits
 
 pub tick_one-requires-clause-twice : goal.tick_one-requires-clause-twice
 tick_one-requires-clause-twice g c =
@@ -64,13 +75,23 @@ loop-room-preserved g c =
     let short = ap length steps.0 in
     let states = c.loop-room.self.states in
     let realm = c.loop-room.realm in
-    let packets = subst (λ (o : OpeningView). shown_outs c.tick_one.new.both.sent.items ≡ shown_outs c.loop-room.both.sent.items ++ packets_of (turn_in o.config c.args.now realm (state_at states realm) c.in-Some.room)) inv.opening one.packets in
-    let stand = subst (λ (o : OpeningView). c.tick_one.new.self.states ≡ set states realm (state_after (state_at states realm) (turn_in o.config c.args.now realm (state_at states realm) c.in-Some.room))) inv.opening one.states in
-    let has = subst (λ (n : _). HasPlaces n c.loop-room.both) (ap most_of_all steps.0) inv.rooms.places in
+    let packets = subst (λ (o : OpeningView).
+    shown_outs c.tick_one.new.both.sent.items ≡ shown_outs c.loop-room.both.sent.items
+    ++ packets_of (turn_in o.config c.args.now realm (state_at states realm) c.in-Some.room))
+    inv.opening one.packets in
+    let stand = subst (λ (o : OpeningView).
+    c.tick_one.new.self.states
+    ≡ set states realm (state_after (state_at states realm)
+    (turn_in o.config c.args.now realm (state_at states realm) c.in-Some.room))) inv.opening
+    one.states in
+    let has = subst (λ (n : _). HasPlaces n c.loop-room.both) (ap most_of_all steps.0)
+    inv.rooms.places in
     record {
       ticking = ticking-turn _ _ _ _ _ _ _ _ _ _ _ c.in-Some.room steps.0 inv.ticking packets stand;
       copies = one.copies
-          ∙ ap (λ (l : List PlainOut). l ++ packets_of (turn_in c.loop-room.self.opening.config c.args.now realm (state_at states realm) c.in-Some.room)) inv.copies
+          ∙ ap (λ (l : List PlainOut).
+          l ++ packets_of (turn_in c.loop-room.self.opening.config c.args.now realm
+          (state_at states realm) c.in-Some.room)) inv.copies
           ∙ sym one.packets;
       opening = one.opening ∙ inv.opening;
       rooms = record {
@@ -86,17 +107,22 @@ loop-room-preserved g c =
 pub returns-clause-packets : goal.returns-clause-packets
 returns-clause-packets g c =
     let inv = c.loop-room.invariant in
-    let none = nothing-left (into_iter_items c.loop-room.room-iterator) (sym inv.left ∙ c.in-None.ensures.steps.0) in
-    ap (λ v. shown_outs v.items) c.into_twin.ensures.sent ∙ (ticking-end _ _ _ _ _ _ _ _ none inv.ticking).packets
+    let none = nothing-left (into_iter_items c.loop-room.room-iterator)
+    (sym inv.left ∙ c.in-None.ensures.steps.0) in
+    ap (λ v. shown_outs v.items) c.into_twin.ensures.sent
+    ∙ (ticking-end _ _ _ _ _ _ _ _ none inv.ticking).packets
 
 pub returns-clause-copies : goal.returns-clause-copies
 returns-clause-copies g c =
     let inv = c.loop-room.invariant in
-    let none = nothing-left (into_iter_items c.loop-room.room-iterator) (sym inv.left ∙ c.in-None.ensures.steps.0) in
-    ap (λ v. shown_outs v.items) c.into_twin.ensures.copies ∙ inv.copies ∙ (ticking-end _ _ _ _ _ _ _ _ none inv.ticking).packets
+    let none = nothing-left (into_iter_items c.loop-room.room-iterator)
+    (sym inv.left ∙ c.in-None.ensures.steps.0) in
+    ap (λ v. shown_outs v.items) c.into_twin.ensures.copies ∙ inv.copies
+    ∙ (ticking-end _ _ _ _ _ _ _ _ none inv.ticking).packets
 
 pub returns-clause-states : goal.returns-clause-states
 returns-clause-states g c =
     let inv = c.loop-room.invariant in
-    let none = nothing-left (into_iter_items c.loop-room.room-iterator) (sym inv.left ∙ c.in-None.ensures.steps.0) in
+    let none = nothing-left (into_iter_items c.loop-room.room-iterator)
+    (sym inv.left ∙ c.in-None.ensures.steps.0) in
     (ticking-end _ _ _ _ _ _ _ _ none inv.ticking).stand

@@ -7,7 +7,8 @@ use Rattle.roam_shard.proofs.shard.Shard.tick_in.Given as goal
 
 abbrev pub invariant-loop-room : goal.invariant-loop-room
 invariant-loop-room g l = record {
-  ticking : IsTicking l.fn.self.opening.config l.now l.fn.self.states l.self.states l.fn.room.rooms.items
+  ticking : IsTicking l.fn.self.opening.config l.now l.fn.self.states l.self.states
+      l.fn.room.rooms.items
       (into_iter_items l.room-iterator) l.realm (shown_outs l.both.sent.items);
   copies : shown_outs l.both.copies.items ≡ shown_outs l.both.sent.items;
   opening : l.self.opening ≡ l.fn.self.opening;

@@ -11,13 +11,19 @@ use Rattle.roam_shard.proofs.LostLemmas.{refusal_gives, refusal_of, refusal_want
 use Rattle.roam_shard.proofs.shards.Shards.arrive.Goals as goal
 
 pub returns-in-Ok-Job-clause-whole : goal.returns-in-Ok-Job-clause-whole
-returns-in-Ok-Job-clause-whole g c = whole_across (shown c.self.inside.config.now) c.self.inside.shards.items c.args.self.now c.self.view_is
+returns-in-Ok-Job-clause-whole g c =
+    whole_across (shown c.self.inside.config.now) c.self.inside.shards.items c.args.self.now
+    c.self.view_is
 
 pub returns-in-Ok-Reject-clause-whole : goal.returns-in-Ok-Reject-clause-whole
-returns-in-Ok-Reject-clause-whole g c = whole_across (shown c.self.inside.config.now) c.self.inside.shards.items c.args.self.now c.self.view_is
+returns-in-Ok-Reject-clause-whole g c =
+    whole_across (shown c.self.inside.config.now) c.self.inside.shards.items c.args.self.now
+    c.self.view_is
 
 pub returns-in-Err-clause-whole : goal.returns-in-Err-clause-whole
-returns-in-Err-clause-whole g c = whole_across (shown c.self.inside.config.now) c.self.inside.shards.items c.args.self.now c.self.view_is
+returns-in-Err-clause-whole g c =
+    whole_across (shown c.self.inside.config.now) c.self.inside.shards.items c.args.self.now
+    c.self.view_is
 
 pub returns-in-Err-clause-turn : goal.returns-in-Err-clause-turn
 returns-in-Err-clause-turn g c =
@@ -26,7 +32,8 @@ returns-in-Err-clause-turn g c =
     let config = c.args.self.now.config in
     refusal_gives c.lost_or_refused.result c.in-Err.why config c.args.self.now.states c.args.now
     (admission config arrival) c.lost_or_refused.ensures
-    (refusal_of c.in-Err.why (shown c.self.inside.config.now) config (λ (v : ConfigView). admission v arrival)
+    (refusal_of c.in-Err.why (shown c.self.inside.config.now) config
+    (λ (v : ConfigView). admission v arrival)
     c.in-Err.ensures.answer same)
 
 pub returns-in-Err-clause-memory : goal.returns-in-Err-clause-memory

@@ -1,4 +1,4 @@
-use Rattle.std.proofs.Common.{◌≡◌, arith}
+use Rattle.std.proofs.Common.{arith}
 use Rattle.roam_conf.specs.Shown.{shown}
 use Rattle.roam_shard.proofs.AcrossLemmas.{all_opened, all_sharded, one_shard_more}
 use Rattle.roam_shard.proofs.shards.Shards.new.Goals as goal
@@ -6,15 +6,20 @@ use Rattle.roam_shard.proofs.shards.Shards.new.Goals as goal
 pub loop-shard-preserved : goal.loop-shard-preserved
 loop-shard-preserved g c =
     rw c.in_ok-push.ensures.items
-    (one_shard_more (shown c.args.config.now) c.args.starts.now c.loop-shard.shard c.loop-shard.shards.items c.in_ok-new.field-0
+    (one_shard_more (shown c.args.config.now) c.args.starts.now c.loop-shard.shard
+    c.loop-shard.shards.items c.in_ok-new.field-0
     c.loop-shard.invariant c.requires.count c.in_ok-new.ensures.opening c.in_ok-new.ensures.states)
 
 pub invariant_of-result : goal.invariant_of-result
 invariant_of-result g c =
-    all_sharded (shown c.args.config.now) c.args.starts.now c.loop-shard.shard c.loop-shard.shards.items c.loop-shard.invariant
-    (omega (arith, c.loop-shard-test.false, c.loop-shard.auto.shard-end)) c.args.config.now.shards_range.0
+    all_sharded (shown c.args.config.now) c.args.starts.now c.loop-shard.shard
+    c.loop-shard.shards.items c.loop-shard.invariant
+    (omega (arith, c.loop-shard-test.false, c.loop-shard.auto.shard-end))
+    c.args.config.now.shards_range.0
 
 pub returns-clause-states : goal.returns-clause-states
 returns-clause-states g c =
-    all_opened (shown c.args.config.now) c.args.starts.now c.loop-shard.shard c.loop-shard.shards.items c.loop-shard.invariant
-    (omega (arith, c.loop-shard-test.false, c.loop-shard.auto.shard-end)) c.args.config.now.shards_range.0 c.requires.count
+    all_opened (shown c.args.config.now) c.args.starts.now c.loop-shard.shard
+    c.loop-shard.shards.items c.loop-shard.invariant
+    (omega (arith, c.loop-shard-test.false, c.loop-shard.auto.shard-end))
+    c.args.config.now.shards_range.0 c.requires.count

@@ -1,6 +1,5 @@
 -- A tick goes to its shard.
-use Rattle.std.proofs.Common.{◌≡◌, ◌<◌, ◌≤◌, ◌^◌, length, set, ap, sym, subst, ◌∙◌, arith, inl, inr}
-use Rattle.std.specs.Prelude.{IsErr}
+use Rattle.std.proofs.Common.{◌<◌, ◌≤◌, ◌^◌, length, set, ap, subst, arith, inl, inr}
 use Rattle.std.proofs.lemmas.Bool.{cases_lt}
 use Rattle.roam_conf.specs.Config.{ConfigView}
 use Rattle.roam_conf.specs.Shown.{shown}
@@ -19,10 +18,13 @@ invariant_of-self g c =
     let config : ConfigView = shown i.config.now in
     let old = c.index_mut.result.now in
     let shards = ap (λ (v : BrokerView). v.config.shards) c.self.view_is in
-    let lt : c.from.result < length i.shards.items = omega (arith, c.from.ensures, c.requires, shards, c.self.invariant.count) in
+    let lt : c.from.result < length i.shards.items =
+    omega (arith, c.from.ensures, c.requires, shards, c.self.invariant.count) in
     let at = get-read i.shards.items c.from.result old lt c.index_mut.ensures.value in
-    let many = tick_length c.tick.result old.opening.config old.states c.tick.new.self.states c.args.now old.opening.shard c.tick.ensures.turn in
-    still_sharded config i.shards.items c.from.result old c.tick.new.self at lt c.self.invariant c.tick.ensures.opening many
+    let many = tick_length c.tick.result old.opening.config old.states c.tick.new.self.states
+    c.args.now old.opening.shard c.tick.ensures.turn in
+    still_sharded config i.shards.items c.from.result old c.tick.new.self at lt c.self.invariant
+    c.tick.ensures.opening many
 
 pub returns-clause-turn : goal.returns-clause-turn
 returns-clause-turn g c =
@@ -31,19 +33,31 @@ returns-clause-turn g c =
     let old = c.index_mut.result.now in
     let new = c.tick.new.self in
     let shards = ap (λ (v : BrokerView). v.config.shards) c.self.view_is in
-    let lt : c.from.result < length i.shards.items = omega (arith, c.from.ensures, c.requires, shards, c.self.invariant.count) in
+    let lt : c.from.result < length i.shards.items =
+    omega (arith, c.from.ensures, c.requires, shards, c.self.invariant.count) in
     let at = get-read i.shards.items c.from.result old lt c.index_mut.ensures.value in
     let own = c.self.invariant.each c.from.result old at in
-    let numbered = subst (λ n. GivesTwin c.tick.result old.states new.states (to_tick old.opening.config old.states c.args.now n)) own.own_number c.tick.ensures.turn in
-    let told = subst (λ (x : ConfigView). GivesTwin c.tick.result old.states new.states (to_tick x old.states c.args.now c.from.result)) own.same_config numbered in
-    let seen = ticks_across config i.shards.items c.from.result old new at lt c.tick.result c.first.result c.args.now own.whole c.first.ensures told in
-    let here = subst (λ n. GivesAnswer c.first.result (all_states config i.shards.items) (all_states config (set i.shards.items c.from.result new)) (to_tick config (all_states config i.shards.items) c.args.now n)) c.from.ensures seen in
-    subst (λ (v : BrokerView). GivesAnswer c.first.result v.states (all_states config (set i.shards.items c.from.result new)) (to_tick v.config v.states c.args.now c.args.shard)) c.self.view_is here
+    let numbered = subst (λ n.
+    GivesTwin c.tick.result old.states new.states
+    (to_tick old.opening.config old.states c.args.now n)) own.own_number c.tick.ensures.turn in
+    let told = subst (λ (x : ConfigView).
+    GivesTwin c.tick.result old.states new.states
+    (to_tick x old.states c.args.now c.from.result)) own.same_config numbered in
+    let seen = ticks_across config i.shards.items c.from.result old new at lt c.tick.result
+    c.first.result c.args.now own.whole c.first.ensures told in
+    let here = subst (λ n. GivesAnswer c.first.result (all_states config i.shards.items)
+    (all_states config (set i.shards.items c.from.result new))
+    (to_tick config (all_states config i.shards.items) c.args.now n)) c.from.ensures seen in
+    subst (λ (v : BrokerView).
+    GivesAnswer c.first.result v.states
+    (all_states config (set i.shards.items c.from.result new))
+    (to_tick v.config v.states c.args.now c.args.shard)) c.self.view_is here
 
 -- a moment that is too late wants no memory
 pub returns-clause-in_time : goal.returns-clause-in_time
 returns-clause-in_time g c = λ err.
     elim (cases_lt (2 ^ 62) c.args.now) as (λ _. c.args.now ≤ 2 ^ 62) [
-      | inl late ↦ absurd (first_fails c.tick.result c.first.result c.first.ensures err (c.tick.ensures.too_late late))
+      | inl late ↦ absurd (first_fails c.tick.result c.first.result c.first.ensures err
+          (c.tick.ensures.too_late late))
       | inr early ↦ early
     ]

@@ -18,13 +18,18 @@ clients g c k = rw c.new-3.ensures.empty refl
 
 pub invariant_of-result : goal.invariant_of-result
 invariant_of-result g c =
-    sound_empty (place c.new.result) (ticket_at c.new-2.result) (client_at c.new-3.result) c.in_ok-runs.runs.items (slots g c) (tickets g c) (clients g c) c.in_ok-runs.ensures.empty
+    sound_empty (place c.new.result) (ticket_at c.new-2.result) (client_at c.new-3.result)
+    c.in_ok-runs.runs.items (slots g c) (tickets g c) (clients g c) c.in_ok-runs.ensures.empty
 
 pub returns-clause-realms : goal.returns-clause-realms
 returns-clause-realms g c =
-    length-views (entries_at (place c.new.result) (ticket_at c.new-2.result)) (room_at c.new.result c.new-2.result c.new-3.result c.in_ok-runs.runs.items) 0 _ ∙ c.in_ok-runs.ensures.count
+    length-views (entries_at (place c.new.result) (ticket_at c.new-2.result))
+    (room_at c.new.result c.new-2.result c.new-3.result c.in_ok-runs.runs.items) 0 _
+    ∙ c.in_ok-runs.ensures.count
 
 pub returns-clause-entries : goal.returns-clause-entries
 returns-clause-entries g c = λ r.
-    seen_at c.new.result c.new-2.result c.new-3.result c.in_ok-runs.runs.items (invariant_of-result g c) _ refl r
-    ∙ no_entries_at (place c.new.result) (ticket_at c.new-2.result) (client_at c.new-3.result) c.in_ok-runs.runs.items (slots g c) (tickets g c) (clients g c) r
+    seen_at c.new.result c.new-2.result c.new-3.result c.in_ok-runs.runs.items
+    (invariant_of-result g c) _ refl r
+    ∙ no_entries_at (place c.new.result) (ticket_at c.new-2.result) (client_at c.new-3.result)
+    c.in_ok-runs.runs.items (slots g c) (tickets g c) (clients g c) r
