@@ -98,6 +98,34 @@ fn print_counts(rt: &HostRuntime, counts: Counts) -> io::Result<()> {
     Ok(())
 }
 
+/// Prints what is measured, and over which table.
+fn print_table(rt: &HostRuntime, what: &str, table: Table) -> io::Result<()> {
+    let Table { realms, places } = table;
+    rt.print(what)?;
+    rt.print(" ")?;
+    rt.print(realms)?;
+    rt.print(" x ")?;
+    rt.print(places)?;
+    rt.print(": ")
+}
+
+/// Prints a line: how many requests a table keeps, and how much memory each takes, of so many octets in all.
+pub(crate) fn print_memory(
+    rt: &HostRuntime,
+    shown: Shown,
+    table: Table,
+    octets: u64,
+) -> io::Result<()> {
+    print_table(rt, "memory", table)?;
+    rt.print(table.entries())?;
+    rt.print(" entries")?;
+    if shown == Shown::Figures {
+        rt.print(", octets of each ")?;
+        rt.print(octets / table.entries().max(1))?;
+    }
+    rt.println("")
+}
+
 /// Prints a line: what was measured over which table, and its counts and figures.
 pub(crate) fn print_line(
     rt: &HostRuntime,
@@ -107,13 +135,7 @@ pub(crate) fn print_line(
     counts: Counts,
     took: Took,
 ) -> io::Result<()> {
-    let Table { realms, places } = table;
-    rt.print(what)?;
-    rt.print(" ")?;
-    rt.print(realms)?;
-    rt.print(" x ")?;
-    rt.print(places)?;
-    rt.print(": ")?;
+    print_table(rt, what, table)?;
     print_counts(rt, counts)?;
     if shown == Shown::Figures {
         rt.print(", in a second ")?;

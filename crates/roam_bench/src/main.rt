@@ -1,8 +1,8 @@
 //! A program that says how many events a second a broker answers. It is a measurement alone.
 //!
-//! Its one word says what is measured: `shards`, the broker over shared tables of several sizes; `lists`, that broker
-//! beside the one with a list for each realm; `check`, all of that in small, where only counts are printed. A figure
-//! counts only beside the others of the same run.
+//! Its one word says what is measured: `shards`, the broker over shared tables of several sizes; `memory`, what an entry
+//! of them takes; `lists`, that broker beside the one with a list for each realm; `check`, all of that in small, where
+//! only counts are printed. A figure counts only beside the others of the same run.
 #![tactic(auto)]
 
 mod fault;
@@ -27,6 +27,7 @@ fn measure(rt: &HostRuntime, word: &str) -> Result<(), Fault> {
             lists::check(rt)
         }
         "shards" => shards::measure(rt),
+        "memory" => shards::memory(rt),
         "lists" => lists::measure(rt),
         _ => Err(Fault::Word),
     }
