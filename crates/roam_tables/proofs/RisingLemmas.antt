@@ -1,12 +1,12 @@
 -- A row that rises: a value's place, what comes in and goes, and the first after another.
-use Rattle.std.proofs.Common.{◌≡◌, ◌≢◌, ◌⊎◌, ℕ, zero, suc, ◌+◌, ◌<◌, ◌≤◌, true, false, List, [], ◌∷◌, length, get_or, Option, Some, None, Result, Ok, Err, refl, ap, sym, ◌∙◌, subst, inl, inr, arith, Ordering, add-one}
+use Rattle.std.proofs.Common.{◌≡◌, ◌≢◌, ◌⊎◌, ℕ, zero, suc, ◌+◌, ◌-◌, ◌<◌, ◌≤◌, true, false, List, [], ◌∷◌, length, get_or, Option, Some, None, Result, Ok, Err, refl, ap, sym, ◌∙◌, subst, inl, inr, arith, Ordering, add-one}
 use Rattle.std.specs.List as list
 use Rattle.std.specs.List.{AllByRecursion}
 use Rattle.std.specs.List.Sorted.{IsBinarySearchResult, IsPartitionPoint, IsSortedBy, IsSearchInRange}
 use Rattle.std.specs.Cmp.{IsTotalOrder}
 use Rattle.std.specs.FinMap.{nat_cmp-IsAntisymmetric}
 use Rattle.std.proofs.lemmas.List.Sorted.{searchable_from_sorted}
-use Rattle.std.specs.Prelude.{slice_get}
+use Rattle.std.specs.Prelude.{slice_get, nat_lt}
 use Rattle.std.proofs.lemmas.Bool.{cases_Bool, cases_lt}
 use Rattle.std.proofs.lemmas.Bool.Decides.{nat_tests}
 use Rattle.std.proofs.lemmas.Grind.{common_steps}
@@ -249,6 +249,20 @@ module _ {X : Type 0} (cmp : X → X → Ordering) (total : IsTotalOrder cmp) wh
   later (y ∷ ys) up (suc j) (suc k) d e lt within =
       later ys up.1 j k d e (omega arith) (omega arith)
 
+  -- what comes after the last one comes after all
+  pub gap_behind : (xs : List X) (x last : X) (n : ℕ) → Rises cmp xs → 0 < n → n ≡ length xs → last ≡ get_or xs (n - 1) last → cmp last x ≡ Less → IsGap cmp xs x n
+  gap_behind xs x last n up some len at less = record {
+    within = omega (arith, len);
+    low = λ k d lt. elim (cases_lt k (n - 1)) as (λ _. cmp (get_or xs k d) x ≡ Less) [
+      | inl before ↦ (let lower = later xs up k (n - 1) d last before (omega (arith, len, some)) in
+          total.trans (get_or xs k d) last x (subst (λ z. cmp (get_or xs k d) z ≡ Less) (sym at) lower) less)
+      | inr ge ↦ (let same : k ≡ n - 1 = omega (arith, ge, lt) in
+          let is : get_or xs k d ≡ last = any_default xs k d last (omega (arith, len, lt)) ∙ ap (λ (m : ℕ). get_or xs m last) same ∙ sym at in
+          subst (λ z. cmp z x ≡ Less) (sym is) less)
+    ];
+    high = λ k d ge lt. absurd (omega (arith, ge, lt, len));
+  }
+
 -- The first due after another
 
 pub due_less_before : (a b : Due) → due_cmp a b ≡ Less → is_before a b ≡ true
@@ -483,3 +497,6 @@ only_gone o (z ∷ []) x at h next y held = elim held as (λ _. is_beside o y �
   | inr bad ↦ absurd bad
 ]
 only_gone o (z ∷ w ∷ ws) x at h next y held = absurd (let k : Some w ≡ None = next in cc)
+
+pub less_ticket : (a b : ℕ) → nat_lt a b ≡ true → nat_cmp a b ≡ Less
+less_ticket a b h = grind (arith, nat_tests, common_steps)

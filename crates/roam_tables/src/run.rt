@@ -1,30 +1,85 @@
 //! A run: dues or tickets in a row that rises, in which an event finds its place near an end.
 
-ghost use Rattle.std.specs.Prelude.{◌≡◌, ◌<◌, ◌≤◌, ◌+◌, length, OnOk, IsOk};
+ghost use Rattle.std.specs.Prelude.{◌≡◌, ◌<◌, ◌≤◌, ◌+◌, true, length, OnOk, IsOk};
 ghost use Rattle.std.specs.Ordering.{nat_cmp};
 ghost use Rattle.std.specs.VecDeque.{deque_len, deque_capacity};
 ghost use Rattle.roam_pending.specs.ListLaws.{IsIn};
-ghost use Rattle.roam_tables.specs.Rising.{Adds, AmongRun, Drops, IsNextOf, IsPlaceOf, IsStart, Rises, due_cmp};
+ghost use Rattle.roam_tables.specs.Rising.{Adds, AmongRun, Drops, IsAt, IsGap, IsNextOf, IsPlaceOf, IsStart, Rises, due_cmp};
 
 use roam_pending::Due;
 use roam_wire::NoMemory;
 use std::alloc::Allocator;
 use std::collections::VecDeque;
 
-/// Where a due stands, or where it belongs.
+/// Whether a due is the first of a run.
+fn is_first_due<A: Allocator>(run: &VecDeque<Due, A>, due: &Due) -> bool
+    ensures { result ≡ true → IsAt due_cmp run.now.items due.now 0 }
+{
+    match run.front() {
+        None => false,
+        Some(first) => *first == *due,
+    }
+}
+
+/// Whether a due comes after all of a run.
+fn is_after_dues<A: Allocator>(run: &VecDeque<Due, A>, due: &Due) -> bool
+    requires { Rises due_cmp run.now.items }
+    ensures { result ≡ true → IsGap due_cmp run.now.items due.now (deque_len run.now) }
+{
+    match run.back() {
+        None => true,
+        Some(last) => *last < *due,
+    }
+}
+
+/// Whether a ticket is the first of a run.
+fn is_first_ticket<A: Allocator>(run: &VecDeque<u64, A>, ticket: u64) -> bool
+    ensures { result ≡ true → IsAt nat_cmp run.now.items ticket 0 }
+{
+    match run.front() {
+        None => false,
+        Some(first) => *first == ticket,
+    }
+}
+
+/// Whether a ticket comes after all of a run.
+fn is_after_tickets<A: Allocator>(run: &VecDeque<u64, A>, ticket: u64) -> bool
+    requires { Rises nat_cmp run.now.items }
+    ensures { result ≡ true → IsGap nat_cmp run.now.items ticket (deque_len run.now) }
+{
+    match run.back() {
+        None => true,
+        Some(last) => *last < ticket,
+    }
+}
+
+/// Where a due stands, or where it belongs. Most are at an end, and a search reads places all over a
+/// long run: so the ends are looked at first.
 #[tactic(auto, using(crate::proofs::RisingLemmas::place_in))]
 fn due_place<A: Allocator>(run: &VecDeque<Due, A>, due: &Due) -> Result<usize, usize>
     requires { Rises due_cmp run.now.items }
     ensures { IsPlaceOf due_cmp run.now.items due.now result }
 {
+    if is_first_due(run, due) {
+        return Ok(0);
+    }
+    if is_after_dues(run, due) {
+        return Err(run.len());
+    }
     run.binary_search(due)
 }
 
-/// Where a ticket stands, or where it belongs.
+/// Where a ticket stands, or where it belongs, as for a due.
 fn ticket_place<A: Allocator>(run: &VecDeque<u64, A>, ticket: u64) -> Result<usize, usize>
     requires { Rises nat_cmp run.now.items }
     ensures { IsPlaceOf nat_cmp run.now.items ticket result }
 {
+    if is_first_ticket(run, ticket) {
+        return Ok(0);
+    }
+    if is_after_tickets(run, ticket) {
+        return Err(run.len());
+    }
     run.binary_search(&ticket)
 }
 
