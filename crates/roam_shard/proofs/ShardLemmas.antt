@@ -1,8 +1,12 @@
 -- One realm's turn, among all realms.
 use Rattle.std.proofs.Common.{◌≡◌, ◌≢◌, ℕ, zero, suc, ◌+◌, ◌^◌, ◌<◌, ◌≤◌, Bool, true, false, List, [], ◌∷◌, length, set, Some, None, Result, Ok, Err, IsTrue, refl, ap, sym, ◌∙◌, subst, inl, inr, arith}
-use Rattle.std.specs.Prelude.{◌⊎◌, IsErr, nat_lt, slice_get}
-use Rattle.roam_route.specs.Admission.{Admission, refused}
-use Rattle.roam_route.specs.Shown.{Answers}
+use Rattle.std.specs.Prelude.{◌⊎◌, IfOk, IsErr, nat_lt, slice_get}
+use Rattle.roam_route.specs.Admission.{Admission, admitted, refused, rejected}
+use Rattle.roam_route.specs.Shown.{Answers, shown as shown_prepared, shown_job, shown_out}
+use Rattle.roam_route.specs.declared.datagram.Out.{Out}
+use Rattle.roam_route.specs.declared.job.Job.{Job}
+use Rattle.roam_route.specs.declared.job.Prepared.{Prepared}
+use Rattle.roam_route.specs.declared.job.Prepared.TheVariants as prepared
 use Rattle.std.proofs.Math.ListN.{length-set}
 use Rattle.std.proofs.lemmas.Bool.{cases_eq, cases_lt}
 use Rattle.std.proofs.lemmas.Bool.Decides.{nat_tests}
@@ -247,3 +251,26 @@ too_late answer config states now shard there late packets why =
     let one : nat_lt shard config.shards ≡ true = grind (arith, nat_tests) in
     let other : nat_lt (2 ^ 62) now ≡ true = grind (arith, nat_tests) in
     rw (one, other) (record { packets = packets; refusal = why; states = refl })
+
+-- what `prepare` passes or rejects, by what the broker reads of its configuration
+pub job_is : {A : Type 0} (p : Prepared A) (job : Job A) (config other : ConfigView)
+    (given : ConfigView → Admission) → Answers {A = A} (Ok p) (given config) → p ≡ prepared.Job job
+    → config ≡ other → admitted (shown_job job) ≡ given other
+job_is p job config other given (inl lost) is same = absurd (cc lost)
+job_is {A} p job config other given (inr answer) is same =
+    sym (ap (λ (q : Prepared A). shown_prepared (Ok q)) is) ∙ answer ∙ ap given same
+
+pub reject_is : {A : Type 0} (p : Prepared A) (out : Out A) (config other : ConfigView)
+    (given : ConfigView → Admission) → Answers {A = A} (Ok p) (given config)
+    → p ≡ prepared.Reject out → config ≡ other → rejected (shown_out out) ≡ given other
+reject_is p out config other given (inl lost) is same = absurd (cc lost)
+reject_is {A} p out config other given (inr answer) is same =
+    sym (ap (λ (q : Prepared A). shown_prepared (Ok q)) is) ∙ answer ∙ ap given same
+
+-- a reject is sent, and no state changes
+pub reject_gives : {A : Type 0} (r : Result (Answer A) NoMemory) (out : Out A) (config : ConfigView)
+    (states : List RealmState) (now : ℕ) → IfOk r (λ a. shown_outs a.outs.items ≡ shown_out out ∷ [])
+    → IfOk r (λ a. a.refusal ≡ None)
+    → GivesAnswer r states states (to_arrival config states now (rejected (shown_out out)))
+reject_gives (Ok a) out config states now packets refusal = record { packets = packets; refusal = refusal; states = refl }
+reject_gives (Err e) out config states now packets refusal = refl

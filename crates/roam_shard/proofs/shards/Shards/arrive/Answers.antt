@@ -3,10 +3,12 @@ use Rattle.std.proofs.Common.{ap, subst}
 use Rattle.std.specs.Prelude.{Err}
 use Rattle.roam_conf.specs.Config.{ConfigView}
 use Rattle.roam_conf.specs.Shown.{shown}
-use Rattle.roam_route.specs.Admission.{admission}
+use Rattle.roam_route.specs.Admission.{Admission, admission}
 use Rattle.roam_route.specs.Shown.{WantsMemory, shown_arrival}
 use Rattle.roam_core.specs.BrokerView.{BrokerView}
-use Rattle.roam_shard.proofs.ShardLemmas.{refusal_gives, refusal_of, refusal_wants, shards_whole}
+use Rattle.roam_core.specs.ManyRealms.{to_arrival}
+use Rattle.roam_core.specs.Steps.{GivesAnswer}
+use Rattle.roam_shard.proofs.ShardLemmas.{job_is, refusal_gives, refusal_of, refusal_wants, reject_gives, reject_is, shards_whole}
 use Rattle.roam_shard.proofs.shards.Shards.arrive.Goals as goal
 
 pub returns-in-Ok-Job-clause-whole : goal.returns-in-Ok-Job-clause-whole
@@ -35,3 +37,34 @@ returns-in-Err-clause-memory g c = λ err.
     let lost = refusal_wants c.lost_or_refused.result c.in-Err.why c.lost_or_refused.ensures err in
     subst (λ (v : ConfigView). WantsMemory (admission v arrival)) same
     (c.in-Err.ensures.memory (ap Err lost))
+
+pub returns-in-Ok-Job-clause-turn : goal.returns-in-Ok-Job-clause-turn
+returns-in-Ok-Job-clause-turn g c =
+    let arrival = shown_arrival c.args.datagram.now in
+    let same = ap (λ (v : BrokerView). v.config) c.self.view_is in
+    let config = c.args.self.now.config in
+    subst (λ (a : Admission). GivesAnswer c.give.result c.args.self.now.states c.give.new.self.states
+    (to_arrival config c.args.self.now.states c.args.now a))
+    (job_is c.in-Ok-Job.field-0 c.in-Ok-Job.job (shown c.self.inside.config.now) config
+    (λ (v : ConfigView). admission v arrival) c.in-Ok-Job.ensures.answer c.in-Ok-Job.field-0-is same)
+    c.give.ensures.turn
+
+pub returns-in-Ok-Job-clause-memory : goal.returns-in-Ok-Job-clause-memory
+returns-in-Ok-Job-clause-memory g c = λ err.
+    let arrival = shown_arrival c.args.datagram.now in
+    let same = ap (λ (v : BrokerView). v.config) c.self.view_is in
+    subst WantsMemory
+    (job_is c.in-Ok-Job.field-0 c.in-Ok-Job.job (shown c.self.inside.config.now) c.args.self.now.config
+    (λ (v : ConfigView). admission v arrival) c.in-Ok-Job.ensures.answer c.in-Ok-Job.field-0-is same) tt
+
+pub returns-in-Ok-Reject-clause-turn : goal.returns-in-Ok-Reject-clause-turn
+returns-in-Ok-Reject-clause-turn g c =
+    let arrival = shown_arrival c.args.datagram.now in
+    let same = ap (λ (v : BrokerView). v.config) c.self.view_is in
+    let config = c.args.self.now.config in
+    subst (λ (a : Admission). GivesAnswer c.rejected.result c.args.self.now.states c.args.self.now.states
+    (to_arrival config c.args.self.now.states c.args.now a))
+    (reject_is c.in-Ok-Reject.field-0 c.in-Ok-Reject.out (shown c.self.inside.config.now) config
+    (λ (v : ConfigView). admission v arrival) c.in-Ok-Reject.ensures.answer c.in-Ok-Reject.field-0-is same)
+    (reject_gives c.rejected.result c.in-Ok-Reject.out config c.args.self.now.states c.args.now
+    c.rejected.ensures.outs c.rejected.ensures.refusal)

@@ -1,5 +1,7 @@
 -- All rooms first, then the tick in them.
-use Rattle.std.proofs.Common.{ap, subst, ◌∙◌, arith, rules}
+use Rattle.std.proofs.Common.{◌≤◌, length, ap, subst, ◌∙◌, arith, rules}
+use Rattle.std.proofs.lemmas.List.{length-map}
+use Rattle.roam_conf.specs.Parts.{shown_realm}
 use Rattle.roam_conf.specs.Shown.{shown}
 use Rattle.roam_core.specs.ManyRealms.{AllRealms}
 use Rattle.roam_core.specs.BrokerView.{BrokerView}
@@ -52,3 +54,15 @@ returns-then-shard-self-clause-turn g c =
     let shards = ap (λ (v : BrokerView). v.config.shards) c.self.view_is in
     no_such_shard c.refused.result c.args.self.now.config c.args.self.now.states c.args.now c.args.shard
     (omega (arith, shards, c.if-shard-self.true)) c.refused.ensures.outs c.refused.ensures.refusal
+
+-- there are numbers for each realm, of which there are 256 at most
+pub room_of_shard-requires : goal.room_of_shard-requires
+room_of_shard-requires g c =
+    let config = c.self.inside.config.now in
+    let realms = length-map config.realms.items shown_realm in
+    let numbers = ap (λ l. length l) c.deref.ensures.value in
+    omega (arith, realms, config.realms.ok.0, config.realm_count, c.self.invariant.count, numbers)
+
+pub returns-clause-shards : goal.returns-clause-shards
+returns-clause-shards g c =
+    subst (λ (v : BrokerView). 1 ≤ v.config.shards) c.self.view_is c.self.invariant.some_shard
