@@ -12,7 +12,8 @@ use Rattle.roam_reverse.proofs.ChainLemmas.{at-is, at-isnt, from-map, older-by-n
 -- the next ticket has this session, behind what was the newest one
 pub record Appends (c d : PlainChain) (s : Session) : Type 0 where
   pub first : ℕ → Option PlainNode
-  pub puts : PutsAt c.nodes first c.next (Some (record { session = s; older = c.newest; newer = None }))
+  pub puts : PutsAt c.nodes first c.next (Some
+      (record { session = s; older = c.newest; newer = None }))
   pub nodes : (u : ℕ) → d.nodes u ≡ option_map (with_newer_at c.newest (Some c.next) u) (first u)
   pub tickets : PutsTicket c.tickets d.tickets s (Some c.next)
   pub oldest : d.oldest ≡ end_beside c.newest (Some c.next) c.oldest
@@ -20,7 +21,8 @@ pub record Appends (c d : PlainChain) (s : Session) : Type 0 where
   pub next : d.next ≡ c.next + 1
   pub count : d.count ≡ c.count + 1
 
-module _ (c d : PlainChain) (s : Session) (chain : IsChain c) (absent : c.tickets s ≡ None) (room : c.next + 1 < tickets_end) (appends : Appends c d s) where
+module _ (c d : PlainChain) (s : Session) (chain : IsChain c) (absent : c.tickets s ≡ None)
+    (room : c.next + 1 < tickets_end) (appends : Appends c d s) where
   new : PlainNode
   new = record { session = s; older = c.newest; newer = None }
 
@@ -34,26 +36,31 @@ module _ (c d : PlainChain) (s : Session) (chain : IsChain c) (absent : c.ticket
       by : (o : Option ℕ) → IsLastBelow (session_at c.nodes) c.next o → is_at o c.next ≡ false
       by None last = refl
       by (Some v) last = elim (cases_Bool (is_at (Some v) c.next)) [
-        | inl is ↦ absurd (let e : Some v ≡ Some c.next = at-is (Some v) c.next is in let n : v ≡ c.next = cc in omega (arith, last.below))
+        | inl is ↦ absurd (let e : Some v ≡ Some c.next = at-is (Some v) c.next is in
+            let n : v ≡ c.next = cc in omega (arith, last.below))
         | inr isnt ↦ isnt
       ]
 
   here : d.nodes c.next ≡ Some new
   unfolding new
-  here = appends.nodes c.next ∙ ap (option_map (with_newer_at c.newest (Some c.next) c.next)) appends.puts.changed ∙ rw not-next refl
+  here = appends.nodes c.next ∙ ap (option_map (with_newer_at c.newest (Some c.next) c.next))
+      appends.puts.changed ∙ rw not-next refl
 
   others : (u : ℕ) → u ≢ c.next → d.nodes u ≡ option_map (links u) (c.nodes u)
   unfolding links
-  others u ne = appends.nodes u ∙ ap (option_map (with_newer_at c.newest (Some c.next) u)) (appends.puts.others u ne)
+  others u ne = appends.nodes u ∙ ap (option_map (with_newer_at c.newest (Some c.next) u))
+      (appends.puts.others u ne)
 
   pub sessions-come : PutsAt (session_at c.nodes) (session_at d.nodes) c.next (Some s)
   unfolding new links
   sessions-come = record {
     changed = ap (option_map (λ (y : PlainNode). y.session)) here;
-    others = λ u ne. ap (option_map (λ (y : PlainNode). y.session)) (others u ne) ∙ same u (c.nodes u);
+    others = λ u ne. ap (option_map (λ (y : PlainNode). y.session)) (others u ne)
+        ∙ same u (c.nodes u);
   }
     where
-      same : (u : ℕ) (o : Option PlainNode) → option_map (λ (y : PlainNode). y.session) (option_map (links u) o) ≡ option_map (λ (y : PlainNode). y.session) o
+      same : (u : ℕ) (o : Option PlainNode) → option_map (λ (y : PlainNode). y.session)
+          (option_map (links u) o) ≡ option_map (λ (y : PlainNode). y.session) o
       same u None = refl
       same u (Some y) = ap Some (session-by-newer c.newest (Some c.next) u y)
 
@@ -77,61 +84,82 @@ module _ (c d : PlainChain) (s : Session) (chain : IsChain c) (absent : c.ticket
     | inr ge ↦ absurd (let k = chain.given u ge in cc (k, at))
   ]
 
-  newer-after : (u : ℕ) (y : PlainNode) → c.nodes u ≡ Some y → IsFirstFrom (session_at d.nodes) (u + 1) (links u y).newer
+  newer-after : (u : ℕ) (y : PlainNode) → c.nodes u ≡ Some y
+      → IsFirstFrom (session_at d.nodes) (u + 1) (links u y).newer
   unfolding links
   newer-after u y at = elim (cases_Bool (is_at c.newest u)) [
     | inl is ↦ (
-        let last : IsLast (session_at c.nodes) c.next u = subst (λ (o : Option ℕ). IsLastBelow (session_at c.nodes) c.next o) (at-is c.newest u is) chain.newest in
+        let last : IsLast (session_at c.nodes) c.next u =
+        subst (λ (o : Option ℕ). IsLastBelow (session_at c.nodes) c.next o)
+        (at-is c.newest u is) chain.newest in
         let lt = before-next u y at in
-        let first : IsFirst (session_at d.nodes) (u + 1) c.next = first-new (session_at c.nodes) (session_at d.nodes) c.next s sessions-come free (u + 1) (omega arith)
-        (none-between (session_at c.nodes) (session_at d.nodes) c.next s sessions-come free u last) in
+        let first : IsFirst (session_at d.nodes) (u + 1) c.next =
+        first-new (session_at c.nodes) (session_at d.nodes) c.next s sessions-come free (u + 1)
+        (omega arith)
+        (none-between (session_at c.nodes) (session_at d.nodes) c.next s sessions-come free u last)
+        in
         rw is first)
     | inr isnt ↦ (
         let held : IsSome (session_at c.nodes u) = rw at refl in
-        rw isnt (has-newer (session_at c.nodes) (session_at d.nodes) c.next s sessions-come free u c.newest y.newer held (at-isnt c.newest u isnt) chain.newest (chain.newer u y at)))
+        rw isnt (has-newer (session_at c.nodes) (session_at d.nodes) c.next s sessions-come free u
+        c.newest y.newer held (at-isnt c.newest u isnt) chain.newest (chain.newer u y at)))
   ]
 
-  newer-all : (u : ℕ) (z : PlainNode) → d.nodes u ≡ Some z → IsFirstFrom (session_at d.nodes) (u + 1) z.newer
+  newer-all : (u : ℕ) (z : PlainNode) → d.nodes u ≡ Some z
+      → IsFirstFrom (session_at d.nodes) (u + 1) z.newer
   unfolding new
   newer-all u z at = elim (cases_eq u c.next) [
     | inl is ↦ (
         let one : Some new ≡ Some z = sym here ∙ ap d.nodes (sym is) ∙ at in
         let e : new ≡ z = cc in
-        subst (λ (o : Option ℕ). IsFirstFrom (session_at d.nodes) (u + 1) o) (ap (λ (n : PlainNode). n.newer) e)
-        (λ v le. none-above (session_at c.nodes) (session_at d.nodes) c.next s sessions-come free v (omega arith)))
+        subst (λ (o : Option ℕ). IsFirstFrom (session_at d.nodes) (u + 1) o)
+        (ap (λ (n : PlainNode). n.newer) e)
+        (λ v le. none-above (session_at c.nodes) (session_at d.nodes) c.next s sessions-come free v
+        (omega arith)))
     | inr ne ↦ (
         let was = former u z ne at in
-        subst (λ (o : Option ℕ). IsFirstFrom (session_at d.nodes) (u + 1) o) (ap (λ (n : PlainNode). n.newer) was.becomes) (newer-after u was.node was.at))
+        subst (λ (o : Option ℕ). IsFirstFrom (session_at d.nodes) (u + 1) o)
+        (ap (λ (n : PlainNode). n.newer) was.becomes) (newer-after u was.node was.at))
   ]
 
-  older-all : (u : ℕ) (z : PlainNode) → d.nodes u ≡ Some z → IsLastBelow (session_at d.nodes) u z.older
+  older-all : (u : ℕ) (z : PlainNode) → d.nodes u ≡ Some z
+      → IsLastBelow (session_at d.nodes) u z.older
   unfolding new links
   older-all u z at = elim (cases_eq u c.next) [
     | inl is ↦ (
         let one : Some new ≡ Some z = sym here ∙ ap d.nodes (sym is) ∙ at in
         let e : new ≡ z = cc in
-        subst (λ (o : Option ℕ). IsLastBelow (session_at d.nodes) u o) (ap (λ (n : PlainNode). n.older) e)
+        subst (λ (o : Option ℕ). IsLastBelow (session_at d.nodes) u o)
+        (ap (λ (n : PlainNode). n.older) e)
         (subst (λ (end : ℕ). IsLastBelow (session_at d.nodes) end c.newest) (sym is)
-        (last-stays (session_at c.nodes) (session_at d.nodes) c.next s sessions-come free c.next c.newest (omega arith) chain.newest)))
+        (last-stays (session_at c.nodes) (session_at d.nodes) c.next s sessions-come free c.next
+        c.newest (omega arith) chain.newest)))
     | inr ne ↦ (
         let was = former u z ne at in
         let lt = before-next u was.node was.at in
-        let same : was.node.older ≡ z.older = sym (older-by-newer c.newest (Some c.next) u was.node) ∙ ap (λ (n : PlainNode). n.older) was.becomes in
+        let same : was.node.older ≡ z.older = sym (older-by-newer c.newest (Some c.next) u was.node)
+        ∙ ap (λ (n : PlainNode). n.older) was.becomes in
         subst (λ (o : Option ℕ). IsLastBelow (session_at d.nodes) u o) same
-        (last-stays (session_at c.nodes) (session_at d.nodes) c.next s sessions-come free u was.node.older (omega arith) (chain.older u was.node was.at)))
+        (last-stays (session_at c.nodes) (session_at d.nodes) c.next s sessions-come free u
+        was.node.older (omega arith) (chain.older u was.node was.at)))
   ]
 
   oldest-after : IsFirstFrom (session_at d.nodes) 0 d.oldest
-  oldest-after = subst (λ (o : Option ℕ). IsFirstFrom (session_at d.nodes) 0 o) (sym appends.oldest) (by c.newest chain.newest)
+  oldest-after = subst (λ (o : Option ℕ). IsFirstFrom (session_at d.nodes) 0 o) (sym appends.oldest)
+      (by c.newest chain.newest)
     where
-      by : (o : Option ℕ) → IsLastBelow (session_at c.nodes) c.next o → IsFirstFrom (session_at d.nodes) 0 (end_beside o (Some c.next) c.oldest)
-      by None last = first-new (session_at c.nodes) (session_at d.nodes) c.next s sessions-come free 0 (omega arith) (λ u le lt. last u lt)
-      by (Some w) last = has-oldest (session_at c.nodes) (session_at d.nodes) c.next s sessions-come free w c.oldest last.held chain.oldest
+      by : (o : Option ℕ) → IsLastBelow (session_at c.nodes) c.next o
+          → IsFirstFrom (session_at d.nodes) 0 (end_beside o (Some c.next) c.oldest)
+      by None last = first-new (session_at c.nodes) (session_at d.nodes) c.next s sessions-come free
+          0 (omega arith) (λ u le lt. last u lt)
+      by (Some w) last = has-oldest (session_at c.nodes) (session_at d.nodes) c.next s sessions-come
+          free w c.oldest last.held chain.oldest
 
   newest-after : IsLastBelow (session_at d.nodes) d.next d.newest
   newest-after =
       subst (λ (end : ℕ). IsLastBelow (session_at d.nodes) end d.newest) (sym appends.next)
-      (subst (λ (o : Option ℕ). IsLastBelow (session_at d.nodes) (c.next + 1) o) (sym appends.newest)
+      (subst (λ (o : Option ℕ). IsLastBelow (session_at d.nodes) (c.next + 1) o)
+      (sym appends.newest)
       (last-new (session_at c.nodes) (session_at d.nodes) c.next s sessions-come free))
 
   points-after : (q : Session) (u : ℕ) → d.tickets q ≡ Some u → session_at d.nodes u ≡ Some q
@@ -152,14 +180,16 @@ module _ (c d : PlainChain) (s : Session) (chain : IsChain c) (absent : c.ticket
   finds-after : (u : ℕ) (q : Session) → session_at d.nodes u ≡ Some q → d.tickets q ≡ Some u
   finds-after u q at = elim (cases_eq u c.next) [
     | inl is ↦ (
-        let both : Some s ≡ Some q = sym sessions-come.changed ∙ ap (session_at d.nodes) (sym is) ∙ at in
+        let both : Some s ≡ Some q = sym sessions-come.changed ∙ ap (session_at d.nodes) (sym is)
+        ∙ at in
         let one : s ≡ q = cc in
         let same : same_session s q ≡ true = ap (same_session s) (sym one) ∙ same-itself s in
         appends.tickets q ∙ rw same (ap Some (sym is)))
     | inr ne ↦ (
         let was : c.tickets q ≡ Some u = chain.finds u q (sym (sessions-come.others u ne) ∙ at) in
         elim (cases_Bool (same_session s q)) [
-          | inl same ↦ absurd (let none : c.tickets q ≡ None = ap c.tickets (sym (same-is s q same)) ∙ absent in cc)
+          | inl same ↦ absurd (let none : c.tickets q ≡ None = ap c.tickets (sym (same-is s q same))
+              ∙ absent in cc)
           | inr other ↦ appends.tickets q ∙ rw other was
         ])
   ]
@@ -170,10 +200,12 @@ module _ (c d : PlainChain) (s : Session) (chain : IsChain c) (absent : c.ticket
       others u ne ∙ ap (option_map (links u)) (chain.given u (omega (arith, appends.next))))
 
   pub listed-after : all_listed (session_at d.nodes) ≡ all_listed (session_at c.nodes) ++ s ∷ []
-  listed-after = listed-last (session_at c.nodes) (session_at d.nodes) 0 tickets_end c.next s sessions-come.changed sessions-come.others free (omega arith) (omega (arith, room))
+  listed-after = listed-last (session_at c.nodes) (session_at d.nodes) 0 tickets_end c.next s
+      sessions-come.changed sessions-come.others free (omega arith) (omega (arith, room))
 
   count-after : length (all_listed (session_at d.nodes)) ≡ d.count
-  count-after = ap length listed-after ∙ length-append (all_listed (session_at c.nodes)) (s ∷ []) ∙ omega (arith, chain.count, appends.count)
+  count-after = ap length listed-after ∙ length-append (all_listed (session_at c.nodes)) (s ∷ [])
+      ∙ omega (arith, chain.count, appends.count)
 
   pub chain-appended : IsChain d
   chain-appended = record {

@@ -22,15 +22,8 @@ module _ {X : Type 0} where
     pub left : (u : ℕ) → from ≤ u → g u ≡ f u
     pub next : IsFirstFrom g from at
 
-  pub walk-starts : (p : X → Bool) (f : ℕ → Option X) (at : Option ℕ) → IsFirstFrom f 0 at → IsWalked p f f at
-  walk-starts p f at first = record {
-    from = 0;
-    done = λ u lt. absurd (omega arith);
-    left = λ u le. refl;
-    next = first;
-  }
-
-  pub walk-ends : (p : X → Bool) (f g : ℕ → Option X) (at : Option ℕ) → IsWalked p f g at → at ≡ None → all_listed g ≡ filter p (all_listed f)
+  pub walk-ends : (p : X → Bool) (f g : ℕ → Option X) (at : Option ℕ) → IsWalked p f g at
+      → at ≡ None → all_listed g ≡ filter p (all_listed f)
   walk-ends p f g at walked is = listed-filter p f g 0 tickets_end kept
     where
       none : (u : ℕ) → walked.from ≤ u → g u ≡ None
@@ -44,7 +37,8 @@ module _ {X : Type 0} where
             none u ge ∙ ap (kept_of p) (sym was))
       ]
 
-  module _ (p : X → Bool) (f g : ℕ → Option X) (at : Option ℕ) (walked : IsWalked p f g at) (t : ℕ) (is : at ≡ Some t) where
+  module _ (p : X → Bool) (f g : ℕ → Option X) (at : Option ℕ) (walked : IsWalked p f g at) (t : ℕ)
+      (is : at ≡ Some t) where
     first : IsFirst g walked.from t
     first = subst (λ (o : Option ℕ). IsFirstFrom g walked.from o) is walked.next
 
@@ -64,7 +58,8 @@ module _ {X : Type 0} where
     behind u le = walked.left u (let k = first.from in omega arith)
 
     -- the one that is looked at stays
-    pub walk-stays : (x : X) (n : Option ℕ) → g t ≡ Some x → p x ≡ true → IsFirstFrom g (t + 1) n → IsWalked p f g n
+    pub walk-stays : (x : X) (n : Option ℕ) → g t ≡ Some x → p x ≡ true → IsFirstFrom g (t + 1) n
+        → IsWalked p f g n
     walk-stays x n there passes next = record {
       from = t + 1;
       done = λ u lt. elim (cases_eq u t) [
@@ -79,7 +74,8 @@ module _ {X : Type 0} where
     }
 
     -- the one that is looked at goes
-    pub walk-goes : (h : ℕ → Option X) (x : X) (n : Option ℕ) → g t ≡ Some x → p x ≡ false → IsFirstFrom g (t + 1) n → PutsAt g h t None → IsWalked p f h n
+    pub walk-goes : (h : ℕ → Option X) (x : X) (n : Option ℕ) → g t ≡ Some x → p x ≡ false
+        → IsFirstFrom g (t + 1) n → PutsAt g h t None → IsWalked p f h n
     walk-goes h x n there fails next goes = record {
       from = t + 1;
       done = λ u lt. elim (cases_eq u t) [
@@ -100,7 +96,8 @@ module _ {X : Type 0} where
 -- the walk goes on from a node to the next newer one
 module _ (c : PlainChain) (chain : IsChain c) (peer : ℕ) (f : ℕ → Option Session) (at : Option ℕ)
     (walked : IsWalked (λ (s : Session). not (s.peer == peer)) f (session_at c.nodes) at)
-    (t : ℕ) (is : at ≡ Some t) (r : ℕ × Option ℕ) (says : option_map peer_newer (c.nodes t) ≡ Some r) where
+    (t : ℕ) (is : at ≡ Some t) (r : ℕ × Option ℕ)
+    (says : option_map peer_newer (c.nodes t) ≡ Some r) where
   node : (x : PlainNode) × (c.nodes t ≡ Some x) × (peer_newer x ≡ r)
   node = from-map peer_newer (c.nodes t) r says
 
@@ -108,17 +105,24 @@ module _ (c : PlainChain) (chain : IsChain c) (peer : ℕ) (f : ℕ → Option S
   there = ap (option_map (λ (y : PlainNode). y.session)) node.1
 
   next : IsFirstFrom (session_at c.nodes) (t + 1) r.1
-  next = subst (λ (o : Option ℕ). IsFirstFrom (session_at c.nodes) (t + 1) o) (ap (λ (q : ℕ × Option ℕ). q.1) node.2) (chain.newer t node.0 node.1)
+  next = subst (λ (o : Option ℕ). IsFirstFrom (session_at c.nodes) (t + 1) o)
+      (ap (λ (q : ℕ × Option ℕ). q.1) node.2) (chain.newer t node.0 node.1)
 
   its-peer : node.0.session.peer ≡ r.0
   its-peer = ap (λ (q : ℕ × Option ℕ). q.0) node.2
 
-  pub node-stays : r.0 ≢ peer → IsWalked (λ (s : Session). not (s.peer == peer)) f (session_at c.nodes) r.1
+  pub node-stays : r.0 ≢ peer → IsWalked (λ (s : Session). not (s.peer == peer)) f
+      (session_at c.nodes) r.1
   node-stays other = (
-      let differs : (node.0.session.peer == peer) ≡ false = other-number node.0.session.peer peer (λ e. other (sym its-peer ∙ e)) in
-      walk-stays (λ (s : Session). not (s.peer == peer)) f (session_at c.nodes) at walked t is node.0.session r.1 there (ap not differs) next)
+      let differs : (node.0.session.peer == peer) ≡ false =
+      other-number node.0.session.peer peer (λ e. other (sym its-peer ∙ e)) in
+      walk-stays (λ (s : Session). not (s.peer == peer)) f (session_at c.nodes) at walked t is
+      node.0.session r.1 there (ap not differs) next)
 
-  pub node-goes : (h : ℕ → Option Session) → r.0 ≡ peer → PutsAt (session_at c.nodes) h t None → IsWalked (λ (s : Session). not (s.peer == peer)) f h r.1
+  pub node-goes : (h : ℕ → Option Session) → r.0 ≡ peer → PutsAt (session_at c.nodes) h t None
+      → IsWalked (λ (s : Session). not (s.peer == peer)) f h r.1
   node-goes h its goes = (
-      let same : (node.0.session.peer == peer) ≡ true = same-number node.0.session.peer peer (its-peer ∙ its) in
-      walk-goes (λ (s : Session). not (s.peer == peer)) f (session_at c.nodes) at walked t is h node.0.session r.1 there (ap not same) next goes)
+      let same : (node.0.session.peer == peer) ≡ true =
+      same-number node.0.session.peer peer (its-peer ∙ its) in
+      walk-goes (λ (s : Session). not (s.peer == peer)) f (session_at c.nodes) at walked t is h
+      node.0.session r.1 there (ap not same) next goes)

@@ -24,7 +24,8 @@ appends g c = record {
   first = node_at c.put.new.nodes;
   puts = c.put.ensures.puts;
   nodes = c.set_newer.ensures.nodes;
-  tickets = c.note.ensures.puts (shown_session c.args.new.session) (c.args.new.same ∙ c.args.new.session.is_row);
+  tickets = c.note.ensures.puts (shown_session c.args.new.session) (c.args.new.same
+      ∙ c.args.new.session.is_row);
   oldest = c.end_beside-self.ensures;
   newest = refl;
   next = refl;
@@ -33,14 +34,21 @@ appends g c = record {
 
 pub returns-clause-sound : goal.returns-clause-sound
 returns-clause-sound g c = record {
-  chain = chain-appended (chain_of c.args.self.now) _ (shown_session c.args.new.session) c.requires.sound.chain c.requires.absent
+  chain = chain-appended (chain_of c.args.self.now) _ (shown_session c.args.new.session)
+      c.requires.sound.chain c.requires.absent
       (omega (arith, c.requires.sound.ticket_room, c.requires.room)) (appends g c);
   index_room = omega (arith, c.requires.sound.index_room, c.note.ensures.room);
-  node_room = omega (arith, c.requires.sound.node_room, c.put.ensures.room, c.set_newer.ensures.room);
+  node_room = omega (
+    arith,
+    c.requires.sound.node_room,
+    c.put.ensures.room,
+    c.set_newer.ensures.room,
+  );
   ticket_room = omega (arith, c.requires.sound.ticket_room, c.requires.room);
 }
 
 pub returns-clause-sessions : goal.returns-clause-sessions
 returns-clause-sessions g c =
-    listed-after (chain_of c.args.self.now) _ (shown_session c.args.new.session) c.requires.sound.chain c.requires.absent
+    listed-after (chain_of c.args.self.now) _ (shown_session c.args.new.session)
+    c.requires.sound.chain c.requires.absent
     (omega (arith, c.requires.sound.ticket_room, c.requires.room)) (appends g c)

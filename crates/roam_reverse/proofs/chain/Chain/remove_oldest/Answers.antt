@@ -6,11 +6,13 @@ use Rattle.roam_reverse.proofs.chain.Chain.remove_oldest.Goals as goal
 
 pub returns-in-Some-clause-sessions : goal.returns-in-Some-clause-sessions
 returns-in-Some-clause-sessions g c =
-    rest-stays (chain_of c.args.self.now) c.requires.chain _ c.in-Some.ticket c.in-Some.is c.remove.ensures.sessions
+    rest-stays (chain_of c.args.self.now) c.requires.chain _ c.in-Some.ticket c.in-Some.is
+    c.remove.ensures.sessions
 
 pub returns-in-Some-clause-absent : goal.returns-in-Some-clause-absent
 returns-in-Some-clause-absent g c =
-    still-absent (chain_of c.args.self.now) (chain_of c.remove.new.self) c.requires.chain c.remove.ensures.sound.chain c.in-Some.ticket c.remove.ensures.sessions
+    still-absent (chain_of c.args.self.now) (chain_of c.remove.new.self) c.requires.chain
+    c.remove.ensures.sound.chain c.in-Some.ticket c.remove.ensures.sessions
 
 pub returns-in_default-clause-sessions : goal.returns-in_default-clause-sessions
 returns-in_default-clause-sessions g c =

@@ -10,9 +10,12 @@ loop-at-preserved-then-its_peer-peer g c = record {
   spare = c.remove.ensures.room ∙ c.loop-at.invariant.spare;
   count = omega (arith, c.remove.ensures.count, c.loop-at.invariant.count);
   peer = refl;
-  walked = node-goes (chain_of c.loop-at.self) c.loop-at.invariant.sound.chain c.args.peer (session_at (chain_of c.args.self.now).nodes) c.loop-at.at
-      c.loop-at.invariant.walked c.in-Some.ticket c.in-Some.is c.peer_and_newer-its_peer.result c.peer_and_newer-its_peer.ensures
-      (session_at (chain_of c.remove.new.self).nodes) c.if-its_peer-peer.true c.remove.ensures.sessions;
+  walked = node-goes (chain_of c.loop-at.self) c.loop-at.invariant.sound.chain c.args.peer
+      (session_at (chain_of c.args.self.now).nodes) c.loop-at.at
+      c.loop-at.invariant.walked c.in-Some.ticket c.in-Some.is c.peer_and_newer-its_peer.result
+      c.peer_and_newer-its_peer.ensures
+      (session_at (chain_of c.remove.new.self).nodes) c.if-its_peer-peer.true
+      c.remove.ensures.sessions;
 }
 
 pub loop-at-preserved : goal.loop-at-preserved
@@ -21,9 +24,13 @@ loop-at-preserved g c = record {
   spare = c.loop-at.invariant.spare;
   count = c.loop-at.invariant.count;
   peer = refl;
-  walked = node-stays (chain_of c.loop-at.self) c.loop-at.invariant.sound.chain c.args.peer (session_at (chain_of c.args.self.now).nodes) c.loop-at.at
-      c.loop-at.invariant.walked c.in-Some.ticket c.in-Some.is c.peer_and_newer-its_peer.result c.peer_and_newer-its_peer.ensures c.if-its_peer-peer.false;
+  walked = node-stays (chain_of c.loop-at.self) c.loop-at.invariant.sound.chain c.args.peer
+      (session_at (chain_of c.args.self.now).nodes) c.loop-at.at
+      c.loop-at.invariant.walked c.in-Some.ticket c.in-Some.is c.peer_and_newer-its_peer.result
+      c.peer_and_newer-its_peer.ensures c.if-its_peer-peer.false;
 }
 
 pub returns-clause-sessions : goal.returns-clause-sessions
-returns-clause-sessions g c = walk-ends _ (session_at (chain_of c.args.self.now).nodes) (session_at (chain_of c.loop-at.self).nodes) c.loop-at.at c.loop-at.invariant.walked c.in_default.is
+returns-clause-sessions g c = walk-ends _ (session_at (chain_of c.args.self.now).nodes)
+    (session_at (chain_of c.loop-at.self).nodes) c.loop-at.at c.loop-at.invariant.walked
+    c.in_default.is

@@ -13,7 +13,8 @@ invariant-loop-at g l = record {
   spare : l.self.spare ≡ l.fn.self.spare;
   count : (chain_of l.self).count ≤ (chain_of l.fn.self).count;
   peer : l.peer ≡ l.fn.peer;
-  walked : IsWalked (λ (s : Session). not (s.peer == l.peer)) (session_at (chain_of l.fn.self).nodes) (session_at (chain_of l.self).nodes) l.at;
+  walked : IsWalked (λ (s : Session). not (s.peer == l.peer))
+      (session_at (chain_of l.fn.self).nodes) (session_at (chain_of l.self).nodes) l.at;
 }
 
 abbrev pub decreases-loop-at : goal.decreases-loop-at

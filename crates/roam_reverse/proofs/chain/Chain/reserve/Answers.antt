@@ -12,7 +12,8 @@ use Rattle.roam_reverse.specs.declared.node.Node.{Node}
 use Rattle.roam_reverse.proofs.chain.Chain.reserve.Goals as goal
 
 -- a chain stays one while its tables grow
-grown : {A H : Type 0} (c : Chain A) (index : IndexMap (Vec ℕ A) ℕ H) (nodes : IndexMap ℕ (Node A) H)
+grown : {A H : Type 0} (c : Chain A) (index : IndexMap (Vec ℕ A) ℕ H)
+    (nodes : IndexMap ℕ (Node A) H)
     → IsChain (chain_of c) → index.entries ≡ c.by_row.entries → nodes.entries ≡ c.nodes.entries
     → IsChain (record {
       tickets = ticket_at index;
@@ -42,7 +43,8 @@ grown {A} c index nodes chain same_index same_nodes =
 
 pub returns-in_err-reserve-2-clause-sound : goal.returns-in_err-reserve-2-clause-sound
 returns-in_err-reserve-2-clause-sound g c = record {
-  chain = grown c.args.self.now c.reserve.new.self c.reserve-2.new.self c.requires.chain c.reserve.ensures.entries c.reserve-2.ensures.entries;
+  chain = grown c.args.self.now c.reserve.new.self c.reserve-2.new.self c.requires.chain
+      c.reserve.ensures.entries c.reserve-2.ensures.entries;
   index_room = omega (arith, c.requires.index_room, c.reserve.ensures.room.0);
   node_room = omega (arith, c.requires.node_room, c.reserve-2.ensures.room.0);
   ticket_room = c.requires.ticket_room;
@@ -51,7 +53,8 @@ returns-in_err-reserve-2-clause-sound g c = record {
 pub returns-clause-sound : goal.returns-clause-sound
 unfolding tickets_end
 returns-clause-sound g c = record {
-  chain = grown c.args.self.now c.reserve.new.self c.reserve-2.new.self c.requires.chain c.reserve.ensures.entries c.reserve-2.ensures.entries;
+  chain = grown c.args.self.now c.reserve.new.self c.reserve-2.new.self c.requires.chain
+      c.reserve.ensures.entries c.reserve-2.ensures.entries;
   index_room = c.in_ok-reserve.ensures.ok;
   node_room = c.in_ok-reserve-2.ensures.ok;
   ticket_room = omega (arith, c.requires.ticket_room, c.if-self-gt0.false, c.if-self.false);

@@ -11,9 +11,11 @@ invariant_of-result g c = (
   omega (
     arith,
     c.new.ensures.sound.chain.count,
-    ap (λ (l : List Session). length l) (listed-none (session_at (chain_of c.new.result).nodes) 0 tickets_end (λ u le. c.new.ensures.empty u)),
+    ap (λ (l : List Session). length l) (listed-none (session_at (chain_of c.new.result).nodes) 0
+        tickets_end (λ u le. c.new.ensures.empty u)),
   ),
 )
 
 pub returns-clause-sessions : goal.returns-clause-sessions
-returns-clause-sessions g c = listed-none (session_at (chain_of c.new.result).nodes) 0 tickets_end (λ u le. c.new.ensures.empty u)
+returns-clause-sessions g c = listed-none (session_at (chain_of c.new.result).nodes) 0 tickets_end
+    (λ u le. c.new.ensures.empty u)
