@@ -13,8 +13,8 @@ use indexmap::IndexMap;
 use roam_wire::NoMemory;
 use std::alloc::Allocator;
 
-/// Sessions in the order in which they were opened. Each has a ticket, and these rise; each knows its
-/// neighbours, so that none of them costs more to take out than another.
+/// Sessions in the order in which they were opened. Each has a ticket, and these rise; each knows
+/// its neighbours, so that none of them costs more to take out than another.
 #[derive(Drop)]
 pub(crate) struct Chain<A: Allocator> {
     by_row: Index<A>,
@@ -27,8 +27,8 @@ pub(crate) struct Chain<A: Allocator> {
     spare: usize,
 }
 
-/// An end of a chain once a node came or went there: where none is beside that node on this side, the
-/// other one is the end.
+/// An end of a chain once a node came or went there: where none is beside that node on this side,
+/// the other one is the end.
 fn end_beside(beside: Option<u64>, other: Option<u64>, end: Option<u64>) -> Option<u64>
     ensures { result ≡ end_beside beside other end }
 {
@@ -68,8 +68,8 @@ impl<A: Allocator + Copy> Chain<A> {
         find(&self.by_row, peer, id)
     }
 
-    /// Makes room for one session more. No session changes. Once the tickets are used up, after 2^64
-    /// sessions, there is no room.
+    /// Makes room for one session more. No session changes. There is none once the tickets are used
+    /// up, after 2^64 - 1 sessions, which isn't reached.
     pub(crate) fn reserve(&mut self) -> Result<(), NoMemory>
         requires { IsSound self.old }
         ensures sound { IsSound self.new }

@@ -47,7 +47,7 @@ fn is_row(row: &[u8], peer: u16, id: &[u8]) -> bool
     (peer / 256) as u8 == *high && (peer % 256) as u8 == *low && id == rest
 }
 
-/// The ticket of the session of a peer and an id that is too long for a packet, one after the other.
+/// The ticket of the session of a peer and an id that no packet holds. Looks at each session.
 fn find_long<A: Allocator + Copy>(index: &Index<A>, peer: u16, id: &[u8]) -> Option<u64>
     ensures { result ≡ ticket_at index.now (record { peer = peer; id = id.now }) }
 {
@@ -59,8 +59,8 @@ fn find_long<A: Allocator + Copy>(index: &Index<A>, peer: u16, id: &[u8]) -> Opt
     None
 }
 
-/// The ticket of the session of a peer and an id. Takes no memory: an id has 253 octets at most where
-/// a packet names it, so its row is made in a buffer of that size.
+/// The ticket of the session of a peer and an id. Takes no memory: an id of a packet has 253 octets
+/// at most, so its row is made in a buffer of that size.
 pub(crate) fn find<A: Allocator + Copy>(index: &Index<A>, peer: u16, id: &[u8]) -> Option<u64>
     ensures { result ≡ ticket_at index.now (record { peer = peer; id = id.now }) }
 {
