@@ -1,5 +1,11 @@
 pub mod SameLemmas
 pub mod SessionLemmas
-pub mod ShownLemmas
+pub mod RowLemmas
+pub mod NeighbourLemmas
+pub mod ListedLemmas
+pub mod ChainLemmas
+pub mod AppendLemmas
+pub mod OrderLemmas
+pub mod PeerLemmas
 pub mod TargetLemmas
 pub mod CauseLemmas

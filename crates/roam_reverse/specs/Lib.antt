@@ -1,6 +1,9 @@
 pub mod Target
 pub mod Sessions
+pub mod Row
 pub mod Shown
+pub mod Tickets
+pub mod Stands
 pub mod Causes
 pub mod TargetLaws
 pub mod SessionLaws

@@ -1,9 +1,9 @@
 -- What the code's names of an access server, its ledger and the ledger's changes are seen as.
-use Rattle.std.specs.Prelude.{ℕ, ◌<◌, List, Option, map, option_map}
+use Rattle.std.specs.Prelude.{ℕ, ◌<◌, List, drop, Option, option_map}
 use Rattle.std.specs.Borrow.{Bor}
 use Rattle.roam_route.specs.declared.nas.NasName.{NasName}
 use Rattle.roam_reverse.specs.Sessions.{Session, LedgerChange, opens, closes, closes_all, nothing}
-use Rattle.roam_reverse.specs.declared.session.OpenSession.{OpenSession}
+use Rattle.roam_reverse.specs.declared.open_session.OpenSession.{OpenSession}
 use Rattle.roam_reverse.specs.declared.accounting.Said.{Said}
 use Rattle.roam_reverse.specs.declared.accounting.Said.TheVariants as said
 use Rattle.roam_reverse.specs.declared.session.Change.{Change}
@@ -19,15 +19,11 @@ shown_names names = (option_map shown_octets names.ip_address, option_map shown_
 
 -- a session
 abbrev pub shown_session : {A : Type 0} → OpenSession A → Session
-shown_session s = record { peer = s.peer; id = s.id }
-
--- sessions in a row
-abbrev pub shown_sessions : {A : Type 0} → List (OpenSession A) → List Session
-shown_sessions sessions = map shown_session sessions
+shown_session s = record { peer = s.peer; id = drop 2 s.row }
 
 -- a change that owns its octets
 abbrev pub shown_change : {A : Type 0} → Change A → LedgerChange
-shown_change (change.Opens s) = opens (shown_session s)
+shown_change (change.Opens s) = opens (shown_session s.session)
 shown_change (change.Closes s) = closes (shown_session s)
 shown_change (change.ClosesAll peer) = closes_all peer
 shown_change change.Nothing = nothing

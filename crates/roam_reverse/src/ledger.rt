@@ -5,7 +5,9 @@ ghost use Rattle.roam_reverse.specs.Sessions.{IsLedger, applied, changed, has_se
 ghost use Rattle.roam_reverse.specs.Shown.{HasRoomFor, shown_session};
 
 use crate::accounting::{Said, said_by};
-use crate::session::{Change, OpenSession, Prepared, is_among};
+use crate::chain::Chain;
+use crate::open_session::{NewSession, OpenSession};
+use crate::session::{Change, Prepared};
 use roam_wire::{NoMemory, View};
 use std::alloc::Allocator;
 use std::marker::Model;
@@ -16,23 +18,23 @@ use std::marker::Model;
 pub struct Sessions<A: Allocator> {
     alloc: A,
     limit: u32,
-    sessions: Vec<OpenSession<A>, A>,
+    chain: Chain<A>,
 }
 
 impl<A: Allocator> Model for Sessions<A> {
-    ghost use Rattle.std.specs.Prelude.{◌-◌, vec_len, vec_capacity};
-    ghost use Rattle.roam_reverse.specs.Sessions.{IsLedger};
-    ghost use Rattle.roam_reverse.specs.Shown.{Ledger, shown_sessions};
+    ghost use Rattle.std.specs.Prelude.{◌≤◌};
+    ghost use Rattle.roam_reverse.specs.Shown.{Ledger};
+    ghost use Rattle.roam_reverse.specs.Stands.{IsSound, chain_of, sessions_of};
 
     ghost Value = { Ledger };
 
     ghost view = { λ l. record {
       limit = l.limit;
-      sessions = shown_sessions l.sessions.items;
-      spare = vec_capacity l.sessions - vec_len l.sessions;
+      sessions = sessions_of l.chain;
+      spare = l.chain.spare;
     } };
 
-    ghost invariant = { λ l. IsLedger l.limit (shown_sessions l.sessions.items) };
+    ghost invariant = { λ l. IsSound l.chain × ((chain_of l.chain).count ≤ l.limit) };
 }
 
 impl<A: Allocator + Copy> Sessions<A> {
@@ -44,7 +46,7 @@ impl<A: Allocator + Copy> Sessions<A> {
         Sessions {
             alloc,
             limit,
-            sessions: Vec::new(alloc),
+            chain: Chain::new(alloc),
         }
     }
 
@@ -54,7 +56,7 @@ impl<A: Allocator + Copy> Sessions<A> {
             ≡ has_session (record { peer = peer; id = id.now }) self.now.sessions }
         ensures ledger { IsLedger self.now.limit self.now.sessions }
     {
-        is_among(&self.sessions, peer, id)
+        self.chain.find(peer, id).is_some()
     }
 
     /// Makes all growth that the change by an Accounting-Request of a peer wants, and changes no
@@ -96,20 +98,25 @@ impl<A: Allocator + Copy> Sessions<A> {
                 change: Change::Nothing,
             });
         }
-        let session = OpenSession::copy_of(self.alloc, peer, id)?;
-        self.sessions.reserve(1)?;
+        let session = NewSession::copy_of(self.alloc, peer, id)?;
+        self.chain.reserve()?;
         Ok(Prepared {
             change: Change::Opens(session),
         })
     }
 
-    /// The same for a session that is open no more.
+    /// The same for a session that is open no more: one that isn't there wants no memory.
     fn prepare_closing(&self, peer: u16, id: &[u8]) -> Result<Prepared<A>, NoMemory>
         ensures change { IfOk result (λ prepared.
             changed self.now.limit prepared self.now.sessions
             ≡ without_session (record { peer = peer; id = id.now }) self.now.sessions) }
         ensures room { IfOk result (λ prepared. HasRoomFor prepared self.now) }
     {
+        if !self.has(peer, id) {
+            return Ok(Prepared {
+                change: Change::Nothing,
+            });
+        }
         let session = OpenSession::copy_of(self.alloc, peer, id)?;
         Ok(Prepared {
             change: Change::Closes(session),
@@ -143,19 +150,19 @@ impl<A: Allocator + Copy> Sessions<A> {
     }
 
     /// Adds a session where there is room: the oldest goes where as many are there as may be.
-    fn open(&mut self, session: OpenSession<A>)
+    fn open(&mut self, new: NewSession<A>)
         requires { 0 < self.old.spare }
         ensures limit { self.new.limit ≡ self.old.limit }
         ensures sessions { self.new.sessions
-            ≡ with_session self.old.limit (shown_session session) self.old.sessions }
+            ≡ with_session self.old.limit (shown_session new.session) self.old.sessions }
     {
-        if self.has(session.peer, session.id.as_slice()) || self.limit == 0 {
+        if self.chain.ticket_of(&new.session).is_some() || self.limit == 0 {
             return;
         }
-        if self.sessions.len() >= self.limit as usize {
-            self.sessions.remove(0);
+        if self.chain.len() >= self.limit as usize {
+            self.chain.remove_oldest();
         }
-        self.sessions.push_reserved(session);
+        self.chain.append(new);
     }
 
     /// Takes a session out.
@@ -164,8 +171,9 @@ impl<A: Allocator + Copy> Sessions<A> {
         ensures sessions { self.new.sessions
             ≡ without_session (shown_session session.now) self.old.sessions }
     {
-        self.sessions
-            .retain(|other| !other.is_of(session.peer, session.id.as_slice()));
+        if let Some(ticket) = self.chain.ticket_of(session) {
+            self.chain.remove(ticket);
+        }
     }
 
     /// Takes all sessions of a peer out.
@@ -173,6 +181,6 @@ impl<A: Allocator + Copy> Sessions<A> {
         ensures limit { self.new.limit ≡ self.old.limit }
         ensures sessions { self.new.sessions ≡ without_peer peer self.old.sessions }
     {
-        self.sessions.retain(|session| session.peer != peer);
+        self.chain.remove_peer(peer);
     }
 }

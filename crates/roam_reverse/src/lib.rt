@@ -7,10 +7,14 @@
 #![tactic(auto)]
 
 mod accounting;
+mod chain;
 pub mod error_cause;
+mod index;
 mod laws;
 mod ledger;
 mod nas_match;
+mod node;
+mod open_session;
 mod session;
 
 pub use error_cause::verdict;

@@ -102,9 +102,10 @@ fn requests_change_the_ledger(rt: HostRuntime) -> Result<(), Fail> {
 
 /// A request of peer 0 to a ledger of `01` and `02` at most, the sessions that are open then, and
 /// how often it asks for memory at most.
-const GROWTHS: [(&str, u32, u64); 6] = [
+const GROWTHS: [(&str, u32, u64); 7] = [
     (START_03, 0b001100, 2),
     (STOP_01, 0b000100, 1),
+    (STOP_EMPTY, 0b000110, 0),
     (START_01, 0b000110, 0),
     (INTERIM_01, 0b000110, 0),
     (ON, 0b000000, 0),

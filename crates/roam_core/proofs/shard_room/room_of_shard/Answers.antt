@@ -1,7 +1,10 @@
-use Rattle.std.proofs.Common.{ℕ, subst}
+use Rattle.std.proofs.Common.{ℕ, List, take, subst, arith}
 use Rattle.std.specs.Prelude.{◌==◌}
+use Rattle.std.proofs.lemmas.List.{take_all}
+use Rattle.roam_book.specs.BookView.{BookView}
+use Rattle.roam_core.specs.BrokerView.{states_of}
 use Rattle.roam_conf.specs.Shown.{shown}
-use Rattle.roam_core.specs.ShardRooms.{IsRealmRoom}
+use Rattle.roam_core.specs.ShardRooms.{AreRooms, IsRealmRoom}
 use Rattle.roam_core.proofs.ShardLemmas.{one-more-gathered}
 use Rattle.roam_core.proofs.shard_room.room_of_shard.Goals as goal
 
@@ -13,3 +16,9 @@ loop-realm-preserved g c =
     rw c.in_ok-push.ensures.items
     (one-more-gathered (shown c.args.config.now) c.args.now c.args.shard c.loop-realm.realm c.args.books.now c.loop-realm.rooms.items c.loop-realm.most _ book room
     c.loop-realm.invariant c.loop-realm-test.true c.index-books-realm.is own c.in_ok-most.ensures)
+
+-- the loop came to the last book
+pub returns-clause-rooms : goal.returns-clause-rooms
+returns-clause-rooms g c =
+    subst (λ (books : List BookView). AreRooms (shown c.args.config.now) c.args.now c.args.shard 0 (states_of books) c.loop-realm.rooms.items)
+    (take_all c.loop-realm.realm c.args.books.now (omega (arith, c.loop-realm-test.false))) c.loop-realm.invariant.each

@@ -1,5 +1,7 @@
 -- All rooms first, then the tick in them.
-use Rattle.std.proofs.Common.{List, ap, subst, ◌∙◌, arith}
+use Rattle.std.proofs.Common.{◌≡◌, ◌≤◌, ◌<◌, List, length, ap, subst, ◌∙◌, arith}
+use Rattle.std.proofs.lemmas.List.{length-map}
+use Rattle.roam_conf.specs.Parts.{shown_realm}
 use Rattle.roam_conf.specs.Shown.{shown}
 use Rattle.roam_book.specs.BookView.{BookView}
 use Rattle.roam_core.specs.ManyRealms.{AllRealms}
@@ -28,3 +30,35 @@ returns-clause-turn g c =
     (omega (arith, shards, c.if-shard-self.false)) (omega (arith, c.if-now-gt-LATEST.false))
     (c.tick_in.ensures.packets ∙ ap (λ (x : AllRealms). x.packets) all) c.tick_in.ensures.refusal
     (c.tick_in.ensures.states ∙ ap (λ (x : AllRealms). x.states) all)
+
+-- there are as many books as realms, 256 at most
+pub room_of_shard-requires : goal.room_of_shard-requires
+room_of_shard-requires g c =
+    let config = c.self.inside.config.now in
+    let realms = length-map config.realms.items shown_realm in
+    let books = ap (λ (l : List BookView). length l) c.deref.ensures.value in
+    omega (arith, realms, config.realms.ok.0, config.realm_count, c.self.invariant.count, books)
+
+-- and a state for each
+pub returns-in_err-room-clause-whole : goal.returns-in_err-room-clause-whole
+returns-in_err-room-clause-whole g c =
+    subst (λ (v : BrokerView). length v.states ≡ length v.config.realms) c.self.view_is
+    (length-map c.self.inside.books.items (λ (b : BookView). b.state) ∙ c.self.invariant.count)
+
+pub returns-clause-whole : goal.returns-clause-whole
+returns-clause-whole g c =
+    subst (λ (v : BrokerView). length v.states ≡ length v.config.realms) c.self.view_is
+    (length-map c.self.inside.books.items (λ (b : BookView). b.state) ∙ c.self.invariant.count)
+
+pub returns-in_err-room-clause-shards : goal.returns-in_err-room-clause-shards
+returns-in_err-room-clause-shards g c =
+    subst (λ (v : BrokerView). 1 ≤ v.config.shards) c.self.view_is c.self.invariant.some_shard
+
+pub returns-clause-shards : goal.returns-clause-shards
+returns-clause-shards g c =
+    subst (λ (v : BrokerView). 1 ≤ v.config.shards) c.self.view_is c.self.invariant.some_shard
+
+-- memory is asked for where there is such a shard
+pub returns-in_err-room-clause-there : goal.returns-in_err-room-clause-there
+returns-in_err-room-clause-there g c = λ e.
+    subst (λ (v : BrokerView). c.args.shard < v.config.shards) c.self.view_is c.if-shard-self.false

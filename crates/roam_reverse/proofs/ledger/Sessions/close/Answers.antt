@@ -1,24 +1,32 @@
-use Rattle.std.proofs.Common.{◌≡◌, ap, sym, refl, ◌∙◌, subst, rules}
-use Rattle.std.specs.Prelude.{not}
-use Rattle.std.proofs.lemmas.Fn.{filter_same}
-use Rattle.roam_reverse.specs.Sessions.{Session, IsLedger, same_session, without_session, closes}
-use Rattle.roam_reverse.specs.Shown.{Ledger, shown_session, shown_sessions}
-use Rattle.roam_reverse.proofs.SessionLemmas.{ledger-changed}
-use Rattle.roam_reverse.proofs.ShownLemmas.{shown-filter}
+use Rattle.std.proofs.Common.{◌≡◌, Option, ℕ, false, ap, sym, ◌∙◌, arith}
+use Rattle.std.specs.Prelude.{is_some}
+use Rattle.roam_reverse.specs.Sessions.{has_session, without_session}
+use Rattle.roam_reverse.specs.Shown.{Ledger, shown_session}
+use Rattle.roam_reverse.specs.Stands.{chain_of, sessions_of}
+use Rattle.roam_reverse.proofs.OrderLemmas.{closed, found, without-absent}
 use Rattle.roam_reverse.proofs.ledger.Sessions.close.Goals as goal
 
--- what is kept, as it is seen
-kept : (g : _) (c : goal.After-retain g) → shown_sessions c.retain.new.self.items
-    ≡ without_session (shown_session c.args.session.now) (shown_sessions c.self.inside.sessions.items)
-kept g c =
-    let closed : Session = shown_session c.args.session.now in
-    ap shown_sessions (filter_same _ (λ x. not (same_session closed (shown_session x))) _ (λ x b f' k. search rules) _ _ c.retain.ensures.filtered)
-    ∙ shown-filter (λ x. not (same_session closed (shown_session x))) (λ (other : Session). not (same_session closed other)) (λ x. refl) c.self.inside.sessions.items
-
 pub invariant_of-self : goal.invariant_of-self
-invariant_of-self g c = subst (IsLedger c.self.inside.limit) (sym (kept g c))
-    (ledger-changed c.self.inside.limit (closes (shown_session c.args.session.now)) (shown_sessions c.self.inside.sessions.items) c.self.invariant)
+invariant_of-self g c = (
+  c.remove.ensures.sound,
+  omega (arith, c.remove.ensures.count, c.self.invariant.1),
+)
 
-pub returns-clause-sessions : goal.returns-clause-sessions
-returns-clause-sessions g c = kept g c
-    ∙ ap (λ (l : Ledger). without_session (shown_session c.args.session.now) l.sessions) c.self.view_is
+pub returns-in-Some-clause-sessions : goal.returns-in-Some-clause-sessions
+returns-in-Some-clause-sessions g c =
+    closed (chain_of c.self.inside.chain) c.self.invariant.0.chain _ c.in-Some.ticket
+    (shown_session c.args.session.now)
+    (sym c.ticket_of.ensures ∙ c.in-Some.is) c.remove.ensures.sessions
+    ∙ ap (λ (l : Ledger). without_session (shown_session c.args.session.now) l.sessions)
+    c.self.view_is
+
+pub returns-in_default-clause-sessions : goal.returns-in_default-clause-sessions
+returns-in_default-clause-sessions g c =
+    let none = sym c.ticket_of.ensures ∙ c.in_default.is in
+    let absent : has_session (shown_session c.args.session.now) (sessions_of c.self.inside.chain) ≡
+    false =
+    sym (found (chain_of c.self.inside.chain) c.self.invariant.0.chain
+    (shown_session c.args.session.now)) ∙ ap (λ (o : Option ℕ). is_some o) none in
+    sym (without-absent (shown_session c.args.session.now) c.args.self.now.sessions
+    (sym (ap (λ (l : Ledger). has_session (shown_session c.args.session.now) l.sessions)
+    c.self.view_is) ∙ absent))

@@ -1,23 +1,8 @@
-use Rattle.std.proofs.Common.{◌≡◌, ◌==◌, ap, sym, refl, ◌∙◌, subst, rules}
-use Rattle.std.specs.Prelude.{not}
-use Rattle.std.proofs.lemmas.Fn.{filter_same}
-use Rattle.roam_reverse.specs.Sessions.{Session, IsLedger, without_peer, closes_all}
-use Rattle.roam_reverse.specs.Shown.{Ledger, shown_sessions}
-use Rattle.roam_reverse.proofs.SessionLemmas.{ledger-changed}
-use Rattle.roam_reverse.proofs.ShownLemmas.{shown-filter}
+use Rattle.std.proofs.Common.{arith}
 use Rattle.roam_reverse.proofs.ledger.Sessions.close_all.Goals as goal
 
--- what is kept, as it is seen
-kept : (g : _) (c : goal.After-retain g) → shown_sessions c.retain.new.self.items
-    ≡ without_peer c.args.peer (shown_sessions c.self.inside.sessions.items)
-kept g c =
-    ap shown_sessions (filter_same _ (λ x. not (x.peer == c.args.peer)) _ (λ x b f' k. search rules) _ _ c.retain.ensures.filtered)
-    ∙ shown-filter (λ x. not (x.peer == c.args.peer)) (λ (other : Session). not (other.peer == c.args.peer)) (λ x. refl) c.self.inside.sessions.items
-
 pub invariant_of-self : goal.invariant_of-self
-invariant_of-self g c = subst (IsLedger c.self.inside.limit) (sym (kept g c))
-    (ledger-changed c.self.inside.limit (closes_all c.args.peer) (shown_sessions c.self.inside.sessions.items) c.self.invariant)
-
-pub returns-clause-sessions : goal.returns-clause-sessions
-returns-clause-sessions g c = kept g c
-    ∙ ap (λ (l : Ledger). without_peer c.args.peer l.sessions) c.self.view_is
+invariant_of-self g c = (
+  c.remove_peer.ensures.sound,
+  omega (arith, c.remove_peer.ensures.count, c.self.invariant.1),
+)
