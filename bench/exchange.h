@@ -48,6 +48,10 @@ extern const char *const verdict_names[VERDICTS];
 enum verdict answer_check(const struct request *request, const uint8_t *octets, size_t size,
                           const struct secret *secret);
 
+/* Whether a reply reads and is signed for a request with this Authenticator. */
+bool is_signed_for(const uint8_t *octets, size_t size, const uint8_t *authenticator,
+                   const struct secret *secret);
+
 /* What a home server finds in a request, in the order in which it looks. */
 enum finding { ANSWERED, MALFORMED, UNSIGNED, UNSEALED, OTHER_REALM, OTHER_PASSWORD, FINDINGS };
 

@@ -1,73 +1,11 @@
 #include "generator.h"
 
-#include <stdlib.h>
 #include <sys/epoll.h>
 #include <time.h>
 
-enum { IDENTIFIERS = 256, STARTED_AT_A_TIME = 16 };
+enum { STARTED_AT_A_TIME = 16 };
 static const uint64_t MILLISECOND = 1000000;
 static const uint64_t EXPIRY_INTERVAL = 10000000;
-
-static void *need(size_t count, size_t size)
-{
-    void *memory = calloc(count, size);
-
-    if (memory == NULL)
-        fail("calloc");
-    return memory;
-}
-
-static void open_channels(struct generator *generator)
-{
-    struct sockaddr_in any = address_of(peer_addresses[0], 0);
-
-    generator->poller = open_poller();
-    for (unsigned at = 0; at < generator->channel_count; at++) {
-        generator->channels[at].socket = open_socket(&any);
-        watch_socket(generator->poller, generator->channels[at].socket, at);
-    }
-}
-
-/* Slot s belongs to realm s modulo the realms, and to channel s / slots_a_channel. */
-static void make_slots(struct generator *generator)
-{
-    const struct plan *plan = generator->plan;
-
-    for (unsigned at = 0; at < generator->slot_count; at++) {
-        generator->slots[at].realm = (uint16_t)(at % plan->realms);
-        request_make(&generator->slots[at].request, code_of(plan), (unsigned)(at % plan->realms),
-                     (unsigned)(at / plan->realms));
-    }
-}
-
-static void make_targets(struct generator *generator)
-{
-    for (unsigned realm = 0; realm < generator->plan->realms; realm++) {
-        generator->targets[realm].address = target_address(generator->plan, realm);
-        target_secret(generator->plan, realm, 0, &generator->targets[realm].secret);
-    }
-}
-
-struct generator *generator_open(const struct plan *plan)
-{
-    struct generator *generator = need(1, sizeof *generator);
-
-    generator->plan = plan;
-    generator->random.state = plan->seed ^ now_nanoseconds();
-    generator->slot_count = (unsigned)(plan->realms * plan->outstanding);
-    generator->slots_a_channel = (unsigned)(IDENTIFIERS / plan->turns);
-    generator->channel_count =
-        (generator->slot_count - 1) / generator->slots_a_channel + 1;
-    generator->targets = need(plan->realms, sizeof *generator->targets);
-    generator->slots = need(generator->slot_count, sizeof *generator->slots);
-    generator->deadlines = need(generator->slot_count, sizeof *generator->deadlines);
-    generator->channels = need(generator->channel_count, sizeof *generator->channels);
-    incoming_prepare(&generator->incoming);
-    make_targets(generator);
-    make_slots(generator);
-    open_channels(generator);
-    return generator;
-}
 
 static void flush(struct channel *channel)
 {
@@ -88,6 +26,15 @@ static void send_slot(struct generator *generator, unsigned number, uint64_t now
         flush(channel);
 }
 
+/* Keeps the Authenticators of the last two requests with one Identifier. */
+static void remember(struct channel *channel, const struct request *request)
+{
+    uint8_t identifier = request->octets[1];
+
+    memcpy(channel->former[identifier], channel->last[identifier], MD5_SIZE);
+    memcpy(channel->last[identifier], request->octets + AUTHENTICATOR_AT, MD5_SIZE);
+}
+
 static void start_slot(struct generator *generator, unsigned number, uint64_t planned,
                        uint64_t now)
 {
@@ -97,6 +44,7 @@ static void start_slot(struct generator *generator, unsigned number, uint64_t pl
 
     request_renew(&slot->request, (uint8_t)(place + turn * generator->slots_a_channel),
                   &generator->targets[slot->realm].secret, &generator->random);
+    remember(&generator->channels[number / generator->slots_a_channel], &slot->request);
     slot->planned = planned;
     slot->sends = 0;
     generator->tally.sent++;
@@ -144,6 +92,12 @@ static void take_answer(struct generator *generator, unsigned channel, unsigned 
         return;
     }
     verdict = answer_check(&slot->request, octets, size, &target->secret);
+    if (verdict == BAD_AUTHENTICATOR
+        && is_signed_for(octets, size, generator->channels[channel].former[octets[1]],
+                         &target->secret)) {
+        generator->tally.late++;
+        return;
+    }
     generator->tally.verdicts[verdict]++;
     if (verdict == GOOD)
         latency_add(&generator->latency, now - slot->planned);

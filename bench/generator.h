@@ -12,7 +12,7 @@ struct tally {
     uint64_t sent;     /* requests, each counted once */
     uint64_t resent;   /* datagrams sent again */
     uint64_t lost;     /* requests without an answer after all tries */
-    uint64_t late;     /* answers that no waiting request has: twice, or after all tries */
+    uint64_t late;     /* answers to no waiting request: given twice, or after all tries */
     uint64_t strange;  /* answers from another address than the request went to */
     uint64_t skipped;  /* paced requests that found all of their realm's slots waiting */
     uint64_t verdicts[VERDICTS];
@@ -26,9 +26,13 @@ struct slot {
     uint8_t sends;
 };
 
+enum { IDENTIFIERS = 256 };
+
 struct channel {
     int socket;
     struct outgoing outgoing;
+    uint8_t last[IDENTIFIERS][MD5_SIZE];   /* Authenticators of the last requests */
+    uint8_t former[IDENTIFIERS][MD5_SIZE]; /* and of those before them */
 };
 
 struct target {

@@ -7,7 +7,7 @@
 
 #include "radius.h"
 
-enum { MOST_REALMS = 256, PEERS = 2 };
+enum { MOST_REALMS = 256, PEERS = 2, BROKER_PORTS = 10 + 2 * MOST_REALMS };
 
 /* Peer 0 is 127.0.0.1, peer 1 is 127.0.0.2; no broker knows 127.0.0.9. */
 extern const char *const peer_addresses[PEERS];

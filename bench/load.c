@@ -17,14 +17,17 @@ struct bench {
     struct window window;
 };
 
+static bool has_ended(const struct plan *plan)
+{
+    return plan->process > 0 && !is_alive((pid_t)plan->process);
+}
+
 /* Statuses: 1 for an answer that wasn't good, or a broker that isn't there any more. */
 static int finish(struct bench *bench)
 {
-    const struct plan *plan = bench->plan;
-
     generator_drain(bench->generator);
     print_totals(bench->generator);
-    if (plan->process > 0 && !is_alive((pid_t)plan->process)) {
+    if (has_ended(bench->plan)) {
         printf("broker_ended=1\n");
         return 1;
     }
@@ -55,6 +58,8 @@ static void run_phase(struct bench *bench, const char *label, struct flood flood
 {
     const struct plan *plan = bench->plan;
 
+    if (has_ended(plan))
+        return;
     flood.plan = plan;
     flood.seconds = 2 * plan->warmup + plan->seconds + 10;
     flood_start(&flood);
@@ -103,7 +108,7 @@ static int soak(struct bench *bench)
            " longest us | broker us | broker KiB |\n");
     printf("|---|---|---|---|---|---|---|---|---|---|---|---|\n");
     generator_start(bench->generator, plan->rate, 0);
-    for (uint64_t minute = 1; minute <= minutes; minute++) {
+    for (uint64_t minute = 1; minute <= minutes && !has_ended(plan); minute++) {
         uint64_t left = begin + plan->seconds * SECOND - now_nanoseconds();
         uint64_t seconds = (left + SECOND / 2) / SECOND;
         measure(bench->generator, bench->board, 0, seconds < 60 ? seconds : 60, window);
@@ -123,7 +128,7 @@ static int mutated(struct bench *bench)
         bench->board->spoilt_in_1000 = (uint32_t)plan->spoilt;
     mutator_start(&mutator);
     generator_start(bench->generator, plan->rate, 0);
-    while (!atomic_load(&mutator.done) && now_nanoseconds() < end)
+    while (!atomic_load(&mutator.done) && now_nanoseconds() < end && !has_ended(plan))
         measure(bench->generator, bench->board, 0, 1, &bench->window);
     mutator_stop(&mutator);
     printf("[mutated]\n");

@@ -22,6 +22,14 @@ static struct used used_between(struct used before, struct used after)
     return after;
 }
 
+static struct dropped read_dropped(const struct plan *plan)
+{
+    unsigned base = (unsigned)plan->base;
+
+    return (struct dropped){dropped_datagrams(base, base + BROKER_PORTS),
+                            dropped_datagrams(base + 1000, base + 1000 + 2 * MOST_REALMS)};
+}
+
 static struct tally tally_between(const struct tally *before, const struct tally *after)
 {
     struct tally tally = *after;
@@ -48,6 +56,7 @@ void measure(struct generator *generator, const struct board *board, uint64_t wa
              uint64_t seconds, struct window *window)
 {
     const uint64_t second = 1000000000;
+    struct dropped dropped;
     struct tally before;
     struct used used;
     uint64_t begin;
@@ -56,6 +65,7 @@ void measure(struct generator *generator, const struct board *board, uint64_t wa
     before = generator->tally;
     latency_clear(&generator->latency);
     read_broker_threads(generator, &window->before);
+    dropped = read_dropped(generator->plan);
     used = read_used(generator, board);
     begin = now_nanoseconds();
     generator_run(generator, begin + seconds * second);
@@ -63,6 +73,9 @@ void measure(struct generator *generator, const struct board *board, uint64_t wa
     window->used = used_between(used, read_used(generator, board));
     read_broker_threads(generator, &window->after);
     window->tally = tally_between(&before, &generator->tally);
+    window->dropped = read_dropped(generator->plan);
+    window->dropped.at_broker -= dropped.at_broker;
+    window->dropped.at_home -= dropped.at_home;
 }
 
 uint64_t bad_answers(const struct tally *tally)
@@ -106,6 +119,8 @@ void print_window(const char *label, const struct generator *generator,
            latency_at(latency, 0.5), latency_at(latency, 0.99), latency_at(latency, 0.999),
            latency_at(latency, 1));
     print_tally(&window->tally);
+    printf("dropped_at_broker=%llu\ndropped_at_home=%llu\n",
+           (number)window->dropped.at_broker, (number)window->dropped.at_home);
     print_used("generator", window->used.generator, good);
     print_used("home", window->used.home, good);
     print_used("broker", window->used.broker, good);

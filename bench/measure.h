@@ -11,8 +11,15 @@ struct used {
     uint64_t broker;
 };
 
+/* Datagrams that found a socket's buffer full. */
+struct dropped {
+    uint64_t at_broker;
+    uint64_t at_home;
+};
+
 struct window {
     uint64_t nanoseconds;
+    struct dropped dropped;
     struct tally tally;
     struct used used;
     struct thread_times before;

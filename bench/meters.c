@@ -2,7 +2,6 @@
 
 #include <dirent.h>
 #include <fcntl.h>
-#include <signal.h>
 #include <stdlib.h>
 #include <sys/mman.h>
 #include <time.h>
@@ -45,11 +44,6 @@ uint64_t processor_time(pid_t process)
     return read_clock(clock);
 }
 
-bool is_alive(pid_t process)
-{
-    return process > 0 && kill(process, 0) == 0;
-}
-
 uint64_t resident_memory(pid_t process)
 {
     char path[64], line[128];
@@ -65,6 +59,29 @@ uint64_t resident_memory(pid_t process)
             break;
     fclose(file);
     return memory;
+}
+
+/* A process that ended and whose parent didn't ask yet has no memory. */
+bool is_alive(pid_t process)
+{
+    return resident_memory(process) > 0;
+}
+
+uint64_t dropped_datagrams(unsigned first_port, unsigned end_port)
+{
+    FILE *file = fopen("/proc/net/udp", "r");
+    unsigned long long dropped, sum = 0;
+    unsigned port;
+    char line[256];
+
+    if (file == NULL)
+        return 0;
+    while (fgets(line, sizeof line, file) != NULL)
+        if (sscanf(line, " %*d: %*x:%x %*s %*s %*s %*s %*s %*s %*s %*s %*s %*s %llu", &port,
+                   &dropped) == 2 && port >= first_port && port < end_port)
+            sum += dropped;
+    fclose(file);
+    return sum;
 }
 
 /* The first line of a file of one thread in /proc; false where it can't be read. */

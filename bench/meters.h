@@ -18,6 +18,8 @@ uint64_t own_thread_time(void);
 /* VmRSS in KiB; 0 where it can't be read. */
 uint64_t resident_memory(pid_t process);
 bool is_alive(pid_t process);
+/* Datagrams that found the buffer of their socket full, of sockets that are open now. */
+uint64_t dropped_datagrams(unsigned first_port, unsigned end_port);
 
 /* Processor time of each thread that is alive, by name, in microseconds an exchange. */
 enum { MOST_THREADS = 600 };

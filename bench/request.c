@@ -169,17 +169,27 @@ static enum verdict code_check(const struct request *request, const uint8_t *oct
     return octets[0] == request->octets[0] + 1 ? GOOD : OTHER_CODE;
 }
 
+bool is_signed_for(const uint8_t *octets, size_t size, const uint8_t *authenticator,
+                   const struct secret *secret)
+{
+    size_t length = packet_length(octets, size);
+    uint8_t digest[MD5_SIZE];
+
+    if (length == 0)
+        return false;
+    packet_digest(octets, length, authenticator, secret, digest);
+    return memcmp(digest, octets + AUTHENTICATOR_AT, MD5_SIZE) == 0;
+}
+
 enum verdict answer_check(const struct request *request, const uint8_t *octets, size_t size,
                           const struct secret *secret)
 {
     size_t length = packet_length(octets, size);
-    uint8_t digest[MD5_SIZE];
     enum verdict verdict;
 
     if (length == 0 || length != size || octets[1] != request->octets[1])
         return UNREADABLE;
-    packet_digest(octets, length, request->octets + AUTHENTICATOR_AT, secret, digest);
-    if (memcmp(digest, octets + AUTHENTICATOR_AT, MD5_SIZE) != 0)
+    if (!is_signed_for(octets, size, request->octets + AUTHENTICATOR_AT, secret))
         return BAD_AUTHENTICATOR;
     verdict = seal_check(request, octets, length, secret);
     if (verdict == GOOD)

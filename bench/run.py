@@ -1,0 +1,287 @@
+#!/usr/bin/env python3
+"""Measures a RADIUS forwarding server on loopback: see README.md beside this file."""
+
+import argparse
+import os
+import re
+import signal
+import statistics
+import subprocess
+import sys
+import threading
+import time
+
+import configurations
+
+BENCH = os.path.dirname(os.path.abspath(__file__))
+DIRECTORY = os.path.join(BENCH, "run")
+BOARD = os.path.join(DIRECTORY, "home.board")
+LOG = os.path.join(DIRECTORY, "broker.log")
+RATIO_WANTED, COST_WANTED = 0.35, 4.2
+
+
+def read_options():
+    parser = argparse.ArgumentParser(description=__doc__)
+    parser.add_argument("mode", choices=["table", "interference", "soak", "mutated"])
+    parser.add_argument("--broker", choices=configurations.BROKERS, default="roam")
+    parser.add_argument("--command", help="in which {conf} and {ms} are filled in")
+    parser.add_argument("--realms", default=None, help="numbers with commas between them")
+    parser.add_argument("--shards", default=None, help="numbers with commas between them")
+    parser.add_argument("--flood-rates", help="0 for as fast as it goes; with commas")
+    parser.add_argument("--kind", choices=["access", "accounting"], default="access")
+    numbers = {"seconds": 0, "rounds": 1, "rate": 4000, "outstanding": 16, "turns": 4,
+               "base": 20000, "trace_limit": 1000000, "tries": 2, "wait": 1000, "hold": 5000,
+               "max_pending": 1024, "max_sessions": 1000, "count": 100000, "mutated_rate": 2000,
+               "spoilt": 100, "seed": 1, "threads": 0}
+    for name, default in numbers.items():
+        parser.add_argument("--" + name.replace("_", "-"), type=int, default=default)
+    return parser.parse_args()
+
+
+def stop(process):
+    """Ends a process that this script started."""
+    if process.poll() is None:
+        process.send_signal(signal.SIGTERM)
+        try:
+            process.wait(5)
+        except subprocess.TimeoutExpired:
+            process.kill()
+            process.wait()
+
+
+def bound_ports():
+    with open("/proc/net/udp", encoding="ascii") as file:
+        return {int(line.split()[1].split(":")[1], 16) for line in file.readlines()[1:]}
+
+
+def wait_for(process, port, what):
+    """Until a process has bound a port, at most 60 seconds."""
+    end = time.monotonic() + 60
+    while port not in bound_ports():
+        if process.poll() is not None or time.monotonic() > end:
+            stop(process)
+            sys.exit(f"{what} isn't ready; see {LOG}")
+        time.sleep(0.05)
+
+
+class Homes:
+    """The home servers of some realms, while the block lasts."""
+
+    def __init__(self, options, realms, seconds):
+        self.words = [os.path.join(BENCH, "home"), f"base={options.base}", f"realms={realms}",
+                      f"seconds={seconds}", f"seed={options.seed}", f"board={BOARD}"]
+        self.port = configurations.home_acct(options.base, realms - 1)
+
+    def __enter__(self):
+        self.process = subprocess.Popen(self.words, stdout=subprocess.PIPE, text=True)
+        wait_for(self.process, self.port, "the home servers' process")
+        time.sleep(0.2)
+        return self
+
+    def __exit__(self, *_):
+        stop(self.process)
+        self.counts = self.process.stdout.read()
+
+
+class Broker:
+    """A broker with a configuration of its own, while the block lasts."""
+
+    def __init__(self, options, realms, shards, seconds):
+        write, command = configurations.BROKERS[options.broker]
+        conf = write(DIRECTORY, options, realms, shards)
+        command = options.command or command
+        self.words = command.format(conf=conf, ms=seconds * 1000, directory=DIRECTORY,
+                                    repository=os.path.dirname(BENCH)).split()
+        self.base = options.base
+
+    def __enter__(self):
+        with open(LOG, "wb") as log:
+            self.process = subprocess.Popen(self.words, stdout=log, stderr=log)
+        wait_for(self.process, self.base, self.words[0])
+        time.sleep(0.5)
+        return self
+
+    def __exit__(self, *_):
+        self.ended = self.process.poll()
+        stop(self.process)
+
+
+def refusals():
+    """How often the broker's log has each `refused N`."""
+    counts = {}
+    with open(LOG, "rb") as log:
+        for line in log:
+            found = re.search(rb"refused (\d+)", line)
+            if found:
+                number = int(found.group(1))
+                counts[number] = counts.get(number, 0) + 1
+    return ", ".join(f"{number}: {counts[number]}" for number in sorted(counts)) or "none"
+
+
+def load_words(mode, options, realms, via, process, **more):
+    words = [os.path.join(BENCH, "load"), mode, f"via={via}", f"realms={realms}",
+             f"board={BOARD}", f"pid={process}"]
+    same = {"base": options.base, "turns": options.turns, "rate": options.rate,
+            "seed": options.seed, "threads": options.threads, "kind": options.kind, **more}
+    return words + [f"{name}={value}" for name, value in same.items()]
+
+
+def load(words, seconds, shown=False):
+    """Runs the generator and answers what it printed: values by section and name."""
+    sections, section = {}, {}
+    with subprocess.Popen(words, stdout=subprocess.PIPE, text=True) as process:
+        watch = threading.Timer(seconds + 120, process.kill)
+        watch.start()
+        for line in process.stdout:
+            if shown:
+                print(line, end="", flush=True)
+            if line.startswith("["):
+                section = sections.setdefault(line.strip("[]\n"), {})
+            elif "=" in line:
+                name, value = line.split("=", 1)
+                section[name] = float(value)
+        watch.cancel()
+    if "total" not in sections or process.returncode > 1:
+        sys.exit(f"the generator failed: {' '.join(words)}")
+    return sections
+
+
+def one_round(options, realms, shards):
+    """Direct and through the broker, in closed loop and paced, one after the other."""
+    seconds = options.seconds or 5
+    bound = 8 * (seconds + 12) + 60
+    found = {}
+    with Homes(options, realms, bound):
+        for via in ("direct", "broker"):
+            broker = Broker(options, realms, shards, bound) if via == "broker" else None
+            with broker or open(os.devnull):
+                process = broker.process.pid if broker else 0
+                for mode in ("closed", "paced"):
+                    more = {"outstanding": options.outstanding} if mode == "closed" else {}
+                    words = load_words(mode, options, realms, via, process, seconds=seconds,
+                                       **more)
+                    found[via, mode] = load(words, seconds)
+    return found
+
+
+def middle(rounds, via, mode, name, section=None):
+    return statistics.median(round[via, mode][section or mode].get(name, 0) for round in rounds)
+
+
+def lost_and_bad(rounds):
+    """Over all rounds, of what went through the broker: lost, resent, bad."""
+    return [sum(int(round["broker", mode]["total"][name]) for round in rounds
+                for mode in ("closed", "paced")) for name in ("lost", "resent", "bad")]
+
+
+TABLE_HEAD = ["shards", "realms", "direct /s", "broker /s", "ratio", "home us (direct)",
+              "home us", "broker us", "broker/home (direct)", "broker/home", "closed p50 us",
+              "p99", "direct p50", "p99", "paced p50 us", "p99", "direct p50", "p99", "lost",
+              "resent", "bad", "memory MiB"]
+
+
+def table_row(rounds, realms, shards):
+    direct = middle(rounds, "direct", "closed", "exchanges_a_second")
+    broker = middle(rounds, "broker", "closed", "exchanges_a_second")
+    home_direct = middle(rounds, "direct", "closed", "home_us")
+    home = middle(rounds, "broker", "closed", "home_us")
+    used = middle(rounds, "broker", "closed", "broker_us")
+    latencies = [f"{middle(rounds, via, mode, name):.0f}" for mode in ("closed", "paced")
+                 for via in ("broker", "direct") for name in ("p50_us", "p99_us")]
+    memory = middle(rounds, "broker", "paced", "broker_memory_kib") / 1024
+    return [shards, realms, f"{direct:.0f}", f"{broker:.0f}", f"{broker / direct:.2f}",
+            f"{home_direct:.2f}", f"{home:.2f}", f"{used:.2f}",
+            f"{used / home_direct:.2f}" if home_direct else "-",
+            f"{used / home:.2f}" if home else "-", *latencies, *lost_and_bad(rounds),
+            f"{memory:.0f}"]
+
+
+def print_row(cells):
+    print("| " + " | ".join(str(cell) for cell in cells) + " |", flush=True)
+
+
+def numbers_of(text, default):
+    return [int(number) for number in (text or default).split(",")]
+
+
+def table(options):
+    print_row(TABLE_HEAD)
+    print_row(["---"] * len(TABLE_HEAD))
+    for shards in numbers_of(options.shards, "1,2,3" if options.broker == "roam" else "1"):
+        for realms in numbers_of(options.realms, "1,8,64,256"):
+            rounds = [one_round(options, realms, shards) for _ in range(options.rounds)]
+            print_row(table_row(rounds, realms, shards))
+            if options.threads:
+                print_threads(rounds[-1]["broker", "closed"]["closed"])
+    print(f"\nWanted: a ratio of at least {RATIO_WANTED}, broker/home at most {COST_WANTED}.")
+    return 0
+
+
+def print_threads(section):
+    for name, value in section.items():
+        if name.startswith("thread_us_"):
+            print(f"    {name[10:]}: {value:.2f} us an exchange")
+
+
+def through_broker(options, mode, bound, **more):
+    """One run of the generator through the broker: what it ran and what the two sides say."""
+    realms = numbers_of(options.realms, "8")[0]
+    shards = numbers_of(options.shards, "2")[0]
+    with Homes(options, realms, bound) as homes:
+        with Broker(options, realms, shards, bound) as broker:
+            words = load_words(mode, options, realms, "broker", broker.process.pid, **more)
+            ran = load(words, bound, shown=mode != "interference")
+    print()
+    print(homes.counts, end="")
+    print(f"broker: {'still ran' if broker.ended is None else f'ended, status {broker.ended}'}")
+    print(f"refused, by number: {refusals()}\n", flush=True)
+    return ran
+
+
+INTERFERENCE_HEAD = ["flood /s", "realm 0", "others /s", "p50 us", "p99 us", "longest us", "resent",
+                     "lost", "skipped", "bad", "dropped at broker", "broker us", "realm 0 sent",
+                     "answered"]
+
+
+def interference_row(rate, label, section):
+    names = ["exchanges_a_second", "p50_us", "p99_us", "longest_us", "resent", "lost", "skipped",
+             "bad", "dropped_at_broker", "broker_us", "realm0_sent", "realm0_answered"]
+    return [rate or "all it can", label] + [f"{section.get(name, 0):.0f}" for name in names]
+
+
+def interference(options):
+    seconds = options.seconds or 5
+    rows = []
+    for rate in numbers_of(options.flood_rates, "20000,0"):
+        ran = through_broker(options, "interference", 7 * (seconds + 20) + 60, seconds=seconds,
+                             flood_rate=rate)
+        rows += [interference_row(rate, label, section) for label, section in ran.items()
+                 if label != "total"]
+    for row in [INTERFERENCE_HEAD, ["---"] * len(INTERFERENCE_HEAD)] + rows:
+        print_row(row)
+    return 0
+
+
+def soak(options):
+    seconds = options.seconds or 3600
+    ran = through_broker(options, "soak", seconds + 120, seconds=seconds)
+    return int(ran["total"]["lost"] + ran["total"]["bad"] > 0)
+
+
+def mutated(options):
+    bound = options.count // options.mutated_rate + 180
+    ran = through_broker(options, "mutated", bound, count=options.count,
+                         mutated_rate=options.mutated_rate, spoilt=options.spoilt)
+    return int("broker_ended" in ran["total"] or ran["total"]["bad"] > 0)
+
+
+def main():
+    options = read_options()
+    os.makedirs(DIRECTORY, exist_ok=True)
+    subprocess.run(["make", "-s", "-C", BENCH, "all", "test"], check=True)
+    return {"table": table, "interference": interference, "soak": soak,
+            "mutated": mutated}[options.mode](options)
+
+
+if __name__ == "__main__":
+    sys.exit(main())
