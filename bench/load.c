@@ -101,17 +101,18 @@ static int interference(struct bench *bench)
 static int soak(struct bench *bench)
 {
     const struct plan *plan = bench->plan;
-    uint64_t begin = now_nanoseconds(), minutes = (plan->seconds - 1) / 60 + 1;
+    uint64_t end = now_nanoseconds() + plan->seconds * SECOND, now;
     struct window *window = &bench->window;
 
     printf("| minute | sent | good | resent | lost | skipped | bad | p50 us | p99 us |"
            " longest us | broker us | broker KiB |\n");
     printf("|---|---|---|---|---|---|---|---|---|---|---|---|\n");
     generator_start(bench->generator, plan->rate, 0);
-    for (uint64_t minute = 1; minute <= minutes && !has_ended(plan); minute++) {
-        uint64_t left = begin + plan->seconds * SECOND - now_nanoseconds();
-        uint64_t seconds = (left + SECOND / 2) / SECOND;
-        measure(bench->generator, bench->board, 0, seconds < 60 ? seconds : 60, window);
+    for (uint64_t minute = 1; (now = now_nanoseconds()) + SECOND / 2 < end; minute++) {
+        uint64_t left = (end - now + SECOND / 2) / SECOND;
+        if (has_ended(plan))
+            break;
+        measure(bench->generator, bench->board, 0, left < 60 ? left : 60, window);
         print_minute(bench->generator, window, minute);
     }
     return finish(bench);

@@ -39,7 +39,8 @@ static void cut(struct change *change)
 
 static void extend(struct change *change)
 {
-    size_t more = 1 + below(change, below(change, 16) == 0 ? 4096 : 64);
+    static const size_t limits[] = {64, 64, 64, 64, 64, 64, 4096, LARGEST_DATAGRAM};
+    size_t more = 1 + below(change, limits[below(change, sizeof limits / sizeof *limits)]);
 
     if (more > change->room - change->length)
         more = change->room - change->length;

@@ -16,7 +16,7 @@ struct draft {
     unsigned source; /* a peer, or PEERS for a stranger */
     struct secret secret;
     size_t length;
-    uint8_t octets[DATAGRAM_ROOM];
+    uint8_t octets[LARGEST_DATAGRAM];
 };
 
 struct sender {

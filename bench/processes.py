@@ -1,0 +1,135 @@
+"""The processes of a measurement: home servers, a broker, the generator. Each ends with the block
+that started it, with this script, and after a time of its own."""
+
+import ctypes
+import os
+import re
+import signal
+import subprocess
+import sys
+import threading
+import time
+
+import configurations
+
+BENCH = os.path.dirname(os.path.abspath(__file__))
+DIRECTORY = os.path.join(BENCH, "run")
+BOARD = os.path.join(DIRECTORY, "home.board")
+LOG = os.path.join(DIRECTORY, "broker.log")
+LIBC = ctypes.CDLL(None)
+
+
+def end_with_parent():
+    """Asks the system for SIGTERM when the script ends (prctl PR_SET_PDEATHSIG)."""
+    LIBC.prctl(1, signal.SIGTERM)
+
+
+def stop(process):
+    """Ends a process that this script started."""
+    if process.poll() is None:
+        process.send_signal(signal.SIGTERM)
+        try:
+            process.wait(5)
+        except subprocess.TimeoutExpired:
+            process.kill()
+            process.wait()
+
+
+def bound_ports():
+    with open("/proc/net/udp", encoding="ascii") as file:
+        return {int(line.split()[1].split(":")[1], 16) for line in file.readlines()[1:]}
+
+
+def wait_for(process, port, what):
+    """Until a process has bound a port, at most 60 seconds."""
+    end = time.monotonic() + 60
+    while port not in bound_ports():
+        if process.poll() is not None or time.monotonic() > end:
+            stop(process)
+            sys.exit(f"{what} isn't ready; see {LOG}")
+        time.sleep(0.05)
+
+
+class Homes:
+    """The home servers of some realms, while the block lasts."""
+
+    def __init__(self, options, realms, seconds):
+        self.words = [os.path.join(BENCH, "home"), f"base={options.base}", f"realms={realms}",
+                      f"seconds={seconds}", f"seed={options.seed}", f"board={BOARD}"]
+        self.port = configurations.home_acct(options.base, realms - 1)
+
+    def __enter__(self):
+        self.process = subprocess.Popen(self.words, stdout=subprocess.PIPE, text=True,
+                                        preexec_fn=end_with_parent)
+        wait_for(self.process, self.port, "the home servers' process")
+        time.sleep(0.2)
+        return self
+
+    def __exit__(self, *_):
+        stop(self.process)
+        self.counts = self.process.stdout.read()
+
+
+class Broker:
+    """A broker with a configuration of its own, while the block lasts."""
+
+    def __init__(self, options, realms, shards, seconds):
+        write, command = configurations.BROKERS[options.broker]
+        conf = write(DIRECTORY, options, realms, shards)
+        command = options.command or command
+        self.words = command.format(conf=conf, ms=seconds * 1000, directory=DIRECTORY,
+                                    repository=os.path.dirname(BENCH)).split()
+        self.base = options.base
+
+    def __enter__(self):
+        with open(LOG, "wb") as log:
+            self.process = subprocess.Popen(self.words, stdout=log, stderr=log,
+                                            preexec_fn=end_with_parent)
+        wait_for(self.process, self.base, self.words[0])
+        time.sleep(0.5)
+        return self
+
+    def __exit__(self, *_):
+        self.ended = self.process.poll()
+        stop(self.process)
+
+
+def refusals():
+    """How often the broker's log has each `refused N`."""
+    counts = {}
+    with open(LOG, "rb") as log:
+        for line in log:
+            found = re.search(rb"refused (\d+)", line)
+            if found:
+                number = int(found.group(1))
+                counts[number] = counts.get(number, 0) + 1
+    return ", ".join(f"{number}: {counts[number]}" for number in sorted(counts)) or "none"
+
+
+def load_words(mode, options, realms, via, process, **more):
+    words = [os.path.join(BENCH, "load"), mode, f"via={via}", f"realms={realms}",
+             f"board={BOARD}", f"pid={process}"]
+    same = {"base": options.base, "turns": options.turns, "rate": options.rate,
+            "seed": options.seed, "threads": options.threads, "kind": options.kind, **more}
+    return words + [f"{name}={value}" for name, value in same.items()]
+
+
+def load(words, seconds, shown=False):
+    """Runs the generator and answers what it printed: values by section and name."""
+    sections, section = {}, {}
+    with subprocess.Popen(words, stdout=subprocess.PIPE, text=True,
+                          preexec_fn=end_with_parent) as process:
+        watch = threading.Timer(seconds + 120, process.kill)
+        watch.start()
+        for line in process.stdout:
+            if shown:
+                print(line, end="", flush=True)
+            if line.startswith("["):
+                section = sections.setdefault(line.strip("[]\n"), {})
+            elif "=" in line:
+                name, value = line.split("=", 1)
+                section[name] = float(value)
+        watch.cancel()
+    if "total" not in sections or process.returncode > 1:
+        sys.exit(f"the generator failed: {' '.join(words)}")
+    return sections
