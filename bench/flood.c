@@ -61,7 +61,8 @@ static void send_some(struct flooder *flooder, unsigned count)
 static void drain_answers(struct flooder *flooder)
 {
     for (unsigned at = 0; at < FLOOD_SOCKETS; at++)
-        flooder->flood->answered += incoming_receive(&flooder->incoming, flooder->sockets[at]);
+        flooder->flood->answered +=
+            incoming_receive(&flooder->incoming, flooder->sockets[at], BATCH);
 }
 
 static void *flood_thread(void *argument)

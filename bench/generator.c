@@ -22,7 +22,7 @@ static void send_slot(struct generator *generator, unsigned number, uint64_t now
     generator->deadlines[number] = now + generator->plan->wait * MILLISECOND;
     outgoing_add(&channel->outgoing, slot->request.octets, slot->request.length,
                  &generator->targets[slot->realm].address);
-    if (channel->outgoing.count == BATCH)
+    if (channel->outgoing.count == generator->plan->batch)
         flush(channel);
 }
 
@@ -107,7 +107,8 @@ static void take_answer(struct generator *generator, unsigned channel, unsigned 
 static void receive(struct generator *generator, unsigned channel)
 {
     unsigned received =
-        incoming_receive(&generator->incoming, generator->channels[channel].socket);
+        incoming_receive(&generator->incoming, generator->channels[channel].socket,
+                         (unsigned)generator->plan->batch);
     uint64_t now = now_nanoseconds();
 
     for (unsigned at = 0; at < received; at++)

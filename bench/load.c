@@ -153,6 +153,7 @@ static void read_plan(struct plan *plan, int count, char **words)
         {"realms", &plan->realms, 1, MOST_REALMS},
         {"outstanding", &plan->outstanding, 1, 1024},
         {"turns", &plan->turns, 1, 256},
+        {"batch", &plan->batch, 1, BATCH},
         {"seconds", &plan->seconds, 1, 86400},
         {"warmup", &plan->warmup, 0, 60},
         {"rate", &plan->rate, 1, 1000000},
@@ -199,8 +200,8 @@ int main(int count, char **words)
 {
     static struct bench bench;
     const struct mode *mode = find_mode(count > 1 ? words[1] : "");
-    struct plan plan = {.base = 20000, .realms = 8, .turns = 4, .warmup = 1, .rate = 4000,
-                        .wait = 1000, .tries = 5, .seed = 1, .count = 100000,
+    struct plan plan = {.base = 20000, .realms = 8, .turns = 4, .batch = BATCH, .warmup = 1,
+                        .rate = 4000, .wait = 1000, .tries = 5, .seed = 1, .count = 100000,
                         .mutated_rate = 2000, .spoilt = 100, .via = "broker",
                         .kind = "access"};
 

@@ -160,9 +160,11 @@ static void send_one(struct sender *sender)
 static void drain_sockets(struct sender *sender)
 {
     for (unsigned at = 0; at < SOURCES; at++)
-        sender->mutator->answers += incoming_receive(&sender->incoming, sender->sources[at]);
+        sender->mutator->answers +=
+            incoming_receive(&sender->incoming, sender->sources[at], BATCH);
     for (unsigned at = 0; at < PEERS; at++)
-        sender->mutator->forwarded += incoming_receive(&sender->incoming, sender->coa[at]);
+        sender->mutator->forwarded +=
+            incoming_receive(&sender->incoming, sender->coa[at], BATCH);
 }
 
 static void *mutator_thread(void *argument)

@@ -9,6 +9,7 @@ struct plan {
     uint64_t realms;
     uint64_t outstanding; /* requests of a realm that wait at a time, at most */
     uint64_t turns;       /* Identifiers that a request slot takes in turn */
+    uint64_t batch;       /* datagrams that one system call sends or receives, at most */
     uint64_t seconds;     /* of a measured window */
     uint64_t warmup;      /* seconds before it */
     uint64_t rate;        /* requests a second of all realms, where paced */

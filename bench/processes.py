@@ -109,8 +109,10 @@ def refusals():
 def load_words(mode, options, realms, via, process, **more):
     words = [os.path.join(BENCH, "load"), mode, f"via={via}", f"realms={realms}",
              f"board={BOARD}", f"pid={process}"]
-    same = {"base": options.base, "turns": options.turns, "rate": options.rate,
-            "seed": options.seed, "threads": options.threads, "kind": options.kind, **more}
+    same = {"base": options.base, "turns": options.turns, "batch": options.batch,
+            "rate": options.rate, "seed": options.seed, "threads": options.threads,
+            "kind": options.kind, "wait": options.client_wait, "tries": options.client_tries,
+            **more}
     return words + [f"{name}={value}" for name, value in same.items()]
 
 

@@ -23,9 +23,10 @@ def read_options():
     parser.add_argument("--flood-rates", help="0 for as fast as it goes; with commas")
     parser.add_argument("--kind", choices=["access", "accounting"], default="access")
     numbers = {"seconds": 0, "rounds": 1, "rate": 4000, "outstanding": 16, "turns": 4,
-               "base": 20000, "trace_limit": 1000000, "tries": 2, "wait": 1000, "hold": 5000,
-               "max_pending": 1024, "max_sessions": 1000, "count": 100000, "mutated_rate": 2000,
-               "spoilt": 100, "seed": 1, "threads": 0}
+               "batch": 64, "base": 20000, "trace_limit": 1000000, "tries": 2, "wait": 1000,
+               "hold": 5000, "max_pending": 1024, "max_sessions": 1000, "client_wait": 1000,
+               "client_tries": 5, "count": 100000, "mutated_rate": 2000, "spoilt": 100,
+               "seed": 1, "threads": 0}
     for name, default in numbers.items():
         parser.add_argument("--" + name.replace("_", "-"), type=int, default=default)
     return parser.parse_args()
@@ -53,36 +54,57 @@ def middle(rounds, via, mode, name, section=None):
     return statistics.median(round[via, mode][section or mode].get(name, 0) for round in rounds)
 
 
-def lost_and_bad(rounds):
+def lost_and_bad(rounds, mode):
     """Over all rounds, of what went through the broker: lost, resent, bad."""
-    return [sum(int(round["broker", mode]["total"][name]) for round in rounds
-                for mode in ("closed", "paced")) for name in ("lost", "resent", "bad")]
+    return [sum(int(round["broker", mode]["total"][name]) for round in rounds)
+            for name in ("lost", "resent", "bad")]
 
 
-TABLE_HEAD = ["shards", "realms", "direct /s", "broker /s", "ratio", "home us (direct)",
-              "home us", "broker us", "broker/home (direct)", "broker/home", "closed p50 us",
-              "p99", "direct p50", "p99", "paced p50 us", "p99", "direct p50", "p99", "lost",
-              "resent", "bad", "memory MiB"]
+CLOSED_HEAD = ["shards", "realms", "direct /s", "broker /s", "ratio", "home us (direct)",
+               "home us", "broker us", "broker/home (direct)", "broker/home", "generator us",
+               "p50 us", "p99 us", "direct p50", "direct p99", "lost", "resent", "bad",
+               "memory MiB"]
+PACED_HEAD = ["shards", "realms", "p50 us", "p99 us", "direct p50", "direct p99", "broker us",
+              "home us", "home us (direct)", "lost", "resent", "bad", "memory MiB"]
 
 
-def table_row(rounds, realms, shards):
+def latencies(rounds, mode):
+    return [f"{middle(rounds, via, mode, name):.0f}" for via in ("broker", "direct")
+            for name in ("p50_us", "p99_us")]
+
+
+def share(part, whole):
+    return f"{part / whole:.2f}" if whole else "-"
+
+
+def closed_row(rounds, realms, shards):
     direct = middle(rounds, "direct", "closed", "exchanges_a_second")
     broker = middle(rounds, "broker", "closed", "exchanges_a_second")
     home_direct = middle(rounds, "direct", "closed", "home_us")
-    home = middle(rounds, "broker", "closed", "home_us")
-    used = middle(rounds, "broker", "closed", "broker_us")
-    latencies = [f"{middle(rounds, via, mode, name):.0f}" for mode in ("closed", "paced")
-                 for via in ("broker", "direct") for name in ("p50_us", "p99_us")]
+    home, used, generator = (middle(rounds, "broker", "closed", name)
+                             for name in ("home_us", "broker_us", "generator_us"))
+    memory = middle(rounds, "broker", "closed", "broker_memory_kib") / 1024
+    return [shards, realms, f"{direct:.0f}", f"{broker:.0f}", share(broker, direct),
+            f"{home_direct:.2f}", f"{home:.2f}", f"{used:.2f}", share(used, home_direct),
+            share(used, home), f"{generator:.2f}", *latencies(rounds, "closed"),
+            *lost_and_bad(rounds, "closed"), f"{memory:.0f}"]
+
+
+def paced_row(rounds, realms, shards):
     memory = middle(rounds, "broker", "paced", "broker_memory_kib") / 1024
-    return [shards, realms, f"{direct:.0f}", f"{broker:.0f}", f"{broker / direct:.2f}",
-            f"{home_direct:.2f}", f"{home:.2f}", f"{used:.2f}",
-            f"{used / home_direct:.2f}" if home_direct else "-",
-            f"{used / home:.2f}" if home else "-", *latencies, *lost_and_bad(rounds),
-            f"{memory:.0f}"]
+    used = [middle(rounds, via, "paced", name) for via, name in
+            (("broker", "broker_us"), ("broker", "home_us"), ("direct", "home_us"))]
+    return [shards, realms, *latencies(rounds, "paced"), *(f"{time:.1f}" for time in used),
+            *lost_and_bad(rounds, "paced"), f"{memory:.0f}"]
 
 
 def print_row(cells):
     print("| " + " | ".join(str(cell) for cell in cells) + " |", flush=True)
+
+
+def print_head(head):
+    print_row(head)
+    print_row(["---"] * len(head))
 
 
 def numbers_of(text, default):
@@ -90,16 +112,21 @@ def numbers_of(text, default):
 
 
 def table(options):
-    notes = []
-    print_row(TABLE_HEAD)
-    print_row(["---"] * len(TABLE_HEAD))
+    notes, paced = [], []
+    print("Closed loop:\n")
+    print_head(CLOSED_HEAD)
     for shards in numbers_of(options.shards, "1,2,3" if options.broker == "roam" else "1"):
         for realms in numbers_of(options.realms, "1,8,64,256"):
             rounds = [one_round(options, realms, shards) for _ in range(options.rounds)]
-            print_row(table_row(rounds, realms, shards))
+            print_row(closed_row(rounds, realms, shards))
+            paced.append(paced_row(rounds, realms, shards))
             notes.append(f"{shards} shards, {realms} realms: "
                          + busiest_threads(rounds[-1]["broker", "closed"]["closed"]))
     print(f"\nWanted: a ratio of at least {RATIO_WANTED}, broker/home at most {COST_WANTED}.")
+    print(f"\nPaced, {options.rate} a second:\n")
+    print_head(PACED_HEAD)
+    for row in paced:
+        print_row(row)
     if options.threads:
         print("\nThe broker's busiest threads, us an exchange in closed loop:\n")
         print("\n".join(f"- {note}" for note in notes))
@@ -146,7 +173,8 @@ def interference(options):
                              flood_rate=rate)
         rows += [interference_row(rate, label, section) for label, section in ran.items()
                  if label != "total"]
-    for row in [INTERFERENCE_HEAD, ["---"] * len(INTERFERENCE_HEAD)] + rows:
+    print_head(INTERFERENCE_HEAD)
+    for row in rows:
         print_row(row)
     return 0
 

@@ -87,13 +87,13 @@ void incoming_prepare(struct incoming *incoming)
     }
 }
 
-unsigned incoming_receive(struct incoming *incoming, int socket)
+unsigned incoming_receive(struct incoming *incoming, int socket, unsigned most)
 {
     int received;
 
-    for (unsigned at = 0; at < BATCH; at++)
+    for (unsigned at = 0; at < most; at++)
         incoming->messages[at].msg_hdr.msg_namelen = sizeof incoming->from[at];
-    received = recvmmsg(socket, incoming->messages, BATCH, MSG_DONTWAIT, NULL);
+    received = recvmmsg(socket, incoming->messages, most, MSG_DONTWAIT, NULL);
     return received > 0 ? (unsigned)received : 0;
 }
 

@@ -37,8 +37,8 @@ struct incoming {
 };
 
 void incoming_prepare(struct incoming *incoming);
-/* Receives what is there, at most BATCH datagrams, and answers how many. */
-unsigned incoming_receive(struct incoming *incoming, int socket);
+/* Receives what is there, at most `most` datagrams (up to BATCH), and answers how many. */
+unsigned incoming_receive(struct incoming *incoming, int socket, unsigned most);
 
 bool same_address(const struct sockaddr_in *one, const struct sockaddr_in *other);
 
