@@ -1,9 +1,12 @@
 /* Home servers of many realms in one process, of one thread: an epoll loop that receives and
-   sends one datagram a call. It checks each request, answers it, and counts. */
+   sends one datagram a call. It checks each request, answers it, and counts. With `apart=1` realm
+   0 has a process of its own, so that its load isn't that of the other realms' home servers. */
 #include <signal.h>
 #include <stdio.h>
 #include <stdlib.h>
 #include <sys/epoll.h>
+#include <sys/prctl.h>
+#include <sys/wait.h>
 #include <unistd.h>
 
 #include "layout.h"
@@ -15,7 +18,8 @@
 enum { IN_A_ROW = 32, WAIT_MILLISECONDS = 100 };
 
 struct home {
-    uint64_t base, realms, seconds, seed;
+    uint64_t base, realms, seconds, seed, apart;
+    unsigned first, end; /* the realms of this process */
     struct random random;
     struct board *board;
     int poller;
@@ -34,7 +38,7 @@ static void stop(int number)
 static void open_home(struct home *home)
 {
     home->poller = open_poller();
-    for (unsigned realm = 0; realm < home->realms; realm++) {
+    for (unsigned realm = home->first; realm < home->end; realm++) {
         struct sockaddr_in auth = home_auth((unsigned)home->base, realm);
         struct sockaddr_in acct = home_acct((unsigned)home->base, realm);
         home_secret(&home->secrets[realm], realm);
@@ -43,6 +47,11 @@ static void open_home(struct home *home)
         watch_socket(home->poller, home->sockets[2 * realm], 2 * realm);
         watch_socket(home->poller, home->sockets[2 * realm + 1], 2 * realm + 1);
     }
+}
+
+static void count_up(_Atomic uint64_t *counter)
+{
+    atomic_fetch_add_explicit(counter, 1, memory_order_relaxed);
 }
 
 /* Sends a mutated copy of an answer, as often as the board says. */
@@ -57,14 +66,7 @@ static void spoil(struct home *home, int socket, const struct packet *answer,
     memcpy(octets, answer->octets, answer->length);
     length = mutate(&home->random, octets, answer->length, sizeof octets);
     sendto(socket, octets, length, 0, (const struct sockaddr *)to, sizeof *to);
-    home->board->spoilt++;
-}
-
-static void count_up(_Atomic uint64_t *counter)
-{
-    uint64_t count = atomic_load_explicit(counter, memory_order_relaxed);
-
-    atomic_store_explicit(counter, count + 1, memory_order_relaxed);
+    count_up(&home->board->spoilt);
 }
 
 static void answer_one(struct home *home, unsigned number, const uint8_t *octets, size_t size,
@@ -129,31 +131,69 @@ static void report(const struct home *home, uint64_t processor)
         printf("home_us=%.2f\n", (double)processor / 1000 / (double)answered);
 }
 
+/* Makes the process of realm 0 and answers its number, or 0 in that process and where none is
+   made. */
+static pid_t set_apart(struct home *home)
+{
+    pid_t child;
+
+    home->end = (unsigned)home->realms;
+    if (home->apart == 0 || home->realms < 2)
+        return 0;
+    child = fork();
+    if (child < 0)
+        fail("fork");
+    if (child == 0) {
+        prctl(PR_SET_PDEATHSIG, SIGTERM);
+        home->end = 1;
+    } else {
+        home->first = 1;
+    }
+    return child;
+}
+
+static void read_home(struct home *home, const char **path, int count, char **words)
+{
+    const struct number_option numbers[] = {{"base", &home->base, 1024, 60000},
+                                            {"realms", &home->realms, 1, MOST_REALMS},
+                                            {"seconds", &home->seconds, 1, 100000},
+                                            {"seed", &home->seed, 0, UINT64_MAX},
+                                            {"apart", &home->apart, 0, 1},
+                                            {NULL, NULL, 0, 0}};
+    const struct text_option texts[] = {{"board", path}, {NULL, NULL}};
+
+    read_options(count, words, 1, numbers, texts);
+    home->random.state = home->seed;
+}
+
+static void clear_board(struct home *home, const char *path)
+{
+    home->board = open_board(path);
+    memset((void *)home->board, 0, sizeof *home->board);
+    home->board->dead_realm = -1;
+    home->board->process = getpid();
+}
+
 int main(int count, char **words)
 {
     static struct home home = {.base = 20000, .realms = 8, .seconds = 600, .seed = 1};
     const char *path = "home.board";
-    const struct number_option numbers[] = {{"base", &home.base, 1024, 60000},
-                                            {"realms", &home.realms, 1, MOST_REALMS},
-                                            {"seconds", &home.seconds, 1, 100000},
-                                            {"seed", &home.seed, 0, UINT64_MAX},
-                                            {NULL, NULL, 0, 0}};
-    const struct text_option texts[] = {{"board", &path}, {NULL, NULL}};
     uint64_t before;
+    pid_t child;
 
-    read_options(count, words, 1, numbers, texts);
+    read_home(&home, &path, count, words);
     signal(SIGTERM, stop);
     signal(SIGINT, stop);
-    home.random.state = home.seed;
+    clear_board(&home, path);
+    child = set_apart(&home);
     open_home(&home);
-    home.board = open_board(path);
-    memset((void *)home.board, 0, sizeof *home.board);
-    home.board->dead_realm = -1;
-    home.board->process = getpid();
     before = processor_time(getpid());
-    printf("home servers ready\n");
-    fflush(stdout);
     serve(&home);
-    report(&home, processor_time(getpid()) - before);
+    if (child > 0) {
+        kill(child, SIGTERM);
+        waitpid(child, NULL, 0);
+    }
+    if (getpid() == home.board->process)
+        report(&home, processor_time(getpid()) - before);
     return 0;
 }

@@ -53,15 +53,18 @@ def wait_for(process, port, what):
 class Homes:
     """The home servers of some realms, while the block lasts."""
 
-    def __init__(self, options, realms, seconds):
+    def __init__(self, options, realms, seconds, apart=0):
         self.words = [os.path.join(BENCH, "home"), f"base={options.base}", f"realms={realms}",
-                      f"seconds={seconds}", f"seed={options.seed}", f"board={BOARD}"]
-        self.port = configurations.home_acct(options.base, realms - 1)
+                      f"seconds={seconds}", f"seed={options.seed}", f"apart={apart}",
+                      f"board={BOARD}"]
+        self.ports = [configurations.home_acct(options.base, realm)
+                      for realm in (0, realms - 1)]
 
     def __enter__(self):
         self.process = subprocess.Popen(self.words, stdout=subprocess.PIPE, text=True,
                                         preexec_fn=end_with_parent)
-        wait_for(self.process, self.port, "the home servers' process")
+        for port in self.ports:
+            wait_for(self.process, port, "the home servers' process")
         time.sleep(0.2)
         return self
 

@@ -143,7 +143,7 @@ def through_broker(options, mode, bound, **more):
     """One run of the generator through the broker: what it ran and what the two sides say."""
     realms = numbers_of(options.realms, "8")[0]
     shards = numbers_of(options.shards, "2")[0]
-    with Homes(options, realms, bound) as homes:
+    with Homes(options, realms, bound, int(mode == "interference")) as homes:
         with Broker(options, realms, shards, bound) as broker:
             words = load_words(mode, options, realms, "broker", broker.process.pid, **more)
             ran = load(words, bound, shown=mode != "interference")
