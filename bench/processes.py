@@ -16,6 +16,7 @@ BENCH = os.path.dirname(os.path.abspath(__file__))
 DIRECTORY = os.path.join(BENCH, "run")
 BOARD = os.path.join(DIRECTORY, "home.board")
 LOG = os.path.join(DIRECTORY, "broker.log")
+PRINTED = os.path.join(DIRECTORY, "load.log")
 LIBC = ctypes.CDLL(None)
 
 
@@ -74,13 +75,16 @@ class Homes:
 
 
 class Broker:
-    """A broker with a configuration of its own, while the block lasts."""
+    """A broker with a configuration of its own, while the block lasts; or until its own end, where
+    `--let-end` is given: `seconds` after its start."""
 
     def __init__(self, options, realms, shards, seconds):
+        self.seconds = seconds if options.let_end else 0
         write, command = configurations.BROKERS[options.broker]
         conf = write(DIRECTORY, options, realms, shards)
         command = options.command or command
-        self.words = command.format(conf=conf, ms=seconds * 1000, directory=DIRECTORY,
+        milliseconds = 1000 * (self.seconds or seconds + 60)
+        self.words = command.format(conf=conf, ms=milliseconds, directory=DIRECTORY,
                                     repository=os.path.dirname(BENCH)).split()
         self.base = options.base
 
@@ -92,7 +96,12 @@ class Broker:
         time.sleep(0.5)
         return self
 
-    def __exit__(self, *_):
+    def __exit__(self, fault, *_):
+        if self.seconds and fault is None:
+            try:
+                self.process.wait(self.seconds + 60)
+            except subprocess.TimeoutExpired:
+                pass
         self.ended = self.process.poll()
         stop(self.process)
 
@@ -119,22 +128,32 @@ def load_words(mode, options, realms, via, process, **more):
     return words + [f"{name}={value}" for name, value in same.items()]
 
 
-def load(words, seconds, shown=False):
-    """Runs the generator and answers what it printed: values by section and name."""
-    sections, section = {}, {}
-    with subprocess.Popen(words, stdout=subprocess.PIPE, text=True,
-                          preexec_fn=end_with_parent) as process:
+def printed_by(words, seconds):
+    """The lines that the generator prints; they are added to `run/load.log`."""
+    with open(PRINTED, "a", encoding="ascii") as log:
+        log.write(" ".join(words) + "\n")
+        process = subprocess.Popen(words, stdout=subprocess.PIPE, text=True,
+                                   preexec_fn=end_with_parent)
         watch = threading.Timer(seconds + 120, process.kill)
         watch.start()
         for line in process.stdout:
-            if shown:
-                print(line, end="", flush=True)
-            if line.startswith("["):
-                section = sections.setdefault(line.strip("[]\n"), {})
-            elif "=" in line:
-                name, value = line.split("=", 1)
-                section[name] = float(value)
+            log.write(line)
+            yield line
         watch.cancel()
-    if "total" not in sections or process.returncode > 1:
+        process.wait()
+
+
+def load(words, seconds, shown=False):
+    """Runs the generator and answers what it printed: values by section and name."""
+    sections, section = {}, {}
+    for line in printed_by(words, seconds):
+        if shown:
+            print(line, end="", flush=True)
+        if line.startswith("["):
+            section = sections.setdefault(line.strip("[]\n"), {})
+        elif "=" in line:
+            name, value = line.split("=", 1)
+            section[name] = float(value)
+    if "total" not in sections:
         sys.exit(f"the generator failed: {' '.join(words)}")
     return sections

@@ -8,7 +8,7 @@ import subprocess
 import sys
 
 import configurations
-from processes import BENCH, DIRECTORY, Broker, Homes, load, load_words, refusals
+from processes import BENCH, DIRECTORY, LOG, Broker, Homes, load, load_words, refusals
 
 RATIO_WANTED, COST_WANTED = 0.35, 4.2
 
@@ -26,7 +26,7 @@ def read_options():
                "batch": 64, "base": 20000, "trace_limit": 1000000, "tries": 2, "wait": 1000,
                "hold": 5000, "max_pending": 1024, "max_sessions": 1000, "client_wait": 1000,
                "client_tries": 5, "count": 100000, "mutated_rate": 2000, "spoilt": 100,
-               "seed": 1, "threads": 0}
+               "seed": 1, "threads": 0, "let_end": 0}
     for name, default in numbers.items():
         parser.add_argument("--" + name.replace("_", "-"), type=int, default=default)
     return parser.parse_args()
@@ -47,6 +47,8 @@ def one_round(options, realms, shards):
                     words = load_words(mode, options, realms, via, process, seconds=seconds,
                                        **more)
                     found[via, mode] = load(words, seconds)
+                    if "broker_ended" in found[via, mode]["total"]:
+                        sys.exit(f"the broker ended, status {broker.process.poll()}; see {LOG}")
     return found
 
 
@@ -140,10 +142,10 @@ def busiest_threads(section):
 
 
 def through_broker(options, mode, bound, **more):
-    """One run of the generator through the broker: what it ran and what the two sides say."""
+    """One run of the generator through the broker, which lasts `bound` seconds at most."""
     realms = numbers_of(options.realms, "8")[0]
     shards = numbers_of(options.shards, "2")[0]
-    with Homes(options, realms, bound, int(mode == "interference")) as homes:
+    with Homes(options, realms, bound + 60, int(mode == "interference")) as homes:
         with Broker(options, realms, shards, bound) as broker:
             words = load_words(mode, options, realms, "broker", broker.process.pid, **more)
             ran = load(words, bound, shown=mode != "interference")
@@ -169,7 +171,7 @@ def interference(options):
     seconds = options.seconds or 5
     rows = []
     for rate in numbers_of(options.flood_rates, "20000,0"):
-        ran = through_broker(options, "interference", 7 * (seconds + 20) + 60, seconds=seconds,
+        ran = through_broker(options, "interference", 7 * (seconds + 9) + 10, seconds=seconds,
                              flood_rate=rate)
         rows += [interference_row(rate, label, section) for label, section in ran.items()
                  if label != "total"]
@@ -181,12 +183,12 @@ def interference(options):
 
 def soak(options):
     seconds = options.seconds or 3600
-    ran = through_broker(options, "soak", seconds + 120, seconds=seconds)
+    ran = through_broker(options, "soak", seconds + 15, seconds=seconds)
     return int(ran["total"]["lost"] + ran["total"]["bad"] > 0)
 
 
 def mutated(options):
-    bound = options.count // options.mutated_rate + 180
+    bound = options.count // options.mutated_rate + 20
     ran = through_broker(options, "mutated", bound, count=options.count,
                          mutated_rate=options.mutated_rate, spoilt=options.spoilt)
     return int("broker_ended" in ran["total"] or ran["total"]["bad"] > 0)
