@@ -1,0 +1,206 @@
+#!/usr/bin/env python3
+"""Measures a RADIUS forwarding server on loopback: see README.md beside this file."""
+
+import argparse
+import os
+import statistics
+import subprocess
+import sys
+
+import configurations
+from processes import BENCH, DIRECTORY, LOG, Broker, Homes, load, load_words, refusals
+
+RATIO_WANTED, COST_WANTED = 0.35, 4.2
+
+
+def read_options():
+    parser = argparse.ArgumentParser(description=__doc__)
+    parser.add_argument("mode", choices=["table", "interference", "soak", "mutated"])
+    parser.add_argument("--broker", choices=configurations.BROKERS, default="roam")
+    parser.add_argument("--command", help="in which {conf} and {ms} are filled in")
+    parser.add_argument("--realms", default=None, help="numbers with commas between them")
+    parser.add_argument("--shards", default=None, help="numbers with commas between them")
+    parser.add_argument("--flood-rates", help="0 for as fast as it goes; with commas")
+    parser.add_argument("--kind", choices=["access", "accounting"], default="access")
+    numbers = {"seconds": 0, "rounds": 1, "rate": 4000, "outstanding": 16, "turns": 4,
+               "batch": 64, "base": 20000, "trace_limit": 1000000, "tries": 2, "wait": 1000,
+               "hold": 5000, "max_pending": 1024, "max_sessions": 1000, "client_wait": 1000,
+               "client_tries": 5, "count": 100000, "mutated_rate": 2000, "spoilt": 100,
+               "seed": 1, "threads": 0, "let_end": 0}
+    for name, default in numbers.items():
+        parser.add_argument("--" + name.replace("_", "-"), type=int, default=default)
+    return parser.parse_args()
+
+
+def one_round(options, realms, shards):
+    """Direct and through the broker, in closed loop and paced, one after the other."""
+    seconds = options.seconds or 5
+    bound = 8 * (seconds + 12) + 60
+    found = {}
+    with Homes(options, realms, bound):
+        for via in ("direct", "broker"):
+            broker = Broker(options, realms, shards, bound) if via == "broker" else None
+            with broker or open(os.devnull):
+                process = broker.process.pid if broker else 0
+                for mode in ("closed", "paced"):
+                    more = {"outstanding": options.outstanding} if mode == "closed" else {}
+                    words = load_words(mode, options, realms, via, process, seconds=seconds,
+                                       **more)
+                    found[via, mode] = load(words, seconds)
+                    if "broker_ended" in found[via, mode]["total"]:
+                        sys.exit(f"the broker ended, status {broker.process.poll()}; see {LOG}")
+    return found
+
+
+def middle(rounds, via, mode, name, section=None):
+    return statistics.median(round[via, mode][section or mode].get(name, 0) for round in rounds)
+
+
+def lost_and_bad(rounds, mode):
+    """Over all rounds, of what went through the broker: lost, resent, bad."""
+    return [sum(int(round["broker", mode]["total"][name]) for round in rounds)
+            for name in ("lost", "resent", "bad")]
+
+
+CLOSED_HEAD = ["shards", "realms", "direct /s", "broker /s", "ratio", "home us (direct)",
+               "home us", "broker us", "broker/home (direct)", "broker/home", "generator us",
+               "p50 us", "p99 us", "direct p50", "direct p99", "lost", "resent", "bad",
+               "memory MiB"]
+PACED_HEAD = ["shards", "realms", "p50 us", "p99 us", "direct p50", "direct p99", "broker us",
+              "home us", "home us (direct)", "lost", "resent", "bad", "memory MiB"]
+
+
+def latencies(rounds, mode):
+    return [f"{middle(rounds, via, mode, name):.0f}" for via in ("broker", "direct")
+            for name in ("p50_us", "p99_us")]
+
+
+def share(part, whole):
+    return f"{part / whole:.2f}" if whole else "-"
+
+
+def closed_row(rounds, realms, shards):
+    direct = middle(rounds, "direct", "closed", "exchanges_a_second")
+    broker = middle(rounds, "broker", "closed", "exchanges_a_second")
+    home_direct = middle(rounds, "direct", "closed", "home_us")
+    home, used, generator = (middle(rounds, "broker", "closed", name)
+                             for name in ("home_us", "broker_us", "generator_us"))
+    memory = middle(rounds, "broker", "closed", "broker_memory_kib") / 1024
+    return [shards, realms, f"{direct:.0f}", f"{broker:.0f}", share(broker, direct),
+            f"{home_direct:.2f}", f"{home:.2f}", f"{used:.2f}", share(used, home_direct),
+            share(used, home), f"{generator:.2f}", *latencies(rounds, "closed"),
+            *lost_and_bad(rounds, "closed"), f"{memory:.0f}"]
+
+
+def paced_row(rounds, realms, shards):
+    memory = middle(rounds, "broker", "paced", "broker_memory_kib") / 1024
+    used = [middle(rounds, via, "paced", name) for via, name in
+            (("broker", "broker_us"), ("broker", "home_us"), ("direct", "home_us"))]
+    return [shards, realms, *latencies(rounds, "paced"), *(f"{time:.1f}" for time in used),
+            *lost_and_bad(rounds, "paced"), f"{memory:.0f}"]
+
+
+def print_row(cells):
+    print("| " + " | ".join(str(cell) for cell in cells) + " |", flush=True)
+
+
+def print_head(head):
+    print_row(head)
+    print_row(["---"] * len(head))
+
+
+def numbers_of(text, default):
+    return [int(number) for number in (text or default).split(",")]
+
+
+def table(options):
+    notes, paced = [], []
+    print("Closed loop:\n")
+    print_head(CLOSED_HEAD)
+    for shards in numbers_of(options.shards, "1,2,3" if options.broker == "roam" else "1"):
+        for realms in numbers_of(options.realms, "1,8,64,256"):
+            rounds = [one_round(options, realms, shards) for _ in range(options.rounds)]
+            print_row(closed_row(rounds, realms, shards))
+            paced.append(paced_row(rounds, realms, shards))
+            notes.append(f"{shards} shards, {realms} realms: "
+                         + busiest_threads(rounds[-1]["broker", "closed"]["closed"]))
+    print(f"\nWanted: a ratio of at least {RATIO_WANTED}, broker/home at most {COST_WANTED}.")
+    print(f"\nPaced, {options.rate} a second:\n")
+    print_head(PACED_HEAD)
+    for row in paced:
+        print_row(row)
+    if options.threads:
+        print("\nThe broker's busiest threads, us an exchange in closed loop:\n")
+        print("\n".join(f"- {note}" for note in notes))
+    return 0
+
+
+def busiest_threads(section):
+    times = {name[10:]: value for name, value in section.items() if name.startswith("thread_us_")}
+    names = sorted(times, key=times.get, reverse=True)[:8]
+    return ", ".join(f"{name} {times[name]:.2f}" for name in names)
+
+
+def through_broker(options, mode, bound, **more):
+    """One run of the generator through the broker, which lasts `bound` seconds at most."""
+    realms = numbers_of(options.realms, "8")[0]
+    shards = numbers_of(options.shards, "2")[0]
+    with Homes(options, realms, bound + 60, int(mode == "interference")) as homes:
+        with Broker(options, realms, shards, bound) as broker:
+            words = load_words(mode, options, realms, "broker", broker.process.pid, **more)
+            ran = load(words, bound, shown=mode != "interference")
+    print()
+    print(homes.counts, end="")
+    print(f"broker: {'still ran' if broker.ended is None else f'ended, status {broker.ended}'}")
+    print(f"refused, by number: {refusals()}\n", flush=True)
+    return ran
+
+
+INTERFERENCE_HEAD = ["flood /s", "realm 0", "others /s", "p50 us", "p99 us", "longest us", "resent",
+                     "lost", "skipped", "bad", "dropped at broker", "broker us", "realm 0 sent",
+                     "answered"]
+
+
+def interference_row(rate, label, section):
+    names = ["exchanges_a_second", "p50_us", "p99_us", "longest_us", "resent", "lost", "skipped",
+             "bad", "dropped_at_broker", "broker_us", "realm0_sent", "realm0_answered"]
+    return [rate or "all it can", label] + [f"{section.get(name, 0):.0f}" for name in names]
+
+
+def interference(options):
+    seconds = options.seconds or 5
+    rows = []
+    for rate in numbers_of(options.flood_rates, "20000,0"):
+        ran = through_broker(options, "interference", 7 * (seconds + 9) + 10, seconds=seconds,
+                             flood_rate=rate)
+        rows += [interference_row(rate, label, section) for label, section in ran.items()
+                 if label != "total"]
+    print_head(INTERFERENCE_HEAD)
+    for row in rows:
+        print_row(row)
+    return 0
+
+
+def soak(options):
+    seconds = options.seconds or 3600
+    ran = through_broker(options, "soak", seconds + 15, seconds=seconds)
+    return int(ran["total"]["lost"] + ran["total"]["bad"] > 0)
+
+
+def mutated(options):
+    bound = options.count // options.mutated_rate + 20
+    ran = through_broker(options, "mutated", bound, count=options.count,
+                         mutated_rate=options.mutated_rate, spoilt=options.spoilt)
+    return int("broker_ended" in ran["total"] or ran["total"]["bad"] > 0)
+
+
+def main():
+    options = read_options()
+    os.makedirs(DIRECTORY, exist_ok=True)
+    subprocess.run(["make", "-s", "-C", BENCH, "all", "test"], check=True)
+    return {"table": table, "interference": interference, "soak": soak,
+            "mutated": mutated}[options.mode](options)
+
+
+if __name__ == "__main__":
+    sys.exit(main())
