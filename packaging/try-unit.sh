@@ -74,7 +74,7 @@ must "with a fresh seed" [ "$(seed)" != "$second" ]
 systemctl stop roam
 must "a stop is no failure" [ "$(of Result)" = success ]
 must "and leaves no copy" [ ! -e /run/roam ]
-sed -i 's/^seed/shards = 0\nseed/' /etc/roam/roam.conf
+sed -i 's/^shards.*/shards = 0/' /etc/roam/roam.conf
 systemctl start roam
 must "a refused configuration isn't served" [ "$(of ActiveState)" != active ]
 systemctl stop roam
