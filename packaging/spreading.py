@@ -5,8 +5,9 @@ spreading.py conf BROKER SERVICE SOURCES      prints the configuration of a brok
 spreading.py broker CONF                      a stand-in for `roam serve`: rows/broker.py behind sockets
 spreading.py home SEEN                        a home server, which writes whence each request came
 spreading.py access-servers SERVICE SOURCES   access servers: requests, each sent twice, from several ports
+spreading.py disconnected SOURCES             access servers, which take Disconnects
 spreading.py disconnect SEEN BROKER..         Disconnects, to the broker from which a session came, and to another
-spreading.py verdict SEEN SOURCES             whether each source kept to one broker
+spreading.py verdict SEEN SOURCES BROKERS     whether each source kept to one broker, and so many were used
 """
 import os
 import select
@@ -137,8 +138,10 @@ def access_servers(service, sources):
             ask(service, number, round)
     print(f"access servers: {sources} sources, {ROUNDS} rounds, each request sent twice, "
           "every reply right")
+
+
+def disconnected(sources):
     sockets = [udp(source_address(number), COA) for number in range(1, int(sources) + 1)]
-    sys.stdout.flush()
     while True:
         for opened in select.select(sockets, [], [])[0]:
             datagram, source = opened.recvfrom(65535)
@@ -160,7 +163,7 @@ def brokers_of(seen):
     return found
 
 
-def verdict(seen, sources):
+def verdict(seen, sources, brokers):
     found, used, bad = brokers_of(seen), {}, 0
     for number in range(1, int(sources) + 1):
         ips = sorted({ip for _, ip in found.get(number, [])})
@@ -170,10 +173,10 @@ def verdict(seen, sources):
             bad += 1
     for ips, numbers in sorted(used.items()):
         print(f"{ips}: sources {' '.join(map(str, numbers))}")
-    if bad or len(used) < 2:
+    if bad or len(used) != int(brokers):
         raise SystemExit(f"NOT SPREAD WELL: {bad} of {sources} sources met two brokers, or their "
-                         "duplicates were forwarded; or one broker got all")
-    print("each source kept to one broker, and both brokers were used")
+                         f"duplicates were forwarded; or not {brokers} brokers were used")
+    print(f"each source kept to one broker; brokers used: {brokers}")
 
 
 def disconnect(seen, *brokers):
@@ -201,4 +204,4 @@ def disconnect(seen, *brokers):
 if __name__ == "__main__":
     name, *words = sys.argv[1:]
     {"conf": conf, "broker": broker, "home": home, "access-servers": access_servers,
-     "verdict": verdict, "disconnect": disconnect}[name](*words)
+     "disconnected": disconnected, "verdict": verdict, "disconnect": disconnect}[name](*words)

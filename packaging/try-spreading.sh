@@ -3,7 +3,8 @@
 #
 # Tries what docs/SPREADING.md says, in network namespaces of this machine: N access servers, a balancer, two brokers
 # and a home server. It fails unless each source keeps to one broker, duplicates are forwarded once, and a Disconnect is
-# taken by the broker from which its session came. It needs root, ip, nft and python3 (3.11), and cleans up after itself.
+# taken by the broker from which its session came; and, when the second broker is taken out, the first one has all.
+# It needs root, ip, nft and python3 (3.11), and cleans up after itself.
 #
 #   --by nft      nftables, a hash of the source address (the default)
 #   --by route    a route with two next hops, chosen by a hash of the addresses
@@ -63,28 +64,35 @@ cable home 10.60.3.1 10.60.3.254
 cable broker1 10.60.11.1 10.60.11.254
 cable broker2 10.60.12.1 10.60.12.254
 
-# The balancer. By nftables the brokers are sent to under their own addresses; by a route, under the service's.
-auth1=10.60.11.1 auth2=10.60.12.1
-case $by in
-    nft) choice="jhash ip saddr mod 2 seed 0x726f616d" ;;
-    numgen) choice="numgen inc mod 2" ;;
-    route)
-        run balancer sysctl -q -w net.ipv4.fib_multipath_hash_policy=0
-        run balancer ip route add $service/32 nexthop via $auth1 nexthop via $auth2
-        run broker1 ip address add $service/32 dev lo
-        run broker2 ip address add $service/32 dev lo
-        auth1=$service auth2=$service
-        ;;
-esac
-if [ "$by" != route ]; then
+# The balancer sends the slots to these brokers: by nftables to their own addresses, by a route to the service's.
+slots() {
+    case $by in
+        nft) choice="jhash ip saddr mod 12 seed 0x726f616d map { 0-5 : $1, 6-11 : $2 }" ;;
+        numgen) choice="numgen inc mod 2 map { 0 : $1, 1 : $2 }" ;;
+        route) run balancer ip route replace $service/32 nexthop via "$1" nexthop via "$2" && return ;;
+    esac
     run balancer nft -f - <<END
+table ip roam
+delete table ip roam
 table ip roam {
     chain spread {
         type nat hook prerouting priority dstnat
-        ip daddr $service udp dport { 1812, 1813 } dnat to $choice map { 0 : $auth1, 1 : $auth2 }
+        ip daddr $service udp dport { 1812, 1813 } dnat to $choice
     }
 }
 END
+}
+auth1=10.60.11.1 auth2=10.60.12.1
+if [ "$by" = route ]; then
+    run balancer sysctl -q -w net.ipv4.fib_multipath_hash_policy=0
+    run broker1 ip address add $service/32 dev lo
+    run broker2 ip address add $service/32 dev lo
+    auth1=$service auth2=$service
+fi
+slots 10.60.11.1 10.60.12.1
+# Connection tracking forgets a source endpoint after a second: `conntrack -D` isn't everywhere.
+if [ "$by" != route ]; then
+    run balancer sysctl -q -w net.netfilter.nf_conntrack_udp_timeout=1 net.netfilter.nf_conntrack_udp_timeout_stream=1
 fi
 
 python3 "$here/spreading.py" conf 10.60.11.1 $auth1 "$sources" > "$dir/broker1.conf"
@@ -98,12 +106,17 @@ for broker in broker1 broker2; do
     fi
 done
 start home python3 "$here/spreading.py" home "$dir/seen"
-start nas python3 "$here/spreading.py" access-servers $service "$sources"
-nas=${started[-1]}
-while kill -0 "$nas" 2>/dev/null && ! [ -s "$dir/nas.out" ]; do sleep 0.1; done
-cat "$dir/nas.out" "$dir/nas.err"
-sort -u "$dir/broker1.err" "$dir/broker2.err"
-[ -s "$dir/nas.out" ]
+start nas python3 "$here/spreading.py" disconnected "$sources"
 
-part home verdict "$dir/seen" "$sources"
+part nas access-servers $service "$sources"
+part home verdict "$dir/seen" "$sources" 2
 part home disconnect "$dir/seen" 10.60.11.1 10.60.12.1
+
+echo "the second broker is taken out"
+kill "${started[1]}"
+slots 10.60.11.1 10.60.11.1
+sleep 2
+: > "$dir/seen"
+part nas access-servers $service "$sources"
+part home verdict "$dir/seen" "$sources" 1
+sort -u "$dir/broker1.err" "$dir/broker2.err"
