@@ -1,0 +1,90 @@
+#!/bin/bash
+# try-unit.sh PROGRAM [CONF]
+#
+# Tries roam.service under a systemd of its own: a container over this machine's files, whose changes are kept in memory
+# and thrown away. It needs root, systemd-nspawn, ss and overlayfs. PROGRAM is what is served by, CONF the operator's
+# configuration, whose sockets must be on 127.0.0.1 (examples/two-realms.conf without it).
+#
+# It fails unless the unit starts as a user of its own with no capability, with a fresh seed at each start, one after a
+# crash too; its copy of the configuration is its own; and it is gone after a stop.
+set -euo pipefail
+
+here=$(dirname "$(realpath "$0")")
+program=$(realpath "$1")
+conf=$(realpath "${2:-$here/../examples/two-realms.conf}")
+
+# All mounts are made in a namespace of this script, and end with it.
+if [ -z "${IN_NAMESPACE:-}" ]; then
+    IN_NAMESPACE=yes exec unshare -m --propagation private "$0" "$program" "$conf"
+fi
+
+work=$(mktemp -d)
+trap 'umount -R "$work" 2>/dev/null; rmdir "$work"' EXIT
+mount -t tmpfs tmpfs "$work"
+mkdir "$work/upper" "$work/work" "$work/root"
+mount -t overlay overlay -o "lowerdir=/,upperdir=$work/upper,workdir=$work/work" "$work/root"
+root=$work/root
+
+rm -rf "$root"/etc/systemd/system/* "$root/run" "$root/tmp" "$root/etc/fstab"
+mkdir "$root/run" && mkdir -m 1777 "$root/tmp" && : > "$root/etc/machine-id"
+install -D -m 755 "$program" "$root/usr/local/bin/roam"
+install -D -m 755 "$here/roam-fresh-seed" "$root/usr/local/lib/roam/roam-fresh-seed"
+install -D -m 600 "$conf" "$root/etc/roam/roam.conf"
+units=$root/etc/systemd/system
+install -m 644 "$here/roam.service" "$units"
+printf '[Unit]\nRequires=basic.target\nWants=inside.service\n' > "$units/try.target"
+cat > "$units/inside.service" <<'END'
+[Unit]
+After=basic.target
+[Service]
+Type=oneshot
+ExecStart=/usr/local/bin/inside
+ExecStopPost=/bin/systemctl --no-block poweroff
+END
+
+cat > "$root/usr/local/bin/inside" <<'END'
+#!/bin/bash
+exec > /var/told 2>&1
+of() { systemctl show -p "$1" --value roam; }
+status() { grep "^$1:" "/proc/$(of MainPID)/status" | tr -s '[:blank:]' ' '; }
+seed() { grep '^seed' /run/roam/roam.conf; }
+must() { if "${@:2}"; then echo "yes: $1"; else echo "NO: $1"; failed=yes; fi; }
+serves() { [ "$(of ActiveState)" = active ] && [ -n "$(ss -H -u -l -n | grep ':1812 ')" ]; }
+
+systemctl start roam
+sleep 1
+first=$(seed)
+must "it serves" serves
+must "a user of its own" [ "$(status Uid)" != "Uid: 0 0 0 0" ]
+must "which isn't nobody" [ "$(status Uid | cut -d ' ' -f 2)" != "$(id -u nobody)" ]
+must "no capability" [ "$(status CapBnd)$(status CapEff)" = "CapBnd: 0000000000000000CapEff: 0000000000000000" ]
+must "no new privileges" [ "$(status NoNewPrivs)" = "NoNewPrivs: 1" ]
+must "system calls are filtered" [ "$(status Seccomp)" = "Seccomp: 2" ]
+must "the copy is its own" [ "$(stat -c %a:%U /run/roam/roam.conf)" = "600:roam" ]
+must "so is its directory" [ "$(stat -L -c %a:%U /run/roam)" = "700:roam" ]
+must "the operator's seed isn't served" [ "$first" != "$(grep '^seed' /etc/roam/roam.conf)" ]
+systemctl restart roam
+sleep 1
+second=$(seed)
+must "a fresh seed after a restart" [ "$first" != "$second" ]
+kill -SEGV "$(of MainPID)"
+sleep 4
+must "it serves after a crash" serves
+must "with a fresh seed" [ "$(seed)" != "$second" ]
+systemctl stop roam
+must "a stop is no failure" [ "$(of Result)" = success ]
+must "and leaves no copy" [ ! -e /run/roam ]
+sed -i 's/^shards.*/shards = 0/' /etc/roam/roam.conf
+systemctl start roam
+must "a refused configuration isn't served" [ "$(of ActiveState)" != active ]
+systemctl stop roam
+echo "roam.service: ${failed:-no} failure"
+echo
+journalctl -u roam --no-pager -o cat
+END
+chmod 755 "$root/usr/local/bin/inside"
+
+timeout 120 systemd-nspawn -q --register=no --keep-unit --private-network --console=pipe -D "$root" \
+    -b systemd.unit=try.target systemd.show_status=0 < /dev/null > /dev/null 2>&1 || true
+cat "$root/var/told"
+grep -q '^roam.service: no failure' "$root/var/told"
