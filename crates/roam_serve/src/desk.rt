@@ -44,8 +44,8 @@ impl<G: Gate, N: Opened> Desk<'_, '_, G, N> {
         self.now = now(rt, self.shared.start, self.now);
     }
 
-    /// Takes a datagram: hands its packets to the sender, or tells why it is refused. Answers whether
-    /// the trace of its shard is full.
+    /// Takes a datagram: hands its packets to the sender, or tells why it is refused. Answers
+    /// whether the trace of its shard is full.
     pub fn arrive<R: Wait>(&mut self, rt: &R, alloc: Global, datagram: &Datagram<Global>) -> bool {
         let job = match prepare(alloc, self.shared.config, datagram) {
             Ok(Prepared::Job(job)) => job,

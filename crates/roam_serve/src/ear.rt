@@ -23,8 +23,8 @@ pub struct Ear<'s> {
 }
 
 impl Ear<'_> {
-    /// Receives once. After a fault the socket is tried again in the next round, whether there is word
-    /// of it or not.
+    /// Receives once. After a fault the socket is tried again in the next round, whether there is
+    /// word of it or not.
     pub fn hear(&mut self, alloc: Global, buffer: &mut [u8]) -> Heard<Global> {
         let heard = listen(
             alloc,

@@ -1,5 +1,7 @@
 //! Why a worker ended, and what follows for the epoch.
 
+ghost use Rattle.std.specs.Prelude.{◌≡◌, ◌⊎◌, ◌↔◌};
+
 use roam_hub::Seat;
 use std::alloc::Global;
 
@@ -36,9 +38,14 @@ pub enum Outlook {
     GaveUp,
 }
 
-/// What follows after one more ending. A socket that was given up comes before all else, and the end
-/// of the time before another epoch.
-pub fn outlook_after(outlook: Outlook, ending: Ending) -> Outlook {
+/// What follows after one more ending. A socket that was given up comes before all else, and the
+/// end of the time before another epoch.
+pub fn outlook_after(outlook: Outlook, ending: Ending) -> Outlook
+    ensures gave_up { (result ≡ Outlook.GaveUp)
+        ↔ ((outlook ≡ Outlook.GaveUp) ⊎ (ending ≡ Ending.GaveUp)) }
+    ensures goes_on { (result ≡ Outlook.GoesOn) ↔ ((outlook ≡ Outlook.GoesOn)
+        × ((ending ≡ Ending.Stopped) ⊎ (ending ≡ Ending.TraceFull))) }
+{
     match (outlook, ending) {
         (Outlook::GaveUp, _) | (_, Ending::GaveUp) => Outlook::GaveUp,
         (Outlook::TimeOver, _) | (_, Ending::TimeOver) => Outlook::TimeOver,

@@ -1,9 +1,9 @@
 //! The server: sockets, threads and time round the hub.
 //!
-//! A worker for each shard hears the sockets that are dealt to it and gives what arrives to the hub,
-//! and a timer worker ticks the shards. Each hands what is to leave to a sender of its own, by a ring.
-//! Refused arrivals are told on standard error, by a thread of its own. When a shard's trace is full,
-//! all stop, the hub is closed and audited, and a new one opens where it ended.
+//! A worker for each shard hears the sockets that are dealt to it and gives what arrives to the
+//! hub, and a timer worker ticks the shards. Each hands what is to leave to a sender of its own,
+//! by a ring. Refused arrivals are told on standard error, by a thread of its own. When a shard's
+//! trace is full, all stop, the hub is closed and audited, and a new one opens where it ended.
 //!
 //! What is decided here stands in small functions; the loops round them are the threads.
 #![tactic(auto)]

@@ -1,12 +1,16 @@
 //! What is told on standard error, and the end of a worker's queue of it.
 
+ghost use Rattle.std.specs.Prelude.{◌≡◌, [], ◌∷◌, ◌++◌, IsTrue, IsFalse};
+ghost use Rattle.rtrb.specs.Ring.{sent};
+
 use log::{Log, info, warn};
 use roam_conf::{Config, Endpoint};
 use roam_wire::Refusal;
 use rtrb::{Consumer, Producer, RingBuffer};
 use std::alloc::{AllocError, Global};
 
-/// How many notices of one worker wait to be told. What finds the queue full is dropped, and counted.
+/// How many notices of one worker wait to be told. What finds the queue full is dropped, and
+/// counted.
 pub const NOTICES: usize = 1024;
 
 /// What is told on standard error.
@@ -70,7 +74,11 @@ pub fn queue_of_notices(alloc: Global) -> Result<(Notices, Consumer<Notice>), Al
 
 impl Notices {
     /// Puts a notice behind the others, or drops and counts it where the queue is full.
-    fn put(&mut self, notice: Notice) -> bool {
+    fn put(&mut self, notice: Notice) -> bool
+        ensures put { IsTrue result → sent self.new.queue ≡ sent self.old.queue ++ notice ∷ [] }
+        ensures full { IsFalse result → sent self.new.queue ≡ sent self.old.queue }
+        ensures dropped { self.new.dropped ≡ self.old.dropped }
+    {
         let is_put = self.queue.push(notice).is_ok();
         self.is_waiting = self.is_waiting || is_put;
         is_put

@@ -1,5 +1,8 @@
 //! A worker's packets on their way to its sender.
 
+ghost use Rattle.std.specs.Prelude.{◌≡◌, ◌⊎◌, ◌+◌, ◌-◌, ◌^◌, [], ◌∷◌, ◌++◌, min};
+ghost use Rattle.roam_ring.specs.Ring.{put_packets};
+
 use roam_ring::Outlet;
 use roam_route::Out;
 use std::alloc::Global;
@@ -22,7 +25,12 @@ impl Post {
     }
 
     /// Puts a packet into the ring. One that finds it full is lost, and counted.
-    pub fn put(&mut self, out: Out<Global>) {
+    pub fn put(&mut self, out: Out<Global>)
+        ensures { ((put_packets self.new.outlet ≡ put_packets self.old.outlet ++ out ∷ [])
+            × (self.new.lost ≡ self.old.lost))
+            ⊎ ((put_packets self.new.outlet ≡ put_packets self.old.outlet)
+            × (self.new.lost ≡ min (2 ^ 64 - 1) (self.old.lost + 1))) }
+    {
         if self.outlet.put(out).is_ok() {
             self.is_waiting = true;
         } else {

@@ -1,5 +1,7 @@
 //! The worker that ticks the shards.
 
+ghost use Rattle.std.specs.Prelude.{◌↔◌, ◌≤◌, IsTrue, IsFalse, MatchOption};
+
 use crate::desk::Desk;
 use crate::ending::{Ending, WorkerEnd};
 use roam_hub::{Gate, Opened};
@@ -20,7 +22,9 @@ fn tick_all<R: Wait, G: Gate, N: Opened>(rt: &R, desk: &mut Desk<'_, '_, G, N>) 
 }
 
 /// Whether the server's time is over.
-fn is_time_over(now: u64, end: Option<u64>) -> bool {
+fn is_time_over(now: u64, end: Option<u64>) -> bool
+    ensures { MatchOption end (IsFalse result) (λ moment. IsTrue result ↔ (moment ≤ now)) }
+{
     match end {
         Some(end) => now >= end,
         None => false,

@@ -54,8 +54,8 @@ fn is_more_there(ears: &[Ear<'_>]) -> bool {
     ears.iter().any(|ear| ear.has_more)
 }
 
-/// Waits until something arrives, and marks the ears at which it did. A wait that fails lasts as long,
-/// and then all ears are marked.
+/// Waits until something arrives, and marks the ears at which it did. A wait that fails lasts as
+/// long, and then all ears are marked.
 fn attend<R: Clock, G, N: Opened>(rt: &R, worker: &mut Worker<'_, '_, G, N>) {
     let is_more = is_more_there(worker.ears.as_slice());
     let wait = Duration::from_millis(if is_more { 0 } else { WAIT });
@@ -67,8 +67,8 @@ fn attend<R: Clock, G, N: Opened>(rt: &R, worker: &mut Worker<'_, '_, G, N>) {
     }
 }
 
-/// Takes what arrived at one socket, up to `IN_A_ROUND` datagrams: why the worker ends with it, if it
-/// does.
+/// Takes what arrived at one socket, up to `IN_A_ROUND` datagrams: why the worker ends with it, if
+/// it does.
 fn hear<R: Wait, G: Gate, N: Opened>(
     rt: &R,
     alloc: Global,

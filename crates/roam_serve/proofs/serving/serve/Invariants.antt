@@ -8,4 +8,6 @@ invariant-loop g l = AreStarts (shown l.config) l.starts.items
 
 -- how its hub opens
 abbrev pub ghosts-epoch : goal.ghosts-epoch
-ghosts-epoch g a = record { opening = record { config = shown a.config.now; starts = a.starts.now } }
+ghosts-epoch g a = record {
+  opening = record { config = shown a.config.now; starts = a.starts.now };
+}
