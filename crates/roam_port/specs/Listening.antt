@@ -25,7 +25,8 @@ shown_heard heard.NoMemory = no_memory
 abbrev pub faults_after_fault : ℕ → ℕ
 faults_after_fault faults = min FAULTS_TO_GIVE_UP (faults + 1)
 
--- what a receive leaves of that count, and what is heard by it; a datagram is lost for want of memory alone
+-- what a receive leaves of that count, and what is heard by it; a datagram is lost for want of
+-- memory alone
 abbrev pub IsHeard : PortCall → Place → ℕ → ℕ → PlainHeard → Type 0
 IsHeard (came octets from) at old new h =
     (new ≡ 0)

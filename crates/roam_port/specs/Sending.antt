@@ -7,12 +7,13 @@ use Rattle.roam_port.specs.Port.{PortCall, went, send_failed, IsOneCall}
 use Rattle.roam_port.specs.Sockets.{socket_number}
 
 -- a port was handed the packet once: it went out, or it is dropped
-abbrev pub IsHandedOnce : {A : Type 0} → Option (List PortCall) → Option (List PortCall) → Out A → Type 0
+abbrev pub IsHandedOnce : {A : Type 0} → Option (List PortCall) → Option (List PortCall) → Out A
+    → Type 0
 IsHandedOnce old new out =
     IsOneCall old new (went out.to out.bytes) ⊎ IsOneCall old new (send_failed out.to out.bytes)
 
--- of the ports, that of the packet's place was handed it once, and every other is as it was. A packet
--- whose place has no port is dropped
+-- of the ports, that of the packet's place was handed it once, and every other is as it was. A
+-- packet whose place has no port is dropped
 pub record SendsFrom
     {A P : Type 0}
     (calls : P → Option (List PortCall))

@@ -1,5 +1,5 @@
--- Which socket is which place's, by its number: `auth`, `acct`, then `out` and `reverse` of each realm
--- (ours).
+-- Which socket is which place's, by its number: `auth`, `acct`, then `out` and `reverse` of each
+-- realm (ours).
 use Rattle.std.specs.Prelude.{ℕ, ◌+◌, ◌*◌, List}
 use Rattle.roam_conf.specs.declared.endpoint.Endpoint.{Endpoint}
 use Rattle.roam_conf.specs.declared.place.Place.{Place}

@@ -1,5 +1,5 @@
-//! Sockets as the server sees them: what is asked of one, what is heard at it, which socket is which
-//! place's and which worker's, and what a sender does with a packet.
+//! Sockets as the server sees them: what is asked of one, what is heard at it, which socket is
+//! which place's and which worker's, and what a sender does with a packet.
 //!
 //! Nothing here opens a socket, waits or starts a thread: the calls are generic over a [`Port`].
 #![tactic(auto)]

@@ -23,7 +23,8 @@ pub fn listen<P: Port, A: Allocator + Copy>(
 ) -> Heard<A>
     requires { faults.old ≤ FAULTS_TO_GIVE_UP }
     ensures bound { faults.new ≤ FAULTS_TO_GIVE_UP }
-    ensures listens { Listens (P.calls port.old) (P.calls port.new) at faults.old faults.new result }
+    ensures listens { Listens (P.calls port.old) (P.calls port.new) at
+        faults.old faults.new result }
 {
     match port.receive(buffer) {
         Err(_) => after_fault(faults),
@@ -45,7 +46,8 @@ pub fn listen<P: Port, A: Allocator + Copy>(
 fn after_fault<A: Allocator>(faults: &mut u32) -> Heard<A>
     requires { faults.old ≤ FAULTS_TO_GIVE_UP }
     ensures bound { faults.new ≤ FAULTS_TO_GIVE_UP }
-    ensures heard { (at : Place) → IsHeard receive_failed at faults.old faults.new (shown_heard result) }
+    ensures heard { (at : Place)
+        → IsHeard receive_failed at faults.old faults.new (shown_heard result) }
 {
     *faults = (*faults + 1).min(FAULTS_TO_GIVE_UP);
     if *faults == FAULTS_TO_GIVE_UP {

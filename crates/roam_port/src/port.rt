@@ -11,15 +11,16 @@ pub trait Port {
     ghost use Rattle.std.specs.Prelude.{◌≤◌, ℕ, List, Option, IfOk, IfSome, length};
     ghost use Rattle.roam_port.specs.Port.{PortCall, IsOneCall, receive_call, send_call};
 
-    /// Every call so far with its answer, the oldest first; none where no account is kept of them, as
-    /// at a socket of the system.
+    /// Every call so far with its answer, the oldest first; none where no account is kept of them,
+    /// as at a socket of the system.
     ghost calls: { Self → Option (List PortCall) };
 
     /// Receives a datagram into the front of the buffer: its size in octets and its source, or none
     /// where none is there.
     fn receive(&mut self, buffer: &mut [u8]) -> Result<Option<(usize, Endpoint)>, PortFault>
         ensures within { IfOk result (λ got. IfSome got (λ g. g.0 ≤ length buffer.new)) }
-        ensures call { IsOneCall (calls self.old) (calls self.new) (receive_call result buffer.new) };
+        ensures call { IsOneCall (calls self.old) (calls self.new)
+            (receive_call result buffer.new) };
 
     /// Sends these octets as one datagram.
     fn send(&mut self, to: Endpoint, octets: &[u8]) -> Result<(), PortFault>

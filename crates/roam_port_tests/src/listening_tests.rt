@@ -47,7 +47,8 @@ fn word<A: Allocator>(heard: &Heard<A>) -> &'static str {
     }
 }
 
-/// How many receives in a row hear nothing, then what the next one hears, and the count that it leaves.
+/// How many receives in a row hear nothing, then what the next one hears, and the count that it
+/// leaves.
 fn heard_after_silence<A: Allocator + Copy>(
     alloc: A,
     port: &mut Tape<'_>,

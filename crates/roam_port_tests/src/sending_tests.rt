@@ -64,8 +64,8 @@ fn packet_whose_send_fails_is_dropped(rt: HostRuntime) -> Result<(), Fail> {
     Ok(())
 }
 
-/// Sends a packet from each of these places by four ports, the sockets of one realm: what went out of
-/// each.
+/// Sends a packet from each of these places by four ports, the sockets of one realm: what went out
+/// of each.
 fn send_by_place(alloc: Global, places: &[Place]) -> Result<[u8; 4], NoMemory> {
     let (mut outlet, mut intake) = ring(alloc)?;
     for (octet, place) in (1..).zip(places) {

@@ -14,8 +14,8 @@ pub enum Answer {
     Datagram,
 }
 
-/// A port that plays answers: receives give them in turn, and then faults. The sends of the places in
-/// `failing`, counted from 0, fail.
+/// A port that plays answers: receives give them in turn, and then faults. The sends of the places
+/// in `failing`, counted from 0, fail.
 #[derive(Drop)]
 pub struct Tape<'a> {
     pub alloc: Global,

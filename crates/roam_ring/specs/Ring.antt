@@ -1,5 +1,5 @@
--- The ring from a worker to its sender (ours): what was put into it, what was taken from it and what
--- lies in it, each the oldest first.
+-- The ring from a worker to its sender (ours): what was put into it, what was taken from it and
+-- what lies in it, each the oldest first.
 use Rattle.std.specs.Prelude.{◌≡◌, ◌≤◌, ℕ, List, ◌++◌}
 use mathlib.Core.List.{IsPrefix}
 use Rattle.rtrb.specs.Ring.{sent, known_free, received, known_items, IsPair, SameProducer, SameConsumer}

@@ -1,7 +1,12 @@
 use Rattle.std.proofs.Common.{refl}
 use Rattle.roam_conf.specs.Shown.{shown}
-use Rattle.roam_shard.proofs.OpeningLemmas.{one_more_opened}
+use Rattle.roam_shard.proofs.OpeningLemmas.{none_opened, one_more_opened}
 use Rattle.roam_shard.proofs.numbers.opened_numbers.Goals as goal
+
+pub loop-realm-init : goal.loop-realm-init
+loop-realm-init g c =
+    rw c.in_ok-numbers.ensures.items
+    (none_opened (shown c.args.config.now) c.args.shard c.args.starts.now)
 
 pub loop-realm-preserved : goal.loop-realm-preserved
 loop-realm-preserved g c =

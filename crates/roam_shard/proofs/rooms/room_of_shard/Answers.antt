@@ -1,4 +1,6 @@
 use Rattle.std.proofs.Common.{◌<◌, length, subst, arith}
+use Rattle.std.proofs.lemmas.List.{length-map}
+use Rattle.roam_conf.specs.Parts.{shown_realm}
 use Rattle.roam_tables.specs.Stands.{entries_in}
 use Rattle.roam_tables.proofs.RealmLemmas.{get-read}
 use Rattle.roam_core.specs.ShardRooms.{IsRealmRoom}
@@ -6,6 +8,13 @@ use Rattle.roam_shard.specs.ShardView.{shown_opening, states_in}
 use Rattle.roam_shard.proofs.RoomLemmas.{all-gathered, one-more-gathered, room_seen}
 use Rattle.roam_shard.proofs.ShardLemmas.{length-states}
 use Rattle.roam_shard.proofs.rooms.room_of_shard.Goals as goal
+
+pub overflow_cast-realm : goal.overflow_cast-realm
+overflow_cast-realm g c =
+    let config = c.args.opening.now.config.now in
+    let realms = length-map config.realms.items shown_realm in
+    omega (arith, realms, config.realms.ok.0, config.realm_count, c.requires.count,
+    c.loop-realm-test.true)
 
 pub loop-realm-preserved : goal.loop-realm-preserved
 loop-realm-preserved g c =

@@ -1,5 +1,7 @@
 -- All rooms first, then the tick in them.
-use Rattle.std.proofs.Common.{◌≡◌, ◌<◌, ◌≤◌, ◌^◌, [], true, false, ap, sym, subst, ◌∙◌, arith}
+use Rattle.std.proofs.Common.{◌≡◌, ◌<◌, ◌≤◌, ◌^◌, [], true, false, ap, sym, subst, ◌∙◌, arith, length}
+use Rattle.std.proofs.lemmas.List.{length-map}
+use Rattle.roam_conf.specs.Parts.{shown_realm}
 use Rattle.roam_book.specs.Turn.{shown_outs}
 use Rattle.roam_core.specs.ManyRealms.{AllRealms, tick_from}
 use Rattle.roam_core.specs.ShardRooms.{AreRooms}
@@ -55,6 +57,18 @@ returns-then-not-any_due-clause-turn g c =
           c.args.now o.shard there (omega (arith, c.if-now-gt-LATEST.false)) (copies ∙ packets)
           c.into_twin.ensures.copy_refusal states,
     )
+
+pub any_due-requires : goal.any_due-requires
+any_due-requires g c =
+    let i = c.self.inside in
+    let config = i.opening.config.now in
+    let realms = length-map config.realms.items shown_realm in
+    let same = ap (λ ns. length ns) c.deref.ensures.value in
+    omega (arith, realms, same, config.realms.ok.0, config.realm_count, c.self.invariant.count)
+
+pub returns-in_err-room-clause-too_late : goal.returns-in_err-room-clause-too_late
+returns-in_err-room-clause-too_late g c = λ late.
+    absurd (omega (arith, c.if-now-gt-LATEST.false, late))
 
 -- memory is wanted only where something is due
 pub returns-in_err-room-clause-nothing_due : goal.returns-in_err-room-clause-nothing_due

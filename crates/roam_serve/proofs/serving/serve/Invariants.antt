@@ -1,0 +1,13 @@
+use Rattle.roam_conf.specs.Shown.{shown}
+use Rattle.roam_shard.specs.ShardView.{AreStarts}
+use Rattle.roam_serve.proofs.serving.serve.Given as goal
+
+-- where the next epoch begins
+abbrev pub invariant-loop : goal.invariant-loop
+invariant-loop g l = AreStarts (shown l.config) l.starts.items
+
+-- how its hub opens
+abbrev pub ghosts-epoch : goal.ghosts-epoch
+ghosts-epoch g a = record {
+  opening = record { config = shown a.config.now; starts = a.starts.now };
+}

@@ -1,0 +1,80 @@
+//! One epoch: the threads start, and end.
+
+use crate::crew::{Crew, Sender};
+use crate::ending::WorkerEnd;
+use crate::fault::ServeFault;
+use crate::sender::send_all;
+use crate::shared::Shared;
+use crate::teller::tell_all;
+use crate::timer::tick_on;
+use crate::worker::hear_on;
+use log::Log;
+use roam_hub::{Gate, Opened};
+use std::alloc::Global;
+use std::sync::Wait;
+use std::thread;
+use std::thread::{JoinHandle, Threads};
+use std::time::Clock;
+
+/// Runs the threads of an epoch until they have ended, and gives back what the workers do.
+///
+/// # Errors
+///
+/// `Memory`, where a thread can't be started; the others are ended.
+pub fn run_epoch<
+    's,
+    R: Threads + Wait + Clock + Log + Sync,
+    G: Gate + Sync,
+    N: Opened + Send + Sync,
+>(
+    rt: &R,
+    alloc: Global,
+    shared: &Shared<'_, '_, G, N>,
+    crew: Crew<'s, '_, G, N>,
+) -> Result<Vec<WorkerEnd>, ServeFault> {
+    let Crew {
+        workers,
+        timer,
+        senders,
+        queues,
+    } = crew;
+    let count = workers.len().saturating_add(1);
+    let mut handles: Vec<JoinHandle<WorkerEnd>> = Vec::with_capacity(alloc, count)?;
+    let mut ends = Vec::with_capacity(alloc, count)?;
+    let have_started = thread::scope(thread::scope_env(), rt, |scope| {
+        let mut have_started = scope
+            .spawn(move || tell_all(rt, shared.teller, queues))
+            .is_ok();
+        for (Sender { intake, ports }, wake) in senders.into_iter().zip(shared.senders) {
+            let is_started = scope
+                .spawn(move || send_all(rt, wake, intake, ports))
+                .is_ok();
+            have_started = have_started && is_started;
+        }
+        for worker in workers {
+            match scope.spawn(move || hear_on(rt, alloc, worker)) {
+                Ok(handle) => have_started = handles.push(handle).is_ok() && have_started,
+                Err(_) => have_started = false,
+            }
+        }
+        match scope.spawn(move || tick_on(rt, timer)) {
+            Ok(handle) => have_started = handles.push(handle).is_ok() && have_started,
+            Err(_) => have_started = false,
+        }
+        if !have_started {
+            shared.end_all();
+        }
+        for handle in handles {
+            have_started = ends.push(handle.join(rt)).is_ok() && have_started;
+        }
+        for worker in 0..shared.senders.len() {
+            shared.wake_for_the_end(worker);
+        }
+        have_started
+    });
+    if have_started {
+        Ok(ends)
+    } else {
+        Err(ServeFault::Memory)
+    }
+}
