@@ -13,8 +13,14 @@ pub overflow_cast-realm : goal.overflow_cast-realm
 overflow_cast-realm g c =
     let config = c.args.opening.now.config.now in
     let realms = length-map config.realms.items shown_realm in
-    omega (arith, realms, config.realms.ok.0, config.realm_count, c.requires.count,
-    c.loop-realm-test.true)
+    omega (
+      arith,
+      realms,
+      config.realms.ok.0,
+      config.realm_count,
+      c.requires.count,
+      c.loop-realm-test.true,
+    )
 
 pub loop-realm-preserved : goal.loop-realm-preserved
 loop-realm-preserved g c =
