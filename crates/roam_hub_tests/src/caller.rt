@@ -31,11 +31,11 @@ pub(crate) const REQUEST_8: &str =
 pub(crate) const OTHER_REQUEST_7: &str =
     "010700210f403f9473978057bd83d5cb98f4227a010d7540622e6578616d706c65";
 
-/// The first request of `a.example` as it leaves: the first four random words, Identifier 0 and ticket 0.
+/// The first request of `a.example` as it leaves: four random words, Identifier 0 and ticket 0.
 pub(crate) const FIRST: &str =
     "0100003d76b8e0ada0f13d90405d6ae55386bd285012bc7a9b1a72ede7d31f1894193a8f42ea010d7540612e6578616d706c65210a0000000000000000";
 
-/// The first request of a hub whose realm begins at its fifth word and ticket 1, by the RFCs' formulas.
+/// The first request where the realm begins at its fifth word and ticket 1, by the RFCs' formulas.
 pub(crate) const SECOND: &str =
     "0100003dbdd219b8a08ded1aa836efcc8b770dc75012d76243b0bbef90545763790f19afd8a5010d7540612e6578616d706c65210a0000000000000001";
 

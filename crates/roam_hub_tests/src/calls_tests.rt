@@ -59,7 +59,7 @@ fn after_two_calls<R: Abort + Wait>(rt: &R, alloc: Global) -> Ended {
     called_twice::<Brand, _>(rt, alloc, &config, &starts)
 }
 
-/// The numbers of the receipts, how many packets are sent with each, and where the realm would go on.
+/// The numbers of the receipts, how many packets go with each, and where the realm would go on.
 type Numbers = ([u64; 2], [usize; 2], Option<Start>);
 
 /// What a hub's end shows, and whether the first packet is as it should be.
@@ -92,8 +92,8 @@ fn found(
     report.audit(seats, receipts).err()
 }
 
-/// What audits of a hub find: with both seats and no receipts, with its receipts, and with those of a
-/// fresh hub that was called alike; then with one seat; last with the receipts of both hubs.
+/// What audits of a hub find: with both seats and no receipts, with its receipts, and with those of
+/// a fresh hub that was called alike; then with one seat; last with the receipts of both hubs.
 fn audits<R: Abort + Wait>(rt: &R, alloc: Global) -> [Option<AuditFault>; 5] {
     let Ended {
         receipts: [first, second],

@@ -61,7 +61,7 @@ acct = \"198.51.100.1:1813\"
 secret = \"h1\"
 ";
 
-/// One realm of one server, and what is added, in this many shards of which each records so many steps.
+/// One realm of one server, and what is added, in this many shards with this limit of steps each.
 pub(crate) fn config_of(
     rt: &impl Abort,
     alloc: Global,

@@ -61,7 +61,8 @@ fn submitted<'r, N: Opened, R: Wait>(
     None
 }
 
-/// A tick that sends again, while growths are refused: its receipt at last, where each refusal was told.
+/// A tick that sends again, while growths are refused: its receipt at last, where each refusal was
+/// told.
 fn ticked<'r, N: Opened, R: Wait>(
     rt: &R,
     over: Over<'r>,
