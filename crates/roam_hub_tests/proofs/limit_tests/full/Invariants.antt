@@ -1,0 +1,10 @@
+use Rattle.roam_conf.specs.Shown.{shown}
+use Rattle.roam_hub_tests.proofs.limit_tests.full.Given as goal
+
+-- the hub that is opened first
+abbrev pub ghosts-called_twice : goal.ghosts-called_twice
+ghosts-called_twice g a = record { opening = record { config = shown a.config.now; starts = a.starts.now } }
+
+-- the hub that goes on from its end
+abbrev pub ghosts-goes_on : goal.ghosts-goes_on
+ghosts-goes_on g a = record { opening = record { config = shown a.config.now; starts = a.starts.now } }

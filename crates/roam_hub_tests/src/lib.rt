@@ -1,0 +1,16 @@
+//! Hubs by example: their calls, their end and its audit, and the growths of their calls refused in
+//! turn.
+#![tactic(auto)]
+
+#[cfg(test)]
+mod caller;
+#[cfg(test)]
+mod calls_tests;
+#[cfg(test)]
+mod configuration;
+#[cfg(test)]
+mod growth_tests;
+#[cfg(test)]
+mod limit_tests;
+#[cfg(test)]
+mod tick_tests;
