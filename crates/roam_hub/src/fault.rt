@@ -4,7 +4,8 @@ use roam_trace::TraceFault;
 use roam_wire::NoMemory;
 use std::{error, fmt};
 
-/// Why a call of a hub isn't recorded: nothing changes then. They are looked at in this order.
+/// Why a call of a hub isn't recorded: nothing changes then. They are looked at in this order, but for
+/// `NoMemory`, which comes wherever a growth was refused.
 #[derive(Clone, Copy, Debug, PartialEq, Eq)]
 pub enum HubFault {
     /// A tick names no shard (refusal 20).

@@ -162,7 +162,7 @@ impl<'c, A: Allocator + Copy, N: Opened> Hub<'c, A, N> {
     ///
     /// # Errors
     ///
-    /// `NoShard` just where there is no such shard; else as `submit`.
+    /// `NoShard` where there is no such shard; else as `submit`.
     pub fn tick<R: Wait, G: Gate>(
         &self,
         rt: &R,
