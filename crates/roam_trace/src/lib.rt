@@ -3,8 +3,10 @@
 //! Nothing here touches a socket, a clock or a lock: events, moments and packets are values.
 #![tactic(auto)]
 
+mod came;
 mod fault;
 mod same;
+mod sent;
 mod step;
 mod traced;
 

@@ -1,22 +1,13 @@
-//! When two events, or two answers, are the same.
+//! When two answers are the same.
 
 ghost use Rattle.std.specs.Prelude.{◌≡◌, ◌↔◌, IsTrue};
-ghost use Rattle.roam_route.specs.Shown.{shown_arrival, shown_out};
-ghost use Rattle.roam_core.specs.Shown.{shown_event};
+ghost use Rattle.roam_route.specs.Shown.{shown_out};
 ghost use Rattle.roam_book.specs.Turn.{shown_outs};
 ghost use Rattle.roam_trace.specs.Steps.{shown_answer};
 
 use roam_book::Answer;
-use roam_core::Event;
-use roam_route::{Datagram, Out};
+use roam_route::Out;
 use std::alloc::Allocator;
-
-/// Whether two datagrams are the same: place, source and octets.
-fn is_same_datagram<A: Allocator>(a: &Datagram<A>, b: &Datagram<A>) -> bool
-    ensures { IsTrue result ↔ (shown_arrival a.now ≡ shown_arrival b.now) }
-{
-    a.at == b.at && a.from == b.from && a.octets.as_slice() == b.octets.as_slice()
-}
 
 /// Whether two packets are the same: realm, place, destination and octets.
 fn is_same_out<A: Allocator>(a: &Out<A>, b: &Out<A>) -> bool
@@ -41,29 +32,6 @@ fn are_same_outs<A: Allocator>(a: &[Out<A>], b: &[Out<A>]) -> bool
         }
     }
     true
-}
-
-/// Whether two events are the same.
-pub(crate) fn is_same_event<A: Allocator>(a: &Event<A>, b: &Event<A>) -> bool
-    ensures { IsTrue result ↔ (shown_event a.now ≡ shown_event b.now) }
-{
-    match (a, b) {
-        (
-            Event::Arrive { now, datagram },
-            Event::Arrive {
-                now: other,
-                datagram: also,
-            },
-        ) => now == other && is_same_datagram(datagram, also),
-        (
-            Event::Tick { now, shard },
-            Event::Tick {
-                now: other,
-                shard: also,
-            },
-        ) => now == other && shard == also,
-        _ => false,
-    }
 }
 
 /// Whether two answers are the same: packets and refusal.

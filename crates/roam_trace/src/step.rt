@@ -4,26 +4,33 @@ ghost use Rattle.std.specs.Prelude.{◌≡◌, ◌↔◌, IsTrue};
 ghost use Rattle.roam_core.specs.Shown.{shown_event};
 ghost use Rattle.roam_trace.specs.Steps.{shown_answer};
 
-use crate::same::{is_same_answer, is_same_event};
+use crate::came::Came;
+use crate::sent::Sent;
 use roam_book::Answer;
 use roam_core::Event;
-use std::alloc::Allocator;
+use std::alloc::{Allocator, Global};
 use std::marker::Model;
+use std::mem::size_of;
 
 /// A step of a history: what happened, and what it was answered with. Contracts see it as values.
+///
+/// Over `Global` it takes 88 octets, with one packet or with none, beside the octets of the datagram
+/// and of the packet, which lie in a block each. Further packets take 40 octets each, in a list.
 #[derive(Drop)]
 pub struct Step<A: Allocator> {
-    event: Event<A>,
-    answer: Answer<A>,
+    came: Came<A>,
+    sent: Sent<A>,
 }
 
+const _: () = prove!(size_of::<Step<Global>>() == 88);
+
 impl<A: Allocator> Model for Step<A> {
-    ghost use Rattle.roam_core.specs.Shown.{shown_event};
-    ghost use Rattle.roam_trace.specs.Steps.{PlainStep, shown_answer};
+    ghost use Rattle.roam_trace.specs.Steps.{PlainStep};
+    ghost use Rattle.roam_trace.specs.Stored.{shown_came, shown_sent};
 
     ghost Value = { PlainStep };
 
-    ghost view = { λ s. record { event = shown_event s.event; answer = shown_answer s.answer } };
+    ghost view = { λ s. record { event = shown_came s.came; answer = shown_sent s.sent } };
 }
 
 impl<A: Allocator> Step<A> {
@@ -32,7 +39,10 @@ impl<A: Allocator> Step<A> {
         ensures event { result.event ≡ shown_event event }
         ensures answer { result.answer ≡ shown_answer answer }
     {
-        Step { event, answer }
+        Step {
+            came: Came::new(event),
+            sent: Sent::new(answer),
+        }
     }
 
     /// Whether it is the step of this event and this answer. Takes no memory.
@@ -40,6 +50,6 @@ impl<A: Allocator> Step<A> {
         ensures { IsTrue result ↔ (self.now
             ≡ record { event = shown_event event.now; answer = shown_answer answer.now }) }
     {
-        is_same_event(&self.event, event) && is_same_answer(&self.answer, answer)
+        self.came.is(event) && self.sent.is(answer)
     }
 }

@@ -1,6 +1,6 @@
 //! A shard with its stored history.
 
-ghost use Rattle.std.specs.Prelude.{◌≡◌, ◌↔◌, ◌<◌, ◌≤◌, ◌^◌, [], true, length, vec_len, IfOk, IsErrOf, IsOk, OnErr};
+ghost use Rattle.std.specs.Prelude.{◌≡◌, ◌↔◌, ◌+◌, ◌<◌, ◌≤◌, ◌/◌, ◌^◌, [], true, length, max, min, vec_capacity, vec_len, IfOk, IsErrOf, IsOk, OnErr, OnOk};
 ghost use Rattle.roam_conf.specs.Shown.{shown};
 ghost use Rattle.roam_route.specs.Events.{IsEvent, arrival_of};
 ghost use Rattle.roam_route.specs.Shown.{shown_job};
@@ -55,6 +55,26 @@ pub fn job_event<A: Allocator>(alloc: A, now: u64, job: &Job<A>) -> Result<Event
         octets,
     };
     Ok(Event::Arrive { now, datagram })
+}
+
+/// Makes room for one step more, where fewer than the limit are stored. A full list grows by an eighth of
+/// its steps and by eight, but not past the limit: so what stands unused is at most that, where a list
+/// that doubles could have as much again as its steps take.
+fn reserve_one<A: Allocator>(steps: &mut Vec<Step<A>, A>, limit: usize) -> Result<(), NoMemory>
+    requires { vec_len steps.old < limit }
+    ensures items { steps.new.items ≡ steps.old.items }
+    ensures room { OnOk result (vec_len steps.new < vec_capacity steps.new) }
+    ensures unused { vec_capacity steps.new
+        ≤ max (vec_capacity steps.old) (min limit (vec_len steps.old + vec_len steps.old / 8 + 8)) }
+    ensures succeeds { vec_len steps.old < vec_capacity steps.old → IsOk result }
+{
+    let len = steps.len();
+    if len < steps.capacity() {
+        return Ok(());
+    }
+    let more = (len / 8 + 8).min(limit - len);
+    steps.reserve_exact(more)?;
+    Ok(())
 }
 
 impl<'c, A: Allocator + Copy> Traced<'c, A> {
@@ -139,7 +159,7 @@ impl<'c, A: Allocator + Copy> Traced<'c, A> {
         if self.is_full() {
             return Err(TraceFault::TraceFull);
         }
-        self.steps.reserve(1).map_err(|_| NoMemory)?;
+        reserve_one(&mut self.steps, self.limit)?;
         let twin = self.shard.step(now, job)?;
         self.steps.push_reserved(Step::new(event, twin.copy));
         Ok(twin.answer)
@@ -161,12 +181,12 @@ impl<'c, A: Allocator + Copy> Traced<'c, A> {
         if self.is_full() {
             return Err(TraceFault::TraceFull);
         }
-        self.steps.reserve(1).map_err(|_| NoMemory)?;
+        reserve_one(&mut self.steps, self.limit)?;
         let shard = self.shard.opening().shard;
-        let twin = self.shard.tick(now)?;
+        let both = self.shard.tick(now)?;
         self.steps
-            .push_reserved(Step::new(Event::Tick { now, shard }, twin.copy));
-        Ok(twin.answer)
+            .push_reserved(Step::new(Event::Tick { now, shard }, both.copy));
+        Ok(both.answer)
     }
 
     /// The shard, and the steps that it took. Takes no memory.

@@ -18,7 +18,7 @@ invariant_of-self-2 g c =
     let own : is_in_shard o.config o.shard job.realm ≡ true = ap (λ (v : TraceView). is_in_shard v.opening.config v.opening.shard job.realm) c.self.view_is ∙ c.requires.own in
     let s : c.new.result ≡ record { event = arrives c.args.now (arrival_of job); answer = shown_answer twin.copy } =
     (let happened = c.new.ensures.event ∙ c.requires.same in λ j. record { event = happened j; answer = c.new.ensures.answer j }) in
-    let items = c.push_reserved.ensures.items ∙ ap (λ (l : List PlainStep). l ++ c.new.result ∷ []) c.reserve.ensures.items in
+    let items = c.push_reserved.ensures.items ∙ ap (λ (l : List PlainStep). l ++ c.new.result ∷ []) c.reserve_one.ensures.items in
     let room : length i.steps.items ≡ i.limit → ⊥ = λ full. (
     let is = c.is_full.ensures.1 (subst (λ (v : TraceView). length v.steps ≡ v.limit) c.self.view_is full) in
     absurd (let bad : false ≡ true = sym c.if-is_full.false ∙ is in cc)) in
