@@ -1,3 +1,4 @@
 pub mod HubOpening
 pub mod InHistories
 pub mod Closing
+pub mod Faults

@@ -43,6 +43,11 @@ impl From<NoMemory> for HubFault {
 }
 
 impl From<TraceFault> for HubFault {
+    ghost use Rattle.std.specs.Prelude.{◌≡◌};
+    ghost use Rattle.roam_hub.specs.Faults.{of_trace};
+
+    ghost from_gives = { λ fault given. given ≡ of_trace fault };
+
     fn from(fault: TraceFault) -> HubFault {
         match fault {
             TraceFault::TraceFull => HubFault::TraceFull,

@@ -1,6 +1,6 @@
 //! A lock for each shard.
 
-ghost use Rattle.std.specs.Prelude.{◌≡◌, ◌<◌, ◌≤◌, ◌-◌, ◌%◌, ◌^◌, ◌↔◌, true, length, vec_len, IfOk, IsErrOf, OnErr};
+ghost use Rattle.std.specs.Prelude.{◌≡◌, ◌≢◌, ◌<◌, ◌≤◌, ◌-◌, ◌%◌, ◌^◌, ◌↔◌, true, length, vec_len, IfOk, IfErr, IsErrOf, OnErr};
 ghost use Rattle.roam_conf.specs.Shown.{shown};
 ghost use Rattle.roam_route.specs.Events.{IsEvent, arrival_of};
 ghost use Rattle.roam_route.specs.Shown.{shown_job};
@@ -54,6 +54,7 @@ fn record_in<A: Allocator + Copy, N: Opened, R: Wait, G: Gate>(
     ensures recorded { IfOk result (λ r. IsRecorded (opening_at N.opening shard) r.0
         (record { event = arrives now (arrival_of (shown_job job.now)); answer = shown_answer r.1 })) }
     ensures number { IfOk result (λ r. r.0 < 2 ^ 64 - 1) }
+    ensures no_shard { IfErr result (λ f. f ≢ HubFault.NoShard) }
 {
     let mut kept = lock.lock(rt);
     gate.inside(shard);
@@ -71,6 +72,7 @@ fn tick_in<A: Allocator + Copy, N: Opened, R: Wait, G: Gate>(
     ensures recorded { IfOk result (λ r. IsRecorded (opening_at N.opening shard) r.0
         (record { event = ticks now shard; answer = shown_answer r.1 })) }
     ensures number { IfOk result (λ r. r.0 < 2 ^ 64 - 1) }
+    ensures no_shard { IfErr result (λ f. f ≢ HubFault.NoShard) }
 {
     let mut kept = lock.lock(rt);
     gate.inside(shard);
@@ -142,6 +144,7 @@ impl<'c, A: Allocator + Copy, N: Opened> Hub<'c, A, N> {
             IsRecorded (opening_at N.opening r.shard) r.number (shown_step r)) }
         ensures seat { IfOk result (λ r. seat.new ≡ noted seat.old r.shard r.number) }
         ensures err { OnErr result (seat.new ≡ seat.old) }
+        ensures no_shard { IfErr result (λ f. f ≢ HubFault.NoShard) }
         ensures size { length seat.new ≡ length seat.old }
     {
         let shard = self.config.shard_of(job.realm);
@@ -162,7 +165,7 @@ impl<'c, A: Allocator + Copy, N: Opened> Hub<'c, A, N> {
     ///
     /// # Errors
     ///
-    /// `NoShard` where there is no such shard; else as `submit`.
+    /// `NoShard` just where there is no such shard; else as `submit`.
     pub fn tick<R: Wait, G: Gate>(
         &self,
         rt: &R,
@@ -178,7 +181,7 @@ impl<'c, A: Allocator + Copy, N: Opened> Hub<'c, A, N> {
             IsRecorded (opening_at N.opening shard) r.number (shown_step r)) }
         ensures seat { IfOk result (λ r. seat.new ≡ noted seat.old shard r.number) }
         ensures err { OnErr result (seat.new ≡ seat.old) }
-        ensures no_shard { N.opening.config.shards ≤ shard → IsErrOf result HubFault.NoShard }
+        ensures no_shard { IsErrOf result HubFault.NoShard ↔ N.opening.config.shards ≤ shard }
         ensures size { length seat.new ≡ length seat.old }
     {
         if usize::from(shard) >= self.locks.len() {
