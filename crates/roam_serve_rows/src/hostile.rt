@@ -1,6 +1,6 @@
 //! Datagrams that are refused, and standard error on which that is told.
 
-use crate::ends::{Ends, local};
+use crate::ends::{Ends, Unread, local};
 use crate::exchange::{SENDS, Verdict, complete};
 use crate::packets::ACCESS;
 use crate::stage::Stage;
@@ -48,18 +48,6 @@ fn refusal<R: Clock>(stage: &Stage<'_, R>, ends: &Ends, to: u16, octets: &[u8]) 
     }
 }
 
-/// An Access exchange after datagrams that are refused: they take no ticket, no Identifier and no random words.
-pub(crate) fn hostile<R: Clock>(stage: &Stage<'_, R>, ends: &Ends) -> Verdict {
-    begin(stage, ends)?;
-    for (to, octet, size, number) in HOSTILE {
-        let octets = [octet; LARGEST];
-        if size > LARGEST || refusal(stage, ends, to, &octets[..size]) != number {
-            return Err("a datagram isn't refused as it should be");
-        }
-    }
-    complete(ends, local(11812), &ends.home, &ACCESS)
-}
-
 /// Waits until the server hears: until a datagram of no octets is told to be refused.
 fn begin<R: Clock>(stage: &Stage<'_, R>, ends: &Ends) -> Verdict {
     for _ in 0..SENDS {
@@ -74,9 +62,24 @@ fn begin<R: Clock>(stage: &Stage<'_, R>, ends: &Ends) -> Verdict {
     Err("the server doesn't begin")
 }
 
-/// Fifty datagrams that are refused, and an exchange: the server doesn't wait for those who read what it tells.
+/// An Access exchange after datagrams that are refused: they take no ticket, no Identifier and no random words.
+pub(crate) fn hostile<R: Clock>(stage: &Stage<'_, R>, ends: &Ends) -> Verdict {
+    begin(stage, ends)?;
+    for (to, octet, size, number) in HOSTILE {
+        let octets = [octet; LARGEST];
+        if size > LARGEST || refusal(stage, ends, to, &octets[..size]) != number {
+            return Err("a datagram isn't refused as it should be");
+        }
+    }
+    complete(ends, local(11812), &ends.home, &ACCESS)
+}
+
+/// How many datagrams a burst has.
+const BURST: u64 = 50;
+
+/// Datagrams that are refused, and then an exchange: the server doesn't wait for those who read what it tells.
 fn burst(ends: &Ends) -> Verdict {
-    for _ in 0..50 {
+    for _ in 0..BURST {
         if ends.client.send_to(&[0], local(11812)).is_err() {
             return Err("the client can't send");
         }
@@ -84,24 +87,42 @@ fn burst(ends: &Ends) -> Verdict {
     complete(ends, local(11812), &ends.home, &ACCESS)
 }
 
-/// A thousand refusals while nobody reads standard error: those for which it has no room are dropped, and counted once
-/// it has room again.
+/// So many bursts.
+fn bursts(ends: &Ends, count: u64) -> Verdict {
+    for _ in 0..count {
+        burst(ends)?;
+    }
+    Ok(())
+}
+
+/// Reads standard error and sends single datagrams, until as many arrivals were told to be refused or dropped as were
+/// sent: so many before.
+fn is_each_told<R: Clock>(stage: &Stage<'_, R>, ends: &Ends, error: &Unread, sent: u64) -> bool {
+    for more in 1..=50 {
+        error.empty();
+        if ends.client.send_to(&[0], local(11812)).is_err() {
+            return false;
+        }
+        thread::sleep(stage, Duration::from_millis(100));
+        if stage.told() == sent.saturating_add(more) {
+            return true;
+        }
+    }
+    false
+}
+
+/// Refusals while nobody reads standard error. First the teller of notices stalls, until its queues are full; then it
+/// goes on, and there is no room on standard error. Notices are dropped at both places, and all are counted in the end.
 pub(crate) fn unread<R: Clock>(stage: &Stage<'_, R>, ends: &Ends) -> Verdict {
     let Some(error) = &ends.error else {
         return Err("standard error is as it was");
     };
     complete(ends, local(11812), &ends.home, &ACCESS)?;
-    for _ in 0..20 {
-        burst(ends)?;
-    }
-    if stage.refused.load(Ordering::SeqCst) >= 1000 {
-        return Err("standard error has room for all");
-    }
-    error.empty();
-    if ends.client.send_to(&[0], local(11812)).is_ok()
-        && is_told(stage, 1001)
-        && stage.told() == 1001
-    {
+    stage.stall(true);
+    bursts(ends, 30)?;
+    stage.stall(false);
+    bursts(ends, 10)?;
+    if is_each_told(stage, ends, error, 40 * BURST) && stage.refused.load(Ordering::SeqCst) < 1000 {
         Ok(())
     } else {
         Err("the dropped notices aren't counted")

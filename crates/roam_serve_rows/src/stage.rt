@@ -14,7 +14,7 @@ use std::thread::Threads;
 use std::time::{Clock, Duration};
 use std::{fmt, io};
 
-/// How long the gate holds a call at most, in milliseconds.
+/// How long a call or a notice is held at most, in milliseconds.
 const LONGEST_HOLD: u64 = 30_000;
 
 /// Further ahead than any server's time, in milliseconds.
@@ -34,6 +34,8 @@ pub(crate) struct Stage<'t, R> {
     ahead: AtomicU64,
     /// Whether the gate holds the calls of shard 0.
     is_shut: AtomicBool,
+    /// Whether what is told waits.
+    stalls: AtomicBool,
     /// How many arrivals were told to be refused.
     pub(crate) refused: AtomicU64,
     /// The number of the last refusal that was told.
@@ -54,6 +56,7 @@ impl<'t, R> Stage<'t, R> {
             is_broken: AtomicBool::new(false),
             ahead: AtomicU64::new(0),
             is_shut: AtomicBool::new(row == Row::Held),
+            stalls: AtomicBool::new(false),
             refused: AtomicU64::new(0),
             refusal: AtomicU64::new(0),
             dropped: AtomicU64::new(0),
@@ -71,9 +74,15 @@ impl<'t, R> Stage<'t, R> {
         self.is_shut.store(false, Ordering::SeqCst);
     }
 
-    /// Ends the server's time: the gate is open, and the clock is far ahead.
+    /// Whether what is told from now on waits.
+    pub(crate) fn stall(&self, stalls: bool) {
+        self.stalls.store(stalls, Ordering::SeqCst);
+    }
+
+    /// Ends the server's time: the gate is open, nothing that is told waits, and the clock is far ahead.
     pub(crate) fn end(&self) {
         self.open();
+        self.stall(false);
         self.is_broken.store(false, Ordering::SeqCst);
         self.put_forward(FAR);
     }
@@ -106,16 +115,22 @@ impl<'t, R> Stage<'t, R> {
     }
 }
 
-impl<R: Clock> Gate for Stage<'_, R> {
-    fn inside(&self, shard: u16) {
-        if shard != 0 {
-            return;
-        }
+impl<R: Clock> Stage<'_, R> {
+    /// Waits while a flag is set, for a bounded time.
+    fn wait_while(&self, flag: &AtomicBool) {
         for _ in 0..LONGEST_HOLD {
-            if !self.is_shut.load(Ordering::SeqCst) {
+            if !flag.load(Ordering::SeqCst) {
                 return;
             }
             self.rt.sleep(Duration::from_millis(1));
+        }
+    }
+}
+
+impl<R: Clock> Gate for Stage<'_, R> {
+    fn inside(&self, shard: u16) {
+        if shard == 0 {
+            self.wait_while(&self.is_shut);
         }
     }
 }
@@ -189,12 +204,13 @@ impl Write for Line {
     }
 }
 
-impl<R: Log> Log for Stage<'_, R> {
+impl<R: Log + Clock> Log for Stage<'_, R> {
     fn enabled(&self, metadata: &Metadata<'_>) -> bool {
         self.rt.enabled(metadata)
     }
 
     fn log<D: Display, K: Source, S: Spans>(&self, record: &Record<'_, D, K, S>) {
+        self.wait_while(&self.stalls);
         let mut line = Line {
             octets: [0; 64],
             size: 0,
