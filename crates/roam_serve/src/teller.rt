@@ -36,6 +36,7 @@ fn empty<R: Wait + Log>(rt: &R, queue: &mut Consumer<Notice>) -> u64 {
     for _ in rt.forever() {
         match queue.pop() {
             Ok(notice) if tell_or_drop(rt, notice) => {}
+            Ok(Notice::Dropped(count)) => dropped = dropped.saturating_add(count),
             Ok(_) => dropped = dropped.saturating_add(1),
             Err(_) => return dropped,
         }
