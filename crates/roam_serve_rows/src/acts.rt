@@ -1,7 +1,7 @@
 //! What happens while a server runs.
 
 use crate::ends::{Arrival, Ends, hear, local};
-use crate::exchange::{SENDS, Verdict, complete};
+use crate::exchange::{SENDS, Verdict, complete, repeat};
 use crate::packets::{ACCESS, ACCOUNTING, FAILED_OVER, OTHER_FORWARDED, OTHER_START, SECOND_START};
 use crate::stage::Stage;
 use log::Log;
@@ -121,7 +121,7 @@ pub(crate) fn clock<R>(stage: &Stage<'_, R>, ends: &Ends) -> Verdict {
     let sent = send_until_heard(ends, ACCOUNTING.request)?;
     stage.is_broken.store(true, Ordering::SeqCst);
     stage.put_forward(1000);
-    complete(ends, local(11812), &ends.home, &ACCESS)?;
+    repeat(ends, local(11812), &ACCESS)?;
     for _ in 0..3 {
         if hear(&ends.acct_home).is_some() {
             return Err("time goes on without a clock");

@@ -17,13 +17,25 @@ fn request(letter: u8, identifier: u8) -> [u8; 33] {
     octets
 }
 
-/// Sends a request until the home server hears something.
-fn forward(ends: &Ends, request: &[u8]) -> Verdict {
+/// How many requests are sent at once.
+const BATCH: u8 = 16;
+
+/// Sends requests from this Identifier on, until the home server has heard as many packets.
+fn forward(ends: &Ends, letter: u8, first: u8) -> Verdict {
+    let mut heard = 0;
     for _ in 0..SENDS {
-        if ends.client.send_to(request, local(11812)).is_err() {
-            return Err("the client can't send");
+        for identifier in (first..=255).take(usize::from(BATCH)) {
+            let request = request(letter, identifier);
+            if ends.client.send_to(&request, local(11812)).is_err() {
+                return Err("the client can't send");
+            }
         }
-        if hear(&ends.home).is_some() {
+        for _ in 0..BATCH {
+            if heard < BATCH && hear(&ends.home).is_some() {
+                heard += 1;
+            }
+        }
+        if heard == BATCH {
             return Ok(());
         }
     }
@@ -34,17 +46,26 @@ fn forward(ends: &Ends, request: &[u8]) -> Verdict {
 /// the ring from the timer has 1,024 places.
 pub(crate) fn crowd<R>(stage: &Stage<'_, R>, ends: &Ends) -> Verdict {
     for letter in b"abcde" {
-        for identifier in 0..=255 {
-            forward(ends, &request(*letter, identifier))?;
+        for batch in 0..16 {
+            forward(ends, *letter, batch * BATCH)?;
         }
     }
     stage.put_forward(1000);
+    if hears_again(ends) {
+        Ok(())
+    } else {
+        Err("no tick sends anything")
+    }
+}
+
+/// Whether the home server hears something more.
+fn hears_again(ends: &Ends) -> bool {
     for _ in 0..SENDS {
         if hear(&ends.home).is_some() {
-            return Ok(());
+            return true;
         }
     }
-    Err("no tick sends anything")
+    false
 }
 
 /// The packets that found the ring full were told when the epoch ended, and are no more than those above its places.

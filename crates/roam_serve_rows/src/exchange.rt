@@ -24,6 +24,16 @@ fn answer(home: &UdpSocket, exchange: &Exchange) -> Verdict {
     }
 }
 
+/// Whether what the client hears is the returned packet; nothing where it hears nothing.
+fn is_returned(ends: &Ends, to: SocketAddr, exchange: &Exchange) -> Option<Verdict> {
+    let arrival = hear(&ends.client)?;
+    if arrival.from == to && arrival.octets() == exchange.returned {
+        Some(Ok(()))
+    } else {
+        Some(Err("the client hears other octets"))
+    }
+}
+
 /// Sends the request until the reply is returned.
 pub(crate) fn complete(
     ends: &Ends,
@@ -36,13 +46,22 @@ pub(crate) fn complete(
             return Err("the client can't send");
         }
         answer(home, exchange)?;
-        if let Some(arrival) = hear(&ends.client) {
-            return if arrival.from == to && arrival.octets() == exchange.returned {
-                Ok(())
-            } else {
-                Err("the client hears other octets")
-            };
+        if let Some(verdict) = is_returned(ends, to, exchange) {
+            return verdict;
         }
     }
     Err("the exchange isn't completed")
+}
+
+/// Sends a request that was answered again, until the reply that is held is returned.
+pub(crate) fn repeat(ends: &Ends, to: SocketAddr, exchange: &Exchange) -> Verdict {
+    for _ in 0..SENDS {
+        if ends.client.send_to(exchange.request, to).is_err() {
+            return Err("the client can't send");
+        }
+        if let Some(verdict) = is_returned(ends, to, exchange) {
+            return verdict;
+        }
+    }
+    Err("no reply is held")
 }

@@ -1,7 +1,7 @@
 //! Datagrams that are refused, and standard error on which that is told.
 
 use crate::ends::{Ends, Unread, local};
-use crate::exchange::{SENDS, Verdict, complete};
+use crate::exchange::{SENDS, Verdict, complete, repeat};
 use crate::packets::ACCESS;
 use crate::stage::Stage;
 use std::sync::atomic::Ordering;
@@ -77,14 +77,15 @@ pub(crate) fn hostile<R: Clock>(stage: &Stage<'_, R>, ends: &Ends) -> Verdict {
 /// How many datagrams a burst has.
 const BURST: u64 = 50;
 
-/// Datagrams that are refused, and then an exchange: the server doesn't wait for those who read what it tells.
+/// Datagrams that are refused, and then a request that is answered: the server doesn't wait for those who read what it
+/// tells.
 fn burst(ends: &Ends) -> Verdict {
     for _ in 0..BURST {
         if ends.client.send_to(&[0], local(11812)).is_err() {
             return Err("the client can't send");
         }
     }
-    complete(ends, local(11812), &ends.home, &ACCESS)
+    repeat(ends, local(11812), &ACCESS)
 }
 
 /// So many bursts.
