@@ -4,22 +4,9 @@ use crate::ends::{Arrival, Ends, hear, local};
 use crate::exchange::{SENDS, Verdict, complete, repeat};
 use crate::packets::{ACCESS, ACCOUNTING, FAILED_OVER, OTHER_FORWARDED, OTHER_START, SECOND_START};
 use crate::stage::Stage;
-use log::Log;
-use roam_conf::{Config, Endpoint};
-use roam_serve::{ServeFault, serve};
-use std::alloc::Global;
-use std::net::{Net, UdpSocket};
-use std::sync::Wait;
 use std::sync::atomic::Ordering;
 use std::thread;
-use std::thread::Threads;
 use std::time::{Clock, Duration};
-
-/// Where the server takes Access-Requests.
-const AUTH: Endpoint = Endpoint {
-    ip: [127, 0, 0, 1],
-    port: 11812,
-};
 
 /// The attributes of a forwarded packet but for the last, which has the ticket.
 fn carried(octets: &[u8]) -> &[u8] {
@@ -55,19 +42,9 @@ fn identifier_and_ticket(octets: &[u8]) -> (u8, u64) {
     }
 }
 
-/// The worked accounting exchange, and a second server of the same ports.
-pub(crate) fn accounting<R: Threads + Wait + Clock + Net + Log + Sync>(
-    alloc: Global,
-    config: &Config,
-    stage: &Stage<'_, R>,
-    ends: &Ends,
-) -> Verdict {
-    complete(ends, local(11813), &ends.acct_home, &ACCOUNTING)?;
-    if serve(stage, alloc, config, Some(0), stage) == Err(ServeFault::Bind(AUTH)) {
-        Ok(())
-    } else {
-        Err("a second server has the ports too")
-    }
+/// The worked accounting exchange.
+pub(crate) fn accounting(ends: &Ends) -> Verdict {
+    complete(ends, local(11813), &ends.acct_home, &ACCOUNTING)
 }
 
 /// Two requests, a second apart. The second one's ticket is above the first's, and its Identifier is the first again,
@@ -106,7 +83,7 @@ pub(crate) fn held<R>(stage: &Stage<'_, R>, ends: &Ends) -> Verdict {
     if hear(&ends.home).is_some() {
         return Err("the gate holds nothing");
     }
-    stage.open();
+    stage.turnstile.open();
     complete(ends, local(11812), &ends.home, &ACCESS)
 }
 

@@ -16,12 +16,39 @@ mod packets;
 mod row;
 mod stage;
 
-use crate::row::ROWS;
-use std::io;
+use crate::ends::Ends;
+use crate::row::{ROWS, TAKEN};
+use crate::stage::Stage;
+use roam_serve::{ServeFault, serve};
+use std::{io, thread};
 
 fn main(rt: HostRuntime) -> io::Result<()> {
+    let alloc = rt.alloc();
     for row in ROWS {
-        let verdict = row.play(&rt, rt.alloc());
+        let stage = &Stage::new(&rt, row);
+        let gate = &stage.turnstile;
+        let time = Some(row.milliseconds());
+        let verdict = match (row.config(&rt, alloc), Ends::bind(&rt, row)) {
+            (Some(config), Ok(ends)) => {
+                let config = &config;
+                let (acted, served) = thread::scope(thread::scope_env(), &rt, |scope| {
+                    let server = scope.spawn(move || serve(stage, alloc, config, time, gate));
+                    let mut acted = row.act(stage, &ends);
+                    if row.has_second() && serve(stage, alloc, config, time, gate) != TAKEN {
+                        acted = Err("a second server has the ports too");
+                    }
+                    if row.ends_early() {
+                        stage.end();
+                    }
+                    match server {
+                        Ok(server) => (acted, server.join(&rt)),
+                        Err(_) => (acted, Err(ServeFault::Memory)),
+                    }
+                });
+                row.verdict(stage, acted, served)
+            }
+            _ => "the configuration or the sockets of the test can't be had",
+        };
         let name = row.name();
         println!(rt; "{name}: {verdict}")?;
     }

@@ -4,17 +4,13 @@ use crate::ends::Ends;
 use crate::exchange::Verdict;
 use crate::stage::Stage;
 use crate::{acts, crowd, hostile};
-use log::Log;
 use roam_conf::{Config, Endpoint};
 use roam_conf_reader::read_config;
-use roam_serve::{ServeFault, serve};
+use roam_serve::ServeFault;
 use std::alloc::Global;
-use std::net::Net;
+use std::fs;
 use std::rt::Files;
-use std::sync::Wait;
-use std::thread::Threads;
-use std::time::{Clock, Instant};
-use std::{fs, thread};
+use std::time::Clock;
 
 /// A row.
 #[derive(Clone, Copy, PartialEq, Eq)]
@@ -55,6 +51,12 @@ pub(crate) const ROWS: [Row; 10] = [
     Row::Unread,
 ];
 
+/// What a server answers while another has its ports.
+pub(crate) const TAKEN: Result<(), ServeFault> = Err(ServeFault::Bind(Endpoint {
+    ip: [127, 0, 0, 1],
+    port: 11812,
+}));
+
 /// Where the realm takes reverse requests.
 const REVERSE: Endpoint = Endpoint {
     ip: [127, 0, 0, 1],
@@ -62,75 +64,15 @@ const REVERSE: Endpoint = Endpoint {
 };
 
 /// Reads a configuration of the folder in which the program runs.
-fn read<R: Files>(rt: &R, alloc: Global, path: &str) -> Result<Config, &'static str> {
-    match fs::read_to_string(&(rt, alloc), path) {
-        Ok(text) => match read_config(alloc, text.as_str()) {
-            Ok(config) => Ok(config),
-            Err(_) => Err("the configuration is refused"),
-        },
-        Err(_) => Err("the configuration can't be read"),
-    }
-}
-
-/// Serves in a thread while the row's acts go on: their verdict, and what the server answers.
-fn serve_meanwhile<R: Threads + Wait + Clock + Net + Log + Sync>(
-    rt: &R,
-    alloc: Global,
-    config: &Config,
-    stage: &Stage<'_, R>,
-    ends: &Ends,
-    row: Row,
-) -> (Verdict, Result<(), ServeFault>) {
-    let time = Some(row.milliseconds());
-    thread::scope(thread::scope_env(), rt, |scope| {
-        match scope.spawn(move || serve(stage, alloc, config, time, stage)) {
-            Ok(server) => {
-                let verdict = row.act(alloc, config, stage, ends);
-                if row.ends_early() {
-                    stage.end();
-                }
-                (verdict, server.join(rt))
-            }
-            Err(_) => (Err("no thread"), Ok(())),
-        }
-    })
+fn read<R: Files>(rt: &R, alloc: Global, path: &str) -> Option<Config> {
+    let text = fs::read_to_string(&(rt, alloc), path).ok()?;
+    read_config(alloc, text.as_str()).ok()
 }
 
 impl Row {
-    /// Plays the row, and says whether all went as it should.
-    pub(crate) fn play<R: Files + Threads + Wait + Clock + Net + Log + Sync>(
-        self,
-        rt: &R,
-        alloc: Global,
-    ) -> &'static str {
-        match self.verdict(rt, alloc) {
-            Ok(()) => "as it should be",
-            Err(words) => words,
-        }
-    }
-
-    fn verdict<R: Files + Threads + Wait + Clock + Net + Log + Sync>(
-        self,
-        rt: &R,
-        alloc: Global,
-    ) -> Verdict {
-        let config = read(rt, alloc, self.configuration())?;
-        let Ok(ends) = Ends::bind(rt, self) else {
-            return Err("the sockets of the test can't be bound");
-        };
-        let stage = Stage::new(rt, self);
-        let Ok(start) = Instant::now(rt) else {
-            return Err("the clock can't be read");
-        };
-        let (acted, served) = serve_meanwhile(rt, alloc, &config, &stage, &ends, self);
-        acted?;
-        if served != self.wanted() {
-            return Err("the server answers otherwise");
-        }
-        match start.elapsed(rt) {
-            Ok(lasted) => self.judge(&stage, lasted.as_millis()),
-            Err(_) => Err("the clock can't be read"),
-        }
+    /// What is served.
+    pub(crate) fn config<R: Files>(self, rt: &R, alloc: Global) -> Option<Config> {
+        read(rt, alloc, self.configuration())
     }
 
     pub(crate) fn name(self) -> &'static str {
@@ -159,15 +101,23 @@ impl Row {
     }
 
     /// How long the server serves at most.
-    fn milliseconds(self) -> u64 {
+    pub(crate) fn milliseconds(self) -> u64 {
         match self {
             Row::Accounting => 5000,
-            _ => 60_000,
+            _ => 30_000,
+        }
+    }
+
+    /// How long it serves at least.
+    fn least(self) -> u128 {
+        match self {
+            Row::Accounting => 5000,
+            _ => 0,
         }
     }
 
     /// Whether the server's time ends with the row's acts.
-    fn ends_early(self) -> bool {
+    pub(crate) fn ends_early(self) -> bool {
         !matches!(self, Row::Accounting | Row::Taken | Row::Deaf)
     }
 
@@ -180,16 +130,15 @@ impl Row {
         }
     }
 
+    /// Whether a second server is to begin beside the first.
+    pub(crate) fn has_second(self) -> bool {
+        self == Row::Accounting
+    }
+
     /// What happens while the server runs.
-    fn act<R: Threads + Wait + Clock + Net + Log + Sync>(
-        self,
-        alloc: Global,
-        config: &Config,
-        stage: &Stage<'_, R>,
-        ends: &Ends,
-    ) -> Verdict {
+    pub(crate) fn act<R: Clock>(self, stage: &Stage<'_, R>, ends: &Ends) -> Verdict {
         match self {
-            Row::Accounting => acts::accounting(alloc, config, stage, ends),
+            Row::Accounting => acts::accounting(ends),
             Row::Hostile => hostile::hostile(stage, ends),
             Row::Epochs => acts::epochs(stage, ends),
             Row::Held => acts::held(stage, ends),
@@ -201,12 +150,37 @@ impl Row {
         }
     }
 
-    /// What is to be seen once the server has ended.
-    fn judge<R>(self, stage: &Stage<'_, R>, lasted: u128) -> Verdict {
-        match self {
-            Row::Accounting if lasted < 5000 => Err("the server ends before its time"),
-            Row::Crowd => crowd::judge(stage),
-            _ => Ok(()),
+    /// Whether all went as it should.
+    fn judge<R: Clock>(
+        self,
+        stage: &Stage<'_, R>,
+        acted: Verdict,
+        served: Result<(), ServeFault>,
+    ) -> Verdict {
+        acted?;
+        if served != self.wanted() {
+            return Err("the server answers otherwise");
+        }
+        if stage.lasted() < self.least() {
+            return Err("the server ends before its time");
+        }
+        if self == Row::Crowd {
+            crowd::judge(stage)
+        } else {
+            Ok(())
+        }
+    }
+
+    /// The verdict in words.
+    pub(crate) fn verdict<R: Clock>(
+        self,
+        stage: &Stage<'_, R>,
+        acted: Verdict,
+        served: Result<(), ServeFault>,
+    ) -> &'static str {
+        match self.judge(stage, acted, served) {
+            Ok(()) => "as it should be",
+            Err(words) => words,
         }
     }
 }

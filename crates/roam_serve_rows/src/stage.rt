@@ -20,10 +20,43 @@ const LONGEST_HOLD: u64 = 30_000;
 /// Further ahead than any server's time, in milliseconds.
 const FAR: u64 = 1_000_000_000;
 
+/// Waits while a flag is set, for a bounded time.
+fn wait_while<R: Clock>(rt: &R, flag: &AtomicBool) {
+    for _ in 0..LONGEST_HOLD {
+        if !flag.load(Ordering::SeqCst) {
+            return;
+        }
+        rt.sleep(Duration::from_millis(1));
+    }
+}
+
+/// A gate that holds the calls of shard 0 while it is shut.
+#[derive(Drop)]
+pub(crate) struct Turnstile<'t, R> {
+    rt: &'t R,
+    is_shut: AtomicBool,
+}
+
+impl<R> Turnstile<'_, R> {
+    pub(crate) fn open(&self) {
+        self.is_shut.store(false, Ordering::SeqCst);
+    }
+}
+
+impl<R: Clock> Gate for Turnstile<'_, R> {
+    fn inside(&self, shard: u16) {
+        if shard == 0 {
+            wait_while(self.rt, &self.is_shut);
+        }
+    }
+}
+
 /// What a server runs over, as a row sets it up and changes it.
 #[derive(Drop)]
 pub(crate) struct Stage<'t, R> {
     rt: &'t R,
+    /// When the row began, by the system's clock.
+    start: Option<Duration>,
     /// Whether every receive fails at the socket for reverse requests.
     is_deaf: bool,
     /// Whether the clock stands still, but for what it is put forward.
@@ -32,8 +65,7 @@ pub(crate) struct Stage<'t, R> {
     pub(crate) is_broken: AtomicBool,
     /// How far the clock was put forward, in milliseconds.
     ahead: AtomicU64,
-    /// Whether the gate holds the calls of shard 0.
-    is_shut: AtomicBool,
+    pub(crate) turnstile: Turnstile<'t, R>,
     /// Whether what is told waits.
     stalls: AtomicBool,
     /// How many arrivals were told to be refused.
@@ -46,16 +78,20 @@ pub(crate) struct Stage<'t, R> {
     pub(crate) lost: AtomicU64,
 }
 
-impl<'t, R> Stage<'t, R> {
+impl<'t, R: Clock> Stage<'t, R> {
     /// As a row begins.
     pub(crate) fn new(rt: &'t R, row: Row) -> Stage<'t, R> {
         Stage {
             rt,
+            start: rt.monotonic().ok(),
             is_deaf: row == Row::Deaf,
             stands: row == Row::Crowd || row == Row::Clock,
             is_broken: AtomicBool::new(false),
             ahead: AtomicU64::new(0),
-            is_shut: AtomicBool::new(row == Row::Held),
+            turnstile: Turnstile {
+                rt,
+                is_shut: AtomicBool::new(row == Row::Held),
+            },
             stalls: AtomicBool::new(false),
             refused: AtomicU64::new(0),
             refusal: AtomicU64::new(0),
@@ -64,14 +100,19 @@ impl<'t, R> Stage<'t, R> {
         }
     }
 
+    /// How long the row lasts by now, in milliseconds: 0 where the system's clock can't be read.
+    pub(crate) fn lasted(&self) -> u128 {
+        match (self.start, self.rt.monotonic()) {
+            (Some(start), Ok(now)) => now.saturating_sub(start).as_millis(),
+            _ => 0,
+        }
+    }
+}
+
+impl<R> Stage<'_, R> {
     /// Puts the clock forward.
     pub(crate) fn put_forward(&self, milliseconds: u64) {
         self.ahead.fetch_add(milliseconds, Ordering::SeqCst);
-    }
-
-    /// Opens the gate.
-    pub(crate) fn open(&self) {
-        self.is_shut.store(false, Ordering::SeqCst);
     }
 
     /// Whether what is told from now on waits.
@@ -81,7 +122,7 @@ impl<'t, R> Stage<'t, R> {
 
     /// Ends the server's time: the gate is open, nothing that is told waits, and the clock is far ahead.
     pub(crate) fn end(&self) {
-        self.open();
+        self.turnstile.open();
         self.stall(false);
         self.is_broken.store(false, Ordering::SeqCst);
         self.put_forward(FAR);
@@ -111,26 +152,6 @@ impl<'t, R> Stage<'t, R> {
                     .fetch_add(count.parse().unwrap_or(0), Ordering::SeqCst);
             }
             _ => {}
-        }
-    }
-}
-
-impl<R: Clock> Stage<'_, R> {
-    /// Waits while a flag is set, for a bounded time.
-    fn wait_while(&self, flag: &AtomicBool) {
-        for _ in 0..LONGEST_HOLD {
-            if !flag.load(Ordering::SeqCst) {
-                return;
-            }
-            self.rt.sleep(Duration::from_millis(1));
-        }
-    }
-}
-
-impl<R: Clock> Gate for Stage<'_, R> {
-    fn inside(&self, shard: u16) {
-        if shard == 0 {
-            self.wait_while(&self.is_shut);
         }
     }
 }
@@ -210,7 +231,7 @@ impl<R: Log + Clock> Log for Stage<'_, R> {
     }
 
     fn log<D: Display, K: Source, S: Spans>(&self, record: &Record<'_, D, K, S>) {
-        self.wait_while(&self.stalls);
+        wait_while(self.rt, &self.stalls);
         let mut line = Line {
             octets: [0; 64],
             size: 0,
