@@ -16,7 +16,8 @@ fn carried(octets: &[u8]) -> &[u8] {
     }
 }
 
-/// Sends an Accounting-Request until the home server hears it, with its attributes and a ticket. It isn't answered.
+/// Sends an Accounting-Request until the home server hears it, with its attributes and a ticket. It
+/// isn't answered.
 fn send_until_heard(ends: &Ends, request: &[u8]) -> Result<Arrival, &'static str> {
     let attributes = request.get(20..).unwrap_or(&[]);
     for _ in 0..SENDS {
@@ -47,8 +48,8 @@ pub(crate) fn accounting(ends: &Ends) -> Verdict {
     complete(ends, local(11813), &ends.acct_home, &ACCOUNTING)
 }
 
-/// Two requests, a second apart. The second one's ticket is above the first's, and its Identifier is the first again,
-/// which the first request would hold still: an epoch ended between them.
+/// Two requests, a second apart. The second one's ticket is above the first's, and its Identifier
+/// is the first again, which the first request would hold still: an epoch ended between them.
 pub(crate) fn epochs<R: Clock>(stage: &Stage<'_, R>, ends: &Ends) -> Verdict {
     let first = send_until_heard(ends, ACCOUNTING.request)?;
     let (_, before) = identifier_and_ticket(first.octets());
@@ -66,7 +67,8 @@ pub(crate) fn epochs<R: Clock>(stage: &Stage<'_, R>, ends: &Ends) -> Verdict {
     Err("no epoch ends")
 }
 
-/// Accounting of one realm goes on while the other's shard is held; its own request goes on after that.
+/// Accounting of one realm goes on while the other's shard is held; its own request goes on after
+/// that.
 pub(crate) fn held<R>(stage: &Stage<'_, R>, ends: &Ends) -> Verdict {
     for _ in 0..10 {
         if ends.client.send_to(ACCESS.request, local(11812)).is_err() {

@@ -42,8 +42,8 @@ fn forward(ends: &Ends, letter: u8, first: u8) -> Verdict {
     Err("a request isn't forwarded")
 }
 
-/// 256 requests of each of five realms, while time stands still, and then a tick at which all are to be sent again:
-/// the ring from the timer has 1,024 places.
+/// 256 requests of each of five realms, while time stands still, and then a tick at which all are
+/// to be sent again: the ring from the timer has 1,024 places.
 pub(crate) fn crowd<R>(stage: &Stage<'_, R>, ends: &Ends) -> Verdict {
     for letter in b"abcde" {
         for batch in 0..16 {
@@ -68,7 +68,8 @@ fn hears_again(ends: &Ends) -> bool {
     false
 }
 
-/// The packets that found the ring full were told when the epoch ended, and are no more than those above its places.
+/// The packets that found the ring full were told when the epoch ended, and are no more than those
+/// above its places.
 pub(crate) fn judge<R>(stage: &Stage<'_, R>) -> Verdict {
     match stage.lost.load(Ordering::SeqCst) {
         0 => Err("no packets are told to be lost"),

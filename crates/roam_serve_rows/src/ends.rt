@@ -17,7 +17,8 @@ pub(crate) const LARGEST: usize = 4096;
 /// The descriptor of standard error.
 const STANDARD_ERROR: i32 = 2;
 
-/// The sockets of the access server and of the home server, and what else a row holds while its server runs.
+/// The sockets of the access server and of the home server, and what else a row holds while its
+/// server runs.
 #[derive(Drop)]
 pub(crate) struct Ends {
     pub(crate) client: UdpSocket,
@@ -71,7 +72,8 @@ pub(crate) struct Unread {
 }
 
 impl Unread {
-    /// Takes the place of standard error: the first descriptor that is made after its end has its number.
+    /// Takes the place of standard error: the first descriptor that is made after its end has its
+    /// number.
     fn new<R: Net>(rt: &R) -> io::Result<Unread> {
         libc::close(STANDARD_ERROR);
         let (written, reader) = UnixStream::pair(rt)?;

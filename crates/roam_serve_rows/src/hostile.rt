@@ -11,9 +11,9 @@ use std::time::{Clock, Duration};
 /// The largest datagram that IPv4 carries, in octets.
 const LARGEST: usize = 65_507;
 
-/// Datagrams of one octet again and again: the port that they go to, the octet, their size, and the number of their
-/// refusal. Of the octet 4 a packet has Length 1,028, code 4, and 252 attributes of four octets; of the octet 1 its
-/// first attribute has Length 1.
+/// Datagrams of one octet again and again: the port that they go to, the octet, their size, and the
+/// number of their refusal. Of the octet 4 a packet has Length 1,028, code 4, and 252 attributes of
+/// four octets; of the octet 1 its first attribute has Length 1.
 const HOSTILE: [(u16, u8, usize, u64); 10] = [
     (11812, 0, 0, 1),
     (11813, 0, 19, 1),
@@ -62,7 +62,8 @@ fn begin<R: Clock>(stage: &Stage<'_, R>, ends: &Ends) -> Verdict {
     Err("the server doesn't begin")
 }
 
-/// An Access exchange after datagrams that are refused: they take no ticket, no Identifier and no random words.
+/// An Access exchange after datagrams that are refused: they take no ticket, no Identifier and no
+/// random words.
 pub(crate) fn hostile<R: Clock>(stage: &Stage<'_, R>, ends: &Ends) -> Verdict {
     begin(stage, ends)?;
     for (to, octet, size, number) in HOSTILE {
@@ -77,8 +78,8 @@ pub(crate) fn hostile<R: Clock>(stage: &Stage<'_, R>, ends: &Ends) -> Verdict {
 /// How many datagrams a burst has.
 const BURST: u64 = 50;
 
-/// Datagrams that are refused, and then a request that is answered: the server doesn't wait for those who read what it
-/// tells.
+/// Datagrams that are refused, and then a request that is answered: the server doesn't wait for
+/// those who read what it tells.
 fn burst(ends: &Ends) -> Verdict {
     for _ in 0..BURST {
         if ends.client.send_to(&[0], local(11812)).is_err() {
@@ -96,8 +97,8 @@ fn bursts(ends: &Ends, count: u64) -> Verdict {
     Ok(())
 }
 
-/// Reads standard error and sends single datagrams, until as many arrivals were told to be refused or dropped as were
-/// sent: so many before.
+/// Reads standard error and sends single datagrams, until as many arrivals were told to be refused
+/// or dropped as were sent: so many before.
 fn is_each_told<R: Clock>(stage: &Stage<'_, R>, ends: &Ends, error: &Unread, sent: u64) -> bool {
     for more in 1..=50 {
         error.empty();
@@ -112,8 +113,9 @@ fn is_each_told<R: Clock>(stage: &Stage<'_, R>, ends: &Ends, error: &Unread, sen
     false
 }
 
-/// Refusals while nobody reads standard error. First the teller of notices stalls, until its queues are full; then it
-/// goes on, and there is no room on standard error. Notices are dropped at both places, and all are counted in the end.
+/// Refusals while nobody reads standard error. First the teller of notices stalls, until its queues
+/// are full; then it goes on, and there is no room on standard error. Notices are dropped at both
+/// places, and all are counted in the end.
 pub(crate) fn unread<R: Clock>(stage: &Stage<'_, R>, ends: &Ends) -> Verdict {
     let Some(error) = &ends.error else {
         return Err("standard error is as it was");

@@ -1,8 +1,9 @@
 //! The packets of the rows.
 //!
-//! They are the formulas of RFC 2865 and RFC 2866, computed apart from the program, with `xyzzy5461` as the access
-//! server's secret and `h1` as the home server's. The seed of the configurations is zeros: the first Request
-//! Authenticator that is drawn is the published beginning of ChaCha20's stream under a key of zeros.
+//! They follow the formulas of RFC 2865 and RFC 2866, computed apart from the program, with
+//! `xyzzy5461` as the access server's secret and `h1` as the home server's. The seed of the
+//! configurations is zeros: the first Request Authenticator that is drawn is the published
+//! beginning of ChaCha20's stream under a key of zeros.
 
 /// A request with its reply, each as it arrives at the server and as it leaves it.
 #[derive(Clone, Copy)]
@@ -33,7 +34,8 @@ pub(crate) const ACCOUNTING: Exchange = Exchange {
     ],
 };
 
-/// An Access-Request with the password `arctangent`, hidden as in RFC 2865, section 7.1, and an Access-Accept.
+/// An Access-Request with the password `arctangent`, hidden as in RFC 2865, section 7.1, and an
+/// Access-Accept.
 pub(crate) const ACCESS: Exchange = Exchange {
     request: &[
         1, 0, 0, 51, 15, 64, 63, 148, 115, 151, 128, 87, 189, 131, 213, 203, 152, 244, 34, 122, 1,
@@ -74,7 +76,8 @@ pub(crate) const OTHER_FORWARDED: &[u8] = &[
     0, 0, 0, 0, 0, 0, 0,
 ];
 
-/// An Access-Request without a password that was sent to a first server, as it goes to the second, and an Access-Accept.
+/// An Access-Request without a password that was sent to a first server, as it goes to the second,
+/// and an Access-Accept.
 pub(crate) const FAILED_OVER: Exchange = Exchange {
     request: &[
         1, 7, 0, 33, 15, 64, 63, 148, 115, 151, 128, 87, 189, 131, 213, 203, 152, 244, 34, 122, 1,

@@ -15,7 +15,8 @@ use std::time::Clock;
 /// A row.
 #[derive(Clone, Copy, PartialEq, Eq)]
 pub(crate) enum Row {
-    /// An accounting exchange, while a second server can't have the ports; the time ends the server.
+    /// An accounting exchange, while a second server can't have the ports; the time ends the
+    /// server.
     Accounting,
     /// An Access exchange after datagrams that are refused.
     Hostile,

@@ -1,4 +1,5 @@
-//! What a server runs over: the system's runtime, but for the clock, one socket and the notices; and the gate.
+//! What a server runs over: the system's runtime, but for the clock, one socket and the notices;
+//! and the gate.
 
 use crate::row::Row;
 use log::kv::Source;
@@ -120,7 +121,8 @@ impl<R> Stage<'_, R> {
         self.stalls.store(stalls, Ordering::SeqCst);
     }
 
-    /// Ends the server's time: the gate is open, nothing that is told waits, and the clock is far ahead.
+    /// Ends the server's time: the gate is open, nothing that is told waits, and the clock is far
+    /// ahead.
     pub(crate) fn end(&self) {
         self.turnstile.open();
         self.stall(false);
