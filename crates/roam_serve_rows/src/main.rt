@@ -1,0 +1,57 @@
+//! A program that serves over real sockets on loopback, and says of each row whether all went as it
+//! should. It is a test alone.
+//!
+//! The access server and the home server are sockets of this process, and the server runs in a
+//! thread of it, over the system's runtime with a clock that can stand still or fail, and with one
+//! socket that may fail (`stage`). A row ends its server as soon as it has seen enough, by putting
+//! that clock forward, and each of its waits has a bound. The configurations are files of the
+//! folder in which the program runs.
+#![tactic(auto)]
+
+mod acts;
+mod crowd;
+mod ends;
+mod exchange;
+mod hostile;
+mod packets;
+mod row;
+mod stage;
+
+use crate::ends::Ends;
+use crate::row::{ROWS, TAKEN};
+use crate::stage::Stage;
+use roam_serve::{ServeFault, serve};
+use std::{io, thread};
+
+fn main(rt: HostRuntime) -> io::Result<()> {
+    let alloc = rt.alloc();
+    for row in ROWS {
+        let stage = &Stage::new(&rt, row);
+        let gate = &stage.turnstile;
+        let time = Some(row.milliseconds());
+        let verdict = match (row.config(&rt, alloc), Ends::bind(&rt, row)) {
+            (Some(config), Ok(ends)) => {
+                let config = &config;
+                let (acted, served) = thread::scope(thread::scope_env(), &rt, |scope| {
+                    let server = scope.spawn(move || serve(stage, alloc, config, time, gate));
+                    let mut acted = row.act(stage, &ends);
+                    if row.has_second() && serve(stage, alloc, config, time, gate) != TAKEN {
+                        acted = Err("a second server has the ports too");
+                    }
+                    if row.ends_early() {
+                        stage.end();
+                    }
+                    match server {
+                        Ok(server) => (acted, server.join(&rt)),
+                        Err(_) => (acted, Err(ServeFault::Memory)),
+                    }
+                });
+                row.verdict(stage, acted, served)
+            }
+            _ => "the configuration or the sockets of the test can't be had",
+        };
+        let name = row.name();
+        println!(rt; "{name}: {verdict}")?;
+    }
+    Ok(())
+}

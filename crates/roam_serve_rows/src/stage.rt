@@ -1,0 +1,255 @@
+//! What a server runs over: the system's runtime, but for the clock, one socket and the notices;
+//! and the gate.
+
+use crate::row::Row;
+use log::kv::Source;
+use log::span::Spans;
+use log::{Log, Metadata, Record};
+use roam_hub::Gate;
+use std::fmt::{Display, Write};
+use std::io::ErrorKind;
+use std::net::{Net, SocketAddr, UdpSocket};
+use std::sync::Wait;
+use std::sync::atomic::{AtomicBool, AtomicU64, Ordering};
+use std::thread::Threads;
+use std::time::{Clock, Duration};
+use std::{fmt, io};
+
+/// How long a call or a notice is held at most, in milliseconds.
+const LONGEST_HOLD: u64 = 30_000;
+
+/// Further ahead than any server's time, in milliseconds.
+const FAR: u64 = 1_000_000_000;
+
+/// Waits while a flag is set, for a bounded time.
+fn wait_while<R: Clock>(rt: &R, flag: &AtomicBool) {
+    for _ in 0..LONGEST_HOLD {
+        if !flag.load(Ordering::SeqCst) {
+            return;
+        }
+        rt.sleep(Duration::from_millis(1));
+    }
+}
+
+/// A gate that holds the calls of shard 0 while it is shut.
+#[derive(Drop)]
+pub(crate) struct Turnstile<'t, R> {
+    rt: &'t R,
+    is_shut: AtomicBool,
+}
+
+impl<R> Turnstile<'_, R> {
+    pub(crate) fn open(&self) {
+        self.is_shut.store(false, Ordering::SeqCst);
+    }
+}
+
+impl<R: Clock> Gate for Turnstile<'_, R> {
+    fn inside(&self, shard: u16) {
+        if shard == 0 {
+            wait_while(self.rt, &self.is_shut);
+        }
+    }
+}
+
+/// What a server runs over, as a row sets it up and changes it.
+#[derive(Drop)]
+pub(crate) struct Stage<'t, R> {
+    rt: &'t R,
+    /// When the row began, by the system's clock.
+    start: Option<Duration>,
+    /// Whether every receive fails at the socket for reverse requests.
+    is_deaf: bool,
+    /// Whether the clock stands still, but for what it is put forward.
+    stands: bool,
+    /// Whether the clock can't be read.
+    pub(crate) is_broken: AtomicBool,
+    /// How far the clock was put forward, in milliseconds.
+    ahead: AtomicU64,
+    pub(crate) turnstile: Turnstile<'t, R>,
+    /// Whether what is told waits.
+    stalls: AtomicBool,
+    /// How many arrivals were told to be refused.
+    pub(crate) refused: AtomicU64,
+    /// The number of the last refusal that was told.
+    pub(crate) refusal: AtomicU64,
+    /// How many notices were told to be dropped.
+    dropped: AtomicU64,
+    /// How many packets were told to have found a ring full.
+    pub(crate) lost: AtomicU64,
+}
+
+impl<'t, R: Clock> Stage<'t, R> {
+    /// As a row begins.
+    pub(crate) fn new(rt: &'t R, row: Row) -> Stage<'t, R> {
+        Stage {
+            rt,
+            start: rt.monotonic().ok(),
+            is_deaf: row == Row::Deaf,
+            stands: row == Row::Crowd || row == Row::Clock,
+            is_broken: AtomicBool::new(false),
+            ahead: AtomicU64::new(0),
+            turnstile: Turnstile {
+                rt,
+                is_shut: AtomicBool::new(row == Row::Held),
+            },
+            stalls: AtomicBool::new(false),
+            refused: AtomicU64::new(0),
+            refusal: AtomicU64::new(0),
+            dropped: AtomicU64::new(0),
+            lost: AtomicU64::new(0),
+        }
+    }
+
+    /// How long the row lasts by now, in milliseconds: 0 where the system's clock can't be read.
+    pub(crate) fn lasted(&self) -> u128 {
+        match (self.start, self.rt.monotonic()) {
+            (Some(start), Ok(now)) => now.saturating_sub(start).as_millis(),
+            _ => 0,
+        }
+    }
+}
+
+impl<R> Stage<'_, R> {
+    /// Puts the clock forward.
+    pub(crate) fn put_forward(&self, milliseconds: u64) {
+        self.ahead.fetch_add(milliseconds, Ordering::SeqCst);
+    }
+
+    /// Whether what is told from now on waits.
+    pub(crate) fn stall(&self, stalls: bool) {
+        self.stalls.store(stalls, Ordering::SeqCst);
+    }
+
+    /// Ends the server's time: the gate is open, nothing that is told waits, and the clock is far
+    /// ahead.
+    pub(crate) fn end(&self) {
+        self.turnstile.open();
+        self.stall(false);
+        self.is_broken.store(false, Ordering::SeqCst);
+        self.put_forward(FAR);
+    }
+
+    /// How many arrivals were told to be refused, or their notices to be dropped.
+    pub(crate) fn told(&self) -> u64 {
+        self.refused
+            .load(Ordering::SeqCst)
+            .saturating_add(self.dropped.load(Ordering::SeqCst))
+    }
+
+    /// Notes what is told.
+    fn note(&self, line: &str) {
+        match line.split_once(' ') {
+            Some(("refused", number)) => {
+                self.refusal
+                    .store(number.parse().unwrap_or(0), Ordering::SeqCst);
+                self.refused.fetch_add(1, Ordering::SeqCst);
+            }
+            Some((count, "notices dropped")) => {
+                self.dropped
+                    .fetch_add(count.parse().unwrap_or(0), Ordering::SeqCst);
+            }
+            Some((count, "packets lost by a full ring")) => {
+                self.lost
+                    .fetch_add(count.parse().unwrap_or(0), Ordering::SeqCst);
+            }
+            _ => {}
+        }
+    }
+}
+
+impl<R: Wait> Wait for Stage<'_, R> {}
+
+impl<R: Threads> Threads for Stage<'_, R> {}
+
+impl<R: Clock> Clock for Stage<'_, R> {
+    fn monotonic(&self) -> io::Result<Duration> {
+        if self.is_broken.load(Ordering::SeqCst) {
+            return Err(io::Error::from(ErrorKind::Other));
+        }
+        let ahead = Duration::from_millis(self.ahead.load(Ordering::SeqCst));
+        let read = if self.stands {
+            Duration::ZERO
+        } else {
+            self.rt.monotonic()?
+        };
+        Ok(read.saturating_add(ahead))
+    }
+
+    fn since_1970(&self) -> io::Result<Duration> {
+        self.rt.since_1970()
+    }
+
+    fn sleep(&self, duration: Duration) {
+        self.rt.sleep(duration)
+    }
+}
+
+impl<R: Net> Net for Stage<'_, R> {
+    type Stream = R::Stream;
+
+    type Listener = R::Listener;
+
+    fn bind(&self, addr: SocketAddr) -> io::Result<R::Listener> {
+        self.rt.bind(addr)
+    }
+
+    fn connect(&self, addr: SocketAddr) -> io::Result<R::Stream> {
+        self.rt.connect(addr)
+    }
+
+    /// The deaf socket is a stream that is connected to nobody: each receive fails.
+    fn bind_udp(&self, addr: SocketAddr) -> io::Result<UdpSocket> {
+        if self.is_deaf && addr.port() == 13000 {
+            Ok(UdpSocket::from(self.rt.unix_socket()?))
+        } else {
+            self.rt.bind_udp(addr)
+        }
+    }
+}
+
+/// A line of text that fits, or its beginning.
+#[derive(Drop)]
+struct Line {
+    octets: [u8; 64],
+    size: usize,
+}
+
+impl Write for Line {
+    fn write_str(&mut self, text: &str) -> fmt::Result {
+        for octet in text.as_bytes() {
+            if self.size < 64 {
+                self.octets[self.size] = *octet;
+                self.size += 1;
+            }
+        }
+        Ok(())
+    }
+}
+
+impl<R: Log + Clock> Log for Stage<'_, R> {
+    fn enabled(&self, metadata: &Metadata<'_>) -> bool {
+        self.rt.enabled(metadata)
+    }
+
+    fn log<D: Display, K: Source, S: Spans>(&self, record: &Record<'_, D, K, S>) {
+        wait_while(self.rt, &self.stalls);
+        let mut line = Line {
+            octets: [0; 64],
+            size: 0,
+        };
+        let _ = write!(line, "{}", record.args());
+        if line.size <= 64 {
+            self.note(std::str::from_utf8(&line.octets[..line.size]).unwrap_or(""));
+        }
+        self.rt.log(record);
+    }
+
+    fn flush(&self) {
+        self.rt.flush()
+    }
+
+    fn target(&self) -> &str {
+        self.rt.target()
+    }
+}
