@@ -20,8 +20,8 @@ use std::thread;
 use std::thread::{JoinHandle, Parker, Scope, Threads};
 use std::time::Clock;
 
-/// The steps of the epoch before, by shard. To let go of a million takes about a second, so a thread of its own
-/// does it, beside the workers.
+/// The steps of the epoch before, by shard. To let go of a million takes about a second, so a thread
+/// of its own does it, beside the workers.
 pub type Past = Vec<Vec<Step<Global>>>;
 
 /// Starts a thread for each sender. Answers whether all have started.

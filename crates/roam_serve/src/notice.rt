@@ -97,8 +97,8 @@ impl Notices {
         is_put
     }
 
-    /// Says that an arrival was refused. Never waits. What is in the queue and what was dropped are one notice more, but
-    /// where so many were dropped that the count stands at its end.
+    /// Says that an arrival was refused. Never waits. What the queue was given and what was dropped
+    /// grow by one notice together, until the count of dropped ones stands at its end.
     pub fn refused(&mut self, refusal: Refusal)
         ensures { self.old.dropped < 2 ^ 64 - 1
             → notices_among (sent self.new.queue) + self.new.dropped

@@ -201,8 +201,8 @@ fn epoch<N: Opened + Send + Sync, R: Threads + Wait + Clock + Net + Log + Sync, 
 ///
 /// # Errors
 ///
-/// The first of `Bind`, `Memory`, `Receive` and `Audit` that comes up. `Bind` names one of the configuration's own
-/// endpoints.
+/// The first of `Bind`, `Memory`, `Receive` and `Audit` that comes up. `Bind` names an endpoint of
+/// the configuration.
 pub fn serve<R: Threads + Wait + Clock + Net + Log + Sync, G: Gate + Sync>(
     rt: &R,
     alloc: Global,
