@@ -8,6 +8,7 @@ use crate::answers::{WANTING, is_taken, print_answer, print_fault};
 use crate::caller::{Caller, Given};
 use crate::player::{Over, Player};
 use crate::row::{Row, Step};
+use crate::stored::count_of;
 use roam_book::Start;
 use roam_conf::Config;
 use roam_hub::{Hub, Opened, Receipt, Report, Seat};
@@ -19,7 +20,27 @@ use std::sync::Wait;
 pub(crate) const MOST_STEPS: u32 = 1_000_000;
 
 impl<'p, 'r> Player<'p, 'r> {
-    /// Gives an event to a hub, and keeps the receipt: there is one just where the event was taken.
+    /// Prints what an event gave, and keeps the receipt. Whether there is one.
+    fn keeps_receipt<N: Opened>(
+        &mut self,
+        caller: &mut Caller<'_, '_, Over<'r>, N>,
+        given: Given<Over<'r>>,
+    ) -> bool {
+        match given {
+            Given::Recorded(receipt) => {
+                let printed = print_answer(&mut self.got, &receipt.answer);
+                self.needs(printed);
+                caller.receipts.push(receipt).is_ok()
+            }
+            Given::Unrecorded(answer) => {
+                let printed = print_answer(&mut self.got, &answer);
+                self.needs(printed);
+                false
+            }
+        }
+    }
+
+    /// Gives an event to a hub: there is a receipt just where the event was taken.
     fn calls<N: Opened, R: Wait>(
         &mut self,
         rt: &R,
@@ -28,16 +49,13 @@ impl<'p, 'r> Player<'p, 'r> {
         how: &str,
     ) {
         self.got.clear();
-        let given = caller.call(rt, &step.event);
-        let printed = match &given {
-            Ok(Given::Recorded(receipt)) => print_answer(&mut self.got, &receipt.answer),
-            Ok(Given::Unrecorded(answer)) => print_answer(&mut self.got, answer),
-            Err(fault) => print_fault(&mut self.got, *fault),
-        };
-        self.needs(printed);
-        let is_kept = match given {
-            Ok(Given::Recorded(receipt)) => caller.receipts.push(receipt).is_ok(),
-            _ => false,
+        let is_kept = match caller.call(rt, &step.event) {
+            Ok(given) => self.keeps_receipt(caller, given),
+            Err(fault) => {
+                let printed = print_fault(&mut self.got, fault);
+                self.needs(printed);
+                false
+            }
         };
         if is_kept != is_taken(self.got.as_slice()) {
             self.tell(
@@ -134,7 +152,7 @@ impl<'p, 'r> Player<'p, 'r> {
         seats: &[Seat<Over<'r>>],
         receipts: &[Receipt<Over<'r>>],
     ) {
-        let steps: usize = report.steps.iter().map(|steps| steps.len()).sum();
+        let steps = count_of(&report.steps);
         self.tally.count_stored(steps);
         if steps != receipts.len() {
             self.tell(line, "hub, its steps", "as many as receipts", "others");

@@ -7,6 +7,7 @@ use crate::row::{Row, Step};
 use roam_book::Answer;
 use roam_core::Event;
 use roam_trace::Step as Stored;
+use std::alloc::Allocator;
 
 /// The stored steps of each shard, and how many of them were found.
 #[derive(Drop)]
@@ -36,6 +37,15 @@ impl<'s, 'r> Looking<'s, 'r> {
             .iter()
             .all(|steps| found.next() == Some(&steps.len()))
     }
+}
+
+/// How many steps are stored.
+pub(crate) fn count_of<A: Allocator>(stored: &[Vec<Stored<A>, A>]) -> usize {
+    let mut count = 0usize;
+    for steps in stored {
+        count = count.saturating_add(steps.len());
+    }
+    count
 }
 
 /// Whether the stored steps are those of the events that were taken, with these answers.

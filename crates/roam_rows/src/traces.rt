@@ -51,6 +51,22 @@ fn trace_of<'c, A: Allocator + Copy>(
     Ok(Traced::new(alloc, shard, usize::MAX))
 }
 
+/// The traces of all shards, with no steps yet.
+fn traces_of<'c, A: Allocator + Copy>(
+    alloc: A,
+    config: &'c Config,
+    starts: &[Start],
+) -> Result<Vec<Traced<'c, A>, A>, NoMemory>
+    requires { AreStarts (shown config.now) starts.now }
+    ensures { IfOk result (λ v. All (λ t. t.opening.config ≡ shown config.now) v.items) }
+{
+    let mut traces = Vec::with_capacity(alloc, usize::from(config.shards))?;
+    for number in 0..config.shards {
+        traces.push(trace_of(alloc, config, number, starts)?)?;
+    }
+    Ok(traces)
+}
+
 /// Gives a job to the trace of this shard.
 fn given<A: Allocator + Copy>(
     traced: &mut Traced<'_, A>,
@@ -72,10 +88,7 @@ impl<'c, A: Allocator + Copy> Traces<'c, A> {
     /// A fresh broker of a configuration.
     pub(crate) fn fresh(alloc: A, config: &'c Config) -> Result<Traces<'c, A>, NoMemory> {
         let starts = first_starts(alloc, config)?;
-        let mut traces = Vec::with_capacity(alloc, usize::from(config.shards))?;
-        for number in 0..config.shards {
-            traces.push(trace_of(alloc, config, number, &starts)?)?;
-        }
+        let traces = traces_of(alloc, config, &starts)?;
         Ok(Traces {
             alloc,
             config,
