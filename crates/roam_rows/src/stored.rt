@@ -93,8 +93,7 @@ impl<'p, 'r> Player<'p, 'r> {
         let Ok(steps) = traces.cut() else {
             return self.tell(row.line, "stored steps", "steps", "want of memory");
         };
-        self.tally
-            .count_stored(steps.iter().map(|steps| steps.len()).sum());
+        self.tally.count_stored(count_of(&steps));
         if !are_those_of(&row.steps, answers, &steps) {
             self.tell(
                 row.line,

@@ -5,4 +5,4 @@ use Rattle.roam_rows.proofs.traces.traces_of.Given as goal
 
 -- the traces so far are of this configuration
 abbrev pub invariant-loop-number : goal.invariant-loop-number
-invariant-loop-number g l = All (λ t. t.opening.config ≡ shown l.config.now) l.traces.items
+invariant-loop-number g l = All (λ t. t.opening.config ≡ shown l.config) l.traces.items
