@@ -57,8 +57,8 @@ impl<'p, 'r> Player<'p, 'r> {
         }
     }
 
-    /// Plays a row over a broker in each way.
-    fn plays_row(&mut self, found: &Found<'_, 'r>) {
+    /// Plays a row over a broker in each way, with growths refused too or with memory alone.
+    fn plays_row(&mut self, found: &Found<'_, 'r>, meets_refusals: bool) {
         let Found {
             row,
             configuration,
@@ -72,7 +72,7 @@ impl<'p, 'r> Player<'p, 'r> {
         let is_stepped = self.plays_steps(row, config);
         let is_simulated = self.plays_sim(row, configuration.as_str(), script);
         let is_run = self.plays_run(row, config, &events);
-        if is_stepped && is_simulated && is_run {
+        if is_stepped && is_simulated && is_run && meets_refusals {
             self.plays_without_memory(found, &events);
         }
     }
@@ -125,10 +125,10 @@ impl<'p, 'r> Player<'p, 'r> {
     }
 
     /// Plays the rows of a file over a broker.
-    pub(crate) fn plays_text(&mut self, text: &str) -> io::Result<()> {
+    pub(crate) fn plays_text(&mut self, text: &str, meets_refusals: bool) -> io::Result<()> {
         for (line, part) in parts_of(self.rt.alloc(), text)? {
             if let Some(found) = self.found(line, part) {
-                self.plays_row(&found);
+                self.plays_row(&found, meets_refusals);
             }
         }
         Ok(())

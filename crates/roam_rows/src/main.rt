@@ -2,7 +2,8 @@
 //!
 //! It reads three folders where it runs: `rows/` has worked rows, `random/` random ones, and `configurations/` those
 //! that the rows name; `faulty-lines` has lines that are none of a script. What a row is stands in `row`; it is played
-//! with memory in `playing`, and with growths refused in `growths` and `losses`.
+//! with memory in `playing`, with growths refused in `growths` and `losses`, and through a hub in `hubs`. `stored` looks
+//! at the steps that a broker over traces stored.
 #![tactic(auto)]
 
 mod answers;
@@ -44,11 +45,11 @@ fn read_file(player: &mut Player<'_, '_>, folder: &str, name: &str) -> io::Resul
     fs::read_to_string(player.rt, player.file.as_str())
 }
 
-/// Plays the rows of all files of a folder over a broker.
-fn plays_folder(player: &mut Player<'_, '_>, folder: &str) -> io::Result<()> {
+/// Plays the rows of all files of a folder over a broker, with growths refused too or with memory alone.
+fn plays_folder(player: &mut Player<'_, '_>, folder: &str, meets_refusals: bool) -> io::Result<()> {
     for name in names(player.rt, folder)?.iter() {
         let text = read_file(player, folder, name.as_str())?;
-        player.plays_text(text.as_str())?;
+        player.plays_text(text.as_str(), meets_refusals)?;
     }
     Ok(())
 }
@@ -66,17 +67,19 @@ fn plays_through_hubs<R: Wait>(
     Ok(())
 }
 
-/// Plays all rows, and says how many. Whether all is as they say.
+/// Plays all rows, and says how many: all of them over each broker, and those of `rows/` through hubs. Over traces no
+/// growths of random rows are refused. Whether all is as they say.
 fn plays_all<R: Wait>(rt: &HostRuntime, waiting: &R) -> io::Result<bool> {
     let refusing = Refusing::new(rt.alloc());
     let mut player = Player::new(rt, &refusing);
     for kept in [Kept::InLists, Kept::InTables] {
         player.kept = kept;
-        plays_folder(&mut player, "rows")?;
-        plays_folder(&mut player, "random")?;
+        plays_folder(&mut player, "rows", true)?;
+        plays_folder(&mut player, "random", true)?;
     }
     player.kept = Kept::InTraces;
-    plays_folder(&mut player, "rows")?;
+    plays_folder(&mut player, "rows", true)?;
+    plays_folder(&mut player, "random", false)?;
     plays_through_hubs(waiting, &mut player, "rows")?;
     player.file = String::from_str(rt.alloc(), "faulty-lines")?;
     let faulty = fs::read_to_string(rt, "faulty-lines")?;
