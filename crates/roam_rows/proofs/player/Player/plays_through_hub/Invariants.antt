@@ -1,5 +1,5 @@
 use Rattle.roam_conf.specs.Shown.{shown}
-use Rattle.roam_rows.proofs.hubs.Player.plays_through_hub.Given as goal
+use Rattle.roam_rows.proofs.player.Player.plays_through_hub.Given as goal
 
 -- the hub that is opened here
 abbrev pub ghosts-plays_hub : goal.ghosts-plays_hub
