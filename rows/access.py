@@ -114,6 +114,24 @@ row.tick(1000, [sent(forward_access(NAME, 0, 0), S1_AUTH), sent(forward_access(O
 give(row, 1000, access(4, NAME), 1, 1, "the first realm's goes on")
 give(row, 1000, access(5, OTHER), 2, 2, "and the second's", realm=1)
 
+row = Row("failover-without-memory", "two-servers", SOURCE)
+waiting = [access(n, NAME) for n in range(4)]
+for n in range(4):
+    give(row, 0, waiting[n], n, n, f"ticket {n}")
+row.tick(1000, [sent(forward_access(NAME, n, n), S1_AUTH) for n in range(4)], "they are sent again")
+moved = [forward_access(NAME, n, n, K(4 + n), H2) for n in range(4)]
+row.tick(2000, [sent(octets, S2_AUTH) for octets in moved],
+         "the event whose growths are refused: they are moved, each with the next four words")
+for n in range(4):
+    row.access(1999, waiting[n], [], "it waits", probe=True)
+row.reply(1999, response(moved[3], b"", H2, 2), 14, "nothing waits at the second server", source=S2_AUTH, probe=True)
+row.tick(1999, [], "nothing is due yet", probe=True)
+row.reply(2001, response(forward_access(NAME, 3, 3), b"", code=2), 14, "nothing waits at the first server",
+          source=S1_AUTH)
+row.reply(2001, response(moved[3], b"", H2, 2), [given_back(access_back(waiting[3], 2), place="auth")],
+          "the second server answers the last one", source=S2_AUTH)
+row.tick(3000, [sent(octets, S2_AUTH) for octets in moved[:3]], "the others are sent again there")
+
 row = Row("challenge-and-answer", "one-server", SOURCE)
 req = access(1, seal(1, 1, Q, NAME + EAP, b"", P))
 fwd = give(row, 0, req, 0, 0, "an EAP-Message", NAME + EAP)

@@ -91,3 +91,25 @@ row.arrive(0, qb, [sent(fb, realm=1)], "the second realm's, of the same key")
 row.reply(10, response(fb), [given_back(back(qb), realm=1)], "the second realm's response", realm=1)
 row.arrive(20, qb, [given_back(back(qb), realm=1)], "its request again: its held reply")
 row.tick(1015, [sent(fa)], "the first realm's is sent again")
+
+# ---- a tick whose growths are refused, while each entry is looked at
+
+row = Row("tick-of-two-realms-without-memory", "two-realms", SOURCE)
+waiting = [[request(n, attributes) for n in range(4)] for attributes in (A, B)]
+for n in range(4):
+    for realm in range(2):
+        row.arrive(0, waiting[realm][n], [sent(forward(waiting[realm][n], n, n), realm=realm)],
+                   f"ticket {n} of the {('first', 'second')[realm]} realm")
+row.tick(1000, [sent(forward(req, n, n), realm=realm) for realm in range(2) for n, req in enumerate(waiting[realm])],
+         "the event whose growths are refused: the first realm's tickets, then the second's")
+for realm in range(2):
+    for n, req in enumerate(waiting[realm]):
+        row.arrive(999, req, [], "it waits", probe=True)
+row.tick(999, [], "nothing is due yet", probe=True)
+row.tick(1999, [], "nothing is due after it")
+row.reply(1999, response(forward(waiting[1][3], 3, 3)), [given_back(back(waiting[1][3]), realm=1)],
+          "the second realm's last one is answered", realm=1)
+row.tick(2000, [], "the others are given up")
+row.arrive(2001, waiting[0][0], [sent(forward(waiting[0][0], 4, 4))], "new in the first realm")
+row.arrive(2001, waiting[1][0], [sent(forward(waiting[1][0], 4, 4), realm=1)], "new in the second realm")
+row.arrive(2001, waiting[1][3], [given_back(back(waiting[1][3]), realm=1)], "its held reply")

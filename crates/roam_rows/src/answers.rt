@@ -1,6 +1,7 @@
 //! Answers as lines, and the first line in which two texts differ.
 
 use roam_book::Answer;
+use roam_hub::HubFault;
 use roam_route::Out;
 use roam_sim::print_packet;
 use std::alloc::Allocator;
@@ -9,6 +10,28 @@ use std::io::Write;
 
 /// What stands for want of memory.
 pub(crate) const WANTING: &str = "no memory\n";
+
+/// The answers to an event that no realm and no shard takes: its refusal, or want of memory.
+const UNTAKEN: [&str; 12] = [
+    WANTING,
+    "refused 1\n",
+    "refused 2\n",
+    "refused 3\n",
+    "refused 4\n",
+    "refused 5\n",
+    "refused 6\n",
+    "refused 7\n",
+    "refused 8\n",
+    "refused 9\n",
+    "refused 10\n",
+    "refused 20\n",
+];
+
+/// Whether an event that is answered so was taken by a realm or a shard: it wasn't refused before that, nor rejected
+/// there, and memory wasn't wanting.
+pub(crate) fn is_taken(answer: &[u8]) -> bool {
+    !answer.starts_with(b"- ") && !UNTAKEN.iter().any(|line| line.as_bytes() == answer)
+}
 
 /// Prints packets, a line for each.
 pub(crate) fn print_packets<A: Allocator>(
@@ -31,6 +54,15 @@ pub(crate) fn print_answer<A: Allocator>(text: &mut Vec<u8>, answer: &Answer<A>)
             writeln!(text, "refused {number}")
         }
         None => Ok(()),
+    }
+}
+
+/// Prints why an event isn't answered.
+pub(crate) fn print_fault(text: &mut Vec<u8>, fault: HubFault) -> io::Result<()> {
+    match fault {
+        HubFault::NoMemory => text.write_all(WANTING.as_bytes()),
+        HubFault::NoShard => text.write_all(b"refused 20\n"),
+        HubFault::Misplaced | HubFault::TraceFull => writeln!(text, "{fault}"),
     }
 }
 

@@ -1,9 +1,12 @@
-//! The brokers that play: one with a list of entries for each realm, and one with tables that realms share.
+//! The brokers that play: one with a list of entries for each realm, one with tables that realms share, and one that
+//! stores its history too.
 
 use crate::player::Over;
+use crate::traces::Traces;
 use roam_book::Answer;
 use roam_conf::Config;
 use roam_core::{Broker, Event, Outcome, Stepper, run};
+use roam_hub::HubFault;
 use roam_shard::Shards;
 use roam_wire::NoMemory;
 
@@ -12,6 +15,8 @@ use roam_wire::NoMemory;
 pub(crate) enum Kept {
     InLists,
     InTables,
+    /// In tables, with each step stored.
+    InTraces,
 }
 
 /// A broker that plays.
@@ -19,6 +24,17 @@ pub(crate) enum Kept {
 pub(crate) enum Playing<'c, 'r> {
     Lists(Broker<'c, Over<'r>>),
     Tables(Shards<'c, Over<'r>>),
+    Traces(Traces<'c, Over<'r>>),
+}
+
+/// What a broker answers that stores no steps.
+fn unstored<'r>(
+    answered: Result<Answer<Over<'r>>, NoMemory>,
+) -> Result<Answer<Over<'r>>, HubFault> {
+    match answered {
+        Ok(answer) => Ok(answer),
+        Err(_) => Err(HubFault::NoMemory),
+    }
 }
 
 impl<'c, 'r> Playing<'c, 'r> {
@@ -31,14 +47,16 @@ impl<'c, 'r> Playing<'c, 'r> {
         match kept {
             Kept::InLists => Ok(Playing::Lists(Broker::new(over, config)?)),
             Kept::InTables => Ok(Playing::Tables(Shards::fresh(over, config)?)),
+            Kept::InTraces => Ok(Playing::Traces(Traces::fresh(over, config)?)),
         }
     }
 
     /// Gives an event to the broker.
-    pub(crate) fn step(&mut self, event: &Event<Over<'r>>) -> Result<Answer<Over<'r>>, NoMemory> {
+    pub(crate) fn step(&mut self, event: &Event<Over<'r>>) -> Result<Answer<Over<'r>>, HubFault> {
         match self {
-            Playing::Lists(broker) => broker.step(event),
-            Playing::Tables(broker) => broker.step(event),
+            Playing::Lists(broker) => unstored(broker.step(event)),
+            Playing::Tables(broker) => unstored(broker.step(event)),
+            Playing::Traces(broker) => broker.step(event),
         }
     }
 
@@ -51,6 +69,7 @@ impl<'c, 'r> Playing<'c, 'r> {
         match self {
             Playing::Lists(broker) => run(over, broker, events),
             Playing::Tables(broker) => run(over, broker, events),
+            Playing::Traces(broker) => broker.run(over, events),
         }
     }
 }

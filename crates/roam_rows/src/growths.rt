@@ -28,7 +28,7 @@ impl<'p, 'r> Player<'p, 'r> {
         n: u64,
     ) -> bool {
         self.over.refuse_nth(n);
-        self.give(broker, &step.event);
+        self.give(broker, step);
         let was_refused = self.over.was_refused();
         self.over.refuse_nth(0);
         if was_refused {
@@ -58,13 +58,16 @@ impl<'p, 'r> Player<'p, 'r> {
         let Some(mut broker) = self.fresh(config) else {
             return;
         };
+        let mut answers = Vec::new(self.rt.alloc());
         for step in row.steps.iter() {
             self.meets_all(row, &mut broker, step);
             let how = "after all growths refused";
             if !self.is_answer(step.line, how, step.answer.as_bytes()) {
                 return;
             }
+            self.keeps_answer(&mut answers);
         }
+        self.looks_at_steps(row, broker, &answers);
     }
 
     /// The event at a place meets its `n`-th growth refused; the same event and those after it are then answered
@@ -91,10 +94,10 @@ impl<'p, 'r> Player<'p, 'r> {
         other: &mut Playing<'_, 'r>,
         step: &Step<Over<'r>>,
     ) -> bool {
-        self.give(other, &step.event);
+        self.give(other, step);
         let mut wanted = Vec::new(self.rt.alloc());
         swap(&mut wanted, &mut self.got);
-        self.give(broker, &step.event);
+        self.give(broker, step);
         self.is_answer(step.line, "after an event lost", wanted.as_slice())
     }
 

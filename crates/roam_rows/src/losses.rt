@@ -2,7 +2,7 @@
 //! the run.
 
 use crate::answers::print_packets;
-use crate::brokers::Playing;
+use crate::brokers::{Kept, Playing};
 use crate::player::{Over, Player};
 use crate::row::Row;
 use roam_conf::Config;
@@ -150,7 +150,7 @@ impl<'p, 'r> Player<'p, 'r> {
         }
     }
 
-    /// Each growth of a row's run, and of its simulation.
+    /// Each growth of a row's run, and of its simulation, which is over tables alone.
     pub(crate) fn plays_runs_refused(
         &mut self,
         row: &Row<Over<'r>>,
@@ -161,7 +161,9 @@ impl<'p, 'r> Player<'p, 'r> {
         match self.losses(row, config) {
             Ok(losses) => {
                 self.runs_refused(row, config, events, losses.as_slice());
-                self.simulates_refused(row, config, script, losses.as_slice());
+                if self.kept == Kept::InTables {
+                    self.simulates_refused(row, config, script, losses.as_slice());
+                }
             }
             Err(error) => self.needs(Err(error)),
         }

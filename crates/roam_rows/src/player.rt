@@ -1,15 +1,14 @@
 //! What plays rows: it compares answers with the row, and tells what differs.
 
-use crate::answers::{WANTING, first_difference, print_answer};
+use crate::answers::{first_difference, is_taken, print_answer, print_fault};
 use crate::brokers::{Kept, Playing};
 use crate::row::Step;
 use crate::tally::Tally;
+use roam_book::Answer;
 use roam_conf::Config;
-use roam_core::Event;
 use roam_testing::Refusing;
 use std::alloc::Global;
 use std::io;
-use std::io::Write;
 
 /// The allocator over which brokers and events grow.
 pub(crate) type Over<'r> = &'r Refusing<Global>;
@@ -27,7 +26,9 @@ pub(crate) struct Player<'p, 'r> {
     pub(crate) tally: Tally,
     /// The file of the row that is played.
     pub(crate) file: String,
-    /// What was answered last, as lines.
+    /// What was answered last, if it was answered.
+    pub(crate) given: Option<Answer<Over<'r>>>,
+    /// The same as lines.
     pub(crate) got: Vec<u8>,
 }
 
@@ -39,6 +40,7 @@ impl<'p, 'r> Player<'p, 'r> {
             kept: Kept::InLists,
             tally: Tally::new(),
             file: String::new(rt.alloc()),
+            given: None,
             got: Vec::new(rt.alloc()),
         }
     }
@@ -98,14 +100,29 @@ impl<'p, 'r> Player<'p, 'r> {
         broker
     }
 
-    /// Gives an event to a broker.
-    pub(crate) fn give(&mut self, broker: &mut Playing<'_, 'r>, event: &Event<Over<'r>>) {
-        self.got.clear();
-        let printed = match broker.step(event) {
-            Ok(answer) => print_answer(&mut self.got, &answer),
-            Err(_) => self.got.write_all(WANTING.as_bytes()),
+    /// Looks at how long the traces of a broker became: one of them by a step where its event was taken, else none.
+    fn is_stored(&mut self, line: usize, broker: &mut Playing<'_, 'r>) {
+        let Playing::Traces(traces) = broker else {
+            return;
         };
+        let wanted = usize::from(is_taken(self.got.as_slice()));
+        if traces.more_steps() != Some(wanted) {
+            let wanted = "one more where the event was taken, else none";
+            self.tell(line, "steps stored", wanted, "others");
+        }
+    }
+
+    /// Gives an event to a broker.
+    pub(crate) fn give(&mut self, broker: &mut Playing<'_, 'r>, step: &Step<Over<'r>>) {
+        self.got.clear();
+        let answered = broker.step(&step.event);
+        let printed = match &answered {
+            Ok(answer) => print_answer(&mut self.got, answer),
+            Err(fault) => print_fault(&mut self.got, *fault),
+        };
+        self.given = answered.ok();
         self.needs(printed);
+        self.is_stored(step.line, broker);
     }
 
     /// Gives an event to a broker. Whether it is answered as the row says.
@@ -115,7 +132,7 @@ impl<'p, 'r> Player<'p, 'r> {
         step: &Step<Over<'r>>,
         how: &str,
     ) -> bool {
-        self.give(broker, &step.event);
+        self.give(broker, step);
         self.is_answer(step.line, how, step.answer.as_bytes())
     }
 }

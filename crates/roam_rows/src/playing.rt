@@ -1,8 +1,9 @@
 //! Playing a row with memory: event by event, as a simulation, and in one run.
 
-use crate::answers::print_packets;
+use crate::answers::{is_taken, print_packets};
+use crate::brokers::Kept;
 use crate::player::{Over, Player};
-use crate::row::Row;
+use crate::row::{Row, Step};
 use roam_conf::Config;
 use roam_core::Event;
 use roam_sim::sim;
@@ -20,12 +21,23 @@ impl<'p, 'r> Player<'p, 'r> {
         self.tell_answer(line, "growths", wanted.as_slice());
     }
 
+    /// How many growths an event may ask for beside those that its row says: where it is stored, one for the step, and
+    /// one for the octets that arrived.
+    fn growths_to_store(&self, step: &Step<Over<'r>>) -> u64 {
+        match &step.event {
+            _ if self.kept != Kept::InTraces || !is_taken(step.answer.as_bytes()) => 0,
+            Event::Arrive { .. } => 2,
+            Event::Tick { .. } => 1,
+        }
+    }
+
     /// Looks at how many growths an event asked for, where the row says how many that may be.
-    fn is_within(&mut self, line: usize, most: Option<u64>) {
+    fn is_within(&mut self, step: &Step<Over<'r>>) {
         let growths = self.over.growths();
-        if let Some(most) = most {
+        if let Some(most) = step.most_growths {
+            let most = most.saturating_add(self.growths_to_store(step));
             if growths > most {
-                self.tell_growths(line, most, growths);
+                self.tell_growths(step.line, most, growths);
             }
         }
     }
@@ -35,24 +47,30 @@ impl<'p, 'r> Player<'p, 'r> {
         let Some(mut broker) = self.fresh(config) else {
             return false;
         };
+        let mut answers = Vec::new(self.rt.alloc());
         for step in row.steps.iter() {
             self.over.refuse_nth(0);
             let is_answered = self.steps(&mut broker, step, "step");
-            self.is_within(step.line, step.most_growths);
+            self.is_within(step);
             if !is_answered {
                 return false;
             }
+            self.keeps_answer(&mut answers);
         }
+        self.looks_at_steps(row, broker, &answers);
         true
     }
 
-    /// Simulates a row: the lines that are written are those of its packets.
+    /// Simulates a row: the lines that are written are those of its packets. A simulation is over tables alone.
     pub(crate) fn plays_sim(
         &mut self,
         row: &Row<Over<'r>>,
         configuration: &str,
         script: &str,
     ) -> bool {
+        if self.kept != Kept::InTables {
+            return true;
+        }
         self.got.clear();
         let how = match sim(self.rt.alloc(), configuration, script, &mut self.got) {
             Ok(()) => "sim",

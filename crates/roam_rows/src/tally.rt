@@ -9,6 +9,8 @@ pub(crate) struct Tally {
     events: u64,
     /// The growths that were refused.
     growths: u64,
+    /// The stored steps that were looked at.
+    stored: u64,
     /// The faulty lines that were looked at.
     faulty_lines: u64,
     /// What wasn't as the rows say.
@@ -21,6 +23,7 @@ impl Tally {
             rows: 0,
             events: 0,
             growths: 0,
+            stored: 0,
             faulty_lines: 0,
             differences: 0,
         }
@@ -35,6 +38,11 @@ impl Tally {
     /// Counts a refused growth.
     pub(crate) fn count_growth(&mut self) {
         self.growths = self.growths.saturating_add(1);
+    }
+
+    /// Counts stored steps.
+    pub(crate) fn count_stored(&mut self, steps: usize) {
+        self.stored = self.stored.saturating_add(steps as u64);
     }
 
     /// Counts a faulty line.
@@ -59,6 +67,7 @@ impl Tally {
             (self.rows, " rows, "),
             (self.events, " events, "),
             (self.growths, " refused growths, "),
+            (self.stored, " stored steps, "),
             (self.faulty_lines, " faulty lines, "),
             (self.differences, " differences\n"),
         ];

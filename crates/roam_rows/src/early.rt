@@ -1,0 +1,25 @@
+//! Answers to arrivals that come to no realm.
+
+use roam_book::{Answer, refused};
+use roam_hub::HubFault;
+use roam_route::Out;
+use roam_wire::{NoMemory, Refusal};
+use std::alloc::Allocator;
+
+/// A local reject is sent.
+pub(crate) fn rejected<A: Allocator>(alloc: A, out: Out<A>) -> Result<Answer<A>, NoMemory> {
+    let mut outs = Vec::new(alloc);
+    outs.push(out)?;
+    Ok(Answer {
+        outs,
+        refusal: None,
+    })
+}
+
+/// What an arrival is answered with that wasn't prepared: its refusal, or it is lost for want of memory.
+pub(crate) fn lost_or_refused<A: Allocator>(alloc: A, why: Refusal) -> Result<Answer<A>, HubFault> {
+    if why == Refusal::NoMemory {
+        return Err(HubFault::NoMemory);
+    }
+    Ok(refused(alloc, why))
+}

@@ -1,0 +1,106 @@
+//! The steps that a broker over traces stored: those of the events that were taken, with their answers.
+
+use crate::answers::is_taken;
+use crate::brokers::Playing;
+use crate::player::{Over, Player};
+use crate::row::{Row, Step};
+use roam_book::Answer;
+use roam_core::Event;
+use roam_trace::Step as Stored;
+use std::alloc::Allocator;
+
+/// The stored steps of each shard, and how many of them were found.
+#[derive(Drop)]
+struct Looking<'s, 'r> {
+    steps: &'s [Vec<Stored<Over<'r>>, Over<'r>>],
+    found: [usize; 64],
+}
+
+impl<'s, 'r> Looking<'s, 'r> {
+    /// Whether an event and its answer are the next step of some shard, which is then found.
+    fn finds(&mut self, event: &Event<Over<'r>>, answer: &Answer<Over<'r>>) -> bool {
+        for (found, steps) in self.found.iter_mut().zip(self.steps.iter()) {
+            if let Some(step) = steps.get(*found) {
+                if step.is_of(event, answer) {
+                    *found = found.saturating_add(1);
+                    return true;
+                }
+            }
+        }
+        false
+    }
+
+    /// Whether all of them were found.
+    fn has_found_all(&self) -> bool {
+        let mut found = self.found.iter();
+        self.steps
+            .iter()
+            .all(|steps| found.next() == Some(&steps.len()))
+    }
+}
+
+/// How many steps are stored.
+pub(crate) fn count_of<A: Allocator>(stored: &[Vec<Stored<A>, A>]) -> usize {
+    let mut count = 0usize;
+    for steps in stored {
+        count = count.saturating_add(steps.len());
+    }
+    count
+}
+
+/// Whether the stored steps are those of the events that were taken, with these answers.
+fn are_those_of<'r>(
+    events: &[Step<Over<'r>>],
+    answers: &[Option<Answer<Over<'r>>>],
+    steps: &[Vec<Stored<Over<'r>>, Over<'r>>],
+) -> bool {
+    let mut looking = Looking {
+        steps,
+        found: [0; 64],
+    };
+    for (step, answer) in events.iter().zip(answers.iter()) {
+        if is_taken(step.answer.as_bytes()) {
+            let Some(answer) = answer else {
+                return false;
+            };
+            if !looking.finds(&step.event, answer) {
+                return false;
+            }
+        }
+    }
+    looking.has_found_all()
+}
+
+impl<'p, 'r> Player<'p, 'r> {
+    /// Keeps what was answered last.
+    pub(crate) fn keeps_answer(&mut self, answers: &mut Vec<Option<Answer<Over<'r>>>>) {
+        if answers.push(self.given.take()).is_err() {
+            self.tally.count_difference();
+        }
+    }
+
+    /// Looks at the steps that a broker over traces stored, which was given all events of a row and answered them so.
+    pub(crate) fn looks_at_steps(
+        &mut self,
+        row: &Row<Over<'r>>,
+        broker: Playing<'_, 'r>,
+        answers: &[Option<Answer<Over<'r>>>],
+    ) {
+        let Playing::Traces(traces) = broker else {
+            return;
+        };
+        self.over.refuse_nth(0);
+        let Ok(steps) = traces.cut() else {
+            return self.tell(row.line, "stored steps", "steps", "want of memory");
+        };
+        self.tally.count_stored(count_of(&steps));
+        if !are_those_of(&row.steps, answers, &steps) {
+            self.tell(
+                row.line,
+                "stored steps",
+                "those of the row's events",
+                "others",
+            );
+        }
+    }
+}
