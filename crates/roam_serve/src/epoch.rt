@@ -24,6 +24,13 @@ use std::time::Clock;
 /// of its own does it, beside the workers.
 pub type Past = Vec<Vec<Step<Global>>>;
 
+/// Who is behind the workers: the senders, and who lets go of the epoch before.
+#[derive(Drop)]
+struct Behind<'w> {
+    senders: Vec<Sender<'w>>,
+    past: Past,
+}
+
 /// Starts a thread for each sender. Answers whether all have started.
 fn start_senders<'s, 'w: 's, E, R: Wait + Sync>(
     scope: &Scope<'s, E>,
@@ -39,6 +46,19 @@ fn start_senders<'s, 'w: 's, E, R: Wait + Sync>(
         have_started = have_started && is_started;
     }
     have_started
+}
+
+/// Starts the threads behind the workers. Answers whether all senders have started. Where the one that
+/// lets go of the epoch before can't start, that is done here.
+fn start_behind<'s, 'w: 's, E, R: Wait + Sync>(
+    scope: &Scope<'s, E>,
+    rt: &'s R,
+    wakes: &'s [Parker],
+    behind: Behind<'w>,
+) -> bool {
+    let Behind { senders, past } = behind;
+    let _is_started = scope.spawn(move || drop(past)).is_ok();
+    start_senders(scope, rt, wakes, senders)
 }
 
 /// Starts a thread for each worker. Answers whether all have started.
@@ -92,16 +112,15 @@ pub fn run_epoch<
         senders,
         queues,
     } = crew;
+    let behind = Behind { senders, past };
     let count = workers.len().saturating_add(1);
     let mut handles: Vec<JoinHandle<WorkerEnd>> = Vec::with_capacity(alloc, count)?;
     let mut ends = Vec::with_capacity(alloc, count)?;
     let have_started = thread::scope(thread::scope_env(), rt, |scope| {
-        // Where it doesn't start, the steps are let go of here.
-        let _is_started = scope.spawn(move || drop(past)).is_ok();
         let mut have_started = scope
             .spawn(move || tell_all(rt, shared.teller, queues))
             .is_ok();
-        have_started = start_senders(scope, rt, shared.senders, senders) && have_started;
+        have_started = start_behind(scope, rt, shared.senders, behind) && have_started;
         have_started = start_workers(scope, rt, alloc, workers, &mut handles) && have_started;
         match scope.spawn(move || tick_on(rt, timer)) {
             Ok(handle) => have_started = handles.push(handle).is_ok() && have_started,
