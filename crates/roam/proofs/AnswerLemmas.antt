@@ -2,16 +2,16 @@
 use Rattle.std.proofs.Common.{◌≡◌, ◌⊎◌, inl, inr, ℕ, List, Option, Result, Ok, Err, IfErr, sym, arith}
 use Rattle.std.specs.Io.KnownBytes.{Keeps}
 use Rattle.roam_sim.specs.Simulation.{SimulatesInPart}
-use Rattle.roam.specs.CommandLine.{to_simulate, words_of, AsksNothing}
+use Rattle.roam.specs.CommandLine.{to_simulate, to_serve, Asks, AsksNothing}
 use Rattle.roam.specs.declared.text_file.TextFile.{TextFile}
 use Rattle.roam.specs.declared.report.Fault.{Fault}
 use Rattle.roam.specs.declared.report.Fault.TheVariants as fault
-use Rattle.roam.specs.Outcomes.{text_in, RunFails, IsAnsweredInPart, Prevents}
+use Rattle.roam.specs.Outcomes.{text_in, RunFails, ServeFails, IsAnsweredInPart, Prevents}
 use Rattle.roam.specs.Report.{status_of}
 
 -- some events were lost, or the output is as it was
 in_part : (words : List (List ℕ)) (configuration script : TextFile) (old new : Option (List ℕ)) →
-    words_of (to_simulate configuration.path.now script.path.now) ≡ words →
+    Asks words (to_simulate configuration.path.now script.path.now) →
     Keeps old new ⊎ SimulatesInPart (text_in configuration) (text_in script) old new →
     Keeps old new ⊎ IsAnsweredInPart words old new
 in_part words configuration script old new worded (inl kept) = inl kept
@@ -27,7 +27,7 @@ in_part words configuration script old new worded (inr part) = inr (record {
 -- the faults of a run, where the words name its two files
 pub run-prevents : {T : Type 0} (words : List (List ℕ)) (configuration script : TextFile)
     (old new : Option (List ℕ)) (r : Result T Fault) →
-    words_of (to_simulate configuration.path.now script.path.now) ≡ words →
+    Asks words (to_simulate configuration.path.now script.path.now) →
     IfErr r (RunFails configuration script old new) → IfErr r (Prevents words old new)
 run-prevents words configuration script old new (Ok x) worded fails = tt
 run-prevents words configuration script old new (Err fault.Usage) worded fails = absurd fails
@@ -42,6 +42,30 @@ run-prevents words configuration script old new (Err fault.Memory) worded fails 
   (λ nothing. nothing (to_simulate configuration.path.now script.path.now) worded),
   in_part words configuration script old new worded fails,
 )
+run-prevents words configuration script old new (Err (fault.Bind endpoint)) worded fails = absurd fails
+run-prevents words configuration script old new (Err fault.Receive) worded fails = absurd fails
+run-prevents words configuration script old new (Err fault.Audit) worded fails = absurd fails
+
+-- the faults of a server, which leaves the output as it is
+pub serve-prevents : {T : Type 0} (words : List (List ℕ)) (file : TextFile) (milliseconds : Option ℕ)
+    (out : Option (List ℕ)) (r : Result T Fault) →
+    Asks words (to_serve file.path.now milliseconds) → Keeps out out →
+    IfErr r (ServeFails file) → IfErr r (Prevents words out out)
+serve-prevents words file milliseconds out (Ok x) asks kept fails = tt
+serve-prevents words file milliseconds out (Err fault.Usage) asks kept fails = absurd fails
+serve-prevents words file milliseconds out (Err (fault.Unreadable path)) asks kept fails = absurd fails
+serve-prevents words file milliseconds out (Err (fault.Refused path why)) asks kept fails =
+    ((to_serve file.path.now milliseconds, asks, sym fails.named), kept)
+serve-prevents words file milliseconds out (Err (fault.FaultyLine path number)) asks kept fails = absurd fails
+serve-prevents words file milliseconds out (Err fault.Write) asks kept fails = absurd fails
+serve-prevents words file milliseconds out (Err fault.Memory) asks kept fails =
+    ((λ nothing. nothing (to_serve file.path.now milliseconds) asks), inl kept)
+serve-prevents words file milliseconds out (Err (fault.Bind endpoint)) asks kept fails =
+    ((file.path.now, milliseconds, asks), kept)
+serve-prevents words file milliseconds out (Err fault.Receive) asks kept fails =
+    ((file.path.now, milliseconds, asks), kept)
+serve-prevents words file milliseconds out (Err fault.Audit) asks kept fails =
+    ((file.path.now, milliseconds, asks), kept)
 
 -- status 2 is that of the usage alone, which comes just where the words ask for nothing
 pub usage-status : (words : List (List ℕ)) (old new : Option (List ℕ)) (f : Fault) (status : ℕ) →
@@ -58,3 +82,9 @@ usage-status words old new fault.Write status is prevents =
     (λ two. absurd (omega arith), λ nothing. absurd (prevents nothing))
 usage-status words old new fault.Memory status is prevents =
     (λ two. absurd (omega arith), λ nothing. absurd (prevents.0 nothing))
+usage-status words old new (fault.Bind endpoint) status is prevents =
+    (λ two. absurd (omega arith), λ nothing. absurd (nothing (to_serve prevents.0.0 prevents.0.1) prevents.0.2))
+usage-status words old new fault.Receive status is prevents =
+    (λ two. absurd (omega arith), λ nothing. absurd (nothing (to_serve prevents.0.0 prevents.0.1) prevents.0.2))
+usage-status words old new fault.Audit status is prevents =
+    (λ two. absurd (omega arith), λ nothing. absurd (nothing (to_serve prevents.0.0 prevents.0.1) prevents.0.2))

@@ -6,13 +6,17 @@ use Rattle.roam_conf.specs.Config.{ConfigView}
 use Rattle.roam_conf_reader.specs.Faults.{States, NoneHolds, every_fault}
 use Rattle.std.specs.Prelude.{IsErrOf, IsOk}
 use Rattle.roam_sim.specs.Script.{script_states}
-use Rattle.roam_sim.specs.Simulation.{IsAccepted, Simulates}
+use Rattle.roam_sim.specs.Simulation.{IsConfiguration, IsAccepted, Simulates}
 use Rattle.roam_sim.specs.declared.fault.SimFault.{SimFault}
 use Rattle.roam_sim.specs.declared.fault.SimFault.TheVariants as sim
 use Rattle.roam.specs.declared.text_file.TextFile.{TextFile}
 use Rattle.roam.specs.declared.report.Fault.{Fault}
 use Rattle.roam.specs.declared.report.Fault.TheVariants as fault
-use Rattle.roam.specs.Outcomes.{summary_of, text_in, Checks, CheckFails, RunFails, AreRead}
+use Rattle.roam_serve.specs.declared.fault.ServeFault.{ServeFault}
+use Rattle.roam_serve.specs.declared.fault.ServeFault.TheVariants as serve
+use Rattle.roam_serve.specs.Faults.{IsFaultOf}
+use Rattle.roam.specs.Outcomes.{summary_of, text_in, Checks, CheckFails, RunFails, ServeFails, AreRead}
+use Rattle.roam.specs.Report.{fault_of}
 
 -- the summary was printed of the configuration that the file states
 pub printed-checks : {T E : Type 0} (file : TextFile) (text : List ℕ) (config : ConfigView)
@@ -88,3 +92,20 @@ write-fails configuration script read-configuration read-script old new r same s
       faultless = faultless is;
     } in
     inr (rw (same, same-script) at read)
+
+-- the text that was read states the configuration
+pub accepted-text : (file : TextFile) (text : List ℕ) (config : ConfigView) →
+    text ≡ string_bytes file.text → States text config → NoneHolds text every_fault →
+    IsConfiguration (text_in file) config
+accepted-text file text config same stated faultless = record {
+  stated = rw (← same) stated;
+  faultless = rw (← same) faultless;
+}
+
+-- what ends a server of an accepted configuration
+pub serve-fails : (file : TextFile) (config : ConfigView) (why : ServeFault) →
+    IsConfiguration (text_in file) config → IsFaultOf config why → ServeFails file (fault_of why)
+serve-fails file config (serve.Bind endpoint) read its_own = (config, read, its_own)
+serve-fails file config serve.Receive read its_own = (config, read)
+serve-fails file config serve.Audit read its_own = (config, read)
+serve-fails file config serve.Memory read its_own = tt

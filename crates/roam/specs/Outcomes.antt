@@ -4,11 +4,12 @@ use Rattle.std.specs.Prelude.{◌≡◌, ◌⊎◌, ℕ, List, ◌++◌, Option,
 use Rattle.std.specs.Fmt.{decimal}
 use Rattle.std.specs.Io.KnownBytes.{Keeps, Appends}
 use Rattle.roam_conf.specs.Config.{ConfigView}
+use Rattle.roam_port.specs.Sockets.{socket_endpoints}
 use Rattle.roam_conf_reader.specs.declared.fault.ConfFault.{ConfFault}
 use Rattle.roam_conf_reader.specs.Faults.{IsFirstFault}
 use Rattle.roam_sim.specs.Script.{script_states}
 use Rattle.roam_sim.specs.Simulation.{IsConfiguration, IsAccepted, Simulates, SimulatesInPart}
-use Rattle.roam.specs.CommandLine.{Asked, to_check, to_simulate, words_of, files_of, configuration_of, AsksNothing}
+use Rattle.roam.specs.CommandLine.{Asked, to_check, to_simulate, to_serve, Asks, AsksToServe, AsksNothing, files_of, configuration_of}
 use Rattle.roam.specs.Report.{status_of, text_of}
 use Rattle.roam.specs.declared.text_file.TextFile.{TextFile}
 use Rattle.roam.specs.declared.report.Ending.{Ending}
@@ -49,6 +50,9 @@ CheckFails file old new (fault.Refused path why) = IsRefused file path.now why �
 CheckFails file old new (fault.FaultyLine path number) = ⊥
 CheckFails file old new fault.Write = IsAccepted (text_in file)
 CheckFails file old new fault.Memory = Keeps old new
+CheckFails file old new (fault.Bind endpoint) = ⊥
+CheckFails file old new fault.Receive = ⊥
+CheckFails file old new fault.Audit = ⊥
 
 -- both texts are read: the configuration is accepted, and the script has no faulty line
 pub record AreRead (configuration script : List ℕ) : Type 0 where
@@ -69,35 +73,54 @@ RunFails configuration script old new fault.Write =
     Keeps old new ⊎ AreRead (text_in configuration) (text_in script)
 RunFails configuration script old new fault.Memory =
     Keeps old new ⊎ SimulatesInPart (text_in configuration) (text_in script) old new
+RunFails configuration script old new (fault.Bind endpoint) = ⊥
+RunFails configuration script old new fault.Receive = ⊥
+RunFails configuration script old new fault.Audit = ⊥
 
--- what is asked for was done, over texts in the files: which ones, nothing here can say
+-- the faults of a server: one that comes from sockets or from the audit comes only where the configuration is
+-- accepted, and an endpoint that can't be bound is one of its own
+abbrev pub ServeFails : TextFile → Fault → Type 0
+ServeFails file fault.Usage = ⊥
+ServeFails file (fault.Unreadable path) = ⊥
+ServeFails file (fault.Refused path why) = IsRefused file path.now why
+ServeFails file (fault.FaultyLine path number) = ⊥
+ServeFails file fault.Write = ⊥
+ServeFails file fault.Memory = Unit {0}
+ServeFails file (fault.Bind endpoint) =
+    (config : ConfigView) × IsConfiguration (text_in file) config × Contains (socket_endpoints config) endpoint
+ServeFails file fault.Receive = IsAccepted (text_in file)
+ServeFails file fault.Audit = IsAccepted (text_in file)
+
+-- what is asked for was done, over texts in the files: which ones, nothing here can say. Of a server nothing more is
+-- said: it prints nothing, and what its sockets took and gave no contract can say
 abbrev pub IsDone : Asked → Option (List ℕ) → Option (List ℕ) → Type 0
 IsDone (to_check configuration) old new = (text : List ℕ) × Checks text old new
 IsDone (to_simulate configuration script) old new =
     (text : List ℕ) × (script_text : List ℕ) × Simulates text script_text old new
+IsDone (to_serve configuration milliseconds) old new = (text : List ℕ) × IsAccepted text × Keeps old new
 
 -- the words ask for something, and it was done
 pub record IsAnswered (words : List (List ℕ)) (old new : Option (List ℕ)) : Type 0 where
   pub asked : Asked
-  pub worded : words_of asked ≡ words
+  pub worded : Asks words asked
   pub done : IsDone asked old new
 
 -- the words name this file, or this one as the configuration, or this one as the script
 abbrev pub NamesFile : List (List ℕ) → List ℕ → Type 0
-NamesFile words path = (asked : Asked) × (words_of asked ≡ words) × Contains (files_of asked) path
+NamesFile words path = (asked : Asked) × Asks words asked × Contains (files_of asked) path
 
 abbrev pub NamesConfiguration : List (List ℕ) → List ℕ → Type 0
-NamesConfiguration words path = (asked : Asked) × (words_of asked ≡ words) × (configuration_of asked ≡ path)
+NamesConfiguration words path = (asked : Asked) × Asks words asked × (configuration_of asked ≡ path)
 
 abbrev pub NamesScript : List (List ℕ) → List ℕ → Type 0
-NamesScript words path = (configuration : List ℕ) × (words_of (to_simulate configuration path) ≡ words)
+NamesScript words path = (configuration : List ℕ) × Asks words (to_simulate configuration path)
 
 -- the words ask for a simulation, and over some texts in its files it was done for all events but those that
 -- were lost for want of memory
 pub record IsAnsweredInPart (words : List (List ℕ)) (old new : Option (List ℕ)) : Type 0 where
   pub configuration : List ℕ
   pub script : List ℕ
-  pub worded : words_of (to_simulate configuration script) ≡ words
+  pub worded : Asks words (to_simulate configuration script)
   pub configuration_text : List ℕ
   pub script_text : List ℕ
   pub done : SimulatesInPart configuration_text script_text old new
@@ -112,6 +135,9 @@ Prevents words old new (fault.FaultyLine path number) = NamesScript words path.n
 Prevents words old new fault.Write = ¬ (AsksNothing words)
 Prevents words old new fault.Memory =
     ¬ (AsksNothing words) × (Keeps old new ⊎ IsAnsweredInPart words old new)
+Prevents words old new (fault.Bind endpoint) = AsksToServe words × Keeps old new
+Prevents words old new fault.Receive = AsksToServe words × Keeps old new
+Prevents words old new fault.Audit = AsksToServe words × Keeps old new
 
 -- a fault prevents the answer, and the status is its own
 pub record IsPrevented (words : List (List ℕ)) (old new : Option (List ℕ)) (status : ℕ) : Type 0 where

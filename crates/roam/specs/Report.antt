@@ -2,8 +2,11 @@
 -- ends. Ours.
 use Rattle.std.specs.Prelude.{ℕ, List, ◌++◌, codes}
 use Rattle.std.specs.Fmt.{decimal}
+use Rattle.roam_sim.specs.Lines.{endpoint_text}
 use Rattle.roam_conf_reader.specs.declared.fault.ConfFault.{ConfFault}
 use Rattle.roam_conf_reader.specs.declared.fault.ConfFault.TheVariants as conf
+use Rattle.roam_serve.specs.declared.fault.ServeFault.{ServeFault}
+use Rattle.roam_serve.specs.declared.fault.ServeFault.TheVariants as serve
 use Rattle.roam.specs.declared.report.Fault.{Fault}
 use Rattle.roam.specs.declared.report.Fault.TheVariants as fault
 
@@ -28,6 +31,9 @@ text_of (fault.FaultyLine path number) =
     codes "roam: " ++ path.now ++ codes ": line " ++ decimal number ++ codes "\n"
 text_of fault.Write = codes "roam: write failed\n"
 text_of fault.Memory = codes "roam: out of memory\n"
+text_of (fault.Bind endpoint) = codes "roam: cannot bind " ++ endpoint_text endpoint ++ codes "\n"
+text_of fault.Receive = codes "roam: receive failed\n"
+text_of fault.Audit = codes "roam: audit failed\n"
 
 -- the status after a fault
 abbrev pub status_of : Fault → ℕ
@@ -37,3 +43,13 @@ status_of (fault.Refused path why) = 1
 status_of (fault.FaultyLine path number) = 1
 status_of fault.Write = 1
 status_of fault.Memory = 3
+status_of (fault.Bind endpoint) = 1
+status_of fault.Receive = 1
+status_of fault.Audit = 4
+
+-- what ends a server, as a fault of the program
+abbrev pub fault_of : ServeFault → Fault
+fault_of (serve.Bind endpoint) = fault.Bind endpoint
+fault_of serve.Receive = fault.Receive
+fault_of serve.Audit = fault.Audit
+fault_of serve.Memory = fault.Memory

@@ -1,8 +1,9 @@
 -- Commands as the definitions see them.
-use Rattle.roam.specs.CommandLine.{Asked, to_check, to_simulate}
+use Rattle.roam.specs.CommandLine.{Asked, to_check, to_simulate, to_serve}
 use Rattle.roam.specs.declared.command_line.Command.{Command}
 use Rattle.roam.specs.declared.command_line.Command.TheVariants as command
 
 abbrev pub shown : Command → Asked
 shown (command.Check configuration) = to_check configuration.now
 shown (command.Sim configuration script) = to_simulate configuration.now script.now
+shown (command.Serve configuration milliseconds) = to_serve configuration.now milliseconds

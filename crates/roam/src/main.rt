@@ -1,7 +1,7 @@
 //! The program `roam`: does what the words of its command line ask for, and says how it ended.
 //!
-//! What is done stands in functions over texts and writers; here are the words, the standard streams and the
-//! status alone.
+//! What is done stands in functions over texts and writers, and in the libraries; here are the words, the standard
+//! streams and the status alone.
 #![tactic(auto)]
 
 mod check;
@@ -9,6 +9,7 @@ mod command_line;
 mod output;
 mod program;
 mod report;
+mod serving;
 mod simulation;
 #[cfg(test)]
 mod tests;
@@ -27,16 +28,14 @@ fn words<R: Env + AllocGlobal>(rt: &R) -> Result<Vec<String>, Fault<'static>> {
     args.skip(1).collect(rt.alloc()).map_err(|_| Fault::Memory)
 }
 
-/// Does what the words ask for, and answers the status.
-fn run(rt: &HostRuntime) -> Result<u8, Fault<'static>> {
-    let words = words(rt)?;
-    let mut out = BufWriter::new(rt.alloc(), rt.stdout()).map_err(|_| Fault::Memory)?;
-    Ok(command(rt, words.as_slice(), &mut out, &mut rt.stderr()))
-}
-
 fn main(rt: HostRuntime) -> ExitCode {
-    match run(&rt) {
-        Ok(status) => ExitCode::from(status),
-        Err(fault) => ExitCode::from(fault.tell(&mut rt.stderr()).status),
+    let mut err = rt.stderr();
+    let words = match words(&rt) {
+        Ok(words) => words,
+        Err(fault) => return ExitCode::from(fault.tell(&mut err).status),
+    };
+    match BufWriter::new(rt.alloc(), rt.stdout()) {
+        Ok(mut out) => ExitCode::from(command(&rt, words.as_slice(), &mut out, &mut err)),
+        Err(_) => ExitCode::from(Fault::Memory.tell(&mut err).status),
     }
 }

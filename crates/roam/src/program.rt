@@ -8,14 +8,20 @@ ghost use Rattle.roam.specs.Outcomes.{IsAnswered, IsPrevented, IsToldFault, Prev
 use crate::check::check;
 use crate::command_line::Command;
 use crate::report::{Ending, Fault};
+use crate::serving::serve_file;
 use crate::simulation::simulate;
 use crate::text_file::TextFile;
+use log::Log;
 use std::convert::AsStr;
 use std::io::Write;
+use std::net::Net;
 use std::rt::Files;
+use std::sync::Wait;
+use std::thread::Threads;
+use std::time::Clock;
 
 /// Does what the words ask for.
-fn run<'a, R: Files + AllocGlobal, S: AsStr, W: Write>(
+fn run<'a, R: Files + AllocGlobal + Threads + Wait + Clock + Net + Log + Sync, S: AsStr, W: Write>(
     rt: &R,
     words: &'a [S],
     out: &mut W,
@@ -41,17 +47,26 @@ fn run<'a, R: Files + AllocGlobal, S: AsStr, W: Write>(
             let script = TextFile::read(rt, script)?;
             simulate(rt.alloc(), &configuration, &script, out)
         }
+        Some(
+            Command::Serve {
+                configuration,
+                milliseconds,
+            },
+        ) => {
+            let configuration = TextFile::read(rt, configuration)?;
+            serve_file(rt, &configuration, milliseconds)
+        }
     }
 }
 
 /// Does what the words ask for, and tells the fault that prevents it.
-fn answer<R: Files + AllocGlobal, S: AsStr, W: Write, E: Write>(
-    rt: &R,
-    words: &[S],
-    out: &mut W,
-    err: &mut E,
-) -> Ending
-    ensures status { result.status ≤ 3 }
+fn answer<
+    R: Files + AllocGlobal + Threads + Wait + Clock + Net + Log + Sync,
+    S: AsStr,
+    W: Write,
+    E: Write,
+>(rt: &R, words: &[S], out: &mut W, err: &mut E) -> Ending
+    ensures status { result.status ≤ 4 }
     ensures done { result.status ≡ 0
         → IsAnswered (map S.text words.now) (W.contents out.old) (W.contents out.new) }
     ensures silent { result.status ≡ 0 → err.new ≡ err.old }
@@ -73,14 +88,15 @@ fn answer<R: Files + AllocGlobal, S: AsStr, W: Write, E: Write>(
 /// that of the fault that prevents it, whose text goes to `err`. Whether `err` takes it changes nothing.
 ///
 /// Each fault says what it leaves of `out`: all is as it was, but for what went out before a refused write, and
-/// for the lines of a simulation that lost events for want of memory.
-pub fn command<R: Files + AllocGlobal, S: AsStr, W: Write, E: Write>(
-    rt: &R,
-    words: &[S],
-    out: &mut W,
-    err: &mut E,
-) -> u8
-    ensures status { result ≤ 3 }
+/// for the lines of a simulation that lost events for want of memory. A server leaves it as it was, and of what its
+/// sockets take and give nothing is said; without a number of milliseconds it ends by a fault alone.
+pub fn command<
+    R: Files + AllocGlobal + Threads + Wait + Clock + Net + Log + Sync,
+    S: AsStr,
+    W: Write,
+    E: Write,
+>(rt: &R, words: &[S], out: &mut W, err: &mut E) -> u8
+    ensures status { result ≤ 4 }
     ensures done { result ≡ 0
         → IsAnswered (map S.text words.now) (W.contents out.old) (W.contents out.new) }
     ensures silent { result ≡ 0 → err.new ≡ err.old }

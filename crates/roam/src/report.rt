@@ -4,7 +4,9 @@ ghost use Rattle.std.specs.Prelude.{◌≡◌, ◌⊎◌, OnOk};
 ghost use Rattle.std.specs.Io.KnownBytes.{Appends};
 ghost use Rattle.roam.specs.Report as spec;
 
+use roam_conf::Endpoint;
 use roam_conf_reader::ConfFault;
+use roam_serve::ServeFault;
 use std::io;
 use std::io::{ErrorKind, Write};
 
@@ -34,8 +36,17 @@ pub enum Fault<'a> {
     },
     /// The output refused a write.
     Write,
-    /// A growth of memory was refused.
+    /// A growth of memory was refused; or, for a server, a thread couldn't be started.
     Memory,
+    /// A server's socket can't be bound.
+    Bind {
+        /// The endpoint to which it can't be bound.
+        endpoint: Endpoint,
+    },
+    /// A server gave up a socket, since a hundred receives in a row had failed.
+    Receive,
+    /// What a server stored of its steps didn't pass the audit.
+    Audit,
 }
 
 /// How the program ends.
@@ -76,6 +87,18 @@ impl<'a> Fault<'a> {
         }
     }
 
+    /// The fault of the program that a server's fault is.
+    pub fn of_server(fault: ServeFault) -> Fault<'a>
+        ensures { result ≡ spec.fault_of fault }
+    {
+        match fault {
+            ServeFault::Bind(endpoint) => Fault::Bind { endpoint },
+            ServeFault::Receive => Fault::Receive,
+            ServeFault::Audit => Fault::Audit,
+            ServeFault::Memory => Fault::Memory,
+        }
+    }
+
     /// This fault, or want of memory where that is what the system answered.
     pub fn unless_memory(self, error: &io::Error) -> Fault<'a>
         ensures { (result ≡ Fault.Memory) ⊎ (result ≡ self.entry) }
@@ -94,6 +117,7 @@ impl<'a> Fault<'a> {
         match self {
             Fault::Usage => 2,
             Fault::Memory => 3,
+            Fault::Audit => 4,
             _ => 1,
         }
     }
@@ -119,6 +143,13 @@ impl<'a> Fault<'a> {
             Fault::FaultyLine { path, number } => writeln!(writer, "roam: {path}: line {number}"),
             Fault::Write => writer.write_all(b"roam: write failed\n"),
             Fault::Memory => writer.write_all(b"roam: out of memory\n"),
+            Fault::Bind { endpoint } => {
+                let [a, b, c, d] = endpoint.ip;
+                let port = endpoint.port;
+                writeln!(writer, "roam: cannot bind {a}.{b}.{c}.{d}:{port}")
+            }
+            Fault::Receive => writer.write_all(b"roam: receive failed\n"),
+            Fault::Audit => writer.write_all(b"roam: audit failed\n"),
         }
     }
 

@@ -2,10 +2,17 @@
 
 use crate::program::command;
 use crate::report::Fault;
+use log::Log;
+use roam_conf::Endpoint;
+use roam_serve::ServeFault;
 use std::io::{ErrorKind, Write};
+use std::net::Net;
 use std::process::Abort;
 use std::rt::{Env, Files};
+use std::sync::Wait;
 use std::test::Fail;
+use std::thread::Threads;
+use std::time::Clock;
 use std::{env, fs, io, process};
 
 const USAGE: &str = "usage: roam check CONF | roam sim CONF SCRIPT | roam serve CONF [MS]\n";
@@ -158,7 +165,7 @@ fn file<R: Files + Env + AllocGlobal>(
 }
 
 /// The program ends so: with this status, after it printed this, and this fault.
-fn expect<R: Files + AllocGlobal + Abort>(
+fn expect<R: Files + AllocGlobal + Threads + Wait + Clock + Net + Log + Sync + Abort>(
     rt: &R,
     words: &[&str],
     status: u8,
@@ -191,8 +198,18 @@ const NO_COMMANDS: &[&[&str]] = &[
     &["sim", "a"],
     &["sim", "a", "b", "c"],
     &["serve"],
-    &["serve", "a"],
-    &["serve", "a", "1000"],
+    &["Serve", "a"],
+    &["serve", "a", ""],
+    &["serve", "a", "0"],
+    &["serve", "a", "00"],
+    &["serve", "a", "01"],
+    &["serve", "a", "86400001"],
+    &["serve", "a", "18446744073709551617"],
+    &["serve", "a", "+5"],
+    &["serve", "a", "-5"],
+    &["serve", "a", "5 "],
+    &["serve", "a", "5ms"],
+    &["serve", "a", "5", "5"],
     &["--help"],
     &["a", "b"],
     &["a", "b", "c"],
@@ -266,13 +283,15 @@ fn a_configuration_is_refused_by_name(rt: HostRuntime) -> Result<(), Fail> {
         expect(&rt, &["check", path], 1, "", told.as_str());
         // Its own text is no script, and that isn't looked at.
         expect(&rt, &["sim", path, path], 1, "", told.as_str());
+        expect(&rt, &["serve", path], 1, "", told.as_str());
+        expect(&rt, &["serve", path, "86400000"], 1, "", told.as_str());
         fs::remove_file(&rt, path)?;
     }
     Ok(())
 }
 
 /// A file can't be read, wherever its path stands. The script is read before the configuration is judged.
-fn expect_unreadable<R: Files + AllocGlobal + Abort>(
+fn expect_unreadable<R: Files + AllocGlobal + Threads + Wait + Clock + Net + Log + Sync + Abort>(
     rt: &R,
     accepted: &str,
     refused: &str,
@@ -280,6 +299,8 @@ fn expect_unreadable<R: Files + AllocGlobal + Abort>(
 ) -> Result<(), Fail> {
     let told = format!(in rt.alloc(); "roam: {path}: unreadable\n")?;
     expect(rt, &["check", path], 1, "", told.as_str());
+    expect(rt, &["serve", path], 1, "", told.as_str());
+    expect(rt, &["serve", path, "1"], 1, "", told.as_str());
     expect(rt, &["sim", path, "/nowhere"], 1, "", told.as_str());
     expect(rt, &["sim", accepted, path], 1, "", told.as_str());
     expect(rt, &["sim", refused, path], 1, "", told.as_str());
@@ -323,7 +344,7 @@ const FAULTY: &[(&str, &str)] = &[
 ];
 
 /// A script is refused for its fifth line, which follows an exchange.
-fn expect_faulty<R: Files + Env + AllocGlobal + Abort>(
+fn expect_faulty<R: Files + Env + AllocGlobal + Threads + Wait + Clock + Net + Log + Sync + Abort>(
     rt: &R,
     process: u32,
     configuration: &str,
@@ -379,7 +400,11 @@ fn a_script_is_run(rt: HostRuntime) -> Result<(), Fail> {
 }
 
 /// How much room the output has, and the status: where all that is printed has room, it is 0.
-fn expect_refused<R: Files + AllocGlobal + Abort>(rt: &R, words: &[&str], printed: usize) {
+fn expect_refused<R: Files + AllocGlobal + Threads + Wait + Clock + Net + Log + Sync + Abort>(
+    rt: &R,
+    words: &[&str],
+    printed: usize,
+) {
     let mut room = [0u8; 400];
     for size in 0..=printed.min(400) {
         let mut out = &mut room[..size];
@@ -425,7 +450,10 @@ fn a_refused_write_is_told(rt: HostRuntime) -> Result<(), Fail> {
 }
 
 /// The status where nothing can be told.
-fn status_untold<R: Files + AllocGlobal>(rt: &R, words: &[&str]) -> u8 {
+fn status_untold<R: Files + AllocGlobal + Threads + Wait + Clock + Net + Log + Sync>(
+    rt: &R,
+    words: &[&str],
+) -> u8 {
     let mut room = [0u8; 4];
     let mut out = Vec::new(rt.alloc());
     command(rt, words, &mut out, &mut room.as_mut_slice())
@@ -439,4 +467,32 @@ fn a_fault_that_cannot_be_told_keeps_its_status(rt: HostRuntime) {
     let mut err = Vec::new(rt.alloc());
     assert!(rt; Fault::Memory.tell(&mut err).status == 3);
     assert!(rt; err.as_slice() == b"roam: out of memory\n".as_slice());
+}
+
+/// What ends a server before its time: the status, and what is told.
+const SERVER_FAULTS: &[(ServeFault, u8, &str)] = &[
+    (
+        ServeFault::Bind(Endpoint {
+            ip: [127, 0, 0, 1],
+            port: 11812,
+        }),
+        1,
+        "roam: cannot bind 127.0.0.1:11812\n",
+    ),
+    (ServeFault::Receive, 1, "roam: receive failed\n"),
+    (ServeFault::Audit, 4, "roam: audit failed\n"),
+    (ServeFault::Memory, 3, "roam: out of memory\n"),
+];
+
+#[test]
+fn what_ends_a_server_is_told(rt: HostRuntime) {
+    for (fault, status, told) in SERVER_FAULTS {
+        let mut err = Vec::new(rt.alloc());
+        let ended = Fault::of_server(*fault).tell(&mut err).status;
+        assert!(rt;
+            err.as_slice() == told.as_bytes(),
+            "{fault:?} tells {err:?}"
+        );
+        assert!(rt; ended == *status, "{fault:?} ends with {ended}");
+    }
 }

@@ -1,13 +1,28 @@
--- The words are those of a simulation, by the paths of the files that were read.
-use Rattle.std.proofs.Common.{◌≡◌, map, rules}
-use Rattle.roam.specs.CommandLine.{to_simulate, words_of}
-use Rattle.roam.proofs.AnswerLemmas.{run-prevents}
+use Rattle.std.proofs.Common.{map, rules, subst, sym}
+use Rattle.std.specs.Io.KnownBytes.{Keeps}
+use Rattle.roam.specs.CommandLine.{to_simulate, to_serve, Asks}
+use Rattle.roam.proofs.AnswerLemmas.{run-prevents, serve-prevents}
 use Rattle.roam.proofs.program.run.Goals as goal
 
+-- The words are those of a simulation, by the paths of the files that were read.
 pub returns-in_ok-script-in-Some-Sim-clause-err : goal.returns-in_ok-script-in-Some-Sim-clause-err
 returns-in_ok-script-in-Some-Sim-clause-err g c =
     let configuration = c.in_ok-configuration-in-Some-Sim.configuration in
     let script = c.in_ok-script-in-Some-Sim.script in
-    let worded : words_of (to_simulate configuration.path.now script.path.now)
-    ≡ map g.S.AsStr.text c.args.words.now = search rules in
+    let worded : Asks (map g.S.AsStr.text c.args.words.now) (to_simulate configuration.path.now script.path.now) = search rules in
     run-prevents _ configuration script _ _ c.simulate.result worded c.simulate.ensures.err
+
+-- The words are those of a server, by the path of the file that was read.
+pub returns-in_ok-configuration-in-Some-Serve-clause-err :
+    goal.returns-in_ok-configuration-in-Some-Serve-clause-err
+returns-in_ok-configuration-in-Some-Serve-clause-err g c =
+    let file = c.in_ok-configuration-in-Some-Serve.configuration in
+    let milliseconds = c.in-Some-Serve.milliseconds in
+    let out = g.W.Write.contents c.args.out.now in
+    let asked = rw c.in-Some-Serve.field-0-is at c.in-Some-Serve.ensures in
+    let words = map g.S.AsStr.text c.args.words.now in
+    let asks : Asks words (to_serve file.path.now milliseconds) =
+    subst (λ path. Asks words (to_serve path.now milliseconds))
+    (sym c.in_ok-configuration-in-Some-Serve.ensures.ok) asked in
+    let kept : Keeps out out = search rules in
+    serve-prevents _ file milliseconds out c.serve_file.result asks kept c.serve_file.ensures.err
