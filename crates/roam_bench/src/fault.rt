@@ -16,6 +16,8 @@ pub(crate) enum Fault {
     System,
     /// A configuration, a script or a packet that the program made isn't one, or isn't answered.
     Made,
+    /// An audit finds that a hub's steps aren't what its callers have.
+    Audit,
 }
 
 impl Fault {
@@ -26,6 +28,7 @@ impl Fault {
             Fault::Word => 2,
             Fault::Memory => 3,
             Fault::Made => 4,
+            Fault::Audit => 5,
         }
     }
 }

@@ -30,6 +30,16 @@ impl Counts {
             lost: 0,
         }
     }
+
+    /// Both together.
+    pub(crate) fn with(self, other: Counts) -> Counts {
+        Counts {
+            events: self.events.saturating_add(other.events),
+            packets: self.packets.saturating_add(other.packets),
+            refused: self.refused.saturating_add(other.refused),
+            lost: self.lost.saturating_add(other.lost),
+        }
+    }
 }
 
 /// A moment of the clock, and the processor time that the program's first thread took up to then.
@@ -85,7 +95,7 @@ fn in_second(count: u64, nanoseconds: u64) -> u64 {
 }
 
 /// Prints how many events were answered, and how.
-fn print_counts(rt: &HostRuntime, counts: Counts) -> io::Result<()> {
+pub(crate) fn print_counts(rt: &HostRuntime, counts: Counts) -> io::Result<()> {
     for (count, what) in [
         (counts.events, " events "),
         (counts.packets, " packets "),

@@ -37,9 +37,10 @@ impl Table {
     }
 
     /// The configuration. Replies are held for so long that none is due, and no session is remembered.
-    fn text(self, alloc: Global) -> Result<String, Fault> {
+    fn text(self, alloc: Global, shards: u16) -> Result<String, Fault> {
         let places = self.places;
         let mut text = String::new(alloc);
+        write!(text, "shards = {shards}\n")?;
         text.push_str(HEAD)?;
         for realm in 0..self.realms {
             let out = 10000 + u32::from(realm);
@@ -58,16 +59,20 @@ impl Table {
         Ok(text)
     }
 
-    /// The configuration of the table.
-    pub(crate) fn config(self, alloc: Global) -> Result<Config, Fault> {
-        let text = self.text(alloc)?;
+    /// The configuration of the table, in so many shards.
+    pub(crate) fn config_of_shards(self, alloc: Global, shards: u16) -> Result<Config, Fault> {
+        let text = self.text(alloc, shards)?;
         let config = read_config(alloc, text.as_str())?;
         Ok(config)
     }
+
+    /// The configuration of the table, in one shard.
+    pub(crate) fn config(self, alloc: Global) -> Result<Config, Fault> {
+        self.config_of_shards(alloc, 1)
+    }
 }
 
-const HEAD: &str = "shards = 1
-seed = \"0000000000000000000000000000000000000000000000000000000000000000\"
+const HEAD: &str = "seed = \"0000000000000000000000000000000000000000000000000000000000000000\"
 auth = \"127.0.0.1:1812\"
 acct = \"127.0.0.1:1813\"
 trace_limit = 1000000
