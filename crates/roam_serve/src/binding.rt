@@ -1,5 +1,10 @@
 //! The broker's sockets are bound, and given room for what arrives.
 
+ghost use Rattle.std.specs.Prelude.{◌≡◌, IfOk, IfErr, length, vec_len};
+ghost use Rattle.roam_conf.specs.Shown.{shown};
+ghost use Rattle.roam_port.specs.Sockets.{socket_endpoints};
+ghost use Rattle.roam_serve.specs.Faults.{IsFaultOf};
+
 use crate::fault::ServeFault;
 use crate::socket::socket_address;
 use roam_conf::{Config, Endpoint};
@@ -28,7 +33,11 @@ pub fn bind_all<R: Net>(
     rt: &R,
     alloc: Global,
     config: &Config,
-) -> Result<Vec<UdpSocket>, ServeFault> {
+) -> Result<Vec<UdpSocket>, ServeFault>
+    ensures ok { IfOk result (λ sockets. vec_len sockets
+        ≡ length (socket_endpoints (shown config.now))) }
+    ensures err { IfErr result (IsFaultOf (shown config.now)) }
+{
     let mut sockets = Vec::new(alloc);
     for number in 0..socket_count(config) {
         if let Some(endpoint) = endpoint_of(config, place_of(number)) {

@@ -1,6 +1,7 @@
 //! The threads of an epoch, before they start.
 
-ghost use Rattle.std.specs.Prelude.{◌≡◌, ◌<◌, length};
+ghost use Rattle.std.specs.Prelude.{◌≡◌, ◌<◌, IfErr, length};
+ghost use Rattle.roam_serve.specs.Faults.{IsAfterBinding};
 
 use crate::desk::Desk;
 use crate::ear::Ear;
@@ -46,8 +47,9 @@ fn ears<'s>(
     workers: usize,
 ) -> Result<Vec<Ear<'s>>, ServeFault>
     requires { worker < workers }
+    ensures { IfErr result IsAfterBinding }
 {
-    let mut ears = Vec::new(alloc);
+    let mut ears: Vec<Ear<'s>> = Vec::new(alloc);
     for (number, socket) in sockets.iter().enumerate() {
         if number < SOCKETS && is_served_by(number, worker, workers) {
             ears.push(Ear {
@@ -63,7 +65,9 @@ fn ears<'s>(
 }
 
 /// Registers the ears, each by its place in the list.
-fn register(poll: &Poll, ears: &[Ear<'_>]) -> Result<(), ServeFault> {
+fn register(poll: &Poll, ears: &[Ear<'_>]) -> Result<(), ServeFault>
+    ensures { IfErr result IsAfterBinding }
+{
     for (at, ear) in ears.iter().enumerate() {
         let fd = ear.socket.descriptor();
         if poll
@@ -78,7 +82,9 @@ fn register(poll: &Poll, ears: &[Ear<'_>]) -> Result<(), ServeFault> {
 }
 
 /// All sockets, as a sender's ports.
-fn ports(alloc: Global, sockets: &[UdpSocket]) -> Result<Vec<Socket<'_>>, ServeFault> {
+fn ports(alloc: Global, sockets: &[UdpSocket]) -> Result<Vec<Socket<'_>>, ServeFault>
+    ensures { IfErr result IsAfterBinding }
+{
     let mut ports = Vec::new(alloc);
     for socket in sockets {
         ports.push(Socket::new(socket))?;
@@ -96,6 +102,7 @@ fn worker<'s, 'c, R: Net, G, N: Opened>(
     workers: usize,
 ) -> Result<Worker<'s, 'c, G, N>, ServeFault>
     requires { number < workers }
+    ensures { IfErr result IsAfterBinding }
 {
     let Ok(poll) = Poll::new(rt) else {
         return Err(ServeFault::Memory);
@@ -131,6 +138,7 @@ impl<'s> Ends<'s> {
         seat: Seat<Global>,
     ) -> Result<Desk<'s, 'c, G, N>, ServeFault>
         requires { length seat ≡ N.opening.config.shards }
+        ensures { IfErr result IsAfterBinding }
     {
         let (outlet, intake) = ring(alloc)?;
         let (notices, queue) = queue_of_notices(alloc)?;
@@ -157,6 +165,7 @@ pub fn gather_crew<'s, 'c, R: Net, G, N: Opened>(
     seat: Seat<Global>,
 ) -> Result<Crew<'s, 'c, G, N>, ServeFault>
     requires { length seat ≡ N.opening.config.shards }
+    ensures { IfErr result IsAfterBinding }
 {
     let shards = usize::from(shared.config.shards);
     let mut workers = Vec::new(alloc);

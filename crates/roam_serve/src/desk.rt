@@ -1,6 +1,7 @@
 //! A worker's place at the hub, with its ways to its sender and to the teller of notices.
 
 ghost use Rattle.std.specs.Prelude.{◌≡◌, length};
+ghost use Rattle.roam_serve.specs.Notices as spec;
 
 use crate::clock::now;
 use crate::ending::{Ending, WorkerEnd};
@@ -28,8 +29,10 @@ pub struct Desk<'s, 'c, G, N: Opened> {
     ghost seated: { length seat ≡ N.opening.config.shards },
 }
 
-/// The refusal that a hub's fault is.
-fn refusal_of(fault: HubFault) -> Refusal {
+/// The refusal that a hub's fault is told as.
+fn refusal_of(fault: HubFault) -> Refusal
+    ensures { result ≡ spec.refusal_of fault }
+{
     match fault {
         HubFault::NoShard => Refusal::NoShard,
         HubFault::Misplaced => Refusal::Misplaced,
@@ -103,7 +106,11 @@ impl<G: Gate, N: Opened> Desk<'_, '_, G, N> {
     }
 
     /// Gives back the seat, and has all workers end.
-    pub fn leave(self, ending: Ending) -> WorkerEnd {
+    pub fn leave(self, ending: Ending) -> WorkerEnd
+        ensures ending { result.ending ≡ ending }
+        ensures seat { result.seat ≡ self.entry.seat }
+        ensures lost { result.lost ≡ self.entry.post.lost }
+    {
         let shared = self.shared;
         let number = self.number;
         let end = WorkerEnd {

@@ -1,6 +1,6 @@
 //! A socket that a worker hears.
 
-ghost use Rattle.std.specs.Prelude.{◌≤◌};
+ghost use Rattle.std.specs.Prelude.{◌≡◌, ◌<◌, ◌≤◌, ◌↔◌, IsTrue};
 ghost use Rattle.roam_port.specs.declared.heard.TheConstants.{FAULTS_TO_GIVE_UP};
 
 use crate::socket::Socket;
@@ -25,7 +25,13 @@ pub struct Ear<'s> {
 impl Ear<'_> {
     /// Receives once. After a fault the socket is tried again in the next round, whether there is
     /// word of it or not.
-    pub fn hear(&mut self, alloc: Global, buffer: &mut [u8]) -> Heard<Global> {
+    pub fn hear(&mut self, alloc: Global, buffer: &mut [u8]) -> Heard<Global>
+        ensures nothing { (result ≡ Heard.Nothing)
+            → (IsTrue self.new.is_ready ↔ (0 < self.new.faults)) }
+        ensures other { ¬ (result ≡ Heard.Nothing) → self.new.is_ready ≡ self.old.is_ready }
+        ensures place { self.new.place ≡ self.old.place }
+        ensures more { self.new.has_more ≡ self.old.has_more }
+    {
         let heard = listen(
             alloc,
             &mut self.socket,

@@ -1,5 +1,8 @@
 //! One epoch: the threads start, and end.
 
+ghost use Rattle.std.specs.Prelude.{IfErr};
+ghost use Rattle.roam_serve.specs.Faults.{IsAfterBinding};
+
 use crate::crew::{Crew, Sender};
 use crate::ending::WorkerEnd;
 use crate::fault::ServeFault;
@@ -7,14 +10,57 @@ use crate::sender::send_all;
 use crate::shared::Shared;
 use crate::teller::tell_all;
 use crate::timer::tick_on;
-use crate::worker::hear_on;
+use crate::worker::{Worker, hear_on};
 use log::Log;
 use roam_hub::{Gate, Opened};
 use std::alloc::Global;
 use std::sync::Wait;
 use std::thread;
-use std::thread::{JoinHandle, Threads};
+use std::thread::{JoinHandle, Parker, Scope, Threads};
 use std::time::Clock;
+
+/// Starts a thread for each sender. Answers whether all have started.
+fn start_senders<'s, 'w: 's, E, R: Wait + Sync>(
+    scope: &Scope<'s, E>,
+    rt: &'s R,
+    wakes: &'s [Parker],
+    senders: Vec<Sender<'w>>,
+) -> bool {
+    let mut have_started = true;
+    for (Sender { intake, ports }, wake) in senders.into_iter().zip(wakes) {
+        let is_started = scope
+            .spawn(move || send_all(rt, wake, intake, ports))
+            .is_ok();
+        have_started = have_started && is_started;
+    }
+    have_started
+}
+
+/// Starts a thread for each worker. Answers whether all have started.
+fn start_workers<
+    's,
+    'w: 's,
+    'c: 's,
+    E,
+    R: Wait + Clock + Sync,
+    G: Gate + Sync,
+    N: Opened + Send + Sync,
+>(
+    scope: &Scope<'s, E>,
+    rt: &'s R,
+    alloc: Global,
+    workers: Vec<Worker<'w, 'c, G, N>>,
+    handles: &mut Vec<JoinHandle<WorkerEnd>>,
+) -> bool {
+    let mut have_started = true;
+    for worker in workers {
+        match scope.spawn(move || hear_on(rt, alloc, worker)) {
+            Ok(handle) => have_started = handles.push(handle).is_ok() && have_started,
+            Err(_) => have_started = false,
+        }
+    }
+    have_started
+}
 
 /// Runs the threads of an epoch until they have ended, and gives back what the workers do.
 ///
@@ -31,7 +77,9 @@ pub fn run_epoch<
     alloc: Global,
     shared: &Shared<'_, '_, G, N>,
     crew: Crew<'s, '_, G, N>,
-) -> Result<Vec<WorkerEnd>, ServeFault> {
+) -> Result<Vec<WorkerEnd>, ServeFault>
+    ensures { IfErr result IsAfterBinding }
+{
     let Crew {
         workers,
         timer,
@@ -45,18 +93,8 @@ pub fn run_epoch<
         let mut have_started = scope
             .spawn(move || tell_all(rt, shared.teller, queues))
             .is_ok();
-        for (Sender { intake, ports }, wake) in senders.into_iter().zip(shared.senders) {
-            let is_started = scope
-                .spawn(move || send_all(rt, wake, intake, ports))
-                .is_ok();
-            have_started = have_started && is_started;
-        }
-        for worker in workers {
-            match scope.spawn(move || hear_on(rt, alloc, worker)) {
-                Ok(handle) => have_started = handles.push(handle).is_ok() && have_started,
-                Err(_) => have_started = false,
-            }
-        }
+        have_started = start_senders(scope, rt, shared.senders, senders) && have_started;
+        have_started = start_workers(scope, rt, alloc, workers, &mut handles) && have_started;
         match scope.spawn(move || tick_on(rt, timer)) {
             Ok(handle) => have_started = handles.push(handle).is_ok() && have_started,
             Err(_) => have_started = false,

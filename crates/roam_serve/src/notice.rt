@@ -1,7 +1,8 @@
 //! What is told on standard error, and the end of a worker's queue of it.
 
-ghost use Rattle.std.specs.Prelude.{◌≡◌, [], ◌∷◌, ◌++◌, IsTrue, IsFalse};
+ghost use Rattle.std.specs.Prelude.{◌≡◌, ◌+◌, ◌-◌, ◌^◌, ◌<◌, [], ◌∷◌, ◌++◌, IsTrue, IsFalse};
 ghost use Rattle.rtrb.specs.Ring.{sent};
+ghost use Rattle.roam_serve.specs.Notices.{notices_in, notices_among};
 
 use log::{Log, info, warn};
 use roam_conf::{Config, Endpoint};
@@ -48,6 +49,16 @@ pub fn tell<R: Log>(rt: &R, notice: Notice) {
     }
 }
 
+/// For how many notices one stands: a notice of dropped ones for those.
+pub fn notices_in(notice: Notice) -> u64
+    ensures { result ≡ notices_in notice }
+{
+    match notice {
+        Notice::Dropped(count) => count,
+        _ => 1,
+    }
+}
+
 /// What is served.
 pub fn serving(config: &Config) -> Notice {
     Notice::Serving(config.realms.len(), config.peers.len(), config.shards)
@@ -78,14 +89,21 @@ impl Notices {
         ensures put { IsTrue result → sent self.new.queue ≡ sent self.old.queue ++ notice ∷ [] }
         ensures full { IsFalse result → sent self.new.queue ≡ sent self.old.queue }
         ensures dropped { self.new.dropped ≡ self.old.dropped }
+        ensures woken { IsTrue result → IsTrue self.new.is_waiting }
+        ensures waiting { IsFalse result → self.new.is_waiting ≡ self.old.is_waiting }
     {
         let is_put = self.queue.push(notice).is_ok();
         self.is_waiting = self.is_waiting || is_put;
         is_put
     }
 
-    /// Says that an arrival was refused. Never waits.
-    pub fn refused(&mut self, refusal: Refusal) {
+    /// Says that an arrival was refused. Never waits. What the queue was given and what was dropped
+    /// grow by one notice together, until the count of dropped ones stands at its end.
+    pub fn refused(&mut self, refusal: Refusal)
+        ensures { self.old.dropped < 2 ^ 64 - 1
+            → notices_among (sent self.new.queue) + self.new.dropped
+            ≡ notices_among (sent self.old.queue) + self.old.dropped + 1 }
+    {
         if self.dropped > 0 && self.put(Notice::Dropped(self.dropped)) {
             self.dropped = 0;
         }
@@ -95,7 +113,12 @@ impl Notices {
     }
 
     /// Whether a notice was put since this was asked last.
-    pub fn take_waiting(&mut self) -> bool {
+    pub fn take_waiting(&mut self) -> bool
+        ensures value { result ≡ self.old.is_waiting }
+        ensures taken { IsFalse self.new.is_waiting }
+        ensures queue { sent self.new.queue ≡ sent self.old.queue }
+        ensures dropped { self.new.dropped ≡ self.old.dropped }
+    {
         let is_waiting = self.is_waiting;
         self.is_waiting = false;
         is_waiting

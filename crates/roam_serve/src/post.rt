@@ -1,6 +1,6 @@
 //! A worker's packets on their way to its sender.
 
-ghost use Rattle.std.specs.Prelude.{◌≡◌, ◌⊎◌, ◌+◌, ◌-◌, ◌^◌, [], ◌∷◌, ◌++◌, min};
+ghost use Rattle.std.specs.Prelude.{◌≡◌, ◌⊎◌, ◌+◌, ◌-◌, ◌^◌, [], ◌∷◌, ◌++◌, min, IsTrue, IsFalse};
 ghost use Rattle.roam_ring.specs.Ring.{put_packets};
 
 use roam_ring::Outlet;
@@ -16,7 +16,12 @@ pub struct Post {
 }
 
 impl Post {
-    pub fn new(outlet: Outlet<Global>) -> Post {
+    /// Nothing was lost, and nothing waits.
+    pub fn new(outlet: Outlet<Global>) -> Post
+        ensures outlet { put_packets result.outlet ≡ put_packets outlet }
+        ensures lost { result.lost ≡ 0 }
+        ensures waiting { IsFalse result.is_waiting }
+    {
         Post {
             outlet,
             lost: 0,
@@ -27,9 +32,10 @@ impl Post {
     /// Puts a packet into the ring. One that finds it full is lost, and counted.
     pub fn put(&mut self, out: Out<Global>)
         ensures { ((put_packets self.new.outlet ≡ put_packets self.old.outlet ++ out ∷ [])
-            × (self.new.lost ≡ self.old.lost))
+            × (self.new.lost ≡ self.old.lost) × IsTrue self.new.is_waiting)
             ⊎ ((put_packets self.new.outlet ≡ put_packets self.old.outlet)
-            × (self.new.lost ≡ min (2 ^ 64 - 1) (self.old.lost + 1))) }
+            × (self.new.lost ≡ min (2 ^ 64 - 1) (self.old.lost + 1))
+            × (self.new.is_waiting ≡ self.old.is_waiting)) }
     {
         if self.outlet.put(out).is_ok() {
             self.is_waiting = true;
@@ -46,14 +52,21 @@ impl Post {
     }
 
     /// Whether a packet was put since this was asked last.
-    pub fn take_waiting(&mut self) -> bool {
+    pub fn take_waiting(&mut self) -> bool
+        ensures value { result ≡ self.old.is_waiting }
+        ensures taken { IsFalse self.new.is_waiting }
+        ensures outlet { put_packets self.new.outlet ≡ put_packets self.old.outlet }
+        ensures lost { self.new.lost ≡ self.old.lost }
+    {
         let is_waiting = self.is_waiting;
         self.is_waiting = false;
         is_waiting
     }
 
     /// How many packets were lost.
-    pub fn lost(&self) -> u64 {
+    pub fn lost(&self) -> u64
+        ensures { result ≡ self.now.lost }
+    {
         self.lost
     }
 }

@@ -1,8 +1,14 @@
 //! The server.
 
-ghost use Rattle.std.specs.Prelude.{◌≡◌, IfOk, length};
+ghost use Rattle.std.specs.Prelude.{◌≡◌, ◌↔◌, [], IsOk, IfOk, IfErr, length, vec_len};
+ghost use Rattle.std.specs.List.{All};
 ghost use Rattle.roam_conf.specs.Shown.{shown};
 ghost use Rattle.roam_shard.specs.ShardView.{AreStarts};
+ghost use Rattle.roam_audit.specs.Audit.{IsInOrder};
+ghost use Rattle.roam_audit.specs.Shown.{recorded};
+ghost use Rattle.roam_hub.specs.HubOpening.{AreHistories, starts_at_end};
+ghost use Rattle.roam_serve.specs.Endings.{IsOutlook, endings_of, seats_of};
+ghost use Rattle.roam_serve.specs.Faults.{IsAfterBinding, IsFaultOf};
 
 use crate::binding::{RECEIVE_BUFFER, bind_all, widen};
 use crate::crew::{SOCKETS, gather_crew};
@@ -17,6 +23,7 @@ use roam_book::Start;
 use roam_conf::Config;
 use roam_hub::{Gate, Hub, HubFault, Opened, Report, Seat};
 use roam_port::{endpoint_of, place_of};
+use roam_shard::first_starts;
 use std::alloc::Global;
 use std::marker::Brand;
 use std::net::{Net, UdpSocket};
@@ -54,20 +61,10 @@ fn widen_all<R: Log>(rt: &R, config: &Config, sockets: &[UdpSocket]) {
     }
 }
 
-/// Each realm begins at place 0 of its random words and ticket 0.
-fn first_starts(alloc: Global, config: &Config) -> Result<Vec<Start>, ServeFault>
-    ensures { IfOk result (λ starts. AreStarts (shown config.now) starts.items) }
-{
-    let first = Start {
-        place: 0,
-        ticket: 0,
-    };
-    let starts = vec![in alloc; first; config.realms.len()]?;
-    Ok(starts)
-}
-
 /// What each of so many senders sleeps on.
-fn parkers(alloc: Global, count: u16) -> Result<Vec<Parker>, ServeFault> {
+fn parkers(alloc: Global, count: u16) -> Result<Vec<Parker>, ServeFault>
+    ensures { IfErr result IsAfterBinding }
+{
     let mut parkers = Vec::new(alloc);
     for _ in 0..count {
         parkers.push(Parker::new())?;
@@ -76,7 +73,11 @@ fn parkers(alloc: Global, count: u16) -> Result<Vec<Parker>, ServeFault> {
 }
 
 /// What the workers gave back.
-fn gather(alloc: Global, ends: Vec<WorkerEnd>) -> Result<Gathered, ServeFault> {
+fn gather(alloc: Global, ends: Vec<WorkerEnd>) -> Result<Gathered, ServeFault>
+    ensures outlook { IfOk result (λ g. IsOutlook (endings_of ends.items) g.outlook) }
+    ensures seats { IfOk result (λ g. g.seats.items ≡ seats_of ends.items) }
+    ensures err { IfErr result IsAfterBinding }
+{
     let mut outlook = Outlook::GoesOn;
     let mut seats = Vec::new(alloc);
     let mut lost = 0u64;
@@ -93,7 +94,11 @@ fn gather(alloc: Global, ends: Vec<WorkerEnd>) -> Result<Gathered, ServeFault> {
 }
 
 /// Audits the steps that a hub kept by the seats of its workers.
-fn audit(report: &Report<Global>, seats: &[Seat<Global>]) -> Result<(), ServeFault> {
+fn audit(report: &Report<Global>, seats: &[Seat<Global>]) -> Result<(), ServeFault>
+    ensures ok { IsOk result ↔ (All (λ seat. length seat ≡ vec_len report.now.steps) seats.now
+        × IsInOrder (recorded report.now) seats.now []) }
+    ensures err { IfErr result (λ fault. fault ≡ ServeFault.Audit) }
+{
     if report.takes(seats) && report.audit(seats, &[]).is_ok() {
         Ok(())
     } else {
@@ -112,7 +117,10 @@ fn count_steps(report: &Report<Global>) -> u64 {
 
 /// Closes a hub. The report says where the realms begin the next epoch.
 fn close<N: Opened>(hub: Hub<'_, Global, N>) -> Result<Report<Global>, ServeFault>
-    ensures { IfOk result (λ r. AreStarts N.opening.config r.starts.items) }
+    ensures histories { IfOk result (λ r. AreHistories N.opening (recorded r)) }
+    ensures starts { IfOk result (λ r. r.starts.items ≡ starts_at_end N.opening (recorded r)) }
+    ensures good { IfOk result (λ r. AreStarts N.opening.config r.starts.items) }
+    ensures err { IfErr result IsAfterBinding }
 {
     match hub.close() {
         Ok(report) => Ok(report),
@@ -137,6 +145,7 @@ fn serve_epoch<
 ) -> Result<Gathered, ServeFault>
     requires config { shown config.now ≡ N.opening.config }
     requires seat { length seat ≡ config.now.shards }
+    ensures { IfErr result IsAfterBinding }
 {
     let senders = parkers(alloc, config.shards.saturating_add(1))?;
     let teller = Parker::new();
@@ -156,7 +165,7 @@ fn serve_epoch<
     gather(alloc, ends)
 }
 
-/// One epoch: what follows, and where the realms begin the next one.
+/// One epoch: what follows, and its report, which says where the realms begin the next one.
 fn epoch<N: Opened + Send + Sync, R: Threads + Wait + Clock + Net + Log + Sync, G: Gate + Sync>(
     rt: &R,
     alloc: Global,
@@ -164,10 +173,13 @@ fn epoch<N: Opened + Send + Sync, R: Threads + Wait + Clock + Net + Log + Sync, 
     number: u64,
     config: &Config,
     starts: &[Start],
-) -> Result<(Outlook, Vec<Start>), ServeFault>
+) -> Result<(Outlook, Report<Global>), ServeFault>
     requires opening { N.opening ≡ record { config = shown config.now; starts = starts.now } }
     requires starts { AreStarts (shown config.now) starts.now }
-    ensures { IfOk result (λ r. AreStarts (shown config.now) r.1.items) }
+    ensures histories { IfOk result (λ r. AreHistories N.opening (recorded r.1)) }
+    ensures starts { IfOk result (λ r. r.1.starts.items ≡ starts_at_end N.opening (recorded r.1)) }
+    ensures good { IfOk result (λ r. AreStarts (shown config.now) r.1.starts.items) }
+    ensures err { IfErr result IsAfterBinding }
 {
     let (hub, seat) = Hub::<'_, Global, N>::open(alloc, config, starts)?;
     let gathered = serve_epoch(rt, alloc, service, config, &hub, seat)?;
@@ -180,21 +192,24 @@ fn epoch<N: Opened + Send + Sync, R: Threads + Wait + Clock + Net + Log + Sync, 
         tell_or_drop(rt, Notice::Lost(gathered.lost));
     }
     tell_or_drop(rt, Notice::Ended(number, count_steps(&report)));
-    Ok((gathered.outlook, report.starts))
+    Ok((gathered.outlook, report))
 }
 
 /// Serves a configuration for so many milliseconds, or without end.
 ///
 /// # Errors
 ///
-/// The first of `Bind`, `Memory`, `Receive` and `Audit` that comes up.
+/// The first of `Bind`, `Memory`, `Receive` and `Audit` that comes up. `Bind` names an endpoint of
+/// the configuration.
 pub fn serve<R: Threads + Wait + Clock + Net + Log + Sync, G: Gate + Sync>(
     rt: &R,
     alloc: Global,
     config: &Config,
     milliseconds: Option<u64>,
     gate: &G,
-) -> Result<(), ServeFault> {
+) -> Result<(), ServeFault>
+    ensures { IfErr result (IsFaultOf (shown config.now)) }
+{
     let start = Instant::now(rt).ok();
     let sockets = bind_all(rt, alloc, config)?;
     widen_all(rt, config, sockets.as_slice());
@@ -208,7 +223,7 @@ pub fn serve<R: Threads + Wait + Clock + Net + Log + Sync, G: Gate + Sync>(
     let mut starts = first_starts(alloc, config)?;
     let mut number = 0u64;
     for _ in rt.forever() {
-        let (outlook, next) = epoch::<Brand, R, G>(
+        let (outlook, report) = epoch::<Brand, R, G>(
             rt,
             alloc,
             &service,
@@ -219,7 +234,7 @@ pub fn serve<R: Threads + Wait + Clock + Net + Log + Sync, G: Gate + Sync>(
         if outlook == Outlook::TimeOver {
             return Ok(());
         }
-        starts = next;
+        starts = report.starts;
         number = number.saturating_add(1);
     }
     unreachable!()

@@ -1,6 +1,6 @@
 //! The thread that tells notices, and never waits for whoever reads them.
 
-use crate::notice::{Notice, tell};
+use crate::notice::{Notice, notices_in, tell};
 use libc::net::{POLLOUT, poll};
 use libc::types::pollfd;
 use log::Log;
@@ -30,13 +30,13 @@ pub fn tell_or_drop<R: Log>(rt: &R, notice: Notice) -> bool {
     is_told
 }
 
-/// Tells what lies in one queue, or drops it, and answers how many were dropped.
+/// Tells what lies in one queue, or drops it, and answers how many notices are lost by that.
 fn empty<R: Wait + Log>(rt: &R, queue: &mut Consumer<Notice>) -> u64 {
     let mut dropped = 0u64;
     for _ in rt.forever() {
         match queue.pop() {
             Ok(notice) if tell_or_drop(rt, notice) => {}
-            Ok(_) => dropped = dropped.saturating_add(1),
+            Ok(notice) => dropped = dropped.saturating_add(notices_in(notice)),
             Err(_) => return dropped,
         }
     }

@@ -1,0 +1,16 @@
+-- Which faults end a server. Ours.
+use Rattle.std.specs.Prelude.{Contains}
+use Rattle.roam_conf.specs.Config.{ConfigView}
+use Rattle.roam_port.specs.Sockets.{socket_endpoints}
+use Rattle.roam_serve.specs.declared.fault.ServeFault.{ServeFault}
+use Rattle.roam_serve.specs.declared.fault.ServeFault.TheVariants as fault
+
+-- a fault of a server of this configuration: the endpoint that can't be bound is one of its own
+abbrev pub IsFaultOf : ConfigView → ServeFault → Type 0
+IsFaultOf config (fault.Bind endpoint) = Contains (socket_endpoints config) endpoint
+IsFaultOf config _ = Unit {0}
+
+-- a fault that comes when all sockets are bound
+abbrev pub IsAfterBinding : ServeFault → Type 0
+IsAfterBinding (fault.Bind endpoint) = ⊥
+IsAfterBinding _ = Unit {0}
