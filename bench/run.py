@@ -18,7 +18,8 @@ RATIO_WANTED, COST_WANTED = 0.35, 4.2
 
 def read_options():
     parser = argparse.ArgumentParser(description=__doc__)
-    parser.add_argument("mode", choices=["table", "interference", "soak", "mutated", "idle", "pauses"])
+    parser.add_argument("mode", choices=["table", "interference", "soak", "mutated", "idle",
+                                         "pauses"])
     parser.add_argument("--broker", choices=configurations.BROKERS, default="roam")
     parser.add_argument("--command", help="in which {conf} and {ms} are filled in")
     parser.add_argument("--realms", default=None, help="numbers with commas between them")
