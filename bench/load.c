@@ -105,8 +105,8 @@ static int soak(struct bench *bench)
     struct window *window = &bench->window;
 
     printf("| minute | sent | good | resent | lost | skipped | bad | p50 us | p99 us |"
-           " longest us | broker us | broker KiB |\n");
-    printf("|---|---|---|---|---|---|---|---|---|---|---|---|\n");
+           " longest us | broker us | broker KiB | stolen %% |\n");
+    printf("|---|---|---|---|---|---|---|---|---|---|---|---|---|\n");
     generator_start(bench->generator, plan->rate, 0);
     for (uint64_t minute = 1; (now = now_nanoseconds()) + SECOND / 2 < end; minute++) {
         uint64_t left = (end - now + SECOND / 2) / SECOND;

@@ -30,6 +30,19 @@ static struct dropped read_dropped(const struct plan *plan)
                             dropped_datagrams(base + 1000, base + 1000 + 2 * MOST_REALMS)};
 }
 
+static struct host_time host_time_since(struct host_time before)
+{
+    struct host_time time = read_host_time();
+
+    return (struct host_time){time.stolen - before.stolen, time.all - before.all};
+}
+
+/* What the host took, in hundredths of all processor time of a window. */
+static double stolen_percent(struct host_time time)
+{
+    return time.all > 0 ? 100.0 * (double)time.stolen / (double)time.all : 0;
+}
+
 static struct tally tally_between(const struct tally *before, const struct tally *after)
 {
     struct tally tally = *after;
@@ -57,6 +70,7 @@ void measure(struct generator *generator, const struct board *board, uint64_t wa
 {
     const uint64_t second = 1000000000;
     struct dropped dropped;
+    struct host_time host;
     struct tally before;
     struct used used;
     uint64_t begin;
@@ -66,6 +80,7 @@ void measure(struct generator *generator, const struct board *board, uint64_t wa
     latency_clear(&generator->latency);
     read_broker_threads(generator, &window->before);
     dropped = read_dropped(generator->plan);
+    host = read_host_time();
     used = read_used(generator, board);
     begin = now_nanoseconds();
     generator_run(generator, begin + seconds * second);
@@ -73,6 +88,7 @@ void measure(struct generator *generator, const struct board *board, uint64_t wa
     window->used = used_between(used, read_used(generator, board));
     read_broker_threads(generator, &window->after);
     window->tally = tally_between(&before, &generator->tally);
+    window->host = host_time_since(host);
     window->dropped = read_dropped(generator->plan);
     window->dropped.at_broker -= dropped.at_broker;
     window->dropped.at_home -= dropped.at_home;
@@ -121,6 +137,7 @@ void print_window(const char *label, const struct generator *generator,
     print_tally(&window->tally);
     printf("dropped_at_broker=%llu\ndropped_at_home=%llu\n",
            (number)window->dropped.at_broker, (number)window->dropped.at_home);
+    printf("stolen_percent=%.1f\n", stolen_percent(window->host));
     print_used("generator", window->used.generator, good);
     print_used("home", window->used.home, good);
     print_used("broker", window->used.broker, good);
@@ -138,12 +155,13 @@ void print_minute(const struct generator *generator, const struct window *window
     uint64_t good = tally->verdicts[GOOD];
 
     printf("| %llu | %llu | %llu | %llu | %llu | %llu | %llu | %.0f | %.0f | %.0f | %.1f |"
-           " %llu |\n",
+           " %llu | %.0f |\n",
            (number)minute, (number)tally->sent, (number)good, (number)tally->resent,
            (number)tally->lost, (number)tally->skipped, (number)bad_answers(tally),
            latency_at(latency, 0.5), latency_at(latency, 0.99), latency_at(latency, 1),
            good > 0 ? (double)window->used.broker / 1000 / (double)good : 0,
-           (number)resident_memory((pid_t)generator->plan->process));
+           (number)resident_memory((pid_t)generator->plan->process),
+           stolen_percent(window->host));
     fflush(stdout);
 }
 

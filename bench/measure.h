@@ -20,6 +20,7 @@ struct dropped {
 struct window {
     uint64_t nanoseconds;
     struct dropped dropped;
+    struct host_time host;
     struct tally tally;
     struct used used;
     struct thread_times before;

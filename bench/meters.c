@@ -67,6 +67,26 @@ bool is_alive(pid_t process)
     return resident_memory(process) > 0;
 }
 
+/* The first line of /proc/stat: user nice system idle iowait irq softirq steal. */
+struct host_time read_host_time(void)
+{
+    enum { STEAL = 7, FIELDS = 8 };
+    FILE *file = fopen("/proc/stat", "r");
+    struct host_time time = {0, 0};
+    unsigned long long field;
+
+    if (file == NULL)
+        return time;
+    if (fscanf(file, "cpu") == 0)
+        for (int at = 0; at < FIELDS && fscanf(file, "%llu", &field) == 1; at++) {
+            time.all += field;
+            if (at == STEAL)
+                time.stolen = field;
+        }
+    fclose(file);
+    return time;
+}
+
 uint64_t dropped_datagrams(unsigned first_port, unsigned end_port)
 {
     FILE *file = fopen("/proc/net/udp", "r");

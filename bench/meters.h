@@ -18,6 +18,13 @@ uint64_t own_thread_time(void);
 /* VmRSS in KiB; 0 where it can't be read. */
 uint64_t resident_memory(pid_t process);
 bool is_alive(pid_t process);
+/* What the host took of the machine's processors, and all their time, in ticks. */
+struct host_time {
+    uint64_t stolen;
+    uint64_t all;
+};
+
+struct host_time read_host_time(void);
 /* Datagrams that found the buffer of their socket full, of sockets that are open now. */
 uint64_t dropped_datagrams(unsigned first_port, unsigned end_port);
 

@@ -118,6 +118,31 @@ def refusals():
     return ", ".join(f"{number}: {counts[number]}" for number in sorted(counts)) or "none"
 
 
+def told():
+    """What the broker's log says of epochs, of full rings and of notices that it dropped."""
+    sums = {"epochs": 0, "steps": 0, "lost by a full ring": 0, "notices dropped": 0}
+    with open(LOG, "rb") as log:
+        for line in log:
+            if found := re.search(rb"epoch \d+ ended with (\d+) steps", line):
+                sums["epochs"] += 1
+                sums["steps"] += int(found.group(1))
+            elif found := re.search(rb"(\d+) packets lost by a full ring", line):
+                sums["lost by a full ring"] += int(found.group(1))
+            elif found := re.search(rb"(\d+) notices dropped", line):
+                sums["notices dropped"] += int(found.group(1))
+    return ", ".join(f"{name} {count}" for name, count in sums.items())
+
+
+def processor_seconds(process):
+    """User and system time of a process so far, by its clock (CPUCLOCK_SCHED of a process)."""
+    return time.clock_gettime((~process << 3) | 2)
+
+
+def resident_mebibytes(process):
+    with open(f"/proc/{process}/status", encoding="ascii") as file:
+        return next(int(line.split()[1]) for line in file if line.startswith("VmRSS:")) / 1024
+
+
 def load_words(mode, options, realms, via, process, **more):
     words = [os.path.join(BENCH, "load"), mode, f"via={via}", f"realms={realms}",
              f"board={BOARD}", f"pid={process}"]

@@ -6,16 +6,20 @@ import os
 import statistics
 import subprocess
 import sys
+import time
 
 import configurations
-from processes import BENCH, DIRECTORY, LOG, Broker, Homes, load, load_words, refusals
+from prober import Prober
+from processes import (BENCH, DIRECTORY, LOG, Broker, Homes, load, load_words, processor_seconds,
+                       refusals, resident_mebibytes, told)
 
 RATIO_WANTED, COST_WANTED = 0.35, 4.2
 
 
 def read_options():
     parser = argparse.ArgumentParser(description=__doc__)
-    parser.add_argument("mode", choices=["table", "interference", "soak", "mutated"])
+    parser.add_argument("mode", choices=["table", "interference", "soak", "mutated", "idle",
+                                         "pauses"])
     parser.add_argument("--broker", choices=configurations.BROKERS, default="roam")
     parser.add_argument("--command", help="in which {conf} and {ms} are filled in")
     parser.add_argument("--realms", default=None, help="numbers with commas between them")
@@ -65,14 +69,19 @@ def lost_and_bad(rounds, mode):
 CLOSED_HEAD = ["shards", "realms", "direct /s", "broker /s", "ratio", "home us (direct)",
                "home us", "broker us", "broker/home (direct)", "broker/home", "generator us",
                "p50 us", "p99 us", "direct p50", "direct p99", "lost", "resent", "bad",
-               "memory MiB"]
+               "memory MiB", "stolen % (direct)", "stolen %"]
 PACED_HEAD = ["shards", "realms", "p50 us", "p99 us", "direct p50", "direct p99", "broker us",
-              "home us", "home us (direct)", "lost", "resent", "bad", "memory MiB"]
+              "home us", "home us (direct)", "lost", "resent", "bad", "memory MiB",
+              "stolen % (direct)", "stolen %"]
 
 
 def latencies(rounds, mode):
     return [f"{middle(rounds, via, mode, name):.0f}" for via in ("broker", "direct")
             for name in ("p50_us", "p99_us")]
+
+
+def stolen(rounds, mode):
+    return [f"{middle(rounds, via, mode, 'stolen_percent'):.0f}" for via in ("direct", "broker")]
 
 
 def share(part, whole):
@@ -89,7 +98,7 @@ def closed_row(rounds, realms, shards):
     return [shards, realms, f"{direct:.0f}", f"{broker:.0f}", share(broker, direct),
             f"{home_direct:.2f}", f"{home:.2f}", f"{used:.2f}", share(used, home_direct),
             share(used, home), f"{generator:.2f}", *latencies(rounds, "closed"),
-            *lost_and_bad(rounds, "closed"), f"{memory:.0f}"]
+            *lost_and_bad(rounds, "closed"), f"{memory:.0f}", *stolen(rounds, "closed")]
 
 
 def paced_row(rounds, realms, shards):
@@ -97,7 +106,7 @@ def paced_row(rounds, realms, shards):
     used = [middle(rounds, via, "paced", name) for via, name in
             (("broker", "broker_us"), ("broker", "home_us"), ("direct", "home_us"))]
     return [shards, realms, *latencies(rounds, "paced"), *(f"{time:.1f}" for time in used),
-            *lost_and_bad(rounds, "paced"), f"{memory:.0f}"]
+            *lost_and_bad(rounds, "paced"), f"{memory:.0f}", *stolen(rounds, "paced")]
 
 
 def print_row(cells):
@@ -152,18 +161,20 @@ def through_broker(options, mode, bound, **more):
     print()
     print(homes.counts, end="")
     print(f"broker: {'still ran' if broker.ended is None else f'ended, status {broker.ended}'}")
-    print(f"refused, by number: {refusals()}\n", flush=True)
+    print(f"refused, by number: {refusals()}")
+    print(f"told: {told()}\n", flush=True)
     return ran
 
 
 INTERFERENCE_HEAD = ["flood /s", "realm 0", "others /s", "p50 us", "p99 us", "longest us", "resent",
                      "lost", "skipped", "bad", "dropped at broker", "broker us", "realm 0 sent",
-                     "answered"]
+                     "answered", "stolen %"]
 
 
 def interference_row(rate, label, section):
     names = ["exchanges_a_second", "p50_us", "p99_us", "longest_us", "resent", "lost", "skipped",
-             "bad", "dropped_at_broker", "broker_us", "realm0_sent", "realm0_answered"]
+             "bad", "dropped_at_broker", "broker_us", "realm0_sent", "realm0_answered",
+             "stolen_percent"]
     return [rate or "all it can", label] + [f"{section.get(name, 0):.0f}" for name in names]
 
 
@@ -194,12 +205,53 @@ def mutated(options):
     return int("broker_ended" in ran["total"] or ran["total"]["bad"] > 0)
 
 
+def idle(options):
+    """Processor time of a broker to which nobody sends anything."""
+    seconds = options.seconds or 10
+    print_head(["shards", "realms", "of a processor", "memory MiB"])
+    for shards in numbers_of(options.shards, "1,2,3"):
+        for realms in numbers_of(options.realms, "8"):
+            with Broker(options, realms, shards, seconds + 5) as broker:
+                time.sleep(1)
+                process = broker.process.pid
+                begin, used = time.monotonic(), processor_seconds(process)
+                time.sleep(seconds)
+                used = processor_seconds(process) - used
+                share_used = used / (time.monotonic() - begin)
+                memory = resident_mebibytes(process)
+            print_row([shards, realms, f"{100 * share_used:.2f} %", f"{memory:.0f}"])
+    return 0
+
+
+def pauses(options):
+    """How long nobody is answered when an epoch ends, at `--rate` exchanges a second."""
+    seconds = options.seconds or 20
+    realms = numbers_of(options.realms, "8")[0]
+    shards = numbers_of(options.shards, "2")[0]
+    with Homes(options, realms, seconds + 80):
+        with Broker(options, realms, shards, seconds + 20) as broker:
+            prober = Prober(options.base, seconds)
+            prober.start()
+            words = load_words("paced", options, realms, "broker", broker.process.pid,
+                               seconds=seconds)
+            ran = load(words, seconds)["paced"]
+            prober.join()
+    middle = statistics.median(wait for wait, _ in prober.waits)
+    print(f"probes answered {len(prober.waits)}, not {len(prober.sent)}, half of them within "
+          f"{1e6 * middle:.0f} us; the longest waits:")
+    for wait, asked in prober.longest(10):
+        print(f"- at {asked:.1f} s: {1e3 * wait:.1f} ms")
+    print(f"told: {told()}")
+    print(", ".join(f"{name} {value:g}" for name, value in ran.items()))
+    return 0
+
+
 def main():
     options = read_options()
     os.makedirs(DIRECTORY, exist_ok=True)
     subprocess.run(["make", "-s", "-C", BENCH, "all", "test"], check=True)
     return {"table": table, "interference": interference, "soak": soak,
-            "mutated": mutated}[options.mode](options)
+            "mutated": mutated, "idle": idle, "pauses": pauses}[options.mode](options)
 
 
 if __name__ == "__main__":

@@ -4,7 +4,7 @@
 # Tries what docs/SPREADING.md says, in network namespaces of this machine: N access servers, a balancer, two brokers
 # and a home server. It fails unless each source keeps to one broker, duplicates are forwarded once, and a Disconnect is
 # taken by the broker from which its session came; and, when the second broker is taken out, the first one has all.
-# It needs root, ip, nft and python3 (3.11), and cleans up after itself.
+# It needs root, ip, ss, nft and python3 (3.11), and cleans up after itself.
 #
 #   --by nft      nftables, a hash of the source address (the default)
 #   --by route    a route with two next hops, chosen by a hash of the addresses
@@ -44,6 +44,15 @@ part() { run "$1" python3 "$here/spreading.py" "${@:2}"; }
 start() {
     ip netns exec "$net-$1" "${@:2}" > "$dir/$1.out" 2> "$dir/$1.err" &
     started+=($!)
+}
+# Waits until a program in a namespace has bound port 1812, five seconds at most.
+ready() {
+    for _ in $(seq 50); do
+        [ -n "$(run "$1" ss -H -u -l -n 'sport = :1812')" ] && return
+        sleep 0.1
+    done
+    echo "$1 isn't ready" >&2
+    return 1
 }
 # A cable from a namespace to the balancer: NAMESPACE ADDRESS ADDRESS-OF-THE-BALANCER.
 cable() {
@@ -107,6 +116,7 @@ for broker in broker1 broker2; do
 done
 start home python3 "$here/spreading.py" home "$dir/seen"
 start nas python3 "$here/spreading.py" disconnected "$sources"
+for part in broker1 broker2 home; do ready $part; done
 
 part nas access-servers $service "$sources"
 part home verdict "$dir/seen" "$sources" 2
