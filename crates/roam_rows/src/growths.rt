@@ -67,7 +67,10 @@ impl<'p, 'r> Player<'p, 'r> {
             }
             self.keeps_answer(&mut answers);
         }
-        self.looks_at_steps(row, broker, &answers);
+        // Probes are stored between the events.
+        if row.probes.is_empty() {
+            self.looks_at_steps(row, broker, &answers);
+        }
     }
 
     /// The event at a place meets its `n`-th growth refused; the same event and those after it are then answered

@@ -6,7 +6,9 @@ use crate::player::{Over, Player};
 use crate::row::{Row, Step};
 use roam_book::Answer;
 use roam_core::Event;
+use roam_route::Datagram;
 use roam_trace::Step as Stored;
+use roam_wire::Octets;
 use std::alloc::Allocator;
 
 /// The stored steps of each shard, and how many of them were found.
@@ -39,6 +41,30 @@ impl<'s, 'r> Looking<'s, 'r> {
     }
 }
 
+/// An event as its step stores it: of a datagram the packet alone, without the padding behind its Length (RFC 2865,
+/// section 3). None where there is no such packet, or memory is wanting.
+fn without_padding<'r>(over: Over<'r>, event: &Event<Over<'r>>) -> Option<Event<Over<'r>>> {
+    match event {
+        Event::Tick { now, shard } => Some(Event::Tick {
+            now: *now,
+            shard: *shard,
+        }),
+        Event::Arrive { now, datagram } => {
+            let octets = datagram.octets.as_slice();
+            let length = u16::from_be_bytes([*octets.get(2)?, *octets.get(3)?]);
+            let packet = octets.get(..usize::from(length))?;
+            Some(Event::Arrive {
+                now: *now,
+                datagram: Datagram {
+                    at: datagram.at,
+                    from: datagram.from,
+                    octets: Octets::copy_of(over, packet).ok()?,
+                },
+            })
+        }
+    }
+}
+
 /// How many steps are stored.
 pub(crate) fn count_of<A: Allocator>(stored: &[Vec<Stored<A>, A>]) -> usize {
     let mut count = 0usize;
@@ -50,6 +76,7 @@ pub(crate) fn count_of<A: Allocator>(stored: &[Vec<Stored<A>, A>]) -> usize {
 
 /// Whether the stored steps are those of the events that were taken, with these answers.
 fn are_those_of<'r>(
+    over: Over<'r>,
     events: &[Step<Over<'r>>],
     answers: &[Option<Answer<Over<'r>>>],
     steps: &[Vec<Stored<Over<'r>>, Over<'r>>],
@@ -60,10 +87,10 @@ fn are_those_of<'r>(
     };
     for (step, answer) in events.iter().zip(answers.iter()) {
         if is_taken(step.answer.as_bytes()) {
-            let Some(answer) = answer else {
+            let (Some(event), Some(answer)) = (without_padding(over, &step.event), answer) else {
                 return false;
             };
-            if !looking.finds(&step.event, answer) {
+            if !looking.finds(&event, answer) {
                 return false;
             }
         }
@@ -94,7 +121,7 @@ impl<'p, 'r> Player<'p, 'r> {
             return self.tell(row.line, "stored steps", "steps", "want of memory");
         };
         self.tally.count_stored(count_of(&steps));
-        if !are_those_of(&row.steps, answers, &steps) {
+        if !are_those_of(self.over, &row.steps, answers, &steps) {
             self.tell(
                 row.line,
                 "stored steps",
