@@ -35,6 +35,10 @@ pub(crate) const OTHER_REQUEST_7: &str =
 pub(crate) const FIRST: &str =
     "0100003d76b8e0ada0f13d90405d6ae55386bd285012bc7a9b1a72ede7d31f1894193a8f42ea010d7540612e6578616d706c65210a0000000000000000";
 
+/// The first request of `b.example` as it leaves.
+pub(crate) const OTHER_FIRST: &str =
+    "0100003def3fdfd6c61578fbf5cf35bd3dd33b8050120be50f7f93d7755895e284d3df1971f7010d7540622e6578616d706c65210a0000000000000000";
+
 /// The first request where the realm begins at its fifth word and ticket 1, by the RFCs' formulas.
 pub(crate) const SECOND: &str =
     "0100003dbdd219b8a08ded1aa836efcc8b770dc75012d76243b0bbef90545763790f19afd8a5010d7540612e6578616d706c65210a0000000000000001";

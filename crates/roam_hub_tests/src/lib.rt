@@ -3,14 +3,16 @@
 #![tactic(auto)]
 
 #[cfg(test)]
-mod caller;
+mod at_once;
 #[cfg(test)]
-mod calls_tests;
+mod caller;
 #[cfg(test)]
 mod configuration;
 #[cfg(test)]
 mod growth_tests;
 #[cfg(test)]
 mod limit_tests;
+#[cfg(test)]
+mod threads_tests;
 #[cfg(test)]
 mod tick_tests;

@@ -16,8 +16,9 @@ use std::process::Abort;
 use std::sync::Wait;
 
 /// The number of a tick's receipt, whether it sends the request again, why the tick of a shard that
-/// isn't there isn't recorded, and how many steps the first shard has at the end.
-type Ticked = (u64, bool, Option<HubFault>, Option<usize>);
+/// isn't there isn't recorded; and at the end how many steps the first shard has, and where its realm
+/// would go on.
+type Ticked = (u64, bool, Option<HubFault>, Option<usize>, Option<Start>);
 
 /// A hub that is given a request, a tick when its server is late, and a tick of no shard.
 fn ticked<N: Opened + Send + Sync, R: Abort + Wait>(
@@ -37,7 +38,14 @@ fn ticked<N: Opened + Send + Sync, R: Abort + Wait>(
     let _seat = caller.into_seat();
     let report = hub.close().expect(rt, "a report");
     let steps = report.steps.first().map(|steps| steps.len());
-    (tick.number, sends(rt, alloc, &tick, FIRST), no_shard, steps)
+    let start = report.starts.first().copied();
+    (
+        tick.number,
+        sends(rt, alloc, &tick, FIRST),
+        no_shard,
+        steps,
+        start,
+    )
 }
 
 /// The same, of a realm of two servers.
@@ -49,6 +57,10 @@ fn two_servers<R: Abort + Wait>(rt: &R, alloc: Global) -> Ticked {
 
 #[test]
 fn a_late_server_and_no_shard(rt: HostRuntime) {
-    let expected = (1, true, Some(HubFault::NoShard), Some(2));
+    let start = Start {
+        place: 4,
+        ticket: 1,
+    };
+    let expected = (1, true, Some(HubFault::NoShard), Some(2), Some(start));
     assert!(rt; two_servers(&rt, rt.alloc()) == expected);
 }

@@ -1,0 +1,182 @@
+//! A hub that two threads call at once: the second call comes while the first is held inside its
+//! shard, with that shard's lock.
+
+ghost use Rattle.std.specs.Prelude.{◌≡◌};
+ghost use Rattle.roam_conf.specs.Shown.{shown};
+ghost use Rattle.roam_shard.specs.ShardView.{AreStarts};
+
+use crate::caller::{Caller, OTHER_REQUEST_7, REQUEST_7};
+use roam_book::Start;
+use roam_conf::Config;
+use roam_hub::{Gate, Hub, Opened, Receipt, Report, Seat, split};
+use std::alloc::Global;
+use std::process::Abort;
+use std::sync::Wait;
+use std::sync::atomic::{AtomicU64, Ordering};
+use std::thread;
+use std::thread::Threads;
+use std::time::{Clock, Duration};
+
+/// How far two calls are.
+pub(crate) type Stage = u64;
+
+/// No call is inside shard 0 yet.
+pub(crate) const OUTSIDE: Stage = 0;
+
+/// The first call is inside shard 0.
+pub(crate) const INSIDE: Stage = 1;
+
+/// The second call was answered meanwhile.
+pub(crate) const ANSWERED: Stage = 2;
+
+/// The first call waited for that in vain, and goes on.
+pub(crate) const IN_VAIN: Stage = 3;
+
+/// How often a thread looks whether the other is inside.
+const TURNS: u64 = 1_000_000;
+
+/// What two threads share.
+#[derive(Drop)]
+struct Meeting {
+    stage: AtomicU64,
+    /// The shards that the gate was told, each one more than its number, added up.
+    shards: AtomicU64,
+}
+
+impl Meeting {
+    /// Waits for a stage: looks this often at most, and after each hundredth time sleeps for a
+    /// millisecond.
+    fn wait_for<R: Clock>(&self, rt: &R, wanted: Stage, turns: u64) {
+        for turn in 0..turns {
+            if self.stage.load(Ordering::SeqCst) >= wanted {
+                return;
+            }
+            if turn % 100 == 99 {
+                thread::sleep(rt, Duration::from_millis(1));
+            }
+        }
+    }
+
+    /// Goes on from `INSIDE`, unless the other thread has done so.
+    fn go_on(&self, next: Stage) {
+        let _ = self
+            .stage
+            .compare_exchange(INSIDE, next, Ordering::SeqCst, Ordering::SeqCst);
+    }
+}
+
+/// Holds the first call that comes inside shard 0, until the other is answered, or in vain for this
+/// many turns.
+#[derive(Drop)]
+struct Held<'r, 'm, R> {
+    rt: &'r R,
+    meeting: &'m Meeting,
+    turns: u64,
+}
+
+impl<R: Clock> Gate for Held<'_, '_, R> {
+    fn inside(&self, shard: u16) {
+        let meeting = self.meeting;
+        meeting
+            .shards
+            .fetch_add(u64::from(shard) + 1, Ordering::SeqCst);
+        if shard == 0 && meeting.stage.load(Ordering::SeqCst) == OUTSIDE {
+            meeting.stage.store(INSIDE, Ordering::SeqCst);
+            meeting.wait_for(self.rt, ANSWERED, self.turns);
+            meeting.go_on(IN_VAIN);
+        }
+    }
+}
+
+/// What a caller has of a hub that it called once.
+#[derive(Drop)]
+struct Called {
+    receipt: Receipt<Global>,
+    seat: Seat<Global>,
+}
+
+/// A caller in a thread of its own submits its job.
+fn submit_as<R: Abort + Wait, N: Opened, G: Gate>(
+    rt: &R,
+    mut caller: Caller<'_, '_, Global, N>,
+    gate: &G,
+) -> Called {
+    let receipt = caller.submit(rt, gate).expect(rt, "a receipt");
+    let seat = caller.into_seat();
+    Called { receipt, seat }
+}
+
+/// Another one does so while the first is inside, and says when it is answered.
+fn submit_meanwhile<R: Abort + Wait + Clock, N: Opened, G: Gate>(
+    rt: &R,
+    caller: Caller<'_, '_, Global, N>,
+    gate: &G,
+    meeting: &Meeting,
+) -> Called {
+    meeting.wait_for(rt, INSIDE, TURNS);
+    let called = submit_as(rt, caller, gate);
+    meeting.go_on(ANSWERED);
+    called
+}
+
+/// What two callers have of one hub, what it has at its end, the last stage, and the shards that the
+/// gate was told, each one more than its number, added up.
+#[derive(Drop)]
+pub(crate) struct Ended {
+    pub(crate) receipts: [Receipt<Global>; 2],
+    pub(crate) seats: [Seat<Global>; 2],
+    pub(crate) report: Report<Global>,
+    pub(crate) stage: Stage,
+    pub(crate) shards: u64,
+}
+
+/// The request of the second caller, for a realm.
+fn request_of(realm: u16) -> &'static str {
+    if realm == 0 {
+        REQUEST_7
+    } else {
+        OTHER_REQUEST_7
+    }
+}
+
+/// A hub that two threads call at once. The first submits a request of the first realm; the second one
+/// of this realm, for whose answer the first waits so many turns.
+pub(crate) fn called_at_once<N: Opened + Send + Sync, R: Abort + Threads + Wait + Clock + Sync>(
+    rt: &R,
+    alloc: Global,
+    config: &Config,
+    starts: &[Start],
+    realm: u16,
+    turns: u64,
+) -> Ended
+    requires opening { N.opening ≡ record { config = shown config.now; starts = starts.now } }
+    requires starts { AreStarts (shown config.now) starts.now }
+{
+    let (hub, seat) = Hub::<Global, N>::open(alloc, config, starts).expect(rt, "a hub");
+    let Ok((first, second)) = split(seat) else {
+        panic!(rt; "no second seat");
+    };
+    let first = Caller::new(rt, alloc, config, &hub, first, REQUEST_7);
+    let second = Caller::new(rt, alloc, config, &hub, second, request_of(realm));
+    let meeting = Meeting {
+        stage: AtomicU64::new(OUTSIDE),
+        shards: AtomicU64::new(0),
+    };
+    let gate = Held {
+        rt,
+        meeting: &meeting,
+        turns,
+    };
+    let (first, second) = thread::join(
+        rt,
+        || submit_as(rt, first, &gate),
+        || submit_meanwhile(rt, second, &gate, &meeting),
+    );
+    Ended {
+        receipts: [first.receipt, second.receipt],
+        seats: [first.seat, second.seat],
+        report: hub.close().expect(rt, "a report"),
+        stage: meeting.stage.load(Ordering::SeqCst),
+        shards: meeting.shards.load(Ordering::SeqCst),
+    }
+}
