@@ -88,6 +88,19 @@ IsWaiting-forwarded c q position ticket target h link id =
       size = omega arith;
     }
 
+-- the forwarded packet has the length that was foretold
+pub length-forwarded_octets : (c : RealmConfig) (q : PlainRequest) (position ticket : ℕ)
+    (target : Target) → IsRequest c q → target.id < 256 →
+    length (forwarded_octets c q position ticket target) ≡ forwarded_length (packet_of q.octets)
+length-forwarded_octets c q position ticket target h id =
+    let f : Forwarding = forwarding c q position ticket target in
+    let request : Packet = packet_of q.octets in
+    let is : IsPacket (forwarded f request) =
+    IsPacket-forwarded_any f request id h.packet.packet h.can_be_forwarded (drawn-octets c q position) in
+    let size = length-packet_text (forwarded f request) is in
+    let same = length-forwarded_any f request h.packet.packet h.can_be_forwarded in
+    omega (arith, size, same)
+
 -- what was written behind the old octets, with these secrets and for this packet
 pub record HasWritten (id ticket : ℕ) (drawn old new from to : List ℕ) (p : Packet) : Type 0 where
   pub octets : new ≡ old ++ packet_text (forwarded

@@ -1,7 +1,9 @@
 -- How a new request is admitted, in steps: words of private functions alone (ours).
-use Rattle.std.specs.Prelude.{◌≡◌, ℕ, ◌+◌, ◌<◌, ◌^◌, List, [], Option, Some, None, Result, Ok, Err, option_map, unwrap_or, is_some, true, length}
+use Rattle.std.specs.Prelude.{◌≡◌, ℕ, ◌<◌, ◌^◌, List, [], Option, Some, None, Result, Ok, Err, option_map, unwrap_or, is_some, true}
+use Rattle.roam_wire.specs.Reading.{packet_of}
 use Rattle.roam_wire.specs.declared.refusal.Refusal.{Refusal}
 use Rattle.roam_conf.specs.declared.place.Link.{Link}
+use Rattle.roam_fwd.specs.Forwarded.{forwarded_length}
 use Rattle.roam_pending.specs.PlainEntry.{PlainEntry, PlainRequest}
 use Rattle.roam_pending.specs.EntryList.{besides, find_client, first_done}
 use Rattle.roam_book.specs.RealmConfig.{RealmConfig, IsLink}
@@ -87,9 +89,10 @@ abbrev pub IsRequestPlan : {A : Type 0} → RealmConfig → RealmState → Plain
 IsRequestPlan c s q (plan.Answered answer) turn = (now : ℕ) → Answers answer s s (turn now)
 IsRequestPlan c s q (plan.Admitted way) turn = IsChosen c s q way turn
 
--- all the memory of a new request, besides its place among the entries
+-- all the memory of a new request, besides its place among the entries: buffers of the size of the
+-- packet that is forwarded for it
 pub record AreSupplies {A : Type 0} (request : List ℕ) (s : Supplies A) : Type 0 where
   pub octets : s.octets ≡ request
-  pub buffers : HasBuffers (length request + 46) s.buffers
+  pub buffers : HasBuffers (forwarded_length (packet_of request)) s.buffers
   pub copy : is_some s.buffers.copy ≡ s.outs.twice
   pub outs : IsOuts 1 s.outs.twice [] s.outs

@@ -2,6 +2,8 @@
 //! request is forwarded.
 
 ghost use Rattle.std.specs.Prelude.{◌≡◌, ℕ, ◌+◌, ◌<◌, ◌≤◌, ◌^◌, ◌∷◌, [], true, IfErr, IfOk, OnOk, is_some, length};
+ghost use Rattle.roam_wire.specs.Reading.{IsPacketText, packet_of};
+ghost use Rattle.roam_fwd.specs.Forwarded.{forwarded_length};
 ghost use Rattle.roam_pending.specs.PlainEntry.{PlainRequest};
 ghost use Rattle.roam_pending.specs.EntryList.{besides};
 ghost use Rattle.roam_route.specs.Shown.{shown_out};
@@ -20,8 +22,9 @@ use crate::realm::Realm;
 use crate::sending::{Asked, Sent, send_new};
 use crate::way::Way;
 use roam_conf::Link;
+use roam_fwd::forwarded_len;
 use roam_pending::{Entries, Entry, Request, Standing, insert_entry};
-use roam_wire::{NoMemory, Octets};
+use roam_wire::{NoMemory, Octets, View};
 use std::alloc::Allocator;
 
 /// All memory that a new request may want, besides its place among the entries.
@@ -33,12 +36,15 @@ pub(crate) struct Supplies<A: Allocator> {
 }
 
 impl<A: Allocator + Copy> Supplies<A> {
-    /// All the memory that a new request of these octets may want.
+    /// All the memory that a new request of these octets may want: the buffers have the size of the
+    /// packet that is forwarded for it.
     fn new(alloc: A, octets: &[u8], twice: bool) -> Result<Supplies<A>, NoMemory>
+        requires { IsPacketText octets.now }
         ensures supplies { IfOk result (λ s. AreSupplies octets.now s) }
         ensures twice { IfOk result (λ s. s.outs.twice ≡ twice) }
     {
-        let buffers = Buffers::new(alloc, octets.len() + 46, twice)?;
+        let size = forwarded_len(&View::of_packet(octets));
+        let buffers = Buffers::new(alloc, size, twice)?;
         let outs = Outs::new(alloc, 1, twice)?;
         let octets = Octets::copy_of(alloc, octets)?;
         Ok(Supplies {
@@ -137,7 +143,7 @@ impl<A: Allocator + Copy, E: Entries<A>> Realm<'_, '_, '_, '_, A, E> {
             ≡ true }
         requires room { 0 < room E.Entries self.old }
         requires octets { octets ≡ asked.octets.now }
-        requires buffers { HasBuffers (length asked.octets.now + 46) buffers }
+        requires buffers { HasBuffers (forwarded_length (packet_of asked.octets.now)) buffers }
         ensures out { shown_out result.out ∷ [] ≡ packets_of (admits self.old.settings.now now
             (state E.Entries self.old) (shown_request asked.entry) (straight_to link)) }
         ensures copied { IsCopied (is_some buffers.copy) result }

@@ -3,6 +3,7 @@
 ghost use Rattle.std.specs.Prelude.{◌≡◌, ℕ, ◌<◌, ◌≤◌, ◌==◌, ◌+◌, ◌%◌, ◌^◌, ◌++◌, List, [], ◌∷◌, Some, None, true, IfSome, is_some, length, slice_set, vec_len, vec_capacity};
 ghost use Rattle.roam_wire.specs.Reading.{IsPacketText, packet_of};
 ghost use Rattle.roam_wire.specs.declared.code.TheConstants.{ACCESS_REQUEST};
+ghost use Rattle.roam_fwd.specs.Forwarded.{forwarded_length};
 ghost use Rattle.roam_pending.specs.PlainEntry.{PlainEntry, PlainRequest};
 ghost use Rattle.roam_pending.specs.EntryList.{IsEntryList, find_ticket, put};
 ghost use Rattle.roam_pending.specs.Shown.{shown_standing};
@@ -142,11 +143,13 @@ fn forward_into<A: Allocator>(
 )
     requires request { IsRequest settings.now (shown_request asked) }
     requires link { IsLink settings.now link }
-    requires room { HasRoom (length asked.octets.now + 46) out.old }
+    requires room { HasRoom (forwarded_length (packet_of asked.octets.now)) out.old }
     ensures octets { out.new.items
         ≡ forwarded_octets settings.now (shown_request asked.entry) position ticket
         (record { link = link; id = id }) }
     ensures waiting { IsWaiting settings.now (shown_request asked.entry) link id out.new.items }
+    ensures size { length out.new.items
+        ≡ forwarded_length (packet_of (shown_request asked.entry).octets) }
 {
     let request = View::of_packet(asked.octets);
     let from_secret = settings.secret_of_requester(asked.requester);
@@ -181,7 +184,7 @@ pub(crate) fn send_new<A: Allocator + Copy>(
     requires count { length numbers.old.lanes.items ≡ link_count settings.now }
     requires free { has_free (lane_of settings.now numbers.old.lanes.items link) ≡ true }
     requires made { (lane_of settings.now numbers.old.lanes.items link).made ≡ true }
-    requires buffers { HasBuffers (length asked.octets.now + 46) buffers }
+    requires buffers { HasBuffers (forwarded_length (packet_of asked.octets.now)) buffers }
     ensures next { (es : List PlainEntry) → IsEntryList es
         → LanesTell settings.now es numbers.old.lanes.items
         → next_toward settings.now (cursors_of numbers.old.lanes.items) es link ≡ Some result.1.id }

@@ -5,6 +5,8 @@ use Rattle.roam_pending.specs.Shown.{shown}
 use Rattle.roam_pending.proofs.OrderLemmas.{list-without}
 use Rattle.roam_pending.proofs.ChangeLemmas.{find-without}
 use Rattle.roam_book.proofs.FateLemmas.{IsFreed, IsSent, gone-freed, forwarded-freed}
+use Rattle.roam_book.proofs.RoomLemmas.{buffers-smaller}
+use Rattle.roam_book.proofs.SendingLemmas.{forwarded_length-request}
 use Rattle.roam_book.proofs.fate.fail_over.Goals as goal
 
 -- no later target has a free Identifier
@@ -73,3 +75,10 @@ returns-clause-fate g c =
     forwarded-freed c.args.settings.now c.args.now es e c.args.numbers.now c.give_back.new.self new
     c.args.link c.in-Some.target c.send_new-sent.result.0 c.send_new-sent.result.1 held freed
     c.in-Some.ensures.first of_entry
+
+-- the buffers have room for the packet that is forwarded
+pub send_new-sent-requires-clause-buffers : goal.send_new-sent-requires-clause-buffers
+send_new-sent-requires-clause-buffers g c =
+    let q = (shown c.args.entry.now).request in
+    let fits = forwarded_length-request c.args.settings.now q c.requires.entry.request in
+    rw c.as_slice.ensures (buffers-smaller _ _ c.args.buffers fits c.requires.buffers)
