@@ -166,26 +166,35 @@ def through_broker(options, mode, bound, **more):
     return ran
 
 
-INTERFERENCE_HEAD = ["flood /s", "realm 0", "others /s", "p50 us", "p99 us", "longest us", "resent",
+INTERFERENCE_HEAD = ["flood /s", "way", "realm 0", "others /s", "p50 us", "p99 us", "longest us", "resent",
                      "lost", "skipped", "bad", "dropped at broker", "broker us", "realm 0 sent",
                      "answered", "stolen %"]
 
 
-def interference_row(rate, label, section):
+def interference_row(rate, way, label, section):
     names = ["exchanges_a_second", "p50_us", "p99_us", "longest_us", "resent", "lost", "skipped",
              "bad", "dropped_at_broker", "broker_us", "realm0_sent", "realm0_answered",
              "stolen_percent"]
-    return [rate or "all it can", label] + [f"{section.get(name, 0):.0f}" for name in names]
+    return ([rate or "all it can", way, label]
+            + [f"{section.get(name, 0):.0f}" for name in names])
+
+
+def direct(options, mode, bound, **more):
+    """The same run without a broker: what of it the machine itself does."""
+    realms = numbers_of(options.realms, "8")[0]
+    with Homes(options, realms, bound + 60, int(mode == "interference")):
+        return load(load_words(mode, options, realms, "direct", 0, **more), bound, shown=False)
 
 
 def interference(options):
     seconds = options.seconds or 5
+    bound = 7 * (seconds + 9) + 10
     rows = []
     for rate in numbers_of(options.flood_rates, "20000,0"):
-        ran = through_broker(options, "interference", 7 * (seconds + 9) + 10, seconds=seconds,
-                             flood_rate=rate)
-        rows += [interference_row(rate, label, section) for label, section in ran.items()
-                 if label != "total"]
+        for way, run in (("direct", direct), ("broker", through_broker)):
+            ran = run(options, "interference", bound, seconds=seconds, flood_rate=rate)
+            rows += [interference_row(rate, way, label, section)
+                     for label, section in ran.items() if label != "total"]
     print_head(INTERFERENCE_HEAD)
     for row in rows:
         print_row(row)

@@ -18,7 +18,7 @@ use roam_port::{is_served_by, place_of};
 use roam_ring::{Intake, ring};
 use rtrb::Consumer;
 use std::alloc::Global;
-use std::net::{Net, UdpSocket};
+use std::net::UdpSocket;
 
 /// The sockets are fewer than this: two, and two of each realm.
 pub const SOCKETS: usize = 514;
@@ -92,24 +92,22 @@ fn ports(alloc: Global, sockets: &[UdpSocket]) -> Result<Vec<Socket<'_>>, ServeF
     Ok(ports)
 }
 
-/// The worker of this number, which sits at its desk and hears its sockets.
-fn worker<'s, 'c, R: Net, G, N: Opened>(
-    rt: &R,
+/// The worker of this number, which sits at its desk and hears its sockets. One event more than it has
+/// sockets may come: that it is woken.
+fn worker<'s, 'c, G, N: Opened>(
     alloc: Global,
     sockets: &'s [UdpSocket],
     desk: Desk<'s, 'c, G, N>,
+    poll: Poll,
     number: usize,
     workers: usize,
 ) -> Result<Worker<'s, 'c, G, N>, ServeFault>
     requires { number < workers }
     ensures { IfErr result IsAfterBinding }
 {
-    let Ok(poll) = Poll::new(rt) else {
-        return Err(ServeFault::Memory);
-    };
     let ears = ears(alloc, sockets, number, workers)?;
     register(&poll, ears.as_slice())?;
-    let events = Events::with_capacity(alloc, ears.len().max(1))?;
+    let events = Events::with_capacity(alloc, ears.len().saturating_add(1))?;
     let buffer = vec![in alloc; 0u8; RECEIVED]?;
     Ok(Worker {
         desk,
@@ -156,13 +154,14 @@ impl<'s> Ends<'s> {
     }
 }
 
-/// All threads of an epoch that begins with this seat: a worker for each shard, and the timer.
-pub fn gather_crew<'s, 'c, R: Net, G, N: Opened>(
-    rt: &R,
+/// All threads of an epoch that begins with this seat: a worker for each shard, of which each waits
+/// with one of the polls, and the timer.
+pub fn gather_crew<'s, 'c, G, N: Opened>(
     alloc: Global,
     sockets: &'s [UdpSocket],
     shared: &'s Shared<'s, 'c, G, N>,
     seat: Seat<Global>,
+    polls: Vec<Poll>,
 ) -> Result<Crew<'s, 'c, G, N>, ServeFault>
     requires { length seat ≡ N.opening.config.shards }
     ensures { IfErr result IsAfterBinding }
@@ -174,13 +173,14 @@ pub fn gather_crew<'s, 'c, R: Net, G, N: Opened>(
         queues: Vec::new(alloc),
     };
     let mut rest = seat;
+    let mut polls = polls;
     for number in 0..shards {
-        let Ok((first, second)) = split(rest) else {
+        let (Ok((first, second)), Some(poll)) = (split(rest), polls.pop()) else {
             return Err(ServeFault::Memory);
         };
         rest = first;
         let desk = ends.desk(alloc, sockets, shared, number, second)?;
-        workers.push(worker(rt, alloc, sockets, desk, number, shards)?)?;
+        workers.push(worker(alloc, sockets, desk, poll, number, shards)?)?;
     }
     let timer = ends.desk(alloc, sockets, shared, shards, rest)?;
     let Ends { senders, queues } = ends;

@@ -24,6 +24,7 @@ mod shared;
 mod socket;
 mod teller;
 mod timer;
+mod waking;
 mod worker;
 
 pub use fault::ServeFault;

@@ -18,6 +18,7 @@ use crate::fault::ServeFault;
 use crate::notice::{Notice, serving};
 use crate::shared::Shared;
 use crate::teller::tell_or_drop;
+use crate::waking::{polls, wakers};
 use log::Log;
 use roam_book::Start;
 use roam_conf::Config;
@@ -149,7 +150,9 @@ fn serve_epoch<
     ensures { IfErr result IsAfterBinding }
 {
     let senders = parkers(alloc, config.shards.saturating_add(1))?;
-    let teller = Parker::new();
+    let (teller, timer) = (Parker::new(), Parker::new());
+    let polls = polls(rt, alloc, config.shards)?;
+    let wakers = wakers(alloc, polls.as_slice())?;
     let stop = AtomicBool::new(false);
     let shared = Shared {
         config,
@@ -157,11 +160,13 @@ fn serve_epoch<
         gate: service.gate,
         senders: senders.as_slice(),
         teller: &teller,
+        timer: &timer,
+        wakers: wakers.as_slice(),
         stop: &stop,
         start: service.start,
         end: service.end,
     };
-    let crew = gather_crew(rt, alloc, service.sockets, &shared, seat)?;
+    let crew = gather_crew(alloc, service.sockets, &shared, seat, polls)?;
     let ends = run_epoch(rt, alloc, &shared, crew, past)?;
     gather(alloc, ends)
 }

@@ -3,6 +3,7 @@
 ghost use Rattle.std.specs.Prelude.{◌≡◌};
 ghost use Rattle.roam_conf.specs.Shown.{shown};
 
+use mio::Waker;
 use roam_conf::Config;
 use roam_hub::{Hub, Opened};
 use std::alloc::Global;
@@ -20,6 +21,10 @@ pub struct Shared<'s, 'c, G, N: Opened> {
     pub senders: &'s [Parker],
     /// What the teller of notices sleeps on.
     pub teller: &'s Parker,
+    /// What the timer sleeps on.
+    pub timer: &'s Parker,
+    /// What ends the wait of each worker that hears sockets.
+    pub wakers: &'s [Waker],
     /// Whether the workers are to end.
     pub stop: &'s AtomicBool,
     pub start: Option<Instant>,
@@ -41,9 +46,16 @@ impl<G, N: Opened> Shared<'_, '_, G, N> {
         self.stop.load(Ordering::SeqCst)
     }
 
-    /// Has all workers end.
+    /// Has all workers end: whoever asks first wakes them. A worker that can't be woken looks by
+    /// itself, soon enough.
     pub fn end_all(&self) {
-        self.stop.store(true, Ordering::SeqCst);
+        if self.stop.swap(true, Ordering::SeqCst) {
+            return;
+        }
+        self.timer.unpark();
+        for waker in self.wakers {
+            let _is_woken = waker.wake().is_ok();
+        }
     }
 
     /// Wakes a worker's sender and the teller, since nothing more comes of the worker.

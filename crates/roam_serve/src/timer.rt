@@ -6,7 +6,6 @@ use crate::desk::Desk;
 use crate::ending::{Ending, WorkerEnd};
 use roam_hub::{Gate, Opened};
 use std::sync::Wait;
-use std::thread;
 use std::time::{Clock, Duration};
 
 /// From one round of ticks to the next, in milliseconds.
@@ -61,7 +60,9 @@ pub fn tick_on<R: Wait + Clock, G: Gate, N: Opened>(
         if let Some(ending) = round(rt, &mut desk) {
             return desk.leave(ending);
         }
-        thread::sleep(rt, Duration::from_millis(TICK));
+        desk.shared
+            .timer
+            .park_timeout(rt, Duration::from_millis(TICK));
     }
     unreachable!()
 }

@@ -12,8 +12,11 @@ use std::sync::Wait;
 use std::thread;
 use std::time::{Clock, Duration};
 
-/// How long a worker waits for a datagram, in milliseconds.
-pub const WAIT: u64 = 10;
+/// How long a worker waits for a datagram, in milliseconds, where none comes and nobody wakes it.
+pub const WAIT: u64 = 100;
+
+/// How long it waits where a receive failed, in milliseconds: then it tries that socket again.
+pub const WAIT_AFTER_FAULT: u64 = 10;
 
 /// How many datagrams a worker takes of one socket in a round.
 pub const IN_A_ROUND: u32 = 32;
@@ -49,20 +52,26 @@ fn prick_up_all(ears: &mut [Ear<'_>]) {
     }
 }
 
-/// Whether some socket holds more than was taken of it.
-fn is_more_there(ears: &[Ear<'_>]) -> bool {
-    ears.iter().any(|ear| ear.has_more)
+/// How long to wait, in milliseconds: not at all where some socket holds more than was taken of it,
+/// and a short time where one is to be tried again.
+fn wait_before(ears: &[Ear<'_>]) -> u64 {
+    if ears.iter().any(|ear| ear.has_more) {
+        0
+    } else if ears.iter().any(|ear| ear.is_ready) {
+        WAIT_AFTER_FAULT
+    } else {
+        WAIT
+    }
 }
 
-/// Waits until something arrives, and marks the ears at which it did. A wait that fails lasts as
-/// long, and then all ears are marked.
+/// Waits until something arrives or the worker is woken, and marks the ears at which something did.
+/// Where the wait itself fails, a short time goes by, and then all ears are marked.
 fn attend<R: Clock, G, N: Opened>(rt: &R, worker: &mut Worker<'_, '_, G, N>) {
-    let is_more = is_more_there(worker.ears.as_slice());
-    let wait = Duration::from_millis(if is_more { 0 } else { WAIT });
+    let wait = Duration::from_millis(wait_before(worker.ears.as_slice()));
     if worker.poll.poll(&mut worker.events, Some(wait)).is_ok() {
         prick_up(worker.ears.as_mut_slice(), &worker.events);
     } else {
-        thread::sleep(rt, Duration::from_millis(WAIT));
+        thread::sleep(rt, Duration::from_millis(WAIT_AFTER_FAULT));
         prick_up_all(worker.ears.as_mut_slice());
     }
 }
