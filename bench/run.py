@@ -203,7 +203,8 @@ def interference(options):
 
 def soak(options):
     seconds = options.seconds or 3600
-    ran = through_broker(options, "soak", seconds + 15, seconds=seconds)
+    ran = through_broker(options, "soak", seconds + 15, seconds=seconds,
+                         outstanding=max(64, options.outstanding))
     return int(ran["total"]["lost"] + ran["total"]["bad"] > 0)
 
 

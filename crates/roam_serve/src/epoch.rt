@@ -6,6 +6,7 @@ ghost use Rattle.roam_serve.specs.Faults.{IsAfterBinding};
 use crate::crew::{Crew, Sender};
 use crate::ending::WorkerEnd;
 use crate::fault::ServeFault;
+use crate::past::{Past, let_go};
 use crate::sender::send_all;
 use crate::shared::Shared;
 use crate::teller::tell_all;
@@ -13,16 +14,12 @@ use crate::timer::tick_on;
 use crate::worker::{Worker, hear_on};
 use log::Log;
 use roam_hub::{Gate, Opened};
-use roam_trace::Step;
 use std::alloc::Global;
 use std::sync::Wait;
+use std::sync::atomic::AtomicBool;
 use std::thread;
 use std::thread::{JoinHandle, Parker, Scope, Threads};
 use std::time::Clock;
-
-/// The steps of the epoch before, by shard. To let go of a million takes about a second, so a thread
-/// of its own does it, beside the workers.
-pub type Past = Vec<Vec<Step<Global>>>;
 
 /// Who is behind the workers: the senders, and who lets go of the epoch before.
 #[derive(Drop)]
@@ -50,14 +47,15 @@ fn start_senders<'s, 'w: 's, E, R: Wait + Sync>(
 
 /// Starts the threads behind the workers. Answers whether all senders have started. Where the one that
 /// lets go of the epoch before can't start, that is done here.
-fn start_behind<'s, 'w: 's, E, R: Wait + Sync>(
+fn start_behind<'s, 'w: 's, E, R: Wait + Clock + Sync>(
     scope: &Scope<'s, E>,
     rt: &'s R,
     wakes: &'s [Parker],
+    stop: &'s AtomicBool,
     behind: Behind<'w>,
 ) -> bool {
     let Behind { senders, past } = behind;
-    let _is_started = scope.spawn(move || drop(past)).is_ok();
+    let _is_started = scope.spawn(move || let_go(rt, stop, past)).is_ok();
     start_senders(scope, rt, wakes, senders)
 }
 
@@ -120,7 +118,7 @@ pub fn run_epoch<
         let mut have_started = scope
             .spawn(move || tell_all(rt, shared.teller, queues))
             .is_ok();
-        have_started = start_behind(scope, rt, shared.senders, behind) && have_started;
+        have_started = start_behind(scope, rt, shared.senders, shared.stop, behind) && have_started;
         have_started = start_workers(scope, rt, alloc, workers, &mut handles) && have_started;
         match scope.spawn(move || tick_on(rt, timer)) {
             Ok(handle) => have_started = handles.push(handle).is_ok() && have_started,

@@ -17,6 +17,7 @@ mod ending;
 mod epoch;
 mod fault;
 mod notice;
+mod past;
 mod post;
 mod sender;
 mod serving;
