@@ -17,7 +17,6 @@ mod ending;
 mod epoch;
 mod fault;
 mod notice;
-mod post;
 mod sender;
 mod serving;
 mod shared;
