@@ -8,7 +8,9 @@
 mod intake;
 mod making;
 mod outlet;
+mod post;
 
 pub use intake::Intake;
 pub use making::{RING_CAPACITY, ring};
 pub use outlet::Outlet;
+pub use post::Post;

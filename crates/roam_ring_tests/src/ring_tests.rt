@@ -1,34 +1,12 @@
 //! A ring that is filled and emptied, whose worker ends, and whose memory is refused.
 
 use crate::callers::through;
-use roam_conf::{Endpoint, Place};
-use roam_ring::{Intake, Outlet, ring};
-use roam_route::Out;
+use crate::packets::{number, packet, taken_in_order};
+use roam_ring::{Outlet, ring};
 use roam_testing::Refusing;
-use roam_wire::{NoMemory, Octets};
+use roam_wire::NoMemory;
 use std::alloc::Allocator;
 use std::test::Fail;
-
-/// A packet whose octets are this number.
-fn packet<A: Allocator + Copy>(alloc: A, number: u16) -> Result<Out<A>, NoMemory> {
-    Ok(Out {
-        realm: Some(0),
-        from: Place::Auth,
-        to: Endpoint {
-            ip: [192, 0, 2, 1],
-            port: 5000,
-        },
-        bytes: Octets::copy_of(alloc, &number.to_be_bytes())?,
-    })
-}
-
-/// The number of a packet.
-fn number<A: Allocator>(out: &Out<A>) -> Option<u16> {
-    match out.bytes.as_slice() {
-        [high, low] => Some(u16::from_be_bytes([*high, *low])),
-        _ => None,
-    }
-}
 
 /// Puts the packets of the numbers below `count`: the first number that came back, if one did.
 fn fill<A: Allocator + Copy>(
@@ -42,18 +20,6 @@ fn fill<A: Allocator + Copy>(
         }
     }
     Ok(None)
-}
-
-/// How many packets are taken in the order of their numbers, from 0 on, until none is seen or one
-/// stands out of order.
-fn taken_in_order<A: Allocator>(intake: &mut Intake<A>) -> u16 {
-    for n in 0..u16::MAX {
-        match intake.take() {
-            Some(out) if number(&out) == Some(n) => {}
-            _ => return n,
-        }
-    }
-    u16::MAX
 }
 
 #[test]

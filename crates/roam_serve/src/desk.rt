@@ -1,14 +1,15 @@
 //! A worker's place at the hub, with its ways to its sender and to the teller of notices.
 
 ghost use Rattle.std.specs.Prelude.{◌≡◌, length};
+ghost use Rattle.roam_ring.specs.Posting.{lost_packets};
 ghost use Rattle.roam_serve.specs.Notices as spec;
 
 use crate::clock::now;
 use crate::ending::{Ending, WorkerEnd};
 use crate::notice::Notices;
-use crate::post::Post;
 use crate::shared::Shared;
 use roam_hub::{Gate, HubFault, Opened, Seat};
+use roam_ring::Post;
 use roam_route::{Datagram, Prepared, prepare};
 use roam_wire::Refusal;
 use std::alloc::Global;
@@ -22,7 +23,7 @@ pub struct Desk<'s, 'c, G, N: Opened> {
     pub number: usize,
     pub shared: &'s Shared<'s, 'c, G, N>,
     pub seat: Seat<Global>,
-    pub post: Post,
+    pub post: Post<Global>,
     pub notices: Notices,
     /// The last moment, in milliseconds since the server's start.
     pub now: u64,
@@ -109,7 +110,7 @@ impl<G: Gate, N: Opened> Desk<'_, '_, G, N> {
     pub fn leave(self, ending: Ending) -> WorkerEnd
         ensures ending { result.ending ≡ ending }
         ensures seat { result.seat ≡ self.entry.seat }
-        ensures lost { result.lost ≡ self.entry.post.lost }
+        ensures lost { result.lost ≡ lost_packets self.entry.post }
     {
         let shared = self.shared;
         let number = self.number;

@@ -18,7 +18,6 @@ mod epoch;
 mod fault;
 mod notice;
 mod past;
-mod post;
 mod sender;
 mod serving;
 mod shared;
