@@ -8,7 +8,7 @@ use roam_hub::{Hub, HubFault, Opened, Receipt, Report, Seat};
 use std::alloc::Global;
 
 /// Closes a hub. The report says where the realms begin the next time.
-fn close<N: Opened>(hub: Hub<'_, Global, N>) -> Result<Report<Global>, Fault>
+pub(crate) fn close<N: Opened>(hub: Hub<'_, Global, N>) -> Result<Report<Global>, Fault>
     ensures { IfOk result (λ r. AreStarts N.opening.config r.starts.items) }
 {
     match hub.close() {

@@ -1,7 +1,9 @@
 //! Why nothing is measured.
 
 use roam_conf_reader::ConfFault;
+use roam_hub::HubFault;
 use roam_sim::ScriptFault;
+use roam_trace::TraceFault;
 use roam_wire::{NoMemory, Refusal};
 use std::alloc::{AllocError, AllocFailed};
 use std::io;
@@ -72,5 +74,23 @@ impl From<ConfFault> for Fault {
 impl From<ScriptFault> for Fault {
     fn from(_: ScriptFault) -> Fault {
         Fault::Made
+    }
+}
+
+impl From<TraceFault> for Fault {
+    fn from(fault: TraceFault) -> Fault {
+        match fault {
+            TraceFault::NoMemory => Fault::Memory,
+            TraceFault::TraceFull => Fault::Made,
+        }
+    }
+}
+
+impl From<HubFault> for Fault {
+    fn from(fault: HubFault) -> Fault {
+        match fault {
+            HubFault::NoMemory => Fault::Memory,
+            HubFault::NoShard | HubFault::Misplaced | HubFault::TraceFull => Fault::Made,
+        }
     }
 }

@@ -3,8 +3,8 @@
 //! Its one word says what is measured: `shards`, the broker over shared tables of several sizes;
 //! `memory`, what an entry of them takes; `lists`, that broker beside the one with a list for each
 //! realm; `threads`, callers in threads of their own over a hub, beside the broker without threads;
-//! `check`, all of that in small, where only counts are printed. A figure counts only beside the
-//! others of the same run.
+//! `trace`, the memory and time of a stored step, and the end of a hub; `check`, all of that in small,
+//! where only counts are printed. A figure counts only beside the others of the same run.
 //!
 //! `mutated COUNT SEED` gives so many mutated datagrams to `prepare` and to hubs, and prints what
 //! became of them; so does `check`, of a few.
@@ -16,12 +16,14 @@ mod figures;
 mod filled;
 mod lists;
 mod maker;
+mod metered;
 mod mutated;
 mod packets;
 mod shards;
 mod simulated;
 mod table;
 mod threads;
+mod trace;
 
 use crate::fault::Fault;
 use std::env;
@@ -40,12 +42,14 @@ fn measure<R: Threads + Wait + Sync>(
             shards::check(rt)?;
             lists::check(rt)?;
             threads::check(rt, threads)?;
+            trace::check(rt, threads)?;
             mutated::check(rt, threads)
         }
         "shards" => shards::measure(rt),
         "memory" => shards::memory(rt),
         "lists" => lists::measure(rt),
         "threads" => threads::measure(rt, threads),
+        "trace" => trace::measure(rt, threads),
         _ => Err(Fault::Word),
     }
 }

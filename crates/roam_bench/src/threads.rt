@@ -1,11 +1,11 @@
 //! Callers in threads of their own over a hub, beside the broker without threads: the same events
 //! in the same run.
 
-mod caller;
+pub(crate) mod caller;
 mod hub_run;
 mod samples;
 mod shared_load;
-mod stopwatch;
+pub(crate) mod stopwatch;
 
 ghost use Rattle.std.specs.Prelude.{◌≡◌};
 ghost use Rattle.roam_conf.specs.Shown.{shown};

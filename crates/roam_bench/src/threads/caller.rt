@@ -78,6 +78,23 @@ impl<N: Opened> Caller<'_, '_, N> {
         }
     }
 
+    /// Submits an arrival. It is an error that it isn't the job of a realm, or isn't recorded.
+    pub(crate) fn submit<R: Wait>(
+        &mut self,
+        rt: &R,
+        alloc: Global,
+        arrival: &Event<Global>,
+    ) -> Result<Receipt<Global>, Fault> {
+        let Event::Arrive { now, datagram } = arrival else {
+            return Err(Fault::Made);
+        };
+        let Prepared::Job(job) = prepare(alloc, self.config, datagram)? else {
+            return Err(Fault::Made);
+        };
+        let receipt = self.hub.submit(rt, &mut self.seat, *now, &job, &Open)?;
+        Ok(receipt)
+    }
+
     /// Ticks the caller's shard, if it has one.
     fn tick<R: Wait>(&mut self, rt: &R, now: u64, counts: &mut Counts) {
         if let Some(shard) = self.ticked {
