@@ -29,6 +29,10 @@ def roam(directory, options, realms, shards):
         f'acct = "{HERE}:{base + 1}"',
         f"trace_limit = {options.trace_limit}",
     ]
+    if options.spread:
+        lines.append("spread = true")
+    if options.trace_octets:
+        lines.append(f"trace_octets = {options.trace_octets}")
     for number, address in enumerate(PEERS):
         lines += [
             "\n[[peer]]",

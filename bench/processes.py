@@ -25,6 +25,20 @@ def end_with_parent():
     LIBC.prctl(1, signal.SIGTERM)
 
 
+def processors(text):
+    """The processors that a text with commas between them names; none where it is empty."""
+    return {int(number) for number in text.split(",")} if text else set()
+
+
+def on_processors(numbers):
+    """The same for a process that is to run on these processors alone, where any are named."""
+    def begin():
+        end_with_parent()
+        if numbers:
+            os.sched_setaffinity(0, numbers)
+    return begin
+
+
 def stop(process):
     """Ends a process that this script started."""
     if process.poll() is None:
@@ -87,11 +101,12 @@ class Broker:
         self.words = command.format(conf=conf, ms=milliseconds, directory=DIRECTORY,
                                     repository=os.path.dirname(BENCH)).split()
         self.base = options.base
+        self.processors = processors(options.broker_cpus)
 
     def __enter__(self):
         with open(LOG, "wb") as log:
             self.process = subprocess.Popen(self.words, stdout=log, stderr=log,
-                                            preexec_fn=end_with_parent)
+                                            preexec_fn=on_processors(self.processors))
         wait_for(self.process, self.base, self.words[0])
         time.sleep(0.5)
         return self

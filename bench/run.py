@@ -2,6 +2,7 @@
 """Measures a RADIUS forwarding server on loopback: see README.md beside this file."""
 
 import argparse
+import copy
 import os
 import statistics
 import subprocess
@@ -11,7 +12,7 @@ import time
 import configurations
 from prober import Prober
 from processes import (BENCH, DIRECTORY, LOG, Broker, Homes, load, load_words, processor_seconds,
-                       refusals, resident_mebibytes, told)
+                       processors, refusals, resident_mebibytes, told)
 
 RATIO_WANTED, COST_WANTED = 0.35, 4.2
 
@@ -19,18 +20,22 @@ RATIO_WANTED, COST_WANTED = 0.35, 4.2
 def read_options():
     parser = argparse.ArgumentParser(description=__doc__)
     parser.add_argument("mode", choices=["table", "interference", "soak", "mutated", "idle",
-                                         "pauses"])
+                                         "pauses", "beside"])
     parser.add_argument("--broker", choices=configurations.BROKERS, default="roam")
     parser.add_argument("--command", help="in which {conf} and {ms} are filled in")
     parser.add_argument("--realms", default=None, help="numbers with commas between them")
     parser.add_argument("--shards", default=None, help="numbers with commas between them")
     parser.add_argument("--flood-rates", help="0 for as fast as it goes; with commas")
+    parser.add_argument("--broker-cpus", default="", help="the processors of the broker, as 0,1")
+    parser.add_argument("--load-cpus", default="", help="those of load and home servers")
+    parser.add_argument("--old", help="the command of an older roam, for `beside`")
+    parser.add_argument("--beside", default="radsecproxy", help="other brokers, for `beside`")
     parser.add_argument("--kind", choices=["access", "accounting"], default="access")
     numbers = {"seconds": 0, "rounds": 1, "rate": 4000, "outstanding": 16, "turns": 4,
                "batch": 64, "base": 20000, "trace_limit": 1000000, "tries": 2, "wait": 1000,
                "hold": 5000, "max_pending": 1024, "max_sessions": 1000, "client_wait": 1000,
                "client_tries": 5, "count": 100000, "mutated_rate": 2000, "spoilt": 100,
-               "seed": 1, "threads": 0, "let_end": 0}
+               "seed": 1, "threads": 0, "let_end": 0, "spread": 0, "trace_octets": 0}
     for name, default in numbers.items():
         parser.add_argument("--" + name.replace("_", "-"), type=int, default=default)
     return parser.parse_args()
@@ -215,6 +220,55 @@ def mutated(options):
     return int("broker_ended" in ran["total"] or ran["total"]["bad"] > 0)
 
 
+def others_of(options):
+    """The brokers that are measured beside each other: a name, and the options of each."""
+    found = [("roam", options)]
+    if options.old:
+        old = copy.copy(options)
+        old.command, old.spread, old.trace_octets = options.old, 0, 0
+        found.append(("old roam", old))
+    for name in filter(None, options.beside.split(",")):
+        other = copy.copy(options)
+        other.broker, other.command = name, None
+        found.append((name, other))
+    return found
+
+
+BESIDE_HEAD = ["round", "realms", "shards", "broker", "closed /s", "of direct", "broker us",
+               "p50 us", "p99 us", "at the rate: p50 us", "p99 us", "of direct's p50", "lost",
+               "resent", "memory MiB", "stolen %"]
+
+
+def beside_row(number, realms, shards, name, ran, way, direct):
+    closed, paced = ran[way, "closed"], ran[way, "paced"]
+    exchanges = closed["closed"]["exchanges_a_second"]
+    return [number, realms, shards, name, f"{exchanges:.0f}",
+            share(exchanges, direct["closed"]["closed"]["exchanges_a_second"]),
+            f"{closed['closed'].get('broker_us', 0):.2f}",
+            *(f"{section[key]:.0f}" for section in (closed["closed"], paced["paced"])
+              for key in ("p50_us", "p99_us")),
+            share(paced["paced"]["p50_us"], direct["paced"]["paced"]["p50_us"]),
+            int(closed["total"]["lost"] + paced["total"]["lost"]),
+            int(closed["total"]["resent"] + paced["total"]["resent"]),
+            f"{closed['closed'].get('broker_memory_kib', 0) / 1024:.0f}",
+            f"{closed['closed']['stolen_percent']:.0f}"]
+
+
+def beside(options):
+    """Direct, this broker, an older one and others, one after the other in each round."""
+    print_head(BESIDE_HEAD)
+    for realms in numbers_of(options.realms, "8"):
+        for shards in numbers_of(options.shards, "2"):
+            for number in range(options.rounds):
+                for name, one in others_of(options):
+                    ran = one_round(one, realms, shards)
+                    direct = {mode: ran["direct", mode] for mode in ("closed", "paced")}
+                    if name == "roam":
+                        print_row(beside_row(number, realms, shards, "direct", ran, "direct", direct))
+                    print_row(beside_row(number, realms, shards, name, ran, "broker", direct))
+    return 0
+
+
 def idle(options):
     """Processor time of a broker to which nobody sends anything."""
     seconds = options.seconds or 10
@@ -260,7 +314,9 @@ def main():
     options = read_options()
     os.makedirs(DIRECTORY, exist_ok=True)
     subprocess.run(["make", "-s", "-C", BENCH, "all", "test"], check=True)
-    return {"table": table, "interference": interference, "soak": soak,
+    if options.load_cpus:
+        os.sched_setaffinity(0, processors(options.load_cpus))
+    return {"table": table, "beside": beside, "interference": interference, "soak": soak,
             "mutated": mutated, "idle": idle, "pauses": pauses}[options.mode](options)
 
 

@@ -13,15 +13,21 @@
 set -euo pipefail
 
 by=nft roam='' sources=12
+usage() {
+    echo "usage: try-spreading.sh [--by nft|route|numgen] [--roam PROGRAM] [--sources N]" >&2
+    exit 2
+}
 while [ $# -gt 0 ]; do
+    [ $# -gt 1 ] || usage
     case $1 in
         --by) by=$2 ;;
         --roam) roam=$(realpath "$2") ;;
         --sources) sources=$2 ;;
-        *) echo "usage: try-spreading.sh [--by nft|route|numgen] [--roam PROGRAM] [--sources N]" >&2; exit 2 ;;
+        *) usage ;;
     esac
     shift 2
 done
+case $by in nft | route | numgen) ;; *) usage ;; esac
 
 here=$(dirname "$(realpath "$0")")
 dir=$(mktemp -d)

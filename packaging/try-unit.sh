@@ -6,9 +6,14 @@
 # configuration, whose sockets must be on 127.0.0.1 (examples/two-realms.conf without it).
 #
 # It fails unless the unit starts as a user of its own with no capability, with a fresh seed at each start, one after a
-# crash too; its copy of the configuration is its own; and it is gone after a stop.
+# crash too; its copy of the configuration is its own; it stays through a SIGHUP; it is started again after a crash and
+# after a SIGTERM; and it is gone after a stop.
 set -euo pipefail
 
+if [ $# -lt 1 ] || [ $# -gt 2 ] || [ ! -x "$1" ]; then
+    echo "usage: try-unit.sh PROGRAM [CONF]" >&2
+    exit 2
+fi
 here=$(dirname "$(realpath "$0")")
 program=$(realpath "$1")
 conf=$(realpath "${2:-$here/../examples/two-realms.conf}")
@@ -25,8 +30,11 @@ mkdir "$work/upper" "$work/work" "$work/root"
 mount -t overlay overlay -o "lowerdir=/,upperdir=$work/upper,workdir=$work/work" "$work/root"
 root=$work/root
 
-rm -rf "$root"/etc/systemd/system/* "$root/run" "$root/tmp" "$root/etc/fstab"
-mkdir "$root/run" && mkdir -m 1777 "$root/tmp" && : > "$root/etc/machine-id"
+# This machine's own /run and /tmp are in use: empty ones stand in their places.
+mount -t tmpfs tmpfs "$root/run"
+mount -t tmpfs -o mode=1777 tmpfs "$root/tmp"
+rm -rf "$root"/etc/systemd/system/* "$root/etc/fstab"
+: > "$root/etc/machine-id"
 install -D -m 755 "$program" "$root/usr/local/bin/roam"
 install -D -m 755 "$here/roam-fresh-seed" "$root/usr/local/lib/roam/roam-fresh-seed"
 install -D -m 600 "$conf" "$root/etc/roam/roam.conf"
@@ -50,11 +58,15 @@ status() { grep "^$1:" "/proc/$(of MainPID)/status" | tr -s '[:blank:]' ' '; }
 seed() { grep '^seed' /run/roam/roam.conf; }
 must() { if "${@:2}"; then echo "yes: $1"; else echo "NO: $1"; failed=yes; fi; }
 serves() { [ "$(of ActiveState)" = active ] && [ -n "$(ss -H -u -l -n | grep ':1812 ')" ]; }
+# Waits for the command after the seconds, so many at most.
+within() { for _ in $(seq "$1"); do "${@:2}" && return 0; sleep 1; done; return 1; }
+another() { [ "$(of MainPID)" != "$process" ] && serves; }
+again() { process=$(of MainPID); kill -s "$1" "$process"; within 20 another; }
+stays() { process=$(of MainPID); kill -s "$1" "$process"; sleep 3; [ "$(of MainPID)" = "$process" ] && serves; }
 
 systemctl start roam
-sleep 1
+must "it serves" within 20 serves
 first=$(seed)
-must "it serves" serves
 must "a user of its own" [ "$(status Uid)" != "Uid: 0 0 0 0" ]
 must "which isn't nobody" [ "$(status Uid | cut -d ' ' -f 2)" != "$(id -u nobody)" ]
 must "no capability" [ "$(status CapBnd)$(status CapEff)" = "CapBnd: 0000000000000000CapEff: 0000000000000000" ]
@@ -64,13 +76,15 @@ must "the copy is its own" [ "$(stat -c %a:%U /run/roam/roam.conf)" = "600:roam"
 must "so is its directory" [ "$(stat -L -c %a:%U /run/roam)" = "700:roam" ]
 must "the operator's seed isn't served" [ "$first" != "$(grep '^seed' /etc/roam/roam.conf)" ]
 systemctl restart roam
-sleep 1
+must "it serves after a restart" within 20 serves
 second=$(seed)
-must "a fresh seed after a restart" [ "$first" != "$second" ]
-kill -SEGV "$(of MainPID)"
-sleep 4
-must "it serves after a crash" serves
-must "with a fresh seed" [ "$(seed)" != "$second" ]
+must "with a fresh seed" [ "$first" != "$second" ]
+must "a SIGHUP changes nothing" stays HUP
+must "another serves after a crash" again SEGV
+third=$(seed)
+must "with a fresh seed" [ "$third" != "$second" ]
+must "and after a SIGTERM from elsewhere" again TERM
+must "with a fresh seed" [ "$(seed)" != "$third" ]
 systemctl stop roam
 must "a stop is no failure" [ "$(of Result)" = success ]
 must "and leaves no copy" [ ! -e /run/roam ]

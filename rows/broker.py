@@ -1,5 +1,5 @@
 #!/usr/bin/env python3
-"""A broker of Access, accounting, Disconnect and CoA, written from the rules as said in words.
+"""A broker of Access, accounting, Disconnect, CoA and Status-Server, written from the rules as said in words.
 
 broker.py NAME.conf NAME.script            prints the packets' lines
 broker.py --refusals NAME.conf NAME.script prints a refusal number or `-` for each event
@@ -15,12 +15,15 @@ LATEST = 2 ** 62
 LAST_TICKET = 2 ** 63
 START, STOP, INTERIM_UPDATE, ACCOUNTING_ON, ACCOUNTING_OFF = 1, 2, 3, 7, 8
 UNSUPPORTED, NOT_ROUTABLE, NO_SESSION, NO_ANSWER = 401, 502, 503, 505
+MOST_GIVEN_UP = 256
 
 # The codes that each place takes, and those that each kind of link may answer with.
 REQUESTS_AT = {"auth": (ACCESS_REQUEST,), "acct": (ACCOUNTING_REQUEST,),
                "reverse": REVERSE_REQUESTS}
 REPLIES_FROM = {"auth": ACCESS_REPLIES, "acct": (ACCOUNTING_RESPONSE,),
                 "coa": (DISCONNECT_ACK, DISCONNECT_NAK, COA_ACK, COA_NAK)}
+# What a Status-Server is answered with at each place.
+STATUS_AT = {"auth": ACCESS_ACCEPT, "acct": ACCOUNTING_RESPONSE}
 # The replies of each request.
 REPLIES_OF = {ACCESS_REQUEST: ACCESS_REPLIES, ACCOUNTING_REQUEST: (ACCOUNTING_RESPONSE,),
               DISCONNECT_REQUEST: (DISCONNECT_ACK, DISCONNECT_NAK), COA_REQUEST: (COA_ACK, COA_NAK)}
@@ -36,6 +39,8 @@ class Config:
         document = tomllib.loads(content)
         self.shards = document["shards"]
         self.seed = bytes.fromhex(document["seed"])
+        self.max_hops = document.get("max_hops")
+        self.status_server = document.get("status_server", False)
         self.peers = document["peer"]
         self.realms = document["realm"]
         for realm in self.realms:
@@ -46,15 +51,23 @@ class Config:
         """The index of the access server with that address."""
         return next((i for i, p in enumerate(self.peers) if p["ip"] == ip), None)
 
-    def realm_named(self, name):
-        """The realm behind the last `@`."""
-        if name is None or b"@" not in name:
+    def names_of(self, realm):
+        """A realm's names and patterns."""
+        return [name.lower().encode() for name in [realm["name"], *realm.get("also", [])]]
+
+    def realm_named(self, user):
+        """The realm that means what stands behind the last `@`: by a whole name, by the longest `*.` and a name with
+        something before it, or by `*`."""
+        if user is None or b"@" not in user:
             return None
-        name = name[name.rindex(b"@") + 1:].lower()
+        name = user[user.rindex(b"@") + 1:].lower()
+        best, fits_best = None, -1
         for index, realm in enumerate(self.realms):
-            if realm["name"].lower().encode() == name:
-                return index
-        return None
+            for pattern in self.names_of(realm):
+                fits = how_well(pattern, name)
+                if fits > fits_best:
+                    best, fits_best = index, fits
+        return best
 
     def link_of(self, realm, source):
         """(kind, index) of a link of the realm."""
@@ -83,6 +96,16 @@ class Config:
             if "coa" in peer and fits_ip and fits_name and (ip, name) != (None, None):
                 return index
         return None
+
+
+def how_well(pattern, name):
+    """How well a pattern fits a name: -1 where it doesn't, and more for a longer pattern; a whole name fits best."""
+    if pattern == b"*":
+        return 0 if name else -1
+    if pattern.startswith(b"*."):
+        end = pattern[1:]
+        return len(end) if name.endswith(end) and name != end else -1
+    return 1000 if name == pattern else -1
 
 
 def address(text):
@@ -140,9 +163,12 @@ class Realm:
 
     def __init__(self, config, index):
         self.config, self.index, self.table = config, index, config.realms[index]
+        self.rest = self.table.get("rest", 0)
         self.entries = []
         self.ticket = self.built = 0
         self.cursors = {}
+        # Of the links of home servers: until when they rest, and how many entries were given up there.
+        self.rests, self.given_up = {}, {}
         self.sessions = Sessions(self.table["max_sessions"])
 
     # Links
@@ -171,12 +197,27 @@ class Realm:
                 return id
         return None
 
-    def target(self, links, entries):
-        for link in links:
-            id = self.free_identifier(link, entries)
-            if id is not None:
-                return (link, id)
-        return None
+    def stands_back(self, link, now):
+        return link in self.rests and self.rests[link] > now
+
+    def target(self, now, links, entries):
+        """Of the links with a free Identifier the first that doesn't stand back, or the first of all."""
+        free = [(link, self.free_identifier(link, entries)) for link in links]
+        free = [(link, id) for link, id in free if id is not None]
+        forward = [target for target in free if not self.stands_back(target[0], now)]
+        return next(iter(forward + free), None)
+
+    def give_up(self, now, link):
+        """Counts an entry that its link left without an answer."""
+        if link[0] == "coa" or self.rest == 0:
+            return
+        self.given_up[link] = min(self.given_up.get(link, 0) + 1, MOST_GIVEN_UP)
+        if self.given_up[link] >= self.table.get("rest_after", 1):
+            self.rests[link] = now + self.rest
+
+    def is_answered(self, link):
+        self.rests.pop(link, None)
+        self.given_up.pop(link, None)
 
     # What is sent
 
@@ -195,6 +236,8 @@ class Realm:
     def send(self, now, entry, target):
         entry.link, entry.id = target
         self.cursors[entry.link] = (entry.id + 1) % 256
+        if entry.link in self.rests:
+            self.rests[entry.link] = now + self.rest
         request, secret = entry.request, self.secret_of(entry.link)
         words = self.words(request.packet.code)
         entry.octets = forwarded(
@@ -243,7 +286,7 @@ class Realm:
         others = [e for e in self.entries if e is not known]
         if self.ticket == LAST_TICKET:
             raise Refused(11)
-        target = self.target(links, others)
+        target = self.target(now, links, others)
         if target is None:
             raise Refused(12)
         if len(others) >= self.table["max_pending"]:
@@ -266,15 +309,20 @@ class Realm:
             raise Refused(14)
         [entry] = waiting
         sent, secret, request = Packet(entry.octets), self.secret_of(link), entry.request
-        self.judge(reply, sent, secret)
+        self.judge(reply, sent, secret, self.must_seal(link))
         packet = returned(reply, request.packet, request.secret, sent, secret)
         if len(packet) > LARGEST:
             raise Refused(18)
         if reply.code == ACCOUNTING_RESPONSE:
             self.sessions.apply(request.peer, request.packet)
+        self.is_answered(link)
         return self.hold(now, entry, packet)
 
-    def judge(self, reply, sent, secret):
+    def must_seal(self, link):
+        kind, index = link
+        return kind == "auth" and self.table["server"][index].get("require_seal", False)
+
+    def judge(self, reply, sent, secret, must_seal):
         if reply.code not in REPLIES_OF[sent.code]:
             raise Refused(15)
         if not reply.is_signed(sent.authenticator, secret):
@@ -282,7 +330,7 @@ class Realm:
         access = reply.code in ACCESS_REPLIES
         if not reply.is_well_sealed([sent.authenticator] + [ZEROS] * (not access), secret):
             raise Refused(17)
-        if access and reply.values(EAP_MESSAGE) and not reply.values(SEAL):
+        if access and not reply.values(SEAL) and (must_seal or reply.values(EAP_MESSAGE)):
             raise Refused(17)
 
     # A tick
@@ -308,7 +356,8 @@ class Realm:
         request, (kind, index) = entry.request, entry.link
         if kind == "coa":
             return self.hold(now, entry, nak(request.packet, request.secret, NO_ANSWER))
-        target = self.target(self.server_links(request.packet.code, index + 1), others)
+        self.give_up(now, entry.link)
+        target = self.target(now, self.server_links(request.packet.code, index + 1), others)
         if target is None:
             self.entries = others
             return []
@@ -339,12 +388,17 @@ class Broker:
         if kind == "out":
             return self.reply(now, int(number), source, packet)
         peer, secret, must_seal = self.requester(kind, number, source[0])
+        if packet.code == STATUS_SERVER and self.config.status_server and kind in STATUS_AT:
+            return self.status(place, source, packet, secret)
         if packet.code not in REQUESTS_AT[kind]:
             raise Refused(5)
         self.check(packet, secret, must_seal)
         realm = int(number) if number else self.config.realm_named(packet.first(USER_NAME))
-        if packet.code == ACCESS_REQUEST and is_rejected(packet, realm):
-            return self.reject(place, source, packet, secret)
+        too_many_hops = self.has_too_many_hops(packet)
+        if packet.code == ACCESS_REQUEST and (too_many_hops or is_rejected(packet, realm)):
+            return self.answer(ACCESS_REJECT, place, source, packet, secret)
+        if too_many_hops:
+            raise Refused(24)
         if realm is None:
             raise Refused(9)
         if forwarded_size(packet) > LARGEST:
@@ -374,8 +428,20 @@ class Broker:
         if access and not packet.values(SEAL) and (must_seal or packet.values(EAP_MESSAGE)):
             raise Refused(8)
 
-    def reject(self, place, source, packet, secret):
-        octets = local_reject(packet, secret)
+    def has_too_many_hops(self, packet):
+        return self.config.max_hops is not None and len(packet.values(PROXY_STATE)) > self.config.max_hops
+
+    def status(self, place, source, packet, secret):
+        """A Status-Server, which is sealed whatever the access server's other requests are."""
+        if not packet.is_well_sealed([packet.authenticator], secret):
+            raise Refused(7)
+        if not packet.values(SEAL):
+            raise Refused(8)
+        return self.answer(STATUS_AT[place], place, source, packet, secret)
+
+    def answer(self, code, place, source, packet, secret):
+        """An answer that no realm gives."""
+        octets = local_answer(code, packet, secret)
         if len(octets) > LARGEST:
             raise Refused(10)
         return [("-", place, source, octets)]

@@ -1,4 +1,5 @@
 """The configurations of the rows, each under the name that the rows say."""
+import json
 
 TOP = '''shards = {shards}
 seed = "{seed}"
@@ -48,6 +49,13 @@ ip = "192.0.2.5"
 secret = "k5"
 nas_id = "nas5"
 '''
+# A home server that is an access server too.
+HOME1 = '''
+[[peer]]
+name = "home1"
+ip = "198.51.100.1"
+secret = "h1"
+'''
 REALM = '''
 [[realm]]
 name = "{name}"
@@ -67,10 +75,17 @@ secret = "{secret}"
 '''
 
 
-def server(ip, secret, auth=":1812", acct=":1813"):
+def stated(**keys):
+    """The lines of those keys that have a value."""
+    values = {name: json.dumps(value) for name, value in keys.items() if value is not None}
+    return "".join(f"{name} = {value}\n" for name, value in values.items())
+
+
+def server(ip, secret, auth=":1812", acct=":1813", require_seal=None):
     """A home server; where they aren't said its endpoints have the usual ports."""
     endpoints = (end if end[0] != ":" else ip + end for end in (auth, acct))
-    return SERVER.format(secret=secret, auth=next(endpoints), acct=next(endpoints))
+    text = SERVER.format(secret=secret, auth=next(endpoints), acct=next(endpoints))
+    return text + stated(require_seal=require_seal)
 
 
 def servers(count):
@@ -78,18 +93,21 @@ def servers(count):
     return [server(f"198.51.100.{n}", f"h{n}") for n in range(1, count + 1)]
 
 
-def realm(name, servers, tries=2, wait=1000, hold=5000, max_pending=300, max_sessions=100):
+def realm(name, servers, tries=2, wait=1000, hold=5000, max_pending=300, max_sessions=100,
+          also=None, rest=None, rest_after=None):
     """A realm as a function of its index."""
     def table(index):
-        return REALM.format(name=name, out=2000 + index, reverse=3000 + index, tries=tries, wait=wait,
-                            hold=hold, max_pending=max_pending,
-                            max_sessions=max_sessions) + "".join(servers)
+        text = REALM.format(name=name, out=2000 + index, reverse=3000 + index, tries=tries, wait=wait,
+                            hold=hold, max_pending=max_pending, max_sessions=max_sessions)
+        return text + stated(also=also, rest=rest, rest_after=rest_after) + "".join(servers)
     return table
 
 
-def configuration(*realms, shards=1, trace_limit=1000, ip="127.0.0.1", peers=(NAS1,), seed="0" * 64):
+def configuration(*realms, shards=1, trace_limit=1000, ip="127.0.0.1", peers=(NAS1,), seed="0" * 64,
+                  max_hops=None, status_server=None):
     """A configuration of these realms, whose own sockets have this address."""
-    text = TOP.format(shards=shards, seed=seed, trace_limit=trace_limit) + "".join(peers)
+    text = TOP.format(shards=shards, seed=seed, trace_limit=trace_limit)
+    text += stated(max_hops=max_hops, status_server=status_server) + "".join(peers)
     text += "".join(table(index) for index, table in enumerate(realms))
     return text.replace('"127.0.0.1:', f'"{ip}:')
 
@@ -102,6 +120,11 @@ def one(count=1, **keys):
 def many(names, count=1, shards=1, **keys):
     """Realms of these letters that share so many servers."""
     return configuration(*(realm(f"{n}.example", servers(count), **keys) for n in names), shards=shards)
+
+
+def resting(tries, count=2, rest=10000, **keys):
+    """One realm whose servers may rest."""
+    return one(count, tries=tries, rest=rest, **keys)
 
 
 def small(names, count, shards=1, **keys):
@@ -164,6 +187,41 @@ CONFIGURATIONS = {
         realm("c.example", servers(1), hold=1000)),
     "one-world": configuration(realm("a.example", servers(1)), realm("b.example", servers(2))),
     "other-world": OTHER_WORLD,
+    "names-and-patterns": configuration(
+        realm("a.example", servers(1), also=["*.a.example", "*"]),
+        realm("b.example", servers(1), also=["x.a.example", "*.b.a.example"])),
+    "capitals-and-a-default": configuration(
+        realm("a.example", servers(1), also=["*.A.Example"]), realm("b.example", servers(1), also=["*"])),
+    "one-hop": configuration(realm("a.example", servers(1)), max_hops=1),
+    "two-hops": configuration(realm("a.example", servers(1)), max_hops=2),
+    "fifteen-hops": configuration(realm("a.example", servers(1)), max_hops=15),
+    "sixteen-hops": configuration(realm("a.example", servers(1)), max_hops=16),
+    "server-with-seals": configuration(
+        realm("a.example", [server("198.51.100.1", "h1", require_seal=True)])),
+    "second-server-with-seals": configuration(
+        realm("a.example", [*servers(1), server("198.51.100.2", "h2", require_seal=True)])),
+    "status-server": configuration(realm("a.example", servers(1)), status_server=True),
+    "status-server-and-one-hop": configuration(
+        realm("a.example", servers(1)), peers=(NAS1 + "require_seal = false\n",), max_hops=1, status_server=True),
+    "rest": resting(2),
+    "rest-of-no-time": resting(2, rest=0),
+    "rest-and-one-place": resting(2, max_pending=1),
+    "rest-and-one-try": resting(1),
+    "short-rest-and-one-try": resting(1, rest=500),
+    "rest-at-three-servers": resting(1, 3, 5000),
+    "short-rest-at-three-servers": resting(1, 3, 100),
+    "rest-of-two-realms": many("ab", 2, rest=10000),
+    "rest-after-two": resting(1, rest_after=2),
+    "rest-after-two-and-two-places": resting(1, rest_after=2, max_pending=2),
+    "rest-after-two-at-three-servers": resting(1, 3, rest_after=2),
+    "rest-of-no-time-after-two": resting(1, rest=0, rest_after=2),
+    "rest-after-three": resting(1, rest_after=3),
+    "rest-after-three-and-two-tries": resting(2, rest_after=3),
+    "short-rest-after-three-at-three-servers": resting(1, 3, 100, rest_after=3),
+    "rest-after-two-and-after-three": configuration(
+        *(realm(f"{name}.example", servers(2), tries=1, rest=10000, rest_after=count)
+          for name, count in (("a", 2), ("b", 3)))),
+    "rest-after-256": resting(1, rest_after=256),
     "small": small("a", 1, wait=10, hold=20, max_pending=4),
     "small-and-shared": configuration(
         realm("a", servers(1), wait=10, hold=5, max_pending=2),
@@ -195,4 +253,22 @@ CONFIGURATIONS = {
         realm("b", [server("198.51.100.1", "zz")], wait=8, hold=20, tries=1, max_pending=3, max_sessions=1),
         realm("c", [LONG_SECRET, *servers(1)], wait=12, hold=10, max_pending=5, max_sessions=2),
         peers=(NAS5, NAS4, NAS1, NAS3), seed="9" * 64, shards=2),
+    "federation": configuration(
+        realm("a", [*servers(1), server("198.51.100.2", "h2", require_seal=True)], wait=10, hold=20, tries=1,
+              max_pending=5, max_sessions=2, also=["*.a", "*"], rest=30),
+        realm("b", servers(2), wait=8, hold=10, max_pending=4, max_sessions=1, also=["b.a", "*.b.a", "*.C"], rest=15),
+        peers=(NAS1, HOME1), seed="0f" * 32, max_hops=2, status_server=True),
+    "federation-of-silent-servers": configuration(
+        realm("a", servers(3), wait=5, hold=15, tries=1, max_pending=6, max_sessions=1, also=["*.Aa"], rest=25,
+              rest_after=2),
+        realm("b", [*servers(1), server("198.51.100.2", "h2", require_seal=True)], wait=6, hold=10, tries=1,
+              max_pending=3, max_sessions=1, also=["*.b"], rest=40),
+        peers=(NAS2, HOME1, NAS1), seed="e1" * 32, max_hops=3, status_server=True),
+    "federation-in-two-shards": configuration(
+        realm("a", [server("198.51.100.1", "h1", require_seal=True), *servers(2)[1:]], wait=10, hold=10,
+              max_pending=4, max_sessions=2, also=["*.x", "y"], rest=60),
+        realm("b", [LONG_SECRET, *servers(1)], wait=5, hold=20, tries=1, max_pending=4, max_sessions=2,
+              also=["*.a.x", "*.y"], rest=12, rest_after=2),
+        realm("c", servers(2), wait=7, hold=0, tries=1, max_pending=3, also=["*", "z.a.x"], rest=9),
+        peers=(NAS3, NAS1, HOME1), seed="7" * 64, shards=2, max_hops=1),
 }

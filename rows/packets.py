@@ -7,6 +7,7 @@ import hmac
 
 ACCESS_REQUEST, ACCESS_ACCEPT, ACCESS_REJECT, ACCESS_CHALLENGE = 1, 2, 3, 11
 ACCOUNTING_REQUEST, ACCOUNTING_RESPONSE = 4, 5
+STATUS_SERVER = 12
 DISCONNECT_REQUEST, DISCONNECT_ACK, DISCONNECT_NAK = 40, 41, 42
 COA_REQUEST, COA_ACK, COA_NAK = 43, 44, 45
 ACCESS_REPLIES = (ACCESS_ACCEPT, ACCESS_REJECT, ACCESS_CHALLENGE)
@@ -231,9 +232,10 @@ def returned(reply, request, secret, sent, link_secret):
     return signed(reply.code, request.id, request.authenticator, attributes, secret)
 
 
-def local_reject(request, secret):
+def local_answer(code, request, secret):
+    """A sealed answer that has the request's Proxy-States alone."""
     attributes = restored(request, [(SEAL, ZEROS)])
-    return signed(ACCESS_REJECT, request.id, request.authenticator, attributes, secret)
+    return signed(code, request.id, request.authenticator, attributes, secret)
 
 
 def nak(request, secret, cause):

@@ -5,3 +5,4 @@ pub mod SealLemmas
 pub mod StandardFacts
 pub mod SealingLemmas
 pub mod DecidingLemmas
+pub mod DifferenceLemmas

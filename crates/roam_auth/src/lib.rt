@@ -4,9 +4,10 @@
 //!
 //! Nothing here takes memory or copies a packet: each digest takes the pieces where they lie. MD5
 //! itself is the crate `md5`'s. Every secret has 1 to 64 octets. Authenticators are passed by value.
-//! What is compared isn't compared in constant time.
+//! What is compared with a digest is compared in constant time.
 #![tactic(auto)]
 
+mod comparing;
 mod hmac;
 mod in_place;
 mod laws;

@@ -8,6 +8,7 @@ ghost use Rattle.roam_wire.specs.Shown.{shown};
 ghost use Rattle.roam_auth.specs.Authenticators.{zero_octets};
 ghost use Rattle.roam_auth.specs.MessageAuthenticator.{HasOneMessageAuthenticator, IsWellSealed, attribute_with_value, zeroed_text, message_authenticator};
 
+use crate::comparing::is_same_digest;
 use crate::hmac::{inner_hasher, outer_digest};
 use crate::pieces::{ZERO_OCTETS, before_authenticator};
 use md5::{Digest, Md5};
@@ -93,7 +94,7 @@ pub fn message_ok(view: &View<'_>, secret: &[u8], authenticator: [u8; 16]) -> bo
         None => true,
         Some(value) => match message_auth(view, secret, authenticator) {
             None => false,
-            Some(expected) => value == expected.as_slice(),
+            Some(expected) => is_same_digest(value, expected.as_slice()),
         },
     }
 }

@@ -4,6 +4,7 @@
 ghost use Rattle.std.specs.Prelude.{◌≡◌, ◌↔◌, ◌≤◌, IsTrue, length};
 ghost use Rattle.roam_auth.specs.Authenticators.{request_authenticator, IsSignedRequest};
 
+use crate::comparing::is_same_digest;
 use crate::pieces::ZERO_OCTETS;
 use crate::response::response_auth;
 use roam_wire::View;
@@ -27,5 +28,6 @@ pub fn request_ok(view: &View<'_>, secret: &[u8]) -> bool
     requires at_most_64 { length secret.now ≤ 64 }
     ensures { IsTrue result ↔ IsSignedRequest secret.now view.now }
 {
-    view.authenticator() == request_auth(view, secret)
+    let expected = request_auth(view, secret);
+    is_same_digest(view.authenticator().as_slice(), expected.as_slice())
 }

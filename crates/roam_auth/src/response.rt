@@ -3,6 +3,7 @@
 ghost use Rattle.std.specs.Prelude.{◌≡◌, ◌↔◌, ◌≤◌, IsTrue, length};
 ghost use Rattle.roam_auth.specs.Authenticators.{response_authenticator, IsSignedReply};
 
+use crate::comparing::is_same_digest;
 use crate::pieces::{before_authenticator, behind_authenticator};
 use md5::{Digest, Md5};
 use roam_wire::View;
@@ -30,5 +31,6 @@ pub fn response_ok(view: &View<'_>, request_authenticator: [u8; 16], secret: &[u
     requires at_most_64 { length secret.now ≤ 64 }
     ensures { IsTrue result ↔ IsSignedReply secret.now request_authenticator view.now }
 {
-    view.authenticator() == response_auth(view, request_authenticator, secret)
+    let expected = response_auth(view, request_authenticator, secret);
+    is_same_digest(view.authenticator().as_slice(), expected.as_slice())
 }

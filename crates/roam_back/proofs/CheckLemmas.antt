@@ -13,7 +13,7 @@ use Rattle.roam_auth.proofs.DecidingLemmas.{signed_reply_decided, well_sealed_de
 use Rattle.roam_auth.specs.MessageAuthenticator.{IsWellSealed}
 use Rattle.roam_auth.proofs.SealLemmas.{IsWellSealed-two}
 use Rattle.roam_wire.specs.Codes.{is_access_reply}
-use Rattle.roam_back.specs.ReplyCheck.{answers, sealing_authenticators, IsRightlySealed, has_seal_for_eap, is_rightly_sealed, reply_fault, TakenHasNoFault}
+use Rattle.roam_back.specs.ReplyCheck.{answers, sealing_authenticators, IsRightlySealed, has_seal_for_eap, has_required_seal, is_rightly_sealed, reply_fault, TakenHasNoFault}
 
 -- an accounting or reverse reply may be sealed over zeros too
 sealing_authenticators-others : (reply forwarded : Packet) → is_access_reply reply.code ≡ false → sealing_authenticators reply forwarded ≡ forwarded.authenticator ∷ zero_octets ∷ []
@@ -49,14 +49,24 @@ eap_shown : (access : Bool) (eap seals : ℕ) → IsTrue (not access || eqb eap 
 eap_shown true eap seals = (λ h. λ is some. grind (arith, nat_tests, h), λ h. grind (arith, nat_tests, h refl))
 eap_shown false eap seals = (λ h. λ is some. absurd (cc), λ h. refl)
 
+-- so does the test of the seal that is required
+required_shown : (required access : Bool) (seals : ℕ) → IsTrue (not required || not access || ltb 0 seals)
+    ↔ (IsTrue required → IsTrue access → 0 < seals)
+required_shown true true seals = (λ h. λ is also. grind (arith, nat_tests, h), λ h. grind (arith, nat_tests, h refl refl))
+required_shown true false seals = (λ h. λ is also. absurd (cc also), λ h. refl)
+required_shown false access seals = (λ h. λ is also. absurd (cc is), λ h. refl)
+
 -- the test of the seal shows it, and the other way round
-rightly_sealed_decided : (secret : List ℕ) (reply forwarded : Packet) →
-    IsTrue (is_rightly_sealed secret reply forwarded) ↔ IsRightlySealed secret reply forwarded
-rightly_sealed_decided secret reply forwarded =
+rightly_sealed_decided : (secret : List ℕ) (required : Bool) (reply forwarded : Packet) →
+    IsTrue (is_rightly_sealed secret required reply forwarded) ↔ IsRightlySealed secret required reply forwarded
+rightly_sealed_decided secret required reply forwarded =
+    let access = is_access_reply reply.code in
+    let seals = count_of MESSAGE_AUTHENTICATOR reply.attributes in
     let well = is_well_sealed secret (sealing_authenticators reply forwarded) reply in
-    let eap = eap_shown (is_access_reply reply.code) (count_of EAP_MESSAGE reply.attributes) (count_of MESSAGE_AUTHENTICATOR reply.attributes) in
-    let both = both_decided well (has_seal_for_eap reply) (well_sealed_decided secret (sealing_authenticators reply forwarded) reply) eap in
-    (λ h. record { well_sealed = (both.0 h).0; eap = (both.0 h).1 }, λ h. both.1 (h.well_sealed, h.eap))
+    let eap = eap_shown access (count_of EAP_MESSAGE reply.attributes) seals in
+    let needed = both_decided (has_seal_for_eap reply) (has_required_seal required reply) eap (required_shown required access seals) in
+    let both = both_decided well (has_seal_for_eap reply && has_required_seal required reply) (well_sealed_decided secret (sealing_authenticators reply forwarded) reply) needed in
+    (λ h. record { well_sealed = (both.0 h).0; eap = (both.0 h).1.0; required_seal = (both.0 h).1.1 }, λ h. both.1 (h.well_sealed, (h.eap, h.required_seal)))
 
 -- the fault by the three tests
 abbrev pub fault_by : Bool → Bool → Bool → Option Refusal
@@ -74,21 +84,21 @@ none_by true false sealed = (λ h. absurd (cc), λ h. absurd (cc h.1.0))
 none_by false signed sealed = (λ h. absurd (cc), λ h. absurd (cc h.0))
 
 pub taken_has_no_fault : TakenHasNoFault
-taken_has_no_fault secret reply forwarded =
+taken_has_no_fault secret required reply forwarded =
     let code = answers forwarded.code reply.code in
     let signed = is_signed_reply secret forwarded.authenticator reply in
-    let sealed = is_rightly_sealed secret reply forwarded in
+    let sealed = is_rightly_sealed secret required reply forwarded in
     let tests = none_by code signed sealed in
     let signed_so = signed_reply_decided secret forwarded.authenticator reply in
-    let sealed_so = rightly_sealed_decided secret reply forwarded in (
+    let sealed_so = rightly_sealed_decided secret required reply forwarded in (
       λ h. record { code = (tests.0 h).0; signed = signed_so.0 (tests.0 h).1.0; sealed = sealed_so.0 (tests.0 h).1.1 },
       λ h. tests.1 (h.code, (signed_so.1 h.signed, sealed_so.1 h.sealed)),
     )
 
 -- where the other two tests are true, the fault is the seal's
-pub bad_seal-fault : (secret : List ℕ) (reply forwarded : Packet) → IsTrue (answers forwarded.code reply.code) → IsSignedReply secret forwarded.authenticator reply → (IsRightlySealed secret reply forwarded → ⊥) → Some refusal.BadReplyMessageAuthenticator ≡ reply_fault secret reply forwarded
-bad_seal-fault secret reply forwarded code signed h =
-    let sealed = is_rightly_sealed secret reply forwarded in
+pub bad_seal-fault : (secret : List ℕ) (required : Bool) (reply forwarded : Packet) → IsTrue (answers forwarded.code reply.code) → IsSignedReply secret forwarded.authenticator reply → (IsRightlySealed secret required reply forwarded → ⊥) → Some refusal.BadReplyMessageAuthenticator ≡ reply_fault secret required reply forwarded
+bad_seal-fault secret required reply forwarded code signed h =
+    let sealed = is_rightly_sealed secret required reply forwarded in
     let yes : is_signed_reply secret forwarded.authenticator reply ≡ true = (signed_reply_decided secret forwarded.authenticator reply).1 signed in
-    let no : sealed ≡ false = is_false sealed (λ t. h ((rightly_sealed_decided secret reply forwarded).0 t)) in
+    let no : sealed ≡ false = is_false sealed (λ t. h ((rightly_sealed_decided secret required reply forwarded).0 t)) in
     rw (code, yes, no) refl

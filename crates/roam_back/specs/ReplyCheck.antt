@@ -35,17 +35,26 @@ HasSealForEap reply =
     IsTrue (is_access_reply reply.code) → 0 < count_of EAP_MESSAGE reply.attributes
     → 0 < count_of MESSAGE_AUTHENTICATOR reply.attributes
 
+-- an Access reply has a Message-Authenticator where its home server is required to seal: without one it
+-- may be forged by who stands between (CVE-2024-3596; when one is required is ours)
+abbrev pub HasRequiredSeal : Bool → Packet → Type 0
+HasRequiredSeal required reply =
+    IsTrue required → IsTrue (is_access_reply reply.code)
+    → 0 < count_of MESSAGE_AUTHENTICATOR reply.attributes
+
 -- a reply that is rightly sealed for a forwarded request
-pub record IsRightlySealed (secret : List ℕ) (reply forwarded : Packet) : Type 0 where
-  pub well_sealed : IsWellSealed secret (sealing_authenticators reply forwarded) reply
-  pub eap : HasSealForEap reply
+pub record IsRightlySealed (secret : List ℕ) (required : Bool) (reply forwarded : Packet) : Type 0
+  where
+    pub well_sealed : IsWellSealed secret (sealing_authenticators reply forwarded) reply
+    pub eap : HasSealForEap reply
+    pub required_seal : HasRequiredSeal required reply
 
 -- a reply to a forwarded request that is taken: its code answers the request's, it is signed with the
 -- link's secret for the forwarded Authenticator, and it is rightly sealed
-pub record IsTaken (secret : List ℕ) (reply forwarded : Packet) : Type 0 where
+pub record IsTaken (secret : List ℕ) (required : Bool) (reply forwarded : Packet) : Type 0 where
   pub code : IsTrue (answers forwarded.code reply.code)
   pub signed : IsSignedReply secret forwarded.authenticator reply
-  pub sealed : IsRightlySealed secret reply forwarded
+  pub sealed : IsRightlySealed secret required reply forwarded
 
 -- The same as tests.
 
@@ -56,22 +65,30 @@ has_seal_for_eap reply =
     || count_of EAP_MESSAGE reply.attributes == 0
     || nat_lt 0 (count_of MESSAGE_AUTHENTICATOR reply.attributes)
 
+-- whether an Access reply has a Message-Authenticator where one is required (ours)
+abbrev pub has_required_seal : Bool → Packet → Bool
+has_required_seal required reply =
+    not required
+    || not (is_access_reply reply.code)
+    || nat_lt 0 (count_of MESSAGE_AUTHENTICATOR reply.attributes)
+
 -- whether a reply is rightly sealed for a forwarded request (RFC 3579, sections 3.1 and 3.2)
-abbrev pub is_rightly_sealed : List ℕ → Packet → Packet → Bool
-is_rightly_sealed secret reply forwarded =
-    is_well_sealed secret (sealing_authenticators reply forwarded) reply && has_seal_for_eap reply
+abbrev pub is_rightly_sealed : List ℕ → Bool → Packet → Packet → Bool
+is_rightly_sealed secret required reply forwarded =
+    is_well_sealed secret (sealing_authenticators reply forwarded) reply
+    && (has_seal_for_eap reply && has_required_seal required reply)
 
 -- why a reply to a forwarded request isn't taken, if it isn't: for its code, its Response
 -- Authenticator, or its Message-Authenticator, in this order
-abbrev pub reply_fault : List ℕ → Packet → Packet → Option Refusal
-reply_fault secret reply forwarded =
+abbrev pub reply_fault : List ℕ → Bool → Packet → Packet → Option Refusal
+reply_fault secret required reply forwarded =
     if not (answers forwarded.code reply.code) then Some refusal.WrongReply
     else if not (is_signed_reply secret forwarded.authenticator reply) then Some refusal.BadReply
-    else if not (is_rightly_sealed secret reply forwarded)
+    else if not (is_rightly_sealed secret required reply forwarded)
     then Some refusal.BadReplyMessageAuthenticator
     else None
 
 -- a reply has no fault just where it is taken
 abbrev pub TakenHasNoFault : Type 0
-TakenHasNoFault = (secret : List ℕ) (reply forwarded : Packet) →
-    (reply_fault secret reply forwarded ≡ None) ↔ IsTaken secret reply forwarded
+TakenHasNoFault = (secret : List ℕ) (required : Bool) (reply forwarded : Packet) →
+    (reply_fault secret required reply forwarded ≡ None) ↔ IsTaken secret required reply forwarded

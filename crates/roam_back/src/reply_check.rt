@@ -5,7 +5,7 @@ ghost use Rattle.std.specs.Prelude.{◌≡◌, ◌⊎◌, ◌↔◌, ◌≤◌, 
 ghost use Rattle.std.specs.Result.{result_err};
 ghost use Rattle.roam_auth.specs.Authenticators.{IsSignedReply};
 ghost use Rattle.roam_auth.specs.MessageAuthenticator.{IsWellSealed};
-ghost use Rattle.roam_back.specs.ReplyCheck.{answers, sealing_authenticators, HasSealForEap, IsRightlySealed, IsTaken, reply_fault};
+ghost use Rattle.roam_back.specs.ReplyCheck.{answers, sealing_authenticators, HasRequiredSeal, HasSealForEap, IsRightlySealed, IsTaken, reply_fault};
 
 use roam_auth::{ZERO_OCTETS, message_ok, response_ok};
 use roam_wire::attribute_type::{EAP_MESSAGE, MESSAGE_AUTHENTICATOR};
@@ -53,29 +53,52 @@ fn has_seal_for_eap(reply: &View<'_>) -> bool
         || reply.count(MESSAGE_AUTHENTICATOR) > 0
 }
 
+/// Whether an Access reply has a Message-Authenticator where its home server is required to seal. A
+/// reply without one may be forged by who stands between (CVE-2024-3596).
+fn has_required_seal(reply: &View<'_>, seal_required: bool) -> bool
+    ensures { IsTrue result ↔ HasRequiredSeal seal_required reply.now }
+{
+    !seal_required || !is_access_reply(reply.code()) || reply.count(MESSAGE_AUTHENTICATOR) > 0
+}
+
 /// Whether a reply is rightly sealed for a forwarded request (RFC 3579, sections 3.1 and 3.2).
-fn is_rightly_sealed(reply: &View<'_>, forwarded: &View<'_>, secret: &[u8]) -> bool
+fn is_rightly_sealed(
+    reply: &View<'_>,
+    forwarded: &View<'_>,
+    secret: &[u8],
+    seal_required: bool,
+) -> bool
     requires at_least_one_octet { 1 ≤ length secret.now }
     requires at_most_64_octets { length secret.now ≤ 64 }
-    ensures { IsTrue result ↔ IsRightlySealed secret.now reply.now forwarded.now }
+    ensures { IsTrue result ↔ IsRightlySealed secret.now seal_required reply.now forwarded.now }
 {
-    is_well_sealed(reply, forwarded, secret) && has_seal_for_eap(reply)
+    is_well_sealed(reply, forwarded, secret)
+        && has_seal_for_eap(reply)
+        && has_required_seal(reply, seal_required)
 }
 
 /// Whether a reply to a forwarded request is taken, with the secret of the link from which it came,
-/// of 1 to 64 octets. Takes no memory.
+/// of 1 to 64 octets, and whether its home server is required to seal its Access replies. Takes no
+/// memory.
 ///
 /// Refused in this order: `WrongReply` where the reply's code doesn't answer the request's (RFC 2865
 /// section 4, RFC 2866 section 4, RFC 5176 section 2.3); `BadReply` where its Response Authenticator
 /// is wrong (RFC 2865, section 3); `BadReplyMessageAuthenticator` where it has two
-/// Message-Authenticators, one that hasn't 16 octets, or a wrong one, or where an Access reply has an
-/// EAP-Message and no Message-Authenticator (RFC 3579, sections 3.1 and 3.2). In accounting and
-/// reverse replies a Message-Authenticator over sixteen zero octets is right as well.
-pub fn check_reply(reply: &View<'_>, forwarded: &View<'_>, secret: &[u8]) -> Result<(), Refusal>
+/// Message-Authenticators, one that hasn't 16 octets, or a wrong one, or where an Access reply has
+/// none, and has an EAP-Message (RFC 3579, sections 3.1 and 3.2) or a seal is required: a reply without
+/// one may be forged by who stands between (CVE-2024-3596). In accounting and reverse replies a
+/// Message-Authenticator over sixteen zero octets is right as well.
+pub fn check_reply(
+    reply: &View<'_>,
+    forwarded: &View<'_>,
+    secret: &[u8],
+    seal_required: bool,
+) -> Result<(), Refusal>
     requires at_least_one_octet { 1 ≤ length secret.now }
     requires at_most_64_octets { length secret.now ≤ 64 }
-    ensures taken { IsOk result ↔ IsTaken secret.now reply.now forwarded.now }
-    ensures fault { result_err result ≡ reply_fault secret.now reply.now forwarded.now }
+    ensures taken { IsOk result ↔ IsTaken secret.now seal_required reply.now forwarded.now }
+    ensures fault { result_err result
+        ≡ reply_fault secret.now seal_required reply.now forwarded.now }
 
     // Each cause is looked at once those before it don't hold.
     ensures wrong_reply { IsErrOf result Refusal.WrongReply
@@ -86,7 +109,7 @@ pub fn check_reply(reply: &View<'_>, forwarded: &View<'_>, secret: &[u8]) -> Res
     ensures bad_message_authenticator { IsErrOf result Refusal.BadReplyMessageAuthenticator
         ↔ (IsTrue (answers forwarded.now.code reply.now.code)
         × IsSignedReply secret.now forwarded.now.authenticator reply.now
-        × ¬ IsRightlySealed secret.now reply.now forwarded.now) }
+        × ¬ IsRightlySealed secret.now seal_required reply.now forwarded.now) }
     ensures causes { IfErr result (λ e. (e ≡ Refusal.WrongReply) ⊎ (e ≡ Refusal.BadReply)
         ⊎ (e ≡ Refusal.BadReplyMessageAuthenticator)) }
 {
@@ -96,7 +119,7 @@ pub fn check_reply(reply: &View<'_>, forwarded: &View<'_>, secret: &[u8]) -> Res
     if !response_ok(reply, forwarded.authenticator(), secret) {
         return Err(Refusal::BadReply);
     }
-    if !is_rightly_sealed(reply, forwarded, secret) {
+    if !is_rightly_sealed(reply, forwarded, secret, seal_required) {
         return Err(Refusal::BadReplyMessageAuthenticator);
     }
     Ok(())

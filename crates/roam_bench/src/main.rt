@@ -2,9 +2,8 @@
 //!
 //! Its one word says what is measured: `shards`, the broker over shared tables of several sizes;
 //! `memory`, what an entry of them takes; `lists`, that broker beside the one with a list for each
-//! realm; `threads`, callers in threads of their own over a hub, beside the broker without threads;
-//! `trace`, the memory and time of a stored step, and the end of a hub; `check`, all of that in small,
-//! where only counts are printed. A figure counts only beside the others of the same run.
+//! realm; `check`, all of that in small, where only counts are printed. A figure counts only beside the
+//! others of the same run.
 //!
 //! `mutated COUNT SEED` gives so many mutated datagrams to `prepare` and to hubs, and prints what
 //! became of them; so does `check`, of a few.
@@ -16,50 +15,38 @@ mod figures;
 mod filled;
 mod lists;
 mod maker;
-mod metered;
 mod mutated;
 mod packets;
 mod shards;
 mod simulated;
 mod table;
-mod threads;
-mod trace;
 
 use crate::fault::Fault;
 use std::env;
 use std::process::ExitCode;
 use std::sync::Wait;
-use std::thread::Threads;
 
 /// Measures what the word asks for.
-fn measure<R: Threads + Wait + Sync>(
-    rt: &HostRuntime,
-    threads: &R,
-    word: &str,
-) -> Result<(), Fault> {
+fn measure<R: Wait>(rt: &HostRuntime, waits: &R, word: &str) -> Result<(), Fault> {
     match word {
         "check" => {
             shards::check(rt)?;
             lists::check(rt)?;
-            threads::check(rt, threads)?;
-            trace::check(rt, threads)?;
-            mutated::check(rt, threads)
+            mutated::check(rt, waits)
         }
         "shards" => shards::measure(rt),
         "memory" => shards::memory(rt),
         "lists" => lists::measure(rt),
-        "threads" => threads::measure(rt, threads),
-        "trace" => trace::measure(rt, threads),
         _ => Err(Fault::Word),
     }
 }
 
 /// Gives mutated datagrams: as many as the second word says, of the seed that the third one is.
-fn give_mutated<R: Wait>(rt: &HostRuntime, threads: &R, words: &[String]) -> Result<(), Fault> {
+fn give_mutated<R: Wait>(rt: &HostRuntime, waits: &R, words: &[String]) -> Result<(), Fault> {
     let (Some(count), Some(seed)) = (number_at(words, 1), number_at(words, 2)) else {
         return Err(Fault::Word);
     };
-    mutated::run(rt, threads, count, seed)
+    mutated::run(rt, waits, count, seed)
 }
 
 /// The number that a word is.
@@ -68,11 +55,11 @@ fn number_at(words: &[String], place: usize) -> Option<u64> {
 }
 
 /// Measures what the first word of the command line asks for.
-fn run<R: Threads + Wait + Sync>(rt: &HostRuntime, threads: &R) -> Result<(), Fault> {
+fn run<R: Wait>(rt: &HostRuntime, waits: &R) -> Result<(), Fault> {
     let words: Vec<String> = env::args(rt)?.skip(1).collect(rt.alloc())?;
     match words.first() {
-        Some(word) if word.as_str() == "mutated" => give_mutated(rt, threads, words.as_slice()),
-        Some(word) => measure(rt, threads, word.as_str()),
+        Some(word) if word.as_str() == "mutated" => give_mutated(rt, waits, words.as_slice()),
+        Some(word) => measure(rt, waits, word.as_str()),
         None => Err(Fault::Word),
     }
 }

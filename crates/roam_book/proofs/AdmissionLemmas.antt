@@ -17,6 +17,7 @@ use Rattle.roam_reverse.specs.Sessions.{Session}
 use Rattle.roam_reverse.specs.Shown.{Ledger}
 use Rattle.roam_book.specs.declared.gone.Gone.{Gone}
 use Rattle.roam_book.specs.declared.numbers.Numbers.{Numbers}
+use Rattle.roam_book.specs.declared.rest.Rest.{Rest}
 use Rattle.roam_book.specs.NewEntry.{MakesWay, target_at}
 use Rattle.roam_book.specs.RealmConfig.{RealmConfig, IsLink}
 use Rattle.roam_book.specs.RealmState.{RealmState, Target, next_toward}
@@ -259,8 +260,9 @@ waits-well c q l w i left deadline forwarded s is at h =
 
 -- what the admission of a request rests on: of the state, all but its entries
 turn_of :
-    RealmConfig → ℕ → PlainRequest → ℕ → List ℕ → ℕ → List Session → List PlainEntry → Target → Turn
-turn_of c now q ticket cursors position sessions es target =
+    RealmConfig → ℕ → PlainRequest → ℕ → List ℕ → ℕ → List Session → List Rest → List PlainEntry → Target
+    → Turn
+turn_of c now q ticket cursors position sessions rests es target =
     admit c now
     (record {
       entries = es;
@@ -268,26 +270,28 @@ turn_of c now q ticket cursors position sessions es target =
       cursors = cursors;
       stream_position = position;
       sessions = sessions;
+      rests = rests;
     })
     es q target
 
 turn-same :
     (c : RealmConfig) (now : ℕ) (q : PlainRequest) (s u : RealmState) (es fs : List PlainEntry)
     (t v : Target) → s.ticket ≡ u.ticket → s.cursors ≡ u.cursors
-    → s.stream_position ≡ u.stream_position → s.sessions ≡ u.sessions → es ≡ fs → t ≡ v
-    → turn_of c now q s.ticket s.cursors s.stream_position s.sessions es t
-    ≡ turn_of c now q u.ticket u.cursors u.stream_position u.sessions fs v
-turn-same c now q s u es fs t v ticket cursors position sessions entries target =
-    cc (ticket, cursors, position, sessions, entries, target)
+    → s.stream_position ≡ u.stream_position → s.sessions ≡ u.sessions → s.rests ≡ u.rests → es ≡ fs
+    → t ≡ v
+    → turn_of c now q s.ticket s.cursors s.stream_position s.sessions s.rests es t
+    ≡ turn_of c now q u.ticket u.cursors u.stream_position u.sessions u.rests fs v
+turn-same c now q s u es fs t v ticket cursors position sessions rests entries target =
+    cc (ticket, cursors, position, sessions, rests, entries, target)
 
 pub admit-same :
     (c : RealmConfig) (now : ℕ) (q : PlainRequest) (s u : RealmState) (es fs : List PlainEntry)
     (t v : Target) → s.ticket ≡ u.ticket → s.cursors ≡ u.cursors
-    → s.stream_position ≡ u.stream_position → s.sessions ≡ u.sessions → es ≡ fs → t ≡ v
-    → admit c now s es q t ≡ admit c now u fs q v
+    → s.stream_position ≡ u.stream_position → s.sessions ≡ u.sessions → s.rests ≡ u.rests → es ≡ fs
+    → t ≡ v → admit c now s es q t ≡ admit c now u fs q v
 unfolding turn_of
-admit-same c now q s u es fs t v ticket cursors position sessions entries target =
-    turn-same c now q s u es fs t v ticket cursors position sessions entries target
+admit-same c now q s u es fs t v ticket cursors position sessions rests entries target =
+    turn-same c now q s u es fs t v ticket cursors position sessions rests entries target
 
 -- the target is the same where the next free Identifier is
 target_of : Link → Option ℕ → Target

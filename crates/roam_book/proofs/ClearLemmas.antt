@@ -56,5 +56,5 @@ clear-turn c es mid fs n m k way h now q is =
     (way-next c es mid fs n m k way h is.done is.link) in
     admit-same c now q (state_of fs k) (state_of es n) fs (left_by way es) _ _
     (rw h.same h.slots.ticket) (rw h.same h.slots.cursors) (rw h.same h.slots.stream_position)
-    (rw h.same (ap (λ (l : Ledger). l.sessions) h.slots.sessions))
+    (rw h.same (ap (λ (l : Ledger). l.sessions) h.slots.sessions)) (rw h.same h.slots.rests)
     (h.done ∙ ap (λ (xs : List PlainEntry). besides way.done xs) h.gone) target

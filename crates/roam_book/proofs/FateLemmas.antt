@@ -1,19 +1,19 @@
 -- What becomes of a due entry is the definition's step, and the realm stays sound.
 use Rattle.std.proofs.Common.{◌≡◌, ℕ, ◌+◌, ◌%◌, ◌^◌, ◌<◌, true, List, [], ◌∷◌, Option, Some, None, refl, ap, sym, ◌∙◌, subst, arith, length, ltb}
 use Rattle.std.specs.Prelude.{IfSome, option_map, slice_set}
-use Rattle.std.specs.List.{AllByRecursion, find}
+use Rattle.std.specs.List.{AllByRecursion}
 use Rattle.std.proofs.lemmas.Bool.Decides.{nat_tests}
 use Rattle.roam_conf.specs.declared.place.Link.{Link}
 use Rattle.roam_conf.specs.declared.place.Link.TheVariants as link
 use Rattle.roam_pending.specs.declared.entry.Standing.TheVariants as standing
 use Rattle.roam_pending.specs.declared.entry.Done.{Done}
 use Rattle.roam_pending.specs.declared.entry.Waiting.{Waiting}
-use Rattle.roam_pending.specs.PlainEntry.{PlainRequest, PlainStanding, PlainEntry, waiting, done, is_done, stands_done}
-use Rattle.roam_pending.specs.EntryList.{without, put}
+use Rattle.roam_pending.specs.PlainEntry.{PlainRequest, PlainStanding, PlainEntry, waiting, done, is_done, stands_done, waits_at}
+use Rattle.roam_pending.specs.EntryList.{find_ticket, without, put}
 use Rattle.roam_pending.specs.Realms.{sent_again, waits_on, with_standing}
 use Rattle.roam_pending.specs.Shown.{shown_standing}
 use Rattle.roam_pending.proofs.OrderLemmas.{list-without}
-use Rattle.roam_pending.proofs.ChangeLemmas.{find-passes, put-without}
+use Rattle.roam_pending.proofs.ChangeLemmas.{put-without}
 use Rattle.roam_route.specs.Admission.{PlainOut}
 use Rattle.roam_route.specs.Shown.{shown_out}
 use Rattle.roam_ids.specs.LaneState.{LaneState}
@@ -24,14 +24,16 @@ use Rattle.roam_book.specs.declared.numbers.Numbers.{Numbers}
 use Rattle.roam_book.specs.declared.sending.Sent.{Sent}
 use Rattle.roam_book.specs.declared.service.Service.TheVariants as service
 use Rattle.roam_book.specs.RealmConfig.{RealmConfig, IsLink, link_place, later_targets}
-use Rattle.roam_book.specs.RealmState.{Target, with_entries, next_toward, first_target}
+use Rattle.roam_book.specs.RealmState.{Target, with_entries, next_toward, chosen_target}
+use Rattle.roam_book.specs.Rests.{after_choice, after_silence}
+use Rattle.roam_book.specs.declared.rest.Rest.{Rest}
 use Rattle.roam_book.specs.OnRequest.{packet_to, position_after, forwarded_octets, forwarded_entry}
-use Rattle.roam_book.specs.OnTick.{fail_over, without_entry, due_standing}
-use Rattle.roam_book.specs.Sound.{AreOwnLanes, IsEntry, IsWaiting, StandsWell, IsSound, LanesTell, state_of, cursors_of, lane_of, has_free, is_open, marks_of}
+use Rattle.roam_book.specs.OnTick.{fail_over, given_up_at, due_standing}
+use Rattle.roam_book.specs.Sound.{AreOwnLanes, IsEntry, IsWaiting, StandsWell, IsSound, LanesTell, state_of, cursors_of, lane_of, has_free, chosen_link, marks_of}
 use Rattle.roam_book.specs.Fates.{GivesUp, IsHeld, IsFate, fate_entries, once_held}
 use Rattle.roam_book.proofs.SendingLemmas.{position-below}
 use Rattle.roam_book.proofs.SoundLemmas.{kept-put, kept-without, kept-ticket}
-use Rattle.roam_book.proofs.LaneLemmas.{tells-done, tells-gone, tells-again, target-tells, target-next, links-are}
+use Rattle.roam_book.proofs.LaneLemmas.{tells-done, tells-gone, tells-again, chosen-open, target-tells, target-next, links-are}
 
 -- A realm whose entries change
 
@@ -123,31 +125,79 @@ again c now es e n l id forwarded sends_left deadline sent stands some is held =
     (due_standing c now (state_of es n) e p)) (sym stands)
     (rw left (record { packets = ap (λ (p : PlainOut). p ∷ []) is; state = refl; sound = sound }))
 
--- An entry that isn't sent again: its Identifier was given back
+-- An entry that isn't sent to its link again: its Identifier was given back, and it was counted there
 
-pub record IsFreed {A : Type 0} (c : RealmConfig) (es : List PlainEntry)
+pub record IsFreed {A : Type 0} (c : RealmConfig) (now : ℕ) (l : Link) (es : List PlainEntry)
     (old new : Numbers A) : Type 0 where
   pub cursors : cursors_of new.lanes.items ≡ cursors_of old.lanes.items
+  pub rests : new.rests.items ≡ after_silence c now old.rests.items l
   pub tells : LanesTell c es new.lanes.items
   pub same : IsSameBut old new
+
+-- what giving an Identifier back, and counting at its link, leave of the numbers
+pub record IsBack {A : Type 0} (c : RealmConfig) (l : Link) (id : ℕ)
+    (old new : Numbers A) : Type 0 where
+  pub cursors : cursors_of new.lanes.items ≡ cursors_of old.lanes.items
+  pub tells : (e : PlainEntry) (es : List PlainEntry) → LanesTell c es old.lanes.items
+      → find_ticket e.ticket es ≡ Some e → waits_at l id e ≡ true
+      → LanesTell c (without e.ticket es) new.lanes.items
+  pub count : length new.lanes.items ≡ length old.lanes.items
+  pub ticket : new.ticket ≡ old.ticket
+  pub stream_position : new.stream_position ≡ old.stream_position
+  pub sessions : new.sessions ≡ old.sessions
+  pub rests : new.rests.items ≡ old.rests.items
+  pub marks : marks_of new.lanes.items ≡ marks_of old.lanes.items
+
+pub record IsCounted {A : Type 0} (c : RealmConfig) (now : ℕ) (l : Link)
+    (old new : Numbers A) : Type 0 where
+  pub lanes : new.lanes.items ≡ old.lanes.items
+  pub ticket : new.ticket ≡ old.ticket
+  pub stream_position : new.stream_position ≡ old.stream_position
+  pub sessions : new.sessions ≡ old.sessions
+  pub rests : new.rests.items ≡ after_silence c now old.rests.items l
+
+pub was-freed :
+    {A : Type 0} (c : RealmConfig) (now : ℕ) (l : Link) (id : ℕ) (es : List PlainEntry)
+    (e : PlainEntry) (n m k : Numbers A) → IsHeld c es e n → waits_at l id e ≡ true
+    → IsBack c l id n m → IsCounted c now l m k → IsFreed c now l (without e.ticket es) n k
+was-freed c now l id es e n m k held waits back counted = record {
+  cursors = ap cursors_of counted.lanes ∙ back.cursors;
+  rests = counted.rests ∙ ap (λ (r : List Rest). after_silence c now r l) back.rests;
+  tells = subst (LanesTell c (without e.ticket es)) (sym counted.lanes)
+      (back.tells e es held.sound.lanes_tell held.found waits);
+  same = record {
+    count = ap length counted.lanes ∙ back.count;
+    ticket = counted.ticket ∙ back.ticket;
+    stream_position = counted.stream_position ∙ back.stream_position;
+    sessions = counted.sessions ∙ back.sessions;
+    marks = ap marks_of counted.lanes ∙ back.marks;
+  };
+}
 
 pub later-links : (c : RealmConfig) (l : Link) → AllByRecursion (IsLink c) (later_targets c l)
 later-links c (link.Auth server) = links-are c service.Authentication (server + 1)
 later-links c (link.Acct server) = links-are c service.Accounting (server + 1)
 later-links c (link.Coa peer) = tt
 
--- the first later target is found by the lanes
+-- the target that is chosen then
+abbrev next_target :
+    {A : Type 0} → RealmConfig → ℕ → List PlainEntry → PlainEntry → Numbers A → Link → Option Target
+next_target c now es e n l =
+    chosen_target c now (after_silence c now n.rests.items l) (cursors_of n.lanes.items)
+    (without e.ticket es) (later_targets c l)
+
+-- it is found by the lanes and the rests
 target-is :
-    {A : Type 0} (c : RealmConfig) (es : List PlainEntry) (e : PlainEntry) (n m : Numbers A)
+    {A : Type 0} (c : RealmConfig) (now : ℕ) (es : List PlainEntry) (e : PlainEntry) (n m : Numbers A)
     (l : Link)
-    → IsHeld c es e n → IsFreed c (without e.ticket es) n m
-    → option_map (λ t. t.link) (first_target c (cursors_of n.lanes.items) (without e.ticket es)
-    (later_targets c l))
-    ≡ find (is_open c m.lanes.items None) (later_targets c l)
-target-is c es e n m l held freed =
-    let told = target-tells c (without e.ticket es) m.lanes.items (later_targets c l)
+    → IsHeld c es e n → IsFreed c now l (without e.ticket es) n m
+    → option_map (λ t. t.link) (next_target c now es e n l)
+    ≡ chosen_link c now m.rests.items m.lanes.items None (later_targets c l)
+target-is c now es e n m l held freed =
+    let told = target-tells c now m.rests.items (without e.ticket es) m.lanes.items (later_targets c l)
     (list-without e.ticket es held.list) freed.tells (later-links c l) in
-    rw freed.cursors at told
+    rw (freed.cursors) at (ap (λ (rests : List Rest). option_map (λ t. t.link) (chosen_target c now rests
+    (cursors_of m.lanes.items) (without e.ticket es) (later_targets c l))) (sym freed.rests) ∙ told)
 
 no_target : (o : Option Target) → option_map (λ t. t.link) o ≡ None → o ≡ None
 no_target None h = refl
@@ -164,22 +214,23 @@ same_target : (t : Target) (l : Link) (i : ℕ) → t.link ≡ l → t.id ≡ i
     → t ≡ record { link = l; id = i }
 same_target t l i at is = rw (← at, ← is) refl
 
--- the target that is found has a free Identifier
+-- the target that is chosen has a free Identifier
 pub free-target :
-    (c : RealmConfig) (lanes : List LaneState) (links : List Link) (o : Option Link)
-    → o ≡ find (is_open c lanes None) links → IfSome o (λ l. has_free (lane_of c lanes l) ≡ true)
-free-target c lanes links None h = tt
-free-target c lanes links (Some l) h = find-passes (is_open c lanes None) links l (sym h)
+    (c : RealmConfig) (now : ℕ) (rests : List Rest) (lanes : List LaneState) (links : List Link)
+    (o : Option Link) → o ≡ chosen_link c now rests lanes None links
+    → IfSome o (λ l. has_free (lane_of c lanes l) ≡ true)
+free-target c now rests lanes links None h = tt
+free-target c now rests lanes links (Some l) h = chosen-open c now rests lanes None links l (sym h)
 
 -- an entry that is done, or gone, in place of one that waited
 held-done :
     {A : Type 0} (c : RealmConfig) (es : List PlainEntry) (e : PlainEntry) (n m : Numbers A)
-    (d : Option (Done A)) → IsHeld c es e n → IsFreed c (without e.ticket es) n m
-    → IsSound c (once_held e es d) m
-held-done c es e n m None held freed =
+    (d : Option (Done A)) (now : ℕ) (l : Link) → IsHeld c es e n
+    → IsFreed c now l (without e.ticket es) n m → IsSound c (once_held e es d) m
+held-done c es e n m None now l held freed =
     let each = kept-without c n.ticket e.ticket es held.sound.each in
     sound-changed c es (without e.ticket es) n m held.sound freed.same each freed.tells
-held-done c es e n m (Some d) held freed =
+held-done c es e n m (Some d) now l held freed =
     let new = with_standing (done d.reply d.deadline) e in
     let old = kept-ticket c n.ticket e.ticket e es held.found held.sound.each in
     let here : IsEntry c n.ticket new = record {
@@ -193,31 +244,34 @@ held-done c es e n m (Some d) held freed =
 
 given-sound :
     {A : Type 0} (c : RealmConfig) (now : ℕ) (es : List PlainEntry) (e : PlainEntry)
-    (n m : Numbers A) (f : Fate A) → IsHeld c es e n → IsFreed c (without e.ticket es) n m
-    → GivesUp c now e f → IsSound c (fate_entries c now e es f) m
-given-sound c now es e n m fate.Gone held freed given = held-done c es e n m None held freed
-given-sound c now es e n m (fate.Refused sent d) held freed given = held-done c es e n m d held freed
-given-sound c now es e n m (fate.SentAgain sent) held freed given = absurd (given.ends)
-given-sound c now es e n m (fate.Forwarded sent w) held freed given = absurd (given.ends)
+    (n m : Numbers A) (l : Link) (f : Fate A) → IsHeld c es e n
+    → IsFreed c now l (without e.ticket es) n m → GivesUp c now e f
+    → IsSound c (fate_entries c now e es f) m
+given-sound c now es e n m l fate.Gone held freed given = held-done c es e n m None now l held freed
+given-sound c now es e n m l (fate.Refused sent d) held freed given =
+    held-done c es e n m d now l held freed
+given-sound c now es e n m l (fate.SentAgain sent) held freed given = absurd (given.ends)
+given-sound c now es e n m l (fate.Forwarded sent w) held freed given = absurd (given.ends)
 
--- no later target has a free Identifier: the request is given up
+-- no later target has a free Identifier: no one answers the request
 pub gone-freed :
     {A : Type 0} (c : RealmConfig) (now : ℕ) (es : List PlainEntry) (e : PlainEntry)
     (n m : Numbers A) (l : Link) (f : Fate A)
-    → IsHeld c es e n → IsFreed c (without e.ticket es) n m
-    → None ≡ find (is_open c m.lanes.items None) (later_targets c l) → GivesUp c now e f
-    → IsFate c now es e m f (fail_over c now (without_entry (state_of es n) e) e
-    (first_target c (cursors_of n.lanes.items) (without e.ticket es) (later_targets c l)))
+    → IsHeld c es e n → IsFreed c now l (without e.ticket es) n m
+    → None ≡ chosen_link c now m.rests.items m.lanes.items None (later_targets c l)
+    → GivesUp c now e f
+    → IsFate c now es e m f (fail_over c now (given_up_at c now l (state_of es n) e) e
+    (next_target c now es e n l))
 gone-freed c now es e n m l f held freed none given =
-    let first = no_target (first_target c (cursors_of n.lanes.items) (without e.ticket es)
-    (later_targets c l)) (target-is c es e n m l held freed ∙ sym none) in
-    let old = without_entry (state_of es n) e in
+    let first = no_target (next_target c now es e n l) (target-is c now es e n m l held freed ∙ sym none) in
+    let old = given_up_at c now l (state_of es n) e in
     let state : state_of (fate_entries c now e es f) m ≡ with_entries old (fate_entries c now e es f) =
-    rw (freed.cursors, freed.same.ticket, freed.same.stream_position, freed.same.sessions) refl in
+    rw (freed.cursors, freed.same.ticket, freed.same.stream_position, freed.same.sessions, freed.rests)
+    refl in
     rw first (record {
       packets = given.packets old;
       state = state ∙ given.state old es refl;
-      sound = given-sound c now es e n m f held freed given;
+      sound = given-sound c now es e n m l f held freed given;
     })
 
 -- where a request is forwarded to
@@ -241,6 +295,7 @@ pub record IsSent {A : Type 0} (c : RealmConfig) (now : ℕ) (es : List PlainEnt
   pub ticket : new.ticket ≡ old.ticket
   pub stream_position : new.stream_position ≡ position_after q old.stream_position
   pub sessions : new.sessions ≡ old.sessions
+  pub rests : new.rests.items ≡ after_choice c now old.rests.items l
   pub marks : marks_of new.lanes.items ≡ marks_of old.lanes.items
 
 stands-waiting :
@@ -253,21 +308,20 @@ stands-waiting {A} c q l w f s d is waits =
     l w.id f s d = is in cc in
     rw at waits
 
--- a later target has one: the request goes there under its ticket
+-- a later target is chosen: the request goes there under its ticket
 pub forwarded-freed :
     {A : Type 0} (c : RealmConfig) (now : ℕ) (es : List PlainEntry) (e : PlainEntry)
     (n m k : Numbers A) (l to : Link) (o : Sent A) (w : Waiting A)
-    → IsHeld c es e n → IsFreed c (without e.ticket es) n m
-    → Some to ≡ find (is_open c m.lanes.items None) (later_targets c l)
+    → IsHeld c es e n → IsFreed c now l (without e.ticket es) n m
+    → Some to ≡ chosen_link c now m.rests.items m.lanes.items None (later_targets c l)
     → IsSent c now (without e.ticket es) e.request e.ticket to m k o w
-    → IsFate c now es e k (fate.Forwarded o w) (fail_over c now (without_entry (state_of es n) e) e
-    (first_target c (cursors_of n.lanes.items) (without e.ticket es) (later_targets c l)))
+    → IsFate c now es e k (fate.Forwarded o w)
+    (fail_over c now (given_up_at c now l (state_of es n) e) e (next_target c now es e n l))
 forwarded-freed c now es e n m k l to o w held freed some sent =
     let others = without e.ticket es in
-    let found = a_target (first_target c (cursors_of n.lanes.items) others (later_targets c l)) to
-    (target-is c es e n m l held freed ∙ sym some) in
-    let next = target-next c (cursors_of n.lanes.items) others (later_targets c l) found.0
-    found.1 in
+    let found = a_target (next_target c now es e n l) to (target-is c now es e n m l held freed ∙ sym some) in
+    let next = target-next c now (after_silence c now n.rests.items l) (cursors_of n.lanes.items) others
+    (later_targets c l) found.0 found.1 in
     let taken : next_toward c (cursors_of n.lanes.items) others found.0.link ≡ Some w.id = rw
     (found.2, ← freed.cursors) sent.next in
     let both : Some found.0.id ≡ Some w.id = sym next ∙ taken in
@@ -297,12 +351,14 @@ forwarded-freed c now es e n m k l to o w held freed some sent =
     let ticket = sent.ticket ∙ freed.same.ticket in
     let marks = sent.marks ∙ freed.same.marks in
     let sessions = sent.sessions ∙ freed.same.sessions in
+    let rests : k.rests.items ≡ after_choice c now (after_silence c now n.rests.items l) to =
+    sent.rests ∙ ap (λ (r : List Rest). after_choice c now r to) freed.rests in
     let position : k.stream_position ≡ position_after e.request n.stream_position =
     rw (← at) sent.stream_position in
     let below : k.stream_position < 2 ^ 68 =
     rw position (position-below e.request n.stream_position held.sound.stream_position) in
     rw first (record {
       packets = ap (λ (p : PlainOut). p ∷ []) out;
-      state = rw (put_is, sent.cursors, freed.cursors, ticket, position, sessions) refl;
+      state = rw (put_is, sent.cursors, freed.cursors, ticket, position, sessions, rests) refl;
       sound = sound-drawn c es _ n k held.sound count ticket below sessions marks each tells;
     })

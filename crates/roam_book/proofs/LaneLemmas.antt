@@ -1,8 +1,8 @@
 -- What the lanes tell of the entries, and so where a packet can go.
 use Rattle.std.proofs.Common.{◌≡◌, ℕ, ◌+◌, ◌<◌, ◌≤◌, Bool, true, false, cond, List, [], ◌∷◌, Option, Some, None, is_some, refl, ap, sym, ◌∙◌, subst, arith, inl, inr, get_or, drop, ◌&&◌, ◌==◌, ◌-◌, length, length-drop}
-use Rattle.std.specs.Prelude.{option_map}
-use Rattle.std.specs.List.{AllByRecursion, find}
-use Rattle.std.specs.Option.{option_map_or}
+use Rattle.std.specs.Prelude.{not, option_map}
+use Rattle.std.specs.List.{AllByRecursion, filter, find}
+use Rattle.std.specs.Option.{option_map_or, option_or}
 use Rattle.std.proofs.Math.ListN as lists
 use Rattle.std.proofs.lemmas.Bool.{cases_Bool}
 use Rattle.roam_conf.specs.declared.place.Link.{Link}
@@ -14,14 +14,16 @@ use Rattle.roam_pending.specs.EntryList.{IsInOrder, IsEntryList, find_ticket, fi
 use Rattle.roam_pending.specs.Realms.{sent_again, waits_on}
 use Rattle.roam_pending.proofs.TestLemmas.{same, all-find, all-weaker}
 use Rattle.roam_pending.proofs.OrderLemmas.{list-without, without-absent}
-use Rattle.roam_pending.proofs.ChangeLemmas.{found-ticket, find-without, put-without}
+use Rattle.roam_pending.proofs.ChangeLemmas.{find-passes, found-ticket, find-without, put-without}
 use Rattle.roam_pending.proofs.ClientLemmas.{identifier-used}
 use Rattle.roam_conf.specs.Config.{ServerView}
 use Rattle.roam_book.specs.declared.service.Service.{Service}
 use Rattle.roam_book.specs.declared.service.Service.TheVariants as service
 use Rattle.roam_book.specs.RealmConfig.{RealmConfig, IsLink, link_place, links_from, server_link, server_links}
-use Rattle.roam_book.specs.RealmState.{Target, next_toward, first_target, this_or, is_used_on}
-use Rattle.roam_book.specs.Sound.{IsEntry, StandsWell, TellsAt, LanesTell, lane_of, cursors_of, waits_there, is_open, standing_place, no_lane}
+use Rattle.roam_book.specs.RealmState.{Target, next_toward, chosen_target, first_target, ready_links, this_or, is_used_on}
+use Rattle.roam_book.specs.Rests.{stands_back}
+use Rattle.roam_book.specs.declared.rest.Rest.{Rest}
+use Rattle.roam_book.specs.Sound.{IsEntry, StandsWell, TellsAt, LanesTell, lane_of, cursors_of, waits_there, chosen_link, is_open, is_ready, standing_place, no_lane}
 use Rattle.roam_book.proofs.WaitingLemmas.{waits_as, without-waits, put-waits, tells-same}
 use Rattle.roam_book.proofs.UsedLemmas.{used-tells, freed-none, free_one}
 
@@ -125,15 +127,53 @@ target-by c cursors es p (l ∷ ls) h =
     this_or-link l (next_toward c cursors es l) (first_target c cursors es ls)
     ∙ rw h.0 (ap (λ (o : Option Link). cond (p l) (Some l) o) (target-by c cursors es p ls h.1))
 
+-- the same among those that pass a test
+target-among :
+    (c : RealmConfig) (cursors : List ℕ) (es : List PlainEntry) (p q : Link → Bool) (links : List Link)
+    → AllByRecursion (λ l. is_some (next_toward c cursors es l) ≡ p l) links
+    → option_map (λ t. t.link) (first_target c cursors es (filter q links))
+    ≡ find (λ l. q l && p l) links
+target-among c cursors es p q [] h = refl
+target-among c cursors es p q (l ∷ ls) h =
+    let later = target-among c cursors es p q ls h.1 in
+    elim (cases_Bool (q l)) [
+      | inl y ↦ rw y (this_or-link l (next_toward c cursors es l) (first_target c cursors es (filter q ls))
+          ∙ rw h.0 (ap (λ (o : Option Link). cond (p l) (Some l) o) later))
+      | inr n ↦ rw n later
+    ]
+
+-- the link of one target, or of another where there is none
+link-or :
+    (a b : Option Target) → option_map (λ t. t.link) (option_or a b)
+    ≡ option_or (option_map (λ t. t.link) a) (option_map (λ t. t.link) b)
+link-or None b = refl
+link-or (Some t) b = refl
+
+or-same : (a b d e : Option Link) → a ≡ d → b ≡ e → option_or a b ≡ option_or d e
+or-same a b d e first second = rw (first, second) refl
+
+-- the target that is chosen is the link that is chosen by such a test
+chosen-by :
+    (c : RealmConfig) (now : ℕ) (rests : List Rest) (cursors : List ℕ) (es : List PlainEntry)
+    (p : Link → Bool) (links : List Link)
+    → AllByRecursion (λ l. is_some (next_toward c cursors es l) ≡ p l) links
+    → option_map (λ t. t.link) (chosen_target c now rests cursors es links)
+    ≡ option_or (find (λ l. not (stands_back c now rests l) && p l) links) (find p links)
+chosen-by c now rests cursors es p links h =
+    link-or (first_target c cursors es (ready_links c now rests links)) (first_target c cursors es links)
+    ∙ or-same _ _ _ _
+    (target-among c cursors es p (λ l. not (stands_back c now rests l)) links h)
+    (target-by c cursors es p links h)
+
 pub target-tells :
-    (c : RealmConfig) (es : List PlainEntry) (lanes : List LaneState) (links : List Link)
-    → IsEntryList es → LanesTell c es lanes → AllByRecursion (IsLink c) links
-    → option_map (λ t. t.link) (first_target c (cursors_of lanes) es links)
-    ≡ find (is_open c lanes None) links
-target-tells c es lanes links list tells are =
+    (c : RealmConfig) (now : ℕ) (rests : List Rest) (es : List PlainEntry) (lanes : List LaneState)
+    (links : List Link) → IsEntryList es → LanesTell c es lanes → AllByRecursion (IsLink c) links
+    → option_map (λ t. t.link) (chosen_target c now rests (cursors_of lanes) es links)
+    ≡ chosen_link c now rests lanes None links
+target-tells c now rests es lanes links list tells are =
     let cursors = cursors_of lanes in
     let p = is_open c lanes None in
-    target-by c cursors es p links
+    chosen-by c now rests cursors es p links
     (all-weaker (IsLink c) (λ l. is_some (next_toward c cursors es l) ≡ p l) links
     (λ l link. ap is_some (next-tells c es lanes l list tells link)) are)
 
@@ -196,22 +236,23 @@ open-freed c es lanes t e l id k list tells link at is octet =
 
 -- the same where an entry counts as gone: the link where it waits is open
 pub target-freed :
-    (c : RealmConfig) (n : ℕ) (es : List PlainEntry) (lanes : List LaneState) (links : List Link) (t : ℕ)
-    (e : PlainEntry) (place : Option (Link × ℕ))
+    (c : RealmConfig) (now : ℕ) (rests : List Rest) (n : ℕ) (es : List PlainEntry)
+    (lanes : List LaneState) (links : List Link) (t : ℕ) (e : PlainEntry)
+    (place : Option (Link × ℕ))
     → IsEntryList es → AllByRecursion (IsEntry c n) es → LanesTell c es lanes
     → AllByRecursion (IsLink c) links → find_ticket t es ≡ Some e
     → standing_place e.standing ≡ place
-    → option_map (λ x. x.link) (first_target c (cursors_of lanes) (without t es) links)
-    ≡ find (is_open c lanes (option_map (λ p. p.0) place)) links
-target-freed c n es lanes links t e None list each tells are at is =
+    → option_map (λ x. x.link) (chosen_target c now rests (cursors_of lanes) (without t es) links)
+    ≡ chosen_link c now rests lanes (option_map (λ p. p.0) place) links
+target-freed c now rests n es lanes links t e None list each tells are at is =
     let gone = tells-gone c es lanes t e tells at (placeless-done e.standing is) in
-    target-tells c (without t es) lanes links (list-without t es list) gone are
-target-freed c n es lanes links t e (Some (l, id)) list each tells are at is =
+    target-tells c now rests (without t es) lanes links (list-without t es list) gone are
+target-freed c now rests n es lanes links t e (Some (l, id)) list each tells are at is =
     let entry = all-find (IsEntry c n) (has_ticket t) es e at each in
     let octet : id < 256 = placed-octet c e.request e.standing l id is entry.standing in
     let cursors = cursors_of lanes in
     let p = is_open c lanes (Some l) in
-    target-by c cursors (without t es) p links
+    chosen-by c now rests cursors (without t es) p links
     (all-weaker (IsLink c) (λ k. is_some (next_toward c cursors (without t es) k) ≡ p k) links
     (λ k link. open-freed c es lanes t e l id k list tells link at is octet) are)
 
@@ -228,14 +269,64 @@ next_step c cursors es l target others (Some id) next later at =
     subst (λ (x : Target). next_toward c cursors es x.link ≡ Some x.id) here next
 
 -- the Identifier of the first target is the next toward its link
-pub target-next :
+first-next :
     (c : RealmConfig) (cursors : List ℕ) (es : List PlainEntry) (links : List Link) (target : Target)
     → first_target c cursors es links ≡ Some target
     → next_toward c cursors es target.link ≡ Some target.id
-target-next c cursors es [] target at = absurd (let none : None ≡ Some target = at in cc)
-target-next c cursors es (l ∷ ls) target at =
+first-next c cursors es [] target at = absurd (let none : None ≡ Some target = at in cc)
+first-next c cursors es (l ∷ ls) target at =
     next_step c cursors es l target (first_target c cursors es ls) (next_toward c cursors es l) refl
-    (target-next c cursors es ls target) at
+    (first-next c cursors es ls target) at
+
+-- what is said of each of two is said of the one, or of the other where it isn't there
+either :
+    {X : Type 0} (P : X → Type 0) (a b : Option X) (x : X) → (a ≡ Some x → P x) → (b ≡ Some x → P x)
+    → option_or a b ≡ Some x → P x
+either P None b x f g at = g at
+either P (Some y) b x f g at = f at
+
+-- so is that of the one that is chosen
+pub target-next :
+    (c : RealmConfig) (now : ℕ) (rests : List Rest) (cursors : List ℕ) (es : List PlainEntry)
+    (links : List Link) (target : Target) → chosen_target c now rests cursors es links ≡ Some target
+    → next_toward c cursors es target.link ≡ Some target.id
+target-next c now rests cursors es links target at =
+    either (λ (t : Target). next_toward c cursors es t.link ≡ Some t.id)
+    (first_target c cursors es (ready_links c now rests links)) (first_target c cursors es links) target
+    (first-next c cursors es (ready_links c now rests links) target)
+    (first-next c cursors es links target) at
+
+and_right : (a b : Bool) → (a && b) ≡ true → b ≡ true
+and_right true b h = h
+and_right false b h = absurd (let k : false ≡ true = h in cc)
+
+-- a link that is chosen is open
+pub chosen-open :
+    (c : RealmConfig) (now : ℕ) (rests : List Rest) (lanes : List LaneState) (freed : Option Link)
+    (links : List Link) (l : Link) → chosen_link c now rests lanes freed links ≡ Some l
+    → is_open c lanes freed l ≡ true
+chosen-open c now rests lanes freed links l at =
+    let ready = is_ready c (Some now) rests lanes freed in
+    let open_here = is_ready c None rests lanes freed in
+    either (λ (k : Link). is_open c lanes freed k ≡ true) (find ready links) (find open_here links) l
+    (λ found. and_right (not (stands_back c now rests l)) (is_open c lanes freed l)
+    (find-passes ready links l found))
+    (λ found. find-passes open_here links l found) at
+
+twice-or : (o : Option Link) → o ≡ option_or o o
+twice-or None = refl
+twice-or (Some l) = refl
+
+-- where one link alone is to be chosen from, it is where it is open
+pub one-chosen :
+    (c : RealmConfig) (now : ℕ) (rests : List Rest) (lanes : List LaneState) (freed : Option Link)
+    (l : Link) (b : Bool) → is_open c lanes freed l ≡ b
+    → cond b (Some l) None ≡ chosen_link c now rests lanes freed (l ∷ [])
+one-chosen c now rests lanes freed l b is =
+    elim (cases_Bool (stands_back c now rests l)) [
+      | inl y ↦ rw (y, is) refl
+      | inr n ↦ rw (n, is) (twice-or (cond b (Some l) None))
+    ]
 
 -- The links of the realm
 

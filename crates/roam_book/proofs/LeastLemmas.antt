@@ -12,7 +12,8 @@ use Rattle.roam_pending.proofs.OrderLemmas.{order-put, order-filter, without-abs
 use Rattle.roam_pending.proofs.ChangeLemmas.{found-ticket, put-without}
 use Rattle.roam_pending.proofs.DueListLemmas.{due-taken, due-put}
 use Rattle.roam_book.specs.RealmConfig.{RealmConfig, later_targets}
-use Rattle.roam_book.specs.RealmState.{RealmState, Target, first_target}
+use Rattle.roam_book.specs.RealmState.{RealmState, Target, chosen_target}
+use Rattle.roam_book.specs.Rests.{after_silence}
 use Rattle.roam_book.specs.OnRequest.{forwarded_entry, is_reverse, nak_octets}
 use Rattle.roam_book.specs.OnTick.{Progress, fail_over, given_up, once_refused, without_entry, due_standing, due_entry, due_one, due_each}
 use Rattle.roam_book.specs.LeastFirst.{least_first}
@@ -78,8 +79,11 @@ rest-standing c now s e (waiting l id forwarded sends_left deadline) wait order 
           let later : now < deadline_of (sent_again (now + c.realm.wait) e).standing = rw is
           (omega arith) in
           rw y (rest-put now (sent_again (now + c.realm.wait) e) s.entries order later)
-      | inr n ↦ rw n (rest-failed c now s e
-          (first_target c s.cursors (without e.ticket s.entries) (later_targets c l)) wait order)
+      | inr n ↦
+          let rests = after_silence c now s.rests l in
+          let counted : RealmState = record s { rests = rests } in
+          let next = chosen_target c now rests s.cursors (without e.ticket s.entries) (later_targets c l) in
+          rw n (rest-failed c now counted e next wait order)
     ]
 
 rest-entry :

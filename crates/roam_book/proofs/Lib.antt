@@ -13,6 +13,7 @@ pub mod NakLemmas
 pub mod RealmLemmas
 pub mod ReplyLemmas
 pub mod RequestLemmas
+pub mod RestLemmas
 pub mod RoomLemmas
 pub mod SendingLemmas
 pub mod SoundLemmas

@@ -47,7 +47,7 @@ pub returned-turn : (c : RealmConfig) (now : ℕ) (s : RealmState) (e : PlainEnt
     → (4096 < returned_length (returning c e.request l forwarded) reply (packet_of e.request.octets) → ⊥)
     → octets ≡ returned_octets c e.request l forwarded reply
     → peer ≡ counted_peer e.request.requester reply
-    → returns_octets c now e.request.key peer octets e s ≡ return_reply c now s e l forwarded reply
+    → returns_octets c now e.request.key peer octets e l s ≡ return_reply c now s e l forwarded reply
 returned-turn c now s e l forwarded reply peer octets short is counts =
     let size = returned_length (returning c e.request l forwarded) reply (packet_of e.request.octets) in
     let no : ltb 4096 size ≡ false = is_false (ltb 4096 size) (λ t. short (let lt : 4096 < size = grind (arith, nat_tests, t) in lt)) in
@@ -73,11 +73,25 @@ same-turn a old after new turn other h at is = record {
 }
 
 -- a verdict is one for the same turn
-pub same-verdict : {A : Type 0} (c : RealmConfig) (v : Verdict A) (e : PlainEntry) (s : RealmState)
-    (turn other : Turn) → Judges c v e s turn → turn ≡ other → Judges c v e s other
-same-verdict c v e s turn other h is = subst (λ (t : Turn). Judges c v e s t) is h
+pub same-verdict : {A : Type 0} (c : RealmConfig) (v : Verdict A) (e : PlainEntry) (l : Link)
+    (s : RealmState) (turn other : Turn) → Judges c v e l s turn → turn ≡ other
+    → Judges c v e l s other
+same-verdict c v e l s turn other h is = subst (λ (t : Turn). Judges c v e l s t) is h
+
+-- so is one for the same link
+pub verdict-from : {A : Type 0} (c : RealmConfig) (v : Verdict A) (e : PlainEntry) (s : RealmState)
+    (turn : Turn) (l k : Link) → l ≡ k → Judges c v e l s turn → Judges c v e k s turn
+verdict-from c v e s turn l k is h = subst (λ (x : Link). Judges c v e x s turn) is h
 
 -- The entry that a reply is for
+
+-- the link on which it waits
+pub link-stands : (l : Link) (i : ℕ) (s : PlainStanding) (at : Link) (id : ℕ) (forwarded : List ℕ)
+    (sends_left deadline : ℕ) → s ≡ waiting at id forwarded sends_left deadline
+    → stands_at l i s ≡ true → at ≡ l
+link-stands l i s at id forwarded sends_left deadline is h =
+    let here : stands_at l i (waiting at id forwarded sends_left deadline) ≡ true = rw is at h in
+    same_link-equal at l (and_left (same_link at l) (eqb id i) here)
 
 -- an entry that waits on a link waits on a link of the realm
 pub link-of : (c : RealmConfig) (l : Link) (i : ℕ) (q : PlainRequest) (s : PlainStanding)
@@ -132,9 +146,9 @@ list-standing s e es list found = list-changed (with_standing s e) es list (rw f
 
 -- where the reply isn't taken, or its entry is done, the answer's turn is that of the plan
 pub plan-none : {A : Type 0} (c : RealmConfig) (s : RealmState) (e : PlainEntry) (v : Verdict A)
-    (turn : Turn) → v.done ≡ None → Judges c v e s turn
+    (l : Link) (turn : Turn) → v.done ≡ None → Judges c v e l s turn
     → IsReplyPlan c s (record { answer = v.answer; settled = None }) turn
-plan-none c s e v turn is h = record {
+plan-none c s e v l turn is h = record {
   settles = tt;
   answers = rw is at h.answers;
   silent = λ none. refl;
@@ -144,7 +158,8 @@ pub plan-some : {A : Type 0} (c : RealmConfig) (s : RealmState) (e : PlainEntry)
     (turn : Turn) (d : Settled A) → v.done ≡ Some d.done → v.counted ≡ d.counted → IsLink c d.link
     → d.ticket ≡ e.ticket
     → find_ticket e.ticket s.entries ≡ Some e → waits_at d.link d.id e ≡ true
-    → Judges c v e s turn → IsReplyPlan c s (record { answer = v.answer; settled = Some d }) turn
+    → Judges c v e d.link s turn
+    → IsReplyPlan c s (record { answer = v.answer; settled = Some d }) turn
 plan-some c s e v turn d is counts link ticket found waits h = record {
   settles = (link, rw (ticket, found) waits);
   answers = rw (ticket, found) (rw (is, counts) at h.answers);

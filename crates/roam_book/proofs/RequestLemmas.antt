@@ -3,7 +3,7 @@ use Rattle.std.proofs.Common.{◌≡◌, ◌≢◌, ℕ, ◌^◌, Bool, true, fa
 use Rattle.std.specs.Prelude.{IfSome, nat_eq, option_map, unwrap_or}
 use Rattle.std.proofs.lemmas.Bool.{cases_Bool}
 use Rattle.std.specs.Cmp.Lexicographic.{pointwise}
-use Rattle.std.specs.List.{AllByRecursion, find}
+use Rattle.std.specs.List.{AllByRecursion}
 use Rattle.roam_wire.specs.Reading.{packet_of}
 use Rattle.roam_wire.specs.declared.refusal.Refusal.TheVariants as refusal
 use Rattle.roam_conf.specs.declared.place.Link.{Link}
@@ -16,15 +16,16 @@ use Rattle.roam_pending.proofs.ClientLemmas.{client-without, key-equal, without_
 use Rattle.roam_book.specs.NewEntry.{HasNext, freed_link, target_at}
 use Rattle.roam_book.specs.OnRequest.{at_target, coa_links, first_seen, held_reply, is_reverse, nak_octets, nak_or_new, new_request, of_key, packet_back, reverse_cause, targets}
 use Rattle.roam_book.specs.RealmConfig.{RealmConfig, IsLink, service_of}
-use Rattle.roam_book.specs.RealmState.{RealmState, Target, first_target, next_toward}
-use Rattle.roam_book.specs.Sound.{CountsAsGone, IsSound, cursors_of, gone_ticket, is_open, standing_place, state_of}
+use Rattle.roam_book.specs.RealmState.{RealmState, Target, chosen_target, next_toward}
+use Rattle.roam_book.specs.declared.rest.Rest.{Rest}
+use Rattle.roam_book.specs.Sound.{CountsAsGone, IsSound, chosen_link, cursors_of, gone_ticket, standing_place, state_of}
 use Rattle.roam_book.specs.Turn.{Turn, refuses, sends}
 use Rattle.roam_book.specs.declared.gone.Gone.{Gone}
 use Rattle.roam_book.specs.declared.numbers.Numbers.{Numbers}
 use Rattle.roam_book.proofs.JobLemmas.{target-within}
 use Rattle.roam_book.proofs.LaneLemmas.{links-are, target-freed, target-next, target-tells}
 
--- the first target is the link that was found, with its next free Identifier
+-- the target is the link that was chosen, with its next free Identifier
 target_of : Link → ℕ → Target
 target_of l id = record { link = l; id = id }
 
@@ -32,17 +33,19 @@ target-joined : (t l : Link) (i j : ℕ) → t ≡ l → i ≡ j → target_of t
 target-joined t l i j link id = cc (link, id)
 
 target-is :
-    (c : RealmConfig) (cursors : List ℕ) (es : List PlainEntry) (links : List Link) (l : Link)
-    (found : Option Target) → first_target c cursors es links ≡ found
+    (c : RealmConfig) (now : ℕ) (rests : List Rest) (cursors : List ℕ) (es : List PlainEntry)
+    (links : List Link) (l : Link) (found : Option Target)
+    → chosen_target c now rests cursors es links ≡ found
     → option_map (λ t. t.link) found ≡ Some l
-    → (first_target c cursors es links ≡ Some (target_at c cursors es l)) × HasNext c cursors es l
+    → (chosen_target c now rests cursors es links ≡ Some (target_at c cursors es l))
+    × HasNext c cursors es l
 unfolding target_of
-target-is c cursors es links l None is at = absurd (let k : None ≡ Some l = at in cc)
-target-is c cursors es links l (Some target) is at =
+target-is c now rests cursors es links l None is at = absurd (let k : None ≡ Some l = at in cc)
+target-is c now rests cursors es links l (Some target) is at =
     let same_link : target.link ≡ l = let k : Some target.link ≡ Some l = at in cc k in
     let next : next_toward c cursors es l ≡ Some target.id =
     subst (λ (x : Link). next_toward c cursors es x ≡ Some target.id) same_link
-    (target-next c cursors es links target is) in
+    (target-next c now rests cursors es links target is) in
     let id : target.id ≡ unwrap_or (next_toward c cursors es l) 0 =
     sym (ap (λ (o : Option ℕ). unwrap_or o 0) next) in
     let joined = target-joined target.link l target.id (unwrap_or (next_toward c cursors es l) 0)
@@ -54,19 +57,19 @@ no-target :
 no-target None h = refl
 no-target (Some target) h = absurd (let k : Some target.link ≡ None = h in cc)
 
--- the first open link is that of the first target
+-- the link that is chosen is that of the target
 open-is :
-    {A : Type 0} (c : RealmConfig) (es : List PlainEntry) (n : Numbers A) (o : Option Gone)
+    {A : Type 0} (c : RealmConfig) (now : ℕ) (es : List PlainEntry) (n : Numbers A) (o : Option Gone)
     (links : List Link) → IsSound c es n → IsEntryList es → CountsAsGone o es
     → AllByRecursion (IsLink c) links
-    → option_map (λ t. t.link)
-    (first_target c (cursors_of n.lanes.items) (besides (gone_ticket o) es) links)
-    ≡ find (is_open c n.lanes.items (freed_link o)) links
-open-is c es n None links sound list gone are =
-    target-tells c es n.lanes.items links list sound.lanes_tell are
-open-is c es n (Some g) links sound list gone are =
-    target-freed c n.ticket es n.lanes.items links g.ticket gone.0 g.waits_at list sound.each
-    sound.lanes_tell are gone.1.found (sym gone.1.place)
+    → option_map (λ t. t.link) (chosen_target c now n.rests.items (cursors_of n.lanes.items)
+    (besides (gone_ticket o) es) links)
+    ≡ chosen_link c now n.rests.items n.lanes.items (freed_link o) links
+open-is c now es n None links sound list gone are =
+    target-tells c now n.rests.items es n.lanes.items links list sound.lanes_tell are
+open-is c now es n (Some g) links sound list gone are =
+    target-freed c now n.rests.items n.ticket es n.lanes.items links g.ticket gone.0 g.waits_at list
+    sound.each sound.lanes_tell are gone.1.found (sym gone.1.place)
 
 -- each target is a link of the realm
 coa-links : (c : RealmConfig) (o : Option ℕ) → IfSome o (λ peer. peer < length c.peers)
@@ -82,13 +85,13 @@ targets-links c q =
     ]
 
 targets-open :
-    {A : Type 0} (c : RealmConfig) (es : List PlainEntry) (n : Numbers A) (o : Option Gone)
+    {A : Type 0} (c : RealmConfig) (now : ℕ) (es : List PlainEntry) (n : Numbers A) (o : Option Gone)
     (q : PlainRequest) → IsSound c es n → IsEntryList es → CountsAsGone o es
-    → option_map (λ t. t.link)
-    (first_target c (cursors_of n.lanes.items) (besides (gone_ticket o) es) (targets c q))
-    ≡ find (is_open c n.lanes.items (freed_link o)) (targets c q)
-targets-open c es n o q sound list gone =
-    open-is c es n o (targets c q) sound list gone (targets-links c q)
+    → option_map (λ t. t.link) (chosen_target c now n.rests.items (cursors_of n.lanes.items)
+    (besides (gone_ticket o) es) (targets c q))
+    ≡ chosen_link c now n.rests.items n.lanes.items (freed_link o) (targets c q)
+targets-open c now es n o q sound list gone =
+    open-is c now es n o (targets c q) sound list gone (targets-links c q)
 
 -- a new request, while there is a ticket
 pub in-else : (b : Bool) (x y : Turn) → b ≡ false → cond b x y ≡ y
@@ -100,18 +103,18 @@ in-then b x y h = rw h refl
 new-request-is :
     (c : RealmConfig) (now : ℕ) (s : RealmState) (es : List PlainEntry) (q : PlainRequest)
     (found : Option Target) → s.ticket ≢ 2 ^ 63
-    → first_target c s.cursors es (targets c q) ≡ found
+    → chosen_target c now s.rests s.cursors es (targets c q) ≡ found
     → new_request c now s es q ≡ at_target c now s es q found
 new-request-is c now s es q found ne is =
     in-else (eqb s.ticket (2 ^ 63)) _ _ (differs s.ticket (2 ^ 63) ne)
     ∙ ap (at_target c now s es q) is
 
--- a new request for which the code found an open link, or none
+-- a new request for which the code chose a link, or found none
 pub at-open :
     {A : Type 0} (c : RealmConfig) (now : ℕ) (es : List PlainEntry) (n : Numbers A)
     (o : Option Gone) (q : PlainRequest) (freed : Option Link) (l : Link) → IsSound c es n → IsEntryList es
     → CountsAsGone o es → n.ticket ≢ 2 ^ 63 → freed ≡ freed_link o
-    → Some l ≡ find (is_open c n.lanes.items freed) (targets c q)
+    → Some l ≡ chosen_link c now n.rests.items n.lanes.items freed (targets c q)
     → (new_request c now (state_of es n) (besides (gone_ticket o) es) q
     ≡ at_target c now (state_of es n) (besides (gone_ticket o) es) q
     (Some (target_at c (cursors_of n.lanes.items) (besides (gone_ticket o) es) l)))
@@ -119,27 +122,29 @@ pub at-open :
 at-open c now es n o q freed l sound list gone ne same_freed found =
     let mid = besides (gone_ticket o) es in
     let links = targets c q in
-    let here : find (is_open c n.lanes.items (freed_link o)) links ≡ Some l =
-    subst (λ (x : Option Link). find (is_open c n.lanes.items x) links ≡ Some l) same_freed
+    let rests = n.rests.items in
+    let here : chosen_link c now rests n.lanes.items (freed_link o) links ≡ Some l =
+    subst (λ (x : Option Link). chosen_link c now rests n.lanes.items x links ≡ Some l) same_freed
     (sym found) in
-    let at = targets-open c es n o q sound list gone ∙ here in
-    let target = target-is c (cursors_of n.lanes.items) mid links l _ refl at in
+    let at = targets-open c now es n o q sound list gone ∙ here in
+    let target = target-is c now rests (cursors_of n.lanes.items) mid links l _ refl at in
     (new-request-is c now (state_of es n) mid q _ ne target.0, target.1)
 
 pub at-none :
     {A : Type 0} (c : RealmConfig) (now : ℕ) (es : List PlainEntry) (n : Numbers A)
     (o : Option Gone) (q : PlainRequest) (freed : Option Link) → IsSound c es n → IsEntryList es
     → CountsAsGone o es → n.ticket ≢ 2 ^ 63 → freed ≡ freed_link o
-    → None ≡ find (is_open c n.lanes.items freed) (targets c q)
+    → None ≡ chosen_link c now n.rests.items n.lanes.items freed (targets c q)
     → new_request c now (state_of es n) (besides (gone_ticket o) es) q
     ≡ refuses refusal.NoIdentifier
 at-none c now es n o q freed sound list gone ne same_freed found =
     let mid = besides (gone_ticket o) es in
     let links = targets c q in
-    let here : find (is_open c n.lanes.items (freed_link o)) links ≡ None =
-    subst (λ (x : Option Link). find (is_open c n.lanes.items x) links ≡ None) same_freed
+    let rests = n.rests.items in
+    let here : chosen_link c now rests n.lanes.items (freed_link o) links ≡ None =
+    subst (λ (x : Option Link). chosen_link c now rests n.lanes.items x links ≡ None) same_freed
     (sym found) in
-    let at = targets-open c es n o q sound list gone ∙ here in
+    let at = targets-open c now es n o q sound list gone ∙ here in
     new-request-is c now (state_of es n) mid q None ne (no-target _ at)
 
 -- the entry of a request's key counts as gone, and the key is then free
@@ -168,40 +173,43 @@ key-free k e es t list at ticket =
 
 -- a request by its key: there is no entry, one with other octets, or one with its octets
 pub of-key-none :
-    (c : RealmConfig) (now : ℕ) (s : RealmState) (q : PlainRequest)
+    (c : RealmConfig) (now : ℕ) (s : RealmState) (named : Option ℕ) (q : PlainRequest)
     → find_client q.key s.entries ≡ None
-    → of_key c now s q (find_client q.key s.entries) ≡ first_seen c now s q
-of-key-none c now s q at = ap (of_key c now s q) at
+    → of_key c now s named q (find_client q.key s.entries) ≡ first_seen c now s named q
+of-key-none c now s named q at = ap (of_key c now s named q) at
 
 pub of-key-new :
-    (c : RealmConfig) (now : ℕ) (s : RealmState) (q : PlainRequest) (e : PlainEntry)
+    (c : RealmConfig) (now : ℕ) (s : RealmState) (named : Option ℕ) (q : PlainRequest)
+    (e : PlainEntry)
     → find_client q.key s.entries ≡ Some e → pointwise nat_eq e.request.octets q.octets ≡ false
-    → of_key c now s q (find_client q.key s.entries) ≡ first_seen c now s q
-of-key-new c now s q e at differs =
-    ap (of_key c now s q) at
+    → of_key c now s named q (find_client q.key s.entries) ≡ first_seen c now s named q
+of-key-new c now s named q e at differs =
+    ap (of_key c now s named q) at
     ∙ in-else (pointwise nat_eq e.request.octets q.octets) _ _ differs
 
 -- one that is no duplicate is new where there is no cause for a NAK, and else it gets one
 pub seen-new :
-    (c : RealmConfig) (now : ℕ) (s : RealmState) (es : List PlainEntry) (q : PlainRequest)
-    → es ≡ without_client q.key s.entries → None ≡ reverse_cause c s q
-    → first_seen c now s q ≡ new_request c now s es q
-seen-new c now s es q rest none =
+    (c : RealmConfig) (now : ℕ) (s : RealmState) (es : List PlainEntry) (named : Option ℕ)
+    (q : PlainRequest)
+    → es ≡ without_client q.key s.entries → None ≡ reverse_cause c s named q
+    → first_seen c now s named q ≡ new_request c now s es q
+seen-new c now s es named q rest none =
     ap (nak_or_new c now s q) (sym none) ∙ ap (λ (xs : List PlainEntry). new_request c now s xs q) (sym rest)
 
 pub seen-refused :
-    (c : RealmConfig) (now : ℕ) (s : RealmState) (q : PlainRequest) (why : ℕ)
-    → Some why ≡ reverse_cause c s q
-    → first_seen c now s q ≡ sends (packet_back c q.key (nak_octets c q why) ∷ []) s
-seen-refused c now s q why some = ap (nak_or_new c now s q) (sym some)
+    (c : RealmConfig) (now : ℕ) (s : RealmState) (named : Option ℕ) (q : PlainRequest) (why : ℕ)
+    → Some why ≡ reverse_cause c s named q
+    → first_seen c now s named q ≡ sends (packet_back c q.key (nak_octets c q why) ∷ []) s
+seen-refused c now s named q why some = ap (nak_or_new c now s q) (sym some)
 
 pub of-key-same :
-    (c : RealmConfig) (now : ℕ) (s : RealmState) (q : PlainRequest) (e : PlainEntry)
+    (c : RealmConfig) (now : ℕ) (s : RealmState) (named : Option ℕ) (q : PlainRequest)
+    (e : PlainEntry)
     → find_client q.key s.entries ≡ Some e → pointwise nat_eq e.request.octets q.octets ≡ true
-    → of_key c now s q (find_client q.key s.entries)
+    → of_key c now s named q (find_client q.key s.entries)
     ≡ sends (held_reply c e.request.key e.standing) s
-of-key-same c now s q e at same =
+of-key-same c now s named q e at same =
     let key = key-equal e.request.key q.key (find-passes (has_key q.key) s.entries e at) in
-    ap (of_key c now s q) at
+    ap (of_key c now s named q) at
     ∙ in-then (pointwise nat_eq e.request.octets q.octets) _ _ same
     ∙ ap (λ (k : Key). sends (held_reply c k e.standing) s) (sym key)

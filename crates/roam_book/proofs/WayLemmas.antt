@@ -25,32 +25,33 @@ use Rattle.roam_book.proofs.RequestLemmas.{in-else, in-then}
 
 -- there is a place
 pub place-free :
-    (c : RealmConfig) (s : RealmState) (q : PlainRequest) (gone : Option Gone) (l : Link)
+    (c : RealmConfig) (now : ℕ) (s : RealmState) (q : PlainRequest) (gone : Option Gone) (l : Link)
     → length (once_gone gone s.entries) < c.realm.max_pending → IsWay c s q (straight_after gone l)
-    → IsChosen c s q (straight_after gone l) (λ now. at_target c now s (once_gone gone s.entries) q
+    → IsChosen c now s q (straight_after gone l) (at_target c now s (once_gone gone s.entries) q
     (Some (target_at c s.cursors (once_gone gone s.entries) l)))
-place-free c s q gone l room way =
+place-free c now s q gone l room way =
     let yes : ltb (length (once_gone gone s.entries)) c.realm.max_pending ≡ true = grind (arith, nat_tests, room) in
-    record { way = way; does = λ now. in-then _ _ _ yes }
+    record { way = way; does = in-then _ _ _ yes }
 
 -- there is none, and no done entry makes way
 pub no-place :
-    (c : RealmConfig) (s : RealmState) (q : PlainRequest) (es : List PlainEntry) (t : Target)
-    → c.realm.max_pending ≤ length es → first_done es ≡ None → (now : ℕ)
+    (c : RealmConfig) (now : ℕ) (s : RealmState) (q : PlainRequest) (es : List PlainEntry) (t : Target)
+    → c.realm.max_pending ≤ length es → first_done es ≡ None
     → at_target c now s es q (Some t) ≡ refuses refusal.Busy
-no-place c s q es t full none now =
+no-place c now s q es t full none =
     let no : ltb (length es) c.realm.max_pending ≡ false = grind (arith, nat_tests, full) in
     in-else _ _ _ no ∙ ap (make_way c now s es q t) none
 
 -- there is none, and one does
 pub place-made :
-    (c : RealmConfig) (s : RealmState) (q : PlainRequest) (gone : Option Gone) (l : Link) (t : ℕ)
+    (c : RealmConfig) (now : ℕ) (s : RealmState) (q : PlainRequest) (gone : Option Gone) (l : Link)
+    (t : ℕ)
     → c.realm.max_pending ≤ length (once_gone gone s.entries)
     → first_done (once_gone gone s.entries) ≡ Some t → IsWay c s q (straight_after gone l)
-    → IsChosen c s q (record { gone = gone; done = Some t; link = l })
-    (λ now. at_target c now s (once_gone gone s.entries) q
+    → IsChosen c now s q (record { gone = gone; done = Some t; link = l })
+    (at_target c now s (once_gone gone s.entries) q
     (Some (target_at c s.cursors (once_gone gone s.entries) l)))
-place-made c s q gone l t full some way =
+place-made c now s q gone l t full some way =
     let es = once_gone gone s.entries in
     let target = target_at c s.cursors es l in
     let no : ltb (length es) c.realm.max_pending ≡ false = grind (arith, nat_tests, full) in
@@ -64,23 +65,22 @@ place-made c s q gone l t full some way =
         link = way.link;
         free = way.free;
       };
-      does = λ now. in-else _ _ _ no ∙ ap (make_way c now s es q target) some;
+      does = in-else _ _ _ no ∙ ap (make_way c now s es q target) some;
     }
 
 -- no ticket is left
 pub exhausted :
-    (c : RealmConfig) (s : RealmState) (q : PlainRequest) (es : List PlainEntry)
-    → s.ticket ≡ 2 ^ 63 → (now : ℕ) → new_request c now s es q ≡ refuses refusal.Exhausted
-exhausted c s q es at now =
+    (c : RealmConfig) (now : ℕ) (s : RealmState) (q : PlainRequest) (es : List PlainEntry)
+    → s.ticket ≡ 2 ^ 63 → new_request c now s es q ≡ refuses refusal.Exhausted
+exhausted c now s q es at =
     in-then (eqb s.ticket (2 ^ 63)) _ _ (same s.ticket (2 ^ 63) at)
 
--- what is chosen for some turns is chosen for the same turns
+-- what is chosen for a turn is chosen for the same turn
 pub chosen-same :
-    (c : RealmConfig) (s : RealmState) (q : PlainRequest) (r : Result Way Refusal)
-    (turn other : ℕ → Turn) → ((now : ℕ) → other now ≡ turn now) → Chooses c s q r turn
-    → Chooses c s q r other
-chosen-same c s q (Ok way) turn other is h = record { way = h.way; does = λ now. is now ∙ h.does now }
-chosen-same c s q (Err why) turn other is h = λ now. is now ∙ h now
+    (c : RealmConfig) (now : ℕ) (s : RealmState) (q : PlainRequest) (r : Result Way Refusal)
+    (turn other : Turn) → other ≡ turn → Chooses c now s q r turn → Chooses c now s q r other
+chosen-same c now s q (Ok way) turn other is h = record { way = h.way; does = is ∙ h.does }
+chosen-same c now s q (Err why) turn other is h = is ∙ h
 
 -- a link has a free Identifier for a request whose key is free once an entry is gone
 pub straight-way :
@@ -98,27 +98,26 @@ straight-way c s q gone l request most below counts key link free = record {
   free = free;
 }
 
--- a refusal is a plan for each turn that is that refusal
+-- a refusal is a plan for the turn that is that refusal
 pub refusal-plan :
-    {A : Type 0} (a : Answer A) (s : RealmState) (why : Refusal) (turn : ℕ → Turn)
-    → shown_outs a.outs.items ≡ [] → a.refusal ≡ Some why → ((now : ℕ) → turn now ≡ refuses why)
-    → (now : ℕ) → Answers a s s (turn now)
-refusal-plan a s why turn outs refusal is now =
-    rw (is now) (record { packets = outs; refusal = refusal; state = refl })
+    {A : Type 0} (a : Answer A) (s : RealmState) (why : Refusal) (turn : Turn)
+    → shown_outs a.outs.items ≡ [] → a.refusal ≡ Some why → turn ≡ refuses why → Answers a s s turn
+refusal-plan a s why turn outs refusal is =
+    rw is (record { packets = outs; refusal = refusal; state = refl })
 
--- a plan for some turns is one for the same turns
+-- a plan for a turn is one for the same turn
 pub plan-same :
-    {A : Type 0} (c : RealmConfig) (s : RealmState) (q : PlainRequest) (p : RequestPlan A)
-    (turn other : ℕ → Turn) → ((now : ℕ) → other now ≡ turn now) → IsRequestPlan c s q p turn
-    → IsRequestPlan c s q p other
-plan-same c s q (plan.Answered a) turn other is h = λ now. rw (is now) (h now)
-plan-same c s q (plan.Admitted way) turn other is h =
-    record { way = h.way; does = λ now. is now ∙ h.does now }
+    {A : Type 0} (c : RealmConfig) (now : ℕ) (s : RealmState) (q : PlainRequest) (p : RequestPlan A)
+    (turn other : Turn) → other ≡ turn → IsRequestPlan c now s q p turn
+    → IsRequestPlan c now s q p other
+plan-same c now s q (plan.Answered a) turn other is h = rw is h
+plan-same c now s q (plan.Admitted way) turn other is h =
+    record { way = h.way; does = is ∙ h.does }
 
 -- an answer of packets, while the state stays as it is
 pub held-plan :
-    {A : Type 0} (a : Answer A) (s : RealmState) (packets : List PlainOut) (turn : ℕ → Turn)
-    → shown_outs a.outs.items ≡ packets → a.refusal ≡ None
-    → ((now : ℕ) → turn now ≡ sends packets s) → (now : ℕ) → Answers a s s (turn now)
-held-plan a s packets turn outs refusal is now =
-    rw (is now) (record { packets = outs; refusal = refusal; state = refl })
+    {A : Type 0} (a : Answer A) (s : RealmState) (packets : List PlainOut) (turn : Turn)
+    → shown_outs a.outs.items ≡ packets → a.refusal ≡ None → turn ≡ sends packets s
+    → Answers a s s turn
+held-plan a s packets turn outs refusal is =
+    rw is (record { packets = outs; refusal = refusal; state = refl })

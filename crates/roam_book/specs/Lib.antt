@@ -1,5 +1,6 @@
 -- What the broker of one realm does, in the order in which it is read.
 pub mod RealmConfig
+pub mod Rests
 pub mod RealmState
 pub mod Turn
 pub mod OnRequest
@@ -7,6 +8,7 @@ pub mod OnReply
 pub mod OnTick
 pub mod OneRealm
 pub mod LeastFirst
+pub mod RestLaws
 -- What the contracts of public calls say beside that.
 pub mod BookView
 pub mod RealmTurn

@@ -72,22 +72,22 @@ admits c now s q way =
     admit c now s (left_by way s.entries) q
     (target_at c s.cursors (once_gone way.gone s.entries) way.link)
 
--- the way that was chosen for a new request does these turns; or it is refused in each
-pub record IsChosen (c : RealmConfig) (s : RealmState) (q : PlainRequest) (chosen : Way)
-    (turn : ℕ → Turn) : Type 0 where
+-- the way that was chosen for a new request at a moment does this turn; or it is refused in it
+pub record IsChosen (c : RealmConfig) (now : ℕ) (s : RealmState) (q : PlainRequest) (chosen : Way)
+    (turn : Turn) : Type 0 where
   pub way : IsWay c s q chosen
-  pub does : (now : ℕ) → turn now ≡ admits c now s q chosen
+  pub does : turn ≡ admits c now s q chosen
 
-abbrev pub Chooses : RealmConfig → RealmState → PlainRequest → Result Way Refusal → (ℕ → Turn)
-    → Type 0
-Chooses c s q (Ok way) turn = IsChosen c s q way turn
-Chooses c s q (Err why) turn = (now : ℕ) → turn now ≡ refuses why
+abbrev pub Chooses :
+    RealmConfig → ℕ → RealmState → PlainRequest → Result Way Refusal → Turn → Type 0
+Chooses c now s q (Ok way) turn = IsChosen c now s q way turn
+Chooses c now s q (Err why) turn = turn ≡ refuses why
 
 -- what a request is to do: it is answered, and nothing changes, or it is admitted on a way
-abbrev pub IsRequestPlan : {A : Type 0} → RealmConfig → RealmState → PlainRequest → RequestPlan A
-    → (ℕ → Turn) → Type 0
-IsRequestPlan c s q (plan.Answered answer) turn = (now : ℕ) → Answers answer s s (turn now)
-IsRequestPlan c s q (plan.Admitted way) turn = IsChosen c s q way turn
+abbrev pub IsRequestPlan :
+    {A : Type 0} → RealmConfig → ℕ → RealmState → PlainRequest → RequestPlan A → Turn → Type 0
+IsRequestPlan c now s q (plan.Answered answer) turn = Answers answer s s turn
+IsRequestPlan c now s q (plan.Admitted way) turn = IsChosen c now s q way turn
 
 -- all the memory of a new request, besides its place among the entries: buffers of the size of the
 -- packet that is forwarded for it

@@ -15,7 +15,8 @@ use Rattle.roam_pending.specs.declared.key.Requester.TheVariants as requester
 use Rattle.roam_pending.specs.PlainEntry.{PlainRequest, PlainStanding, PlainEntry, waiting, done}
 use Rattle.roam_pending.specs.EntryList.{find_link, put}
 use Rattle.roam_pending.specs.Realms.{with_standing}
-use Rattle.roam_book.specs.RealmConfig.{RealmConfig, link_secret, requester_secret}
+use Rattle.roam_book.specs.RealmConfig.{RealmConfig, link_secret, requester_secret, seal_required}
+use Rattle.roam_book.specs.Rests.{after_reply}
 use Rattle.roam_book.specs.RealmState.{RealmState}
 use Rattle.roam_book.specs.Turn.{Turn, refuses, sends, in_time}
 use Rattle.roam_book.specs.OnRequest.{packet_back}
@@ -46,12 +47,14 @@ counted c q None sessions = sessions
 counted c q (Some peer) sessions =
     applied c.realm.max_sessions peer (packet_of q.octets).attributes sessions
 
--- the state once a reply was returned for an entry: its Identifier is free, it is done until
--- `now + hold`, and the ledger tells its request
-abbrev pub once_returned : RealmConfig → ℕ → RealmState → PlainEntry → Packet → List ℕ → RealmState
-once_returned c now s e reply octets = record s {
+-- the state once a reply from a link was returned for an entry: its Identifier is free, it is done until
+-- `now + hold`, the ledger tells its request, and the link is awake
+abbrev pub once_returned :
+    RealmConfig → ℕ → RealmState → PlainEntry → Link → Packet → List ℕ → RealmState
+once_returned c now s e l reply octets = record s {
   entries = put (with_standing (done octets (now + c.realm.hold)) e) s.entries;
   sessions = counted c e.request (counted_peer e.request.requester reply) s.sessions;
+  rests = after_reply c s.rests l;
 }
 
 -- a reply that is taken, for an entry: its packet is returned
@@ -60,7 +63,7 @@ return_reply c now s e l forwarded reply =
     if nat_lt 4096 (returned_length (returning c e.request l forwarded) reply (packet_of e.request.octets))
     then refuses refusal.ReplyTooLong
     else sends (packet_back c e.request.key (returned_octets c e.request l forwarded reply) ∷ [])
-    (once_returned c now s e reply (returned_octets c e.request l forwarded reply))
+    (once_returned c now s e l reply (returned_octets c e.request l forwarded reply))
 
 -- a reply with what is wrong with it, if anything is
 abbrev pub judge : RealmConfig → ℕ → RealmState → PlainEntry → Link → Packet → Packet → Option Refusal → Turn
@@ -71,7 +74,7 @@ judge c now s e l forwarded reply None = return_reply c now s e l forwarded repl
 abbrev pub to_standing : RealmConfig → ℕ → RealmState → PlainEntry → Packet → PlainStanding → Turn
 to_standing c now s e reply (waiting l id forwarded sends_left deadline) =
     judge c now s e l (packet_of forwarded) reply
-    (reply_fault (link_secret c l) reply (packet_of forwarded))
+    (reply_fault (link_secret c l) (seal_required c l) reply (packet_of forwarded))
 to_standing c now s e reply (done old deadline) = refuses refusal.NoEntry
 
 -- a reply to the entry that waits on its link with its Identifier, if there is one

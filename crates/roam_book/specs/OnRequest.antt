@@ -22,7 +22,8 @@ use Rattle.roam_pending.specs.declared.key.Key.{Key}
 use Rattle.roam_pending.specs.PlainEntry.{PlainRequest, PlainStanding, PlainEntry, waiting, done}
 use Rattle.roam_pending.specs.EntryList.{find_client, first_done, without, without_client, put}
 use Rattle.roam_book.specs.RealmConfig.{RealmConfig, link_secret, requester_secret, link_endpoint, link_place, links_from, service_of}
-use Rattle.roam_book.specs.RealmState.{RealmState, Target, with_entries, with_next_ticket, first_target}
+use Rattle.roam_book.specs.RealmState.{RealmState, Target, with_entries, with_next_ticket, chosen_target}
+use Rattle.roam_book.specs.Rests.{after_choice}
 use Rattle.roam_book.specs.Turn.{Turn, refuses, sends, in_time}
 
 -- a packet of the realm toward a link, and one back to the sender of a request
@@ -74,12 +75,14 @@ forwarded_entry c now q position ticket target = record {
 }
 
 -- the state once a request was forwarded: its entry waits, the link's cursor stands one past the
--- Identifier, cyclic, and the words that it drew are spent
+-- Identifier, cyclic, the words that it drew are spent, and where the link has a moment until which it
+-- rests, that is `now + rest` from now on
 abbrev pub once_forwarded : RealmConfig → ℕ → RealmState → PlainRequest → ℕ → Target → RealmState
 once_forwarded c now s q ticket target = record s {
   entries = put (forwarded_entry c now q s.stream_position ticket target) s.entries;
   cursors = slice_set s.cursors (link_place c target.link) ((target.id + 1) % 256);
   stream_position = position_after q s.stream_position;
+  rests = after_choice c now s.rests target.link;
 }
 
 -- a new request beside these entries: it takes the next ticket and is forwarded
@@ -119,23 +122,24 @@ targets c q =
     then coa_links (reverse.target c.peers (packet_of q.octets).attributes)
     else links_from c (service_of (packet_of q.octets).code) 0
 
--- a new request beside these entries: there is a ticket, a target with a free Identifier, and a place
+-- a new request beside these entries: there is a ticket, a target that is chosen, and a place
 abbrev pub new_request : RealmConfig → ℕ → RealmState → List PlainEntry → PlainRequest → Turn
 new_request c now s entries q =
     if s.ticket == 2 ^ 63
     then refuses refusal.Exhausted
     else at_target c now s entries q
-    (first_target c s.cursors entries (targets c q))
+    (chosen_target c now s.rests s.cursors entries (targets c q))
 
 -- the NAK of a reverse request, with its Error-Cause (RFC 5176, sections 2.3 and 3.5)
 abbrev pub nak_octets : RealmConfig → PlainRequest → ℕ → List ℕ
 nak_octets c q why = packet_text (nak (requester_secret c q.requester) why (packet_of q.octets))
 
--- why a reverse request isn't forwarded, if it isn't; of other requests nothing is asked
-abbrev pub reverse_cause : RealmConfig → RealmState → PlainRequest → Option ℕ
-reverse_cause c s q =
+-- why a reverse request that names this realm, another or none isn't forwarded, if it isn't; of other
+-- requests nothing is asked
+abbrev pub reverse_cause : RealmConfig → RealmState → Option ℕ → PlainRequest → Option ℕ
+reverse_cause c s named q =
     if is_reverse q
-    then cause c.peers c.realm (packet_of q.octets).attributes s.sessions
+    then cause c.peers c.index named (packet_of q.octets).attributes s.sessions
     else None
 
 -- a request that is no duplicate, with the cause for which it isn't forwarded, if there is one: then it
@@ -145,8 +149,8 @@ nak_or_new c now s q (Some why) = sends (packet_back c q.key (nak_octets c q why
 nak_or_new c now s q None = new_request c now s (without_client q.key s.entries) q
 
 -- a request that is no duplicate
-abbrev pub first_seen : RealmConfig → ℕ → RealmState → PlainRequest → Turn
-first_seen c now s q = nak_or_new c now s q (reverse_cause c s q)
+abbrev pub first_seen : RealmConfig → ℕ → RealmState → Option ℕ → PlainRequest → Turn
+first_seen c now s named q = nak_or_new c now s q (reverse_cause c s named q)
 
 -- what a duplicate gets: nothing while its request waits, else the reply that is held, once more
 abbrev pub held_reply : RealmConfig → Key → PlainStanding → List PlainOut
@@ -155,13 +159,15 @@ held_reply c key (done reply deadline) = packet_back c key reply ∷ []
 
 -- a request whose key an entry has: a duplicate where the octets are equal too, and the state stays as
 -- it is
-abbrev pub of_key : RealmConfig → ℕ → RealmState → PlainRequest → Option PlainEntry → Turn
-of_key c now s q None = first_seen c now s q
-of_key c now s q (Some e) =
+abbrev pub of_key :
+    RealmConfig → ℕ → RealmState → Option ℕ → PlainRequest → Option PlainEntry → Turn
+of_key c now s named q None = first_seen c now s named q
+of_key c now s named q (Some e) =
     if pointwise nat_eq e.request.octets q.octets
     then sends (held_reply c q.key e.standing) s
-    else first_seen c now s q
+    else first_seen c now s named q
 
--- what a request does
-abbrev pub on_request : RealmConfig → ℕ → RealmState → PlainRequest → Turn
-on_request c now s q = in_time now (of_key c now s q (find_client q.key s.entries))
+-- what a request does, that names this realm, another or none
+abbrev pub on_request : RealmConfig → ℕ → RealmState → Option ℕ → PlainRequest → Turn
+on_request c now s named q =
+    in_time now (of_key c now s named q (find_client q.key s.entries))

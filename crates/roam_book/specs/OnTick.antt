@@ -8,8 +8,10 @@ use Rattle.roam_pending.specs.PlainEntry.{PlainStanding, PlainEntry, waiting, do
 use Rattle.roam_pending.specs.EntryList.{find_ticket, without, put}
 use Rattle.roam_pending.specs.Realms.{sent_again, with_standing}
 use Rattle.roam_reverse.specs.declared.error_cause.TheConstants.{OTHER_PROXY_PROCESSING_ERROR}
+use Rattle.roam_conf.specs.declared.place.Link.{Link}
 use Rattle.roam_book.specs.RealmConfig.{RealmConfig, later_targets}
-use Rattle.roam_book.specs.RealmState.{RealmState, Target, with_entries, first_target}
+use Rattle.roam_book.specs.RealmState.{RealmState, Target, with_entries, chosen_target}
+use Rattle.roam_book.specs.Rests.{after_silence}
 use Rattle.roam_book.specs.Turn.{Turn, sends, in_time}
 use Rattle.roam_book.specs.OnRequest.{packet_to, packet_back, forwarded_octets, is_reverse, nak_octets, once_forwarded}
 
@@ -45,7 +47,7 @@ given_up c now s e =
 
 -- a request that isn't sent to its link again: its Identifier there is free. It goes to the next target
 -- under the same ticket, with words drawn anew, where there is one, else it is given up. (`s` is the
--- state without the entry.)
+-- state without the entry, in which the silence of its link is counted.)
 abbrev pub fail_over : RealmConfig → ℕ → RealmState → PlainEntry → Option Target → Progress
 fail_over c now s e None = given_up c now s e
 fail_over c now s e (Some target) = record {
@@ -58,8 +60,14 @@ fail_over c now s e (Some target) = record {
 abbrev pub without_entry : RealmState → PlainEntry → RealmState
 without_entry s e = with_entries s (without e.ticket s.entries)
 
+-- the state without an entry that was given up at a link, which is counted there
+abbrev pub given_up_at : RealmConfig → ℕ → Link → RealmState → PlainEntry → RealmState
+given_up_at c now l s e =
+    record (without_entry s e) { rests = after_silence c now s.rests l }
+
 -- a due entry, by how it stands: a done one goes; one with sends left sends the same octets again, and
--- waits until `now + wait`; one with none left goes to the first later target with a free Identifier
+-- waits until `now + wait`; one with none left is given up at its link, and goes to the target that is
+-- then chosen among the later ones
 abbrev pub due_standing : RealmConfig → ℕ → RealmState → PlainEntry → PlainStanding → Progress
 due_standing c now s e (done reply deadline) = silent (without_entry s e)
 due_standing c now s e (waiting l id forwarded sends_left deadline) =
@@ -68,8 +76,9 @@ due_standing c now s e (waiting l id forwarded sends_left deadline) =
       packets = packet_to c l forwarded ∷ [];
       state = with_entries s (put (sent_again (now + c.realm.wait) e) s.entries);
     }
-    else fail_over c now (without_entry s e) e
-    (first_target c s.cursors (without e.ticket s.entries) (later_targets c l))
+    else fail_over c now (given_up_at c now l s e) e
+    (chosen_target c now (after_silence c now s.rests l) s.cursors (without e.ticket s.entries)
+    (later_targets c l))
 
 -- the entry of a due ticket
 abbrev pub due_entry : RealmConfig → ℕ → RealmState → Option PlainEntry → Progress

@@ -1,5 +1,5 @@
 -- The written broker of one realm (ours): what each of its events does, one after the other.
-use Rattle.std.specs.Prelude.{ℕ, List, [], ◌∷◌, ◌++◌}
+use Rattle.std.specs.Prelude.{ℕ, List, [], ◌∷◌, ◌++◌, Option}
 use Rattle.roam_wire.specs.Reading.{packet_of}
 use Rattle.roam_conf.specs.declared.place.Link.{Link}
 use Rattle.roam_route.specs.Admission.{PlainJob}
@@ -16,9 +16,10 @@ use Rattle.roam_book.specs.OnRequest.{on_request}
 use Rattle.roam_book.specs.OnReply.{on_reply}
 use Rattle.roam_book.specs.OnTick.{Progress, silent, on_tick}
 
--- an event of a realm, with its moment in milliseconds: a request, a reply from a link, or a tick
+-- an event of a realm, with its moment in milliseconds: a request, with the realm that its first User-Name
+-- names, if it names one; a reply from a link; or a tick
 pub data RealmEvent : Type 0 where
-  request_came : (now : ℕ) → PlainRequest → RealmEvent
+  request_came : (now : ℕ) (named : Option ℕ) → PlainRequest → RealmEvent
   reply_came : (now : ℕ) → Link → List ℕ → RealmEvent
   tick_came : (now : ℕ) → RealmEvent
 
@@ -32,8 +33,10 @@ request_of job sender = record { key = key_of job; requester = sender; octets = 
 
 -- a job as an event: what comes from a link is a reply, all else is a request
 abbrev pub event_by : ℕ → PlainJob → Side → RealmEvent
-event_by now job (side.Peer peer) = request_came now (request_of job (requester.Peer peer))
-event_by now job (side.Home server) = request_came now (request_of job (requester.Home server))
+event_by now job (side.Peer peer) =
+    request_came now job.named (request_of job (requester.Peer peer))
+event_by now job (side.Home server) =
+    request_came now job.named (request_of job (requester.Home server))
 event_by now job (side.Link l) = reply_came now l job.octets
 
 abbrev pub event_of : ℕ → PlainJob → RealmEvent
@@ -41,7 +44,7 @@ event_of now job = event_by now job job.side
 
 -- what an event does to its realm
 abbrev pub on_event : RealmConfig → RealmState → RealmEvent → Turn
-on_event c s (request_came now q) = on_request c now s q
+on_event c s (request_came now named q) = on_request c now s named q
 on_event c s (reply_came now l octets) = on_reply c now s l octets
 on_event c s (tick_came now) = on_tick c now s
 

@@ -1,5 +1,6 @@
 -- What the broker of one realm reads of the configuration, and the links of that realm (ours).
-use Rattle.std.specs.Prelude.{ℕ, ◌+◌, ◌<◌, ◌==◌, List, [], ◌∷◌, drop, length, slice_index_or, unwrap_or, if◌then◌else◌}
+use Rattle.std.specs.Prelude.{ℕ, ◌+◌, ◌<◌, ◌==◌, Bool, false, List, [], ◌∷◌, drop, length, slice_get, slice_index_or, unwrap_or, if◌then◌else◌}
+use Rattle.std.specs.Option.{option_map_or}
 use Rattle.roam_wire.specs.declared.code.TheConstants.{ACCESS_REQUEST}
 use Rattle.roam_conf.specs.Config.{ConfigView, PeerView, RealmView, ServerView}
 use Rattle.roam_conf.specs.Lookup.{endpoint_of}
@@ -34,6 +35,9 @@ no_realm = record {
   hold = 0;
   max_pending = 0;
   max_sessions = 0;
+  also = [];
+  rest = 0;
+  rest_after = 0;
   servers = [];
 }
 
@@ -61,6 +65,14 @@ abbrev pub requester_secret : RealmConfig → Requester → List ℕ
 requester_secret c (requester.Peer peer) = peer_secret c peer
 requester_secret c (requester.Home server) = server_secret c server
 
+-- whether a reply from a link has to have a Message-Authenticator, whatever its code: one from the
+-- `auth` of a home server that requires it (which code asks for it is said where replies are checked)
+abbrev pub seal_required : RealmConfig → Link → Bool
+seal_required c (link.Auth server) =
+    option_map_or (λ s. s.require_seal) (slice_get c.realm.servers server) false
+seal_required c (link.Acct server) = false
+seal_required c (link.Coa peer) = false
+
 -- the endpoint of a link
 abbrev pub link_endpoint : RealmConfig → Link → Endpoint
 link_endpoint c l = unwrap_or (endpoint_of c.peers c.realm l) nowhere
@@ -71,9 +83,13 @@ link_place c (link.Auth server) = server
 link_place c (link.Acct server) = length c.realm.servers + server
 link_place c (link.Coa peer) = length c.realm.servers + length c.realm.servers + peer
 
+-- how many of them are servers' links
+abbrev pub server_link_count : RealmConfig → ℕ
+server_link_count c = length c.realm.servers + length c.realm.servers
+
 -- how many places there are
 abbrev pub link_count : RealmConfig → ℕ
-link_count c = length c.realm.servers + length c.realm.servers + length c.peers
+link_count c = server_link_count c + length c.peers
 
 -- a link of the realm
 abbrev pub IsLink : RealmConfig → Link → Type 0

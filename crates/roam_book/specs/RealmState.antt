@@ -1,24 +1,30 @@
 -- The state of one realm (ours): no lanes, no index, no list of deadlines.
-use Rattle.std.specs.Prelude.{ℕ, ◌+◌, ◌==◌, Bool, List, [], ◌∷◌, Option, Some, None, replicate, slice_index}
-use Rattle.std.specs.List.{list_any}
+use Rattle.std.specs.Prelude.{ℕ, ◌+◌, ◌==◌, Bool, not, List, [], ◌∷◌, Option, Some, None, replicate, slice_index}
+use Rattle.std.specs.List.{filter, list_any}
+use Rattle.std.specs.Option.{option_or}
 use Rattle.roam_conf.specs.declared.place.Link.{Link}
 use Rattle.roam_ids.specs.NextIdentifier.{next_identifier}
 use Rattle.roam_pending.specs.PlainEntry.{PlainEntry}
 use Rattle.roam_pending.specs.EntryList.{identifiers_on}
 use Rattle.roam_reverse.specs.Sessions.{Session}
 use Rattle.roam_book.specs.RealmConfig.{RealmConfig, link_place, link_count}
+use Rattle.roam_book.specs.Rests.{all_awake, stands_back}
+use Rattle.roam_book.specs.declared.rest.Rest.{Rest}
 use Rattle.roam_book.specs.declared.start.Start.{Start}
 
 -- the entries in order of ticket, the next ticket, a cursor for each link in the order of their
--- places, the place in the stream of random words, and the ledger of the sessions that are open
+-- places, the place in the stream of random words, the ledger of the sessions that are open, and how
+-- each of the servers' links rests, in the order of their places
 pub record RealmState : Type 0 where
   pub entries : List PlainEntry
   pub ticket : ℕ
   pub cursors : List ℕ
   pub stream_position : ℕ
   pub sessions : List Session
+  pub rests : List Rest
 
--- how a realm begins: no entries and no sessions, cursors 0, place and ticket as they are given
+-- how a realm begins: no entries and no sessions, cursors 0, place and ticket as they are given, and all
+-- servers' links awake
 abbrev pub opening : RealmConfig → Start → RealmState
 opening c start = record {
   entries = [];
@@ -26,6 +32,7 @@ opening c start = record {
   cursors = replicate (link_count c) 0;
   stream_position = start.place;
   sessions = [];
+  rests = all_awake c;
 }
 
 -- the same state with other entries; with the next ticket
@@ -59,3 +66,15 @@ abbrev pub first_target : RealmConfig → List ℕ → List PlainEntry → List 
 first_target c cursors entries [] = None
 first_target c cursors entries (l ∷ ls) =
     this_or l (next_toward c cursors entries l) (first_target c cursors entries ls)
+
+-- those of some links that don't stand back at a moment
+abbrev pub ready_links : RealmConfig → ℕ → List Rest → List Link → List Link
+ready_links c now rests links = filter (λ l. not (stands_back c now rests l)) links
+
+-- the choice of a target among some links: of those that have a free Identifier the first that doesn't
+-- stand back; where all of these stand back, the first of them; none where no link has one
+abbrev pub chosen_target :
+    RealmConfig → ℕ → List Rest → List ℕ → List PlainEntry → List Link → Option Target
+chosen_target c now rests cursors entries links =
+    option_or (first_target c cursors entries (ready_links c now rests links))
+    (first_target c cursors entries links)

@@ -6,6 +6,7 @@ use Rattle.roam_pending.specs.Realms.{with_standing}
 use Rattle.roam_reverse.specs.Sessions.{LedgerChange, Session, changed}
 use Rattle.roam_reverse.specs.Shown.{HasRoomFor, Ledger}
 use Rattle.roam_book.specs.RealmConfig.{RealmConfig, IsLink}
+use Rattle.roam_book.specs.Rests.{after_reply}
 use Rattle.roam_book.specs.RealmState.{RealmState}
 use Rattle.roam_book.specs.Turn.{Turn, Answers, packets_of}
 use Rattle.roam_book.specs.OnReply.{counted}
@@ -18,13 +19,14 @@ CanSettle c es None = Unit {0}
 CanSettle c es (Some d) =
     IsLink c d.link × IsSomeAnd (find_ticket d.ticket es) (λ e. waits_at d.link d.id e ≡ true)
 
--- the state once an entry is done, and a peer's sessions are counted, if they are
+-- the state once an entry is done: a peer's sessions are counted, if they are, and its link is awake
 abbrev pub with_done :
     {A : Type 0} → RealmConfig → RealmState → Settled A → Option PlainEntry → RealmState
 with_done c s d None = s
 with_done c s d (Some e) = record s {
   entries = put (with_standing (done d.done.reply d.done.deadline) e) s.entries;
   sessions = counted c e.request d.counted s.sessions;
+  rests = after_reply c s.rests d.link;
 }
 
 abbrev pub once_settled : {A : Type 0} → RealmConfig → RealmState → Option (Settled A) → RealmState

@@ -1,9 +1,9 @@
 -- What the code's entries and numbers stand for (`state_of`, which a book's view shows), and what a
 -- realm keeps (ours): of each entry, and between its entries and its lanes. No definition of what the
 -- broker does rests on this file; each rule's contract says that it is kept.
-use Rattle.std.specs.Prelude.{◌≡◌, ◌≢◌, ℕ, zero, suc, ◌+◌, ◌*◌, ◌++◌, ◌∷◌, ◌<◌, ◌≤◌, ◌^◌, ◌==◌, ◌&&◌, ◌||◌, Bool, true, false, List, [], length, map, Option, Some, None, option_map, is_some, slice_index_or}
-use Rattle.std.specs.List.{AllByRecursion}
-use Rattle.std.specs.Option.{option_map_or}
+use Rattle.std.specs.Prelude.{◌≡◌, ◌≢◌, ℕ, zero, suc, ◌+◌, ◌*◌, ◌++◌, ◌∷◌, ◌<◌, ◌≤◌, ◌^◌, ◌==◌, ◌&&◌, ◌||◌, Bool, true, false, not, List, [], length, map, Option, Some, None, option_map, is_some, slice_index_or}
+use Rattle.std.specs.List.{AllByRecursion, find}
+use Rattle.std.specs.Option.{option_map_or, option_or}
 use Rattle.roam_wire.specs.Reading.{IsPacketText, packet_of}
 use Rattle.roam_conf.specs.declared.place.Link.{Link}
 use Rattle.roam_fwd.specs.Forwarded.{CanBeForwarded}
@@ -13,9 +13,11 @@ use Rattle.roam_pending.specs.PlainEntry.{PlainRequest, PlainStanding, PlainEntr
 use Rattle.roam_pending.specs.EntryList.{find_ticket}
 use Rattle.roam_book.specs.RealmConfig.{RealmConfig, IsLink, IsRequester, link_place, link_count}
 use Rattle.roam_book.specs.RealmState.{RealmState}
+use Rattle.roam_book.specs.Rests.{stands_back}
 use Rattle.roam_book.specs.declared.gone.Gone.{Gone}
 use Rattle.roam_book.specs.declared.sending.Asked.{Asked}
 use Rattle.roam_book.specs.declared.numbers.Numbers.{Numbers}
+use Rattle.roam_book.specs.declared.rest.Rest.{Rest}
 
 -- a request of the realm
 pub record IsRequest (c : RealmConfig) (q : PlainRequest) : Type 0 where
@@ -99,6 +101,7 @@ state_of entries numbers = record {
   cursors = cursors_of numbers.lanes.items;
   stream_position = numbers.stream_position;
   sessions = numbers.sessions.sessions;
+  rests = numbers.rests.items;
 }
 
 -- the numbers are as they were, but for which Identifiers are in use
@@ -108,6 +111,7 @@ pub record IsSameButSlots {A : Type 0} (old new : Numbers A) : Type 0 where
   pub ticket : new.ticket ≡ old.ticket
   pub stream_position : new.stream_position ≡ old.stream_position
   pub sessions : new.sessions ≡ old.sessions
+  pub rests : new.rests.items ≡ old.rests.items
 
 -- what a realm keeps
 pub record IsSound {A : Type 0} (c : RealmConfig) (entries : List PlainEntry) (numbers : Numbers A) : Type 0 where
@@ -130,6 +134,23 @@ is_freed (Some freed) l = same_link freed l
 
 abbrev pub is_open : RealmConfig → List LaneState → Option Link → Link → Bool
 is_open c lanes freed l = is_freed freed l || has_free (lane_of c lanes l)
+
+-- a link stands back at a moment, if one is given
+abbrev pub stands_back_at : RealmConfig → Option ℕ → List Rest → Link → Bool
+stands_back_at c None rests l = false
+stands_back_at c (Some now) rests l = stands_back c now rests l
+
+-- it is open, and doesn't stand back
+abbrev pub is_ready :
+    RealmConfig → Option ℕ → List Rest → List LaneState → Option Link → Link → Bool
+is_ready c at rests lanes freed l = not (stands_back_at c at rests l) && is_open c lanes freed l
+
+-- the link of the target that is chosen among some links
+abbrev pub chosen_link :
+    RealmConfig → ℕ → List Rest → List LaneState → Option Link → List Link → Option Link
+chosen_link c now rests lanes freed links =
+    option_or (find (is_ready c (Some now) rests lanes freed) links)
+    (find (is_ready c None rests lanes freed) links)
 
 -- an entry waits on this link with this Identifier, and nowhere else
 abbrev pub WaitsJustAt : Link → ℕ → PlainEntry → Type 0

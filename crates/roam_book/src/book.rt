@@ -66,7 +66,7 @@ pub fn asked_by<'a, A: Allocator>(
     requires side { is_link job.now.side ≡ false }
     ensures request { IsRequest settings.now (shown_request result) }
     ensures event { (now : ℕ) → event_of now (shown_job job.now)
-        ≡ request_came now (shown_request result) }
+        ≡ request_came now result.named (shown_request result) }
 {
     let requester = match job.side {
         Side::Peer(peer) => Requester::Peer(peer),
@@ -81,6 +81,7 @@ pub fn asked_by<'a, A: Allocator>(
     Asked {
         key,
         requester,
+        named: job.named,
         octets,
     }
 }

@@ -1,16 +1,16 @@
 //! What becomes of an entry that is due.
 
 ghost use Rattle.std.specs.Prelude.{◌≡◌, ◌≤◌, ◌+◌, ◌^◌, List, true, IfSome, is_some, length};
-ghost use Rattle.std.specs.List.{find};
 ghost use Rattle.roam_pending.specs.PlainEntry.{PlainEntry, waits_at};
 ghost use Rattle.roam_pending.specs.EntryList.{without};
 ghost use Rattle.roam_pending.specs.Shown.{shown};
 ghost use Rattle.roam_route.specs.Shown.{shown_out};
 ghost use Rattle.roam_book.specs.RealmConfig.{IsLink, link_count, later_targets};
-ghost use Rattle.roam_book.specs.RealmState.{first_target};
+ghost use Rattle.roam_book.specs.RealmState.{chosen_target};
+ghost use Rattle.roam_book.specs.Rests.{after_silence};
 ghost use Rattle.roam_book.specs.OnRequest.{is_reverse, packet_to};
-ghost use Rattle.roam_book.specs.OnTick.{due_standing, fail_over, without_entry};
-ghost use Rattle.roam_book.specs.Sound.{AreOwnLanes, IsEntry, IsRequest, cursors_of, has_free, is_open, lane_of, marks_of, state_of};
+ghost use Rattle.roam_book.specs.OnTick.{due_standing, fail_over, given_up_at};
+ghost use Rattle.roam_book.specs.Sound.{AreOwnLanes, IsEntry, IsRequest, cursors_of, chosen_link, has_free, lane_of, marks_of, state_of};
 ghost use Rattle.roam_book.specs.Fates.{GivesUp, held_for, IsHeld, IsFate, IsFateCopied};
 ghost use Rattle.roam_book.specs.Memory.{HasBuffers, IsCopied};
 
@@ -61,16 +61,17 @@ fn packet_again<A: Allocator>(
     Sent::new(packet_to(settings, waiting.link, bytes), copy)
 }
 
-/// The first target after a link that has a free Identifier.
+/// The target that is chosen at a moment among those after a link.
 fn later_target<A: Allocator + Copy>(
     settings: &Settings<'_>,
     numbers: &Numbers<A>,
+    now: u64,
     link: Link,
 ) -> Option<Link>
     requires count { length numbers.now.lanes.items ≡ link_count settings.now }
     requires lanes { AreOwnLanes settings.now (marks_of numbers.now.lanes.items) }
-    ensures first { result ≡ find (is_open settings.now numbers.now.lanes.items None)
-        (later_targets settings.now link) }
+    ensures chosen { result ≡ chosen_link settings.now now numbers.now.rests.items
+        numbers.now.lanes.items None (later_targets settings.now link) }
     ensures link { IfSome result (λ l. IsLink settings.now l) }
     ensures free { IfSome result (λ l. has_free (lane_of settings.now numbers.now.lanes.items l)
         ≡ true) }
@@ -79,15 +80,22 @@ fn later_target<A: Allocator + Copy>(
 {
     match link {
         Link::Auth(server) => {
-            numbers.first_open(
+            numbers.chosen(
                 settings,
+                now,
                 Service::Authentication,
                 usize::from(server) + 1,
                 None,
             )
         }
         Link::Acct(server) => {
-            numbers.first_open(settings, Service::Accounting, usize::from(server) + 1, None)
+            numbers.chosen(
+                settings,
+                now,
+                Service::Accounting,
+                usize::from(server) + 1,
+                None,
+            )
         }
         Link::Coa(_) => None,
     }
@@ -156,8 +164,8 @@ fn give_up<A: Allocator>(
     }
 }
 
-/// Gives back the Identifier of an entry that isn't sent to its link again, and forwards its
-/// request to the next target, where there is one.
+/// Gives back the Identifier of an entry that isn't sent to its link again, counts that silence there,
+/// and forwards the request to the target that is then chosen, where there is one.
 fn fail_over<A: Allocator + Copy>(
     settings: &Settings<'_>,
     numbers: &mut Numbers<A>,
@@ -177,18 +185,23 @@ fn fail_over<A: Allocator + Copy>(
     ensures fate { (es : List PlainEntry) → IsHeld settings.now es (shown entry.now) numbers.old
         → IsFate settings.now now es (shown entry.now) numbers.new result
         (fail_over settings.now now
-        (without_entry (state_of es numbers.old) (shown entry.now)) (shown entry.now)
-        (first_target settings.now (cursors_of numbers.old.lanes.items)
-        (without entry.now.ticket es) (later_targets settings.now link))) }
+        (given_up_at settings.now now link (state_of es numbers.old) (shown entry.now))
+        (shown entry.now)
+        (chosen_target settings.now now
+        (after_silence settings.now now numbers.old.rests.items link)
+        (cursors_of numbers.old.lanes.items) (without entry.now.ticket es)
+        (later_targets settings.now link))) }
     ensures copied { IsFateCopied (is_some buffers.copy) result }
 {
     numbers.give_back(settings, link, id);
-    let Some(target) = later_target(settings, numbers, link) else {
+    numbers.count_silence(settings, now, link);
+    let Some(target) = later_target(settings, numbers, now, link) else {
         return give_up(settings, now, entry, buffers);
     };
     let asked = Asked {
         key: entry.request.key,
         requester: entry.request.requester,
+        named: None,
         octets: entry.request.octets.as_slice(),
     };
     let (sent, waiting) = send_new(settings, numbers, now, asked, entry.ticket, target, buffers);

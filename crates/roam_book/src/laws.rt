@@ -4,6 +4,7 @@
 
 ghost use Rattle.roam_book.specs.BookView.{EventIsTaken};
 ghost use Rattle.roam_book.specs.LeastFirst.{LeastDueFirst, NoneIsDueAfter};
+ghost use Rattle.roam_book.specs.RestLaws.{AccessServersNeverStandBack, AwakeTheFirstIsChosen, WithoutRestAllStayAwake};
 
 /// A tick takes the least due entry, until none is due. Each due entry is taken once, since what waits
 /// again isn't due at that moment: the time from one sending to the next is at least a millisecond.
@@ -16,4 +17,12 @@ pub fn ticks_take_the_least_due_first()
 /// whose sender shares a secret with the broker, or a packet from a link.
 pub fn events()
     ensures { EventIsTaken }
+{}
+
+/// Where a realm's `rest` is 0, no link ever has a moment until which it rests, or a count of silences,
+/// and then the first target that has a free Identifier is chosen. A peer's `coa` never stands back.
+pub fn silent_servers()
+    ensures none { WithoutRestAllStayAwake }
+    ensures first { AwakeTheFirstIsChosen }
+    ensures access_servers { AccessServersNeverStandBack }
 {}

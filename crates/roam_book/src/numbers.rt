@@ -1,6 +1,6 @@
 //! What a realm keeps besides its entries: the numbers that it hands out, and the ledger of sessions.
 
-ghost use Rattle.std.specs.Prelude.{◌≡◌, ℕ, ◌<◌, ◌+◌, ◌*◌, ◌%◌, List, [], ◌∷◌, true, Some, None, length, replicate, drop, slice_set, IfSome, IfNone, IfOk, IsOk, OnOk, is_some};
+ghost use Rattle.std.specs.Prelude.{◌≡◌, ℕ, ◌<◌, ◌≤◌, ◌+◌, ◌^◌, ◌*◌, ◌%◌, List, [], ◌∷◌, true, Some, None, length, replicate, drop, slice_set, IfSome, IfNone, IfOk, IsOk, OnOk, is_some};
 ghost use Rattle.std.specs.List.{find};
 ghost use Rattle.roam_ids.specs.LaneState.{place_at, ticket_at};
 ghost use Rattle.roam_ids.specs.declared.place.Place.TheVariants.{Free};
@@ -11,8 +11,10 @@ ghost use Rattle.roam_reverse.specs.Shown.{HasRoomFor};
 ghost use Rattle.roam_book.specs.ReplyPlans.{IsPrepared};
 ghost use Rattle.roam_book.specs.RealmConfig.{IsLink, link_place, link_count, server_links};
 ghost use Rattle.roam_book.specs.RealmState.{next_toward};
-ghost use Rattle.roam_book.specs.Sound.{AreOwnLanes, LanesTell, lane_of, cursors_of, has_free, is_freed, is_open, marks_of, WaitsJustAt};
+ghost use Rattle.roam_book.specs.Rests.{after_choice, after_reply, after_silence, all_awake, rest_of, with_rest};
+ghost use Rattle.roam_book.specs.Sound.{AreOwnLanes, LanesTell, lane_of, cursors_of, has_free, is_freed, is_open, marks_of, WaitsJustAt, chosen_link, is_ready, stands_back_at};
 
+use crate::rest::Rest;
 use crate::service::Service;
 use crate::settings::Settings;
 use crate::start::Start;
@@ -23,7 +25,8 @@ use roam_wire::{NoMemory, View};
 use std::alloc::Allocator;
 
 /// What a realm keeps besides its entries: the numbers that it hands out (Identifiers toward its
-/// links, tickets, and random words), and the ledger of the sessions that are open.
+/// links, tickets, and random words), the ledger of the sessions that are open, and how its servers'
+/// links rest.
 #[derive(Drop)]
 pub struct Numbers<A: Allocator> {
     /// Whence the memory of entries and packets comes.
@@ -37,11 +40,13 @@ pub struct Numbers<A: Allocator> {
     pub(crate) stream_position: u128,
     /// The sessions that are open.
     pub(crate) sessions: Sessions<A>,
+    /// How the servers' links rest that keep silent, in the order of their places.
+    pub(crate) rests: Vec<Rest, A>,
 }
 
 /// The tag of a lane: its realm's index, and the place of its link.
 fn tag_of(settings: &Settings<'_>, place: usize) -> u32
-    requires { place < 272 }
+    requires { place < 1040 }
     ensures { result ≡ settings.now.index * 65536 + place }
 {
     u32::from(settings.index()) * 65536 + place as u32
@@ -54,7 +59,7 @@ fn new_lane<A: Allocator>(
     settings: &Settings<'_>,
     place: usize,
 ) -> Result<LazyLane<A>, NoMemory>
-    requires { place < 272 }
+    requires { place < 1040 }
     ensures tag { IfOk result (λ lane. lane.tag ≡ settings.now.index * 65536 + place) }
     ensures cursor { IfOk result (λ lane. lane.cursor ≡ 0) }
     ensures free { IfOk result (λ lane. (id : ℕ) → place_at lane id ≡ Free) }
@@ -86,6 +91,21 @@ fn new_lanes<A: Allocator + Copy>(
     Ok(lanes)
 }
 
+/// All servers' links of a realm, awake.
+fn new_rests<A: Allocator + Copy>(
+    alloc: A,
+    settings: &Settings<'_>,
+) -> Result<Vec<Rest, A>, NoMemory>
+    ensures { IfOk result (λ rests. rests.items ≡ all_awake settings.now) }
+{
+    let count = 2 * settings.server_count();
+    let mut rests = Vec::with_capacity(alloc, count).map_err(|_| NoMemory)?;
+    for _place in 0..count {
+        rests.push_reserved(Rest::awake());
+    }
+    Ok(rests)
+}
+
 /// Whether a link is the one where an Identifier becomes free.
 fn is_freed(freed: Option<Link>, link: Link) -> bool
     ensures { result ≡ is_freed freed link }
@@ -106,15 +126,18 @@ impl<A: Allocator + Copy> Numbers<A> {
         ensures ticket { IfOk result (λ n. n.ticket ≡ start.ticket) }
         ensures place { IfOk result (λ n. n.stream_position ≡ start.place) }
         ensures sessions { IfOk result (λ n. n.sessions.sessions ≡ []) }
+        ensures rests { IfOk result (λ n. n.rests.items ≡ all_awake settings.now) }
         ensures ledger { IfOk result (λ n. n.sessions.limit ≡ settings.now.realm.max_sessions) }
     {
         let lanes = new_lanes(alloc, settings)?;
+        let rests = new_rests(alloc, settings)?;
         Ok(Numbers {
             alloc,
             lanes,
             ticket: start.ticket,
             stream_position: start.place,
             sessions: Sessions::new(alloc, settings.max_sessions()),
+            rests,
         })
     }
 
@@ -152,17 +175,49 @@ impl<A: Allocator + Copy> Numbers<A> {
         self.lanes[settings.place_of(link)].holder(id)
     }
 
-    /// The first of the servers' links, from a place on, that has a free Identifier, or that is `freed`.
-    pub(crate) fn first_open(
+    /// Whether a link stands back at a moment, if one is given.
+    fn stands_back(&self, settings: &Settings<'_>, at: Option<u64>, link: Link) -> bool
+        requires link { IsLink settings.now link }
+        ensures { result ≡ stands_back_at settings.now at self.now.rests.items link }
+    {
+        let Some(now) = at else {
+            return false;
+        };
+        self.rest_of(settings, link).is_resting(now)
+    }
+
+    /// Whether a link has a free Identifier, or is `freed`, and doesn't stand back at a moment, if one
+    /// is given.
+    fn is_ready(
         &self,
         settings: &Settings<'_>,
+        at: Option<u64>,
+        freed: Option<Link>,
+        link: Link,
+    ) -> bool
+        requires link { IsLink settings.now link }
+        requires count { length self.now.lanes.items ≡ link_count settings.now }
+        ensures { result ≡ is_ready settings.now at self.now.rests.items self.now.lanes.items freed
+            link }
+    {
+        !self.stands_back(settings, at, link)
+            && (is_freed(freed, link) || self.has_free(settings, link))
+    }
+
+    /// The first of the servers' links, from a place on, that has a free Identifier, or that is `freed`,
+    /// and that doesn't stand back at a moment, if one is given.
+    fn first_ready(
+        &self,
+        settings: &Settings<'_>,
+        at: Option<u64>,
         service: Service,
         from: usize,
         freed: Option<Link>,
     ) -> Option<Link>
         requires count { length self.now.lanes.items ≡ link_count settings.now }
         requires lanes { AreOwnLanes settings.now (marks_of self.now.lanes.items) }
-        ensures first { result ≡ find (is_open settings.now self.now.lanes.items freed)
+        ensures first { result ≡ find (is_ready settings.now at self.now.rests.items
+            self.now.lanes.items freed)
             (server_links service from (drop from settings.now.realm.servers)) }
         ensures link { IfSome result (λ l. IsLink settings.now l) }
         ensures made { IfSome result (λ l.
@@ -170,14 +225,40 @@ impl<A: Allocator + Copy> Numbers<A> {
     {
         for server in from..settings.server_count() {
             let link = service.link(server as u8);
-            if is_freed(freed, link) || self.has_free(settings, link) {
+            if self.is_ready(settings, at, freed, link) {
                 return Some(link);
             }
         }
         None
     }
 
-    /// A link, where it has a free Identifier, or is `freed`.
+    /// The one of the servers' links, from a place on, that is chosen at a moment: of those that have a
+    /// free Identifier, or are `freed`, the first that doesn't stand back; where all of these stand
+    /// back, the first of them.
+    pub(crate) fn chosen(
+        &self,
+        settings: &Settings<'_>,
+        now: u64,
+        service: Service,
+        from: usize,
+        freed: Option<Link>,
+    ) -> Option<Link>
+        requires count { length self.now.lanes.items ≡ link_count settings.now }
+        requires lanes { AreOwnLanes settings.now (marks_of self.now.lanes.items) }
+        ensures chosen { result ≡ chosen_link settings.now now self.now.rests.items
+            self.now.lanes.items freed
+            (server_links service from (drop from settings.now.realm.servers)) }
+        ensures link { IfSome result (λ l. IsLink settings.now l) }
+        ensures made { IfSome result (λ l.
+            (lane_of settings.now self.now.lanes.items l).made ≡ true) }
+    {
+        match self.first_ready(settings, Some(now), service, from, freed) {
+            None => self.first_ready(settings, None, service, from, freed),
+            ready => ready,
+        }
+    }
+
+    /// A link, which alone is to be chosen from, where it has a free Identifier, or is `freed`.
     pub(crate) fn if_open(
         &self,
         settings: &Settings<'_>,
@@ -186,15 +267,90 @@ impl<A: Allocator + Copy> Numbers<A> {
     ) -> Option<Link>
         requires link { IsLink settings.now link }
         requires count { length self.now.lanes.items ≡ link_count settings.now }
-        ensures open { result ≡ find (is_open settings.now self.now.lanes.items freed)
-            (link ∷ []) }
+        ensures chosen { (now : ℕ) → result ≡ chosen_link settings.now now self.now.rests.items
+            self.now.lanes.items freed (link ∷ []) }
         ensures link { IfSome result (λ l. IsLink settings.now l) }
     {
-        if is_freed(freed, link) || self.has_free(settings, link) {
+        if self.is_ready(settings, None, freed, link) {
             Some(link)
         } else {
             None
         }
+    }
+
+    /// Writes how a link rests: a peer's `coa` never does, and the rests stay.
+    fn set_rest(&mut self, settings: &Settings<'_>, link: Link, rest: Rest)
+        requires link { IsLink settings.now link }
+        ensures rests { self.new.rests.items
+            ≡ with_rest settings.now self.old.rests.items link rest }
+        ensures lanes { self.new.lanes.items ≡ self.old.lanes.items }
+        ensures ticket { self.new.ticket ≡ self.old.ticket }
+        ensures stream_position { self.new.stream_position ≡ self.old.stream_position }
+        ensures sessions { self.new.sessions ≡ self.old.sessions }
+    {
+        let place = settings.place_of(link);
+        if place < self.rests.len() {
+            self.rests[place] = rest;
+        }
+    }
+
+    /// How a link rests: a peer's `coa` never does.
+    fn rest_of(&self, settings: &Settings<'_>, link: Link) -> Rest
+        requires link { IsLink settings.now link }
+        ensures { result ≡ rest_of settings.now self.now.rests.items link }
+    {
+        let place = settings.place_of(link);
+        if place < self.rests.len() {
+            self.rests[place]
+        } else {
+            Rest::awake()
+        }
+    }
+
+    /// A link was chosen as a target: where it has a moment until which it rests, in the past or not,
+    /// that is `now + rest` from now on.
+    pub(crate) fn put_off(&mut self, settings: &Settings<'_>, now: u64, link: Link)
+        requires moment { now ≤ 2 ^ 62 }
+        requires link { IsLink settings.now link }
+        ensures rests { self.new.rests.items
+            ≡ after_choice settings.now now self.old.rests.items link }
+        ensures lanes { self.new.lanes.items ≡ self.old.lanes.items }
+        ensures ticket { self.new.ticket ≡ self.old.ticket }
+        ensures stream_position { self.new.stream_position ≡ self.old.stream_position }
+        ensures sessions { self.new.sessions ≡ self.old.sessions }
+    {
+        let rest = self.rest_of(settings, link).once_chosen(settings, now);
+        self.set_rest(settings, link, rest);
+    }
+
+    /// A request was given up at a link: that is counted there, and where it was so often enough, the
+    /// link rests. Where the realm's `rest` is 0 nothing is counted.
+    pub(crate) fn count_silence(&mut self, settings: &Settings<'_>, now: u64, link: Link)
+        requires moment { now ≤ 2 ^ 62 }
+        requires link { IsLink settings.now link }
+        ensures rests { self.new.rests.items
+            ≡ after_silence settings.now now self.old.rests.items link }
+        ensures lanes { self.new.lanes.items ≡ self.old.lanes.items }
+        ensures ticket { self.new.ticket ≡ self.old.ticket }
+        ensures stream_position { self.new.stream_position ≡ self.old.stream_position }
+        ensures sessions { self.new.sessions ≡ self.old.sessions }
+    {
+        if settings.rest() > 0 {
+            let rest = self.rest_of(settings, link).once_silent(settings, now);
+            self.set_rest(settings, link, rest);
+        }
+    }
+
+    /// A reply from a link was taken: it doesn't rest, and no request counts as given up there.
+    pub(crate) fn wake(&mut self, settings: &Settings<'_>, link: Link)
+        requires link { IsLink settings.now link }
+        ensures rests { self.new.rests.items ≡ after_reply settings.now self.old.rests.items link }
+        ensures lanes { self.new.lanes.items ≡ self.old.lanes.items }
+        ensures ticket { self.new.ticket ≡ self.old.ticket }
+        ensures stream_position { self.new.stream_position ≡ self.old.stream_position }
+        ensures sessions { self.new.sessions ≡ self.old.sessions }
+    {
+        self.set_rest(settings, link, Rest::awake());
     }
 
     /// Takes the memory of a link's lane, where that isn't there. What the numbers stand for stays,
@@ -211,6 +367,7 @@ impl<A: Allocator + Copy> Numbers<A> {
         ensures count { length self.new.lanes.items ≡ length self.old.lanes.items }
         ensures ticket { self.new.ticket ≡ self.old.ticket }
         ensures stream_position { self.new.stream_position ≡ self.old.stream_position }
+        ensures rests { self.new.rests.items ≡ self.old.rests.items }
         ensures sessions { self.new.sessions ≡ self.old.sessions }
         ensures succeeds { (lane_of settings.now self.old.lanes.items link).made ≡ true
             → IsOk result }
@@ -249,6 +406,7 @@ impl<A: Allocator + Copy> Numbers<A> {
         ensures count { length self.new.lanes.items ≡ length self.old.lanes.items }
         ensures ticket { self.new.ticket ≡ self.old.ticket }
         ensures stream_position { self.new.stream_position ≡ self.old.stream_position }
+        ensures rests { self.new.rests.items ≡ self.old.rests.items }
         ensures sessions { self.new.sessions ≡ self.old.sessions }
     {
         let lane = &mut self.lanes[settings.place_of(link)];
@@ -273,6 +431,7 @@ impl<A: Allocator + Copy> Numbers<A> {
         ensures count { length self.new.lanes.items ≡ length self.old.lanes.items }
         ensures ticket { self.new.ticket ≡ self.old.ticket }
         ensures stream_position { self.new.stream_position ≡ self.old.stream_position }
+        ensures rests { self.new.rests.items ≡ self.old.rests.items }
         ensures sessions { self.new.sessions ≡ self.old.sessions }
     {
         let lane = &mut self.lanes[settings.place_of(link)];
@@ -296,6 +455,7 @@ impl<A: Allocator + Copy> Numbers<A> {
         ensures lanes { self.new.lanes.items ≡ self.old.lanes.items }
         ensures ticket { self.new.ticket ≡ self.old.ticket }
         ensures stream_position { self.new.stream_position ≡ self.old.stream_position }
+        ensures rests { self.new.rests.items ≡ self.old.rests.items }
     {
         self.sessions.prepare(peer, request)
     }
@@ -309,6 +469,7 @@ impl<A: Allocator + Copy> Numbers<A> {
         ensures lanes { self.new.lanes.items ≡ self.old.lanes.items }
         ensures ticket { self.new.ticket ≡ self.old.ticket }
         ensures stream_position { self.new.stream_position ≡ self.old.stream_position }
+        ensures rests { self.new.rests.items ≡ self.old.rests.items }
     {
         if let Some(change) = change {
             self.sessions.apply_prepared(change);

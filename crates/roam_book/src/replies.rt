@@ -149,8 +149,8 @@ impl<A: Allocator + Copy, E: Entries<A>> Realm<'_, '_, '_, '_, A, E> {
         Ok(Some(change))
     }
 
-    /// The entry that is to be done, if one is, is done: its Identifier is then free, and the change
-    /// of the ledger, if there is one, is made. Takes no memory.
+    /// The entry that is to be done, if one is, is done: its Identifier is then free, the change of the
+    /// ledger, if there is one, is made, and its link is awake. Takes no memory.
     fn settle(&mut self, settled: Option<Settled<A>>, change: Option<Prepared<A>>)
         requires realm { IsRealm E.Entries self.old }
         requires settled { CanSettle self.old.settings.now (entries E.Entries self.old) settled }
@@ -173,6 +173,7 @@ impl<A: Allocator + Copy, E: Entries<A>> Realm<'_, '_, '_, '_, A, E> {
         self.numbers
             .give_back(self.settings, settled.link, settled.id);
         self.numbers.change_ledger(change);
+        self.numbers.wake(self.settings, settled.link);
     }
 
     /// A reply that came from a link: it is returned, and held until `now + hold`, where the

@@ -4,7 +4,6 @@
 //! entries make way; that changes nothing. Then a new request is admitted.
 
 ghost use Rattle.std.specs.Prelude.{◌≡◌, ◌≢◌, ℕ, ◌<◌, ◌≤◌, ◌^◌, ◌∷◌, [], true, None, Some, IfOk, IfSome, IsOk, length};
-ghost use Rattle.std.specs.List.{find};
 ghost use Rattle.roam_wire.specs.Reading.{IsPacketText};
 ghost use Rattle.roam_pending.specs.EntryList.{besides, find_client, without_client};
 ghost use Rattle.roam_pending.specs.PlainEntry.{PlainRequest};
@@ -13,7 +12,7 @@ ghost use Rattle.roam_book.specs.NewEntry.{Chooses, IsRequestPlan, IsWay, freed_
 ghost use Rattle.roam_book.specs.OnRequest.{at_target, first_seen, held_reply, is_reverse, nak_octets, new_request, of_key, on_request, packet_back, reverse_cause, targets};
 ghost use Rattle.roam_book.specs.RealmConfig.{IsLink};
 ghost use Rattle.roam_book.specs.RealmTurn.{IsRealm, Turns, TurnsTwice, entries, state};
-ghost use Rattle.roam_book.specs.Sound.{CountsAsGone, IsRequest, gone_ticket, is_open, shown_request};
+ghost use Rattle.roam_book.specs.Sound.{CountsAsGone, IsRequest, chosen_link, gone_ticket, shown_request};
 ghost use Rattle.roam_book.specs.Turn.{packets_of, shown_outs};
 
 use crate::answer::{Answer, Twin, nothing, one_packet, refused};
@@ -118,10 +117,10 @@ impl<A: Allocator + Copy, E: Entries<A>> Realm<'_, '_, '_, '_, A, E> {
     /// or where a done entry makes way.
     fn way_to(&self, gone: Option<Gone>, link: Link) -> Result<Way, Refusal>
         requires { CountsAsGone gone (entries E.Entries self.now) }
-        ensures { (q : PlainRequest)
+        ensures { (now : ℕ) (q : PlainRequest)
             → IsWay self.now.settings.now (state E.Entries self.now) q (straight_after gone link)
-            → Chooses self.now.settings.now (state E.Entries self.now) q result
-            (λ now. at_target self.now.settings.now now (state E.Entries self.now)
+            → Chooses self.now.settings.now now (state E.Entries self.now) q result
+            (at_target self.now.settings.now now (state E.Entries self.now)
             (once_gone gone (entries E.Entries self.now)) q
             (Some (target_at self.now.settings.now (state E.Entries self.now).cursors
             (once_gone gone (entries E.Entries self.now)) link))) }
@@ -149,12 +148,14 @@ impl<A: Allocator + Copy, E: Entries<A>> Realm<'_, '_, '_, '_, A, E> {
         }
     }
 
-    /// The first target of a request that has a free Identifier, or that is `freed`.
-    fn first_target(&self, asked: Asked<'_>, freed: Option<Link>) -> Option<Link>
+    /// The target of a request that is chosen at a moment, where the Identifiers of `freed` count as
+    /// free.
+    fn chosen_target(&self, now: u64, asked: Asked<'_>, freed: Option<Link>) -> Option<Link>
         requires realm { IsRealm E.Entries self.now }
         requires request { IsRequest self.now.settings.now (shown_request asked) }
-        ensures first { result ≡ find (is_open self.now.settings.now self.now.numbers.now.lanes.items
-            freed) (targets self.now.settings.now (shown_request asked.entry)) }
+        ensures chosen { result ≡ chosen_link self.now.settings.now now
+            self.now.numbers.now.rests.items self.now.numbers.now.lanes.items freed
+            (targets self.now.settings.now (shown_request asked.entry)) }
         ensures link { IfSome result (λ l. IsLink self.now.settings.now l) }
     {
         let request = View::of_packet(asked.octets);
@@ -163,42 +164,42 @@ impl<A: Allocator + Copy, E: Entries<A>> Realm<'_, '_, '_, '_, A, E> {
             return self.numbers.if_open(self.settings, Link::Coa(peer), freed);
         }
         let service = Service::of_code(request.code());
-        self.numbers.first_open(self.settings, service, 0, freed)
+        self.numbers.chosen(self.settings, now, service, 0, freed)
     }
 
     /// A new request: there must be a ticket for it, and a target with a free Identifier. The entry
     /// of its key, if there is one, counts as gone.
-    fn way_for(&self, asked: Asked<'_>, gone: Option<Gone>) -> Result<Way, Refusal>
+    fn way_for(&self, now: u64, asked: Asked<'_>, gone: Option<Gone>) -> Result<Way, Refusal>
         requires realm { IsRealm E.Entries self.now }
         requires request { IsRequest self.now.settings.now (shown_request asked) }
         requires gone { CountsAsGone gone (entries E.Entries self.now) }
         requires key { find_client asked.key (once_gone gone (entries E.Entries self.now)) ≡ None }
-        ensures { Chooses self.now.settings.now (state E.Entries self.now)
+        ensures { Chooses self.now.settings.now now (state E.Entries self.now)
             (shown_request asked.entry) result
-            (λ now. new_request self.now.settings.now now (state E.Entries self.now)
+            (new_request self.now.settings.now now (state E.Entries self.now)
             (once_gone gone (entries E.Entries self.now)) (shown_request asked.entry)) }
     {
         if self.numbers.ticket == 1 << 63 {
             return Err(Refusal::Exhausted);
         }
-        match self.first_target(asked, freed_link(gone)) {
+        match self.chosen_target(now, asked, freed_link(gone)) {
             None => Err(Refusal::NoIdentifier),
             Some(link) => self.way_to(gone, link),
         }
     }
 
     /// A new request is refused or admitted, while an entry counts as gone.
-    fn plan_new(&self, asked: Asked<'_>, gone: Option<Gone>) -> RequestPlan<A>
+    fn plan_new(&self, now: u64, asked: Asked<'_>, gone: Option<Gone>) -> RequestPlan<A>
         requires realm { IsRealm E.Entries self.now }
         requires request { IsRequest self.now.settings.now (shown_request asked) }
         requires gone { CountsAsGone gone (entries E.Entries self.now) }
         requires key { find_client asked.key (once_gone gone (entries E.Entries self.now)) ≡ None }
-        ensures { IsRequestPlan self.now.settings.now (state E.Entries self.now)
+        ensures { IsRequestPlan self.now.settings.now now (state E.Entries self.now)
             (shown_request asked.entry) result
-            (λ now. new_request self.now.settings.now now (state E.Entries self.now)
+            (new_request self.now.settings.now now (state E.Entries self.now)
             (once_gone gone (entries E.Entries self.now)) (shown_request asked.entry)) }
     {
-        match self.way_for(asked, gone) {
+        match self.way_for(now, asked, gone) {
             Ok(way) => RequestPlan::Admitted(way),
             Err(why) => RequestPlan::Answered(refused(self.numbers.alloc, why)),
         }
@@ -208,12 +209,13 @@ impl<A: Allocator + Copy, E: Entries<A>> Realm<'_, '_, '_, '_, A, E> {
     fn reverse_cause(&self, asked: Asked<'_>) -> Option<u32>
         requires { IsPacketText asked.octets.now }
         ensures cause { result ≡ reverse_cause self.now.settings.now (state E.Entries self.now)
-            (shown_request asked.entry) }
+            asked.entry.named (shown_request asked.entry) }
         ensures reverse { IfSome result (λ cause. is_reverse (shown_request asked.entry) ≡ true) }
     {
         let request = View::of_packet(asked.octets);
         if is_reverse_request(request.code()) {
-            self.settings.cause_of(&request, &self.numbers.sessions)
+            self.settings
+                .cause_of(asked.named, &request, &self.numbers.sessions)
         } else {
             None
         }
@@ -223,6 +225,7 @@ impl<A: Allocator + Copy, E: Entries<A>> Realm<'_, '_, '_, '_, A, E> {
     /// NAK, and any other is new.
     fn plan_first_seen(
         &self,
+        now: u64,
         asked: Asked<'_>,
         gone: Option<Gone>,
     ) -> Result<RequestPlan<A>, NoMemory>
@@ -232,44 +235,45 @@ impl<A: Allocator + Copy, E: Entries<A>> Realm<'_, '_, '_, '_, A, E> {
         requires key { find_client asked.key (once_gone gone (entries E.Entries self.now)) ≡ None }
         requires rest { once_gone gone (entries E.Entries self.now)
             ≡ without_client asked.key (entries E.Entries self.now) }
-        ensures plan { IfOk result (λ p. IsRequestPlan self.now.settings.now
+        ensures plan { IfOk result (λ p. IsRequestPlan self.now.settings.now now
             (state E.Entries self.now) (shown_request asked.entry) p
-            (λ now. first_seen self.now.settings.now now (state E.Entries self.now)
+            (first_seen self.now.settings.now now (state E.Entries self.now) asked.entry.named
             (shown_request asked.entry))) }
-        ensures succeeds { (now : ℕ) → packets_of (first_seen self.now.settings.now now
-            (state E.Entries self.now) (shown_request asked.entry)) ≡ [] → IsOk result }
+        ensures succeeds { packets_of (first_seen self.now.settings.now now
+            (state E.Entries self.now) asked.entry.named (shown_request asked.entry)) ≡ []
+            → IsOk result }
     {
         match self.reverse_cause(asked) {
             Some(cause) => {
                 let answer = refused_by_nak(self.numbers.alloc, self.settings, asked, cause)?;
                 Ok(RequestPlan::Answered(answer))
             }
-            None => Ok(self.plan_new(asked, gone)),
+            None => Ok(self.plan_new(now, asked, gone)),
         }
     }
 
     /// A request in time: a duplicate where the entry of its key has its octets too, else a new
     /// one.
-    fn plan_of_key(&self, asked: Asked<'_>) -> Result<RequestPlan<A>, NoMemory>
+    fn plan_of_key(&self, now: u64, asked: Asked<'_>) -> Result<RequestPlan<A>, NoMemory>
         requires realm { IsRealm E.Entries self.now }
         requires request { IsRequest self.now.settings.now (shown_request asked) }
-        ensures plan { IfOk result (λ p. IsRequestPlan self.now.settings.now
+        ensures plan { IfOk result (λ p. IsRequestPlan self.now.settings.now now
             (state E.Entries self.now) (shown_request asked.entry) p
-            (λ now. of_key self.now.settings.now now (state E.Entries self.now)
+            (of_key self.now.settings.now now (state E.Entries self.now) asked.entry.named
             (shown_request asked.entry)
             (find_client asked.entry.key (entries E.Entries self.now)))) }
-        ensures succeeds { (now : ℕ) → packets_of (of_key self.now.settings.now now
-            (state E.Entries self.now) (shown_request asked.entry)
+        ensures succeeds { packets_of (of_key self.now.settings.now now
+            (state E.Entries self.now) asked.entry.named (shown_request asked.entry)
             (find_client asked.entry.key (entries E.Entries self.now))) ≡ [] → IsOk result }
     {
         match self.entries.find_client(self.settings.index(), &asked.key) {
-            None => self.plan_first_seen(asked, None),
+            None => self.plan_first_seen(now, asked, None),
             Some(entry) => {
                 if entry.request.octets.as_slice() == asked.octets {
                     let answer = held_reply(self.numbers.alloc, self.settings, entry)?;
                     return Ok(RequestPlan::Answered(answer));
                 }
-                self.plan_first_seen(asked, Some(Gone::of(entry)))
+                self.plan_first_seen(now, asked, Some(Gone::of(entry)))
             }
         }
     }
@@ -284,12 +288,13 @@ impl<A: Allocator + Copy, E: Entries<A>> Realm<'_, '_, '_, '_, A, E> {
         requires realm { IsRealm E.Entries self.old }
         requires request { IsRequest self.old.settings.now (shown_request asked) }
         ensures turn { Turns E.Entries self.old self.new result
-            (λ s. on_request self.old.settings.now now s (shown_request asked.entry)) }
+            (λ s. on_request self.old.settings.now now s asked.entry.named
+            (shown_request asked.entry)) }
     {
         if now > LATEST {
             return Ok(refused(self.numbers.alloc, Refusal::Moment));
         }
-        match self.plan_of_key(asked)? {
+        match self.plan_of_key(now, asked)? {
             RequestPlan::Answered(answer) => Ok(answer),
             RequestPlan::Admitted(way) => Ok(self.admit(now, asked, way, false)?.answer),
         }
@@ -300,7 +305,8 @@ impl<A: Allocator + Copy, E: Entries<A>> Realm<'_, '_, '_, '_, A, E> {
         requires realm { IsRealm E.Entries self.old }
         requires request { IsRequest self.old.settings.now (shown_request asked) }
         ensures turn { TurnsTwice E.Entries self.old self.new result
-            (λ s. on_request self.old.settings.now now s (shown_request asked.entry)) }
+            (λ s. on_request self.old.settings.now now s asked.entry.named
+            (shown_request asked.entry)) }
     {
         let alloc = self.numbers.alloc;
         if now > LATEST {
@@ -308,7 +314,7 @@ impl<A: Allocator + Copy, E: Entries<A>> Realm<'_, '_, '_, '_, A, E> {
             let copy = refused(alloc, Refusal::Moment);
             return Ok(Twin { answer, copy });
         }
-        match self.plan_of_key(asked)? {
+        match self.plan_of_key(now, asked)? {
             RequestPlan::Answered(answer) => answer.twice(alloc),
             RequestPlan::Admitted(way) => Ok(self.admit(now, asked, way, true)?.into_twin()),
         }

@@ -11,6 +11,7 @@ ghost use Rattle.roam_pending.specs.declared.entry.Standing.TheVariants as stand
 ghost use Rattle.roam_route.specs.Shown.{shown_out};
 ghost use Rattle.roam_book.specs.RealmConfig.{IsLink, link_place, link_count};
 ghost use Rattle.roam_book.specs.RealmState.{next_toward};
+ghost use Rattle.roam_book.specs.Rests.{after_choice};
 ghost use Rattle.roam_book.specs.OnRequest.{packet_to, packet_back, drawn_at, position_after, forwarded_octets, forwarded_entry};
 ghost use Rattle.roam_book.specs.Memory.{HasBuffers, HasRoom, IsCopied};
 ghost use Rattle.roam_book.specs.Sound.{shown_request, IsRequest, LanesTell, IsWaiting, lane_of, cursors_of, has_free, marks_of};
@@ -32,6 +33,9 @@ use std::alloc::Allocator;
 pub struct Asked<'a> {
     pub key: Key,
     pub requester: Requester,
+    /// The realm that its first User-Name names, if it names one. Only of a reverse request that is
+    /// new it is asked; of one that goes on to another link it is left out.
+    pub named: Option<u16>,
     pub octets: &'a [u8],
 }
 
@@ -167,8 +171,8 @@ fn forward_into<A: Allocator>(
 }
 
 /// Forwards a request to a link that has a free Identifier: the next one is its Identifier there,
-/// and belongs to its ticket from now on, and the words that it draws are spent. Gives the packet that
-/// is sent, and how the request then waits. Takes no memory.
+/// and belongs to its ticket from now on, the words that it draws are spent, and where the link rests,
+/// its rest is put off. Gives the packet that is sent, and how the request then waits. Takes no memory.
 pub(crate) fn send_new<A: Allocator + Copy>(
     settings: &Settings<'_>,
     numbers: &mut Numbers<A>,
@@ -215,6 +219,8 @@ pub(crate) fn send_new<A: Allocator + Copy>(
     ensures stream_position { numbers.new.stream_position
         ≡ position_after (shown_request asked.entry) numbers.old.stream_position }
     ensures sessions { numbers.new.sessions ≡ numbers.old.sessions }
+    ensures rests { numbers.new.rests.items
+        ≡ after_choice settings.now now numbers.old.rests.items link }
 {
     let Some(id) = numbers.take_next(settings, link, ticket) else {
         unreachable!();
@@ -227,6 +233,7 @@ pub(crate) fn send_new<A: Allocator + Copy>(
     let position = numbers.stream_position;
     forward_into(settings, asked, position, ticket, link, id, &mut sent);
     numbers.stream_position = position_after(asked, position);
+    numbers.put_off(settings, now, link);
     let forwarded = copied_into(kept, sent.as_slice());
     let waiting = Waiting {
         link,

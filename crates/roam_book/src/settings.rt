@@ -5,7 +5,7 @@ ghost use Rattle.roam_conf.specs.Shown.{shown};
 ghost use Rattle.roam_conf.specs.Parts.{shown_realm, shown_peer, shown_server};
 ghost use Rattle.roam_reverse.specs.Causes.{cause};
 ghost use Rattle.roam_reverse.specs.Target.{target};
-ghost use Rattle.roam_book.specs.RealmConfig.{realm_config, server_secret, peer_secret, link_secret, requester_secret, link_endpoint, link_place, link_count, nowhere, IsLink, IsRequester};
+ghost use Rattle.roam_book.specs.RealmConfig.{realm_config, server_secret, peer_secret, link_secret, requester_secret, seal_required, link_endpoint, link_place, link_count, nowhere, IsLink, IsRequester};
 
 use roam_conf::{Config, Endpoint, Link, Peer, Realm, Server};
 use roam_pending::Requester;
@@ -85,6 +85,20 @@ impl<'c> Settings<'c> {
         self.realm().hold
     }
 
+    /// The time for which a link rests that keeps silent, in milliseconds.
+    pub(crate) fn rest(&self) -> u32
+        ensures { result ≡ self.now.realm.rest }
+    {
+        self.realm().rest
+    }
+
+    /// How many requests have to be given up at a link before it rests.
+    pub(crate) fn rest_after(&self) -> u16
+        ensures { result ≡ self.now.realm.rest_after }
+    {
+        self.realm().rest_after
+    }
+
     /// How many sessions the ledger holds at most.
     pub(crate) fn max_sessions(&self) -> u32
         ensures { result ≡ self.now.realm.max_sessions }
@@ -107,10 +121,10 @@ impl<'c> Settings<'c> {
         self.realm().servers.len()
     }
 
-    /// How many peers are configured: at most 256.
+    /// How many peers are configured: at most 1,024.
     pub(crate) fn peer_count(&self) -> usize
         ensures count { result ≡ length self.now.peers }
-        ensures few { result ≤ 256 }
+        ensures few { result ≤ 1024 }
     {
         self.config.peers.len()
     }
@@ -120,6 +134,7 @@ impl<'c> Settings<'c> {
         requires { server < length self.now.realm.servers }
         ensures secret { server_secret self.now server ≡ (shown_server result.now).secret }
         ensures auth { link_endpoint self.now (Link.Auth server) ≡ result.now.auth }
+        ensures seal { seal_required self.now (Link.Auth server) ≡ result.now.require_seal }
         ensures acct { link_endpoint self.now (Link.Acct server) ≡ result.now.acct }
     {
         &self.realm().servers[usize::from(server)]
@@ -167,6 +182,17 @@ impl<'c> Settings<'c> {
         }
     }
 
+    /// Whether a reply from a link has to have a Message-Authenticator, where its code may have one.
+    pub(crate) fn seal_required(&self, link: Link) -> bool
+        requires { IsLink self.now link }
+        ensures { result ≡ seal_required self.now link }
+    {
+        match link {
+            Link::Auth(server) => self.server(server).require_seal,
+            Link::Acct(_) | Link::Coa(_) => false,
+        }
+    }
+
     /// The secret shared with the sender of a request, of 1 to 64 octets.
     pub(crate) fn secret_of_requester(&self, requester: Requester) -> &[u8]
         requires { IsRequester self.now requester }
@@ -188,16 +214,18 @@ impl<'c> Settings<'c> {
         target(self.config, request)
     }
 
-    /// Why a reverse request isn't forwarded, as an Error-Cause, if it isn't (RFC 5176, section 3.5).
+    /// Why a reverse request that names a realm, or none, isn't forwarded, as an Error-Cause, if it
+    /// isn't (RFC 5176, section 3.5).
     pub(crate) fn cause_of<A: Allocator + Copy>(
         &self,
+        named: Option<u16>,
         request: &View<'_>,
         sessions: &Sessions<A>,
     ) -> Option<u32>
-        ensures { result ≡ cause self.now.peers self.now.realm request.now.attributes
+        ensures { result ≡ cause self.now.peers self.now.index named request.now.attributes
             sessions.now.sessions }
     {
-        verdict(self.config, self.realm, request, sessions)
+        verdict(self.config, self.realm, named, request, sessions)
     }
 
     /// The endpoint of a link of the realm.
@@ -215,7 +243,7 @@ impl<'c> Settings<'c> {
     /// How many places there are for links.
     pub(crate) fn link_count(&self) -> usize
         ensures count { result ≡ link_count self.now }
-        ensures few { result ≤ 272 }
+        ensures few { result ≤ 1040 }
     {
         2 * self.server_count() + self.peer_count()
     }

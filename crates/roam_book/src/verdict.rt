@@ -1,12 +1,12 @@
 //! What comes of a reply for the entry that it is for (RFC 2865, section 2.3).
 
-ghost use Rattle.std.specs.Prelude.{◌≡◌, ◌⊎◌, ◌↔◌, ◌<◌, ◌≤◌, ◌^◌, [], IfErr, IfNone, IfOk, IsErrOf, IsOk, length};
+ghost use Rattle.std.specs.Prelude.{◌≡◌, ◌⊎◌, ◌↔◌, ℕ, ◌<◌, ◌≤◌, ◌^◌, [], true, IfErr, IfNone, IfOk, IsErrOf, IsOk, length};
 ghost use Rattle.roam_wire.specs.Reading.{packet_of};
 ghost use Rattle.roam_back.specs.ReplyCheck.{IsTaken};
 ghost use Rattle.roam_back.specs.Returned.{returned_length};
-ghost use Rattle.roam_pending.specs.PlainEntry.{PlainEntry};
+ghost use Rattle.roam_pending.specs.PlainEntry.{PlainEntry, waits_at};
 ghost use Rattle.roam_pending.specs.Shown.{shown, shown_request, shown_standing};
-ghost use Rattle.roam_book.specs.RealmConfig.{IsLink, RealmConfig, link_secret};
+ghost use Rattle.roam_book.specs.RealmConfig.{IsLink, RealmConfig, link_secret, seal_required};
 ghost use Rattle.roam_book.specs.RealmState.{RealmState};
 ghost use Rattle.roam_book.specs.Turn.{packets_of, refuses};
 ghost use Rattle.roam_book.specs.OnReply.{counted_peer, judge, reply_fault, return_reply, returned_octets, returning, to_standing};
@@ -35,7 +35,8 @@ pub(crate) struct Verdict<A: Allocator> {
 
 /// A reply that isn't taken. Takes no memory.
 fn not_taken<A: Allocator>(alloc: A, why: Refusal) -> Verdict<A>
-    ensures { (c : RealmConfig) (e : PlainEntry) → IsVerdict c result e (λ s. refuses why) }
+    ensures { (c : RealmConfig) (e : PlainEntry) (l : Link)
+        → IsVerdict c result e l (λ s. refuses why) }
 {
     Verdict {
         answer: refused(alloc, why),
@@ -45,13 +46,18 @@ fn not_taken<A: Allocator>(alloc: A, why: Refusal) -> Verdict<A>
 }
 
 /// Why a reply to a forwarded packet isn't taken, if it isn't. Takes no memory.
-fn fault_of(reply: &View<'_>, forwarded: &View<'_>, secret: &[u8]) -> Option<Refusal>
+fn fault_of(
+    reply: &View<'_>,
+    forwarded: &View<'_>,
+    secret: &[u8],
+    seal_required: bool,
+) -> Option<Refusal>
     requires at_least_one_octet { 1 ≤ length secret.now }
     requires at_most_64_octets { length secret.now ≤ 64 }
-    ensures fault { result ≡ reply_fault secret.now reply.now forwarded.now }
-    ensures taken { IfNone result (IsTaken secret.now reply.now forwarded.now) }
+    ensures fault { result ≡ reply_fault secret.now seal_required reply.now forwarded.now }
+    ensures taken { IfNone result (IsTaken secret.now seal_required reply.now forwarded.now) }
 {
-    check_reply(reply, forwarded, secret).err()
+    check_reply(reply, forwarded, secret, seal_required).err()
 }
 
 /// The packet that is returned for a reply that was taken.
@@ -67,7 +73,8 @@ fn returned_packet<A: Allocator + Copy>(
 ) -> Result<Vec<u8, A>, Refusal>
     requires request { IsRequest settings.now (shown_request request.now) }
     requires link { IsLink settings.now link }
-    requires taken { IsTaken (link_secret settings.now link) reply.now forwarded.now }
+    requires taken { IsTaken (link_secret settings.now link) (seal_required settings.now link)
+        reply.now forwarded.now }
     ensures octets { IfOk result (λ packet. packet.items
         ≡ returned_octets settings.now (shown_request request.now) link forwarded.now reply.now) }
     ensures too_long { IsErrOf result Refusal.ReplyTooLong ↔ (4096 < returned_length
@@ -116,9 +123,9 @@ fn return_packet<A: Allocator + Copy>(
     packet: Vec<u8, A>,
 ) -> Result<Verdict<A>, NoMemory>
     requires moment { now ≤ 2 ^ 62 }
-    ensures { IfOk result (λ v. (e : PlainEntry)
-        → IsVerdict settings.now v e
-        (λ s. returns_octets settings.now now key counted packet.items e s)) }
+    ensures { IfOk result (λ v. (e : PlainEntry) (l : Link)
+        → IsVerdict settings.now v e l
+        (λ s. returns_octets settings.now now key counted packet.items e l s)) }
 {
     let reply = Octets::copy_of(alloc, packet.as_slice())?;
     let deadline = now + u64::from(settings.hold());
@@ -144,8 +151,9 @@ fn return_reply<A: Allocator + Copy>(
     requires moment { now ≤ 2 ^ 62 }
     requires request { IsRequest settings.now (shown entry.now).request }
     requires link { IsLink settings.now link }
-    requires taken { IsTaken (link_secret settings.now link) reply.now forwarded.now }
-    ensures turn { IfOk result (λ v. IsVerdict settings.now v (shown entry.now)
+    requires taken { IsTaken (link_secret settings.now link) (seal_required settings.now link)
+        reply.now forwarded.now }
+    ensures turn { IfOk result (λ v. IsVerdict settings.now v (shown entry.now) link
         (λ s. return_reply settings.now now s (shown entry.now) link forwarded.now reply.now)) }
     ensures succeeds { (s : RealmState) → packets_of (return_reply settings.now now s
         (shown entry.now) link forwarded.now reply.now) ≡ [] → IsOk result }
@@ -173,19 +181,23 @@ fn judge<A: Allocator + Copy>(
     requires request { IsRequest settings.now (shown entry.now).request }
     requires waiting { IsWaiting settings.now (shown entry.now).request waiting.now.link waiting.now.id
         waiting.now.forwarded }
-    ensures turn { IfOk result (λ v. IsVerdict settings.now v (shown entry.now)
+    ensures turn { IfOk result (λ v. IsVerdict settings.now v (shown entry.now) waiting.now.link
         (λ s. judge settings.now now s (shown entry.now) waiting.now.link
         (packet_of waiting.now.forwarded) reply.now
-        (reply_fault (link_secret settings.now waiting.now.link) reply.now
+        (reply_fault (link_secret settings.now waiting.now.link)
+        (seal_required settings.now waiting.now.link) reply.now
         (packet_of waiting.now.forwarded)))) }
     ensures succeeds { (s : RealmState) → packets_of (judge settings.now now s (shown entry.now)
         waiting.now.link (packet_of waiting.now.forwarded) reply.now
-        (reply_fault (link_secret settings.now waiting.now.link) reply.now
+        (reply_fault (link_secret settings.now waiting.now.link)
+        (seal_required settings.now waiting.now.link) reply.now
         (packet_of waiting.now.forwarded))) ≡ [] → IsOk result }
 {
     let link = waiting.link;
     let forwarded = View::of_packet(waiting.forwarded.as_slice());
-    if let Some(why) = fault_of(reply, &forwarded, settings.secret_of_link(link)) {
+    let secret = settings.secret_of_link(link);
+    let seal_required = settings.seal_required(link);
+    if let Some(why) = fault_of(reply, &forwarded, secret, seal_required) {
         return Ok(not_taken(alloc, why));
     }
     return_reply(alloc, settings, now, entry, link, &forwarded, reply)
@@ -202,8 +214,10 @@ pub(crate) fn to_standing<A: Allocator + Copy>(
     requires moment { now ≤ 2 ^ 62 }
     requires request { IsRequest settings.now (shown entry.now).request }
     requires standing { StandsWell settings.now (shown entry.now).request (shown entry.now).standing }
-    ensures turn { IfOk result (λ v. IsVerdict settings.now v (shown entry.now)
-        (λ s. to_standing settings.now now s (shown entry.now) reply.now (shown entry.now).standing)) }
+    ensures turn { IfOk result (λ v. (l : Link) (i : ℕ) → waits_at l i (shown entry.now) ≡ true
+        → IsVerdict settings.now v (shown entry.now) l
+        (λ s. to_standing settings.now now s (shown entry.now) reply.now
+        (shown entry.now).standing)) }
     ensures succeeds { (s : RealmState) → packets_of (to_standing settings.now now s
         (shown entry.now) reply.now (shown entry.now).standing) ≡ [] → IsOk result }
 {

@@ -2,11 +2,13 @@
 use Rattle.std.specs.Prelude.{ℕ, Bool, List, Option}
 use Rattle.roam_conf.specs.declared.endpoint.Endpoint.{Endpoint}
 
--- a home server: where it takes Access-Requests and Accounting-Requests, and its shared secret
+-- a home server: where it takes Access-Requests and Accounting-Requests, its shared secret, and whether its
+-- answers to Access-Requests need a Message-Authenticator
 pub record ServerView : Type 0 where
   pub auth : Endpoint
   pub acct : Endpoint
   pub secret : List ℕ
+  pub require_seal : Bool
 
 -- an access server, or the proxy of a visited network
 pub record PeerView : Type 0 where
@@ -18,9 +20,16 @@ pub record PeerView : Type 0 where
   pub nas_id : Option (List ℕ)
   pub require_seal : Bool
 
+-- what else names a realm: one more whole name, all names that end in a dot and a name, or any name
+pub data PatternView : Type 0 where
+  whole : List ℕ → PatternView
+  suffix : List ℕ → PatternView
+  any : PatternView
+
 -- a realm with its own two sockets, its limits, and its servers in the order of their use
 pub record RealmView : Type 0 where
   pub name : List ℕ
+  pub also : List PatternView
   pub out : Endpoint
   pub reverse : Endpoint
   pub tries : ℕ
@@ -28,6 +37,8 @@ pub record RealmView : Type 0 where
   pub hold : ℕ
   pub max_pending : ℕ
   pub max_sessions : ℕ
+  pub rest : ℕ
+  pub rest_after : ℕ
   pub servers : List ServerView
 
 -- the whole configuration
@@ -37,5 +48,9 @@ pub record ConfigView : Type 0 where
   pub auth : Endpoint
   pub acct : Endpoint
   pub trace_limit : ℕ
+  pub trace_octets : ℕ
+  pub max_hops : Option ℕ
+  pub status_server : Bool
+  pub spread : Bool
   pub peers : List PeerView
   pub realms : List RealmView

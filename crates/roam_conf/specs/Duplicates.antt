@@ -1,9 +1,10 @@
 -- What may not stand twice in a configuration. Ours.
-use Rattle.std.specs.Prelude.{ℕ, ◌==◌, ◌&&◌, ◌||◌, Bool, false, List, [], ◌∷◌, Option, Some}
+use Rattle.std.specs.Prelude.{◌≡◌, ℕ, ◌==◌, ◌&&◌, ◌||◌, Bool, false, List, [], ◌∷◌, Option, Some}
 use Rattle.std.specs.List.{list_any, filter_map, flat_map}
-use Rattle.std.specs.Str.{bytes_eq, str_eq_ignore_ascii_case}
+use Rattle.std.specs.Str.{bytes_eq}
 use Rattle.roam_conf.specs.declared.endpoint.Endpoint.{Endpoint}
-use Rattle.roam_conf.specs.Config.{ServerView, PeerView, RealmView}
+use Rattle.roam_conf.specs.Config.{ServerView, PeerView, RealmView, ConfigView}
+use Rattle.roam_conf.specs.Patterns.{same_pattern, patterns_of}
 
 -- two elements, at different places of the list, are the same by the test
 abbrev pub has_pair : {X : Type 0} → (X → X → Bool) → List X → Bool
@@ -17,10 +18,6 @@ same_endpoint a b = bytes_eq a.ip b.ip && (a.port == b.port)
 -- the endpoint is one of these
 abbrev pub is_among : List Endpoint → Endpoint → Bool
 is_among endpoints endpoint = list_any (same_endpoint endpoint) endpoints
-
--- names that are equal without ASCII case
-abbrev pub same_realm : RealmView → RealmView → Bool
-same_realm a b = str_eq_ignore_ascii_case a.name b.name
 
 -- both are there, and equal
 abbrev pub same_if_there : Option (List ℕ) → Option (List ℕ) → Bool
@@ -49,9 +46,9 @@ abbrev pub some_server_at : List Endpoint → List ServerView → Bool
 some_server_at endpoints servers =
     list_any (λ server. is_among endpoints server.auth || is_among endpoints server.acct) servers
 
--- two realm names are equal without ASCII case
+-- two names, two suffixes or two `*` of all realms are the same
 unfoldable pub has_duplicate_realm : List RealmView → Bool
-has_duplicate_realm realms = has_pair same_realm realms
+has_duplicate_realm realms = has_pair same_pattern (flat_map patterns_of realms)
 
 -- two peers are equal in one of the four
 unfoldable pub has_duplicate_peer : List PeerView → Bool
@@ -70,3 +67,11 @@ unfoldable pub has_duplicate_link : List PeerView → List RealmView → Bool
 has_duplicate_link peers realms =
     has_pair same_endpoint (coa_endpoints peers)
     || list_any (λ realm. some_server_at (coa_endpoints peers) realm.servers) realms
+
+-- nothing stands twice that may not
+pub record IsDistinct (config : ConfigView) : Type 0 where
+  pub realms : has_duplicate_realm config.realms ≡ false
+  pub peers : has_duplicate_peer config.peers ≡ false
+  pub endpoints : has_duplicate_endpoint config.auth config.acct config.realms ≡ false
+  pub servers : has_duplicate_server config.realms ≡ false
+  pub links : has_duplicate_link config.peers config.realms ≡ false

@@ -1,8 +1,10 @@
 pub mod Config
 pub mod Duplicates
+pub mod Index
 pub mod Letters
 pub mod Lookup
 pub mod Parts
+pub mod Patterns
 pub mod Secrets
 pub mod Shown
 pub mod Texts

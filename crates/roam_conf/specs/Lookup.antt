@@ -1,21 +1,51 @@
 -- Look-ups in a configuration. Ours.
-use Rattle.std.specs.Prelude.{ℕ, ◌<◌, ◌||◌, Bool, false, List, [], length, Option, Some, None, option_map, option_and_then, slice_get}
-use Rattle.std.specs.List.{position_from}
+use Rattle.std.specs.Prelude.{◌≡◌, ◌≢◌, ℕ, ◌<◌, ◌==◌, ◌||◌, if◌then◌else◌, Bool, false, List, [], ◌∷◌, ◌++◌, length, map, Option, Some, None, option_map, option_and_then, slice_get}
+use Rattle.std.specs.List.{list_any, position_from}
 use Rattle.std.specs.Option.{option_or}
-use Rattle.std.specs.Str.{bytes_eq, str_eq_ignore_ascii_case}
+use Rattle.std.specs.Str.{bytes_eq}
 use Rattle.roam_conf.specs.declared.endpoint.Endpoint.{Endpoint}
 use Rattle.roam_conf.specs.declared.place.Link.{Link}
 use Rattle.roam_conf.specs.declared.place.Link.TheVariants.{Auth, Acct, Coa}
-use Rattle.roam_conf.specs.Config.{ServerView, PeerView, RealmView, ConfigView}
+use Rattle.roam_conf.specs.Config.{ServerView, PeerView, PatternView, whole, suffix, any, RealmView, ConfigView}
 use Rattle.roam_conf.specs.Duplicates.{same_endpoint}
+use Rattle.roam_conf.specs.Patterns.{same_pattern, patterns_of}
 
 -- the first place, from 0, at which the list has an element that passes the test
 abbrev pub first_place : {X : Type 0} → (X → Bool) → List X → Option ℕ
 first_place test xs = position_from test 0 xs
 
--- the realm whose name is this one without ASCII case, matched whole: the first, and by the invariant the only
+-- the realm that has a pattern: the first, and in a configuration the only one
+abbrev pub realm_with : List RealmView → PatternView → Option ℕ
+realm_with realms pattern = first_place (λ realm. list_any (same_pattern pattern) (patterns_of realm)) realms
+
+-- what follows each dot (46), the longest first
+abbrev pub after_dots : List ℕ → List (List ℕ)
+after_dots [] = []
+after_dots (octet ∷ rest) = if octet == 46 then rest ∷ after_dots rest else after_dots rest
+
+-- the patterns that a name fits beside its own, the nearest first: what follows its dots as a suffix, the longest
+-- first, where something stands before that dot; and any name. The empty name fits none of them.
+abbrev pub further_patterns : List ℕ → List PatternView
+further_patterns [] = []
+further_patterns (first ∷ rest) = map suffix (after_dots rest) ++ any ∷ []
+
+-- the first answer that there is
+abbrev pub first_answer : {X Y : Type 0} → (X → Option Y) → List X → Option Y
+first_answer answer [] = None
+first_answer answer (x ∷ xs) = option_or (answer x) (first_answer answer xs)
+
+-- which realm a name means: the one that has this name; else the one that has the nearest pattern that it fits
 unfoldable pub realm_named : List RealmView → List ℕ → Option ℕ
-realm_named realms name = first_place (λ realm. str_eq_ignore_ascii_case realm.name name) realms
+realm_named realms name = first_answer (realm_with realms) (whole name ∷ further_patterns name)
+
+-- the name ends in a dot and this suffix, and has at least one octet before that
+abbrev pub EndsIn : List ℕ → List ℕ → Type 0
+EndsIn name ending = (front : List ℕ) × (front ≢ []) × (name ≡ front ++ 46 ∷ ending)
+
+-- no realm has a suffix that the name ends in and that passes the test
+abbrev pub NoSuffix : (List ℕ → Type 0) → List RealmView → List ℕ → Type 0
+NoSuffix Test realms name =
+    (ending : List ℕ) → EndsIn name ending → Test ending → realm_with realms (suffix ending) ≡ None
 
 -- the peer with this address
 unfoldable pub peer_with_ip : List PeerView → List ℕ → Option ℕ

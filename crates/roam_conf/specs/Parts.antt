@@ -4,9 +4,15 @@ use Rattle.roam_conf.specs.declared.peer.Peer.{Peer}
 use Rattle.roam_conf.specs.declared.realm.Realm.{Realm}
 use Rattle.roam_conf.specs.declared.server.Server.{Server}
 use Rattle.roam_conf.specs.Config.{ServerView, PeerView, RealmView}
+use Rattle.roam_conf.specs.Patterns.{shown_pattern}
 
 abbrev pub shown_server : Server → ServerView
-shown_server server = record { auth = server.auth; acct = server.acct; secret = string_bytes server.secret }
+shown_server server = record {
+  auth = server.auth;
+  acct = server.acct;
+  secret = string_bytes server.secret;
+  require_seal = server.require_seal;
+}
 
 abbrev pub shown_peer : Peer → PeerView
 shown_peer peer = record {
@@ -22,6 +28,7 @@ shown_peer peer = record {
 abbrev pub shown_realm : Realm → RealmView
 shown_realm realm = record {
   name = string_bytes realm.name;
+  also = map shown_pattern realm.also.items;
   out = realm.out;
   reverse = realm.reverse;
   tries = realm.tries;
@@ -29,5 +36,7 @@ shown_realm realm = record {
   hold = realm.hold;
   max_pending = realm.max_pending;
   max_sessions = realm.max_sessions;
+  rest = realm.rest;
+  rest_after = realm.rest_after;
   servers = map shown_server realm.servers.items;
 }

@@ -1,10 +1,15 @@
 //! The configuration of the broker.
 
-ghost use Rattle.std.specs.Prelude.{◌≡◌, ◌≤◌, false, map, vec_len};
+ghost use Rattle.std.specs.Prelude.{◌≡◌, ℕ, List, ◌≤◌, false, map, vec_len};
+ghost use Rattle.std.specs.Option.{ForSome};
 ghost use Rattle.roam_conf.specs.Duplicates.{has_duplicate_realm, has_duplicate_peer, has_duplicate_endpoint, has_duplicate_server, has_duplicate_link};
+ghost use Rattle.roam_conf.specs.Index.{owners, owner_of, all_patterns};
+ghost use Rattle.roam_conf.specs.Lookup.{peer_with_ip};
 ghost use Rattle.roam_conf.specs.Parts.{shown_peer, shown_realm};
 
-use crate::{Endpoint, Peer, Realm};
+use crate::indexes::Indexes;
+use crate::{ConfigParts, Endpoint, Peer, Realm};
+use std::alloc::{AllocError, Global};
 
 /// An accepted configuration: each value is in its range, and nothing stands twice that may not.
 ///
@@ -22,18 +27,75 @@ pub struct Config {
     pub acct: Endpoint,
     /// How many steps a shard's trace holds: 1 to 1000000.
     pub trace_limit: u32,
-    /// 1 to 256 peers.
+    /// How many octets of datagrams and packets a shard's trace holds: 1 to 1073741824.
+    pub trace_octets: u32,
+    /// How many attributes Proxy-State (type 33) a request may have, where that is limited: 1 to 100.
+    pub max_hops: Option<u8>,
+    /// Whether Status-Server (RFC 5997) is answered.
+    pub status_server: bool,
+    /// Whether each worker has an `auth` and an `acct` socket of its own.
+    pub spread: bool,
+    /// 1 to 1024 peers.
     pub peers: Vec<Peer>,
-    /// 1 to 256 realms.
+    /// 1 to 1024 realms.
     pub realms: Vec<Realm>,
+    /// What the look-ups find by.
+    pub(crate) found_by: Indexes,
     ghost shards_range: { (1 ≤ shards) × (shards ≤ 64) },
     ghost ports: { (1 ≤ auth.port) × (1 ≤ acct.port) },
     ghost trace_limit_range: { (1 ≤ trace_limit) × (trace_limit ≤ 1000000) },
-    ghost peer_count: { (1 ≤ vec_len peers) × (vec_len peers ≤ 256) },
-    ghost realm_count: { (1 ≤ vec_len realms) × (vec_len realms ≤ 256) },
+    ghost trace_octets_range: { (1 ≤ trace_octets) × (trace_octets ≤ 1073741824) },
+    ghost max_hops_range: { ForSome max_hops (λ n. (1 ≤ n) × (n ≤ 100)) },
+    ghost peer_count: { (1 ≤ vec_len peers) × (vec_len peers ≤ 1024) },
+    ghost realm_count: { (1 ≤ vec_len realms) × (vec_len realms ≤ 1024) },
+    ghost names_noted: { owners found_by.names ≡ all_patterns 0 (map shown_realm realms.items) },
+    ghost ips_noted: { (ip : List ℕ)
+        → owner_of (owners found_by.ips) ip ≡ peer_with_ip (map shown_peer peers.items) ip },
     ghost distinct_realms: { has_duplicate_realm (map shown_realm realms.items) ≡ false },
     ghost distinct_peers: { has_duplicate_peer (map shown_peer peers.items) ≡ false },
     ghost distinct_endpoints: { has_duplicate_endpoint auth acct (map shown_realm realms.items) ≡ false },
     ghost distinct_servers: { has_duplicate_server (map shown_realm realms.items) ≡ false },
     ghost distinct_links: { has_duplicate_link (map shown_peer peers.items) (map shown_realm realms.items) ≡ false },
+}
+
+impl Config {
+    ghost use Rattle.std.specs.Prelude.{IfOk};
+    ghost use Rattle.roam_conf.specs.Duplicates.{IsDistinct};
+    ghost use Rattle.roam_conf.specs.Shown.{shown, shown_parts};
+
+    /// The configuration of these parts, in which nothing stands twice that may not. An error says only
+    /// that memory was refused.
+    pub fn new(alloc: Global, parts: ConfigParts) -> Result<Config, AllocError>
+        requires { IsDistinct (shown_parts parts) }
+        ensures { IfOk result (λ config. shown config ≡ shown_parts parts) }
+    {
+        let ConfigParts {
+            shards,
+            seed,
+            auth,
+            acct,
+            trace_limit,
+            trace_octets,
+            max_hops,
+            status_server,
+            spread,
+            peers,
+            realms,
+        } = parts;
+        let found_by = Indexes::new(alloc, peers.as_slice(), realms.as_slice())?;
+        Ok(Config {
+            shards,
+            seed,
+            auth,
+            acct,
+            trace_limit,
+            trace_octets,
+            max_hops,
+            status_server,
+            spread,
+            peers,
+            realms,
+            found_by,
+        })
+    }
 }

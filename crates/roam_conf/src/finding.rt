@@ -2,39 +2,11 @@
 
 ghost use Rattle.std.specs.Prelude.{◌≡◌, ◌<◌, ◌^◌, IfSome, length, map, option_map};
 ghost use Rattle.roam_conf.specs.Duplicates.{same_endpoint};
-ghost use Rattle.roam_conf.specs.Lookup.{realm_named, peer_with_ip, server_with_ip, first_place, is_there, is_coa};
-ghost use Rattle.roam_conf.specs.Parts.{shown_server, shown_peer, shown_realm};
+ghost use Rattle.roam_conf.specs.Lookup.{server_with_ip, first_place, is_there, is_coa};
+ghost use Rattle.roam_conf.specs.Parts.{shown_server, shown_peer};
 
-use crate::sameness::{is_same_endpoint, is_same_name};
-use crate::{Endpoint, Link, Peer, Realm, Server};
-
-/// The first realm of the name, without ASCII case.
-#[tactic(auto, unfolding(crate::specs::Lookup::realm_named))]
-pub(crate) fn realm_named(realms: &[Realm], name: &[u8]) -> Option<usize>
-    ensures value { result ≡ realm_named (map shown_realm realms.now) name.now }
-    ensures bound { IfSome result (λ i. i < length realms.now) }
-{
-    for (i, realm) in realms.iter().enumerate() {
-        if is_same_name(realm.name.as_bytes(), name) {
-            return Some(i);
-        }
-    }
-    None
-}
-
-/// The first peer of the address.
-#[tactic(auto, unfolding(crate::specs::Lookup::peer_with_ip))]
-pub(crate) fn peer_with_ip(peers: &[Peer], ip: [u8; 4]) -> Option<usize>
-    ensures value { result ≡ peer_with_ip (map shown_peer peers.now) ip }
-    ensures bound { IfSome result (λ i. i < length peers.now) }
-{
-    for (i, peer) in peers.iter().enumerate() {
-        if peer.ip == ip {
-            return Some(i);
-        }
-    }
-    None
-}
+use crate::sameness::is_same_endpoint;
+use crate::{Endpoint, Link, Peer, Server};
 
 /// The first server that has the address in one of its endpoints.
 #[tactic(auto, unfolding(crate::specs::Lookup::server_with_ip))]

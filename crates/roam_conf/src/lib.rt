@@ -7,8 +7,13 @@ mod config;
 mod endpoint;
 mod equality;
 mod finding;
+mod index;
+mod indexes;
 mod laws;
 mod lookup;
+mod names;
+mod parts;
+mod pattern;
 mod peer;
 mod place;
 mod realm;
@@ -18,7 +23,13 @@ mod texts;
 
 pub use config::Config;
 pub use endpoint::Endpoint;
-pub use laws::{link_of_finds_each_link, link_of_finds_its_endpoint};
+pub use indexes::has_duplicate_realm;
+pub use laws::{
+    any_name_comes_last, link_of_finds_each_link, link_of_finds_its_endpoint,
+    longest_suffix_comes_next, names_alone_are_matched_whole, whole_name_comes_first,
+};
+pub use parts::ConfigParts;
+pub use pattern::RealmPattern;
 pub use peer::Peer;
 pub use place::{Link, Place};
 pub use realm::Realm;

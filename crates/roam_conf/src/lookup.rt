@@ -1,5 +1,9 @@
 //! Look-ups in a configuration. None of them takes memory.
 
+ghost use Rattle.std.specs.Prelude.{◌≡◌, ◌≤◌, length, drop};
+
+use crate::index::owner_of;
+use crate::names::{PatternRef, kind_and_name, realm_of};
 use crate::{Config, Endpoint, Link, Peer, Realm, finding};
 
 impl Realm {
@@ -10,7 +14,7 @@ impl Realm {
     /// The link that the endpoint is, of this realm among these peers.
     #[tactic(auto, unfolding(crate::specs::Lookup::link_at))]
     fn link_at(&self, peers: &[Peer], endpoint: Endpoint) -> Option<Link>
-        requires { length peers.now ≤ 256 }
+        requires { length peers.now ≤ 1024 }
         ensures { result ≡ link_at (map shown_peer peers.now) (shown_realm self.now) endpoint }
     {
         match finding::auth_at(self.servers.as_slice(), endpoint) {
@@ -21,7 +25,7 @@ impl Realm {
 
     /// The same where the endpoint is no server's `auth`.
     fn acct_or_coa_at(&self, peers: &[Peer], endpoint: Endpoint) -> Option<Link>
-        requires { length peers.now ≤ 256 }
+        requires { length peers.now ≤ 1024 }
         ensures { result ≡ acct_or_coa_at (map shown_peer peers.now) (shown_realm self.now) endpoint }
     {
         match finding::acct_at(self.servers.as_slice(), endpoint) {
@@ -41,19 +45,71 @@ impl Realm {
     }
 }
 
+/// The octets from a place on.
+fn from_place(octets: &[u8], place: usize) -> &[u8]
+    requires { place ≤ length octets.now }
+    ensures { result.now ≡ drop place octets.now }
+{
+    octets.split_at(place).1
+}
+
 impl Config {
     ghost use Rattle.std.specs.Prelude.{◌≡◌, ◌%◌, ◌<◌, IfSome, length, vec_len};
-    ghost use Rattle.roam_conf.specs.Lookup.{realm_named, peer_with_ip, link_in, home_in, servers_in, IsLinkIn};
+    ghost use Rattle.roam_conf.specs.Config.{suffix};
+    ghost use Rattle.roam_conf.specs.Index.{pattern_seen};
+    ghost use Rattle.roam_conf.specs.Lookup.{realm_named, realm_with, after_dots, further_patterns, first_answer, peer_with_ip, link_in, home_in, servers_in, IsLinkIn};
     ghost use Rattle.roam_conf.specs.Shown.{shown};
 
-    /// The index of the realm of the name, compared without ASCII case and matched whole.
+    /// The realm that has a pattern; none has a name of more than 253 octets in it.
+    fn realm_with(&self, pattern: PatternRef<'_>) -> Option<u16>
+        ensures { result ≡ realm_with (shown self.now).realms (pattern_seen pattern.entry) }
+    {
+        let (kind, name) = kind_and_name(pattern);
+        if name.len() > 253 {
+            return None;
+        }
+        realm_of(&self.found_by.names, kind, name)
+    }
+
+    /// The realm of the longest suffix that follows one of the dots.
+    fn realm_with_suffix(&self, rest: &[u8]) -> Option<u16>
+        ensures { result ≡ first_answer (λ name. realm_with (shown self.now).realms (suffix name))
+            (after_dots rest.now) }
+    {
+        for i in 0..rest.len() {
+            if rest[i] == b'.' {
+                if let Some(realm) = self.realm_with(PatternRef::Suffix(from_place(rest, i + 1))) {
+                    return Some(realm);
+                }
+            }
+        }
+        None
+    }
+
+    /// The realm of a pattern that a name fits, where no realm has the name itself.
+    fn realm_with_pattern(&self, name: &[u8]) -> Option<u16>
+        ensures { result ≡ first_answer (realm_with (shown self.now).realms)
+            (further_patterns name.now) }
+    {
+        if name.is_empty() {
+            return None;
+        }
+        match self.realm_with_suffix(from_place(name, 1)) {
+            Some(realm) => Some(realm),
+            None => self.realm_with(PatternRef::Any),
+        }
+    }
+
+    /// The index of the realm that a name means, without ASCII case: the one that has this name, else the
+    /// one that has the longest suffix `*.` and a name which it fits, else the one that has `*`.
+    #[tactic(auto, unfolding(crate::specs::Lookup::realm_named))]
     pub fn realm_index(&self, name: &[u8]) -> Option<u16>
         ensures value { result ≡ realm_named (shown self.now).realms name.now }
         ensures bound { IfSome result (λ r. r < vec_len self.now.realms) }
     {
-        match finding::realm_named(self.realms.as_slice(), name) {
-            Some(realm) => Some(realm as u16),
-            None => None,
+        match self.realm_with(PatternRef::Name(name)) {
+            Some(realm) => Some(realm),
+            None => self.realm_with_pattern(name),
         }
     }
 
@@ -62,10 +118,7 @@ impl Config {
         ensures value { result ≡ peer_with_ip (shown self.now).peers ip }
         ensures bound { IfSome result (λ p. p < vec_len self.now.peers) }
     {
-        match finding::peer_with_ip(self.peers.as_slice(), ip) {
-            Some(peer) => Some(peer as u16),
-            None => None,
-        }
+        owner_of(&self.found_by.ips, &ip)
     }
 
     /// The link of a realm that the endpoint is; `None` also where the realm isn't configured.

@@ -1,16 +1,19 @@
 //! A realm: its sockets, its limits and its home servers.
 
-ghost use Rattle.std.specs.Prelude.{◌≤◌, length, string_bytes, vec_len, ◌≡◌, true};
+ghost use Rattle.std.specs.Prelude.{◌≤◌, length, map, string_bytes, vec_len, ◌≡◌, true};
 ghost use Rattle.std.specs.List.{list_all};
 ghost use Rattle.roam_conf.specs.Letters.{is_realm_letter};
+ghost use Rattle.roam_conf.specs.Patterns.{is_pattern, shown_pattern};
 
-use crate::{Endpoint, Server};
+use crate::{Endpoint, RealmPattern, Server};
 
 /// A realm: its home servers, and the two sockets that the broker keeps for it.
 #[derive(Drop, PartialEq, Eq)]
 pub struct Realm {
     /// 1 to 253 ASCII letters, digits, `.` and `-`.
     pub name: String,
+    /// What names the realm besides: at most 256 patterns.
+    pub also: Vec<RealmPattern>,
     /// The broker's socket from which the realm's packets are forwarded; its port isn't 0.
     pub out: Endpoint,
     /// The broker's socket that takes the realm's reverse requests (RFC 5176); its port isn't 0.
@@ -25,15 +28,24 @@ pub struct Realm {
     pub max_pending: u16,
     /// How many sessions are remembered: at most 65536.
     pub max_sessions: u32,
+    /// For how long a server that was silent isn't asked while another can be, in milliseconds: at most
+    /// 3600000; 0 where no server rests.
+    pub rest: u32,
+    /// After how many requests in a row that a server left without an answer it rests: 1 to 256.
+    pub rest_after: u16,
     /// The home servers in the order of their use: 1 to 8.
     pub servers: Vec<Server>,
     ghost name_length: { (1 ≤ length (string_bytes name)) × (length (string_bytes name) ≤ 253) },
     ghost name_letters: { list_all is_realm_letter (string_bytes name) ≡ true },
+    ghost also_count: { vec_len also ≤ 256 },
+    ghost also_names: { list_all is_pattern (map shown_pattern also.items) ≡ true },
     ghost ports: { (1 ≤ out.port) × (1 ≤ reverse.port) },
     ghost tries_range: { (1 ≤ tries) × (tries ≤ 10) },
     ghost wait_range: { (1 ≤ wait) × (wait ≤ 60000) },
     ghost hold_range: { hold ≤ 60000 },
     ghost max_pending_range: { (1 ≤ max_pending) × (max_pending ≤ 4096) },
     ghost max_sessions_range: { max_sessions ≤ 65536 },
+    ghost rest_range: { rest ≤ 3600000 },
+    ghost rest_after_range: { (1 ≤ rest_after) × (rest_after ≤ 256) },
     ghost server_count: { (1 ≤ vec_len servers) × (vec_len servers ≤ 8) },
 }

@@ -13,6 +13,8 @@ pub struct Server {
     pub acct: Endpoint,
     /// The shared secret: 1 to 64 octets.
     pub secret: String,
+    /// Whether each Access-Accept, -Reject and -Challenge of the server needs a Message-Authenticator.
+    pub require_seal: bool,
     ghost secret_length: { (1 ≤ length (string_bytes secret)) × (length (string_bytes secret) ≤ 64) },
     ghost ports: { (1 ≤ auth.port) × (1 ≤ acct.port) },
 }

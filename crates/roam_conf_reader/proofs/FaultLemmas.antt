@@ -7,6 +7,7 @@ use Rattle.toml.specs.Parse.{parse_document}
 use Rattle.roam_conf_reader.specs.declared.fault.ConfFault.{ConfFault}
 use Rattle.roam_conf_reader.specs.declared.fault.ConfFault.TheVariants.{DuplicateRealm, DuplicatePeer, DuplicateEndpoint, DuplicateServer, DuplicateLink}
 use Rattle.roam_conf.specs.Config.{ConfigView}
+use Rattle.roam_conf.specs.Duplicates.{IsDistinct}
 use Rattle.roam_conf_reader.specs.Document.{StatesConfig, document_misses}
 use Rattle.roam_conf_reader.specs.Faults.{first_duplicate, Misses, StatesNone, StatesDuplicate, has_duplicate, NoneHolds, IsFirstFault, every_fault}
 use Rattle.roam_conf_reader.proofs.UniqueLemmas.{config_unique}
@@ -46,7 +47,7 @@ first_of false false false true e = Some DuplicateServer
 first_of false false false false true = Some DuplicateLink
 first_of false false false false false = None
 
-first_of_config : (config : ConfigView) → first_duplicate config.auth config.acct config.peers config.realms ≡ first_of (has_duplicate DuplicateRealm config) (has_duplicate DuplicatePeer config) (has_duplicate DuplicateEndpoint config) (has_duplicate DuplicateServer config) (has_duplicate DuplicateLink config)
+first_of_config : (config : ConfigView) → first_duplicate config ≡ first_of (has_duplicate DuplicateRealm config) (has_duplicate DuplicatePeer config) (has_duplicate DuplicateEndpoint config) (has_duplicate DuplicateServer config) (has_duplicate DuplicateLink config)
 unfolding first_duplicate
 first_of_config config = by_cases _ _ _ _ _
   where
@@ -128,7 +129,7 @@ first_fault_at text ms config fault reads false false false false true tests is 
 first_fault_at text ms config fault reads false false false false false tests is = cc
 
 -- a text with duplicates has the first of them as its first fault
-pub first_fault : (text : List ℕ) (members : Members) (config : ConfigView) (fault : ConfFault) → Reads text members config → first_duplicate config.auth config.acct config.peers config.realms ≡ Some fault → IsFirstFault text fault
+pub first_fault : (text : List ℕ) (members : Members) (config : ConfigView) (fault : ConfFault) → Reads text members config → first_duplicate config ≡ Some fault → IsFirstFault text fault
 first_fault text ms config fault reads is =
     first_fault_at text ms config fault reads _ _ _ _ _ (record { realm = refl; peer = refl; endpoint = refl; server = refl; link = refl }) (sym (first_of_config config) ∙ is)
 
@@ -141,20 +142,13 @@ none_of false false false false true is = cc
 none_of false false false false false is = (refl, (refl, (refl, (refl, refl))))
 
 -- a configuration without a first duplicate has none of the five
-pub record Distinct (config : ConfigView) : Type 0 where
-  pub realms : has_duplicate DuplicateRealm config ≡ false
-  pub peers : has_duplicate DuplicatePeer config ≡ false
-  pub endpoints : has_duplicate DuplicateEndpoint config ≡ false
-  pub servers : has_duplicate DuplicateServer config ≡ false
-  pub links : has_duplicate DuplicateLink config ≡ false
-
-pub all_distinct : (config : ConfigView) → first_duplicate config.auth config.acct config.peers config.realms ≡ None → Distinct config
+pub all_distinct : (config : ConfigView) → first_duplicate config ≡ None → IsDistinct config
 all_distinct config is =
     let none = none_of _ _ _ _ _ (sym (first_of_config config) ∙ is) in
     record { realms = none.0; peers = none.1.0; endpoints = none.1.1.0; servers = none.1.1.1.0; links = none.1.1.1.1 }
 
 -- no fault holds in a text whose configuration has no duplicates
-pub none_holds : (text : List ℕ) (members : Members) (config : ConfigView) → Reads text members config → Distinct config → NoneHolds text every_fault
+pub none_holds : (text : List ℕ) (members : Members) (config : ConfigView) → Reads text members config → IsDistinct config → NoneHolds text every_fault
 none_holds text ms config reads distinct = (
   not_syntax text ms reads.parsed,
   (

@@ -10,7 +10,7 @@ use Rattle.toml.specs.Data.{Data, string, integer, array, table, Items, no_items
 use Rattle.roam_conf.specs.declared.endpoint.Endpoint.{Endpoint}
 use Rattle.roam_conf.proofs.TextLemmas.{endpoint_in-port}
 use Rattle.roam_conf_reader.specs.Document.{StatesEach}
-use Rattle.roam_conf_reader.specs.Values.{number, text, text_fits, endpoint, array_of, item_count, value_at, optional_at, if_there}
+use Rattle.roam_conf_reader.specs.Values.{number, number_or, text, text_fits, endpoint, array_of, item_count, value_at, optional_at, if_there}
 
 -- a text of 1 to `most` octets, all of them letters
 pub record IsInRange (most : ℕ) (letters : ℕ → Bool) (octets : List ℕ) : Type 0 where
@@ -109,3 +109,18 @@ each_range States shown most key members items values is stated =
     let same : length (map shown values) ≡ item_count items = each_count States items (map shown values) stated in
     let whole : length (map shown values) ≡ length values = length-map values shown in
     (omega arith, omega arith)
+
+-- a number that may be absent
+number_or_range : (default least most : ℕ) (found : Option Data) (n : ℕ) → least ≤ default → default ≤ most → number_or default least most found ≡ Some n → (least ≤ n) × (n ≤ most)
+unfolding number_or
+number_or_range default least most None n low high is =
+    let same : default ≡ n = same_Some default n is in
+    (omega arith, omega arith)
+number_or_range default least most (Some value) n low high is = number_range least most value n is
+
+pub number_or_at : (default least most : ℕ) (key : List ℕ) (members : Members) (n : ℕ) → least ≤ default → default ≤ most → number_or default least most (get_member key members) ≡ Some n → (least ≤ n) × (n ≤ most)
+number_or_at default least most key members n low high is = number_or_range default least most (get_member key members) n low high is
+
+pub optional_number_at : (least most : ℕ) (key : List ℕ) (members : Members) (o : Option ℕ) → optional_at (number least most) key members ≡ Some o → (n : ℕ) → o ≡ Some n → (least ≤ n) × (n ≤ most)
+optional_number_at least most key members o is n there =
+    optional_range (number least most) (λ x. (least ≤ x) × (x ≤ most)) (number_range least most) (get_member key members) o is n there

@@ -30,7 +30,8 @@ server_unique ms a b p q =
     let auth = same_value _ a.auth b.auth p.auth q.auth in
     let acct = same_value _ a.acct b.acct p.acct q.acct in
     let secret = same_value _ a.secret b.secret p.secret q.secret in
-    λ i. record { auth = auth i; acct = acct i; secret = secret i }
+    let require_seal = same_value _ a.require_seal b.require_seal p.require_seal q.require_seal in
+    λ i. record { auth = auth i; acct = acct i; secret = secret i; require_seal = require_seal i }
 
 pub peer_unique : (members : Members) (a b : PeerView) → StatesPeer members a → StatesPeer members b → a ≡ b
 peer_unique ms a b p q =
@@ -54,6 +55,7 @@ peer_unique ms a b p q =
 pub realm_unique : (members : Members) (a b : RealmView) → StatesRealm members a → StatesRealm members b → a ≡ b
 realm_unique ms a b p q =
     let name = same_value _ a.name b.name p.name q.name in
+    let also = same_value _ a.also b.also p.also q.also in
     let out = same_value _ a.out b.out p.out q.out in
     let reverse = same_value _ a.reverse b.reverse p.reverse q.reverse in
     let tries = same_value _ a.tries b.tries p.tries q.tries in
@@ -61,9 +63,12 @@ realm_unique ms a b p q =
     let hold = same_value _ a.hold b.hold p.hold q.hold in
     let max_pending = same_value _ a.max_pending b.max_pending p.max_pending q.max_pending in
     let max_sessions = same_value _ a.max_sessions b.max_sessions p.max_sessions q.max_sessions in
+    let rest = same_value _ a.rest b.rest p.rest q.rest in
+    let rest_after = same_value _ a.rest_after b.rest_after p.rest_after q.rest_after in
     let servers = tables_unique StatesServer server_unique _ a.servers b.servers p.servers q.servers in
     λ i. record {
       name = name i;
+      also = also i;
       out = out i;
       reverse = reverse i;
       tries = tries i;
@@ -71,6 +76,8 @@ realm_unique ms a b p q =
       hold = hold i;
       max_pending = max_pending i;
       max_sessions = max_sessions i;
+      rest = rest i;
+      rest_after = rest_after i;
       servers = servers i;
     }
 
@@ -81,6 +88,10 @@ config_unique ms a b p q =
     let auth = same_value _ a.auth b.auth p.auth q.auth in
     let acct = same_value _ a.acct b.acct p.acct q.acct in
     let trace_limit = same_value _ a.trace_limit b.trace_limit p.trace_limit q.trace_limit in
+    let trace_octets = same_value _ a.trace_octets b.trace_octets p.trace_octets q.trace_octets in
+    let max_hops = same_value _ a.max_hops b.max_hops p.max_hops q.max_hops in
+    let status_server = same_value _ a.status_server b.status_server p.status_server q.status_server in
+    let spread = same_value _ a.spread b.spread p.spread q.spread in
     let peers = tables_unique StatesPeer peer_unique _ a.peers b.peers p.peers q.peers in
     let realms = tables_unique StatesRealm realm_unique _ a.realms b.realms p.realms q.realms in
     λ i. record {
@@ -89,6 +100,10 @@ config_unique ms a b p q =
       auth = auth i;
       acct = acct i;
       trace_limit = trace_limit i;
+      trace_octets = trace_octets i;
+      max_hops = max_hops i;
+      status_server = status_server i;
+      spread = spread i;
       peers = peers i;
       realms = realms i;
     }

@@ -5,7 +5,7 @@ use Rattle.std.specs.Str.{bytes_eq}
 use Rattle.toml.specs.Data.{Data, array, table, Items, no_items, item, Members, no_members, member, get_member}
 use Rattle.roam_conf_reader.specs.declared.values.Letters.TheVariants.{Any, PeerName, RealmName}
 use Rattle.roam_conf.specs.Config.{ServerView, PeerView, RealmView, ConfigView}
-use Rattle.roam_conf_reader.specs.Values.{number, letters_of, text, address, endpoint, seed, flag, array_of, value_at, optional_at}
+use Rattle.roam_conf_reader.specs.Values.{number, letters_of, text, address, endpoint, seed, flag, number_or, patterns, array_of, value_at, optional_at}
 
 -- the required keys of the four tables
 abbrev pub server_required : List (List ℕ)
@@ -24,9 +24,18 @@ top_required =
     codes "shards" ∷ codes "seed" ∷ codes "auth" ∷ codes "acct" ∷ codes "trace_limit"
     ∷ codes "peer" ∷ codes "realm" ∷ []
 
--- the keys that a peer's table may have besides; the other tables have required keys only
+-- the keys that the four may have besides
+abbrev pub server_optional : List (List ℕ)
+server_optional = codes "require_seal" ∷ []
+
 abbrev pub peer_optional : List (List ℕ)
 peer_optional = codes "coa" ∷ codes "nas_ip" ∷ codes "nas_id" ∷ codes "require_seal" ∷ []
+
+abbrev pub realm_optional : List (List ℕ)
+realm_optional = codes "also" ∷ codes "rest" ∷ codes "rest_after" ∷ []
+
+abbrev pub top_optional : List (List ℕ)
+top_optional = codes "max_hops" ∷ codes "status_server" ∷ codes "trace_octets" ∷ codes "spread" ∷ []
 
 -- the key is one of these
 abbrev pub is_one_of : List (List ℕ) → List ℕ → Bool
@@ -54,7 +63,8 @@ pub record StatesServer (members : Members) (server : ServerView) : Type 0 where
   pub auth : value_at endpoint (codes "auth") members ≡ Some server.auth
   pub acct : value_at endpoint (codes "acct") members ≡ Some server.acct
   pub secret : value_at (text 64 (letters_of Any)) (codes "secret") members ≡ Some server.secret
-  pub no_other_key : has_only server_required [] members ≡ true
+  pub require_seal : flag (get_member (codes "require_seal") members) ≡ Some server.require_seal
+  pub no_other_key : has_only server_required server_optional members ≡ true
 
 -- a table of the array `peer`
 pub record StatesPeer (members : Members) (peer : PeerView) : Type 0 where
@@ -67,9 +77,10 @@ pub record StatesPeer (members : Members) (peer : PeerView) : Type 0 where
   pub require_seal : flag (get_member (codes "require_seal") members) ≡ Some peer.require_seal
   pub no_other_key : has_only peer_required peer_optional members ≡ true
 
--- a table of the array `realm`; `wait` and `hold` are in milliseconds
+-- a table of the array `realm`; `wait`, `hold` and `rest` are in milliseconds
 pub record StatesRealm (members : Members) (realm : RealmView) : Type 0 where
   pub name : value_at (text 253 (letters_of RealmName)) (codes "name") members ≡ Some realm.name
+  pub also : patterns (get_member (codes "also") members) ≡ Some realm.also
   pub out : value_at endpoint (codes "out") members ≡ Some realm.out
   pub reverse : value_at endpoint (codes "reverse") members ≡ Some realm.reverse
   pub tries : value_at (number 1 10) (codes "tries") members ≡ Some realm.tries
@@ -77,8 +88,10 @@ pub record StatesRealm (members : Members) (realm : RealmView) : Type 0 where
   pub hold : value_at (number 0 60000) (codes "hold") members ≡ Some realm.hold
   pub max_pending : value_at (number 1 4096) (codes "max_pending") members ≡ Some realm.max_pending
   pub max_sessions : value_at (number 0 65536) (codes "max_sessions") members ≡ Some realm.max_sessions
+  pub rest : number_or 0 0 3600000 (get_member (codes "rest") members) ≡ Some realm.rest
+  pub rest_after : number_or 1 1 256 (get_member (codes "rest_after") members) ≡ Some realm.rest_after
   pub servers : StatesTables StatesServer (value_at (array_of 8) (codes "server") members) realm.servers
-  pub no_other_key : has_only realm_required [] members ≡ true
+  pub no_other_key : has_only realm_required realm_optional members ≡ true
 
 -- the whole document
 pub record StatesConfig (members : Members) (config : ConfigView) : Type 0 where
@@ -87,9 +100,14 @@ pub record StatesConfig (members : Members) (config : ConfigView) : Type 0 where
   pub auth : value_at endpoint (codes "auth") members ≡ Some config.auth
   pub acct : value_at endpoint (codes "acct") members ≡ Some config.acct
   pub trace_limit : value_at (number 1 1000000) (codes "trace_limit") members ≡ Some config.trace_limit
-  pub peers : StatesTables StatesPeer (value_at (array_of 256) (codes "peer") members) config.peers
-  pub realms : StatesTables StatesRealm (value_at (array_of 256) (codes "realm") members) config.realms
-  pub no_other_key : has_only top_required [] members ≡ true
+  pub trace_octets :
+      number_or 67108864 1 1073741824 (get_member (codes "trace_octets") members) ≡ Some config.trace_octets
+  pub max_hops : optional_at (number 1 100) (codes "max_hops") members ≡ Some config.max_hops
+  pub status_server : flag (get_member (codes "status_server") members) ≡ Some config.status_server
+  pub spread : flag (get_member (codes "spread") members) ≡ Some config.spread
+  pub peers : StatesTables StatesPeer (value_at (array_of 1024) (codes "peer") members) config.peers
+  pub realms : StatesTables StatesRealm (value_at (array_of 1024) (codes "realm") members) config.realms
+  pub no_other_key : has_only top_required top_optional members ≡ true
 
 -- each of the keys stands in the table
 abbrev pub has_all : List (List ℕ) → Members → Bool

@@ -5,8 +5,7 @@ use Rattle.toml.specs.Data.{Members}
 use Rattle.toml.specs.Parse.{parse_document}
 use Rattle.roam_conf_reader.specs.declared.fault.ConfFault.{ConfFault}
 use Rattle.roam_conf_reader.specs.declared.fault.ConfFault.TheVariants.{Syntax, Missing, BadValue, DuplicateRealm, DuplicatePeer, DuplicateEndpoint, DuplicateServer, DuplicateLink, Memory}
-use Rattle.roam_conf.specs.declared.endpoint.Endpoint.{Endpoint}
-use Rattle.roam_conf.specs.Config.{PeerView, RealmView, ConfigView}
+use Rattle.roam_conf.specs.Config.{ConfigView}
 use Rattle.roam_conf_reader.specs.Document.{StatesConfig, document_misses}
 use Rattle.roam_conf.specs.Duplicates.{has_duplicate_realm, has_duplicate_peer, has_duplicate_endpoint, has_duplicate_server, has_duplicate_link}
 
@@ -85,11 +84,11 @@ pub record IsFirstFault (text : List ℕ) (fault : ConfFault) : Type 0 where
   pub none_before : NoneHolds text (earlier fault)
 
 -- the first of the five that is there
-unfoldable pub first_duplicate : Endpoint → Endpoint → List PeerView → List RealmView → Option ConfFault
-first_duplicate auth acct peers realms =
-    if has_duplicate_realm realms then Some DuplicateRealm
-    else if has_duplicate_peer peers then Some DuplicatePeer
-    else if has_duplicate_endpoint auth acct realms then Some DuplicateEndpoint
-    else if has_duplicate_server realms then Some DuplicateServer
-    else if has_duplicate_link peers realms then Some DuplicateLink
+unfoldable pub first_duplicate : ConfigView → Option ConfFault
+first_duplicate config =
+    if has_duplicate DuplicateRealm config then Some DuplicateRealm
+    else if has_duplicate DuplicatePeer config then Some DuplicatePeer
+    else if has_duplicate DuplicateEndpoint config then Some DuplicateEndpoint
+    else if has_duplicate DuplicateServer config then Some DuplicateServer
+    else if has_duplicate DuplicateLink config then Some DuplicateLink
     else None

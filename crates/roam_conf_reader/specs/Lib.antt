@@ -1,7 +1,6 @@
 pub mod Document
 pub mod Faults
 pub mod Reading
-pub mod StatedParts
 pub mod Tables
 pub mod Texts
 pub mod Values

@@ -1,17 +1,31 @@
 -- What tables state, with the texts and the arrays still in the document, as plain records. Ours.
-use Rattle.std.specs.Prelude.{List}
+use Rattle.std.specs.Prelude.{◌≡◌, codes, List, Some}
 use Rattle.std.specs.Option.{option_copied}
-use Rattle.toml.specs.Data.{Members}
+use Rattle.toml.specs.Data.{Members, get_member}
 use Rattle.toml.specs.View.{array_view}
-use Rattle.roam_conf.specs.Config.{ServerView, PeerView, RealmView, ConfigView}
+use Rattle.roam_conf.specs.Config.{ServerView, PeerView, PatternView, whole, suffix, any, RealmView, ConfigView}
 use Rattle.roam_conf_reader.specs.declared.server.ServerText.{ServerText}
+use Rattle.roam_conf_reader.specs.declared.pattern.PatternText.{PatternText}
+use Rattle.roam_conf_reader.specs.declared.pattern.PatternText.TheVariants.{Name, Suffix, Any}
 use Rattle.roam_conf_reader.specs.declared.peer.PeerText.{PeerText}
 use Rattle.roam_conf_reader.specs.declared.realm.RealmText.{RealmText}
 use Rattle.roam_conf_reader.specs.declared.stated.TopText.{TopText}
 use Rattle.roam_conf_reader.specs.Document.{StatesEach, StatesServer, StatesPeer, StatesRealm, StatesConfig}
+use Rattle.roam_conf_reader.specs.Values.{patterns}
+
+-- a text of `also`
+abbrev pub pattern_said : PatternText → PatternView
+pattern_said (Name name) = whole name.now
+pattern_said (Suffix name) = suffix name.now
+pattern_said Any = any
 
 abbrev pub server_in : ServerText → ServerView
-server_in text = record { auth = text.auth; acct = text.acct; secret = text.secret.now }
+server_in text = record {
+  auth = text.auth;
+  acct = text.acct;
+  secret = text.secret.now;
+  require_seal = text.require_seal;
+}
 
 abbrev pub peer_in : PeerText → PeerView
 peer_in text = record {
@@ -24,10 +38,11 @@ peer_in text = record {
   require_seal = text.require_seal;
 }
 
--- with these servers
-abbrev pub realm_in : RealmText → List ServerView → RealmView
-realm_in text servers = record {
+-- with these patterns and servers
+abbrev pub realm_in : RealmText → List PatternView → List ServerView → RealmView
+realm_in text also servers = record {
   name = text.name.now;
+  also = also;
   out = text.out;
   reverse = text.reverse;
   tries = text.tries;
@@ -35,14 +50,18 @@ realm_in text servers = record {
   hold = text.hold;
   max_pending = text.max_pending;
   max_sessions = text.max_sessions;
+  rest = text.rest;
+  rest_after = text.rest_after;
   servers = servers;
 }
 
--- the table states a realm, whatever servers its array states
-abbrev pub StatesBesideServers : Members → RealmText → Type 0
-StatesBesideServers members text =
-    (servers : List ServerView) → StatesEach StatesServer (array_view text.servers.now) servers
-    → StatesRealm members (realm_in text servers)
+-- the table states a realm, whatever patterns and servers its arrays state
+abbrev pub StatesBesideLists : Members → RealmText → Type 0
+StatesBesideLists members text =
+    (also : List PatternView) → (servers : List ServerView)
+    → patterns (get_member (codes "also") members) ≡ Some also
+    → StatesEach StatesServer (array_view text.servers.now) servers
+    → StatesRealm members (realm_in text also servers)
 
 -- with these peers and realms
 abbrev pub config_in : TopText → List PeerView → List RealmView → ConfigView
@@ -52,6 +71,10 @@ config_in text peers realms = record {
   auth = text.auth;
   acct = text.acct;
   trace_limit = text.trace_limit;
+  trace_octets = text.trace_octets;
+  max_hops = text.max_hops;
+  status_server = text.status_server;
+  spread = text.spread;
   peers = peers;
   realms = realms;
 }

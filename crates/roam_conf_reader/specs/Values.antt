@@ -1,13 +1,16 @@
 -- What a single TOML value states: a number, a text, an address, an endpoint, a seed, an array. Ours.
-use Rattle.std.specs.Prelude.{ℕ, suc, pos, ◌&&◌, nat_le, Bool, true, false, if◌then◌else◌, List, length, Option, Some, None, option_map, option_and_then}
+use Rattle.std.specs.Prelude.{ℕ, suc, pos, ◌&&◌, nat_le, Bool, true, false, if◌then◌else◌, List, [], ◌∷◌, take, drop, length, Option, Some, None, option_map, option_and_then}
 use Rattle.std.specs.List.{list_all}
 use Rattle.std.specs.Result.{result_ok}
+use Rattle.std.specs.Str.{bytes_eq}
 use Rattle.hex.specs.Hex.{decode_sized}
 use Rattle.toml.specs.Data.{Data, string, integer, boolean, array, Items, no_items, item, Members, get_member}
 use Rattle.roam_conf.specs.declared.endpoint.Endpoint.{Endpoint}
 use Rattle.roam_conf_reader.specs.declared.values.Letters.{Letters}
 use Rattle.roam_conf_reader.specs.declared.values.Letters.TheVariants.{Any, PeerName, RealmName}
+use Rattle.roam_conf.specs.Config.{PatternView, whole, suffix, any}
 use Rattle.roam_conf.specs.Letters.{is_peer_letter, is_realm_letter}
+use Rattle.roam_conf.specs.Patterns.{is_realm_name}
 use Rattle.roam_conf.specs.Texts.{address_in, endpoint_in}
 
 -- an integer from `least` to `most`
@@ -52,6 +55,34 @@ flag None = Some false
 flag (Some (boolean b)) = Some b
 flag (Some _) = None
 
+-- an integer from `least` to `most`, and this one where it is absent
+unfoldable pub number_or : ℕ → ℕ → ℕ → Option Data → Option ℕ
+number_or default least most None = Some default
+number_or default least most (Some found) = number least most found
+
+-- what a text says beside a realm's name: `*` (42), `*.` (42, 46) and a name, or a name
+unfoldable pub pattern_in : List ℕ → Option PatternView
+pattern_in octets =
+    if bytes_eq octets (42 ∷ []) then Some any
+    else if bytes_eq (take 2 octets) (42 ∷ 46 ∷ [])
+    then (if is_realm_name (drop 2 octets) then Some (suffix (drop 2 octets)) else None)
+    else if is_realm_name octets then Some (whole octets) else None
+
+-- a text that says one
+unfoldable pub pattern : Data → Option PatternView
+pattern (string octets) = pattern_in octets
+pattern _ = None
+
+-- the first and the others, if they are there
+abbrev pub cons_if_both : {V : Type 0} → Option V → Option (List V) → Option (List V)
+cons_if_both (Some value) (Some values) = Some (value ∷ values)
+cons_if_both _ _ = None
+
+-- items of which each is such a text
+abbrev pub each_pattern : Items → Option (List PatternView)
+each_pattern no_items = Some []
+each_pattern (item found items) = cons_if_both (pattern found) (each_pattern items)
+
 -- how many items an array has
 abbrev pub item_count : Items → ℕ
 item_count no_items = 0
@@ -61,6 +92,12 @@ item_count (item found items) = suc (item_count items)
 unfoldable pub array_of : ℕ → Data → Option Items
 array_of most (array items) = if nat_le 1 (item_count items) && nat_le (item_count items) most then Some items else None
 array_of most _ = None
+
+-- an array of at most 256 such texts; none where it is absent
+unfoldable pub patterns : Option Data → Option (List PatternView)
+patterns None = Some []
+patterns (Some (array items)) = if nat_le (item_count items) 256 then each_pattern items else None
+patterns (Some _) = None
 
 -- what a required key states
 abbrev pub value_at : {V : Type 0} → (Data → Option V) → List ℕ → Members → Option V

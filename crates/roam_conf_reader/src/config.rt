@@ -1,13 +1,13 @@
 //! The configuration that a text states.
 
-ghost use Rattle.std.specs.Prelude.{◌≡◌, ◌⊎◌, None, IfOk, IfErr, OnOk};
+ghost use Rattle.std.specs.Prelude.{◌≡◌, ◌⊎◌, IfOk, IfErr, OnOk};
 ghost use Rattle.roam_conf.specs.Shown.{shown};
-ghost use Rattle.roam_conf_reader.specs.Faults.{States, NoneHolds, IsFirstFault, every_fault, first_duplicate};
-ghost use Rattle.roam_conf_reader.specs.StatedParts.{shown_stated};
+ghost use Rattle.roam_conf_reader.specs.Faults.{States, NoneHolds, IsFirstFault, every_fault};
 
 use crate::ConfFault;
 use crate::document::document;
-use crate::stated::Stated;
+use crate::duplicates::first_duplicate;
+use crate::stated::parts_from;
 use crate::tables::document_misses;
 use roam_conf::Config;
 use std::alloc::Global;
@@ -25,35 +25,9 @@ pub fn read_config(alloc: Global, text: &str) -> Result<Config, ConfFault>
     if document_misses(&table) {
         return Err(ConfFault::Missing);
     }
-    let stated = Stated::from_table(alloc, &table)?;
-    match stated.first_duplicate(alloc)? {
+    let parts = parts_from(alloc, &table)?;
+    match first_duplicate(alloc, &parts)? {
         Some(fault) => Err(fault),
-        None => Ok(accept(stated)),
-    }
-}
-
-/// The configuration that was stated, in which nothing stands twice that may not.
-fn accept(stated: Stated) -> Config
-    requires { first_duplicate stated.auth stated.acct (shown_stated stated).peers
-        (shown_stated stated).realms ≡ None }
-    ensures { shown result ≡ shown_stated stated }
-{
-    let Stated {
-        shards,
-        seed,
-        auth,
-        acct,
-        trace_limit,
-        peers,
-        realms,
-    } = stated;
-    Config {
-        shards,
-        seed,
-        auth,
-        acct,
-        trace_limit,
-        peers,
-        realms,
+        None => Ok(Config::new(alloc, parts)?),
     }
 }

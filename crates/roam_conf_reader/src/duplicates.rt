@@ -1,17 +1,21 @@
 //! What may not stand twice in a configuration.
 //!
-//! Each search compares all pairs. The lists are short: at most 256 peers, 256 realms, 514 sockets
-//! of the broker, and 16 endpoints of one realm's servers.
+//! Names and patterns of realms, which may be many, are found by an index. The other searches compare all
+//! pairs: of at most 1024 peers, 2050 sockets of the broker, 16 endpoints of one realm's servers, and of
+//! 1024 endpoints of peers with 16384 of servers.
 
 ghost use Rattle.std.specs.Prelude.{◌≡◌, ◌≤◌, ◌+◌, ◌||◌, ◌⊎◌, Some, None, IfOk, IfErr, MatchResult, length, map, drop};
 ghost use Rattle.std.specs.List.{list_any};
-ghost use Rattle.roam_conf.specs.Duplicates.{has_pair, same_endpoint, is_among, same_realm, same_if_there, same_peer, own_endpoints, server_endpoints, coa_endpoints, some_server_at, has_duplicate_realm, has_duplicate_peer, has_duplicate_endpoint, has_duplicate_server, has_duplicate_link};
+ghost use Rattle.roam_conf.specs.Duplicates.{has_pair, same_endpoint, is_among, same_if_there, same_peer, own_endpoints, server_endpoints, coa_endpoints, some_server_at, has_duplicate_peer, has_duplicate_endpoint, has_duplicate_server, has_duplicate_link};
 ghost use Rattle.roam_conf.specs.Parts.{shown_server, shown_peer, shown_realm};
+ghost use Rattle.roam_conf.specs.Shown.{shown_parts};
 ghost use Rattle.roam_conf_reader.specs.Faults.{first_duplicate};
 ghost use Rattle.roam_conf_reader.specs.Reading.{IsMemoryFault};
 
 use crate::ConfFault;
-use roam_conf::{Endpoint, Peer, Realm, Server, is_same_endpoint, is_same_name};
+use roam_conf::{
+    ConfigParts, Endpoint, Peer, Realm, Server, has_duplicate_realm, is_same_endpoint,
+};
 use std::alloc::Global;
 
 /// The items from a place on.
@@ -37,30 +41,6 @@ fn has_equal_endpoints(endpoints: &[Endpoint]) -> bool
 {
     for i in 0..endpoints.len() {
         if is_among(from_place(endpoints, i + 1), endpoints[i]) {
-            return true;
-        }
-    }
-    false
-}
-
-fn has_name_of(realm: &Realm, others: &[Realm]) -> bool
-    ensures { result ≡ list_any (same_realm (shown_realm realm.now)) (map shown_realm others.now) }
-{
-    for other in others {
-        if is_same_name(realm.name.as_bytes(), other.name.as_bytes()) {
-            return true;
-        }
-    }
-    false
-}
-
-/// Whether two realms have equal names.
-#[tactic(auto, unfolding(roam_conf::specs::Duplicates::has_duplicate_realm))]
-fn has_duplicate_realm(realms: &[Realm]) -> bool
-    ensures { result ≡ has_duplicate_realm (map shown_realm realms.now) }
-{
-    for i in 0..realms.len() {
-        if has_name_of(&realms[i], from_place(realms, i + 1)) {
             return true;
         }
     }
@@ -234,22 +214,20 @@ fn has_duplicate_link(alloc: Global, peers: &[Peer], realms: &[Realm]) -> Result
 #[tactic(auto, unfolding(crate::specs::Faults::first_duplicate))]
 pub(crate) fn first_duplicate(
     alloc: Global,
-    auth: Endpoint,
-    acct: Endpoint,
-    peers: &[Peer],
-    realms: &[Realm],
+    parts: &ConfigParts,
 ) -> Result<Option<ConfFault>, ConfFault>
-    ensures ok { IfOk result
-        (λ f. f ≡ first_duplicate auth acct (map shown_peer peers.now) (map shown_realm realms.now)) }
+    ensures ok { IfOk result (λ f. f ≡ first_duplicate (shown_parts parts.now)) }
     ensures causes { IsMemoryFault result }
 {
-    if has_duplicate_realm(realms) {
+    let peers = parts.peers.as_slice();
+    let realms = parts.realms.as_slice();
+    if has_duplicate_realm(alloc, realms)? {
         return Ok(Some(ConfFault::DuplicateRealm));
     }
     if has_duplicate_peer(peers) {
         return Ok(Some(ConfFault::DuplicatePeer));
     }
-    if has_duplicate_endpoint(alloc, auth, acct, realms)? {
+    if has_duplicate_endpoint(alloc, parts.auth, parts.acct, realms)? {
         return Ok(Some(ConfFault::DuplicateEndpoint));
     }
     if has_duplicate_server(alloc, realms)? {

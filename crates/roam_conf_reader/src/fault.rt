@@ -18,7 +18,7 @@ pub enum ConfFault {
     Missing,
     /// A value has the wrong type or is out of its range, or a key is unknown.
     BadValue,
-    /// Two realms have names that are equal without ASCII case.
+    /// Two names, two suffixes `*.` and a name, or two `*` of realms are equal without ASCII case.
     DuplicateRealm,
     /// Two peers have equal names, addresses, NAS-IP-Addresses or NAS-Identifiers.
     DuplicatePeer,

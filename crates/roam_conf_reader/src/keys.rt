@@ -60,6 +60,36 @@ pub(crate) fn text<'a>(
     values::text_of(value(table, key)?, most, letters)
 }
 
+/// An integer from `least` to `most`, or `default` where the key is absent.
+#[tactic(auto, unfolding(crate::specs::Values::number_or))]
+pub(crate) fn number_or(
+    table: &Table,
+    key: &str,
+    default: u32,
+    least: u32,
+    most: u32,
+) -> Option<u32>
+    requires { (least ≤ default) × (default ≤ most) }
+    ensures value { result
+        ≡ spec.number_or default least most (get_member key.now (table_view table.now)) }
+    ensures bounds { IfSome result (λ n. (least ≤ n) × (n ≤ most)) }
+{
+    match value(table, key) {
+        Some(value) => values::number_of(value, least, most),
+        None => Some(default),
+    }
+}
+
+/// An integer from 1 to `most`, or `Some(None)` where the key is absent.
+pub(crate) fn optional_octet(table: &Table, key: &str, most: u8) -> Option<Option<u8>>
+    ensures { result ≡ optional_at (spec.number 1 most) key.now (table_view table.now) }
+{
+    match value(table, key) {
+        Some(value) => Some(Some(values::number_of(value, 1, u32::from(most))? as u8)),
+        None => Some(None),
+    }
+}
+
 /// An address, or `Some(None)` where the key is absent.
 pub(crate) fn optional_address(table: &Table, key: &str) -> Option<Option<[u8; 4]>>
     ensures { result ≡ optional_at spec.address key.now (table_view table.now) }

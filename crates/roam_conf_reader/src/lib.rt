@@ -9,6 +9,7 @@ mod document;
 mod duplicates;
 mod fault;
 mod keys;
+mod pattern;
 mod peer;
 mod realm;
 mod server;

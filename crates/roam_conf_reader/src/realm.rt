@@ -7,18 +7,19 @@ ghost use Rattle.roam_conf.specs.Parts.{shown_realm};
 ghost use Rattle.roam_conf_reader.specs.declared.realm.RealmText.{RealmText};
 ghost use Rattle.roam_conf_reader.specs.Document.{StatesEach, StatesRealm};
 ghost use Rattle.roam_conf_reader.specs.Reading.{IsValueFault};
-ghost use Rattle.roam_conf_reader.specs.Texts.{StatesBesideServers};
+ghost use Rattle.roam_conf_reader.specs.Texts.{StatesBesideLists};
 ghost use Rattle.roam_conf_reader.specs.Values.{array_of, value_at};
 
-use crate::tables::{REALM_KEYS, has_only};
+use crate::tables::{REALM_KEYS, REALM_OPTIONAL_KEYS, has_only};
 use crate::values::Letters;
-use crate::{ConfFault, keys, server};
+use crate::{ConfFault, keys, pattern, server};
 use roam_conf::{Endpoint, Realm};
 use std::alloc::Global;
 use toml::Table;
 use toml::value::Array;
 
-/// What a table states of a realm. Its name and its servers' tables still stand in the document.
+/// What a table states of a realm. Its name, its patterns and its servers' tables still stand in the
+/// document.
 #[derive(Clone, Copy)]
 struct RealmText<'a> {
     name: &'a str,
@@ -29,6 +30,8 @@ struct RealmText<'a> {
     hold: u32,
     max_pending: u16,
     max_sessions: u32,
+    rest: u32,
+    rest_after: u16,
     servers: &'a Array,
 }
 
@@ -36,10 +39,10 @@ struct RealmText<'a> {
 fn realm_text(table: &Table) -> Option<RealmText<'_>>
     ensures { MatchOption result
         ((r : RealmView) → ¬ (StatesRealm (table_view table.now) r))
-        (λ text. StatesBesideServers (table_view table.now) text × (value_at (array_of 8)
+        (λ text. StatesBesideLists (table_view table.now) text × (value_at (array_of 8)
         (codes "server") (table_view table.now) ≡ Some (array_view text.servers.now))) }
 {
-    if !has_only(table, &REALM_KEYS, &[]) {
+    if !has_only(table, &REALM_KEYS, &REALM_OPTIONAL_KEYS) {
         return None;
     }
     Some(RealmText {
@@ -51,6 +54,8 @@ fn realm_text(table: &Table) -> Option<RealmText<'_>>
         hold: keys::number(table, "hold", 0, 60000)?,
         max_pending: keys::number(table, "max_pending", 1, 4096)? as u16,
         max_sessions: keys::number(table, "max_sessions", 0, 65536)?,
+        rest: keys::number_or(table, "rest", 0, 0, 3600000)?,
+        rest_after: keys::number_or(table, "rest_after", 1, 1, 256)? as u16,
         servers: keys::array(table, "server", 8)?,
     })
 }
@@ -61,7 +66,7 @@ fn from_table(alloc: Global, table: &Table) -> Result<Realm, ConfFault>
     ensures bad { result ≡ Err ConfFault.BadValue
         → (r : RealmView) → ¬ (StatesRealm (table_view table.now) r) }
     ensures memory { result ≡ Err ConfFault.Memory
-        → (text : RealmText) × StatesBesideServers (table_view table.now) text }
+        → (text : RealmText) × StatesBesideLists (table_view table.now) text }
     ensures causes { IsValueFault result }
 {
     let Some(text) = realm_text(table) else {
@@ -69,6 +74,7 @@ fn from_table(alloc: Global, table: &Table) -> Result<Realm, ConfFault>
     };
     Ok(Realm {
         name: String::from_str(alloc, text.name)?,
+        also: pattern::all_from(alloc, table)?,
         out: text.out,
         reverse: text.reverse,
         tries: text.tries,
@@ -76,6 +82,8 @@ fn from_table(alloc: Global, table: &Table) -> Result<Realm, ConfFault>
         hold: text.hold,
         max_pending: text.max_pending,
         max_sessions: text.max_sessions,
+        rest: text.rest,
+        rest_after: text.rest_after,
         servers: server::all_from(alloc, text.servers)?,
     })
 }

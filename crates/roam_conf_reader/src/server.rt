@@ -8,7 +8,7 @@ ghost use Rattle.roam_conf_reader.specs.Document.{StatesEach, StatesServer};
 ghost use Rattle.roam_conf_reader.specs.Reading.{IsValueFault};
 ghost use Rattle.roam_conf_reader.specs.Texts.{server_in};
 
-use crate::tables::{SERVER_KEYS, has_only};
+use crate::tables::{SERVER_KEYS, SERVER_OPTIONAL_KEYS, has_only};
 use crate::values::Letters;
 use crate::{ConfFault, keys};
 use roam_conf::{Endpoint, Server};
@@ -22,6 +22,7 @@ struct ServerText<'a> {
     auth: Endpoint,
     acct: Endpoint,
     secret: &'a str,
+    require_seal: bool,
 }
 
 /// What a table states of a home server; nothing where one of its values is bad.
@@ -30,13 +31,14 @@ fn server_text(table: &Table) -> Option<ServerText<'_>>
         ((s : ServerView) → ¬ (StatesServer (table_view table.now) s))
         (λ text. StatesServer (table_view table.now) (server_in text)) }
 {
-    if !has_only(table, &SERVER_KEYS, &[]) {
+    if !has_only(table, &SERVER_KEYS, &SERVER_OPTIONAL_KEYS) {
         return None;
     }
     Some(ServerText {
         auth: keys::endpoint(table, "auth")?,
         acct: keys::endpoint(table, "acct")?,
         secret: keys::text(table, "secret", 64, Letters::Any)?,
+        require_seal: keys::flag(table, "require_seal")?,
     })
 }
 
@@ -56,6 +58,7 @@ fn from_table(alloc: Global, table: &Table) -> Result<Server, ConfFault>
         auth: text.auth,
         acct: text.acct,
         secret: String::from_str(alloc, text.secret)?,
+        require_seal: text.require_seal,
     })
 }
 

@@ -11,8 +11,11 @@ use crate::values::value;
 use toml::Table;
 use toml::value::Array;
 
-/// The keys of a home server's table.
+/// The keys that a home server's table must have.
 pub(crate) const SERVER_KEYS: [&str; 3] = ["auth", "acct", "secret"];
+
+/// The key that a home server's table may have besides.
+pub(crate) const SERVER_OPTIONAL_KEYS: [&str; 1] = ["require_seal"];
 
 /// The keys that a peer's table must have.
 pub(crate) const PEER_KEYS: [&str; 3] = ["name", "ip", "secret"];
@@ -20,7 +23,7 @@ pub(crate) const PEER_KEYS: [&str; 3] = ["name", "ip", "secret"];
 /// The keys that a peer's table may have besides.
 pub(crate) const PEER_OPTIONAL_KEYS: [&str; 4] = ["coa", "nas_ip", "nas_id", "require_seal"];
 
-/// The keys of a realm's table.
+/// The keys that a realm's table must have.
 pub(crate) const REALM_KEYS: [&str; 9] = [
     "name",
     "out",
@@ -33,7 +36,10 @@ pub(crate) const REALM_KEYS: [&str; 9] = [
     "server",
 ];
 
-/// The keys of the document itself.
+/// The keys that a realm's table may have besides.
+pub(crate) const REALM_OPTIONAL_KEYS: [&str; 3] = ["also", "rest", "rest_after"];
+
+/// The keys that the document itself must have.
 pub(crate) const TOP_KEYS: [&str; 7] = [
     "shards",
     "seed",
@@ -42,6 +48,14 @@ pub(crate) const TOP_KEYS: [&str; 7] = [
     "trace_limit",
     "peer",
     "realm",
+];
+
+/// The keys that the document itself may have besides.
+pub(crate) const TOP_OPTIONAL_KEYS: [&str; 4] = [
+    "max_hops",
+    "status_server",
+    "trace_octets",
+    "spread",
 ];
 
 fn is_one_of(keys: &[&str], key: &str) -> bool

@@ -54,7 +54,7 @@ pub(crate) fn value<'a>(table: &'a Table, key: &str) -> Option<&'a Value>
 
 /// Whether the octets are 1 to `most`, all of them among the letters.
 #[tactic(auto, unfolding(crate::specs::Values::text_fits))]
-fn text_fits(octets: &[u8], most: usize, letters: Letters) -> bool
+pub(crate) fn text_fits(octets: &[u8], most: usize, letters: Letters) -> bool
     ensures { result ≡ text_fits most (letters_of letters) octets.now }
 {
     if octets.is_empty() || octets.len() > most {

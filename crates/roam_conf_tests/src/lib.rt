@@ -8,6 +8,8 @@
 #[cfg(test)]
 mod documents;
 #[cfg(test)]
+mod name_tests;
+#[cfg(test)]
 mod order_tests;
 #[cfg(test)]
 mod sample_tests;

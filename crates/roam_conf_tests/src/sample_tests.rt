@@ -205,7 +205,7 @@ fn realms_peers_links_and_home_servers_are_found(rt: HostRuntime) -> Result<(), 
 }
 
 /// Changes that leave the sample acceptable.
-const OTHER_VALUES: [(&str, &str); 8] = [
+const OTHER_VALUES: [(&str, &str); 17] = [
     ("shards = 1", "shards = 2"),
     ("00000\"", "00001\""),
     ("127.0.0.1:1812", "127.0.0.1:1814"),
@@ -214,6 +214,15 @@ const OTHER_VALUES: [(&str, &str); 8] = [
     ("nas_id = \"nas1\"\n", ""),
     ("hold = 5000", "hold = 5001"),
     ("\"h1\"", "\"h2\""),
+    ("shards = 1", "shards = 1\nmax_hops = 1"),
+    ("shards = 1", "shards = 1\nstatus_server = true"),
+    ("shards = 1", "shards = 1\ntrace_octets = 1"),
+    ("shards = 1", "shards = 1\nspread = true"),
+    ("tries = 2", "tries = 2\nrest = 1"),
+    ("tries = 2", "tries = 2\nrest_after = 2"),
+    ("tries = 2", "tries = 2\nalso = [\"c\"]"),
+    ("tries = 2", "tries = 2\nalso = [\"*\"]"),
+    ("\"h1\"", "\"h1\"\nrequire_seal = true"),
 ];
 
 /// Whether one of these changes of the sample leaves the configuration as it is.
@@ -234,5 +243,66 @@ fn equality(rt: HostRuntime) -> Result<(), Fail> {
     let config = config_of(rt.alloc(), &SAMPLE)?;
     let again = config_of(rt.alloc(), &SAMPLE)?;
     assert!(rt; config == again && !some_same(rt.alloc(), &config, &OTHER_VALUES)?);
+    Ok(())
+}
+
+/// The numbers of a configuration and its first realm that may be absent; 0 where there is none.
+fn optional_numbers(config: &Config, realm: &Realm) -> [u32; 5] {
+    [
+        match config.max_hops {
+            Some(hops) => u32::from(hops),
+            None => 0,
+        },
+        config.trace_octets,
+        realm.rest,
+        u32::from(realm.rest_after),
+        realm.also.len() as u32,
+    ]
+}
+
+/// The booleans of a configuration, and of its first realm's first server.
+fn optional_flags(config: &Config, realm: &Realm) -> [bool; 3] {
+    [
+        config.status_server,
+        config.spread,
+        realm.servers[0].require_seal,
+    ]
+}
+
+// What counts where a key is absent.
+#[test]
+fn what_absent_keys_say(rt: HostRuntime) -> Result<(), Fail> {
+    let config = config_of(rt.alloc(), &SAMPLE)?;
+    let realm = &config.realms[0];
+    assert!(rt;
+        (
+            optional_numbers(&config, realm),
+            optional_flags(&config, realm)
+        ) == ([0, 67108864, 0, 1, 0], [false, false, false])
+    );
+    Ok(())
+}
+
+/// The document with a value for each key that may be absent.
+const ALL_KEYS: [&str; 7] = [
+    "max_hops = 7\nstatus_server = true\ntrace_octets = 4096\nspread = true\n",
+    TOP,
+    PEER,
+    REALM,
+    "also = [\"c.example\", \"*.d.example\", \"*\"]\nrest = 10000\nrest_after = 3\n",
+    SERVER,
+    "require_seal = true\n",
+];
+
+#[test]
+fn the_keys_that_may_be_absent_are_read(rt: HostRuntime) -> Result<(), Fail> {
+    let config = config_of(rt.alloc(), &ALL_KEYS)?;
+    let realm = &config.realms[0];
+    assert!(rt;
+        (
+            optional_numbers(&config, realm),
+            optional_flags(&config, realm)
+        ) == ([7, 4096, 10000, 3, 3], [true, true, true])
+    );
     Ok(())
 }

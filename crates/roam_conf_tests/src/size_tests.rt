@@ -107,12 +107,13 @@ fn document_of(alloc: Global, peers: u16, realms: u16, servers: u8) -> Result<St
     Ok(text)
 }
 
-/// How many peers, realms, and servers of each realm, and the fault: 256 peers, 256 realms and eight
-/// servers of each are the most.
-const COUNTS: [(u16, u16, u8, Option<ConfFault>); 4] = [
-    (256, 256, 8, None),
-    (257, 1, 8, BAD_VALUE),
-    (1, 257, 8, BAD_VALUE),
+/// How many peers, realms, and servers of each realm, and the fault: the most of each, and one more.
+const COUNTS: [(u16, u16, u8, Option<ConfFault>); 6] = [
+    (1024, 1, 1, None),
+    (1, 1024, 1, None),
+    (1, 1, 8, None),
+    (1025, 1, 1, BAD_VALUE),
+    (1, 1025, 1, BAD_VALUE),
     (1, 1, 9, BAD_VALUE),
 ];
 
@@ -136,4 +137,49 @@ fn expect_counts(
 #[test]
 fn the_most_peers_realms_and_servers(rt: HostRuntime) -> Result<(), Fail> {
     expect_counts(&rt, rt.alloc(), &COUNTS)
+}
+
+/// A line of so many patterns, each with a name of its own.
+fn also_of(alloc: Global, count: u16) -> Result<String, Fail> {
+    let mut text = String::from_str(alloc, "tries = 2\nalso = [")?;
+    for n in 0..count {
+        let name = format!(in alloc; "\"n{n}\", ")?;
+        text.push_str(name.as_str())?;
+    }
+    text.push_str("]")?;
+    Ok(text)
+}
+
+/// A line of one pattern: these characters, and so many letters behind them.
+fn long_also(alloc: Global, front: &str, count: usize) -> Result<String, Fail> {
+    let mut text = with_letters(alloc, front, count)?;
+    text.push_str("\"]")?;
+    Ok(text)
+}
+
+/// The fault of the sample with this line in its realm.
+fn fault_with(alloc: Global, line: &str) -> Result<Option<ConfFault>, Fail> {
+    let text = changed(alloc, &SAMPLE, "tries = 2", line)?;
+    Ok(fault_of(alloc, text.as_str()))
+}
+
+/// The faults of 256 and 257 patterns, and of names of 253 and 254 octets in them.
+fn faults_of_patterns(alloc: Global) -> Result<[Option<ConfFault>; 6], Fail> {
+    const WHOLE: &str = "tries = 2\nalso = [\"";
+    const SUFFIX: &str = "tries = 2\nalso = [\"*.";
+    Ok([
+        fault_with(alloc, also_of(alloc, 256)?.as_str())?,
+        fault_with(alloc, also_of(alloc, 257)?.as_str())?,
+        fault_with(alloc, long_also(alloc, WHOLE, 253)?.as_str())?,
+        fault_with(alloc, long_also(alloc, WHOLE, 254)?.as_str())?,
+        fault_with(alloc, long_also(alloc, SUFFIX, 253)?.as_str())?,
+        fault_with(alloc, long_also(alloc, SUFFIX, 254)?.as_str())?,
+    ])
+}
+
+#[test]
+fn the_most_and_the_longest_patterns(rt: HostRuntime) -> Result<(), Fail> {
+    let faults = faults_of_patterns(rt.alloc())?;
+    assert!(rt; faults == [None, BAD_VALUE, None, BAD_VALUE, None, BAD_VALUE]);
+    Ok(())
 }

@@ -59,6 +59,66 @@ const OUTSIDE: [Change; 19] = [
     ),
 ];
 
+/// The ends of the ranges of keys that may be absent, and one past each.
+const OPTIONAL_NUMBERS: [Change; 21] = [
+    ("shards = 1", "shards = 1\nmax_hops = 1", None),
+    ("shards = 1", "shards = 1\nmax_hops = 100", None),
+    ("shards = 1", "shards = 1\nmax_hops = 0", BAD_VALUE),
+    ("shards = 1", "shards = 1\nmax_hops = 101", BAD_VALUE),
+    ("shards = 1", "shards = 1\nmax_hops = 257", BAD_VALUE),
+    ("shards = 1", "shards = 1\ntrace_octets = 1", None),
+    ("shards = 1", "shards = 1\ntrace_octets = 1073741824", None),
+    ("shards = 1", "shards = 1\ntrace_octets = 0", BAD_VALUE),
+    (
+        "shards = 1",
+        "shards = 1\ntrace_octets = 1073741825",
+        BAD_VALUE,
+    ),
+    ("tries = 2", "tries = 2\nrest = 0", None),
+    ("tries = 2", "tries = 2\nrest = 3600000", None),
+    ("tries = 2", "tries = 2\nrest = -1", BAD_VALUE),
+    ("tries = 2", "tries = 2\nrest = 3600001", BAD_VALUE),
+    ("tries = 2", "tries = 2\nrest_after = 1", None),
+    ("tries = 2", "tries = 2\nrest_after = 256", None),
+    ("tries = 2", "tries = 2\nrest_after = 0", BAD_VALUE),
+    ("tries = 2", "tries = 2\nrest_after = 257", BAD_VALUE),
+    ("shards = 1", "shards = 1\nstatus_server = true", None),
+    ("shards = 1", "shards = 1\nspread = true", None),
+    (
+        "secret = \"h1\"",
+        "secret = \"h1\"\nrequire_seal = true",
+        None,
+    ),
+    (
+        "secret = \"h1\"",
+        "secret = \"h1\"\nrequire_seal = false",
+        None,
+    ),
+];
+
+/// Keys that may be absent, with a value of a wrong type, or in a table that doesn't have them.
+const BAD_OPTIONAL_VALUES: [Change; 15] = [
+    ("shards = 1", "shards = 1\nmax_hops = \"1\"", BAD_VALUE),
+    ("shards = 1", "shards = 1\nmax_hops = true", BAD_VALUE),
+    ("shards = 1", "shards = 1\ntrace_octets = 1.0", BAD_VALUE),
+    ("shards = 1", "shards = 1\nstatus_server = 1", BAD_VALUE),
+    ("shards = 1", "shards = 1\nspread = \"true\"", BAD_VALUE),
+    ("tries = 2", "tries = 2\nrest = \"0\"", BAD_VALUE),
+    ("tries = 2", "tries = 2\nrest_after = [1]", BAD_VALUE),
+    (
+        "secret = \"h1\"",
+        "secret = \"h1\"\nrequire_seal = 1",
+        BAD_VALUE,
+    ),
+    ("tries = 2", "tries = 2\nrequire_seal = true", BAD_VALUE),
+    ("tries = 2", "tries = 2\nmax_hops = 1", BAD_VALUE),
+    ("shards = 1", "shards = 1\nrest = 0", BAD_VALUE),
+    ("shards = 1", "shards = 1\nalso = []", BAD_VALUE),
+    ("secret = \"h1\"", "secret = \"h1\"\nrest = 0", BAD_VALUE),
+    ("nas_id = \"nas1\"", "also = []", BAD_VALUE),
+    ("nas_id = \"nas1\"", "spread = true", BAD_VALUE),
+];
+
 /// Addresses, ports, names, secrets and seeds in other spellings.
 const SPELLINGS: [Change; 28] = [
     ("\"192.0.2.1\"", "\"0.0.0.0\"", None),
@@ -165,7 +225,8 @@ const BAD_VALUES: [Change; 31] = [
 #[test]
 fn the_ranges_of_numbers(rt: HostRuntime) -> Result<(), Fail> {
     expect_changes(&rt, rt.alloc(), &INSIDE)?;
-    expect_changes(&rt, rt.alloc(), &OUTSIDE)
+    expect_changes(&rt, rt.alloc(), &OUTSIDE)?;
+    expect_changes(&rt, rt.alloc(), &OPTIONAL_NUMBERS)
 }
 
 #[test]
@@ -177,5 +238,6 @@ fn the_spellings_of_texts(rt: HostRuntime) -> Result<(), Fail> {
 fn keys_that_are_missing_wrong_or_unknown(rt: HostRuntime) -> Result<(), Fail> {
     expect_changes(&rt, rt.alloc(), &WITHOUT_REQUIRED)?;
     expect_changes(&rt, rt.alloc(), &WITHOUT_OPTIONAL)?;
-    expect_changes(&rt, rt.alloc(), &BAD_VALUES)
+    expect_changes(&rt, rt.alloc(), &BAD_VALUES)?;
+    expect_changes(&rt, rt.alloc(), &BAD_OPTIONAL_VALUES)
 }

@@ -1,4 +1,4 @@
--- A local reject is for no realm, whatever codes are taken.
+-- An answer of the broker itself is for no realm, whatever codes are taken.
 use Rattle.std.proofs.Common.{◌≡◌, ℕ, Bool, true, false, List, Option, Some, None, refl}
 use Rattle.std.specs.Prelude.{Result, Ok, Err, if◌then◌else◌}
 use Rattle.roam_wire.specs.Packet.{Packet}
@@ -10,7 +10,7 @@ use Rattle.roam_conf.specs.declared.place.Place.{Place}
 use Rattle.roam_conf.specs.declared.place.Place.TheVariants as place
 use Rattle.roam_route.specs.UserName.{realm_of}
 use Rattle.roam_route.specs.LocalReject.{is_rejected}
-use Rattle.roam_route.specs.Admission.{Arrival, PlainJob, PlainOut, Admission, refused, rejected, admitted, sender, checked, given_to, forwarded_for, rejected_for, named, routed, request_admission, packet_admission, sent_admission, read_admission, admission, is_taken, peer_secret, home_secret, is_rightly_signed, is_rightly_sealed, has_needed_seal, seal_required}
+use Rattle.roam_route.specs.Admission.{Arrival, PlainJob, PlainOut, Admission, refused, rejected, admitted, sender, checked, given_to, forwarded_for, rejected_for, named, routed, request_admission, packet_admission, sent_admission, read_admission, admission, is_taken, peer_secret, home_secret, is_rightly_signed, is_rightly_sealed, has_needed_seal, has_few_hops, seal_required, has_seal, is_status_request, status_admission, status_from}
 use Rattle.roam_route.specs.declared.job.Side.{Side}
 use Rattle.roam_route.specs.declared.job.Side.TheVariants as side
 
@@ -36,12 +36,12 @@ checked_so : (holds : Bool) (why : Refusal) (further : Admission) → RejectsFor
 checked_so true why further h = h
 checked_so false why further h = refused_so why
 
-forwarded_so : (a : Arrival) (s : Side) (p : Packet) (realm : ℕ) → RejectsForNone (forwarded_for a s p realm)
-forwarded_so a s p realm = checked_so _ refusal.TooLong (given_to a s p realm) (admitted_so _)
+forwarded_so : (a : Arrival) (s : Side) (p : Packet) (realm : ℕ) (names : Option ℕ) → RejectsForNone (forwarded_for a s p realm names)
+forwarded_so a s p realm names = checked_so _ refusal.TooLong (given_to a s p realm names) (admitted_so _)
 
 named_so : (a : Arrival) (s : Side) (p : Packet) (realm : Option ℕ) → RejectsForNone (named a s p realm)
 named_so a s p None = refused_so refusal.NoRealm
-named_so a s p (Some realm) = forwarded_so a s p realm
+named_so a s p (Some realm) = forwarded_so a s p realm (Some realm)
 
 reject_so : (secret : List ℕ) (a : Arrival) (p : Packet) → RejectsForNone (rejected_for secret a p)
 reject_so secret a p = checked_so _ refusal.TooLong _ (rejected_so _ refl)
@@ -51,7 +51,7 @@ either_so true one other this that = this
 either_so false one other this that = that
 
 routed_so : (config : ConfigView) (secret : List ℕ) (a : Arrival) (s : Side) (p : Packet) (at : Place) → RejectsForNone (routed config secret a s p at)
-routed_so config secret a s p (place.Reverse realm) = forwarded_so a s p realm
+routed_so config secret a s p (place.Reverse realm) = forwarded_so a s p realm (realm_of config p.attributes)
 routed_so config secret a s p place.Auth =
     either_so (is_rejected config p) (rejected_for secret a p) (named a s p (realm_of config p.attributes))
     (reject_so secret a p) (named_so a s p (realm_of config p.attributes))
@@ -62,8 +62,9 @@ request_so : (config : ConfigView) (secret : List ℕ) (a : Arrival) (s : Side) 
 request_so config secret a s p =
     checked_so (is_rightly_signed secret p) refusal.BadAuthenticator _
     (checked_so (is_rightly_sealed secret p) refusal.BadMessageAuthenticator _
-    (checked_so (has_needed_seal (seal_required config s) p) refusal.MissingMessageAuthenticator (routed config secret a s p a.at)
-    (routed_so config secret a s p a.at)))
+    (checked_so (has_needed_seal (seal_required config s) p) refusal.MissingMessageAuthenticator _
+    (checked_so (has_few_hops config.max_hops p) refusal.TooManyHops (routed config secret a s p a.at)
+    (routed_so config secret a s p a.at))))
 
 packet_so : (config : ConfigView) (a : Arrival) (s : Side) (p : Packet) (at : Place) → RejectsForNone (packet_admission config a s p at)
 packet_so config a s p (place.Out realm) = admitted_so _
@@ -77,10 +78,21 @@ packet_so config a (side.Link l) p place.Auth = refused_so refusal.WrongCode
 packet_so config a (side.Link l) p place.Acct = refused_so refusal.WrongCode
 packet_so config a (side.Link l) p (place.Reverse realm) = refused_so refusal.WrongCode
 
+status_so : (secret : List ℕ) (a : Arrival) (p : Packet) → RejectsForNone (status_admission secret a p)
+status_so secret a p =
+    checked_so _ refusal.BadMessageAuthenticator _
+    (checked_so (has_seal p) refusal.MissingMessageAuthenticator _ (rejected_so _ refl))
+
+status_from_so : (config : ConfigView) (a : Arrival) (s : Side) (p : Packet) → RejectsForNone (status_from config a s p)
+status_from_so config a (side.Peer i) p = status_so (peer_secret config i) a p
+status_from_so config a (side.Home i) p = refused_so refusal.WrongCode
+status_from_so config a (side.Link l) p = refused_so refusal.WrongCode
+
 sent_so : (config : ConfigView) (a : Arrival) (p : Packet) (s : Option Side) → RejectsForNone (sent_admission config a p s)
 sent_so config a p None = refused_so refusal.UnknownSource
 sent_so config a p (Some s) =
-    checked_so (is_taken a.at s p.code) refusal.WrongCode (packet_admission config a s p a.at) (packet_so config a s p a.at)
+    either_so (is_status_request config a.at s p.code) (status_from config a s p) _ (status_from_so config a s p)
+    (checked_so (is_taken a.at s p.code) refusal.WrongCode (packet_admission config a s p a.at) (packet_so config a s p a.at))
 
 read_so : (config : ConfigView) (a : Arrival) (r : Result Packet Refusal) → RejectsForNone (read_admission config a r)
 read_so config a (Err why) = refused_so why

@@ -1,9 +1,24 @@
 -- The events that a broker was given, with one event more: it was answered, or it was lost.
-use Rattle.std.proofs.Common.{◌≡◌, ℕ, ◌+◌, ◌<◌, Bool, true, false, not, List, [], ◌∷◌, ◌++◌, length, take, get_or, refl, sym, ap, subst, ◌∙◌, ◌≤◌, arith}
+use Rattle.std.proofs.Common.{◌≡◌, ℕ, ◌+◌, ◌<◌, Bool, true, false, not, List, [], ◌∷◌, ◌++◌, Option, Some, length, take, get_or, refl, sym, ap, subst, ◌∙◌, ◌≤◌, arith}
+use Rattle.std.specs.Prelude.{IsSomeAnd, slice_get}
 use Rattle.std.proofs.lemmas.List.{take_all, take_more, length-take}
+use Rattle.std.proofs.lemmas.Option.{slice_get-get_or}
+use Rattle.roam_conf.specs.Config.{ConfigView}
+use Rattle.roam_pending.proofs.TestLemmas.{all-append}
 use Rattle.roam_core.specs.Events.{PlainEvent, is_lost}
-use Rattle.roam_core.specs.Runs.{ArePlaces, WereGiven}
+use Rattle.roam_core.specs.Runs.{ArePlaces, EachWantsMemory, WereGiven}
+use Rattle.roam_core.specs.Steps.{EventWantsMemory}
 use Rattle.roam_core.proofs.KeptLemmas.{absent, other_place, present}
+
+-- one place more, of an event that wants memory
+pub wanted-more :
+    (config : ConfigView) (events : List PlainEvent) (n : ℕ) (lost : List ℕ) (e d : PlainEvent)
+    → n < length events → get_or events n d ≡ e → EachWantsMemory config events lost
+    → EventWantsMemory config e → EachWantsMemory config events (lost ++ n ∷ [])
+wanted-more config events n lost e d within at each wants =
+    let there : slice_get events n ≡ Some e = slice_get-get_or events n d within ∙ ap Some at in
+    let here = subst (λ (o : Option PlainEvent). IsSomeAnd o (EventWantsMemory config)) (sym there) wants in
+    all-append _ lost (n ∷ []) each (here, tt)
 
 module _ {X : Type 0} (steps : X → PlainEvent → Bool → X → Type 0) where
   -- one event more, at its place

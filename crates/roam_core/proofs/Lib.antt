@@ -7,6 +7,9 @@ pub mod EventLemmas
 pub mod RealmRunLemmas
 pub mod IsolationLemmas
 pub mod GivenLemmas
+pub mod StepLemmas
+pub mod AloneLemmas
+pub mod OwnPartLemmas
 pub mod RunLemmas
 pub mod BookLemmas
 pub mod ShardLemmas
@@ -16,3 +19,4 @@ pub mod OriginReplyLemmas
 pub mod OriginTickLemmas
 pub mod ProvenanceLemmas
 pub mod TicketLemmas
+pub mod DrawLemmas

@@ -1,5 +1,5 @@
 -- What is known of each entry and of each packet after some events: where it comes from.
-use Rattle.std.proofs.Common.{◌≡◌, ℕ, ◌^◌, List, [], ◌∷◌, ◌++◌, sym, ap, subst, ◌∙◌, ltb, inl, inr, append_assoc}
+use Rattle.std.proofs.Common.{◌≡◌, ℕ, ◌^◌, List, [], ◌∷◌, ◌++◌, sym, ap, subst, ◌∙◌, ltb, inl, inr, append_assoc, Option}
 use Rattle.std.specs.List.{AllByRecursion}
 use Rattle.std.proofs.lemmas.Bool.{cases_Bool}
 use Rattle.roam_route.specs.Admission.{PlainOut}
@@ -13,7 +13,7 @@ use Rattle.roam_book.specs.OnRequest.{packet_back}
 use Rattle.roam_book.specs.OneRealm.{RealmEvent, request_came, reply_came, tick_came, on_event}
 use Rattle.roam_book.specs.declared.start.Start.{Start}
 use Rattle.roam_core.specs.Openings.{state_then}
-use Rattle.roam_core.specs.Provenance.{IsRequestOf, IsSentBy, IsForwarded, IsReturned, HasOrigin, StandsFrom, ComesFrom, IsNak}
+use Rattle.roam_core.specs.Provenance.{IsRequestOf, IsSentBy, AtLaterTick, Forwards, IsForwarded, IsReturned, HasOrigin, StandsFrom, ComesFrom, IsNak}
 use Rattle.roam_core.proofs.RealmRunLemmas.{state-next}
 
 -- of all: that they come from the events, have their origin there, were sent by an event's turn
@@ -40,11 +40,29 @@ abbrev pub request-later :
 request-later c start es fs q ticket h = record {
   first = h.first;
   asked_at = h.asked_at;
+  named = h.named;
   rest = h.rest ++ fs;
   in_order =
       ap (λ (l : List RealmEvent). l ++ fs) h.in_order
-      ∙ append_assoc h.first (request_came h.asked_at q ∷ h.rest) fs;
+      ∙ append_assoc h.first (request_came h.asked_at h.named q ∷ h.rest) fs;
   given = h.given;
+}
+
+tick-later :
+    (c : RealmConfig) (start : Start) (first fs : List RealmEvent) (asked_at : ℕ) (named : Option ℕ)
+    (q : PlainRequest) (rest : List RealmEvent) (ticket : ℕ)
+    (Does : List RealmEvent → RealmEvent → Type 0)
+    → AtLaterTick c start first asked_at named q rest ticket Does
+    → AtLaterTick c start first asked_at named q (rest ++ fs) ticket Does
+tick-later c start first fs asked_at named q rest ticket Does h = record {
+  between = h.between;
+  now = h.now;
+  after = h.after ++ fs;
+  in_order =
+      ap (λ (l : List RealmEvent). l ++ fs) h.in_order
+      ∙ append_assoc h.between (tick_came h.now ∷ h.after) fs;
+  held = h.held;
+  does = h.does;
 }
 
 pub forwarded-later :
@@ -55,16 +73,8 @@ forwarded-later c start es fs q position ticket target h = record {
   request = request-later c start es fs q ticket h.request;
   sent = elim h.sent [
     | inl own ↦ inl own
-    | inr over ↦ inr (record {
-      between = over.between;
-      now = over.now;
-      after = over.after ++ fs;
-      in_order =
-          ap (λ (l : List RealmEvent). l ++ fs) over.in_order
-          ∙ append_assoc over.between (tick_came over.now ∷ over.after) fs;
-      held = over.held;
-      sent = over.sent;
-    })
+    | inr over ↦ inr (tick-later c start h.request.first fs h.request.asked_at h.request.named q h.request.rest ticket
+        (Forwards c start q position ticket target) over)
   ];
 }
 
@@ -90,19 +100,30 @@ returned-later c start es fs q ticket out h = record {
 }
 
 pub nak-later :
-    (c : RealmConfig) (es fs : List RealmEvent) (q : PlainRequest) (out : PlainOut)
-    → IsNak c es q out → IsNak c (es ++ fs) q out
-nak-later c es fs q out h = record {
+    (c : RealmConfig) (start : Start) (es fs : List RealmEvent) (q : PlainRequest) (out : PlainOut)
+    → IsNak c start es q out → IsNak c start (es ++ fs) q out
+nak-later c start es fs q out (inl h) = inl (record {
   first = h.first;
   asked_at = h.asked_at;
+  named = h.named;
   rest = h.rest ++ fs;
   in_order =
       ap (λ (l : List RealmEvent). l ++ fs) h.in_order
-      ∙ append_assoc h.first (request_came h.asked_at q ∷ h.rest) fs;
-  reverse = h.reverse;
+      ∙ append_assoc h.first (request_came h.asked_at h.named q ∷ h.rest) fs;
   cause = h.cause;
+  why = h.why;
   is_nak = h.is_nak;
-}
+  sent = h.sent;
+})
+nak-later c start es fs q out (inr h) = inr (record {
+  ticket = h.ticket;
+  request = request-later c start es fs q h.ticket h.request;
+  reverse = h.reverse;
+  is_nak = h.is_nak;
+  given_up =
+      tick-later c start h.request.first fs h.request.asked_at h.request.named q h.request.rest h.ticket
+      (λ before e. IsSentBy c start before e out) h.given_up;
+})
 
 pub stands-later :
     (c : RealmConfig) (start : Start) (es fs : List RealmEvent) (q : PlainRequest) (ticket : ℕ)
@@ -117,7 +138,7 @@ stands-later c start es fs q ticket (waiting l id forwarded sends_left deadline)
 stands-later c start es fs q ticket (done reply deadline) (inl h) =
     inl (returned-later c start es fs q ticket (packet_back c q.key reply) h)
 stands-later c start es fs q ticket (done reply deadline) (inr h) =
-    inr (nak-later c es fs q (packet_back c q.key reply) h)
+    inr (nak-later c start es fs q (packet_back c q.key reply) h)
 
 comes-later :
     (c : RealmConfig) (start : Start) (es fs : List RealmEvent) (e : PlainEntry)
@@ -151,7 +172,7 @@ has-origin-later c start es fs out (inr (inl h)) = inr (inl (record {
   returned = returned-later c start es fs h.request h.ticket out h.returned;
 }))
 has-origin-later c start es fs out (inr (inr h)) =
-    inr (inr (record { request = h.request; nak = nak-later c es fs h.request out h.nak }))
+    inr (inr (record { request = h.request; nak = nak-later c start es fs h.request out h.nak }))
 
 pub origin-later :
     (c : RealmConfig) (start : Start) (es fs : List RealmEvent) (outs : List PlainOut)

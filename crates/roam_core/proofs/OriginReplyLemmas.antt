@@ -16,7 +16,7 @@ use Rattle.roam_pending.specs.Realms.{with_standing}
 use Rattle.roam_pending.proofs.TestLemmas.{all-find}
 use Rattle.roam_pending.proofs.OrderLemmas.{all-put}
 use Rattle.roam_pending.proofs.ChangeLemmas.{find-passes}
-use Rattle.roam_book.specs.RealmConfig.{RealmConfig, link_secret}
+use Rattle.roam_book.specs.RealmConfig.{RealmConfig, link_secret, seal_required}
 use Rattle.roam_book.specs.RealmState.{RealmState}
 use Rattle.roam_book.specs.Turn.{packets_of}
 use Rattle.roam_book.specs.OnRequest.{packet_back}
@@ -75,7 +75,7 @@ module _ (c : RealmConfig) (start : Start) (before : List RealmEvent) (now : ℕ
       (q : PlainRequest) (ticket id : ℕ) (forwarded : List ℕ)
       → WaitsFor c start before q ticket (record { link = from; id = id }) forwarded
       → (packet_of reply).id ≡ id
-      → reply_fault (link_secret c from) (packet_of reply) (packet_of forwarded) ≡ None
+      → reply_fault (link_secret c from) (seal_required c from) (packet_of reply) (packet_of forwarded) ≡ None
       → IsSentBy c start before (reply_came now from reply)
       (back_for c q from (packet_of forwarded) (packet_of reply))
       → IsReturned c start (and_reply before now from reply) q ticket
@@ -91,7 +91,7 @@ module _ (c : RealmConfig) (start : Start) (before : List RealmEvent) (now : ℕ
     forwarded = waits.forwarded;
     identifier = at;
     taken =
-        subst (λ (octets : List ℕ). reply_fault (link_secret c from) (packet_of reply)
+        subst (λ (octets : List ℕ). reply_fault (link_secret c from) (seal_required c from) (packet_of reply)
         (packet_of octets) ≡ None) waits.octets_are taken;
     is_returned =
         ap (λ (octets : List ℕ). back_for c q from (packet_of octets) (packet_of reply))
@@ -104,7 +104,7 @@ module _ (c : RealmConfig) (start : Start) (before : List RealmEvent) (now : ℕ
       (e : PlainEntry) (id : ℕ) (forwarded : List ℕ) → ComesFrom c start before e
       → WaitsFor c start before e.request e.ticket (record { link = from; id = id }) forwarded
       → (packet_of reply).id ≡ id
-      → reply_fault (link_secret c from) (packet_of reply) (packet_of forwarded) ≡ None
+      → reply_fault (link_secret c from) (seal_required c from) (packet_of reply) (packet_of forwarded) ≡ None
       → AreSentBy c start before (reply_came now from reply)
       (packets_of (return_reply c now s e from (packet_of forwarded) (packet_of reply)))
       → TurnKeeps c start (and_reply before now from reply) s
@@ -137,7 +137,7 @@ module _ (c : RealmConfig) (start : Start) (before : List RealmEvent) (now : ℕ
   -- one that isn't taken changes nothing
   judge-keeps :
       (e : PlainEntry) (id : ℕ) (forwarded : List ℕ) (why : Option Refusal)
-      → reply_fault (link_secret c from) (packet_of reply) (packet_of forwarded) ≡ why
+      → reply_fault (link_secret c from) (seal_required c from) (packet_of reply) (packet_of forwarded) ≡ why
       → ComesFrom c start before e
       → WaitsFor c start before e.request e.ticket (record { link = from; id = id }) forwarded
       → (packet_of reply).id ≡ id
@@ -169,7 +169,7 @@ module _ (c : RealmConfig) (start : Start) (before : List RealmEvent) (now : ℕ
       (packets_of (to_standing c now s e (packet_of reply) (waiting k id forwarded sends_left deadline))) in
       let kept_there : Link → Type 0 = λ k. TurnKeeps c start (and_reply before now from reply) s
       (to_standing c now s e (packet_of reply) (waiting k id forwarded sends_left deadline)) in
-      let why = reply_fault (link_secret c from) (packet_of reply) (packet_of forwarded) in
+      let why = reply_fault (link_secret c from) (seal_required c from) (packet_of reply) (packet_of forwarded) in
       subst kept_there (sym is)
       (judge-keeps e id forwarded why refl comes there asked (subst of_link is sent))
   to_standing-keeps e (done old deadline) comes waits at sent =

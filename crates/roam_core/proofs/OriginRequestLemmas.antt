@@ -1,8 +1,10 @@
 -- A request keeps what is known: a new one is forwarded, and a duplicate gets the held reply.
-use Rattle.std.proofs.Common.{◌≡◌, ℕ, ◌^◌, Bool, List, [], ◌∷◌, ◌++◌, Option, Some, None, refl, ap, subst, ◌∙◌, eqb, ltb, inl, inr, length, true}
+use Rattle.std.proofs.Common.{◌≡◌, ℕ, ◌+◌, ◌%◌, ◌^◌, Bool, false, List, [], ◌∷◌, ◌++◌, Option, Some, None, refl, sym, ap, subst, ◌∙◌, eqb, ltb, inl, inr, length, arith}
 use Rattle.std.specs.Prelude.{nat_eq, not}
 use Rattle.std.specs.Cmp.Lexicographic.{pointwise}
 use Rattle.std.proofs.lemmas.Bool.{cases_Bool}
+use Rattle.std.proofs.lemmas.Bool.Decides.{nat_tests}
+use Rattle.roam_pending.specs.ListLaws.{IsIn}
 use Rattle.roam_pending.specs.declared.key.Key.{Key}
 use Rattle.roam_pending.specs.PlainEntry.{PlainRequest, PlainStanding, PlainEntry, waiting, done, has_key, has_ticket}
 use Rattle.roam_pending.specs.EntryList.{find_client, first_done, without, without_client}
@@ -11,11 +13,12 @@ use Rattle.roam_pending.proofs.OrderLemmas.{all-put}
 use Rattle.roam_pending.proofs.ChangeLemmas.{find-passes}
 use Rattle.roam_pending.proofs.ClientLemmas.{key-equal}
 use Rattle.roam_book.specs.RealmConfig.{RealmConfig}
-use Rattle.roam_book.specs.RealmState.{RealmState, Target, first_target}
-use Rattle.roam_book.specs.Turn.{Turn}
-use Rattle.roam_book.specs.OnRequest.{packet_back, forwarded_entry, admit, make_way, at_target, new_request, held_reply, first_seen, is_reverse, nak_or_new, of_key, on_request, reverse_cause, targets}
+use Rattle.roam_book.specs.RealmState.{RealmState, Target, chosen_target}
+use Rattle.roam_book.specs.Turn.{Turn, state_after}
+use Rattle.roam_book.specs.OnRequest.{packet_back, forwarded_entry, admit, make_way, at_target, new_request, held_reply, first_seen, nak_octets, nak_or_new, of_key, on_request, reverse_cause, targets}
 use Rattle.roam_book.specs.OneRealm.{RealmEvent, request_came}
 use Rattle.roam_book.specs.declared.start.Start.{Start}
+use Rattle.roam_core.specs.Draws.{DrawsAt, drawn_between, drawn_by}
 use Rattle.roam_core.specs.Provenance.{IsReturned, IsNak, IsForwarded, StandsFrom, ComesFrom, forwarded_packet}
 use Rattle.roam_core.proofs.OriginLemmas.{EachComes, EachHasOrigin, TurnKeeps, IsTurnAfter, sent-by, state-by}
 
@@ -29,31 +32,48 @@ held-origin c start events q ticket key (done reply deadline) is (inl h) =
     let back = subst (λ (k : Key). IsReturned c start events q ticket (packet_back c k reply)) is h in
     (inr (inl (record { request = q; ticket = ticket; returned = back })), tt)
 held-origin c start events q ticket key (done reply deadline) is (inr h) =
-    let back = subst (λ (k : Key). IsNak c events q (packet_back c k reply)) is h in
+    let back = subst (λ (k : Key). IsNak c start events q (packet_back c k reply)) is h in
     (inr (inr (record { request = q; nak = back })), tt)
 
--- there is a cause for a NAK to a reverse request alone
-cause-reverse :
-    (c : RealmConfig) (s : RealmState) (q : PlainRequest) (why : ℕ)
-    → reverse_cause c s q ≡ Some why → is_reverse q ≡ true
-cause-reverse c s q why some =
-    elim (cases_Bool (is_reverse q)) [
-      | inl y ↦ y
-      | inr n ↦ absurd (let k : None ≡ Some why = rw n at some in cc)
-    ]
+-- the position of the stream after the four words that are drawn from one; it is another one
+abbrev pub next_position : ℕ → ℕ
+next_position p = (p + 4) % 2 ^ 68
+
+pub moves : (p : ℕ) → eqb (next_position p) p ≡ false
+moves p = grind (arith, nat_tests)
+
+pub drawn-there :
+    (old new : RealmState) → new.stream_position ≡ next_position old.stream_position
+    → IsIn old.stream_position (drawn_between old new)
+drawn-there old new is =
+    let moved : eqb new.stream_position old.stream_position ≡ false =
+    ap (λ (p : ℕ). eqb p old.stream_position) is ∙ moves old.stream_position in
+    rw moved (inl refl)
+
+-- a request whose turn leaves it there draws words
+drawn-by :
+    (c : RealmConfig) (start : Start) (before : List RealmEvent) (now : ℕ)
+    (named : Option ℕ) (q : PlainRequest) (s : RealmState) (turn : Turn) → IsTurnAfter c start before (request_came now named q) s turn
+    → (state_after s turn).stream_position ≡ next_position s.stream_position
+    → DrawsAt c start before (request_came now named q) s.stream_position
+drawn-by c start before now named q s turn is moved =
+    let there = subst (λ (t : Turn). IsIn s.stream_position (drawn_between s (state_after s t)))
+    (sym is.does) (drawn-there s (state_after s turn) moved) in
+    subst (λ (t : RealmState). IsIn s.stream_position (drawn_by c t (request_came now named q)))
+    (sym is.state) there
 
 -- of a request that comes after some events, in a state whose entries come from them
-module _ (c : RealmConfig) (start : Start) (before : List RealmEvent) (now : ℕ) (q : PlainRequest)
-    (s : RealmState) (turn : Turn)
-    (after : IsTurnAfter c start before (request_came now q) s turn)
-    (kept : EachComes c start (before ++ request_came now q ∷ []) s.entries) where
+module _ (c : RealmConfig) (start : Start) (before : List RealmEvent) (now : ℕ)
+    (named : Option ℕ) (q : PlainRequest) (s : RealmState) (turn : Turn)
+    (after : IsTurnAfter c start before (request_came now named q) s turn)
+    (kept : EachComes c start (before ++ request_came now named q ∷ []) s.entries) where
   -- it is given the next ticket, and its own turn forwards it
   admit-forwarded :
       (es : List PlainEntry) (target : Target) → turn ≡ admit c now s es q target
-      → IsForwarded c start (before ++ request_came now q ∷ []) q s.stream_position s.ticket target
+      → IsForwarded c start (before ++ request_came now named q ∷ []) q s.stream_position s.ticket target
   admit-forwarded es target is =
       let out = forwarded_packet c q s.stream_position s.ticket target in
-      let event = request_came now q in
+      let event = request_came now named q in
       let whole : IsTurnAfter c start before event s (admit c now s es q target) =
       record { state = after.state; does = after.does ∙ is } in
       let ends = state-by c start before event s (admit c now s es q target) whole in
@@ -61,6 +81,7 @@ module _ (c : RealmConfig) (start : Start) (before : List RealmEvent) (now : ℕ
         request = record {
           first = before;
           asked_at = now;
+          named = named;
           rest = [];
           in_order = refl;
           given = record {
@@ -68,15 +89,18 @@ module _ (c : RealmConfig) (start : Start) (before : List RealmEvent) (now : ℕ
             taken = ap (λ (t : RealmState). t.ticket) ends;
           };
         };
-        sent = inl (sent-by c start before event s (admit c now s es q target) out whole (inl refl));
+        sent = inl (record {
+          sent = sent-by c start before event s (admit c now s es q target) out whole (inl refl);
+          drawn = λ drew. drawn-by c start before now named q s (admit c now s es q target) whole (rw drew refl);
+        });
       }
 
   admit-keeps :
       (es : List PlainEntry) (target : Target)
-      → EachComes c start (before ++ request_came now q ∷ []) es → turn ≡ admit c now s es q target
-      → TurnKeeps c start (before ++ request_came now q ∷ []) s (admit c now s es q target)
+      → EachComes c start (before ++ request_came now named q ∷ []) es → turn ≡ admit c now s es q target
+      → TurnKeeps c start (before ++ request_came now named q ∷ []) s (admit c now s es q target)
   admit-keeps es target each is =
-      let events = before ++ request_came now q ∷ [] in
+      let events = before ++ request_came now named q ∷ [] in
       let forwarded = admit-forwarded es target is in
       let new = forwarded_entry c now q s.stream_position s.ticket target in
       let comes : ComesFrom c start events new = record {
@@ -104,21 +128,21 @@ module _ (c : RealmConfig) (start : Start) (before : List RealmEvent) (now : ℕ
 
   make_way-keeps :
       (es : List PlainEntry) (target : Target) (way : Option ℕ)
-      → EachComes c start (before ++ request_came now q ∷ []) es
+      → EachComes c start (before ++ request_came now named q ∷ []) es
       → turn ≡ make_way c now s es q target way
-      → TurnKeeps c start (before ++ request_came now q ∷ []) s (make_way c now s es q target way)
+      → TurnKeeps c start (before ++ request_came now named q ∷ []) s (make_way c now s es q target way)
   make_way-keeps es target None each is = record { packets = tt; entries = kept }
   make_way-keeps es target (Some ticket) each is =
-      let events = before ++ request_came now q ∷ [] in
+      let events = before ++ request_came now named q ∷ [] in
       let stays : PlainEntry → Bool = λ e. not (has_ticket ticket e) in
       let others = all-filter (ComesFrom c start events) stays es each in
       admit-keeps (without ticket es) target others is
 
   at_target-keeps :
       (es : List PlainEntry) (target : Option Target)
-      → EachComes c start (before ++ request_came now q ∷ []) es
+      → EachComes c start (before ++ request_came now named q ∷ []) es
       → turn ≡ at_target c now s es q target
-      → TurnKeeps c start (before ++ request_came now q ∷ []) s (at_target c now s es q target)
+      → TurnKeeps c start (before ++ request_came now named q ∷ []) s (at_target c now s es q target)
   at_target-keeps es None each is = record { packets = tt; entries = kept }
   at_target-keeps es (Some target) each is =
       elim (cases_Bool (ltb (length es) c.realm.max_pending)) [
@@ -127,11 +151,11 @@ module _ (c : RealmConfig) (start : Start) (before : List RealmEvent) (now : ℕ
       ]
 
   new_request-keeps :
-      (es : List PlainEntry) → EachComes c start (before ++ request_came now q ∷ []) es
+      (es : List PlainEntry) → EachComes c start (before ++ request_came now named q ∷ []) es
       → turn ≡ new_request c now s es q
-      → TurnKeeps c start (before ++ request_came now q ∷ []) s (new_request c now s es q)
+      → TurnKeeps c start (before ++ request_came now named q ∷ []) s (new_request c now s es q)
   new_request-keeps es each is =
-      let target = first_target c s.cursors es (targets c q) in
+      let target = chosen_target c now s.rests s.cursors es (targets c q) in
       elim (cases_Bool (eqb s.ticket (2 ^ 63))) [
         | inl y ↦ rw y (record { packets = tt; entries = kept })
         | inr n ↦ rw n (at_target-keeps es target each (rw n at is))
@@ -139,44 +163,51 @@ module _ (c : RealmConfig) (start : Start) (before : List RealmEvent) (now : ℕ
 
   -- a reverse request that isn't forwarded
   nak_or_new-keeps :
-      (why : Option ℕ) → reverse_cause c s q ≡ why → turn ≡ nak_or_new c now s q why
-      → TurnKeeps c start (before ++ request_came now q ∷ []) s (nak_or_new c now s q why)
+      (why : Option ℕ) → reverse_cause c s named q ≡ why → turn ≡ nak_or_new c now s q why
+      → TurnKeeps c start (before ++ request_came now named q ∷ []) s (nak_or_new c now s q why)
   nak_or_new-keeps None at is =
-      let events = before ++ request_came now q ∷ [] in
+      let events = before ++ request_came now named q ∷ [] in
       let stays : PlainEntry → Bool = λ x. not (has_key q.key x) in
       let others = all-filter (ComesFrom c start events) stays s.entries kept in
       new_request-keeps (without_client q.key s.entries) others is
-  nak_or_new-keeps (Some why) at is = record {
-    packets = (
-      inr (inr (record {
-        request = q;
-        nak = record {
-          first = before;
-          asked_at = now;
-          rest = [];
-          in_order = refl;
-          reverse = cause-reverse c s q why at;
-          cause = why;
-          is_nak = refl;
-        };
-      })),
-      tt,
-    );
-    entries = kept;
-  }
+  nak_or_new-keeps (Some why) at is =
+      let event = request_came now named q in
+      let whole : IsTurnAfter c start before event s (nak_or_new c now s q (Some why)) =
+      record { state = after.state; does = after.does ∙ is } in
+      let out = packet_back c q.key (nak_octets c q why) in
+      record {
+        packets = (
+          inr (inr (record {
+            request = q;
+            nak = inl (record {
+              first = before;
+              asked_at = now;
+              named = named;
+              rest = [];
+              in_order = refl;
+              cause = why;
+              why = ap (λ (t : RealmState). reverse_cause c t named q) after.state ∙ at;
+              is_nak = refl;
+              sent = sent-by c start before event s (nak_or_new c now s q (Some why)) out whole (inl refl);
+            });
+          })),
+          tt,
+        );
+        entries = kept;
+      }
 
   first_seen-keeps :
-      turn ≡ first_seen c now s q
-      → TurnKeeps c start (before ++ request_came now q ∷ []) s (first_seen c now s q)
-  first_seen-keeps is = nak_or_new-keeps (reverse_cause c s q) refl is
+      turn ≡ first_seen c now s named q
+      → TurnKeeps c start (before ++ request_came now named q ∷ []) s (first_seen c now s named q)
+  first_seen-keeps is = nak_or_new-keeps (reverse_cause c s named q) refl is
 
   of_key-keeps :
       (found : Option PlainEntry) → find_client q.key s.entries ≡ found
-      → turn ≡ of_key c now s q found
-      → TurnKeeps c start (before ++ request_came now q ∷ []) s (of_key c now s q found)
+      → turn ≡ of_key c now s named q found
+      → TurnKeeps c start (before ++ request_came now named q ∷ []) s (of_key c now s named q found)
   of_key-keeps None at is = first_seen-keeps is
   of_key-keeps (Some e) at is =
-      let events = before ++ request_came now q ∷ [] in
+      let events = before ++ request_came now named q ∷ [] in
       let same = key-equal e.request.key q.key (find-passes (has_key q.key) s.entries e at) in
       let comes = all-find (ComesFrom c start events) (has_key q.key) s.entries e at kept in
       let held = held-origin c start events e.request e.ticket q.key e.standing same comes.standing in
@@ -186,8 +217,8 @@ module _ (c : RealmConfig) (start : Start) (before : List RealmEvent) (now : ℕ
       ]
 
   in_range-keeps :
-      turn ≡ on_request c now s q
-      → TurnKeeps c start (before ++ request_came now q ∷ []) s (on_request c now s q)
+      turn ≡ on_request c now s named q
+      → TurnKeeps c start (before ++ request_came now named q ∷ []) s (on_request c now s named q)
   in_range-keeps is =
       let found = find_client q.key s.entries in
       elim (cases_Bool (ltb (2 ^ 62) now)) [
@@ -197,10 +228,10 @@ module _ (c : RealmConfig) (start : Start) (before : List RealmEvent) (now : ℕ
 
 -- so it does after all events before it
 pub on_request-keeps :
-    (c : RealmConfig) (start : Start) (before : List RealmEvent) (now : ℕ) (q : PlainRequest)
-    (s : RealmState)
-    → IsTurnAfter c start before (request_came now q) s (on_request c now s q)
-    → EachComes c start (before ++ request_came now q ∷ []) s.entries
-    → TurnKeeps c start (before ++ request_came now q ∷ []) s (on_request c now s q)
-on_request-keeps c start before now q s after kept =
-    in_range-keeps c start before now q s (on_request c now s q) after kept refl
+    (c : RealmConfig) (start : Start) (before : List RealmEvent) (now : ℕ)
+    (named : Option ℕ) (q : PlainRequest) (s : RealmState)
+    → IsTurnAfter c start before (request_came now named q) s (on_request c now s named q)
+    → EachComes c start (before ++ request_came now named q ∷ []) s.entries
+    → TurnKeeps c start (before ++ request_came now named q ∷ []) s (on_request c now s named q)
+on_request-keeps c start before now named q s after kept =
+    in_range-keeps c start before now named q s (on_request c now s named q) after kept refl

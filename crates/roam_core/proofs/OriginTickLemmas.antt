@@ -1,5 +1,5 @@
 -- A tick keeps what is known: an entry is forwarded again or anew, or it goes.
-use Rattle.std.proofs.Common.{◌≡◌, ℕ, ◌+◌, List, Bool, [], ◌∷◌, ◌++◌, Option, Some, None, refl, sym, ap, subst, ◌∙◌, true, ltb, inl, inr, append_assoc}
+use Rattle.std.proofs.Common.{◌≡◌, ℕ, ◌+◌, ◌^◌, List, Bool, [], ◌∷◌, ◌++◌, Option, Some, None, refl, sym, ap, subst, ◌∙◌, true, ltb, inl, inr, append_assoc}
 use Rattle.std.specs.Prelude.{not}
 use Rattle.std.specs.List.{AllByRecursion}
 use Rattle.std.proofs.lemmas.Bool.{cases_Bool}
@@ -13,16 +13,20 @@ use Rattle.roam_reverse.specs.declared.error_cause.TheConstants.{OTHER_PROXY_PRO
 use Rattle.roam_pending.proofs.TestLemmas.{all-append, all-filter, all-find, all-weaker}
 use Rattle.roam_pending.proofs.OrderLemmas.{all-put}
 use Rattle.roam_book.specs.RealmConfig.{RealmConfig, later_targets}
-use Rattle.roam_book.specs.RealmState.{RealmState, Target, first_target}
+use Rattle.roam_book.specs.Rests.{after_silence}
+use Rattle.roam_book.specs.RealmState.{RealmState, Target, chosen_target}
 use Rattle.roam_book.specs.Turn.{packets_of}
-use Rattle.roam_book.specs.OnRequest.{forwarded_entry, is_reverse, nak_octets, packet_back, packet_to}
-use Rattle.roam_book.specs.OnTick.{Progress, fail_over, given_up, once_refused, without_entry, due_standing, due_entry, due_one, due_each, as_turn, on_tick}
-use Rattle.roam_book.specs.OneRealm.{RealmEvent, request_came, tick_came}
+use Rattle.roam_route.specs.Admission.{PlainOut}
+use Rattle.roam_book.specs.OnRequest.{draws, forwarded_entry, is_reverse, nak_octets, once_forwarded, packet_back, packet_to}
+use Rattle.roam_book.specs.OnTick.{Progress, fail_over, given_up, once_refused, without_entry, due_standing, due_entry, due_one, due_each, as_turn, on_tick, given_up_at}
+use Rattle.roam_book.specs.OneRealm.{RealmEvent, tick_came}
 use Rattle.roam_book.specs.declared.start.Start.{Start}
 use Rattle.roam_core.specs.Openings.{state_then}
-use Rattle.roam_core.specs.Provenance.{IsRequestOf, IsSentBy, IsHeld, IsForwarded, IsNak, StandsFrom, ComesFrom, forwarded_packet}
+use Rattle.roam_core.specs.Draws.{DrawsAt, drawn_between, drawn_by, drawn_by_dues}
+use Rattle.roam_core.specs.Provenance.{IsRequestOf, IsSentBy, IsHeld, AtLaterTick, Forwards, IsForwarded, IsNak, StandsFrom, ComesFrom}
+use Rattle.roam_core.proofs.OriginRequestLemmas.{drawn-there}
 use Rattle.roam_core.proofs.RealmRunLemmas.{all-in, all-left, all-right, in-all}
-use Rattle.roam_core.proofs.OriginLemmas.{EachComes, EachHasOrigin, AreSentBy, TurnKeeps, request-later, stands-later, in_time-keeps}
+use Rattle.roam_core.proofs.OriginLemmas.{EachComes, EachHasOrigin, AreSentBy, TurnKeeps, request-later, stands-later}
 
 -- of a tick at this moment, which comes after some events
 module _ (c : RealmConfig) (start : Start) (before : List RealmEvent) (now : ℕ) where
@@ -37,57 +41,63 @@ module _ (c : RealmConfig) (start : Start) (before : List RealmEvent) (now : ℕ
     pub packets : EachHasOrigin c start (before ++ tick_came now ∷ []) p.packets
     pub entries : AllByRecursion IsKnown p.state.entries
 
-  -- what the tick sends for a held entry, to another target
+  -- what the tick does for a held entry
+  at-tick :
+      (e : PlainEntry) (known : IsKnown e) (Does : List RealmEvent → RealmEvent → Type 0)
+      → Does before (tick_came now)
+      → AtLaterTick c start known.request.first known.request.asked_at known.request.named e.request
+      (known.request.rest ++ tick_came now ∷ []) e.ticket Does
+  at-tick e known Does does =
+      let r = known.request in
+      record {
+        between = r.rest;
+        now = now;
+        after = [];
+        in_order = refl;
+        held = subst (λ (l : List RealmEvent). IsHeld c start l e.request e.ticket) r.in_order known.held;
+        does = subst (λ (l : List RealmEvent). Does l (tick_came now)) r.in_order does;
+      }
+
+  -- what the tick sends for it, to another target
   over-forwarded :
       (e : PlainEntry) (position : ℕ) (target : Target) → IsKnown e
-      → IsSentBy c start before (tick_came now)
-      (forwarded_packet c e.request position e.ticket target)
+      → Forwards c start e.request position e.ticket target before (tick_came now)
       → IsForwarded c start (before ++ tick_came now ∷ []) e.request position e.ticket target
-  over-forwarded e position target known sent =
+  over-forwarded e position target known forwards =
       let r = known.request in
-      let out = forwarded_packet c e.request position e.ticket target in
-      let held = subst (λ (l : List RealmEvent). IsHeld c start l e.request e.ticket) r.in_order known.held in
-      let there = subst (λ (l : List RealmEvent). IsSentBy c start l (tick_came now) out) r.in_order sent in
       record {
         request = request-later c start before (tick_came now ∷ []) e.request e.ticket r;
-        sent = inr (record {
-          between = r.rest;
-          now = now;
-          after = [];
-          in_order = refl;
-          held = held;
-          sent = there;
-        });
+        sent = inr (at-tick e known (Forwards c start e.request position e.ticket target) forwards);
       }
 
   -- a reverse request that is given up gets a NAK
-  nak-of : (e : PlainEntry) (why : ℕ) → IsKnown e → is_reverse e.request ≡ true
-      → IsNak c (before ++ tick_came now ∷ []) e.request
-      (packet_back c e.request.key (nak_octets c e.request why))
-  nak-of e why known reverse =
-      let r = known.request in
-      record {
-        first = r.first;
-        asked_at = r.asked_at;
-        rest = r.rest ++ tick_came now ∷ [];
-        in_order =
-            ap (λ (l : List RealmEvent). l ++ tick_came now ∷ []) r.in_order
-            ∙ append_assoc r.first (request_came r.asked_at e.request ∷ r.rest) (tick_came now ∷ []);
-        reverse = reverse;
-        cause = why;
-        is_nak = refl;
-      }
+  abbrev nak_out : PlainEntry → PlainOut
+  nak_out e = packet_back c e.request.key (nak_octets c e.request OTHER_PROXY_PROCESSING_ERROR)
+
+  nak-of : (e : PlainEntry) → IsKnown e → is_reverse e.request ≡ true
+      → IsSentBy c start before (tick_came now) (nak_out e)
+      → IsNak c start (before ++ tick_came now ∷ []) e.request (nak_out e)
+  nak-of e known reverse sent = inr (record {
+    ticket = e.ticket;
+    request = request-later c start before (tick_came now ∷ []) e.request e.ticket known.request;
+    reverse = reverse;
+    is_nak = refl;
+    given_up = at-tick e known (λ bs x. IsSentBy c start bs x (nak_out e)) sent;
+  })
 
   once_refused-keeps :
-      (s : RealmState) (e : PlainEntry) (why : ℕ)
+      (s : RealmState) (e : PlainEntry)
       → AllByRecursion IsKnown s.entries → IsKnown e → is_reverse e.request ≡ true
-      → AllByRecursion IsKnown (once_refused c now s e (nak_octets c e.request why)).entries
-  once_refused-keeps s e why kept known reverse =
-      let refused = with_standing (done (nak_octets c e.request why) (now + c.realm.hold)) e in
+      → IsSentBy c start before (tick_came now) (nak_out e)
+      → AllByRecursion IsKnown
+      (once_refused c now s e (nak_octets c e.request OTHER_PROXY_PROCESSING_ERROR)).entries
+  once_refused-keeps s e kept known reverse sent =
+      let octets = nak_octets c e.request OTHER_PROXY_PROCESSING_ERROR in
+      let refused = with_standing (done octets (now + c.realm.hold)) e in
       let refused_known : IsKnown refused = record {
         request = known.request;
         held = known.held;
-        standing = inr (nak-of e why known reverse);
+        standing = inr (nak-of e known reverse sent);
       } in
       elim (cases_Bool (ltb 0 c.realm.hold)) [
         | inl y ↦ rw y (all-put IsKnown refused s.entries refused_known kept)
@@ -96,25 +106,42 @@ module _ (c : RealmConfig) (start : Start) (before : List RealmEvent) (now : ℕ
 
   given_up-keeps :
       (s : RealmState) (e : PlainEntry) → AllByRecursion IsKnown s.entries → IsKnown e
+      → AreSentBy c start before (tick_came now) (given_up c now s e).packets
       → ProgressKeeps (given_up c now s e)
-  given_up-keeps s e kept known =
-      let why = OTHER_PROXY_PROCESSING_ERROR in
+  given_up-keeps s e kept known sent =
       elim (cases_Bool (is_reverse e.request)) [
-        | inl y ↦ rw y (record {
-          packets = (inr (inr (record { request = e.request; nak = nak-of e why known y })), tt);
-          entries = once_refused-keeps s e why kept known y;
-        })
+        | inl y ↦
+            let out : AreSentBy c start before (tick_came now) (nak_out e ∷ []) = rw y at sent in
+            rw y (record {
+              packets = (inr (inr (record { request = e.request; nak = nak-of e known y out.0 })), tt);
+              entries = once_refused-keeps s e kept known y out.0;
+            })
         | inr n ↦ rw n (record { packets = tt; entries = kept })
       ]
+
+  -- words are drawn for it from where the stream stood
+  drawn-over :
+      (s : RealmState) (e : PlainEntry) (target : Target)
+      → AllByRecursion (DrawsAt c start before (tick_came now))
+      (drawn_between s (once_forwarded c now s e.request e.ticket target))
+      → draws e.request ≡ true → DrawsAt c start before (tick_came now) s.stream_position
+  drawn-over s e target drew asks =
+      let new = once_forwarded c now s e.request e.ticket target in
+      let there = drawn-there s new (rw asks refl) in
+      all-in (DrawsAt c start before (tick_came now)) (drawn_between s new) s.stream_position drew there
 
   fail_over-keeps :
       (s : RealmState) (e : PlainEntry) (target : Option Target)
       → AllByRecursion IsKnown s.entries → IsKnown e
       → AreSentBy c start before (tick_came now) (fail_over c now s e target).packets
+      → AllByRecursion (DrawsAt c start before (tick_came now))
+      (drawn_between s (fail_over c now s e target).state)
       → ProgressKeeps (fail_over c now s e target)
-  fail_over-keeps s e None kept known sent = given_up-keeps s e kept known
-  fail_over-keeps s e (Some target) kept known sent =
-      let forwarded = over-forwarded e s.stream_position target known sent.0 in
+  fail_over-keeps s e None kept known sent drew = given_up-keeps s e kept known sent
+  fail_over-keeps s e (Some target) kept known sent drew =
+      let forwards : Forwards c start e.request s.stream_position e.ticket target before (tick_came now) =
+      record { sent = sent.0; drawn = drawn-over s e target drew } in
+      let forwarded = over-forwarded e s.stream_position target known forwards in
       let anew = forwarded_entry c now e.request s.stream_position e.ticket target in
       let anew_known : IsKnown anew = record {
         request = known.request;
@@ -160,16 +187,19 @@ module _ (c : RealmConfig) (start : Start) (before : List RealmEvent) (now : ℕ
       → AllByRecursion IsKnown s.entries → IsKnown e
       → StandsFrom c start (before ++ tick_came now ∷ []) e.request e.ticket standing
       → AreSentBy c start before (tick_came now) (due_standing c now s e standing).packets
+      → AllByRecursion (DrawsAt c start before (tick_came now))
+      (drawn_between s (due_standing c now s e standing).state)
       → ProgressKeeps (due_standing c now s e standing)
-  due_standing-keeps s e (done reply deadline) kept known stands sent =
+  due_standing-keeps s e (done reply deadline) kept known stands sent drew =
       let stays : PlainEntry → Bool = λ x. not (has_ticket e.ticket x) in
       record { packets = tt; entries = all-filter IsKnown stays s.entries kept }
-  due_standing-keeps s e (waiting l id forwarded sends_left deadline) kept known stands sent =
+  due_standing-keeps s e (waiting l id forwarded sends_left deadline) kept known stands sent drew =
       let again = sent_again (now + c.realm.wait) e in
       let again_known = again-known e (now + c.realm.wait) known in
       let stays : PlainEntry → Bool = λ x. not (has_ticket e.ticket x) in
       let others = all-filter IsKnown stays s.entries kept in
-      let next = first_target c s.cursors (without e.ticket s.entries) (later_targets c l) in
+      let next = chosen_target c now (after_silence c now s.rests l) s.cursors
+      (without e.ticket s.entries) (later_targets c l) in
       elim (cases_Bool (ltb 0 sends_left)) [
         | inl y ↦ rw y (record {
           packets = (
@@ -185,32 +215,37 @@ module _ (c : RealmConfig) (start : Start) (before : List RealmEvent) (now : ℕ
           );
           entries = all-put IsKnown again s.entries again_known kept;
         })
-        | inr n ↦ rw n (fail_over-keeps (without_entry s e) e next others known (rw n at sent))
+        | inr n ↦ rw n (fail_over-keeps (given_up_at c now l s e) e next others known (rw n at sent) (rw n at drew))
       ]
 
   due_entry-keeps :
       (s : RealmState) (ticket : ℕ) (found : Option PlainEntry)
       → find_ticket ticket s.entries ≡ found → AllByRecursion IsKnown s.entries
       → AreSentBy c start before (tick_came now) (due_entry c now s found).packets
+      → AllByRecursion (DrawsAt c start before (tick_came now))
+      (drawn_between s (due_entry c now s found).state)
       → ProgressKeeps (due_entry c now s found)
-  due_entry-keeps s ticket None at kept sent = record { packets = tt; entries = kept }
-  due_entry-keeps s ticket (Some e) at kept sent =
+  due_entry-keeps s ticket None at kept sent drew = record { packets = tt; entries = kept }
+  due_entry-keeps s ticket (Some e) at kept sent drew =
       let known = all-find IsKnown (has_ticket ticket) s.entries e at kept in
-      due_standing-keeps s e e.standing kept known known.standing sent
+      due_standing-keeps s e e.standing kept known known.standing sent drew
 
   due_each-keeps :
       (dues : List Due) (s : RealmState) → AllByRecursion IsKnown s.entries
       → AreSentBy c start before (tick_came now) (due_each c now s dues).packets
+      → AllByRecursion (DrawsAt c start before (tick_came now)) (drawn_by_dues c now s dues)
       → ProgressKeeps (due_each c now s dues)
-  due_each-keeps [] s kept sent = record { packets = tt; entries = kept }
-  due_each-keeps (d ∷ ds) s kept sent =
+  due_each-keeps [] s kept sent drew = record { packets = tt; entries = kept }
+  due_each-keeps (d ∷ ds) s kept sent drew =
       let first = due_one c now s d in
       let rest = due_each c now first.state ds in
       let found = find_ticket d.ticket s.entries in
       let sent_first = all-left _ first.packets rest.packets sent in
       let sent_rest = all-right _ first.packets rest.packets sent in
-      let one = due_entry-keeps s d.ticket found refl kept sent_first in
-      let others = due_each-keeps ds first.state one.entries sent_rest in
+      let drew_first = all-left _ (drawn_between s first.state) (drawn_by_dues c now first.state ds) drew in
+      let drew_rest = all-right _ (drawn_between s first.state) (drawn_by_dues c now first.state ds) drew in
+      let one = due_entry-keeps s d.ticket found refl kept sent_first drew_first in
+      let others = due_each-keeps ds first.state one.entries sent_rest drew_rest in
       record {
         packets = all-append _ first.packets rest.packets one.packets others.packets;
         entries = others.entries;
@@ -227,9 +262,10 @@ module _ (c : RealmConfig) (start : Start) (before : List RealmEvent) (now : ℕ
   turn-keeps :
       (s : RealmState) (dues : List Due) → AllByRecursion IsKnown s.entries
       → AreSentBy c start before (tick_came now) (due_each c now s dues).packets
+      → AllByRecursion (DrawsAt c start before (tick_came now)) (drawn_by_dues c now s dues)
       → TurnKeeps c start (before ++ tick_came now ∷ []) s (as_turn (due_each c now s dues))
-  turn-keeps s dues kept sent =
-      let keeps = due_each-keeps dues s kept sent in
+  turn-keeps s dues kept sent drew =
+      let keeps = due_each-keeps dues s kept sent drew in
       let all = due_each c now s dues in
       record {
         packets = keeps.packets;
@@ -250,12 +286,14 @@ module _ (c : RealmConfig) (start : Start) (before : List RealmEvent) (now : ℕ
       (s : RealmState) → state_then c start before ≡ s → EachComes c start before s.entries
       → EachComes c start (before ++ tick_came now ∷ []) s.entries
       → AreSentBy c start before (tick_came now) (packets_of (on_tick c now s))
+      → AllByRecursion (DrawsAt c start before (tick_came now)) (drawn_by c s (tick_came now))
       → TurnKeeps c start (before ++ tick_came now ∷ []) s (on_tick c now s)
-  on_tick-keeps s is kept still sent =
-      let events = before ++ tick_came now ∷ [] in
+  on_tick-keeps s is kept still sent drew =
       let dues = due_list now s.entries in
-      let turn = as_turn (due_each c now s dues) in
       let known = in-all IsKnown s.entries (λ e at. held-known e
       (all-in (ComesFrom c start before) s.entries e kept at)
       (subst (λ (t : RealmState). IsIn e t.entries) (sym is) at)) in
-      in_time-keeps c start before events (tick_came now) now s turn still (turn-keeps s dues known) sent
+      elim (cases_Bool (ltb (2 ^ 62) now)) [
+        | inl late ↦ rw late (record { packets = tt; entries = still })
+        | inr n ↦ rw n (turn-keeps s dues known (rw n at sent) (rw n at drew))
+      ]

@@ -10,12 +10,13 @@ use Rattle.roam_book.specs.RealmState.{RealmState}
 use Rattle.roam_book.specs.Turn.{packets_of}
 use Rattle.roam_book.specs.OneRealm.{RealmEvent, request_came, reply_came, tick_came, on_event}
 use Rattle.roam_book.specs.declared.start.Start.{Start}
+use Rattle.roam_core.specs.Draws.{DrawsAt, drawn_by}
 use Rattle.roam_core.specs.Events.{PlainEvent}
 use Rattle.roam_core.specs.Isolation.{IsIsolatedFromStart}
 use Rattle.roam_core.specs.Openings.{one_realm_packets, state_then}
-use Rattle.roam_core.specs.Provenance.{HasOrigin, ComesFrom}
-use Rattle.roam_core.specs.ProvenanceLaws.{EachEntryHasOrigin, EachPacketHasOrigin, HasProvenance}
-use Rattle.roam_core.proofs.RealmRunLemmas.{all-in, each-in, packets-next, state-next}
+use Rattle.roam_core.specs.Provenance.{HasOrigin, ComesFrom, HasProvenance}
+use Rattle.roam_core.specs.ProvenanceLaws.{EachEntryHasOrigin, EachPacketHasOrigin}
+use Rattle.roam_core.proofs.RealmRunLemmas.{all-in, each-in, in-all, packets-next, state-next}
 use Rattle.roam_core.proofs.OriginLemmas.{EachComes, EachHasOrigin, AreSentBy, TurnKeeps, IsTurnAfter, each-later, origin-later}
 use Rattle.roam_core.proofs.OriginRequestLemmas.{on_request-keeps}
 use Rattle.roam_core.proofs.OriginReplyLemmas.{on_reply-keeps}
@@ -33,14 +34,16 @@ event-keeps :
     → IsTurnAfter c start before e s (on_event c s e) → EachComes c start before s.entries
     → AreSentBy c start before e (packets_of (on_event c s e))
     → TurnKeeps c start (before ++ e ∷ []) s (on_event c s e)
-event-keeps c start before (request_came now q) s after kept sent =
-    let still = each-later c start before (request_came now q ∷ []) s.entries kept in
-    on_request-keeps c start before now q s after still
+event-keeps c start before (request_came now named q) s after kept sent =
+    let still = each-later c start before (request_came now named q ∷ []) s.entries kept in
+    on_request-keeps c start before now named q s after still
 event-keeps c start before (reply_came now l reply) s after kept sent =
     on_reply-keeps c start before now s l reply kept sent
 event-keeps c start before (tick_came now) s after kept sent =
     let still = each-later c start before (tick_came now ∷ []) s.entries kept in
-    on_tick-keeps c start before now s after.state kept still sent
+    let drew = in-all (DrawsAt c start before (tick_came now)) (drawn_by c s (tick_came now))
+    (λ p at. subst (λ (t : RealmState). IsIn p (drawn_by c t (tick_came now))) (sym after.state) at) in
+    on_tick-keeps c start before now s after.state kept still sent drew
 
 -- so it is known after one event more
 known-next :

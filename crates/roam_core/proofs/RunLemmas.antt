@@ -1,5 +1,5 @@
 -- A run so far, with one event more, and at its end.
-use Rattle.std.proofs.Common.{◌≡◌, ℕ, ◌+◌, ◌<◌, ◌≤◌, List, [], ◌∷◌, ◌++◌, length, take, get_or, refl, sym, ap, subst, ◌∙◌, append_assoc, arith}
+use Rattle.std.proofs.Common.{◌≡◌, ℕ, ◌+◌, ◌<◌, ◌≤◌, Bool, List, [], ◌∷◌, ◌++◌, length, take, get_or, refl, sym, ap, subst, ◌∙◌, append_assoc, arith}
 use Rattle.std.specs.List.{AllByRecursion}
 use Rattle.std.proofs.lemmas.List.{append-nil, take_more, take_all, length-take}
 use Rattle.roam_conf.specs.Config.{ConfigView}
@@ -10,8 +10,8 @@ use Rattle.roam_core.specs.Isolation.{IsIsolated, IsIsolatedFromStart, packets_f
 use Rattle.roam_core.specs.ManyRealms.{packets_in_turn, states_after, answer_to, answers_to}
 use Rattle.roam_book.specs.declared.start.Start.{Start}
 use Rattle.roam_core.specs.Openings.{openings}
-use Rattle.roam_core.specs.ProvenanceLaws.{HasProvenance}
-use Rattle.roam_core.specs.Runs.{ArePlaces, StandsAfterSome}
+use Rattle.roam_core.specs.Provenance.{HasProvenance}
+use Rattle.roam_core.specs.Runs.{ArePlaces, EachWantsMemory, StandsAfterSome, WereGiven}
 use Rattle.roam_core.proofs.KeptLemmas.{places-more, places-append, kept-done, kept-lost}
 use Rattle.roam_core.proofs.ProvenanceLemmas.{has_provenance}
 use Rattle.roam_core.proofs.IsolationLemmas.{answers-length, from_start, isolated, rejects_alone, each_has_realm}
@@ -122,12 +122,20 @@ has_run_all config first events n lost packets now states is run =
       realms = subst (λ (l : List PlainOut). AllByRecursion (HasRealm (length config.realms)) l) (sym sent) (realms_at_end config first events lost whole);
     }
 
--- at any moment: the states are those after some of the events
-pub stands_after : (config : ConfigView) (first : List RealmState) (events : List PlainEvent) (n : ℕ) (lost : List ℕ) (packets : List PlainOut) (now : ConfigView) (states new : List RealmState) → n ≤ length events → HasRun config first events n lost packets now states → new ≡ states → StandsAfterSome config first new events
-stands_after config first events n lost packets now states new some run same = record {
+-- at any moment: the broker stands after some of the events
+pub stands_after :
+    {X : Type 0} (config : X → ConfigView) (states : X → List RealmState)
+    (steps : X → PlainEvent → Bool → X → Type 0) (old new : X) (events : List PlainEvent) (n : ℕ)
+    (lost : List ℕ) (packets : List PlainOut) (now : ConfigView) → n ≤ length events
+    → HasRun (config old) (states old) events n lost packets now (states new)
+    → EachWantsMemory (config old) events lost → WereGiven steps 0 lost old (take n events) new
+    → StandsAfterSome config states steps old new events
+stands_after config states steps old new events n lost packets now some run wanted given = record {
   count = n;
   some = some;
   lost = lost;
   places = run.places;
-  stands = same ∙ run.states_are;
+  wanted = wanted;
+  given = given;
+  stands = run.states_are;
 }

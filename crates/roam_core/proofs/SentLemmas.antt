@@ -14,12 +14,13 @@ use Rattle.roam_pending.specs.declared.key.Key.{Key}
 use Rattle.roam_pending.specs.DueOrder.{due_list}
 use Rattle.roam_pending.specs.PlainEntry.{PlainRequest, PlainStanding, PlainEntry, waiting, done}
 use Rattle.roam_pending.specs.EntryList.{find_client, find_link, find_ticket, first_done, without, without_client}
-use Rattle.roam_book.specs.RealmConfig.{RealmConfig, later_targets, link_secret, server_links, service_of}
-use Rattle.roam_book.specs.RealmState.{RealmState, Target, first_target}
+use Rattle.roam_book.specs.RealmConfig.{RealmConfig, later_targets, link_secret, server_links, service_of, seal_required}
+use Rattle.roam_book.specs.Rests.{after_silence}
+use Rattle.roam_book.specs.RealmState.{RealmState, Target, chosen_target}
 use Rattle.roam_book.specs.Turn.{Turn, refuses, sends, packets_of, in_time}
 use Rattle.roam_book.specs.OnRequest.{packet_back, admit, make_way, at_target, new_request, held_reply, first_seen, is_reverse, nak_octets, nak_or_new, of_key, on_request, reverse_cause, targets}
 use Rattle.roam_book.specs.OnReply.{return_reply, judge, to_standing, to_entry, reply_fault, on_reply}
-use Rattle.roam_book.specs.OnTick.{Progress, silent, fail_over, without_entry, due_standing, due_entry, due_one, due_each, as_turn, on_tick}
+use Rattle.roam_book.specs.OnTick.{Progress, silent, fail_over, without_entry, due_standing, due_entry, due_one, due_each, as_turn, on_tick, given_up_at}
 use Rattle.roam_book.specs.OneRealm.{RealmEvent, request_came, reply_came, tick_came, on_event}
 use Rattle.roam_core.specs.ManyRealms.{no_state}
 use Rattle.roam_core.proofs.PacketLemmas.{IsFor, AllFor, AllFor-append}
@@ -72,7 +73,7 @@ at_target_for c now s entries q (Some target) =
 
 new_request_for : (c : RealmConfig) (now : ℕ) (s : RealmState) (entries : List PlainEntry) (q : PlainRequest) → SendsFor c.index (new_request c now s entries q)
 new_request_for c now s entries q =
-    let target = first_target c s.cursors entries (targets c q) in
+    let target = chosen_target c now s.rests s.cursors entries (targets c q) in
     either (SendsFor c.index) (s.ticket == 2 ^ 63)
     (refuses refusal.Exhausted) (at_target c now s entries q target)
     (refuses_for c.index refusal.Exhausted) (at_target_for c now s entries q target)
@@ -86,17 +87,17 @@ nak_or_new_for : (c : RealmConfig) (now : ℕ) (s : RealmState) (q : PlainReques
 nak_or_new_for c now s q None = new_request_for c now s (without_client q.key s.entries) q
 nak_or_new_for c now s q (Some why) = one_for c.index (packet_back c q.key (nak_octets c q why)) s refl
 
-of_key_for : (c : RealmConfig) (now : ℕ) (s : RealmState) (q : PlainRequest) (e : Option PlainEntry) → SendsFor c.index (of_key c now s q e)
-of_key_for c now s q None = nak_or_new_for c now s q (reverse_cause c s q)
-of_key_for c now s q (Some e) =
+of_key_for : (c : RealmConfig) (now : ℕ) (s : RealmState) (named : Option ℕ) (q : PlainRequest) (e : Option PlainEntry) → SendsFor c.index (of_key c now s named q e)
+of_key_for c now s named q None = nak_or_new_for c now s q (reverse_cause c s named q)
+of_key_for c now s named q (Some e) =
     either (SendsFor c.index) (pointwise nat_eq e.request.octets q.octets)
-    (sends (held_reply c q.key e.standing) s) (first_seen c now s q)
-    (held_reply_for c q.key e.standing s) (nak_or_new_for c now s q (reverse_cause c s q))
+    (sends (held_reply c q.key e.standing) s) (first_seen c now s named q)
+    (held_reply_for c q.key e.standing s) (nak_or_new_for c now s q (reverse_cause c s named q))
 
-on_request_for : (c : RealmConfig) (now : ℕ) (s : RealmState) (q : PlainRequest) → SendsFor c.index (on_request c now s q)
-on_request_for c now s q =
-    in_time_for c.index now (of_key c now s q (find_client q.key s.entries))
-    (of_key_for c now s q (find_client q.key s.entries))
+on_request_for : (c : RealmConfig) (now : ℕ) (s : RealmState) (named : Option ℕ) (q : PlainRequest) → SendsFor c.index (on_request c now s named q)
+on_request_for c now s named q =
+    in_time_for c.index now (of_key c now s named q (find_client q.key s.entries))
+    (of_key_for c now s named q (find_client q.key s.entries))
 
 -- a reply
 return_reply_for : (c : RealmConfig) (now : ℕ) (s : RealmState) (e : PlainEntry) (l : Link) (forwarded reply : Packet) → SendsFor c.index (return_reply c now s e l forwarded reply)
@@ -110,7 +111,7 @@ judge_for c now s e l forwarded reply None = return_reply_for c now s e l forwar
 to_standing_for : (c : RealmConfig) (now : ℕ) (s : RealmState) (e : PlainEntry) (reply : Packet) (standing : PlainStanding) → SendsFor c.index (to_standing c now s e reply standing)
 to_standing_for c now s e reply (waiting l id forwarded sends_left deadline) =
     judge_for c now s e l (packet_of forwarded) reply
-    (reply_fault (link_secret c l) reply (packet_of forwarded))
+    (reply_fault (link_secret c l) (seal_required c l) reply (packet_of forwarded))
 to_standing_for c now s e reply (done old deadline) = refuses_for c.index refusal.NoEntry
 
 to_entry_for : (c : RealmConfig) (now : ℕ) (s : RealmState) (reply : Packet) (e : Option PlainEntry) → SendsFor c.index (to_entry c now s reply e)
@@ -140,9 +141,10 @@ fail_over_for c now s e (Some target) = made_for c.index _ _ refl
 due_standing_for : (c : RealmConfig) (now : ℕ) (s : RealmState) (e : PlainEntry) (standing : PlainStanding) → MadeFor c.index (due_standing c now s e standing)
 due_standing_for c now s e (done reply deadline) = silent_for c.index (without_entry s e)
 due_standing_for c now s e (waiting l id forwarded sends_left deadline) =
-    let target = first_target c s.cursors (without e.ticket s.entries) (later_targets c l) in
-    either (MadeFor c.index) (nat_lt 0 sends_left) _ (fail_over c now (without_entry s e) e target)
-    (made_for c.index _ _ refl) (fail_over_for c now (without_entry s e) e target)
+    let target = chosen_target c now (after_silence c now s.rests l) s.cursors
+    (without e.ticket s.entries) (later_targets c l) in
+    either (MadeFor c.index) (nat_lt 0 sends_left) _ (fail_over c now (given_up_at c now l s e) e target)
+    (made_for c.index _ _ refl) (fail_over_for c now (given_up_at c now l s e) e target)
 
 due_entry_for : (c : RealmConfig) (now : ℕ) (s : RealmState) (e : Option PlainEntry) → MadeFor c.index (due_entry c now s e)
 due_entry_for c now s None = silent_for c.index s
@@ -168,6 +170,6 @@ on_tick_for c now s =
 
 -- whatever the event, each packet is for the event's realm
 pub on_event_for : (c : RealmConfig) (s : RealmState) (e : RealmEvent) → SendsFor c.index (on_event c s e)
-on_event_for c s (request_came now q) = on_request_for c now s q
+on_event_for c s (request_came now named q) = on_request_for c now s named q
 on_event_for c s (reply_came now l octets) = on_reply_for c now s l octets
 on_event_for c s (tick_came now) = on_tick_for c now s

@@ -12,13 +12,14 @@ use Rattle.roam_pending.specs.declared.due.Due.{Due}
 use Rattle.roam_pending.specs.DueOrder.{due_list}
 use Rattle.roam_pending.specs.PlainEntry.{PlainRequest, PlainStanding, PlainEntry, waiting, done}
 use Rattle.roam_pending.specs.EntryList.{find_client, find_link, find_ticket, first_done, without, without_client}
-use Rattle.roam_book.specs.RealmConfig.{RealmConfig, later_targets, link_secret}
-use Rattle.roam_book.specs.RealmState.{RealmState, Target, first_target}
+use Rattle.roam_book.specs.RealmConfig.{RealmConfig, later_targets, link_secret, seal_required}
+use Rattle.roam_book.specs.Rests.{after_silence}
+use Rattle.roam_book.specs.RealmState.{RealmState, Target, chosen_target}
 use Rattle.roam_book.specs.Turn.{Turn, state_after, in_time}
 use Rattle.roam_book.specs.OnRequest.{make_way, at_target, is_reverse, nak_or_new, new_request, of_key, reverse_cause, targets}
 use Rattle.roam_back.specs.ReplyCheck.{reply_fault}
 use Rattle.roam_book.specs.OnReply.{returning, judge, to_standing, to_entry}
-use Rattle.roam_book.specs.OnTick.{Progress, fail_over, once_refused, without_entry, due_standing, due_entry, due_one, due_each, as_turn}
+use Rattle.roam_book.specs.OnTick.{Progress, fail_over, once_refused, without_entry, due_standing, due_entry, due_one, due_each, as_turn, given_up_at}
 use Rattle.roam_book.specs.OneRealm.{RealmEvent, request_came, reply_came, tick_came, on_event}
 use Rattle.roam_book.specs.declared.start.Start.{Start}
 use Rattle.roam_core.specs.Openings.{state_then}
@@ -47,17 +48,17 @@ at_target-rises c now s es q (Some target) =
 new_request-rises : (c : RealmConfig) (now : ℕ) (s : RealmState) (es : List PlainEntry) (q : PlainRequest) → Rises s (new_request c now s es q)
 new_request-rises c now s es q =
     either (Rises s) (eqb s.ticket (2 ^ 63)) _ _ (stays s)
-    (at_target-rises c now s es q (first_target c s.cursors es (targets c q)))
+    (at_target-rises c now s es q (chosen_target c now s.rests s.cursors es (targets c q)))
 
 nak_or_new-rises : (c : RealmConfig) (now : ℕ) (s : RealmState) (q : PlainRequest) (why : Option ℕ) → Rises s (nak_or_new c now s q why)
 nak_or_new-rises c now s q None = new_request-rises c now s (without_client q.key s.entries) q
 nak_or_new-rises c now s q (Some why) = stays s
 
-of_key-rises : (c : RealmConfig) (now : ℕ) (s : RealmState) (q : PlainRequest) (found : Option PlainEntry) → Rises s (of_key c now s q found)
-of_key-rises c now s q None = nak_or_new-rises c now s q (reverse_cause c s q)
-of_key-rises c now s q (Some e) =
+of_key-rises : (c : RealmConfig) (now : ℕ) (s : RealmState) (named : Option ℕ) (q : PlainRequest) (found : Option PlainEntry) → Rises s (of_key c now s named q found)
+of_key-rises c now s named q None = nak_or_new-rises c now s q (reverse_cause c s named q)
+of_key-rises c now s named q (Some e) =
     either (Rises s) (pointwise nat_eq e.request.octets q.octets) _ _ (stays s)
-    (nak_or_new-rises c now s q (reverse_cause c s q))
+    (nak_or_new-rises c now s q (reverse_cause c s named q))
 
 in_time-rises : (now : ℕ) (s : RealmState) (turn : Turn) → Rises s turn → Rises s (in_time now turn)
 in_time-rises now s turn h = either (Rises s) (ltb (2 ^ 62) now) _ _ (stays s) h
@@ -71,7 +72,7 @@ judge-rises c now s e l forwarded reply None =
 
 to_standing-rises : (c : RealmConfig) (now : ℕ) (s : RealmState) (e : PlainEntry) (reply : Packet) (standing : PlainStanding) → Rises s (to_standing c now s e reply standing)
 to_standing-rises c now s e reply (waiting l id forwarded sends_left deadline) =
-    judge-rises c now s e l (packet_of forwarded) reply (reply_fault (link_secret c l) reply (packet_of forwarded))
+    judge-rises c now s e l (packet_of forwarded) reply (reply_fault (link_secret c l) (seal_required c l) reply (packet_of forwarded))
 to_standing-rises c now s e reply (done old deadline) = stays s
 
 to_entry-rises : (c : RealmConfig) (now : ℕ) (s : RealmState) (reply : Packet) (found : Option PlainEntry) → Rises s (to_entry c now s reply found)
@@ -94,7 +95,8 @@ due_standing-keeps : (c : RealmConfig) (now : ℕ) (s : RealmState) (e : PlainEn
 due_standing-keeps c now s e (done reply deadline) = refl
 due_standing-keeps c now s e (waiting l id forwarded sends_left deadline) =
     either (Keeps s) (ltb 0 sends_left) _ _ refl
-    (fail_over-keeps c now (without_entry s e) e (first_target c s.cursors (without e.ticket s.entries) (later_targets c l)))
+    (fail_over-keeps c now (given_up_at c now l s e) e (chosen_target c now (after_silence c now s.rests l) s.cursors
+    (without e.ticket s.entries) (later_targets c l)))
 
 due_entry-keeps : (c : RealmConfig) (now : ℕ) (s : RealmState) (found : Option PlainEntry) → Keeps s (due_entry c now s found)
 due_entry-keeps c now s None = refl
@@ -109,8 +111,8 @@ tick-rises : (c : RealmConfig) (now : ℕ) (s : RealmState) (dues : List Due) �
 tick-rises c now s dues = omega (arith, due_each-keeps c now s dues)
 
 event-rises : (c : RealmConfig) (s : RealmState) (e : RealmEvent) → Rises s (on_event c s e)
-event-rises c s (request_came now q) =
-    in_time-rises now s (of_key c now s q (find_client q.key s.entries)) (of_key-rises c now s q (find_client q.key s.entries))
+event-rises c s (request_came now named q) =
+    in_time-rises now s (of_key c now s named q (find_client q.key s.entries)) (of_key-rises c now s named q (find_client q.key s.entries))
 event-rises c s (reply_came now l octets) =
     let found = find_link l (packet_of octets).id s.entries in
     in_time-rises now s (to_entry c now s (packet_of octets) found) (to_entry-rises c now s (packet_of octets) found)
@@ -133,7 +135,7 @@ all-rise c start es (f ∷ fs) =
     omega (arith, next-rises c start es f, there)
 
 -- of two places of a list one is the other, or comes after it
-data Places (xs ys : List RealmEvent) (e f : RealmEvent) : Type 0 where
+pub data Places (xs ys : List RealmEvent) (e f : RealmEvent) : Type 0 where
   one : xs ≡ ys → e ≡ f → Places xs ys e f
   later : (mid : List RealmEvent) → ys ≡ xs ++ e ∷ mid → Places xs ys e f
   earlier : (mid : List RealmEvent) → xs ≡ ys ++ f ∷ mid → Places xs ys e f
@@ -143,7 +145,7 @@ further x y xs ys e f same (one is at) = one (cc) at
 further x y xs ys e f same (later mid is) = later mid (cc)
 further x y xs ys e f same (earlier mid is) = earlier mid (cc)
 
-places : (xs ws ys bs : List RealmEvent) (e f : RealmEvent) → xs ++ e ∷ ws ≡ ys ++ f ∷ bs → Places xs ys e f
+pub places : (xs ws ys bs : List RealmEvent) (e f : RealmEvent) → xs ++ e ∷ ws ≡ ys ++ f ∷ bs → Places xs ys e f
 places [] ws [] bs e f same = one refl (cc)
 places [] ws (y ∷ ys) bs e f same = later ys (cc)
 places (x ∷ xs) ws [] bs e f same = earlier xs (cc)
@@ -166,12 +168,13 @@ pub ticket_is_given_once : TicketIsGivenOnce
 ticket_is_given_once c start events xs ws ys bs e f ticket one_way other_way here there =
     decided c start xs ys e f ticket here there (places xs ws ys bs e f (sym one_way ∙ other_way))
 
-same-request : (a b : ℕ) (q r : PlainRequest) → request_came a q ≡ request_came b r → q ≡ r
-same-request a b q r same = cc
+same-request : (a b : ℕ) (m n : Option ℕ) (q r : PlainRequest) → request_came a m q ≡ request_came b n r
+    → q ≡ r
+same-request a b m n q r same = cc
 
 pub one_request_has_ticket : OneRequestHasTicket
 one_request_has_ticket c start events q r ticket a b =
     let same = ticket_is_given_once c start events a.first a.rest b.first b.rest
-    (request_came a.asked_at q) (request_came b.asked_at r) ticket
+    (request_came a.asked_at a.named q) (request_came b.asked_at b.named r) ticket
     a.in_order b.in_order a.given b.given in
-    same-request a.asked_at b.asked_at q r same.1
+    same-request a.asked_at b.asked_at a.named b.named q r same.1

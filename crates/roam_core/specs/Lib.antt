@@ -3,12 +3,15 @@
 pub mod Events
 pub mod Openings
 pub mod Isolation
+pub mod Draws
 pub mod Provenance
 pub mod ProvenanceLaws
 pub mod ManyRealms
+pub mod Alone
+pub mod OwnPart
+pub mod BrokerView
 pub mod Steps
 pub mod Runs
 pub mod Shown
 -- What proofs of the broker over books need: no definition above rests on it.
-pub mod BrokerView
 pub mod ShardRooms

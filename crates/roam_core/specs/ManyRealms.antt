@@ -32,7 +32,14 @@ states_after old (sends_all packets states) = states
 
 -- the state of a realm that isn't there
 abbrev pub no_state : RealmState
-no_state = record { entries = []; ticket = 0; cursors = []; stream_position = 0; sessions = [] }
+no_state = record {
+  entries = [];
+  ticket = 0;
+  cursors = [];
+  stream_position = 0;
+  sessions = [];
+  rests = [];
+}
 
 abbrev pub state_at : List RealmState → ℕ → RealmState
 state_at states realm = slice_index_or states realm no_state

@@ -1,26 +1,17 @@
 -- What is proved of where packets and entries come from (ours): what `src/laws.rt` and `run` say.
-use Rattle.std.specs.Prelude.{◌≡◌, ◌<◌, ℕ, List, ◌∷◌, ◌++◌, length}
-use Rattle.roam_conf.specs.Config.{ConfigView}
+use Rattle.std.specs.Prelude.{◌≡◌, ◌≤◌, ◌+◌, ◌*◌, ◌%◌, ◌^◌, ℕ, List, ◌∷◌, ◌++◌, Some, length, slice_get}
 use Rattle.roam_route.specs.Admission.{PlainOut}
 use Rattle.roam_pending.specs.ListLaws.{IsIn}
 use Rattle.roam_pending.specs.PlainEntry.{PlainEntry, PlainRequest}
-use Rattle.roam_book.specs.RealmConfig.{RealmConfig, realm_config}
+use Rattle.roam_book.specs.RealmConfig.{RealmConfig}
+use Rattle.roam_book.specs.RealmState.{opening}
 use Rattle.roam_book.specs.OneRealm.{RealmEvent}
 use Rattle.roam_book.specs.declared.start.Start.{Start}
-use Rattle.roam_core.specs.Events.{PlainEvent, events_of_realm}
-use Rattle.roam_core.specs.Isolation.{packets_for}
-use Rattle.roam_core.specs.Openings.{one_realm_packets, start_of, state_then}
+use Rattle.roam_core.specs.Draws.{DrawsAt, drawn}
+use Rattle.roam_core.specs.Openings.{one_realm_packets, state_then}
 use Rattle.roam_core.specs.Provenance.{TakesTicket, IsRequestOf, HasOrigin, ComesFrom}
 
--- begun at these starts, each packet that the broker sent for a realm has its origin in that realm's
--- own events
-abbrev pub HasProvenance : ConfigView → List Start → List PlainEvent → List PlainOut → Type 0
-HasProvenance config starts events packets =
-    (realm : ℕ) (out : PlainOut) → realm < length starts → IsIn out (packets_for realm packets)
-    → HasOrigin (realm_config config realm) (start_of starts realm)
-    (events_of_realm config realm events) out
-
--- so has each packet of the written broker of one realm
+-- each packet of the written broker of one realm has its origin
 abbrev pub EachPacketHasOrigin : Type 0
 EachPacketHasOrigin =
     (c : RealmConfig) (start : Start) (events : List RealmEvent) (out : PlainOut)
@@ -46,3 +37,24 @@ abbrev pub OneRequestHasTicket : Type 0
 OneRequestHasTicket =
     (c : RealmConfig) (start : Start) (events : List RealmEvent) (q r : PlainRequest) (ticket : ℕ)
     → IsRequestOf c start events q ticket → IsRequestOf c start events r ticket → q ≡ r
+
+-- the draws of a list of events take the words of the realm's stream one after the other: each takes the four
+-- words that follow those of the draw before it
+abbrev pub WordsAreDrawnInOrder : Type 0
+WordsAreDrawnInOrder =
+    (c : RealmConfig) (start : Start) (events : List RealmEvent) (i position : ℕ)
+    → slice_get (drawn c (opening c start) events) i ≡ Some position
+    → position % 2 ^ 68 ≡ (start.place + 4 * i) % 2 ^ 68
+
+-- so no words are drawn twice, up to 2^66 draws, which are a whole stream: two places of the list where words
+-- are drawn from one position are one. Forwarded Access-Requests of two turns never have an Authenticator of
+-- the same words (RFC 2865, section 3: it is to be unique)
+abbrev pub WordsAreDrawnOnce : Type 0
+WordsAreDrawnOnce =
+    (c : RealmConfig) (start : Start) (events first rest before after : List RealmEvent)
+    (e f : RealmEvent) (position other : ℕ)
+    → length (drawn c (opening c start) events) ≤ 2 ^ 66
+    → events ≡ first ++ e ∷ rest → events ≡ before ++ f ∷ after
+    → DrawsAt c start first e position → DrawsAt c start before f other
+    → position % 2 ^ 68 ≡ other % 2 ^ 68
+    → (first ≡ before) × (e ≡ f)

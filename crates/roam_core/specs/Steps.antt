@@ -1,5 +1,5 @@
 -- What a call that answers one event gives (ours).
-use Rattle.std.specs.Prelude.{◌≡◌, ◌<◌, ◌≤◌, ◌^◌, List, Result, Ok, Err}
+use Rattle.std.specs.Prelude.{◌≡◌, ◌<◌, ◌≤◌, ◌^◌, Bool, true, false, List, Result, Ok, Err}
 use Rattle.roam_wire.specs.declared.refusal.NoMemory.{NoMemory}
 use Rattle.roam_conf.specs.Config.{ConfigView}
 use Rattle.roam_route.specs.Admission.{admission}
@@ -8,7 +8,8 @@ use Rattle.roam_book.specs.RealmState.{RealmState}
 use Rattle.roam_book.specs.Turn.{shown_outs}
 use Rattle.roam_book.specs.declared.answer.Answer.{Answer}
 use Rattle.roam_core.specs.Events.{PlainEvent, arrives, ticks}
-use Rattle.roam_core.specs.ManyRealms.{BrokerTurn, packets_in_turn, refusal_given, states_after}
+use Rattle.roam_core.specs.BrokerView.{BrokerView}
+use Rattle.roam_core.specs.ManyRealms.{BrokerTurn, answer_to, packets_in_turn, refusal_given, states_after}
 
 -- an answer and the states after it are those of a turn
 pub record IsAnswer {A : Type 0} (answer : Answer A) (old new : List RealmState)
@@ -30,3 +31,20 @@ GivesAnswer (Err e) old new turn = new ≡ old
 abbrev pub EventWantsMemory : ConfigView → PlainEvent → Type 0
 EventWantsMemory config (arrives now a) = WantsMemory (admission config a)
 EventWantsMemory config (ticks now shard) = (shard < config.shards) × (now ≤ 2 ^ 62)
+
+-- an event was answered: its realms stand as the written broker's do after it
+pub record WasAnswered (old : BrokerView) (e : PlainEvent) (new : BrokerView) : Type 0 where
+  pub config : new.config ≡ old.config
+  pub states : new.states ≡ states_after old.states (answer_to old.config old.states e)
+
+-- an event was lost: it wants memory, and nothing changed
+pub record WasLost (old : BrokerView) (e : PlainEvent) (new : BrokerView) : Type 0 where
+  pub config : new.config ≡ old.config
+  pub states : new.states ≡ old.states
+  pub wanted : EventWantsMemory old.config e
+
+-- what a step of a broker says of itself: from how it stood, with an event, whether it was answered, to
+-- how it stands then
+abbrev pub StepsTo : BrokerView → PlainEvent → Bool → BrokerView → Type 0
+StepsTo old e true new = WasAnswered old e new
+StepsTo old e false new = WasLost old e new

@@ -9,7 +9,7 @@ ghost use Rattle.roam_book.specs.BookView.{settings_of};
 ghost use Rattle.roam_book.specs.OneRealm.{event_of, on_event};
 ghost use Rattle.roam_book.specs.Turn.{Gives, packets_of, shown_outs, state_after};
 ghost use Rattle.roam_core.specs.ManyRealms.{state_at, to_arrival, to_tick};
-ghost use Rattle.roam_core.specs.Steps.{GivesAnswer};
+ghost use Rattle.roam_core.specs.Steps.{GivesAnswer, StepsTo};
 ghost use Rattle.roam_core.specs.Openings.{fresh};
 ghost use Rattle.roam_core.specs.ShardRooms.{AllFit, Fits, most_of, most_of_all, tick_in, turn_in};
 
@@ -208,6 +208,8 @@ impl<'c, A: Allocator + Copy> Stepper<A> for Broker<'c, A> {
     ghost config = { λ b. b.config };
 
     ghost states = { λ b. b.states };
+
+    ghost steps = { StepsTo };
 
     fn step(&mut self, event: &Event<A>) -> Result<Answer<A>, NoMemory> {
         match event {

@@ -1,8 +1,10 @@
 //! Laws of the written broker. These functions do nothing: their contracts hold of all
 //! configurations, states and events.
 
+ghost use Rattle.roam_core.specs.Alone.{OneRealmIsAlone};
 ghost use Rattle.roam_core.specs.Isolation.{EachIsIsolatedFromStart, EachLedgerIsIsolated, EachRealmIsIsolated, EachRealmOpens, EachRealmStandsAlone, SameInTwoWorlds, SameInTwoWorldsFromStart};
-ghost use Rattle.roam_core.specs.ProvenanceLaws.{EachEntryHasOrigin, EachPacketHasOrigin, OneRequestHasTicket, TicketIsGivenOnce};
+ghost use Rattle.roam_core.specs.OwnPart.{SameOwnEvents, SamePacketsOfOwnPart};
+ghost use Rattle.roam_core.specs.ProvenanceLaws.{EachEntryHasOrigin, EachPacketHasOrigin, OneRequestHasTicket, TicketIsGivenOnce, WordsAreDrawnInOrder, WordsAreDrawnOnce};
 
 /// Whatever the events, what the broker sends for a realm, and how the realm then stands, is what the
 /// written broker of that one realm does with the realm's own events.
@@ -29,13 +31,29 @@ pub fn two_worlds()
     ensures from_states { SameInTwoWorlds }
 {}
 
+/// What a realm sends is decided by its own part of the configuration: its own entry, the peers, what each
+/// name means, the limit of hops, the seed and the number of shards. Given the same events, it sends the
+/// same packets whatever else the configuration says of other realms.
+pub fn own_part()
+    ensures events { SameOwnEvents }
+    ensures packets { SamePacketsOfOwnPart }
+{}
+
+/// Where one realm is configured, all that the broker sends is what the written broker of that realm
+/// sends, and the local rejects, in the order of their events.
+pub fn one_realm()
+    ensures { OneRealmIsAlone }
+{}
+
 /// Each packet of a realm is the forwarded one of a request of the realm's events, the returned one of a
 /// reply that was taken for such a packet, or the NAK of a reverse request; and each entry is of such a
-/// request. The ticket says of which:
-/// it is given to one event.
+/// request. The ticket says of which: it is given to one event. And the words of a forwarded
+/// Access-Request's Authenticator are drawn for it alone, below 2^66 draws (RFC 2865, section 3).
 pub fn provenance()
     ensures packets { EachPacketHasOrigin }
     ensures entries { EachEntryHasOrigin }
     ensures tickets { TicketIsGivenOnce }
     ensures requests { OneRequestHasTicket }
+    ensures words { WordsAreDrawnInOrder }
+    ensures once { WordsAreDrawnOnce }
 {}

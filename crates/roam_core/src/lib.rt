@@ -12,6 +12,8 @@ mod stepper;
 
 pub use broker::Broker;
 pub use event::Event;
-pub use laws::{isolated_ledgers, isolated_realms, provenance, realms_open, two_worlds};
+pub use laws::{
+    isolated_ledgers, isolated_realms, one_realm, own_part, provenance, realms_open, two_worlds,
+};
 pub use runs::{Outcome, run};
 pub use stepper::Stepper;

@@ -6,8 +6,8 @@ ghost use Rattle.roam_book.specs.Turn.{shown_outs};
 ghost use Rattle.roam_book.specs.declared.start.Start.{Start};
 ghost use Rattle.roam_core.specs.ManyRealms.{answers_to};
 ghost use Rattle.roam_core.specs.Openings.{openings};
-ghost use Rattle.roam_core.specs.ProvenanceLaws.{HasProvenance};
-ghost use Rattle.roam_core.specs.Runs.{ArePlaces, StandsAfterSome, WereGiven};
+ghost use Rattle.roam_core.specs.Provenance.{HasProvenance};
+ghost use Rattle.roam_core.specs.Runs.{ArePlaces, EachWantsMemory, StandsAfterSome, WereGiven};
 ghost use Rattle.roam_core.specs.Events.{kept, local_rejects};
 ghost use Rattle.roam_core.specs.Isolation.{IsIsolated, IsIsolatedFromStart, HasRealm, packets_for_none};
 ghost use Rattle.roam_core.specs.Shown.{shown_events};
@@ -78,10 +78,12 @@ pub fn run<A: Allocator + Copy, S: Stepper<A>>(
         (kept o.lost.items (shown_events events.now)) (shown_outs o.outs.items)) }
 
     // The events are given in their order, each once; those are lost, and noted by their places, that
-    // met want of memory there.
+    // met want of memory there: so an event that wants none is never lost.
     ensures given { IfOk result (λ o. WereGiven S.steps 0 o.lost.items stepper.old
         (shown_events events.now) stepper.new) }
     ensures lost { IfOk result (λ o. ArePlaces (length events.now) o.lost.items) }
+    ensures wanted { IfOk result (λ o. EachWantsMemory (S.config stepper.old)
+        (shown_events events.now) o.lost.items) }
 
     // All packets, and the states at the end: the written answers to the events that weren't lost.
     ensures packets { IfOk result (λ o. shown_outs o.outs.items ≡ (answers_to (S.config stepper.old)
@@ -96,10 +98,10 @@ pub fn run<A: Allocator + Copy, S: Stepper<A>>(
         (shown_outs o.outs.items)) }
 
     // Whatever the answer is, the configuration stays. Where the outcome couldn't grow, the states are
-    // those after some of the events.
+    // those after some of the events, which were given in their order too.
     ensures config { S.config stepper.new ≡ S.config stepper.old }
-    ensures err { OnErr result (StandsAfterSome (S.config stepper.old) (S.states stepper.old)
-        (S.states stepper.new) (shown_events events.now)) }
+    ensures err { OnErr result (StandsAfterSome S.config S.states S.steps stepper.old stepper.new
+        (shown_events events.now)) }
 {
     let mut outs = Vec::new(alloc);
     let mut lost = Vec::new(alloc);

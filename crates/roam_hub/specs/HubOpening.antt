@@ -1,5 +1,5 @@
 -- How a hub opened, and what its shards' histories are (ours).
-use Rattle.std.specs.Prelude.{◌≡◌, ℕ, ◌+◌, ◌<◌, ◌%◌, zero, suc, List, [], ◌∷◌, ◌++◌, length, slice_index_or}
+use Rattle.std.specs.Prelude.{◌≡◌, ℕ, ◌+◌, ◌<◌, ◌%◌, zero, suc, false, List, [], ◌∷◌, ◌++◌, length, None, slice_index_or}
 use Rattle.roam_conf.specs.Config.{ConfigView}
 use Rattle.roam_book.specs.RealmState.{RealmState}
 use Rattle.roam_book.specs.RealmConfig.{nowhere}
@@ -24,6 +24,10 @@ no_opening = record {
     auth = nowhere;
     acct = nowhere;
     trace_limit = 0;
+    trace_octets = 0;
+    max_hops = None;
+    status_server = false;
+    spread = false;
     peers = [];
     realms = [];
   };

@@ -37,3 +37,7 @@ pub const COA_FORWARDED: &str =
 /// An Access-Request as forwarded.
 pub const ACCESS_FORWARDED: &str =
     "0100002b0f403f9473978057bd83d5cb98f4227a010d7540612e6578616d706c65210a0000000000000000";
+
+/// An Access-Request as forwarded with a Message-Authenticator.
+pub const ACCESS_FORWARDED_SEALED: &str =
+    "0100003d76b8e0ada0f13d90405d6ae55386bd285012bc7a9b1a72ede7d31f1894193a8f42ea010d7540612e6578616d706c65210a0000000000000000";

@@ -41,7 +41,7 @@ pub fn place_of(socket: usize) -> Place
 /// How many sockets a configuration wants.
 pub fn socket_count(config: &Config) -> usize
     ensures value { result ≡ length (socket_endpoints (shown config.now)) }
-    ensures bound { result ≤ 514 }
+    ensures bound { result ≤ 2050 }
 {
     2 + 2 * config.realms.len()
 }

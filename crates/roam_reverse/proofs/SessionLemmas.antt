@@ -163,6 +163,19 @@ closed-is-gone s (x ∷ xs) =
       | inr other ↦ rw other (or_from (same_session s x) (has_session s (without_session s xs)) other (closed-is-gone s xs))
     ]
 
+-- a change that leaves the sessions as they are opens none that isn't there, and closes none that is
+pub opening-changes :
+    (limit : ℕ) (s : Session) (xs : List Session) → false ≡ has_session s xs → limit ≢ 0
+    → with_session limit s xs ≡ xs → ⊥
+opening-changes limit s xs absent some same =
+    let there = opened-is-there limit s xs (omega (arith, some)) in
+    let bad : false ≡ true = absent ∙ ap (has_session s) (sym same) ∙ there in cc
+
+pub closing-changes :
+    (s : Session) (xs : List Session) → true ≡ has_session s xs → without_session s xs ≡ xs → ⊥
+closing-changes s xs there same =
+    let bad : true ≡ false = there ∙ ap (has_session s) (sym same) ∙ closed-is-gone s xs in cc
+
 pub others-stay : (s other : Session) (xs : List Session) → same_session other s ≡ false
     → has_session other (without_session s xs) ≡ has_session other xs
 others-stay s other [] h = refl

@@ -8,3 +8,4 @@ pub mod Causes
 pub mod TargetLaws
 pub mod SessionLaws
 pub mod CauseLaws
+pub mod Constants

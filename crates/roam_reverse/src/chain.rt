@@ -1,6 +1,6 @@
 //! The sessions of a ledger in the order in which they were opened.
 
-ghost use Rattle.std.specs.Prelude.{◌≡◌, ℕ, ◌+◌, ◌-◌, ◌<◌, ◌≤◌, [], ◌∷◌, ◌++◌, None, Some, IsSome, OnOk, OnErr, drop};
+ghost use Rattle.std.specs.Prelude.{◌≡◌, ℕ, ◌+◌, ◌-◌, ◌<◌, ◌≤◌, [], ◌∷◌, ◌++◌, None, Some, IsOk, IsSome, OnOk, OnErr, drop};
 ghost use Rattle.roam_reverse.specs.Sessions.{Session, without_peer};
 ghost use Rattle.roam_reverse.specs.Shown.{shown_session};
 ghost use Rattle.roam_reverse.specs.Stands.{IsSound, chain_of, sessions_of};
@@ -74,6 +74,7 @@ impl<A: Allocator + Copy> Chain<A> {
         requires { IsSound self.old }
         ensures sound { IsSound self.new }
         ensures ok { OnOk result (0 < self.new.spare) }
+        ensures succeeds { 0 < self.old.spare → IsOk result }
         ensures err { OnErr result (self.new.spare ≡ self.old.spare) }
         ensures same { chain_of self.new ≡ chain_of self.old }
     {

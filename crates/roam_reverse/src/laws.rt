@@ -1,6 +1,8 @@
-//! Laws of targets, ledgers and causes, for callers' proofs. They do nothing when they run.
+//! Laws of targets, ledgers and causes, for callers' proofs, and the numbers that RFCs give. They do
+//! nothing when they run.
 
-ghost use Rattle.roam_reverse.specs.CauseLaws.{ForwardedHasTarget, NamedRequestsNeedNoSession};
+ghost use Rattle.roam_reverse.specs.CauseLaws.{ForwardedHasTarget, ForwardedNamesTheRealm, NamedRequestsNeedNoSession};
+ghost use Rattle.roam_reverse.specs.Constants.{ErrorCauses, StatusTypes};
 ghost use Rattle.roam_reverse.specs.SessionLaws.{ClosedIsGone, LimitOfNoneHoldsNone, NoneOfThePeerIsLeft, OpenedIsThere, OpenedTwiceIsOpenedOnce, OtherPeersSessionsStay, OthersStayOpen, RequestsKeepTheLedger};
 ghost use Rattle.roam_reverse.specs.TargetLaws.{NamelessIsForNone, NoTargetIsThere, TargetIsTheFirst};
 
@@ -40,7 +42,15 @@ pub fn named_requests_need_no_session()
     ensures { NamedRequestsNeedNoSession }
 {}
 
-/// A request that can be forwarded has a target, and holds no salted string.
+/// A request that can be forwarded has a target, and holds no salted string; with a User-Name it names
+/// the realm.
 pub fn forwarded_has_target()
-    ensures { ForwardedHasTarget }
+    ensures target { ForwardedHasTarget }
+    ensures realm { ForwardedNamesTheRealm }
+{}
+
+/// The numbers of the status types and of the Error-Causes.
+pub fn numbers_of_statuses_and_causes()
+    ensures statuses { StatusTypes }
+    ensures causes { ErrorCauses }
 {}

@@ -1,7 +1,7 @@
 //! The ledger of a realm's open sessions.
 
-ghost use Rattle.std.specs.Prelude.{◌≡◌, ◌<◌, ◌≤◌, [], IfOk, OnOk, OnErr};
-ghost use Rattle.roam_reverse.specs.Sessions.{IsLedger, applied, changed, has_session, with_session, without_session, without_peer};
+ghost use Rattle.std.specs.Prelude.{◌≡◌, ◌<◌, ◌≤◌, [], IfOk, IsOk, OnOk, OnErr};
+ghost use Rattle.roam_reverse.specs.Sessions.{IsLedger, applied, change_by_request, changed, closes_all, has_session, with_session, without_session, without_peer};
 ghost use Rattle.roam_reverse.specs.Shown.{HasRoomFor, shown_session};
 
 use crate::accounting::{Said, said_by};
@@ -60,13 +60,18 @@ impl<A: Allocator + Copy> Sessions<A> {
     }
 
     /// Makes all growth that the change by an Accounting-Request of a peer wants, and changes no
-    /// session. Then [`Sessions::apply_prepared`] always answers.
+    /// session. Then [`Sessions::apply_prepared`] always answers. No memory is wanted where the
+    /// request leaves the sessions as they are, or says that none of the peer's is open.
     pub fn prepare(&mut self, peer: u16, request: &View<'_>) -> Result<Prepared<A>, NoMemory>
         ensures change { IfOk result (λ prepared.
             changed self.old.limit prepared self.old.sessions
             ≡ applied self.old.limit peer request.now.attributes self.old.sessions) }
         ensures room { IfOk result (λ prepared. HasRoomFor prepared self.new) }
         ensures err { OnErr result (self.new ≡ self.old) }
+        ensures idle { applied self.old.limit peer request.now.attributes self.old.sessions
+            ≡ self.old.sessions → IsOk result }
+        ensures closing_all { change_by_request peer request.now.attributes ≡ closes_all peer
+            → IsOk result }
         ensures limit { self.new.limit ≡ self.old.limit }
         ensures sessions { self.new.sessions ≡ self.old.sessions }
     {
@@ -90,6 +95,8 @@ impl<A: Allocator + Copy> Sessions<A> {
             ≡ with_session self.old.limit (record { peer = peer; id = id.now }) self.old.sessions) }
         ensures room { IfOk result (λ prepared. HasRoomFor prepared self.new) }
         ensures err { OnErr result (self.new ≡ self.old) }
+        ensures idle { with_session self.old.limit (record { peer = peer; id = id.now })
+            self.old.sessions ≡ self.old.sessions → IsOk result }
         ensures limit { self.new.limit ≡ self.old.limit }
         ensures sessions { self.new.sessions ≡ self.old.sessions }
     {
@@ -111,6 +118,8 @@ impl<A: Allocator + Copy> Sessions<A> {
             changed self.now.limit prepared self.now.sessions
             ≡ without_session (record { peer = peer; id = id.now }) self.now.sessions) }
         ensures room { IfOk result (λ prepared. HasRoomFor prepared self.now) }
+        ensures idle { without_session (record { peer = peer; id = id.now }) self.now.sessions
+            ≡ self.now.sessions → IsOk result }
     {
         if !self.has(peer, id) {
             return Ok(Prepared {
@@ -137,11 +146,16 @@ impl<A: Allocator + Copy> Sessions<A> {
         }
     }
 
-    /// What an Accounting-Request of a peer does once it was answered.
+    /// What an Accounting-Request of a peer does once it was answered. Memory as in
+    /// [`Sessions::prepare`].
     pub fn apply(&mut self, peer: u16, request: &View<'_>) -> Result<(), NoMemory>
         ensures ok { OnOk result (self.new.sessions
             ≡ applied self.old.limit peer request.now.attributes self.old.sessions) }
         ensures err { OnErr result (self.new ≡ self.old) }
+        ensures idle { applied self.old.limit peer request.now.attributes self.old.sessions
+            ≡ self.old.sessions → IsOk result }
+        ensures closing_all { change_by_request peer request.now.attributes ≡ closes_all peer
+            → IsOk result }
         ensures limit { self.new.limit ≡ self.old.limit }
     {
         let prepared = self.prepare(peer, request)?;

@@ -20,7 +20,7 @@ mod session;
 pub use error_cause::verdict;
 pub use laws::{
     closed_sessions, forwarded_has_target, ledgers_stay_ledgers, named_requests_need_no_session,
-    opened_sessions, sessions_of_a_peer, target_is_the_first,
+    numbers_of_statuses_and_causes, opened_sessions, sessions_of_a_peer, target_is_the_first,
 };
 pub use ledger::Sessions;
 pub use nas_match::target;

@@ -9,6 +9,7 @@ use roam_reverse::error_cause::{
     REQUEST_NOT_ROUTABLE, SESSION_CONTEXT_NOT_FOUND, UNSUPPORTED_ATTRIBUTE,
 };
 use roam_reverse::{Sessions, target, verdict};
+use roam_route::realm_of;
 use roam_wire::{NoMemory, View};
 use std::alloc::Global;
 use std::process::Abort;
@@ -342,8 +343,11 @@ fn judged(
     let sessions = ledger(rt, alloc).expect(rt, "memory");
     let octets = octets(rt, alloc, request);
     let view = View::read(&octets).expect(rt, "a packet");
-    assert!(rt; !config.realms.is_empty());
-    (target(config, &view), verdict(config, 0, &view, &sessions))
+    let named = realm_of(config, &view);
+    (
+        target(config, &view),
+        verdict(config, 0, named, &view, &sessions),
+    )
 }
 
 /// Each request has this target and this cause.

@@ -13,6 +13,7 @@ use Rattle.roam_wire.specs.declared.refusal.Refusal.TheVariants as refusal
 use Rattle.roam_wire.proofs.PacketLemmas.{IsPacketText-front, IsPacketText-packet_text, ReadsAs-packet_text, ReadsAs-follows, length-packet_text, packet_of-packet_text}
 use Rattle.roam_wire.proofs.ReadingLemmas.{reading-ok}
 use Rattle.roam_auth.specs.Authenticators.{zero_octets}
+use Rattle.roam_auth.specs.Deciding.{is_well_sealed}
 use Rattle.roam_auth.specs.MessageAuthenticator.{HasAtMostOneMessageAuthenticator, IsWellSealed}
 use Rattle.roam_auth.proofs.DecidingLemmas.{well_sealed_decided}
 use Rattle.roam_conf.specs.Config.{ConfigView}
@@ -21,9 +22,10 @@ use Rattle.roam_conf.specs.declared.place.Place.{Place}
 use Rattle.roam_conf.specs.declared.place.Place.TheVariants as place
 use Rattle.roam_fwd.specs.Forwarded.{CanBeForwarded, HasPasswordBlocks, forwarded_length}
 use Rattle.roam_route.specs.UserName.{realm_of}
-use Rattle.roam_route.specs.LocalReject.{is_rejected, local_reject, reject_length}
-use Rattle.roam_route.specs.Admission.{Arrival, PlainJob, PlainOut, Admission, refused, rejected, admitted, sender, checked, given_to, forwarded_for, rejected_for, named, routed, request_admission, packet_admission, sent_admission, read_admission, admission, is_taken, is_rightly_signed, is_rightly_sealed, has_needed_seal, seal_required, peer_secret, home_secret}
-use Rattle.roam_route.specs.Events.{arrival_of, IsEvent, IsPrepared, IsConfigured, IsForwardable, EventHasRealm, EventIsSound}
+use Rattle.roam_route.specs.LocalAnswer.{answer_length, local_reject, status_answer}
+use Rattle.roam_route.specs.LocalReject.{is_rejected}
+use Rattle.roam_route.specs.Admission.{Arrival, PlainJob, PlainOut, Admission, refused, rejected, admitted, sender, checked, given_to, forwarded_for, answered_by, rejected_for, named, routed, request_admission, packet_admission, sent_admission, read_admission, admission, is_taken, is_rightly_signed, is_rightly_sealed, has_needed_seal, has_few_hops, has_seal, is_status_request, status_admission, status_from, seal_required, peer_secret, home_secret}
+use Rattle.roam_route.specs.Events.{arrival_of, IsEvent, IsPrepared, IsConfigured, IsForwardable, IsNamed, EventHasRealm, EventIsSound}
 use Rattle.roam_route.specs.Shown.{Answers, shown_job}
 use Rattle.roam_route.specs.declared.job.Prepared.{Prepared}
 use Rattle.roam_route.specs.declared.job.Prepared.TheVariants as prepared
@@ -46,6 +48,7 @@ record IsAdmitted (config : ConfigView) (a : Arrival) (p : Packet) (job : PlainJ
   realm : job.realm < length config.realms
   sender : IsConfigured config job.realm job.side
   forwardable : IsForwardable job.side p
+  names : IsNamed config job.side p job.named
 
 Admits : ConfigView → Arrival → Packet → Admission → Type 0
 Admits config a p (refused why) = Unit {0}
@@ -75,14 +78,17 @@ record IsFor (config : ConfigView) (a : Arrival) (s : Side) (p : Packet) (realm 
   sender : IsConfigured config realm s
 
 given_admits : (config : ConfigView) (a : Arrival) (s : Side) (p : Packet) (realm : ℕ)
-    → IsFor config a s p realm → IsForwardable s p → Admits config a p (given_to a s p realm)
+    (names : Option ℕ)
+    → IsFor config a s p realm → IsForwardable s p → IsNamed config s p names
+    → Admits config a p (given_to a s p realm names)
 unfolding Admits
-given_admits config a s p realm h forwardable = record {
+given_admits config a s p realm names h forwardable named_so = record {
   arrival = refl;
   code = h.code;
   realm = h.within;
   sender = h.sender;
   forwardable = forwardable;
+  names = named_so;
 }
 
 -- a request that can be sealed and whose passwords can be hidden anew
@@ -96,14 +102,16 @@ forwardable_from (side.Link l) p h = tt
 forwardable_from (side.Home i) p h = h
 
 forwarded_admits : (config : ConfigView) (a : Arrival) (s : Side) (p : Packet) (realm : ℕ)
-    → IsFor config a s p realm → IsSealable p → Admits config a p (forwarded_for a s p realm)
-forwarded_admits config a s p realm h sealable =
+    (names : Option ℕ)
+    → IsFor config a s p realm → IsSealable p → IsNamed config s p names
+    → Admits config a p (forwarded_for a s p realm names)
+forwarded_admits config a s p realm names h sealable named_so =
     checked_admits config a p (nat_le (forwarded_length p) 4096) refusal.TooLong
-    (given_to a s p realm) (λ short. given_admits config a s p realm h (forwardable_from s p (record {
+    (given_to a s p realm names) (λ short. given_admits config a s p realm names h (forwardable_from s p (record {
       message_authenticator = sealable.seal;
       passwords = sealable.passwords;
       size = grind (arith, nat_tests, short);
-    })))
+    })) named_so)
 
 -- a request of a peer may go to each configured realm
 IsFromPeer : ConfigView → Arrival → ℕ → Packet → Type 0
@@ -111,11 +119,12 @@ IsFromPeer config a i p =
     (realm : ℕ) → realm < length config.realms → IsFor config a (side.Peer i) p realm
 
 named_admits : (config : ConfigView) (a : Arrival) (i : ℕ) (p : Packet) (realm : Option ℕ)
+    → realm ≡ realm_of config p.attributes
     → ((x : ℕ) → realm ≡ Some x → IsFor config a (side.Peer i) p x) → IsSealable p
     → Admits config a p (named a (side.Peer i) p realm)
-named_admits config a i p None h sealable = refused_admits config a p refusal.NoRealm
-named_admits config a i p (Some realm) h sealable =
-    forwarded_admits config a (side.Peer i) p realm (h realm refl) sealable
+named_admits config a i p None is h sealable = refused_admits config a p refusal.NoRealm
+named_admits config a i p (Some realm) is h sealable =
+    forwarded_admits config a (side.Peer i) p realm (Some realm) (h realm refl) sealable is
 
 -- where it names one
 own_realm_admits : (config : ConfigView) (a : Arrival) (i : ℕ) (p : Packet)
@@ -123,7 +132,7 @@ own_realm_admits : (config : ConfigView) (a : Arrival) (i : ℕ) (p : Packet)
     → Admits config a p (named a (side.Peer i) p (realm_of config p.attributes))
 unfolding IsFromPeer
 own_realm_admits config a i p h sealable =
-    named_admits config a i p (realm_of config p.attributes)
+    named_admits config a i p (realm_of config p.attributes) refl
     (λ x is. h x (realm_of_within config p.attributes x is)) sealable
 
 -- a local reject, or an Access-Request whose passwords can be hidden anew
@@ -139,7 +148,7 @@ reject_admits : (config : ConfigView) (secret : List ℕ) (a : Arrival) (p : Pac
 reject_admits config secret a p =
     let bytes : List ℕ = packet_text (local_reject secret p) in
     let out : PlainOut = record { realm = None; from = a.at; to = a.from; bytes = bytes } in
-    checked_admits config a p (nat_le (reject_length p) 4096) refusal.TooLong (rejected out)
+    checked_admits config a p (nat_le (answer_length p) 4096) refusal.TooLong (rejected out)
     (λ _. rejected_admits config a p out)
 
 -- what is well sealed has at most one Message-Authenticator
@@ -155,14 +164,17 @@ request_admits : (config : ConfigView) (secret : List ℕ) (a : Arrival) (s : Si
     → (HasAtMostOneMessageAuthenticator p → Admits config a p (routed config secret a s p a.at))
     → Admits config a p (request_admission config secret a s p)
 request_admits config secret a s p h =
-    let has_seal : Bool = has_needed_seal (seal_required config s) p in
+    let has_needed : Bool = has_needed_seal (seal_required config s) p in
+    let few : Bool = has_few_hops config.max_hops p in
     let last : Admission = routed config secret a s p a.at in
-    let third : Admission = checked has_seal refusal.MissingMessageAuthenticator last in
+    let fourth : Admission = checked few refusal.TooManyHops last in
+    let third : Admission = checked has_needed refusal.MissingMessageAuthenticator fourth in
     let second : Admission = checked (is_rightly_sealed secret p) refusal.BadMessageAuthenticator third in
     checked_admits config a p (is_rightly_signed secret p) refusal.BadAuthenticator second (λ _.
     checked_admits config a p (is_rightly_sealed secret p) refusal.BadMessageAuthenticator third (λ well.
-    checked_admits config a p has_seal refusal.MissingMessageAuthenticator last (λ _.
-    h (sealed_once secret p well))))
+    checked_admits config a p has_needed refusal.MissingMessageAuthenticator fourth (λ _.
+    checked_admits config a p few refusal.TooManyHops last (λ _.
+    h (sealed_once secret p well)))))
 
 -- the codes of an access server at each place, and of a home server
 code_at_acct : (s : Side) (code : ℕ) → is_taken place.Acct s code ≡ true → code ≡ ACCESS_REQUEST
@@ -204,10 +216,10 @@ home_admits : (config : ConfigView) (secret : List ℕ) (a : Arrival) (i : ℕ) 
     → IsFor config a (side.Home i) p realm → HasAtMostOneMessageAuthenticator p
     → Admits config a p (routed config secret a (side.Home i) p (place.Reverse realm))
 home_admits config secret a i p realm test h seal =
-    forwarded_admits config a (side.Home i) p realm h (record {
+    forwarded_admits config a (side.Home i) p realm (realm_of config p.attributes) h (record {
       seal = seal;
       passwords = λ access. absurd (code_at_reverse realm i p.code test access);
-    })
+    }) refl
 
 from_peer : (config : ConfigView) (a : Arrival) (i : ℕ) (p : Packet)
     → option_map (λ n. side.Peer n) (peer_with_ip config.peers a.from.ip) ≡ Some (side.Peer i)
@@ -237,11 +249,11 @@ packet_admits : (config : ConfigView) (a : Arrival) (s : Side) (p : Packet) (at 
     → Admits config a p (packet_admission config a s p at)
 packet_admits config a (side.Link l) p (place.Out realm) is from test =
     let known = link_known config a realm l from in
-    given_admits config a (side.Link l) p realm (record {
+    given_admits config a (side.Link l) p realm None (record {
       code = taken_at a (side.Link l) p (place.Out realm) is test;
       within = known.0;
       sender = known.1;
-    }) tt
+    }) tt refl
 packet_admits config a (side.Peer i) p (place.Out realm) is from test = absurd (cc test)
 packet_admits config a (side.Home i) p (place.Out realm) is from test = absurd (cc test)
 packet_admits config a (side.Peer i) p place.Auth is from test =
@@ -273,12 +285,34 @@ packet_admits config a (side.Link l) p place.Auth is from test = absurd (cc test
 packet_admits config a (side.Link l) p place.Acct is from test = absurd (cc test)
 packet_admits config a (side.Link l) p (place.Reverse realm) is from test = absurd (cc test)
 
+-- a Status-Server is no event
+status_admits : (config : ConfigView) (secret : List ℕ) (a : Arrival) (p : Packet)
+    → Admits config a p (status_admission secret a p)
+status_admits config secret a p =
+    let answer : Admission = answered_by a (status_answer a.at secret p) in
+    let bytes : List ℕ = packet_text (status_answer a.at secret p) in
+    let out : PlainOut = record { realm = None; from = a.at; to = a.from; bytes = bytes } in
+    checked_admits config a p (is_well_sealed secret (p.authenticator ∷ []) p)
+    refusal.BadMessageAuthenticator (checked (has_seal p) refusal.MissingMessageAuthenticator answer) (λ _.
+    checked_admits config a p (has_seal p) refusal.MissingMessageAuthenticator answer (λ _.
+    rejected_admits config a p out))
+
+status_from_admits : (config : ConfigView) (a : Arrival) (s : Side) (p : Packet)
+    → Admits config a p (status_from config a s p)
+status_from_admits config a (side.Peer i) p = status_admits config (peer_secret config i) a p
+status_from_admits config a (side.Link l) p = refused_admits config a p refusal.WrongCode
+status_from_admits config a (side.Home i) p = refused_admits config a p refusal.WrongCode
+
 sent_admits : (config : ConfigView) (a : Arrival) (p : Packet) (s : Option Side)
     → sender config a a.at ≡ s → Admits config a p (sent_admission config a p s)
 sent_admits config a p None from = refused_admits config a p refusal.UnknownSource
 sent_admits config a p (Some s) from =
-    checked_admits config a p (is_taken a.at s p.code) refusal.WrongCode
-    (packet_admission config a s p a.at) (λ test. packet_admits config a s p a.at refl from test)
+    let code : Bool = is_taken a.at s p.code in
+    let judged : Admission = packet_admission config a s p a.at in
+    either_admits config a p (is_status_request config a.at s p.code) (status_from config a s p)
+    (checked code refusal.WrongCode judged) (status_from_admits config a s p) (λ _.
+    checked_admits config a p code refusal.WrongCode judged (λ test.
+    packet_admits config a s p a.at refl from test))
 
 -- ---- what is prepared
 
@@ -313,26 +347,20 @@ same_as_sent : (config : ConfigView) (a : Arrival) (p : Packet) → reading a.oc
 unfolding admission
 same_as_sent config a p read = ap (read_admission config a) read
 
-sent_of_taken : (config : ConfigView) (a : Arrival) (p : Packet) (s : Side)
-    → sender config a a.at ≡ Some s → is_taken a.at s p.code ≡ true
-    → sent_admission config a p (sender config a a.at) ≡ packet_admission config a s p a.at
-sent_of_taken config a p s from test = rw (from, test) refl
-
--- what is prepared of a packet whose sender is known, and whose code is taken
-pub prepared_of_taken : {A : Type 0}
+-- what is prepared of a packet whose sender is known
+pub prepared_of_sent : {A : Type 0}
     → (config : ConfigView) (a : Arrival) (p : Packet) (s : Side) (r : Result (Prepared A) Refusal)
     → IsPacket p → reading a.octets ≡ Ok p → sender config a a.at ≡ Some s
-    → is_taken a.at s p.code ≡ true → Answers r (packet_admission config a s p a.at)
-    → IfOk r (IsPrepared config a)
-prepared_of_taken config a p s (Err why) packet read from test answers = tt
-prepared_of_taken config a p s (Ok (prepared.Job j)) packet read from test answers =
-    let sent = sent_of_taken config a p s from test in
+    → Answers r (sent_admission config a p (Some s)) → IfOk r (IsPrepared config a)
+prepared_of_sent config a p s (Err why) packet read from answers = tt
+prepared_of_sent config a p s (Ok (prepared.Job j)) packet read from answers =
+    let sent = ap (sent_admission config a p) from in
     elim answers [
       | inl none ↦ absurd (cc none)
       | inr is ↦ own_arrival config a p (shown_job j) packet (sent ∙ sym is)
     ]
-prepared_of_taken config a p s (Ok (prepared.Reject out)) packet read from test answers =
-    let sent = sent_of_taken config a p s from test in
+prepared_of_sent config a p s (Ok (prepared.Reject out)) packet read from answers =
+    let sent = ap (sent_admission config a p) from in
     elim answers [
       | inl none ↦ absurd (cc none)
       | inr is ↦ same_as_sent config a p read ∙ sent ∙ sym is
@@ -427,4 +455,5 @@ event_sound config job octets is =
       code = subst (λ (x : Packet). is_taken job.place job.side x.code ≡ true) (sym same) h.code;
       sender = h.sender;
       forwardable = subst (IsForwardable job.side) (sym same) h.forwardable;
+      named = subst (λ (x : Packet). IsNamed config job.side x job.named) (sym same) h.names;
     }

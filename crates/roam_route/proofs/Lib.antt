@@ -1,6 +1,7 @@
+pub mod AnswerLemmas
 pub mod CheckLemmas
 pub mod EventLemmas
 pub mod NameLemmas
+pub mod OwnLemmas
 pub mod PasswordLemmas
-pub mod RejectLemmas
 pub mod SenderLemmas

@@ -13,7 +13,7 @@ use Rattle.roam_hide.specs.Hiding.{HasWholeBlocks, password_fits}
 use Rattle.roam_conf.specs.Config.{ConfigView}
 use Rattle.roam_fwd.specs.Forwarded.{HasPasswordBlocks}
 use Rattle.roam_route.specs.UserName.{realm_of}
-use Rattle.roam_route.specs.LocalReject.{has_bad_password, is_rejected}
+use Rattle.roam_route.specs.LocalReject.{has_bad_password, has_too_many_hops, is_rejected}
 
 -- a password of a size that fits has whole blocks
 fitting : (value : List ℕ) → password_fits value ≡ true → HasWholeBlocks value
@@ -102,8 +102,9 @@ either_false false b h = (refl, h)
 pub unrejected_blocks : (config : ConfigView) (p : Packet) → is_rejected config p ≡ false
     → AllByRecursion HasPasswordBlocks p.attributes
 unrejected_blocks config p passes =
+    let all = either_false _ (has_too_many_hops config.max_hops p) passes in
     let names_none : Bool = not (is_some (realm_of config p.attributes)) in
-    let bad = either_false names_none (has_bad_password p) passes in
+    let bad = either_false names_none (has_bad_password p) all.0 in
     let parts = either_false _ _ bad.1 in
     let more = either_false _ _ parts.0 in
     one_blocks p.attributes more.1 parts.1

@@ -10,6 +10,7 @@ use Rattle.roam_conf.specs.Config.{ConfigView, PeerView, RealmView}
 use Rattle.roam_conf.specs.Lookup.{realm_named, peer_with_ip, link_at, link_in, home_in, server_with_ip}
 use Rattle.roam_conf.specs.declared.place.Link.{Link}
 use Rattle.roam_conf.specs.declared.place.Place.TheVariants as place
+use Rattle.roam_conf.proofs.NameLemmas.{realm_named_within}
 use Rattle.roam_conf.proofs.OneLinkLemmas.{link_in_bound, home_in_bound}
 use Rattle.roam_route.specs.UserName.{realm_of, realm_part}
 use Rattle.roam_route.specs.Admission.{Arrival, sender}
@@ -31,11 +32,6 @@ position_within test i (y ∷ ys) x h =
       | inr later ↦ let within = position_within test (i + 1) ys x later in omega arith
     ]
 
-named_within : (realms : List RealmView) (name : List ℕ) (x : ℕ)
-    → realm_named realms name ≡ Some x → x < length realms
-unfolding realm_named
-named_within realms name x h = let within = position_within _ 0 realms x h in omega arith
-
 peer_within : (peers : List PeerView) (ip : List ℕ) (i : ℕ) → peer_with_ip peers ip ≡ Some i
     → i < length peers
 unfolding peer_with_ip
@@ -47,7 +43,7 @@ pub realm_of_within : (config : ConfigView) (attributes : List Attribute) (x : �
 realm_of_within config attributes x h =
     let part = option_and_then realm_part (first_value USER_NAME attributes) in
     option_and_then_some (realm_named config.realms) part x h
-    (λ name found then. named_within config.realms name x then)
+    (λ name found then. realm_named_within config.realms name x then)
 
 -- what a look-up in a thing that may be there found, it found in that thing
 there : {X Y : Type 0} → (g : X → Option Y) (o : Option X) (y : Y) → option_and_then g o ≡ Some y

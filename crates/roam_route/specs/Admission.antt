@@ -1,5 +1,5 @@
--- What an arrival gives: a refusal, a local reject, or an event of a realm (RFC 2865 sections 2.3 and
--- 3, RFC 2866, RFC 5176; the order of the checks is ours).
+-- What an arrival gives: a refusal, a local answer, or an event of a realm (RFC 2865 sections 2.3 and
+-- 3, RFC 2866, RFC 5176, RFC 5997; the order of the checks is ours).
 use Rattle.std.specs.Prelude.{ℕ, ◌==◌, ◌&&◌, ◌||◌, not, nat_lt, nat_le, Bool, false, List, [], ◌∷◌, Option, Some, None, option_map, slice_get, Result, Ok, Err, if◌then◌else◌}
 use Rattle.std.specs.Option.{option_map_or}
 use Rattle.roam_wire.specs.Packet.{Packet, packet_text}
@@ -7,7 +7,7 @@ use Rattle.roam_wire.specs.Attributes.{count_of}
 use Rattle.roam_wire.specs.Codes.{is_access_reply, is_reverse_request, is_reverse_reply}
 use Rattle.roam_wire.specs.Reading.{reading}
 use Rattle.roam_wire.specs.declared.attribute_type.TheConstants.{EAP_MESSAGE, MESSAGE_AUTHENTICATOR}
-use Rattle.roam_wire.specs.declared.code.TheConstants.{ACCESS_REQUEST, ACCOUNTING_REQUEST, ACCOUNTING_RESPONSE}
+use Rattle.roam_wire.specs.declared.code.TheConstants.{ACCESS_REQUEST, ACCOUNTING_REQUEST, ACCOUNTING_RESPONSE, STATUS_SERVER}
 use Rattle.roam_wire.specs.declared.refusal.Refusal.{Refusal}
 use Rattle.roam_wire.specs.declared.refusal.Refusal.TheVariants as refusal
 use Rattle.roam_auth.specs.Authenticators.{zero_octets}
@@ -22,7 +22,8 @@ use Rattle.roam_conf.specs.declared.place.Place.{Place}
 use Rattle.roam_conf.specs.declared.place.Place.TheVariants as place
 use Rattle.roam_fwd.specs.Forwarded.{forwarded_length}
 use Rattle.roam_route.specs.UserName.{realm_of}
-use Rattle.roam_route.specs.LocalReject.{is_rejected, local_reject, reject_length}
+use Rattle.roam_route.specs.LocalAnswer.{answer_length, local_reject, status_answer}
+use Rattle.roam_route.specs.LocalReject.{has_too_many_hops, is_rejected}
 use Rattle.roam_route.specs.declared.job.Side.{Side}
 use Rattle.roam_route.specs.declared.job.Side.TheVariants as side
 
@@ -32,14 +33,15 @@ pub record Arrival : Type 0 where
   pub from : Endpoint
   pub octets : List ℕ
 
--- what a realm is given: a request or a reply, with the place and the source, who sent it, and the
--- octets up to Length
+-- what a realm is given: a request or a reply, with the place and the source, who sent it, the octets
+-- up to Length, and the realm that the first User-Name of a request names; none in a reply
 pub record PlainJob : Type 0 where
   pub realm : ℕ
   pub place : Place
   pub from : Endpoint
   pub side : Side
   pub octets : List ℕ
+  pub named : Option ℕ
 
 -- a packet that leaves: for which realm, from which place, where to, and its octets
 pub record PlainOut : Type 0 where
@@ -48,7 +50,8 @@ pub record PlainOut : Type 0 where
   pub to : Endpoint
   pub bytes : List ℕ
 
--- what an arrival gives
+-- what an arrival gives; what is rejected is answered by the broker itself, by a local reject or as a
+-- Status-Server
 pub data Admission : Type 0 where
   refused : Refusal → Admission
   rejected : PlainOut → Admission
@@ -110,30 +113,48 @@ abbrev pub seal_required : ConfigView → Side → Bool
 seal_required config (side.Peer i) = option_map_or (λ p. p.require_seal) (slice_get config.peers i) false
 seal_required config _ = false
 
--- a packet that passed, as the event of a realm
-abbrev pub given_to : Arrival → Side → Packet → ℕ → Admission
-given_to a s p realm =
-    admitted (record { realm = realm; place = a.at; from = a.from; side = s; octets = packet_text p })
+-- whether a request that is forwarded hasn't too many hops: an Access-Request that has is answered by a
+-- local reject (ours)
+abbrev pub has_few_hops : Option ℕ → Packet → Bool
+has_few_hops most p = p.code == ACCESS_REQUEST || not (has_too_many_hops most p)
+
+-- a packet that passed, as the event of a realm, with the realm that it names
+abbrev pub given_to : Arrival → Side → Packet → ℕ → Option ℕ → Admission
+given_to a s p realm names =
+    admitted (record {
+      realm = realm;
+      place = a.at;
+      from = a.from;
+      side = s;
+      octets = packet_text p;
+      named = names;
+    })
 
 -- a request of a realm, where its forwarded packet has at most 4096 octets
-abbrev pub forwarded_for : Arrival → Side → Packet → ℕ → Admission
-forwarded_for a s p realm = checked (nat_le (forwarded_length p) 4096) refusal.TooLong (given_to a s p realm)
+abbrev pub forwarded_for : Arrival → Side → Packet → ℕ → Option ℕ → Admission
+forwarded_for a s p realm names =
+    checked (nat_le (forwarded_length p) 4096) refusal.TooLong (given_to a s p realm names)
+
+-- an answer of the broker itself: it carries no realm, and goes back to where the request came from
+abbrev pub answered_by : Arrival → Packet → Admission
+answered_by a answer =
+    rejected (record { realm = None; from = a.at; to = a.from; bytes = packet_text answer })
 
 -- the local reject, where it has at most 4096 octets
 abbrev pub rejected_for : List ℕ → Arrival → Packet → Admission
 rejected_for secret a p =
-    checked (nat_le (reject_length p) 4096) refusal.TooLong
-    (rejected (record { realm = None; from = a.at; to = a.from; bytes = packet_text (local_reject secret p) }))
+    checked (nat_le (answer_length p) 4096) refusal.TooLong (answered_by a (local_reject secret p))
 
 -- a request that names its realm, or none
 abbrev pub named : Arrival → Side → Packet → Option ℕ → Admission
 named a s p None = refused refusal.NoRealm
-named a s p (Some realm) = forwarded_for a s p realm
+named a s p (Some realm) = forwarded_for a s p realm (Some realm)
 
 -- what a request that passed the checks of its signature and seal gives: to the realm of its place
 -- where it came from a home server; else to the realm that it names
 abbrev pub routed : ConfigView → List ℕ → Arrival → Side → Packet → Place → Admission
-routed config secret a s p (place.Reverse realm) = forwarded_for a s p realm
+routed config secret a s p (place.Reverse realm) =
+    forwarded_for a s p realm (realm_of config p.attributes)
 routed config secret a s p place.Auth =
     if is_rejected config p then rejected_for secret a p
     else named a s p (realm_of config p.attributes)
@@ -145,23 +166,49 @@ request_admission config secret a s p =
     checked (is_rightly_signed secret p) refusal.BadAuthenticator
     (checked (is_rightly_sealed secret p) refusal.BadMessageAuthenticator
     (checked (has_needed_seal (seal_required config s) p) refusal.MissingMessageAuthenticator
-    (routed config secret a s p a.at)))
+    (checked (has_few_hops config.max_hops p) refusal.TooManyHops
+    (routed config secret a s p a.at))))
 
 -- what a packet of a known sender and a code that is taken gives: a reply goes to the realm of its
 -- place as it is, and is judged there
 abbrev pub packet_admission : ConfigView → Arrival → Side → Packet → Place → Admission
-packet_admission config a s p (place.Out realm) = given_to a s p realm
+packet_admission config a s p (place.Out realm) = given_to a s p realm None
 packet_admission config a (side.Peer i) p _ =
     request_admission config (peer_secret config i) a (side.Peer i) p
 packet_admission config a (side.Home i) p (place.Reverse realm) =
     request_admission config (home_secret config realm i) a (side.Home i) p
 packet_admission config a s p _ = refused refusal.WrongCode
 
+-- whether a packet is a Status-Server that is answered: one that a peer sent to where its requests are
+-- taken, where the configuration has it answered (RFC 5997, section 3)
+abbrev pub is_status_request : ConfigView → Place → Side → ℕ → Bool
+is_status_request config place.Auth (side.Peer i) code = config.status_server && code == STATUS_SERVER
+is_status_request config place.Acct (side.Peer i) code = config.status_server && code == STATUS_SERVER
+is_status_request config _ _ code = false
+
+-- whether a Status-Server has a Message-Authenticator, which it always must (RFC 5997, section 3)
+abbrev pub has_seal : Packet → Bool
+has_seal p = nat_lt 0 (count_of MESSAGE_AUTHENTICATOR p.attributes)
+
+-- what a Status-Server gives: the local answer, where it is sealed over its own Authenticator (RFC 5997,
+-- section 3)
+abbrev pub status_admission : List ℕ → Arrival → Packet → Admission
+status_admission secret a p =
+    checked (is_well_sealed secret (p.authenticator ∷ []) p) refusal.BadMessageAuthenticator
+    (checked (has_seal p) refusal.MissingMessageAuthenticator
+    (answered_by a (status_answer a.at secret p)))
+
+-- the same of a sender, of whom the peers alone have it answered
+abbrev pub status_from : ConfigView → Arrival → Side → Packet → Admission
+status_from config a (side.Peer i) p = status_admission (peer_secret config i) a p
+status_from config a s p = refused refusal.WrongCode
+
 -- what a packet gives: the source first, then the code
 abbrev pub sent_admission : ConfigView → Arrival → Packet → Option Side → Admission
 sent_admission config a p None = refused refusal.UnknownSource
 sent_admission config a p (Some s) =
-    checked (is_taken a.at s p.code) refusal.WrongCode (packet_admission config a s p a.at)
+    if is_status_request config a.at s p.code then status_from config a s p
+    else checked (is_taken a.at s p.code) refusal.WrongCode (packet_admission config a s p a.at)
 
 -- what is read, and what it gives
 abbrev pub read_admission : ConfigView → Arrival → Result Packet Refusal → Admission

@@ -1,5 +1,5 @@
 -- The events that a configuration gives to its realms. Ours.
-use Rattle.std.specs.Prelude.{◌≡◌, ℕ, ◌<◌, true, length}
+use Rattle.std.specs.Prelude.{◌≡◌, ℕ, ◌<◌, true, length, Option, None}
 use Rattle.roam_wire.specs.Packet.{AreOctets, Packet, packet_length}
 use Rattle.roam_wire.specs.Reading.{IsPacketText, packet_of}
 use Rattle.roam_conf.specs.Config.{ConfigView}
@@ -11,6 +11,7 @@ use Rattle.roam_route.specs.declared.job.Side.{Side}
 use Rattle.roam_route.specs.declared.job.Side.TheVariants as side
 use Rattle.roam_route.specs.Admission.{Arrival, PlainJob, admitted, rejected, admission, is_taken}
 use Rattle.roam_route.specs.Shown.{shown_job, shown_out}
+use Rattle.roam_route.specs.UserName.{realm_of}
 
 -- the arrival of a job's own octets, from its source at its place
 abbrev pub arrival_of : PlainJob → Arrival
@@ -21,7 +22,7 @@ arrival_of job = record { at = job.place; from = job.from; octets = job.octets }
 abbrev pub IsEvent : ConfigView → PlainJob → Type 0
 IsEvent config job = admission config (arrival_of job) ≡ admitted job
 
--- what is prepared of an arrival: such a job, or the local reject of just this arrival
+-- what is prepared of an arrival: such a job, or the local answer of just this arrival
 abbrev pub IsPrepared : {A : Type 0} → ConfigView → Arrival → Prepared A → Type 0
 IsPrepared config a (prepared.Job j) = IsEvent config (shown_job j)
 IsPrepared config a (prepared.Reject out) =
@@ -40,14 +41,21 @@ IsForwardable (side.Peer i) p = CanBeForwarded p
 IsForwardable (side.Link l) p = Unit {0}
 IsForwardable (side.Home i) p = CanBeForwarded p
 
+-- the realm that is named is the one which the first User-Name of a request gives; a reply names none
+abbrev pub IsNamed : ConfigView → Side → Packet → Option ℕ → Type 0
+IsNamed config (side.Peer i) p named = named ≡ realm_of config p.attributes
+IsNamed config (side.Link l) p named = named ≡ None
+IsNamed config (side.Home i) p named = named ≡ realm_of config p.attributes
+
 -- an event of a realm: octets that are one packet's, of a code that is taken from its sender, who
--- is configured; and what is a request can be forwarded
+-- is configured; what is a request can be forwarded, and says which realm it names
 pub record IsSoundEvent (config : ConfigView) (job : PlainJob) : Type 0 where
   pub packet : IsPacketText job.octets
   pub size : packet_length (packet_of job.octets) ≡ length job.octets
   pub code : is_taken job.place job.side (packet_of job.octets).code ≡ true
   pub sender : IsConfigured config job.realm job.side
   pub forwardable : IsForwardable job.side (packet_of job.octets)
+  pub named : IsNamed config job.side (packet_of job.octets) job.named
 
 -- the realm of an event is configured
 abbrev pub EventHasRealm : Type 0

@@ -1,7 +1,10 @@
 pub mod Admission
 pub mod Events
+pub mod LocalAnswer
 pub mod LocalReject
 pub mod NameLaws
+pub mod OwnPart
 pub mod RejectLaws
 pub mod Shown
+pub mod StatusLaws
 pub mod UserName

@@ -7,18 +7,18 @@ use Rattle.roam_wire.specs.Reading.{ReadsAs}
 use Rattle.roam_wire.specs.declared.attribute_type.TheConstants.{PROXY_STATE}
 use Rattle.roam_auth.specs.Authenticators.{IsSignedReply}
 use Rattle.roam_auth.specs.MessageAuthenticator.{IsWellSealed, StandsFirst}
-use Rattle.roam_route.specs.LocalReject.{local_reject, reject_length}
+use Rattle.roam_route.specs.LocalAnswer.{answer_length, local_reject}
 
 -- it is a packet, and its octets read as it (RFC 2865, section 3)
 abbrev pub RejectReads : Type 0
 RejectReads = (secret : List ℕ) (request : Packet) →
-    IsPacket request → reject_length request ≤ 4096 →
+    IsPacket request → answer_length request ≤ 4096 →
     ReadsAs (packet_text (local_reject secret request)) (local_reject secret request)
 
 -- it has the stated size
 abbrev pub RejectHasLength : Type 0
 RejectHasLength = (secret : List ℕ) (request : Packet) →
-    packet_length (local_reject secret request) ≡ reject_length request
+    packet_length (local_reject secret request) ≡ answer_length request
 
 -- it is signed for the request's Authenticator (RFC 2865, section 3)
 abbrev pub RejectIsSigned : Type 0

@@ -18,7 +18,15 @@ shown_arrival d = record { at = d.at; from = d.from; octets = d.octets }
 
 -- an event of a realm
 abbrev pub shown_job : {A : Type 0} → Job A → PlainJob
-shown_job j = record { realm = j.realm; place = j.place; from = j.from; side = j.side; octets = j.octets }
+shown_job j =
+    record {
+      realm = j.realm;
+      place = j.place;
+      from = j.from;
+      side = j.side;
+      octets = j.octets;
+      named = j.named;
+    }
 
 -- a packet that leaves
 abbrev pub shown_out : {A : Type 0} → Out A → PlainOut

@@ -17,8 +17,8 @@ abbrev pub realm_part : List ℕ → Option (List ℕ)
 realm_part [] = None
 realm_part (octet ∷ octets) = part_after octet octets (realm_part octets)
 
--- the realm of a request: the configured one whose name, without ASCII case and matched whole, is what
--- follows the last `@` of the first User-Name (ours)
+-- the realm of a request: the one that what follows the last `@` of the first User-Name means, by the
+-- names and patterns of the configuration (ours)
 abbrev pub realm_of : ConfigView → List Attribute → Option ℕ
 realm_of config attributes =
     option_and_then (realm_named config.realms)

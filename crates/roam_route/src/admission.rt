@@ -1,31 +1,39 @@
-//! What an arrival gives: a refusal, a local reject, or the event of a realm.
+//! What an arrival gives: a refusal, a local answer, or the event of a realm.
 
-ghost use Rattle.std.specs.Prelude.{◌≡◌, ℕ, ◌<◌, ◌≤◌, length, true, vec_len, IfOk, IsErrOf};
+ghost use Rattle.std.specs.Prelude.{◌≡◌, ℕ, ◌<◌, ◌≤◌, length, Some, None, true, vec_len, IfOk, IsErrOf};
 ghost use Rattle.roam_conf.specs.Shown.{shown};
-ghost use Rattle.roam_route.specs.Admission.{admission, forwarded_for, given_to, is_taken, named, packet_admission, rejected_for, request_admission, routed};
+ghost use Rattle.roam_route.specs.Admission.{admission, forwarded_for, given_to, is_taken, named, packet_admission, rejected_for, request_admission, routed, sent_admission, status_admission, status_from};
 ghost use Rattle.roam_route.specs.Events.{IsPrepared};
 ghost use Rattle.roam_route.specs.Shown.{Answers, IsHome, Prepares, WantsMemory, shown_arrival};
 
-use crate::checks::{has_bad_password, has_needed_seal, is_rightly_sealed, is_rightly_signed};
+use crate::answering::{reject, status_answer};
+use crate::checks::{
+    has_bad_password, has_few_hops, has_needed_seal, has_seal, has_too_many_hops,
+    is_rightly_sealed, is_rightly_signed, is_sealed_over,
+};
 use crate::datagram::{Datagram, Out};
 use crate::job::{Job, Prepared, Side};
-use crate::rejecting::reject;
-use crate::source::{is_taken, seal_required, secret_of_home, secret_of_peer, sender};
+use crate::source::{
+    is_status_request, is_taken, seal_required, secret_of_home, secret_of_peer, sender,
+};
 use crate::user_name::realm_of;
 use roam_conf::{Config, Place};
 use roam_fwd::forwarded_len;
 use roam_wire::{MAX_PACKET_LENGTH, Octets, Refusal, View};
 use std::alloc::Allocator;
 
-/// A packet that passed, as the event of a realm: its octets are copied, without padding.
+/// A packet that passed, as the event of a realm, with the realm that it names: its octets are copied,
+/// without padding.
 fn given_to<A: Allocator + Copy>(
     alloc: A,
     datagram: &Datagram<A>,
     side: Side,
     view: &View<'_>,
     realm: u16,
+    names: Option<u16>,
 ) -> Result<Prepared<A>, Refusal>
-    ensures { Prepares result (given_to (shown_arrival datagram.now) side view.now realm) }
+    ensures { Prepares result
+        (given_to (shown_arrival datagram.now) side view.now realm names) }
 {
     let octets = Octets::copy_of(alloc, view.octets())?;
     Ok(Prepared::Job(Job {
@@ -34,6 +42,7 @@ fn given_to<A: Allocator + Copy>(
         from: datagram.from,
         side,
         octets,
+        named: names,
     }))
 }
 
@@ -44,13 +53,15 @@ fn forwarded_for<A: Allocator + Copy>(
     side: Side,
     view: &View<'_>,
     realm: u16,
+    names: Option<u16>,
 ) -> Result<Prepared<A>, Refusal>
-    ensures { Prepares result (forwarded_for (shown_arrival datagram.now) side view.now realm) }
+    ensures { Prepares result
+        (forwarded_for (shown_arrival datagram.now) side view.now realm names) }
 {
     if forwarded_len(view) > MAX_PACKET_LENGTH {
         return Err(Refusal::TooLong);
     }
-    given_to(alloc, datagram, side, view, realm)
+    given_to(alloc, datagram, side, view, realm, names)
 }
 
 /// A request of the realm that it names, if it names one.
@@ -65,7 +76,7 @@ fn named<A: Allocator + Copy>(
 {
     match realm {
         None => Err(Refusal::NoRealm),
-        Some(realm) => forwarded_for(alloc, datagram, side, view, realm),
+        Some(index) => forwarded_for(alloc, datagram, side, view, index, realm),
     }
 }
 
@@ -90,8 +101,8 @@ fn rejected_for<A: Allocator + Copy>(
 }
 
 /// What a request gives that is rightly signed and sealed: it goes to the realm of its place where
-/// it came from a home server, else to the one that it names. An Access-Request that names none, or
-/// whose passwords can't be carried, is answered by a local reject.
+/// it came from a home server, else to the one that it names. An Access-Request that names none, whose
+/// passwords can't be carried, or that has too many hops is answered by a local reject.
 fn routed<A: Allocator + Copy>(
     alloc: A,
     config: &Config,
@@ -105,17 +116,19 @@ fn routed<A: Allocator + Copy>(
     ensures { Prepares result (routed (shown config.now) secret.now (shown_arrival datagram.now)
         side view.now datagram.now.at) }
 {
-    if let Place::Reverse(realm) = datagram.at {
-        return forwarded_for(alloc, datagram, side, view, realm);
-    }
     let realm = realm_of(config, view);
-    if datagram.at == Place::Auth && (realm.is_none() || has_bad_password(view)) {
+    if let Place::Reverse(own) = datagram.at {
+        return forwarded_for(alloc, datagram, side, view, own, realm);
+    }
+    if datagram.at == Place::Auth
+        && (realm.is_none() || has_bad_password(view) || has_too_many_hops(view, config.max_hops))
+    {
         return rejected_for(alloc, datagram, view, secret);
     }
     named(alloc, datagram, side, view, realm)
 }
 
-/// What a request gives: its signature is looked at, then its seal, then where it goes.
+/// What a request gives: its signature is looked at, then its seal, its hops, and where it goes.
 fn request<A: Allocator + Copy>(
     alloc: A,
     config: &Config,
@@ -139,6 +152,9 @@ fn request<A: Allocator + Copy>(
     if !has_needed_seal(view, seal_required(config, side)) {
         return Err(Refusal::MissingMessageAuthenticator);
     }
+    if !has_few_hops(view, config.max_hops) {
+        return Err(Refusal::TooManyHops);
+    }
     routed(alloc, config, datagram, side, secret, view)
 }
 
@@ -158,7 +174,7 @@ fn taken<A: Allocator + Copy>(
         side view.now datagram.now.at) }
 {
     if let Place::Out(realm) = datagram.at {
-        return given_to(alloc, datagram, side, view, realm);
+        return given_to(alloc, datagram, side, view, realm, None);
     }
     match side {
         Side::Peer(peer) => {
@@ -176,9 +192,79 @@ fn taken<A: Allocator + Copy>(
     }
 }
 
-/// What an arrival gives: the event of a realm, with the packet's octets, or a local reject, or the
-/// first of `Short` to `TooLong` whose cause holds. `NoMemory` comes where a growth was refused,
-/// and nowhere else: memory is wanted only for what passes, and for a reject that is sent.
+/// What a Status-Server gives: the local answer, where it is sealed over its own Authenticator (RFC 5997,
+/// section 3).
+fn status<A: Allocator + Copy>(
+    alloc: A,
+    datagram: &Datagram<A>,
+    view: &View<'_>,
+    secret: &[u8],
+) -> Result<Prepared<A>, Refusal>
+    requires at_least_one { 1 ≤ length secret.now }
+    requires at_most_64 { length secret.now ≤ 64 }
+    ensures { Prepares result (status_admission secret.now (shown_arrival datagram.now) view.now) }
+{
+    if !is_sealed_over(view, secret, view.authenticator()) {
+        return Err(Refusal::BadMessageAuthenticator);
+    }
+    if !has_seal(view) {
+        return Err(Refusal::MissingMessageAuthenticator);
+    }
+    let bytes = status_answer(alloc, datagram.at, view, secret)?;
+    Ok(Prepared::Reject(Out {
+        realm: None,
+        from: datagram.at,
+        to: datagram.from,
+        bytes,
+    }))
+}
+
+/// What a Status-Server of a sender gives: of a peer alone it is answered.
+fn status_from<A: Allocator + Copy>(
+    alloc: A,
+    config: &Config,
+    datagram: &Datagram<A>,
+    side: Side,
+    view: &View<'_>,
+) -> Result<Prepared<A>, Refusal>
+    requires peer { (i : ℕ) → side ≡ Side.Peer i → i < vec_len config.now.peers }
+    ensures { Prepares result
+        (status_from (shown config.now) (shown_arrival datagram.now) side view.now) }
+{
+    match side {
+        Side::Peer(peer) => status(alloc, datagram, view, secret_of_peer(config, peer)),
+        Side::Link(_) | Side::Home(_) => Err(Refusal::WrongCode),
+    }
+}
+
+/// What a packet gives whose sender is known: a Status-Server is answered, and of the others the code is
+/// looked at first.
+fn sent<A: Allocator + Copy>(
+    alloc: A,
+    config: &Config,
+    datagram: &Datagram<A>,
+    side: Side,
+    view: &View<'_>,
+) -> Result<Prepared<A>, Refusal>
+    requires peer { (i : ℕ) → side ≡ Side.Peer i → i < vec_len config.now.peers }
+    requires home { (realm i : ℕ) → datagram.now.at ≡ Place.Reverse realm → side ≡ Side.Home i
+        → IsHome config.now realm i }
+    ensures { Prepares result (sent_admission (shown config.now) (shown_arrival datagram.now)
+        view.now (Some side)) }
+{
+    if is_status_request(config, datagram.at, side, view.code()) {
+        return status_from(alloc, config, datagram, side, view);
+    }
+    if !is_taken(datagram.at, side, view.code()) {
+        return Err(Refusal::WrongCode);
+    }
+    taken(alloc, config, datagram, side, view)
+}
+
+/// What an arrival gives: the event of a realm, with the packet's octets, or a local answer, or the
+/// first of `Short` to `TooLong` whose cause holds, where `TooManyHops` stands between
+/// `MissingMessageAuthenticator` and `NoRealm`. `NoMemory` comes where a growth was refused, and nowhere
+/// else: memory is wanted only for what passes, and for an answer that is sent.
 #[tactic(auto, unfolding(crate::specs::Admission::admission))]
 pub fn prepare<A: Allocator + Copy>(
     alloc: A,
@@ -193,15 +279,12 @@ pub fn prepare<A: Allocator + Copy>(
         → WantsMemory (admission (shown config.now) (shown_arrival datagram.now)) }
 
     // What passes is a job with the packet's octets, which alone would give that job again; what is
-    // rejected is this arrival.
+    // answered here is this arrival.
     ensures prepared { IfOk result (IsPrepared (shown config.now) (shown_arrival datagram.now)) }
 {
     let view = View::read(datagram.octets.as_slice())?;
     let Some(side) = sender(config, datagram) else {
         return Err(Refusal::UnknownSource);
     };
-    if !is_taken(datagram.at, side, view.code()) {
-        return Err(Refusal::WrongCode);
-    }
-    taken(alloc, config, datagram, side, &view)
+    sent(alloc, config, datagram, side, &view)
 }

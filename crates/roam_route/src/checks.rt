@@ -4,13 +4,15 @@ ghost use Rattle.std.specs.Prelude.{◌≡◌, ◌≤◌, [], ◌∷◌, false, 
 ghost use Rattle.std.specs.Option.{option_map_or};
 ghost use Rattle.roam_auth.specs.Deciding.{is_well_sealed};
 ghost use Rattle.roam_hide.specs.Hiding.{password_fits};
-ghost use Rattle.roam_route.specs.Admission.{has_needed_seal, is_rightly_sealed, is_rightly_signed};
-ghost use Rattle.roam_route.specs.LocalReject.{has_bad_password};
+ghost use Rattle.roam_route.specs.Admission.{has_few_hops, has_needed_seal, has_seal, is_rightly_sealed, is_rightly_signed};
+ghost use Rattle.roam_route.specs.LocalReject.{has_bad_password, has_too_many_hops};
 
 use roam_auth::{ZERO_OCTETS, message_ok, request_ok};
 use roam_hide::password_fits;
 use roam_wire::View;
-use roam_wire::attribute_type::{CHAP_PASSWORD, EAP_MESSAGE, MESSAGE_AUTHENTICATOR, USER_PASSWORD};
+use roam_wire::attribute_type::{
+    CHAP_PASSWORD, EAP_MESSAGE, MESSAGE_AUTHENTICATOR, PROXY_STATE, USER_PASSWORD,
+};
 use roam_wire::code::ACCESS_REQUEST;
 
 /// Whether a request is signed where its code says that it is (RFC 2866, section 3; RFC 5176, section
@@ -24,7 +26,7 @@ pub(crate) fn is_rightly_signed(request: &View<'_>, secret: &[u8]) -> bool
 }
 
 /// Whether a request is well sealed over an Authenticator (RFC 3579, section 3.2).
-fn is_sealed_over(request: &View<'_>, secret: &[u8], authenticator: [u8; 16]) -> bool
+pub(crate) fn is_sealed_over(request: &View<'_>, secret: &[u8], authenticator: [u8; 16]) -> bool
     requires at_least_one { 1 ≤ length secret.now }
     requires at_most_64 { length secret.now ≤ 64 }
     ensures { result ≡ is_well_sealed secret.now (authenticator ∷ []) request.now }
@@ -54,6 +56,32 @@ pub(crate) fn has_needed_seal(request: &View<'_>, required: bool) -> bool
     request.code() != ACCESS_REQUEST
         || request.count(MESSAGE_AUTHENTICATOR) > 0
         || (request.count(EAP_MESSAGE) == 0 && !required)
+}
+
+/// Whether a packet has a Message-Authenticator.
+pub(crate) fn has_seal(request: &View<'_>) -> bool
+    ensures { result ≡ has_seal request.now }
+{
+    request.count(MESSAGE_AUTHENTICATOR) > 0
+}
+
+/// Whether more proxies forwarded a request than may, where there is a limit: each adds a Proxy-State
+/// (RFC 2865, section 5.33).
+pub(crate) fn has_too_many_hops(request: &View<'_>, most: Option<u8>) -> bool
+    ensures { result ≡ has_too_many_hops most request.now }
+{
+    match most {
+        Some(most) => request.count(PROXY_STATE) > usize::from(most),
+        None => false,
+    }
+}
+
+/// Whether a request that is forwarded hasn't too many hops: an Access-Request that has is answered by a
+/// local reject.
+pub(crate) fn has_few_hops(request: &View<'_>, most: Option<u8>) -> bool
+    ensures { result ≡ has_few_hops most request.now }
+{
+    request.code() == ACCESS_REQUEST || !has_too_many_hops(request, most)
 }
 
 /// Whether a User-Password has a size that it can't have (RFC 2865, section 5.2).

@@ -18,7 +18,7 @@ pub struct Datagram<A: Allocator> {
 /// A packet that leaves.
 #[derive(Drop)]
 pub struct Out<A: Allocator> {
-    /// The index of the realm for which it is sent; none for a local reject.
+    /// The index of the realm for which it is sent; none for a local answer.
     pub realm: Option<u16>,
     /// The place that it leaves from.
     pub from: Place,

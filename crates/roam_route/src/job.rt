@@ -29,6 +29,9 @@ pub struct Job<A: Allocator> {
     pub side: Side,
     /// The packet's octets, up to its Length.
     pub octets: Octets<A>,
+    /// The index of the realm that the first User-Name of a request names; none where it names none,
+    /// and in a reply.
+    pub named: Option<u16>,
 }
 
 /// What an arrival gives, unless it is refused.
@@ -36,6 +39,7 @@ pub struct Job<A: Allocator> {
 pub enum Prepared<A: Allocator> {
     /// An event of a realm.
     Job(Job<A>),
-    /// A local reject, which needs no realm and no state.
+    /// An answer of the broker itself, which needs no realm and no state: a local reject, or the answer
+    /// to a Status-Server.
     Reject(Out<A>),
 }

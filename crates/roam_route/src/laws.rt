@@ -1,9 +1,11 @@
-//! Laws of names, events and local rejects. These functions do nothing: their contracts hold of all
+//! Laws of names, events and local answers. These functions do nothing: their contracts hold of all
 //! names, configurations, jobs and requests.
 
 ghost use Rattle.roam_route.specs.Events.{EventHasRealm, EventIsSound};
 ghost use Rattle.roam_route.specs.NameLaws.{LastAtSignDecides, NameWithoutAtSign};
+ghost use Rattle.roam_route.specs.OwnPart.{OwnPartDecides};
 ghost use Rattle.roam_route.specs.RejectLaws.{RejectCarriesProxyStates, RejectHasLength, RejectHasSealFirst, RejectIsSigned, RejectIsWellSealed, RejectReads};
+ghost use Rattle.roam_route.specs.StatusLaws.{StatusAnswerAtAcct, StatusAnswerAtAuth, StatusAnswerCarriesProxyStates, StatusAnswerHasIdentifier, StatusAnswerHasSealFirst, StatusAnswerIsNoLonger, StatusAnswerIsSigned, StatusAnswerIsWellSealed, StatusAnswerReads};
 
 /// What the realm part of a name is.
 pub fn names()
@@ -27,4 +29,25 @@ pub fn rejects()
     ensures well_sealed { RejectIsWellSealed }
     ensures seal_first { RejectHasSealFirst }
     ensures proxy_states { RejectCarriesProxyStates }
+{}
+
+/// What answers a Status-Server is: an Access-Accept or an Accounting-Response with its Identifier that
+/// reads, no longer than the request, signed and sealed for the peer, with its seal first and the
+/// request's Proxy-States.
+pub fn status_answers()
+    ensures at_auth { StatusAnswerAtAuth }
+    ensures at_acct { StatusAnswerAtAcct }
+    ensures id { StatusAnswerHasIdentifier }
+    ensures no_longer { StatusAnswerIsNoLonger }
+    ensures reads { StatusAnswerReads }
+    ensures signed { StatusAnswerIsSigned }
+    ensures well_sealed { StatusAnswerIsWellSealed }
+    ensures seal_first { StatusAnswerHasSealFirst }
+    ensures proxy_states { StatusAnswerCarriesProxyStates }
+{}
+
+/// What an arrival gives to a realm is decided by the peers, by what each name means, by the limit of
+/// hops, and by that realm's own entry of the configuration.
+pub fn own_part()
+    ensures { OwnPartDecides }
 {}

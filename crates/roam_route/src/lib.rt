@@ -5,20 +5,20 @@
 #![tactic(auto)]
 
 mod admission;
+mod answering;
 mod checks;
 mod datagram;
 mod job;
 mod laws;
 mod nas;
-mod rejecting;
 mod source;
 mod user_name;
 
 pub use admission::prepare;
+pub use answering::{reject, status_answer};
 pub use datagram::{Datagram, Out};
 pub use job::{Job, Prepared, Side};
-pub use laws::{events, names, rejects};
+pub use laws::{events, names, own_part, rejects, status_answers};
 pub use nas::{NasName, nas_of};
-pub use rejecting::reject;
 pub use source::is_reverse_request;
 pub use user_name::{realm_of, realm_part};

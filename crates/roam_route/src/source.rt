@@ -3,7 +3,7 @@
 ghost use Rattle.std.specs.Prelude.{◌≡◌, ℕ, ◌<◌, ◌≤◌, Some, length, vec_len};
 ghost use Rattle.roam_conf.specs.Shown.{shown};
 ghost use Rattle.roam_wire.specs.Codes.{is_reverse_reply, is_reverse_request};
-ghost use Rattle.roam_route.specs.Admission.{home_secret, is_code_of_link, is_taken, peer_secret, seal_required, sender};
+ghost use Rattle.roam_route.specs.Admission.{home_secret, is_code_of_link, is_status_request, is_taken, peer_secret, seal_required, sender};
 ghost use Rattle.roam_route.specs.Shown.{IsHome, shown_arrival};
 
 use crate::datagram::Datagram;
@@ -11,7 +11,7 @@ use crate::job::Side;
 use roam_conf::{Config, Link, Place};
 use roam_wire::code::{
     ACCESS_REQUEST, ACCOUNTING_REQUEST, ACCOUNTING_RESPONSE, COA_ACK, COA_NAK, COA_REQUEST,
-    DISCONNECT_ACK, DISCONNECT_NAK, DISCONNECT_REQUEST, is_access_reply,
+    DISCONNECT_ACK, DISCONNECT_NAK, DISCONNECT_REQUEST, STATUS_SERVER, is_access_reply,
 };
 use std::alloc::Allocator;
 
@@ -107,6 +107,17 @@ pub(crate) fn is_taken(at: Place, side: Side, code: u8) -> bool
         (Place::Acct, Side::Peer(_)) => code == ACCOUNTING_REQUEST,
         (Place::Out(_), Side::Link(link)) => is_code_of_link(link, code),
         (Place::Reverse(_), Side::Home(_)) => is_reverse_request(code),
+        _ => false,
+    }
+}
+
+/// Whether a packet is a Status-Server that is answered: one that a peer sent to where its requests are
+/// taken, where the configuration has it answered (RFC 5997, section 3).
+pub(crate) fn is_status_request(config: &Config, at: Place, side: Side, code: u8) -> bool
+    ensures { result ≡ is_status_request (shown config.now) at side code }
+{
+    match (at, side) {
+        (Place::Auth | Place::Acct, Side::Peer(_)) => config.status_server && code == STATUS_SERVER,
         _ => false,
     }
 }

@@ -63,44 +63,45 @@ secret = \"h1\"
 pub const START: &str =
     "0405002b40d7b5a889c55fa9032ba5d6be378f2e010d7540612e6578616d706c652806000000012c043031";
 
-const NAS: Endpoint = Endpoint {
+pub const NAS: Endpoint = Endpoint {
     ip: [192, 0, 2, 1],
     port: 5000,
 };
 
-const SEALER: Endpoint = Endpoint {
+pub const SEALER: Endpoint = Endpoint {
     ip: [192, 0, 2, 2],
     port: 5000,
 };
 
-const STRANGER: Endpoint = Endpoint {
+pub const STRANGER: Endpoint = Endpoint {
     ip: [192, 0, 2, 9],
     port: 5000,
 };
 
-const COA: Endpoint = Endpoint {
+pub const COA: Endpoint = Endpoint {
     ip: [192, 0, 2, 1],
     port: 3799,
 };
 
-const AUTH: Endpoint = Endpoint {
+pub const AUTH: Endpoint = Endpoint {
     ip: [198, 51, 100, 1],
     port: 1812,
 };
 
-const HOME: Endpoint = Endpoint {
+pub const HOME: Endpoint = Endpoint {
     ip: [198, 51, 100, 1],
     port: 40000,
 };
 
-const ACCT: Endpoint = Endpoint {
+pub const ACCT: Endpoint = Endpoint {
     ip: [198, 51, 100, 1],
     port: 1813,
 };
 
 /// Where packets arrive, where they come from, who that is, and a text of rows: the packet's digits and
-/// what it gives, `refused N` with a refusal's number, `realm N` for the event of a realm, or `reject`
-/// and the local reject's digits. Digits in three runs with `*` between them stand for the first, the
+/// what it gives, `refused N` with a refusal's number, `realm N` for the event of a realm, behind it
+/// `names M` where a reverse request names realm M, or `reject` or `answer` and the digits of the local
+/// reject or of the answer to a Status-Server. Digits in three runs with `*` between them stand for the first, the
 /// second fifteen times, and the third.
 pub type Rows = (Place, Endpoint, Side, &'static str);
 
@@ -183,9 +184,9 @@ const REQUESTS: &str = "# an Access-Request
 const REVERSE_REQUESTS: &str = "# a Disconnect-Request: NAS-Identifier `nas1`, Acct-Session-Id `01`
 2822001e98737cc5f650778d9e25e78d8098ea9320066e6173312c043031 realm 0
 # a CoA-Request with a User-Name
-2b21002702f04b3afa42d5ab0ec18a343fd6ca9d20066e617331010d7540612e6578616d706c65 realm 0
+2b21002702f04b3afa42d5ab0ec18a343fd6ca9d20066e617331010d7540612e6578616d706c65 realm 0 names 0
 # one that names another realm
-2b2100274109f627674787ddaf888f4fed0a7d9f20066e617331010d7540622e6578616d706c65 realm 0
+2b2100274109f627674787ddaf888f4fed0a7d9f20066e617331010d7540622e6578616d706c65 realm 0 names 1
 # a right Message-Authenticator
 282200307b101b375b0faf9ea59d2b28ed9b355f20066e6173312c043031501249d1d9f4a37c06b44def96807f57613a realm 0
 # a wrong digest
@@ -319,7 +320,10 @@ pub fn spelled(rt: &impl Abort, alloc: Global, digits: &str) -> Vec<u8> {
     all
 }
 
-/// The configuration.
-pub fn config(alloc: Global) -> Result<Config, Fail> {
-    Ok(read_config(alloc, CONFIG).map_err(|_| "the configuration isn't accepted")?)
+/// The configuration, with these keys before the others.
+pub fn config(alloc: Global, keys: &str) -> Result<Config, Fail> {
+    let mut text = String::new(alloc);
+    text.push_str(keys)?;
+    text.push_str(CONFIG)?;
+    Ok(read_config(alloc, &text).map_err(|_| "the configuration isn't accepted")?)
 }

@@ -1,6 +1,7 @@
 //! What names a realm and an access server, and what each arrival gives, with each of its growths.
 
 use crate::arrivals::{ARRIVALS, Rows, START, config, octets, spelled};
+use crate::federation;
 use roam_conf::{Config, Endpoint, Place, decimal};
 use roam_route::{Datagram, Job, NasName, Out, Prepared, Side, nas_of, prepare, realm_of};
 use roam_testing::Refusing;
@@ -53,7 +54,7 @@ fn expect_names(
 
 #[test]
 fn the_first_of_each_name_counts(rt: HostRuntime) -> Result<(), Fail> {
-    let config = config(rt.alloc())?;
+    let config = config(rt.alloc(), "")?;
     expect_names(&rt, rt.alloc(), &config, &NAMED)
 }
 
@@ -66,8 +67,20 @@ fn is_job_of<A: Allocator>(job: &Job<A>, side: Side, datagram: &Datagram<A>) -> 
     packet && job.side == side && job.place == datagram.at && job.from == datagram.from
 }
 
-/// Whether a local reject has these octets, and goes back to where the arrival came from.
-fn is_reject_of<A: Allocator>(out: &Out<A>, bytes: &[u8], datagram: &Datagram<A>) -> bool {
+/// Whether a job is of the realm that a text states, and names the realm that it should: a peer's request
+/// its own realm, a home server's the one behind `names`, and a reply none.
+fn is_of_realm<A: Allocator>(job: &Job<A>, text: &str) -> bool {
+    let (realm, names) = text.split_once(" names ").unwrap_or((text, ""));
+    let named = match job.side {
+        Side::Peer(_) => decimal(realm, 0, 65535),
+        Side::Home(_) => decimal(names, 0, 65535),
+        Side::Link(_) => None,
+    };
+    is_number(realm, job.realm) && job.named.map(u64::from) == named
+}
+
+/// Whether a local answer has these octets, and goes back to where the arrival came from.
+fn is_answer_of<A: Allocator>(out: &Out<A>, bytes: &[u8], datagram: &Datagram<A>) -> bool {
     out.realm.is_none()
         && out.from == datagram.at
         && out.to == datagram.from
@@ -99,16 +112,17 @@ fn is_given<A: Allocator>(
     match answer {
         Err(refusal) => word == "refused" && is_number(value, u16::from(refusal.number())),
         Ok(Prepared::Job(job)) => {
-            word == "realm" && is_number(value, job.realm) && is_job_of(job, side, datagram)
+            word == "realm" && is_of_realm(job, value) && is_job_of(job, side, datagram)
         }
         Ok(Prepared::Reject(out)) => {
-            word == "reject" && is_reject_of(out, &spelled(rt, alloc, value), datagram)
+            matches!(word, "reject" | "answer")
+                && is_answer_of(out, &spelled(rt, alloc, value), datagram)
         }
     }
 }
 
 /// Whether so many growths are asked for as should be: none for a refusal, one for a job's copy, and
-/// some for a local reject.
+/// some for a local answer.
 fn is_frugal(word: &str, growths: u64) -> bool {
     match word {
         "refused" => growths == 0,
@@ -185,7 +199,9 @@ fn expect_rows(rt: &impl Abort, alloc: Global, config: &Config, tables: &[Rows])
 
 #[test]
 fn each_arrival_gives_what_it_should(rt: HostRuntime) -> Result<(), Fail> {
-    let config = config(rt.alloc())?;
-    expect_rows(&rt, rt.alloc(), &config, &ARRIVALS);
+    let plain = config(rt.alloc(), "")?;
+    expect_rows(&rt, rt.alloc(), &plain, &ARRIVALS);
+    let federated = config(rt.alloc(), federation::KEYS)?;
+    expect_rows(&rt, rt.alloc(), &federated, &federation::ARRIVALS);
     Ok(())
 }

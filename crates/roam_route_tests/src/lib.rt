@@ -1,12 +1,15 @@
 //! What `prepare` gives of arrivals, what it asks of memory, and what names a realm and an access
 //! server.
 //!
-//! Two realms share one home server; of two peers one must seal its Access-Requests. The packets are
+//! Two realms share one home server; of two peers one must seal its Access-Requests. Once there is no
+//! limit of hops and Status-Server isn't answered, and once the other way round. The packets are
 //! those of the worked exchanges, and packets made, sealed and signed apart, with Python's hashlib and
 //! hmac.
 #![tactic(auto)]
 
 #[cfg(test)]
 mod arrivals;
+#[cfg(test)]
+mod federation;
 #[cfg(test)]
 mod job_tests;

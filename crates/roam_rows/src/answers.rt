@@ -12,7 +12,7 @@ use std::io::Write;
 pub(crate) const WANTING: &str = "no memory\n";
 
 /// The answers to an event that no realm and no shard takes: its refusal, or want of memory.
-const UNTAKEN: [&str; 12] = [
+const UNTAKEN: [&str; 13] = [
     WANTING,
     "refused 1\n",
     "refused 2\n",
@@ -25,6 +25,7 @@ const UNTAKEN: [&str; 12] = [
     "refused 9\n",
     "refused 10\n",
     "refused 20\n",
+    "refused 24\n",
 ];
 
 /// Whether an event that is answered so was taken by a realm or a shard: it wasn't refused before that, nor rejected

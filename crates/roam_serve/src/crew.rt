@@ -20,7 +20,7 @@ use std::alloc::Global;
 use std::net::UdpSocket;
 
 /// The sockets are fewer than this: two, and two of each realm.
-pub const SOCKETS: usize = 514;
+pub const SOCKETS: usize = 2050;
 
 /// A sender, before it starts.
 #[derive(Drop)]

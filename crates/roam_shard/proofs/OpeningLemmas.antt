@@ -92,6 +92,7 @@ module _ {A : Type 0} where
             one.cursors j;
         stream_position = one.place j;
         sessions = one.sessions j;
+        rests = one.rests j;
       }
 
   seen_fresh : (o : OpeningView) (r : ℕ) (own : Bool) (es : List PlainEntry)

@@ -2,6 +2,7 @@
 use Rattle.std.specs.Prelude.{◌≡◌, ℕ, Bool, List, [], Option, Some, is_some, IfSome, length, replicate, slice_get}
 use Rattle.roam_conf.specs.Config.{ConfigView}
 use Rattle.roam_book.specs.RealmConfig.{RealmConfig, link_count, realm_config}
+use Rattle.roam_book.specs.Rests.{all_awake}
 use Rattle.roam_book.specs.Sound.{AreOwnLanes, LanesTell, cursors_of, marks_of}
 use Rattle.roam_book.specs.declared.numbers.Numbers.{Numbers}
 use Rattle.roam_book.specs.declared.start.Start.{Start}
@@ -17,6 +18,7 @@ pub record IsFresh {A : Type 0} (c : RealmConfig) (start : Start) (n : Numbers A
   pub ticket : n.ticket ≡ start.ticket
   pub place : n.stream_position ≡ start.place
   pub sessions : n.sessions.sessions ≡ []
+  pub rests : n.rests.items ≡ all_awake c
   pub ledger : n.sessions.limit ≡ c.realm.max_sessions
 
 -- such numbers, where the realm is one of the shard's own, else none

@@ -7,7 +7,7 @@ ghost use Rattle.roam_route.specs.Events.{IsEvent};
 ghost use Rattle.roam_route.specs.Shown.{WantsMemory, shown_arrival, shown_job};
 ghost use Rattle.roam_core.specs.ManyRealms.{to_arrival, to_tick};
 ghost use Rattle.roam_core.specs.Openings.{fresh, openings};
-ghost use Rattle.roam_core.specs.Steps.{GivesAnswer};
+ghost use Rattle.roam_core.specs.Steps.{GivesAnswer, StepsTo};
 ghost use Rattle.roam_shard.specs.Across.{IsSharded};
 ghost use Rattle.roam_shard.specs.ShardView.{AreStarts};
 
@@ -137,6 +137,8 @@ impl<'c, A: Allocator + Copy> Stepper<A> for Shards<'c, A> {
     ghost config = { λ b. b.config };
 
     ghost states = { λ b. b.states };
+
+    ghost steps = { StepsTo };
 
     fn step(&mut self, event: &Event<A>) -> Result<Answer<A>, NoMemory> {
         match event {

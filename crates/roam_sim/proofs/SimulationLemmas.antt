@@ -1,5 +1,5 @@
 -- What was written, from what a run begun fresh sent.
-use Rattle.std.proofs.Common.{◌≡◌, ◌≢◌, ℕ, ◌+◌, Bool, true, false, eqb, List, [], ◌∷◌, length, Option, Result, Ok, Err, refl, ap, ◌∙◌, arith}
+use Rattle.std.proofs.Common.{◌≡◌, ◌≢◌, ℕ, ◌+◌, Bool, true, false, eqb, List, [], ◌∷◌, length, Option, Result, Ok, Err, refl, ap, subst, ◌∙◌, arith}
 use Rattle.std.proofs.lemmas.Bool.Decides.{nat_tests}
 use Rattle.std.proofs.lemmas.List.{nil_from_length}
 use Rattle.std.specs.Prelude.{OnOk, IfErr}
@@ -8,10 +8,13 @@ use Rattle.std.specs.Io.KnownBytes.{Appends}
 use Rattle.roam_conf.specs.Config.{ConfigView}
 use Rattle.roam_route.specs.Admission.{PlainOut}
 use Rattle.roam_book.specs.RealmState.{RealmState}
+use Rattle.roam_book.specs.declared.start.Start.{Start}
 use Rattle.roam_core.specs.Events.{PlainEvent, kept, kept_from}
+use Rattle.roam_core.specs.Isolation.{IsIsolatedFromStart}
 use Rattle.roam_core.specs.ManyRealms.{answers_to}
-use Rattle.roam_core.specs.Openings.{fresh}
-use Rattle.roam_core.specs.Runs.{ArePlaces}
+use Rattle.roam_core.specs.Openings.{fresh, fresh_starts, openings}
+use Rattle.roam_core.specs.Provenance.{HasProvenance}
+use Rattle.roam_core.specs.Runs.{ArePlaces, EachWantsMemory}
 use Rattle.roam_sim.specs.Faults.{IsFaultOfText, of_script}
 use Rattle.roam_sim.specs.Lines.{lines_of}
 use Rattle.roam_sim.specs.declared.fault.SimFault.{SimFault}
@@ -19,40 +22,63 @@ use Rattle.roam_sim.specs.declared.fault.SimFault.TheVariants as sim
 use Rattle.roam_sim.specs.declared.script.ScriptFault.{ScriptFault}
 use Rattle.roam_sim.specs.declared.script.ScriptFault.TheVariants as script
 use Rattle.roam_sim.specs.Script.{script_states}
-use Rattle.roam_sim.specs.Simulation.{packets_sent, IsConfiguration, IsSimulated, IsSimulatedInPart, Simulates}
+use Rattle.roam_sim.specs.Simulation.{AreSentFor, IsConfiguration, IsSimulated, IsSimulatedInPart, Simulates}
 
 kept_from-nil : (place : ℕ) (events : List PlainEvent) → kept_from place [] events ≡ events
 kept_from-nil place [] = refl
 kept_from-nil place (e ∷ es) = ap (λ l. e ∷ l) (kept_from-nil (place + 1) es)
 
+-- what a run says of its packets, begun in these states with this configuration
+pub record RunSent (config : ConfigView) (states : List RealmState) (events : List PlainEvent) (packets : List PlainOut) : Type 0 where
+  pub answers : packets ≡ (answers_to config states events).packets
+  pub isolated : (starts : List Start) → states ≡ openings config starts → IsIsolatedFromStart config starts events packets
+  pub provenance : (starts : List Start) → states ≡ openings config starts → HasProvenance config starts events packets
+
 -- the run began fresh
 sent : (config begun : ConfigView) (states : List RealmState) (events : List PlainEvent) (packets : List PlainOut)
-    → begun ≡ config → states ≡ fresh config → packets ≡ (answers_to begun states events).packets → packets ≡ packets_sent config events
-sent config begun states events packets same opened gives = rw (same, opened) at gives
+    → begun ≡ config → states ≡ fresh config → RunSent begun states events packets → AreSentFor config events packets
+sent config begun states events packets same opened run =
+    let here : RunSent config states events packets = rw same at run in
+    record {
+      answers = here.answers ∙ ap (λ (ss : List RealmState). (answers_to config ss events).packets) opened;
+      isolated = here.isolated (fresh_starts config) opened;
+      provenance = here.provenance (fresh_starts config) opened;
+    }
 
 -- no event was lost
 all_kept : (config begun : ConfigView) (states : List RealmState) (script : List ℕ) (events : List PlainEvent) (lost : List ℕ) (packets : List PlainOut) (old new : Option (List ℕ))
-    → script_states script ≡ Ok events → begun ≡ config → states ≡ fresh config → packets ≡ (answers_to begun states (kept lost events)).packets → lost ≡ []
+    → script_states script ≡ Ok events → begun ≡ config → states ≡ fresh config → RunSent begun states (kept lost events) packets → lost ≡ []
     → Appends old new (lines_of packets) → IsSimulated config script old new
-all_kept config begun states script events lost packets old new stated same opened gives none written =
+all_kept config begun states script events lost packets old new stated same opened run none written =
     let all : kept lost events ≡ events = ap (λ l. kept l events) none ∙ kept_from-nil 0 events in
-    let from_all : packets ≡ packets_sent config events = sent config begun states (kept lost events) packets same opened gives ∙ ap (packets_sent config) all in
-    record { events = events; stated = stated; written = rw from_all at written }
+    let from_kept = sent config begun states (kept lost events) packets same opened run in
+    let from_all = subst (λ (es : List PlainEvent). AreSentFor config es packets) all from_kept in
+    record { events = events; packets = packets; stated = stated; sent = from_all; written = written }
 
 pub is_simulated : {E : Type 0} (r : Result Unit E) (config begun : ConfigView) (states : List RealmState) (script : List ℕ) (events : List PlainEvent) (lost : List ℕ) (packets : List PlainOut) (old new : Option (List ℕ))
-    → script_states script ≡ Ok events → begun ≡ config → states ≡ fresh config → packets ≡ (answers_to begun states (kept lost events)).packets → OnOk r (lost ≡ [])
+    → script_states script ≡ Ok events → begun ≡ config → states ≡ fresh config → RunSent begun states (kept lost events) packets → OnOk r (lost ≡ [])
     → OnOk r (Appends old new (lines_of packets)) → OnOk r (IsSimulated config script old new)
-is_simulated (Ok x) config begun states script events lost packets old new stated same opened gives none written =
-    all_kept config begun states script events lost packets old new stated same opened gives none written
-is_simulated (Err e) config begun states script events lost packets old new stated same opened gives none written = tt
+is_simulated (Ok x) config begun states script events lost packets old new stated same opened run none written =
+    all_kept config begun states script events lost packets old new stated same opened run none written
+is_simulated (Err e) config begun states script events lost packets old new stated same opened run none written = tt
 
 -- some events were lost
 pub is_simulated_in_part : (config begun : ConfigView) (states : List RealmState) (script : List ℕ) (events : List PlainEvent) (lost : List ℕ) (packets : List PlainOut) (old new : Option (List ℕ))
-    → script_states script ≡ Ok events → begun ≡ config → states ≡ fresh config → packets ≡ (answers_to begun states (kept lost events)).packets → lost ≢ [] → ArePlaces (length events) lost
-    → Appends old new (lines_of packets) → IsSimulatedInPart config script old new
-is_simulated_in_part config begun states script events lost packets old new stated same opened gives some places written =
-    let from_kept = sent config begun states (kept lost events) packets same opened gives in
-    record { events = events; lost = lost; stated = stated; some_lost = some; places = places; written = rw from_kept at written }
+    → script_states script ≡ Ok events → begun ≡ config → states ≡ fresh config → RunSent begun states (kept lost events) packets → lost ≢ [] → ArePlaces (length events) lost
+    → EachWantsMemory begun events lost → Appends old new (lines_of packets) → IsSimulatedInPart config script old new
+is_simulated_in_part config begun states script events lost packets old new stated same opened run some places wanted written =
+    let from_kept = sent config begun states (kept lost events) packets same opened run in
+    record {
+      events = events;
+      lost = lost;
+      packets = packets;
+      stated = stated;
+      some_lost = some;
+      places = places;
+      wanted = subst (λ (c : ConfigView). EachWantsMemory c events lost) same wanted;
+      sent = from_kept;
+      written = written;
+    }
 
 -- whether a list of lost events is empty
 pub none_lost : (lost : List ℕ) (len : ℕ) (is_empty : Bool) → len ≡ length lost → is_empty ≡ eqb len 0 → is_empty ≡ true → lost ≡ []

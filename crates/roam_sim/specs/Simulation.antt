@@ -6,9 +6,11 @@ use Rattle.roam_conf.specs.Config.{ConfigView}
 use Rattle.roam_conf_reader.specs.Faults.{States, NoneHolds, every_fault}
 use Rattle.roam_route.specs.Admission.{PlainOut}
 use Rattle.roam_core.specs.Events.{PlainEvent, kept}
+use Rattle.roam_core.specs.Isolation.{IsIsolatedFromStart}
 use Rattle.roam_core.specs.ManyRealms.{answers_to}
-use Rattle.roam_core.specs.Openings.{fresh}
-use Rattle.roam_core.specs.Runs.{ArePlaces}
+use Rattle.roam_core.specs.Openings.{fresh, fresh_starts}
+use Rattle.roam_core.specs.Provenance.{HasProvenance}
+use Rattle.roam_core.specs.Runs.{ArePlaces, EachWantsMemory}
 use Rattle.roam_sim.specs.Lines.{lines_of}
 use Rattle.roam_sim.specs.Script.{script_states}
 
@@ -16,21 +18,34 @@ use Rattle.roam_sim.specs.Script.{script_states}
 abbrev pub packets_sent : ConfigView → List PlainEvent → List PlainOut
 packets_sent config events = (answers_to config (fresh config) events).packets
 
+-- packets that were sent for a list of events, where each realm begins fresh: the written answers, one after
+-- the other. Each realm is isolated: its packets are those of its own written broker, which is given its own
+-- events alone; and each of them has its origin there
+pub record AreSentFor (config : ConfigView) (events : List PlainEvent) (packets : List PlainOut) : Type 0 where
+  pub answers : packets ≡ packets_sent config events
+  pub isolated : IsIsolatedFromStart config (fresh_starts config) events packets
+  pub provenance : HasProvenance config (fresh_starts config) events packets
+
 -- the script states a list of events, and the lines of the packets for them were written
 pub record IsSimulated (config : ConfigView) (script : List ℕ) (old new : Option (List ℕ)) : Type 0 where
   pub events : List PlainEvent
+  pub packets : List PlainOut
   pub stated : script_states script ≡ Ok events
-  pub written : Appends old new (lines_of (packets_sent config events))
+  pub sent : AreSentFor config events packets
+  pub written : Appends old new (lines_of packets)
 
--- some of its events were lost, each noted by its place and once, and the lines of the packets for the
--- others were written
+-- some of its events were lost, each noted by its place and once, and each of those wants memory; and the
+-- lines of the packets for the others were written
 pub record IsSimulatedInPart (config : ConfigView) (script : List ℕ) (old new : Option (List ℕ)) : Type 0 where
   pub events : List PlainEvent
   pub lost : List ℕ
+  pub packets : List PlainOut
   pub stated : script_states script ≡ Ok events
   pub some_lost : lost ≢ []
   pub places : ArePlaces (length events) lost
-  pub written : Appends old new (lines_of (packets_sent config (kept lost events)))
+  pub wanted : EachWantsMemory config events lost
+  pub sent : AreSentFor config (kept lost events) packets
+  pub written : Appends old new (lines_of packets)
 
 -- the text states the configuration, and none of the faults of a configuration holds in it
 pub record IsConfiguration (text : List ℕ) (config : ConfigView) : Type 0 where

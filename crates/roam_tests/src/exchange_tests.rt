@@ -153,7 +153,15 @@ fn its_reply_goes_to_the_access_server(rt: HostRuntime) -> Result<(), Fail> {
     let (start, sent) = (octets(&rt, alloc, START), octets(&rt, alloc, FORWARDED));
     let reply = View::read(job.octets.as_slice())?;
     let parties = parties(&config).ok_or("a peer and a server")?;
-    assert!(rt; check_reply(&reply, &View::read(&sent)?, parties.1.secret.as_bytes()).is_ok());
+    assert!(rt;
+        check_reply(
+            &reply,
+            &View::read(&sent)?,
+            parties.1.secret.as_bytes(),
+            false
+        )
+        .is_ok()
+    );
     let mut out = Vec::new(alloc);
     append_returned(&rt, &reply, &View::read(&start)?, parties, &mut out)?;
     assert!(rt; out == octets(&rt, alloc, RETURNED));

@@ -5,6 +5,7 @@
 //! from the program.
 #![tactic(auto)]
 
+pub mod broker_callers;
 pub mod callers;
 #[cfg(test)]
 mod exchange_tests;

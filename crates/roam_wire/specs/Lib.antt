@@ -4,5 +4,6 @@ pub mod Attributes
 pub mod Shown
 pub mod Refusal
 pub mod Codes
+pub mod Constants
 pub mod Building
 pub mod Laws

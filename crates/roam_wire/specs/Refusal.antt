@@ -28,3 +28,4 @@ number_of refusal.NoShard = 20
 number_of refusal.NoMemory = 21
 number_of refusal.TraceFull = 22
 number_of refusal.Misplaced = 23
+number_of refusal.TooManyHops = 24

@@ -1,4 +1,5 @@
-//! The codes of packets (RFC 2865 section 3, RFC 2866 section 3, RFC 5176 section 2.3).
+//! The codes of packets (RFC 2865 section 3, RFC 2866 section 3, RFC 5176 section 2.3, RFC 5997
+//! section 3).
 
 ghost use Rattle.std.specs.Prelude.{◌≡◌};
 ghost use Rattle.roam_wire.specs.Codes.{is_access_reply};
@@ -14,6 +15,8 @@ pub const ACCOUNTING_REQUEST: u8 = 4;
 pub const ACCOUNTING_RESPONSE: u8 = 5;
 
 pub const ACCESS_CHALLENGE: u8 = 11;
+
+pub const STATUS_SERVER: u8 = 12;
 
 pub const DISCONNECT_REQUEST: u8 = 40;
 

@@ -1,6 +1,7 @@
-//! Laws of reading and of packets' octets. These functions do nothing: their contracts hold of all
-//! packets and datagrams.
+//! Laws of reading, of packets' octets, and of the numbers that RFCs give to codes and attribute types.
+//! These functions do nothing: their contracts hold of all packets and datagrams.
 
+ghost use Rattle.roam_wire.specs.Constants.{AccessCodes, AccessTypes, AccountingCodes, AccountingTypes, OtherTypes, ReverseCodes};
 ghost use Rattle.roam_wire.specs.Laws.{ReadingIsRight, PacketTextReads, PacketTextIsReadAgain, PacketTextIsOfPacket, PacketTextHasLength, PacketTextIsOctets};
 
 /// What a datagram reads as.
@@ -15,4 +16,18 @@ pub fn packet_octets()
     ensures packet { PacketTextIsOfPacket }
     ensures length { PacketTextHasLength }
     ensures octets { PacketTextIsOctets }
+{}
+
+/// The numbers of the codes.
+pub fn numbers_of_codes()
+    ensures access { AccessCodes }
+    ensures accounting { AccountingCodes }
+    ensures reverse { ReverseCodes }
+{}
+
+/// The numbers of the attribute types.
+pub fn numbers_of_attribute_types()
+    ensures access { AccessTypes }
+    ensures accounting { AccountingTypes }
+    ensures others { OtherTypes }
 {}

@@ -22,9 +22,10 @@ impl<T: Drop> From<AllocFailed<T>> for NoMemory {
 
 /// Why the broker refuses an event. Every refusal leaves the broker as it was.
 ///
-/// An arrival is refused by the first of `Short` to `TooLong` whose cause holds, and a tick by
-/// `NoShard`; then comes `Moment`; then, for a request, the first of `Exhausted` to `Busy`, and for a
-/// reply the first of `NoEntry` to `ReplyTooLong`. `NoMemory` comes wherever a growth was refused.
+/// An arrival is refused by the first of `Short` to `TooLong` whose cause holds, where `TooManyHops`
+/// stands between `MissingMessageAuthenticator` and `NoRealm`; and a tick by `NoShard`. Then comes
+/// `Moment`; then, for a request, the first of `Exhausted` to `Busy`, and for a reply the first of
+/// `NoEntry` to `ReplyTooLong`. `NoMemory` comes wherever a growth was refused.
 #[derive(Clone, Copy, Debug, PartialEq, Eq)]
 pub enum Refusal {
     /// The datagram has fewer than 20 octets.
@@ -42,7 +43,7 @@ pub enum Refusal {
     /// A request has two Message-Authenticators, one that hasn't 16 octets, or a wrong one.
     BadMessageAuthenticator,
     /// An Access-Request has no Message-Authenticator, and holds EAP-Message or comes from a peer that
-    /// is required to send one.
+    /// is required to send one; or a Status-Server has none.
     MissingMessageAuthenticator,
     /// An Accounting-Request names no configured realm.
     NoRealm,
@@ -60,8 +61,9 @@ pub enum Refusal {
     WrongReply,
     /// The Response Authenticator is wrong.
     BadReply,
-    /// A reply has two Message-Authenticators, one that hasn't 16 octets, or a wrong one; or it holds
-    /// EAP-Message without one in an Access-Accept, -Reject or -Challenge.
+    /// A reply has two Message-Authenticators, one that hasn't 16 octets, or a wrong one; or an
+    /// Access-Accept, -Reject or -Challenge has none, and holds EAP-Message or comes from a home server
+    /// that is required to send one.
     BadReplyMessageAuthenticator,
     /// The returned packet would pass 4096 octets.
     ReplyTooLong,
@@ -75,12 +77,14 @@ pub enum Refusal {
     TraceFull,
     /// The lock's trace is of another shard or opening.
     Misplaced,
+    /// An Accounting-, Disconnect- or CoA-Request has more Proxy-States than proxies may have added.
+    TooManyHops,
 }
 
 impl Refusal {
     ghost use Rattle.roam_wire.specs.Refusal.{number_of};
 
-    /// The number of the refusal, from 1 to 23, under which it is logged.
+    /// The number of the refusal, from 1 to 24, under which it is logged.
     pub fn number(self) -> u8
         ensures { result ≡ number_of self }
     {
@@ -108,6 +112,7 @@ impl Refusal {
             Refusal::NoMemory => 21,
             Refusal::TraceFull => 22,
             Refusal::Misplaced => 23,
+            Refusal::TooManyHops => 24,
         }
     }
 }

@@ -1,8 +1,9 @@
-use Rattle.std.proofs.Common.{refl}
+use Rattle.std.proofs.Common.{refl, subst, sym}
 use Rattle.roam_pending.specs.PlainEntry.{PlainEntry, PlainRequest}
 use Rattle.roam_book.specs.RealmState.{Target}
 use Rattle.roam_book.specs.OnRequest.{forwarded_entry}
-use Rattle.roam_book.specs.Sound.{shown_request}
+use Rattle.roam_pending.specs.EntryList.{put}
+use Rattle.roam_book.specs.Sound.{LanesTell, shown_request}
 use Rattle.roam_book.proofs.sending.send_new.Goals as goal
 
 -- the lanes tell the entry that waits on the link with the Identifier that was taken
@@ -13,4 +14,5 @@ returns-clause-tells g c =
     let target : Target = record { link = c.args.link; id = c.in-Some.id } in
     let e : PlainEntry = forwarded_entry c.args.settings.now c.args.now q c.args.numbers.now.stream_position c.args.ticket
     target in
-    c.in-Some.ensures.tells e es tells none refl (λ l i. refl)
+    subst (LanesTell c.args.settings.now (put e es)) (sym c.put_off.ensures.lanes)
+    (c.in-Some.ensures.tells e es tells none refl (λ l i. refl))

@@ -2,7 +2,7 @@ use Rattle.std.proofs.Common.{◌≡◌, Some, ap, refl}
 use Rattle.roam_wire.specs.Reading.{packet_of}
 use Rattle.roam_pending.specs.PlainEntry.{PlainEntry}
 use Rattle.roam_pending.specs.Shown.{shown}
-use Rattle.roam_book.specs.RealmConfig.{link_secret}
+use Rattle.roam_book.specs.RealmConfig.{link_secret, seal_required}
 use Rattle.roam_book.specs.OnReply.{judge, reply_fault}
 use Rattle.roam_book.proofs.ReplyLemmas.{same-verdict}
 use Rattle.roam_book.proofs.verdict.judge.Goals as goal
@@ -13,6 +13,9 @@ returns-in-Some-clause-turn g c =
     let e : PlainEntry = shown c.args.entry.now in
     let forwarded = packet_of c.args.waiting.now.forwarded in
     let secret = link_secret c.args.settings.now c.args.waiting.now.link in
-    let fault : Some c.in-Some.why ≡ reply_fault secret c.args.reply.now forwarded = rw (c.secret_of_link.ensures.text, c.of_packet-forwarded.ensures, c.as_slice.ensures) at c.in-Some.ensures.fault in
-    λ s. same-verdict c.args.settings.now c.not_taken.result e s _ _ (c.not_taken.ensures c.args.settings.now e s)
+    let required = seal_required c.args.settings.now c.args.waiting.now.link in
+    let fault : Some c.in-Some.why ≡ reply_fault secret required c.args.reply.now forwarded =
+    rw (c.secret_of_link-secret.ensures.text, c.seal_required-seal_required.ensures, c.of_packet-forwarded.ensures, c.as_slice.ensures) at c.in-Some.ensures.fault in
+    λ s. same-verdict c.args.settings.now c.not_taken.result e c.args.waiting.now.link s _ _
+    (c.not_taken.ensures c.args.settings.now e c.args.waiting.now.link s)
     (ap (judge c.args.settings.now c.args.now s e c.args.waiting.now.link forwarded c.args.reply.now) fault)

@@ -1,6 +1,7 @@
 use Rattle.std.proofs.Common.{ℕ, List, ap, refl}
 use Rattle.std.specs.Prelude.{Err}
 use Rattle.std.proofs.lemmas.Result.{IfOk-weaker}
+use Rattle.roam_conf.specs.declared.place.Link.{Link}
 use Rattle.roam_pending.specs.PlainEntry.{PlainEntry}
 use Rattle.roam_pending.specs.Shown.{shown}
 use Rattle.roam_book.specs.OnReply.{return_reply}
@@ -14,10 +15,10 @@ returns-in-Ok-clause-turn g c =
     let e : PlainEntry = shown c.args.entry.now in
     let octets : List ℕ = c.in-Ok.packet.items in
     IfOk-weaker c.return_packet.result
-    (λ v. (x : PlainEntry) → IsVerdict c.args.settings.now v x
-    (λ s. returns_octets c.args.settings.now c.args.now e.request.key c.counted_peer-counted.result octets x s))
-    (λ v. IsVerdict c.args.settings.now v e (λ s. return_reply c.args.settings.now c.args.now s e c.args.link c.args.forwarded.now c.args.reply.now))
-    (λ v h s. same-verdict c.args.settings.now v e s _ _ (h e s)
+    (λ v. (x : PlainEntry) (l : Link) → IsVerdict c.args.settings.now v x l
+    (λ s. returns_octets c.args.settings.now c.args.now e.request.key c.counted_peer-counted.result octets x l s))
+    (λ v. IsVerdict c.args.settings.now v e c.args.link (λ s. return_reply c.args.settings.now c.args.now s e c.args.link c.args.forwarded.now c.args.reply.now))
+    (λ v h s. same-verdict c.args.settings.now v e c.args.link s _ _ (h e c.args.link s)
     (returned-turn c.args.settings.now c.args.now s e c.args.link c.args.forwarded.now c.args.reply.now
     c.counted_peer-counted.result octets
     (λ lt. absurd (let k = c.in-Ok.ensures.too_long.1 lt in cc)) c.in-Ok.ensures.octets
@@ -29,5 +30,6 @@ pub returns-in-Err-ReplyTooLong-clause-turn : goal.returns-in-Err-ReplyTooLong-c
 returns-in-Err-ReplyTooLong-clause-turn g c =
     let e : PlainEntry = shown c.args.entry.now in
     let long = c.in-Err-ReplyTooLong.ensures.too_long.0 (ap Err c.in-Err-ReplyTooLong.field-0-is) in
-    λ s. same-verdict c.args.settings.now c.not_taken.result e s _ _ (c.not_taken.ensures c.args.settings.now e s)
+    λ s. same-verdict c.args.settings.now c.not_taken.result e c.args.link s _ _
+    (c.not_taken.ensures c.args.settings.now e c.args.link s)
     (long-turn c.args.settings.now c.args.now s e c.args.link c.args.forwarded.now c.args.reply.now long)

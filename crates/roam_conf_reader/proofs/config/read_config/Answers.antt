@@ -1,22 +1,29 @@
 use Rattle.std.proofs.Common.{◌≡◌, Some, None, inr, sym, ◌∙◌}
 use Rattle.toml.specs.View.{table_view}
 use Rattle.roam_conf_reader.specs.Faults.{first_duplicate}
-use Rattle.roam_conf_reader.specs.StatedParts.{shown_stated}
+use Rattle.roam_conf.specs.Shown.{shown_parts}
 use Rattle.roam_conf_reader.proofs.FaultLemmas.{Reads, first_fault, all_distinct, none_holds}
 use Rattle.roam_conf_reader.proofs.config.read_config.Goals as goal
 
 -- The first duplicate of a configuration that was read is its first fault.
 pub returns-in-Some-clause-err : goal.returns-in-Some-clause-err
 returns-in-Some-clause-err c =
-    let config = shown_stated c.in_ok-stated.stated in
-    let reads : Reads c.args.text.now (table_view c.in_ok-table.table) config = record { parsed = c.in_ok-table.ensures.ok; complete = sym c.if-document_misses.ensures; stated = c.in_ok-stated.ensures.ok } in
-    let is : first_duplicate config.auth config.acct config.peers config.realms ≡ Some c.in-Some.fault = sym c.in_ok-fault.ensures.ok ∙ c.in-Some.is in
+    let config = shown_parts c.in_ok-parts.parts in
+    let reads : Reads c.args.text.now (table_view c.in_ok-table.table) config = record { parsed = c.in_ok-table.ensures.ok; complete = sym c.if-document_misses.ensures; stated = c.in_ok-parts.ensures.ok } in
+    let is : first_duplicate config ≡ Some c.in-Some.fault = sym c.in_ok-fault.ensures.ok ∙ c.in-Some.is in
     inr (first_fault c.args.text.now (table_view c.in_ok-table.table) config c.in-Some.fault reads is)
 
 -- A configuration without duplicates has no fault.
 pub returns-clause-faultless : goal.returns-clause-faultless
 returns-clause-faultless c =
-    let config = shown_stated c.in_ok-stated.stated in
-    let reads : Reads c.args.text.now (table_view c.in_ok-table.table) config = record { parsed = c.in_ok-table.ensures.ok; complete = sym c.if-document_misses.ensures; stated = c.in_ok-stated.ensures.ok } in
-    let is : first_duplicate config.auth config.acct config.peers config.realms ≡ None = sym c.in_ok-fault.ensures.ok ∙ c.in-None.is in
+    let config = shown_parts c.in_ok-parts.parts in
+    let reads : Reads c.args.text.now (table_view c.in_ok-table.table) config = record { parsed = c.in_ok-table.ensures.ok; complete = sym c.if-document_misses.ensures; stated = c.in_ok-parts.ensures.ok } in
+    let is : first_duplicate config ≡ None = sym c.in_ok-fault.ensures.ok ∙ c.in-None.is in
     none_holds c.args.text.now (table_view c.in_ok-table.table) config reads (all_distinct config is)
+
+-- Nothing stands twice in a configuration without a first duplicate.
+pub new-requires : goal.new-requires
+new-requires c =
+    let config = shown_parts c.in_ok-parts.parts in
+    let is : first_duplicate config ≡ None = sym c.in_ok-fault.ensures.ok ∙ c.in-None.is in
+    all_distinct config is

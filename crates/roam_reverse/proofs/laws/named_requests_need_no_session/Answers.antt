@@ -5,5 +5,5 @@ use Rattle.roam_reverse.proofs.laws.named_requests_need_no_session.Goals as goal
 
 pub returns : goal.returns
 unfolding cause
-returns c = λ peers realm attributes name sessions others named.
-    named-at-target realm attributes name sessions others (target peers attributes) named
+returns c = λ peers realm names attributes name sessions others named.
+    named-at-target realm names attributes name sessions others (target peers attributes) named

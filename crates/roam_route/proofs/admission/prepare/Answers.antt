@@ -1,25 +1,22 @@
-use Rattle.std.proofs.Common.{◌≡◌, Some, true, sym, ap, rules}
+use Rattle.std.proofs.Common.{◌≡◌, Some, sym, ap, rules}
 use Rattle.std.specs.Prelude.{Ok}
 use Rattle.roam_wire.specs.Reading.{reading}
 use Rattle.roam_conf.specs.Shown.{shown}
-use Rattle.roam_route.specs.Admission.{is_taken}
 use Rattle.roam_route.specs.Shown.{shown_arrival}
-use Rattle.roam_route.proofs.EventLemmas.{prepared_of_taken}
+use Rattle.roam_route.proofs.EventLemmas.{prepared_of_sent}
 use Rattle.roam_route.specs.declared.job.Side.{Side}
 use Rattle.roam_route.proofs.admission.prepare.Goals as goal
 
 -- a home server that was found is one of the realm of its place
-pub taken-requires-clause-home : goal.taken-requires-clause-home
-taken-requires-clause-home g c = λ realm i at home.
+pub sent-requires-clause-home : goal.sent-requires-clause-home
+sent-requires-clause-home g c = λ realm i at home.
     c.in-Some.ensures.home realm i at (ap (λ (s : Side). Some s) home)
 
--- the packet is one, its sender is known, and its code is taken
+-- the packet is one, and its sender is known
 pub returns-clause-prepared : goal.returns-clause-prepared
 returns-clause-prepared g c =
     let packet = c.in_ok-view.ensures.packet.packet in
     let read : reading c.args.datagram.now.octets ≡ Ok c.in_ok-view.view = search rules in
     let from = sym c.in-Some.ensures.value in
-    let test : is_taken c.args.datagram.now.at c.in-Some.side c.in_ok-view.view.code ≡ true =
-    rw (← c.code.ensures, ← c.is_taken.ensures) c.if-not-is_taken.false in
-    prepared_of_taken (shown c.args.config.now) (shown_arrival c.args.datagram.now) c.in_ok-view.view
-    c.in-Some.side c.taken.result packet read from test c.taken.ensures.answer
+    prepared_of_sent (shown c.args.config.now) (shown_arrival c.args.datagram.now) c.in_ok-view.view
+    c.in-Some.side c.sent.result packet read from c.sent.ensures.answer

@@ -1,4 +1,4 @@
-use Rattle.roam_route.proofs.RejectLemmas.{reject_reads, reject_has_length, reject_is_signed, reject_is_well_sealed, reject_has_seal_first, reject_carries_proxy_states}
+use Rattle.roam_route.proofs.AnswerLemmas.{reject_reads, reject_has_length, reject_is_signed, reject_is_well_sealed, reject_has_seal_first, reject_carries_proxy_states}
 use Rattle.roam_route.proofs.laws.rejects.Goals as goal
 
 pub returns : goal.returns

@@ -25,6 +25,7 @@ returns g c =
                 n.ticket;
             place = n.place;
             sessions = n.sessions;
+            rests = n.rests;
             ledger = n.ledger;
           });
     }

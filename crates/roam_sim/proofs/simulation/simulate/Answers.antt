@@ -3,7 +3,8 @@ use Rattle.std.proofs.lemmas.List.{length-map}
 use Rattle.roam_conf.specs.Shown.{shown}
 use Rattle.roam_core.specs.Shown.{shown_event, shown_events}
 use Rattle.roam_book.specs.Turn.{shown_outs}
-use Rattle.roam_sim.proofs.SimulationLemmas.{is_simulated, is_simulated_in_part, script_fault, never, untouched}
+use Rattle.roam_core.specs.Events.{kept}
+use Rattle.roam_sim.proofs.SimulationLemmas.{RunSent, is_simulated, is_simulated_in_part, script_fault, never, untouched}
 use Rattle.roam_sim.proofs.simulation.simulate.Goals as goal
 
 -- No event was lost.
@@ -12,7 +13,12 @@ returns-clause-ok g c =
     let known = g.W.Write.contents in
     let outcome = c.in_ok-outcome.outcome in
     let events = shown_events c.in_ok-events.events.items in
-    let sent = rw c.as_slice.ensures.value at c.in_ok-outcome.ensures.packets in
+    let run = c.in_ok-outcome.ensures in
+    let answers = rw c.as_slice.ensures.value at run.packets in
+    let isolated = rw c.as_slice.ensures.value at run.isolated_from_start in
+    let provenance = rw c.as_slice.ensures.value at run.provenance in
+    let sent : RunSent c.in_ok-broker.broker.config c.in_ok-broker.broker.states (kept outcome.lost.items events) (shown_outs outcome.outs.items) =
+    record { answers = answers; isolated = isolated; provenance = provenance } in
     is_simulated c.print_outcome.result (shown c.args.config.now) c.in_ok-broker.broker.config c.in_ok-broker.broker.states c.args.script.now events
     outcome.lost.items (shown_outs outcome.outs.items) (known c.args.writer.now) (known c.print_outcome.new.writer)
     c.in_ok-events.ensures.ok c.in_ok-broker.ensures.config c.in_ok-broker.ensures.states sent c.print_outcome.ensures.all c.print_outcome.ensures.ok
@@ -23,13 +29,19 @@ returns-clause-memory g c = λ is.
     let known = g.W.Write.contents in
     let outcome = c.in_ok-outcome.outcome in
     let events = shown_events c.in_ok-events.events.items in
-    let sent = rw c.as_slice.ensures.value at c.in_ok-outcome.ensures.packets in
+    let run = c.in_ok-outcome.ensures in
+    let answers = rw c.as_slice.ensures.value at run.packets in
+    let isolated = rw c.as_slice.ensures.value at run.isolated_from_start in
+    let provenance = rw c.as_slice.ensures.value at run.provenance in
+    let sent : RunSent c.in_ok-broker.broker.config c.in_ok-broker.broker.states (kept outcome.lost.items events) (shown_outs outcome.outs.items) =
+    record { answers = answers; isolated = isolated; provenance = provenance } in
     let count = length-map c.in_ok-events.events.items shown_event in
     let places = rw (c.as_slice.ensures.value, ← count) at c.in_ok-outcome.ensures.lost in
+    let wanted = rw c.as_slice.ensures.value at c.in_ok-outcome.ensures.wanted in
     inr (is_simulated_in_part (shown c.args.config.now) c.in_ok-broker.broker.config c.in_ok-broker.broker.states c.args.script.now events
     outcome.lost.items (shown_outs outcome.outs.items) (known c.args.writer.now) (known c.print_outcome.new.writer)
     c.in_ok-events.ensures.ok c.in_ok-broker.ensures.config c.in_ok-broker.ensures.states sent
-    (c.print_outcome.ensures.some_lost is) places (c.print_outcome.ensures.memory is))
+    (c.print_outcome.ensures.some_lost is) places wanted (c.print_outcome.ensures.memory is))
 
 -- The script has a faulty line, or memory is wanting for its events.
 pub returns-in_err-events-clause-line : goal.returns-in_err-events-clause-line

@@ -10,7 +10,7 @@ returns-in-Answered g c =
     let plan = rw c.in-Answered.is at c.in_ok-answer.ensures.plan in
     record {
       turn = record {
-        gives = rw early (plan c.args.now);
+        gives = rw early plan;
         succeeds = λ h. refl;
         rest = keeps-none g.E.Entries c.args.self.now c.requires.realm;
       };
@@ -21,7 +21,7 @@ pub returns-in_ok-admit-in-Admitted : goal.returns-in_ok-admit-in-Admitted
 returns-in_ok-admit-in-Admitted g c =
     let early : ltb (2 ^ 62) c.args.now ≡ false = grind (arith, nat_tests, c.if-now-gt-LATEST.false) in
     let plan = rw c.in-Admitted.is at c.in_ok-answer.ensures.plan in
-    let is = plan.does c.args.now in
+    let is = plan.does in
     record {
       turn = record {
         gives = rw early (rw is c.in_ok-admit-in-Admitted.ensures.turn.answers);

@@ -27,7 +27,7 @@ pub returns-in-Answered : goal.returns-in-Answered
 returns-in-Answered g c =
     let early : ltb (2 ^ 62) c.args.now ≡ false = grind (arith, nat_tests, c.if-now-gt-LATEST.false) in
     let plan = rw c.in-Answered.is at c.in_ok-answer.ensures.plan in
-    let a = plan c.args.now in
+    let a = plan in
     record {
       turn = record {
         gives = rw early (twice-gives c.twice.result c.in-Answered.answer
@@ -42,7 +42,7 @@ pub returns-in_ok-admit-in-Admitted : goal.returns-in_ok-admit-in-Admitted
 returns-in_ok-admit-in-Admitted g c =
     let early : ltb (2 ^ 62) c.args.now ≡ false = grind (arith, nat_tests, c.if-now-gt-LATEST.false) in
     let plan = rw c.in-Admitted.is at c.in_ok-answer.ensures.plan in
-    let is = plan.does c.args.now in
+    let is = plan.does in
     let told = c.in_ok-admit-in-Admitted in
     let both = twin-tells told.field-0 c.into_twin.result (state g.E.Entries c.args.self.now)
     (state g.E.Entries c.admit.new.self) _ told.ensures.turn c.into_twin.ensures.answer

@@ -22,7 +22,7 @@ returns-then-eq-clause-plan g c =
     rw c.as_slice.ensures at (sym c.eq.ensures ∙ c.if-eq.true) in
     let held = c.in_ok-answer-in-Some.ensures in
     held-plan c.in_ok-answer-in-Some.answer s _ _ held.outs held.refusal
-    (λ now. of-key-same r.settings.now now s (shown_request c.args.asked) e found test)
+    (of-key-same r.settings.now c.args.now s c.args.asked.named (shown_request c.args.asked) e found test)
 
 -- the entry of the key goes
 pub plan_first_seen-requires-in-Some-clause-gone : goal.plan_first_seen-requires-in-Some-clause-gone

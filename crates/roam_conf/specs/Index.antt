@@ -1,0 +1,51 @@
+-- The indexes of a configuration: the owner of each key, where a key is a row of octets. Ours.
+use Rattle.std.specs.Prelude.{ℕ, suc, ◌/◌, ◌%◌, Bool, true, ◌&&◌, List, [], ◌∷◌, ◌++◌, map, Option, is_none, if◌then◌else◌}
+use Rattle.std.specs.Map.{lookup}
+use Rattle.std.specs.Str.{bytes_eq, str_to_ascii_lowercase}
+use Rattle.std.specs.declared.vec.Vec.{Vec}
+use Rattle.indexmap.specs.IndexMap.{IndexMap}
+use Rattle.roam_conf.specs.declared.names.PatternRef.{PatternRef}
+use Rattle.roam_conf.specs.declared.names.PatternRef.TheVariants.{Name, Suffix, Any}
+use Rattle.roam_conf.specs.Config.{PatternView, whole, suffix, any, RealmView}
+use Rattle.roam_conf.specs.Patterns.{patterns_of}
+
+-- the keys of an index with their owners, in the order in which they came
+abbrev pub entry_shown : {Z : Type 0} → Vec ℕ Z × ℕ → List ℕ × ℕ
+entry_shown entry = (entry.0.items, entry.1)
+
+abbrev pub owners : {Z H : Type 0} → IndexMap (Vec ℕ Z) ℕ H → List (List ℕ × ℕ)
+owners index = map entry_shown index.entries
+
+-- the owner of a key
+abbrev pub owner_of : List (List ℕ × ℕ) → List ℕ → Option ℕ
+owner_of entries key = lookup (bytes_eq key) entries
+
+-- a key with its owner behind the others, unless the key is there
+abbrev pub with_key : List (List ℕ × ℕ) → List ℕ → ℕ → List (List ℕ × ℕ)
+with_key entries key owner = if is_none (owner_of entries key) then entries ++ (key, owner) ∷ [] else entries
+
+-- none of these keys is there, or twice among them
+abbrev pub all_new : List (List ℕ × ℕ) → List (List ℕ × ℕ) → Bool
+all_new entries [] = true
+all_new entries (more ∷ rest) = is_none (owner_of entries more.0) && all_new (entries ++ more ∷ []) rest
+
+-- a pattern as a row of octets, in lower case: equal rows are of equal patterns
+abbrev pub pattern_key : PatternView → List ℕ
+pattern_key (whole name) = 0 ∷ str_to_ascii_lowercase name
+pattern_key (suffix name) = 1 ∷ str_to_ascii_lowercase name
+pattern_key any = 2 ∷ []
+
+-- a pattern that is looked for
+abbrev pub pattern_seen : PatternRef → PatternView
+pattern_seen (Name name) = whole name.now
+pattern_seen (Suffix name) = suffix name.now
+pattern_seen Any = any
+
+-- patterns of one realm
+abbrev pub of_realm : ℕ → PatternView → List ℕ × ℕ
+of_realm realm pattern = (pattern_key pattern, realm)
+
+-- all patterns of these realms, of which the first has this index
+abbrev pub all_patterns : ℕ → List RealmView → List (List ℕ × ℕ)
+all_patterns i [] = []
+all_patterns i (realm ∷ realms) = map (of_realm i) (patterns_of realm) ++ all_patterns (suc i) realms

@@ -1,0 +1,30 @@
+//! Finding by a key of octets, at a cost that doesn't grow with the number of keys.
+
+ghost use Rattle.std.specs.Prelude.{◌≡◌, IfOk, OnOk, is_none};
+ghost use Rattle.roam_conf.specs.Index.{owners, owner_of, with_key};
+
+use indexmap::IndexMap;
+use std::alloc::{AllocError, Global};
+use std::hash::{BuildHasherDefault, FoldHasher};
+
+/// The owner of each key: the index of a realm or of a peer.
+pub(crate) type Index = IndexMap<Vec<u8>, u16, BuildHasherDefault<FoldHasher>, Global>;
+
+/// The owner of a key.
+pub(crate) fn owner_of(index: &Index, key: &[u8]) -> Option<u16>
+    ensures { result ≡ owner_of (owners index.now) key.now }
+{
+    index.get(key).copied()
+}
+
+/// Notes the owner of a key, unless the key is there: whether it is new.
+pub(crate) fn note(index: &mut Index, key: Vec<u8>, owner: u16) -> Result<bool, AllocError>
+    ensures new { IfOk result (λ new. new ≡ is_none (owner_of (owners index.old) key.items)) }
+    ensures noted { OnOk result (owners index.new ≡ with_key (owners index.old) key.items owner) }
+{
+    if index.contains_key(key.as_slice()) {
+        return Ok(false);
+    }
+    index.insert(key, owner)?;
+    Ok(true)
+}

@@ -1,0 +1,90 @@
+//! The indexes of a configuration, which are made once, from its lists.
+
+ghost use Rattle.std.specs.Prelude.{◌≡◌, ℕ, List, ◌≤◌, ◌^◌, IfOk, length, map, false, true, refl};
+ghost use Rattle.roam_conf.specs.Duplicates.{has_duplicate_realm};
+ghost use Rattle.roam_conf.specs.Index.{owners, owner_of, all_patterns};
+ghost use Rattle.roam_conf.specs.Lookup.{peer_with_ip};
+ghost use Rattle.roam_conf.specs.Parts.{shown_peer, shown_realm};
+
+use crate::index::{Index, note};
+use crate::names::note_realms;
+use crate::{Peer, Realm};
+use indexmap::IndexMap;
+use std::alloc::{AllocError, Global};
+
+/// The indexes of a configuration. They follow from its lists, so they tell no two configurations apart.
+#[derive(Drop)]
+pub(crate) struct Indexes {
+    /// The realm of each name and pattern.
+    pub(crate) names: Index,
+    /// The peer of each address.
+    pub(crate) ips: Index,
+}
+
+/// A copy of these octets.
+fn row_of(alloc: Global, octets: &[u8]) -> Result<Vec<u8>, AllocError>
+    ensures { IfOk result (λ row. row.items ≡ octets.now) }
+{
+    let mut row = Vec::new(alloc);
+    row.extend_from_slice(octets)?;
+    Ok(row)
+}
+
+/// The first peer of each address.
+fn ips_of(alloc: Global, peers: &[Peer]) -> Result<Index, AllocError>
+    requires { length peers.now ≤ 2 ^ 16 }
+    ensures { IfOk result (λ index. (ip : List ℕ)
+        → owner_of (owners index) ip ≡ peer_with_ip (map shown_peer peers.now) ip) }
+{
+    let mut index = IndexMap::new(alloc);
+    for (place, peer) in peers.iter().enumerate() {
+        let key = row_of(alloc, &peer.ip)?;
+        note(&mut index, key, place as u16)?;
+    }
+    Ok(index)
+}
+
+impl Indexes {
+    /// The indexes of these lists.
+    pub(crate) fn new(
+        alloc: Global,
+        peers: &[Peer],
+        realms: &[Realm],
+    ) -> Result<Indexes, AllocError>
+        requires few { (length peers.now ≤ 1024) × (length realms.now ≤ 1024) }
+        requires distinct { has_duplicate_realm (map shown_realm realms.now) ≡ false }
+        ensures names { IfOk result
+            (λ indexes. owners indexes.names ≡ all_patterns 0 (map shown_realm realms.now)) }
+        ensures ips { IfOk result (λ indexes. (ip : List ℕ)
+            → owner_of (owners indexes.ips) ip ≡ peer_with_ip (map shown_peer peers.now) ip) }
+    {
+        let mut names = IndexMap::new(alloc);
+        note_realms(&mut names, alloc, realms)?;
+        let ips = ips_of(alloc, peers)?;
+        Ok(Indexes { names, ips })
+    }
+}
+
+impl PartialEq for Indexes {
+    ghost eq = { λ _ _. true };
+
+    ghost laws = { record { symm = λ _ _. refl; trans = λ _ _ _ _ _. refl } };
+
+    fn eq(&self, _other: &Indexes) -> bool {
+        true
+    }
+}
+
+impl Eq for Indexes {
+    ghost laws = { record { refl = λ _. refl; symm = λ _ _. refl; congr = λ _ _ _ _. refl } };
+}
+
+/// Whether two names, two suffixes or two `*` of all realms are the same.
+pub fn has_duplicate_realm(alloc: Global, realms: &[Realm]) -> Result<bool, AllocError>
+    requires { length realms.now ≤ 1024 }
+    ensures { IfOk result (λ twice. twice ≡ has_duplicate_realm (map shown_realm realms.now)) }
+{
+    let mut names = IndexMap::new(alloc);
+    let all_new = note_realms(&mut names, alloc, realms)?;
+    Ok(!all_new)
+}

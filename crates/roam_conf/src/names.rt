@@ -1,0 +1,141 @@
+//! The index of the names and patterns of all realms.
+
+ghost use Rattle.std.specs.Prelude.{◌≡◌, ◌≤◌, ◌+◌, ◌^◌, ◌∷◌, ◌++◌, IfOk, length, map, take, drop, true};
+ghost use Rattle.std.specs.Str.{str_to_ascii_lowercase};
+ghost use Rattle.roam_conf.specs.Index.{owners, owner_of, all_new, pattern_key, of_realm, all_patterns, pattern_seen};
+ghost use Rattle.roam_conf.specs.Parts.{shown_realm};
+ghost use Rattle.roam_conf.specs.Patterns.{shown_pattern, patterns_of};
+
+use crate::index::{Index, note, owner_of};
+use crate::{Realm, RealmPattern};
+use std::alloc::{AllocError, Global};
+
+/// The first octet of a key, by the kind of its pattern.
+const WHOLE: u8 = 0;
+
+const SUFFIX: u8 = 1;
+
+const ANY: u8 = 2;
+
+/// A pattern that is looked for. The name in it stands elsewhere.
+#[derive(Clone, Copy)]
+pub(crate) enum PatternRef<'a> {
+    Name(&'a [u8]),
+    Suffix(&'a [u8]),
+    Any,
+}
+
+/// A key: a kind, and a name in lower case.
+fn key_of(alloc: Global, kind: u8, name: &[u8]) -> Result<Vec<u8>, AllocError>
+    ensures { IfOk result (λ key. key.items ≡ kind ∷ str_to_ascii_lowercase name.now) }
+{
+    let mut key = Vec::new(alloc);
+    key.push(kind)?;
+    for octet in name {
+        key.push(octet.to_ascii_lowercase())?;
+    }
+    Ok(key)
+}
+
+/// The key of a pattern.
+fn pattern_key(alloc: Global, pattern: &RealmPattern) -> Result<Vec<u8>, AllocError>
+    ensures { IfOk result (λ key. key.items ≡ pattern_key (shown_pattern pattern.now)) }
+{
+    match pattern {
+        RealmPattern::Name(name) => key_of(alloc, WHOLE, name.as_bytes()),
+        RealmPattern::Suffix(name) => key_of(alloc, SUFFIX, name.as_bytes()),
+        RealmPattern::Any => key_of(alloc, ANY, b""),
+    }
+}
+
+/// Notes patterns of a realm, until one is there already: whether all are new.
+fn note_patterns(
+    index: &mut Index,
+    alloc: Global,
+    patterns: &[RealmPattern],
+    realm: u16,
+) -> Result<bool, AllocError>
+    ensures new { IfOk result (λ new. new ≡ all_new (owners index.old)
+        (map (of_realm realm) (map shown_pattern patterns.now))) }
+    ensures noted { IfOk result (λ new. new ≡ true → owners index.new
+        ≡ owners index.old ++ map (of_realm realm) (map shown_pattern patterns.now)) }
+{
+    for pattern in patterns {
+        let key = pattern_key(alloc, pattern)?;
+        if !note(index, key, realm)? {
+            return Ok(false);
+        }
+    }
+    Ok(true)
+}
+
+/// Notes the name and the patterns of a realm, until one is there already: whether all are new.
+fn note_realm(
+    index: &mut Index,
+    alloc: Global,
+    realm: &Realm,
+    place: u16,
+) -> Result<bool, AllocError>
+    ensures new { IfOk result (λ new. new ≡ all_new (owners index.old)
+        (map (of_realm place) (patterns_of (shown_realm realm.now)))) }
+    ensures noted { IfOk result (λ new. new ≡ true → owners index.new
+        ≡ owners index.old ++ map (of_realm place) (patterns_of (shown_realm realm.now))) }
+{
+    let key = key_of(alloc, WHOLE, realm.name.as_bytes())?;
+    if !note(index, key, place)? {
+        return Ok(false);
+    }
+    note_patterns(index, alloc, realm.also.as_slice(), place)
+}
+
+/// Notes the names and the patterns of realms, until one is there already: whether all are new.
+pub(crate) fn note_realms(
+    index: &mut Index,
+    alloc: Global,
+    realms: &[Realm],
+) -> Result<bool, AllocError>
+    requires { length realms.now ≤ 2 ^ 16 }
+    ensures new { IfOk result (λ new. new ≡ all_new (owners index.old)
+        (all_patterns 0 (map shown_realm realms.now))) }
+    ensures noted { IfOk result (λ new. new ≡ true → owners index.new
+        ≡ owners index.old ++ all_patterns 0 (map shown_realm realms.now)) }
+{
+    for (place, realm) in realms.iter().enumerate() {
+        if !note_realm(index, alloc, realm, place as u16)? {
+            return Ok(false);
+        }
+    }
+    Ok(true)
+}
+
+/// A key in front of a buffer that has room for it: a kind, and a name in lower case.
+fn key_in(buffer: &mut [u8; 254], kind: u8, name: &[u8])
+    requires { length name.now ≤ 253 }
+    ensures { take (1 + length name.now) buffer.new ≡ kind ∷ str_to_ascii_lowercase name.now }
+{
+    buffer[0] = kind;
+    for (place, octet) in name.iter().enumerate() {
+        buffer[place + 1] = octet.to_ascii_lowercase();
+    }
+}
+
+/// The kind and the name of a pattern that is looked for.
+pub(crate) fn kind_and_name(pattern: PatternRef<'_>) -> (u8, &[u8])
+    ensures { result.0 ∷ str_to_ascii_lowercase result.1.now ≡ pattern_key (pattern_seen pattern.entry) }
+{
+    match pattern {
+        PatternRef::Name(name) => (WHOLE, name),
+        PatternRef::Suffix(name) => (SUFFIX, name),
+        PatternRef::Any => (ANY, b""),
+    }
+}
+
+/// The realm that has the pattern of this kind and name. Takes no memory.
+pub(crate) fn realm_of(index: &Index, kind: u8, name: &[u8]) -> Option<u16>
+    requires { length name.now ≤ 253 }
+    ensures { result ≡ owner_of (owners index.now) (kind ∷ str_to_ascii_lowercase name.now) }
+{
+    let mut buffer = [0; 254];
+    key_in(&mut buffer, kind, name);
+    owner_of(index, &buffer[..1 + name.len()])
+}

@@ -1,0 +1,43 @@
+//! The parts that a configuration is made of.
+
+ghost use Rattle.std.specs.Prelude.{◌≤◌, vec_len};
+ghost use Rattle.std.specs.Option.{ForSome};
+
+use crate::{Endpoint, Peer, Realm};
+
+/// The parts that a configuration is made of: each value is in its range, and something may still stand
+/// twice.
+///
+/// The fields are those of `Config`.
+#[derive(Drop)]
+pub struct ConfigParts {
+    /// How many shards the realms are spread over: 1 to 64.
+    pub shards: u16,
+    /// The key of the random words.
+    pub seed: [u8; 32],
+    /// The broker's socket for Access-Requests (RFC 2865); its port isn't 0.
+    pub auth: Endpoint,
+    /// The broker's socket for Accounting-Requests (RFC 2866); its port isn't 0.
+    pub acct: Endpoint,
+    /// How many steps a shard's trace holds: 1 to 1000000.
+    pub trace_limit: u32,
+    /// How many octets of datagrams and packets a shard's trace holds: 1 to 1073741824.
+    pub trace_octets: u32,
+    /// How many attributes Proxy-State (type 33) a request may have, where that is limited: 1 to 100.
+    pub max_hops: Option<u8>,
+    /// Whether Status-Server (RFC 5997) is answered.
+    pub status_server: bool,
+    /// Whether each worker has an `auth` and an `acct` socket of its own.
+    pub spread: bool,
+    /// 1 to 1024 peers.
+    pub peers: Vec<Peer>,
+    /// 1 to 1024 realms.
+    pub realms: Vec<Realm>,
+    ghost shards_range: { (1 ≤ shards) × (shards ≤ 64) },
+    ghost ports: { (1 ≤ auth.port) × (1 ≤ acct.port) },
+    ghost trace_limit_range: { (1 ≤ trace_limit) × (trace_limit ≤ 1000000) },
+    ghost trace_octets_range: { (1 ≤ trace_octets) × (trace_octets ≤ 1073741824) },
+    ghost max_hops_range: { ForSome max_hops (λ n. (1 ≤ n) × (n ≤ 100)) },
+    ghost peer_count: { (1 ≤ vec_len peers) × (vec_len peers ≤ 1024) },
+    ghost realm_count: { (1 ≤ vec_len realms) × (vec_len realms ≤ 1024) },
+}

@@ -1,0 +1,12 @@
+//! What names a realm beside its name.
+
+/// What names a realm beside its name: compared without ASCII case.
+#[derive(Drop, PartialEq, Eq)]
+pub enum RealmPattern {
+    /// One more whole name: 1 to 253 ASCII letters, digits, `.` and `-`.
+    Name(String),
+    /// `*.` and a name: all names that end in a dot and this name, and have something before that.
+    Suffix(String),
+    /// `*`: any name.
+    Any,
+}

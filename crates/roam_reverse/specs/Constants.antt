@@ -1,0 +1,19 @@
+-- The numbers of status types and of Error-Causes, as the RFCs give them. Each is a clause of a function of
+-- src/laws.rt.
+use Rattle.std.specs.Prelude.{◌≡◌, [], ◌∷◌}
+use Rattle.roam_reverse.specs.declared.accounting.TheConstants as status
+use Rattle.roam_reverse.specs.declared.error_cause.TheConstants as error
+
+-- Start, Stop, Interim-Update, Accounting-On and -Off (RFC 2866, section 5.1)
+abbrev pub StatusTypes : Type 0
+StatusTypes =
+    status.START ∷ status.STOP ∷ status.INTERIM_UPDATE ∷ status.ACCOUNTING_ON ∷ status.ACCOUNTING_OFF ∷ []
+    ≡ 1 ∷ 2 ∷ 3 ∷ 7 ∷ 8 ∷ []
+
+-- Unsupported Attribute, Request Not Routable, Session Context Not Found, Other Proxy Processing Error (RFC
+-- 5176, section 3.5)
+abbrev pub ErrorCauses : Type 0
+ErrorCauses =
+    error.UNSUPPORTED_ATTRIBUTE ∷ error.REQUEST_NOT_ROUTABLE ∷ error.SESSION_CONTEXT_NOT_FOUND
+    ∷ error.OTHER_PROXY_PROCESSING_ERROR ∷ []
+    ≡ 401 ∷ 502 ∷ 503 ∷ 505 ∷ []
