@@ -1,9 +1,11 @@
 -- What a command's outcome is, from what its parts did.
-use Rattle.std.proofs.Common.{◌≡◌, ◌⊎◌, inr, ℕ, List, Option, Result, Ok, Err, OnOk, IfErr, refl, string_bytes}
-use Rattle.std.proofs.KnownBytes.{Appends-kept}
+use Rattle.std.proofs.Common.{◌≡◌, ◌⊎◌, inl, inr, ℕ, List, Option, Result, Ok, Err, OnOk, IfErr, refl, subst, sym, string_bytes}
+use Rattle.std.proofs.KnownBytes.{Appends-kept, Keeps-refl}
 use Rattle.std.specs.Io.KnownBytes.{Appends, Keeps}
 use Rattle.roam_conf.specs.Config.{ConfigView}
-use Rattle.roam_conf_reader.specs.Faults.{States, NoneHolds, every_fault}
+use Rattle.roam_conf_reader.specs.declared.fault.ConfFault.{ConfFault}
+use Rattle.roam_conf_reader.specs.declared.fault.ConfFault.TheVariants as conf
+use Rattle.roam_conf_reader.specs.Faults.{States, NoneHolds, IsFirstFault, every_fault}
 use Rattle.std.specs.Prelude.{IsErrOf, IsOk}
 use Rattle.roam_sim.specs.Script.{script_states}
 use Rattle.roam_sim.specs.Simulation.{IsConfiguration, IsAccepted, Simulates}
@@ -41,6 +43,46 @@ printed-fails file text config old new (Err e) same stated faultless refused =
     (config, record { stated = rw (← same) stated; faultless = rw (← same) faultless }) in
     rw refused accepted
 
+-- want of memory, among the faults of a configuration
+abbrev WantsMemory : ConfFault → Type 0
+WantsMemory conf.Memory = Unit {0}
+WantsMemory _ = ⊥
+
+-- a configuration that is refused, and nothing is printed
+refused-first : (file : TextFile) (text : List ℕ) (old : Option (List ℕ)) (why : ConfFault) (f : Fault) →
+    text ≡ string_bytes file.text → (why ≡ conf.Memory) ⊎ IsFirstFault text why →
+    (¬ (why ≡ conf.Memory) → f ≡ fault.Refused file.path why) → ¬ (why ≡ conf.Memory) →
+    CheckFails file old old f
+refused-first file text old why f same found refused apart =
+    let first : IsFirstFault text why = elim found [
+      | inl wanted ↦ absurd (apart wanted)
+      | inr first ↦ first
+    ] in
+    rw (refused apart) (record { named = refl; first = rw (← same) first }, Keeps-refl old)
+
+-- a configuration that isn't read, and nothing is printed: it is refused, or memory is wanting
+pub unread-fails : (file : TextFile) (text : List ℕ) (old : Option (List ℕ)) (why : ConfFault) (f : Fault) →
+    text ≡ string_bytes file.text → (why ≡ conf.Memory) ⊎ IsFirstFault text why →
+    (why ≡ conf.Memory → f ≡ fault.Memory) → (¬ (why ≡ conf.Memory) → f ≡ fault.Refused file.path why) →
+    CheckFails file old old f
+unread-fails file text old conf.Syntax f same found memory refused =
+    refused-first file text old conf.Syntax f same found refused (λ is. subst WantsMemory (sym is) tt)
+unread-fails file text old conf.Missing f same found memory refused =
+    refused-first file text old conf.Missing f same found refused (λ is. subst WantsMemory (sym is) tt)
+unread-fails file text old conf.BadValue f same found memory refused =
+    refused-first file text old conf.BadValue f same found refused (λ is. subst WantsMemory (sym is) tt)
+unread-fails file text old conf.DuplicateRealm f same found memory refused =
+    refused-first file text old conf.DuplicateRealm f same found refused (λ is. subst WantsMemory (sym is) tt)
+unread-fails file text old conf.DuplicatePeer f same found memory refused =
+    refused-first file text old conf.DuplicatePeer f same found refused (λ is. subst WantsMemory (sym is) tt)
+unread-fails file text old conf.DuplicateEndpoint f same found memory refused =
+    refused-first file text old conf.DuplicateEndpoint f same found refused (λ is. subst WantsMemory (sym is) tt)
+unread-fails file text old conf.DuplicateServer f same found memory refused =
+    refused-first file text old conf.DuplicateServer f same found refused (λ is. subst WantsMemory (sym is) tt)
+unread-fails file text old conf.DuplicateLink f same found memory refused =
+    refused-first file text old conf.DuplicateLink f same found refused (λ is. subst WantsMemory (sym is) tt)
+unread-fails file text old conf.Memory f same found memory refused = rw (memory refl) (Keeps-refl old)
+
 -- the lines are still there once the writer has handed them on
 pub handed-on-runs : {T E : Type 0} (configuration script : TextFile) (read-configuration read-script : List ℕ)
     (old mid new : Option (List ℕ)) (r : Result T E) →
@@ -55,7 +97,9 @@ handed-on-runs configuration script read-configuration read-script old mid new (
       read = simulates.read;
       simulated = record {
         events = run.events;
+        packets = run.packets;
         stated = run.stated;
+        sent = run.sent;
         written = Appends-kept old mid new _ run.written kept;
       };
     } in
