@@ -177,9 +177,9 @@ class Conversion:
         out.lose_options(top, {"listenudp", "sourceudp", "loopprevention"})
         self.used |= {auth, acct}
         out.put("shards = 1",
-                "# Written anew before each start, by roam-fresh-seed. Never serve with what stands here.",
-                f'seed = "{"0" * 64}"',
-                f"auth = {written(auth)}", f"acct = {written(acct)}", "trace_limit = 500000",
+                "# `roam serve` draws its own seed. This one is for `roam sim`.", f'seed = "{"0" * 64}"',
+                f"auth = {written(auth)}", f"acct = {written(acct)}", "trace_limit = 50000",
+                "trace_octets = 16777216", "spread = true",
                 "# Status-Server is answered, as radsecproxy does.", "status_server = true",
                 "# How many proxies a request may have passed; in place of TTL and LoopPrevention.",
                 f"max_hops = {HOPS}")

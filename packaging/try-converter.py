@@ -275,7 +275,8 @@ def is_endpoint(text):
 
 
 def keeps_the_rules(conf):
-    assert set(conf) <= {"shards", "seed", "auth", "acct", "trace_limit", "max_hops", "status_server", "peer", "realm"}
+    assert set(conf) <= {"shards", "seed", "auth", "acct", "trace_limit", "trace_octets", "max_hops", "status_server",
+                         "spread", "peer", "realm"}
     assert 1 <= len(conf["peer"]) <= 1024 and 1 <= len(conf["realm"]) <= 1024
     for peer in conf["peer"]:
         assert set(peer) <= {"name", "ip", "secret", "require_seal"}

@@ -5,9 +5,8 @@
 # and thrown away. It needs root, systemd-nspawn, ss and overlayfs. PROGRAM is what is served by, CONF the operator's
 # configuration, whose sockets must be on 127.0.0.1 (examples/two-realms.conf without it).
 #
-# It fails unless the unit starts as a user of its own with no capability, with a fresh seed at each start, one after a
-# crash too; its copy of the configuration is its own; it stays through a SIGHUP; it is started again after a crash and
-# after a SIGTERM; and it is gone after a stop.
+# It fails unless the unit starts as a user of its own with no capability, with a copy of the configuration that it alone
+# can read; stays through a SIGHUP; is started again after a crash and after a SIGTERM; and is gone after a stop.
 set -euo pipefail
 
 if [ $# -lt 1 ] || [ $# -gt 2 ] || [ ! -x "$1" ]; then
@@ -36,7 +35,6 @@ mount -t tmpfs -o mode=1777 tmpfs "$root/tmp"
 rm -rf "$root"/etc/systemd/system/* "$root/etc/fstab"
 : > "$root/etc/machine-id"
 install -D -m 755 "$program" "$root/usr/local/bin/roam"
-install -D -m 755 "$here/roam-fresh-seed" "$root/usr/local/lib/roam/roam-fresh-seed"
 install -D -m 600 "$conf" "$root/etc/roam/roam.conf"
 units=$root/etc/systemd/system
 install -m 644 "$here/roam.service" "$units"
@@ -55,39 +53,31 @@ cat > "$root/usr/local/bin/inside" <<'END'
 exec > /var/told 2>&1
 of() { systemctl show -p "$1" --value roam; }
 status() { grep "^$1:" "/proc/$(of MainPID)/status" | tr -s '[:blank:]' ' '; }
-seed() { grep '^seed' /run/roam/roam.conf; }
+copy=/run/credentials/roam.service
 must() { if "${@:2}"; then echo "yes: $1"; else echo "NO: $1"; failed=yes; fi; }
 serves() { [ "$(of ActiveState)" = active ] && [ -n "$(ss -H -u -l -n | grep ':1812 ')" ]; }
 # Waits for the command after the seconds, so many at most.
 within() { for _ in $(seq "$1"); do "${@:2}" && return 0; sleep 1; done; return 1; }
-another() { [ "$(of MainPID)" != "$process" ] && serves; }
-again() { process=$(of MainPID); kill -s "$1" "$process"; within 20 another; }
-stays() { process=$(of MainPID); kill -s "$1" "$process"; sleep 3; [ "$(of MainPID)" = "$process" ] && serves; }
+another() { [ "$(of MainPID)" != "$first" ] && serves; }
+again() { first=$(of MainPID); kill -s "$1" "$first"; within 20 another; }
+stays() { first=$(of MainPID); kill -s "$1" "$first"; sleep 3; [ "$(of MainPID)" = "$first" ] && serves; }
+strangers_read() { setpriv --reuid nobody --regid nogroup --clear-groups cat "$1"; }
 
 systemctl start roam
 must "it serves" within 20 serves
-first=$(seed)
 must "a user of its own" [ "$(status Uid)" != "Uid: 0 0 0 0" ]
 must "which isn't nobody" [ "$(status Uid | cut -d ' ' -f 2)" != "$(id -u nobody)" ]
 must "no capability" [ "$(status CapBnd)$(status CapEff)" = "CapBnd: 0000000000000000CapEff: 0000000000000000" ]
 must "no new privileges" [ "$(status NoNewPrivs)" = "NoNewPrivs: 1" ]
 must "system calls are filtered" [ "$(status Seccomp)" = "Seccomp: 2" ]
-must "the copy is its own" [ "$(stat -c %a:%U /run/roam/roam.conf)" = "600:roam" ]
-must "so is its directory" [ "$(stat -L -c %a:%U /run/roam)" = "700:roam" ]
-must "the operator's seed isn't served" [ "$first" != "$(grep '^seed' /etc/roam/roam.conf)" ]
-systemctl restart roam
-must "it serves after a restart" within 20 serves
-second=$(seed)
-must "with a fresh seed" [ "$first" != "$second" ]
+must "it has a copy of the configuration" cmp -s /etc/roam/roam.conf $copy/roam.conf
+must "which others can't read" eval "! strangers_read $copy/roam.conf 2> /dev/null"
 must "a SIGHUP changes nothing" stays HUP
 must "another serves after a crash" again SEGV
-third=$(seed)
-must "with a fresh seed" [ "$third" != "$second" ]
 must "and after a SIGTERM from elsewhere" again TERM
-must "with a fresh seed" [ "$(seed)" != "$third" ]
 systemctl stop roam
 must "a stop is no failure" [ "$(of Result)" = success ]
-must "and leaves no copy" [ ! -e /run/roam ]
+must "and leaves no copy" [ ! -e $copy ]
 sed -i 's/^shards.*/shards = 0/' /etc/roam/roam.conf
 systemctl start roam
 must "a refused configuration isn't served" [ "$(of ActiveState)" != active ]

@@ -1,12 +1,12 @@
 -- What the words get, from what the command that they ask for did.
-use Rattle.std.proofs.Common.{◌≡◌, ◌⊎◌, inl, inr, ℕ, List, Option, Result, Ok, Err, IfErr, sym, arith}
+use Rattle.std.proofs.Common.{◌≡◌, ◌⊎◌, inl, inr, ℕ, List, Option, Some, Result, Ok, Err, IfErr, ap, sym, arith}
 use Rattle.std.specs.Io.KnownBytes.{Keeps}
 use Rattle.roam_sim.specs.Simulation.{SimulatesInPart}
-use Rattle.roam.specs.CommandLine.{to_simulate, to_serve, Asks, AsksNothing}
+use Rattle.roam.specs.CommandLine.{to_simulate, to_serve, to_serve_with_its_seed, Asks, AsksToServeIt, AsksToServe, AsksNothing}
 use Rattle.roam.specs.declared.text_file.TextFile.{TextFile}
 use Rattle.roam.specs.declared.report.Fault.{Fault}
 use Rattle.roam.specs.declared.report.Fault.TheVariants as fault
-use Rattle.roam.specs.Outcomes.{text_in, RunFails, ServeFails, IsAnsweredInPart, Prevents}
+use Rattle.roam.specs.Outcomes.{text_in, RunFails, ServeFails, NamesConfiguration, IsAnsweredInPart, Prevents}
 use Rattle.roam.specs.Report.{status_of}
 
 -- some events were lost, or the output is as it was
@@ -33,7 +33,7 @@ run-prevents words configuration script old new (Ok x) worded fails = tt
 run-prevents words configuration script old new (Err fault.Usage) worded fails = absurd fails
 run-prevents words configuration script old new (Err (fault.Unreadable path)) worded fails = absurd fails
 run-prevents words configuration script old new (Err (fault.Refused path why)) worded fails =
-    ((to_simulate configuration.path.now script.path.now, worded, sym fails.0.named), fails.1)
+    ((to_simulate configuration.path.now script.path.now, worded, ap Some (sym fails.0.named)), fails.1)
 run-prevents words configuration script old new (Err (fault.FaultyLine path number)) worded fails =
     ((configuration.path.now, rw fails.0.named worded), fails.2)
 run-prevents words configuration script old new (Err fault.Write) worded fails =
@@ -42,30 +42,69 @@ run-prevents words configuration script old new (Err fault.Memory) worded fails 
   (λ nothing. nothing (to_simulate configuration.path.now script.path.now) worded),
   in_part words configuration script old new worded fails,
 )
-run-prevents words configuration script old new (Err (fault.Bind endpoint)) worded fails = absurd fails
+run-prevents words configuration script old new (Err fault.Clock) worded fails = absurd fails
+run-prevents words configuration script old new (Err fault.Seed) worded fails = absurd fails
+run-prevents words configuration script old new (Err (fault.Bind endpoint reason)) worded fails = absurd fails
+run-prevents words configuration script old new (Err (fault.Descriptors wanted)) worded fails = absurd fails
+run-prevents words configuration script old new (Err (fault.Wait reason)) worded fails = absurd fails
+run-prevents words configuration script old new (Err fault.Thread) worded fails = absurd fails
 run-prevents words configuration script old new (Err fault.Receive) worded fails = absurd fails
 run-prevents words configuration script old new (Err fault.Audit) worded fails = absurd fails
+
+-- words that ask for a server name its configuration
+names-it : (words : List (List ℕ)) (path given : List ℕ) (milliseconds : Option ℕ) → path ≡ given →
+    AsksToServeIt words given milliseconds → NamesConfiguration words path
+names-it words path given milliseconds same asks = elim asks [
+  | inl drawn ↦ (to_serve given milliseconds, drawn, ap Some (sym same))
+  | inr its_own ↦ (to_serve_with_its_seed given milliseconds, its_own, ap Some (sym same))
+]
+
+-- and ask for something
+asks-something : (words : List (List ℕ)) (given : List ℕ) (milliseconds : Option ℕ) →
+    AsksToServeIt words given milliseconds → ¬ (AsksNothing words)
+asks-something words given milliseconds asks nothing = elim asks [
+  | inl drawn ↦ nothing (to_serve given milliseconds) drawn
+  | inr its_own ↦ nothing (to_serve_with_its_seed given milliseconds) its_own
+]
 
 -- the faults of a server, which leaves the output as it is
 pub serve-prevents : {T : Type 0} (words : List (List ℕ)) (file : TextFile) (milliseconds : Option ℕ)
     (out : Option (List ℕ)) (r : Result T Fault) →
-    Asks words (to_serve file.path.now milliseconds) → Keeps out out →
+    AsksToServeIt words file.path.now milliseconds → Keeps out out →
     IfErr r (ServeFails file) → IfErr r (Prevents words out out)
 serve-prevents words file milliseconds out (Ok x) asks kept fails = tt
 serve-prevents words file milliseconds out (Err fault.Usage) asks kept fails = absurd fails
 serve-prevents words file milliseconds out (Err (fault.Unreadable path)) asks kept fails = absurd fails
 serve-prevents words file milliseconds out (Err (fault.Refused path why)) asks kept fails =
-    ((to_serve file.path.now milliseconds, asks, sym fails.named), kept)
+    (names-it words path.now file.path.now milliseconds fails.named asks, kept)
 serve-prevents words file milliseconds out (Err (fault.FaultyLine path number)) asks kept fails = absurd fails
 serve-prevents words file milliseconds out (Err fault.Write) asks kept fails = absurd fails
 serve-prevents words file milliseconds out (Err fault.Memory) asks kept fails =
-    ((λ nothing. nothing (to_serve file.path.now milliseconds) asks), inl kept)
-serve-prevents words file milliseconds out (Err (fault.Bind endpoint)) asks kept fails =
+    (asks-something words file.path.now milliseconds asks, inl kept)
+serve-prevents words file milliseconds out (Err fault.Clock) asks kept fails =
+    ((file.path.now, milliseconds, asks), kept)
+serve-prevents words file milliseconds out (Err fault.Seed) asks kept fails =
+    ((file.path.now, milliseconds, asks), kept)
+serve-prevents words file milliseconds out (Err (fault.Bind endpoint reason)) asks kept fails =
+    ((file.path.now, milliseconds, asks), kept)
+serve-prevents words file milliseconds out (Err (fault.Descriptors wanted)) asks kept fails =
+    ((file.path.now, milliseconds, asks), kept)
+serve-prevents words file milliseconds out (Err (fault.Wait reason)) asks kept fails =
+    ((file.path.now, milliseconds, asks), kept)
+serve-prevents words file milliseconds out (Err fault.Thread) asks kept fails =
     ((file.path.now, milliseconds, asks), kept)
 serve-prevents words file milliseconds out (Err fault.Receive) asks kept fails =
     ((file.path.now, milliseconds, asks), kept)
 serve-prevents words file milliseconds out (Err fault.Audit) asks kept fails =
     ((file.path.now, milliseconds, asks), kept)
+
+-- a fault of a server has another status than the usage
+serves : (words : List (List ℕ)) (old new : Option (List ℕ)) (status : ℕ) → ¬ (status ≡ 2) →
+    AsksToServe words × Keeps old new → (status ≡ 2 → AsksNothing words) × (AsksNothing words → status ≡ 2)
+serves words old new status other prevents = (
+  (λ two. absurd (other two)),
+  (λ nothing. absurd (asks-something words prevents.0.0 prevents.0.1 prevents.0.2 nothing)),
+)
 
 -- status 2 is that of the usage alone, which comes just where the words ask for nothing
 pub usage-status : (words : List (List ℕ)) (old new : Option (List ℕ)) (f : Fault) (status : ℕ) →
@@ -82,9 +121,19 @@ usage-status words old new fault.Write status is prevents =
     (λ two. absurd (omega arith), λ nothing. absurd (prevents nothing))
 usage-status words old new fault.Memory status is prevents =
     (λ two. absurd (omega arith), λ nothing. absurd (prevents.0 nothing))
-usage-status words old new (fault.Bind endpoint) status is prevents =
-    (λ two. absurd (omega arith), λ nothing. absurd (nothing (to_serve prevents.0.0 prevents.0.1) prevents.0.2))
+usage-status words old new fault.Clock status is prevents =
+    serves words old new status (λ two. omega (arith, is, two)) prevents
+usage-status words old new fault.Seed status is prevents =
+    serves words old new status (λ two. omega (arith, is, two)) prevents
+usage-status words old new (fault.Bind endpoint reason) status is prevents =
+    serves words old new status (λ two. omega (arith, is, two)) prevents
+usage-status words old new (fault.Descriptors wanted) status is prevents =
+    serves words old new status (λ two. omega (arith, is, two)) prevents
+usage-status words old new (fault.Wait reason) status is prevents =
+    serves words old new status (λ two. omega (arith, is, two)) prevents
+usage-status words old new fault.Thread status is prevents =
+    serves words old new status (λ two. omega (arith, is, two)) prevents
 usage-status words old new fault.Receive status is prevents =
-    (λ two. absurd (omega arith), λ nothing. absurd (nothing (to_serve prevents.0.0 prevents.0.1) prevents.0.2))
+    serves words old new status (λ two. omega (arith, is, two)) prevents
 usage-status words old new fault.Audit status is prevents =
-    (λ two. absurd (omega arith), λ nothing. absurd (nothing (to_serve prevents.0.0 prevents.0.1) prevents.0.2))
+    serves words old new status (λ two. omega (arith, is, two)) prevents

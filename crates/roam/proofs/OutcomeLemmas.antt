@@ -149,7 +149,12 @@ accepted-text file text config same stated faultless = record {
 -- what ends a server of an accepted configuration
 pub serve-fails : (file : TextFile) (config : ConfigView) (why : ServeFault) →
     IsConfiguration (text_in file) config → IsFaultOf config why → ServeFails file (fault_of why)
-serve-fails file config (serve.Bind endpoint) read its_own = (config, read, its_own)
+serve-fails file config serve.Clock read its_own = (config, read)
+serve-fails file config serve.Seed read its_own = (config, read)
+serve-fails file config (serve.Bind endpoint reason) read its_own = (config, read, its_own)
+serve-fails file config (serve.Descriptors wanted) read its_own = (config, read)
+serve-fails file config (serve.Wait reason) read its_own = (config, read)
+serve-fails file config serve.Thread read its_own = (config, read)
 serve-fails file config serve.Receive read its_own = (config, read)
 serve-fails file config serve.Audit read its_own = (config, read)
 serve-fails file config serve.Memory read its_own = tt

@@ -1,39 +1,72 @@
 -- What a command line asks for, by the words after the program's name. Ours.
-use Rattle.std.specs.Prelude.{◌≡◌, ℕ, List, [], ◌∷◌, codes, Option, Some, None}
+use Rattle.std.specs.Prelude.{◌≡◌, ◌⊎◌, ℕ, List, [], ◌∷◌, codes, Option, Some, None}
 use Rattle.roam_conf.specs.Texts.{decimal_in}
 
--- to say how much there is in a configuration; to run a script over one; or to serve one, for so many milliseconds or
--- without end. The files are given by their paths
+-- to say how much there is in a configuration; to run a script over one; to serve one, with a seed that is drawn or with
+-- its own, for so many milliseconds or without end; to print the usage; or to print which program this is. The files are
+-- given by their paths
 pub data Asked : Type 0 where
   to_check : List ℕ → Asked
   to_simulate : List ℕ → List ℕ → Asked
   to_serve : List ℕ → Option ℕ → Asked
+  to_serve_with_its_seed : List ℕ → Option ℕ → Asked
+  to_help : Asked
+  to_tell_version : Asked
 
--- the words ask for it. A word for milliseconds is a decimal number from 1 to those of a day, without leading zeros
+-- the word after `serve` with which it takes the seed of the file
+abbrev pub seed_of_file : List ℕ
+seed_of_file = codes "--seed-of-file"
+
+-- a word for milliseconds is a decimal number from 1 to those of a day, without leading zeros
+abbrev pub IsTime : List ℕ → ℕ → Type 0
+IsTime word milliseconds = decimal_in 1 86400000 word ≡ Some milliseconds
+
+-- the words ask for it. After `serve` the word `--seed-of-file` is never the configuration
 abbrev pub Asks : List (List ℕ) → Asked → Type 0
 Asks words (to_check configuration) = codes "check" ∷ configuration ∷ [] ≡ words
 Asks words (to_simulate configuration script) = codes "sim" ∷ configuration ∷ script ∷ [] ≡ words
-Asks words (to_serve configuration None) = codes "serve" ∷ configuration ∷ [] ≡ words
+Asks words (to_serve configuration None) =
+    (codes "serve" ∷ configuration ∷ [] ≡ words) × ¬ (configuration ≡ seed_of_file)
 Asks words (to_serve configuration (Some milliseconds)) =
-    (word : List ℕ) × (codes "serve" ∷ configuration ∷ word ∷ [] ≡ words) ×
-    (decimal_in 1 86400000 word ≡ Some milliseconds)
+    (word : List ℕ) × (codes "serve" ∷ configuration ∷ word ∷ [] ≡ words) × IsTime word milliseconds
+    × ¬ (configuration ≡ seed_of_file)
+Asks words (to_serve_with_its_seed configuration None) =
+    codes "serve" ∷ seed_of_file ∷ configuration ∷ [] ≡ words
+Asks words (to_serve_with_its_seed configuration (Some milliseconds)) =
+    (word : List ℕ) × (codes "serve" ∷ seed_of_file ∷ configuration ∷ word ∷ [] ≡ words) × IsTime word milliseconds
+Asks words to_help =
+    (codes "help" ∷ [] ≡ words) ⊎ (codes "--help" ∷ [] ≡ words) ⊎ (codes "-h" ∷ [] ≡ words)
+Asks words to_tell_version =
+    (codes "version" ∷ [] ≡ words) ⊎ (codes "--version" ∷ [] ≡ words) ⊎ (codes "-V" ∷ [] ≡ words)
 
 -- the words ask for nothing that the program does
 abbrev pub AsksNothing : List (List ℕ) → Type 0
 AsksNothing words = (asked : Asked) → ¬ (Asks words asked)
 
+-- the words ask for a server of this configuration, for this time
+abbrev pub AsksToServeIt : List (List ℕ) → List ℕ → Option ℕ → Type 0
+AsksToServeIt words configuration milliseconds =
+    Asks words (to_serve configuration milliseconds) ⊎ Asks words (to_serve_with_its_seed configuration milliseconds)
+
 -- the words ask for a server
 abbrev pub AsksToServe : List (List ℕ) → Type 0
 AsksToServe words =
-    (configuration : List ℕ) × (milliseconds : Option ℕ) × Asks words (to_serve configuration milliseconds)
+    (configuration : List ℕ) × (milliseconds : Option ℕ) × AsksToServeIt words configuration milliseconds
 
--- the paths of the files that it is about: of the configuration, and of all of them
-abbrev pub configuration_of : Asked → List ℕ
-configuration_of (to_check configuration) = configuration
-configuration_of (to_simulate configuration script) = configuration
-configuration_of (to_serve configuration milliseconds) = configuration
+-- the path of the file with the configuration, where it is about one
+abbrev pub configuration_of : Asked → Option (List ℕ)
+configuration_of (to_check configuration) = Some configuration
+configuration_of (to_simulate configuration script) = Some configuration
+configuration_of (to_serve configuration milliseconds) = Some configuration
+configuration_of (to_serve_with_its_seed configuration milliseconds) = Some configuration
+configuration_of to_help = None
+configuration_of to_tell_version = None
 
+-- the paths of all files that it is about
 abbrev pub files_of : Asked → List (List ℕ)
 files_of (to_check configuration) = configuration ∷ []
 files_of (to_simulate configuration script) = configuration ∷ script ∷ []
 files_of (to_serve configuration milliseconds) = configuration ∷ []
+files_of (to_serve_with_its_seed configuration milliseconds) = configuration ∷ []
+files_of to_help = []
+files_of to_tell_version = []

@@ -1,6 +1,6 @@
 -- What the commands print, and which fault comes when: over the files that were read, and what the output holds
 -- before a command and after it. Ours.
-use Rattle.std.specs.Prelude.{◌≡◌, ◌⊎◌, ℕ, List, ◌++◌, Option, Err, IsOk, OnOk, Contains, length, codes, string_bytes}
+use Rattle.std.specs.Prelude.{◌≡◌, ◌⊎◌, ℕ, List, ◌++◌, Option, Some, Err, IsOk, OnOk, Contains, length, codes, string_bytes}
 use Rattle.std.specs.Fmt.{decimal}
 use Rattle.std.specs.Io.KnownBytes.{Keeps, Appends}
 use Rattle.roam_conf.specs.Config.{ConfigView}
@@ -9,8 +9,8 @@ use Rattle.roam_conf_reader.specs.declared.fault.ConfFault.{ConfFault}
 use Rattle.roam_conf_reader.specs.Faults.{IsFirstFault}
 use Rattle.roam_sim.specs.Script.{script_states}
 use Rattle.roam_sim.specs.Simulation.{IsConfiguration, IsAccepted, Simulates, SimulatesInPart}
-use Rattle.roam.specs.CommandLine.{Asked, to_check, to_simulate, to_serve, Asks, AsksToServe, AsksNothing, files_of, configuration_of}
-use Rattle.roam.specs.Report.{status_of, text_of}
+use Rattle.roam.specs.CommandLine.{Asked, to_check, to_simulate, to_serve, to_serve_with_its_seed, to_help, to_tell_version, Asks, AsksToServe, AsksNothing, files_of, configuration_of}
+use Rattle.roam.specs.Report.{status_of, text_of, usage_text, version_text}
 use Rattle.roam.specs.declared.text_file.TextFile.{TextFile}
 use Rattle.roam.specs.declared.report.Ending.{Ending}
 use Rattle.roam.specs.declared.report.Fault.{Fault}
@@ -50,7 +50,12 @@ CheckFails file old new (fault.Refused path why) = IsRefused file path.now why �
 CheckFails file old new (fault.FaultyLine path number) = ⊥
 CheckFails file old new fault.Write = IsAccepted (text_in file)
 CheckFails file old new fault.Memory = Keeps old new
-CheckFails file old new (fault.Bind endpoint) = ⊥
+CheckFails file old new fault.Clock = ⊥
+CheckFails file old new fault.Seed = ⊥
+CheckFails file old new (fault.Bind endpoint reason) = ⊥
+CheckFails file old new (fault.Descriptors wanted) = ⊥
+CheckFails file old new (fault.Wait reason) = ⊥
+CheckFails file old new fault.Thread = ⊥
 CheckFails file old new fault.Receive = ⊥
 CheckFails file old new fault.Audit = ⊥
 
@@ -73,11 +78,16 @@ RunFails configuration script old new fault.Write =
     Keeps old new ⊎ AreRead (text_in configuration) (text_in script)
 RunFails configuration script old new fault.Memory =
     Keeps old new ⊎ SimulatesInPart (text_in configuration) (text_in script) old new
-RunFails configuration script old new (fault.Bind endpoint) = ⊥
+RunFails configuration script old new fault.Clock = ⊥
+RunFails configuration script old new fault.Seed = ⊥
+RunFails configuration script old new (fault.Bind endpoint reason) = ⊥
+RunFails configuration script old new (fault.Descriptors wanted) = ⊥
+RunFails configuration script old new (fault.Wait reason) = ⊥
+RunFails configuration script old new fault.Thread = ⊥
 RunFails configuration script old new fault.Receive = ⊥
 RunFails configuration script old new fault.Audit = ⊥
 
--- the faults of a server: one that comes from sockets or from the audit comes only where the configuration is
+-- the faults of a server: one that comes of the system or of the audit comes only where the configuration is
 -- accepted, and an endpoint that can't be bound is one of its own
 abbrev pub ServeFails : TextFile → Fault → Type 0
 ServeFails file fault.Usage = ⊥
@@ -86,7 +96,12 @@ ServeFails file (fault.Refused path why) = IsRefused file path.now why
 ServeFails file (fault.FaultyLine path number) = ⊥
 ServeFails file fault.Write = ⊥
 ServeFails file fault.Memory = Unit {0}
-ServeFails file (fault.Bind endpoint) =
+ServeFails file fault.Clock = IsAccepted (text_in file)
+ServeFails file fault.Seed = IsAccepted (text_in file)
+ServeFails file (fault.Descriptors wanted) = IsAccepted (text_in file)
+ServeFails file (fault.Wait reason) = IsAccepted (text_in file)
+ServeFails file fault.Thread = IsAccepted (text_in file)
+ServeFails file (fault.Bind endpoint reason) =
     (config : ConfigView) × IsConfiguration (text_in file) config × Contains (socket_endpoints config) endpoint
 ServeFails file fault.Receive = IsAccepted (text_in file)
 ServeFails file fault.Audit = IsAccepted (text_in file)
@@ -98,6 +113,10 @@ IsDone (to_check configuration) old new = (text : List ℕ) × Checks text old n
 IsDone (to_simulate configuration script) old new =
     (text : List ℕ) × (script_text : List ℕ) × Simulates text script_text old new
 IsDone (to_serve configuration milliseconds) old new = (text : List ℕ) × IsAccepted text × Keeps old new
+IsDone (to_serve_with_its_seed configuration milliseconds) old new =
+    (text : List ℕ) × IsAccepted text × Keeps old new
+IsDone to_help old new = Appends old new usage_text
+IsDone to_tell_version old new = Appends old new version_text
 
 -- the words ask for something, and it was done
 pub record IsAnswered (words : List (List ℕ)) (old new : Option (List ℕ)) : Type 0 where
@@ -110,7 +129,7 @@ abbrev pub NamesFile : List (List ℕ) → List ℕ → Type 0
 NamesFile words path = (asked : Asked) × Asks words asked × Contains (files_of asked) path
 
 abbrev pub NamesConfiguration : List (List ℕ) → List ℕ → Type 0
-NamesConfiguration words path = (asked : Asked) × Asks words asked × (configuration_of asked ≡ path)
+NamesConfiguration words path = (asked : Asked) × Asks words asked × (configuration_of asked ≡ Some path)
 
 abbrev pub NamesScript : List (List ℕ) → List ℕ → Type 0
 NamesScript words path = (configuration : List ℕ) × Asks words (to_simulate configuration path)
@@ -135,7 +154,12 @@ Prevents words old new (fault.FaultyLine path number) = NamesScript words path.n
 Prevents words old new fault.Write = ¬ (AsksNothing words)
 Prevents words old new fault.Memory =
     ¬ (AsksNothing words) × (Keeps old new ⊎ IsAnsweredInPart words old new)
-Prevents words old new (fault.Bind endpoint) = AsksToServe words × Keeps old new
+Prevents words old new fault.Clock = AsksToServe words × Keeps old new
+Prevents words old new fault.Seed = AsksToServe words × Keeps old new
+Prevents words old new (fault.Bind endpoint reason) = AsksToServe words × Keeps old new
+Prevents words old new (fault.Descriptors wanted) = AsksToServe words × Keeps old new
+Prevents words old new (fault.Wait reason) = AsksToServe words × Keeps old new
+Prevents words old new fault.Thread = AsksToServe words × Keeps old new
 Prevents words old new fault.Receive = AsksToServe words × Keeps old new
 Prevents words old new fault.Audit = AsksToServe words × Keeps old new
 

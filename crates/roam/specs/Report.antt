@@ -1,6 +1,6 @@
 -- Why the program doesn't do what it is asked for: the text of each fault, and the status with which the program
 -- ends. Ours.
-use Rattle.std.specs.Prelude.{ℕ, List, ◌++◌, codes}
+use Rattle.std.specs.Prelude.{ℕ, ◌==◌, if◌then◌else◌, List, ◌++◌, Option, Some, None, codes}
 use Rattle.std.specs.Fmt.{decimal}
 use Rattle.roam_sim.specs.Lines.{endpoint_text}
 use Rattle.roam_conf_reader.specs.declared.fault.ConfFault.{ConfFault}
@@ -22,16 +22,57 @@ name_of conf.DuplicateServer = codes "DuplicateServer"
 name_of conf.DuplicateLink = codes "DuplicateLink"
 name_of conf.Memory = codes "Memory"
 
+-- the usage: a line for each command
+abbrev pub usage_text : List ℕ
+usage_text =
+    codes "usage: roam check CONF\n       roam sim CONF SCRIPT\n       roam serve [--seed-of-file] CONF [MS]\n       roam help\n       roam version\n"
+
+-- which program this is, and the line of the toolchain that proved it
+abbrev pub version_text : List ℕ
+version_text = codes "roam 1.0.0\nrattle-kit-13b logic dac8208d650f15bf\n"
+
+-- what the system says of the errors that bind, socket, epoll and eventfd give, by their numbers (Linux)
+abbrev pub words_of : ℕ → Option (List ℕ)
+words_of number =
+    if number == 1 then Some (codes "Operation not permitted")
+    else (if number == 11 then Some (codes "Resource temporarily unavailable")
+    else (if number == 12 then Some (codes "Cannot allocate memory")
+    else (if number == 13 then Some (codes "Permission denied")
+    else (if number == 23 then Some (codes "Too many open files in system")
+    else (if number == 24 then Some (codes "Too many open files")
+    else (if number == 28 then Some (codes "No space left on device")
+    else (if number == 97 then Some (codes "Address family not supported by protocol")
+    else (if number == 98 then Some (codes "Address already in use")
+    else (if number == 99 then Some (codes "Cannot assign requested address")
+    else (if number == 105 then Some (codes "No buffer space available")
+    else None))))))))))
+
+-- these words, or the number of the error
+abbrev pub words_or_number : Option (List ℕ) → ℕ → List ℕ
+words_or_number (Some words) number = words
+words_or_number None number = codes "error " ++ decimal number
+
+-- the system's reason
+abbrev pub reason_text : ℕ → List ℕ
+reason_text number = words_or_number (words_of number) number
+
 -- what is printed of a fault, with its line feed
 abbrev pub text_of : Fault → List ℕ
-text_of fault.Usage = codes "usage: roam check CONF | roam sim CONF SCRIPT | roam serve CONF [MS]\n"
+text_of fault.Usage = usage_text
 text_of (fault.Unreadable path) = codes "roam: " ++ path.now ++ codes ": unreadable\n"
 text_of (fault.Refused path why) = codes "roam: " ++ path.now ++ codes ": " ++ name_of why ++ codes "\n"
 text_of (fault.FaultyLine path number) =
     codes "roam: " ++ path.now ++ codes ": line " ++ decimal number ++ codes "\n"
 text_of fault.Write = codes "roam: write failed\n"
 text_of fault.Memory = codes "roam: out of memory\n"
-text_of (fault.Bind endpoint) = codes "roam: cannot bind " ++ endpoint_text endpoint ++ codes "\n"
+text_of fault.Clock = codes "roam: no clock\n"
+text_of fault.Seed = codes "roam: no random seed\n"
+text_of (fault.Bind endpoint reason) =
+    codes "roam: cannot bind " ++ endpoint_text endpoint ++ codes ": " ++ reason_text reason ++ codes "\n"
+text_of (fault.Descriptors wanted) =
+    codes "roam: too few file descriptors: " ++ decimal wanted ++ codes " wanted\n"
+text_of (fault.Wait reason) = codes "roam: cannot wait for sockets: " ++ reason_text reason ++ codes "\n"
+text_of fault.Thread = codes "roam: cannot start a thread\n"
 text_of fault.Receive = codes "roam: receive failed\n"
 text_of fault.Audit = codes "roam: audit failed\n"
 
@@ -43,13 +84,23 @@ status_of (fault.Refused path why) = 1
 status_of (fault.FaultyLine path number) = 1
 status_of fault.Write = 1
 status_of fault.Memory = 3
-status_of (fault.Bind endpoint) = 1
+status_of fault.Clock = 1
+status_of fault.Seed = 1
+status_of (fault.Bind endpoint reason) = 1
+status_of (fault.Descriptors wanted) = 1
+status_of (fault.Wait reason) = 3
+status_of fault.Thread = 3
 status_of fault.Receive = 1
 status_of fault.Audit = 4
 
 -- what ends a server, as a fault of the program
 abbrev pub fault_of : ServeFault → Fault
-fault_of (serve.Bind endpoint) = fault.Bind endpoint
+fault_of serve.Clock = fault.Clock
+fault_of serve.Seed = fault.Seed
+fault_of (serve.Bind endpoint reason) = fault.Bind endpoint reason.0
+fault_of (serve.Descriptors wanted) = fault.Descriptors wanted
+fault_of (serve.Wait reason) = fault.Wait reason.0
+fault_of serve.Thread = fault.Thread
 fault_of serve.Receive = fault.Receive
 fault_of serve.Audit = fault.Audit
 fault_of serve.Memory = fault.Memory

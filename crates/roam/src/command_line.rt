@@ -1,7 +1,7 @@
 //! What the words of a command line ask for.
 
-ghost use Rattle.std.specs.Prelude.{[], ◌∷◌, map, MatchOption};
-ghost use Rattle.roam.specs.CommandLine.{Asks, AsksNothing};
+ghost use Rattle.std.specs.Prelude.{[], ◌∷◌, codes, map, MatchOption};
+ghost use Rattle.roam.specs.CommandLine.{Asks, AsksNothing, seed_of_file};
 ghost use Rattle.roam.specs.Shown.{shown};
 
 use roam_conf::decimal;
@@ -25,13 +25,50 @@ pub enum Command<'a> {
         /// The path of the file with the script.
         script: &'a str,
     },
-    /// To serve a configuration: `serve CONF [MS]`.
+    /// To serve a configuration with a seed that is drawn: `serve CONF [MS]`.
     Serve {
         /// The path of the file with the configuration.
         configuration: &'a str,
         /// For how many milliseconds, from 1 to 86,400,000; without end where none are given.
         milliseconds: Option<u64>,
     },
+    /// To serve a configuration with its own seed: `serve --seed-of-file CONF [MS]`.
+    ServeWithItsSeed {
+        /// The path of the file with the configuration.
+        configuration: &'a str,
+        /// For how many milliseconds, as above.
+        milliseconds: Option<u64>,
+    },
+    /// To print the usage: `help`, `--help` or `-h`.
+    Help,
+    /// To print which program this is: `version`, `--version` or `-V`.
+    Version,
+}
+
+/// What one word asks for.
+fn of_one_word<'a>(word: &str) -> Option<Command<'a>>
+    ensures { MatchOption result (AsksNothing (word.now ∷ []))
+        (λ c. Asks (word.now ∷ []) (shown c)) }
+{
+    match word {
+        "help" | "--help" | "-h" => Some(Command::Help),
+        "version" | "--version" | "-V" => Some(Command::Version),
+        _ => None,
+    }
+}
+
+/// What `serve` and one word ask for.
+fn of_serve<'a>(configuration: &'a str) -> Option<Command<'a>>
+    ensures { MatchOption result (AsksNothing (codes "serve" ∷ configuration.now ∷ []))
+        (λ c. Asks (codes "serve" ∷ configuration.now ∷ []) (shown c)) }
+{
+    match configuration {
+        "--seed-of-file" => None,
+        _ => Some(Command::Serve {
+            configuration,
+            milliseconds: None,
+        }),
+    }
 }
 
 /// What two words ask for.
@@ -41,11 +78,28 @@ fn of_two_words<'a>(word: &str, configuration: &'a str) -> Option<Command<'a>>
 {
     match word {
         "check" => Some(Command::Check { configuration }),
-        "serve" => Some(Command::Serve {
-            configuration,
+        "serve" => of_serve(configuration),
+        _ => None,
+    }
+}
+
+/// What `serve` and two words ask for.
+fn of_serve_for<'a>(first: &'a str, last: &'a str) -> Option<Command<'a>>
+    ensures { MatchOption result (AsksNothing (codes "serve" ∷ first.now ∷ last.now ∷ []))
+        (λ c. Asks (codes "serve" ∷ first.now ∷ last.now ∷ []) (shown c)) }
+{
+    match first {
+        "--seed-of-file" => Some(Command::ServeWithItsSeed {
+            configuration: last,
             milliseconds: None,
         }),
-        _ => None,
+        _ => match decimal(last, 1, LONGEST) {
+            Some(milliseconds) => Some(Command::Serve {
+                configuration: first,
+                milliseconds: Some(milliseconds),
+            }),
+            None => None,
+        },
     }
 }
 
@@ -59,13 +113,39 @@ fn of_three_words<'a>(word: &str, configuration: &'a str, last: &'a str) -> Opti
             configuration,
             script: last,
         }),
-        "serve" => match decimal(last, 1, LONGEST) {
-            Some(milliseconds) => Some(Command::Serve {
-                configuration,
-                milliseconds: Some(milliseconds),
-            }),
-            None => None,
-        },
+        "serve" => of_serve_for(configuration, last),
+        _ => None,
+    }
+}
+
+/// What `serve`, `--seed-of-file` and two words ask for.
+fn of_serve_with_its_seed<'a>(configuration: &'a str, last: &str) -> Option<Command<'a>>
+    ensures { MatchOption result
+        (AsksNothing (codes "serve" ∷ seed_of_file ∷ configuration.now ∷ last.now ∷ []))
+        (λ c. Asks (codes "serve" ∷ seed_of_file ∷ configuration.now ∷ last.now ∷ []) (shown c)) }
+{
+    match decimal(last, 1, LONGEST) {
+        Some(milliseconds) => Some(Command::ServeWithItsSeed {
+            configuration,
+            milliseconds: Some(milliseconds),
+        }),
+        None => None,
+    }
+}
+
+/// What four words ask for.
+fn of_four_words<'a>(
+    word: &str,
+    option: &str,
+    configuration: &'a str,
+    last: &str,
+) -> Option<Command<'a>>
+    ensures { MatchOption result
+        (AsksNothing (word.now ∷ option.now ∷ configuration.now ∷ last.now ∷ []))
+        (λ c. Asks (word.now ∷ option.now ∷ configuration.now ∷ last.now ∷ []) (shown c)) }
+{
+    match (word, option) {
+        ("serve", "--seed-of-file") => of_serve_with_its_seed(configuration, last),
         _ => None,
     }
 }
@@ -77,10 +157,17 @@ impl<'a> Command<'a> {
             (λ c. Asks (map S.text words.now) (shown c)) }
     {
         match words {
+            [word] => of_one_word(word.as_str()),
             [word, configuration] => of_two_words(word.as_str(), configuration.as_str()),
             [word, configuration, last] => {
                 of_three_words(word.as_str(), configuration.as_str(), last.as_str())
             }
+            [word, option, configuration, last] => of_four_words(
+                word.as_str(),
+                option.as_str(),
+                configuration.as_str(),
+                last.as_str(),
+            ),
             _ => None,
         }
     }

@@ -11,6 +11,7 @@ mod program;
 mod report;
 mod serving;
 mod simulation;
+mod telling;
 #[cfg(test)]
 mod tests;
 mod text_file;

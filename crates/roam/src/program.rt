@@ -10,22 +10,25 @@ use crate::command_line::Command;
 use crate::report::{Ending, Fault};
 use crate::serving::serve_file;
 use crate::simulation::simulate;
+use crate::telling::{tell_usage, tell_version};
 use crate::text_file::TextFile;
 use log::Log;
 use std::convert::AsStr;
 use std::io::Write;
 use std::net::Net;
+use std::random::RandomSource;
 use std::rt::Files;
 use std::sync::Wait;
 use std::thread::Threads;
 use std::time::Clock;
 
 /// Does what the words ask for.
-fn run<'a, R: Files + AllocGlobal + Threads + Wait + Clock + Net + Log + Sync, S: AsStr, W: Write>(
-    rt: &R,
-    words: &'a [S],
-    out: &mut W,
-) -> Result<(), Fault<'a>>
+fn run<
+    'a,
+    R: Files + AllocGlobal + Threads + Wait + Clock + Net + RandomSource + Log + Sync,
+    S: AsStr,
+    W: Write,
+>(rt: &R, words: &'a [S], out: &mut W) -> Result<(), Fault<'a>>
     ensures ok { OnOk result
         (IsAnswered (map S.text words.now) (W.contents out.old) (W.contents out.new)) }
     ensures err { IfErr result
@@ -54,14 +57,25 @@ fn run<'a, R: Files + AllocGlobal + Threads + Wait + Clock + Net + Log + Sync, S
             },
         ) => {
             let configuration = TextFile::read(rt, configuration)?;
-            serve_file(rt, &configuration, milliseconds)
+            serve_file(rt, &configuration, false, milliseconds)
         }
+        Some(
+            Command::ServeWithItsSeed {
+                configuration,
+                milliseconds,
+            },
+        ) => {
+            let configuration = TextFile::read(rt, configuration)?;
+            serve_file(rt, &configuration, true, milliseconds)
+        }
+        Some(Command::Help) => tell_usage(out),
+        Some(Command::Version) => tell_version(out),
     }
 }
 
 /// Does what the words ask for, and tells the fault that prevents it.
 fn answer<
-    R: Files + AllocGlobal + Threads + Wait + Clock + Net + Log + Sync,
+    R: Files + AllocGlobal + Threads + Wait + Clock + Net + RandomSource + Log + Sync,
     S: AsStr,
     W: Write,
     E: Write,
@@ -91,7 +105,7 @@ fn answer<
 /// for the lines of a simulation that lost events for want of memory. A server leaves it as it was, and of what its
 /// sockets take and give nothing is said; without a number of milliseconds it ends by a fault alone.
 pub fn command<
-    R: Files + AllocGlobal + Threads + Wait + Clock + Net + Log + Sync,
+    R: Files + AllocGlobal + Threads + Wait + Clock + Net + RandomSource + Log + Sync,
     S: AsStr,
     W: Write,
     E: Write,

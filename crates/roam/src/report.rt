@@ -1,12 +1,12 @@
 //! Why the program doesn't do what it is asked for: the text of each fault, and the status with which it ends.
 
-ghost use Rattle.std.specs.Prelude.{◌≡◌, ◌⊎◌, OnOk};
+ghost use Rattle.std.specs.Prelude.{◌≡◌, ◌⊎◌, Some, None, MatchOption, OnOk};
 ghost use Rattle.std.specs.Io.KnownBytes.{Appends};
 ghost use Rattle.roam.specs.Report as spec;
 
 use roam_conf::Endpoint;
 use roam_conf_reader::ConfFault;
-use roam_serve::ServeFault;
+use roam_serve::{Reason, ServeFault};
 use std::io;
 use std::io::{ErrorKind, Write};
 
@@ -36,13 +36,31 @@ pub enum Fault<'a> {
     },
     /// The output refused a write.
     Write,
-    /// A growth of memory was refused; or, for a server, a thread couldn't be started.
+    /// A growth of memory was refused.
     Memory,
+    /// A server can't read the clock at its start.
+    Clock,
+    /// A server can't draw a seed.
+    Seed,
     /// A server's socket can't be bound.
     Bind {
         /// The endpoint to which it can't be bound.
         endpoint: Endpoint,
+        /// The number of the system's error, or 0.
+        reason: u32,
     },
+    /// A server may not have as many descriptors as it wants.
+    Descriptors {
+        /// How many it wants.
+        wanted: u32,
+    },
+    /// The system gives a server nothing to wait with for its sockets.
+    Wait {
+        /// The number of the system's error, or 0.
+        reason: u32,
+    },
+    /// A server's thread can't be started.
+    Thread,
     /// A server gave up a socket, since a hundred receives in a row had failed.
     Receive,
     /// What a server stored of its steps didn't pass the audit.
@@ -75,6 +93,80 @@ fn name_of(fault: ConfFault) -> &'static str
     }
 }
 
+/// What the system says of the error of a number, if this is known here.
+fn words_of(reason: u32) -> Option<&'static str>
+    ensures { MatchOption result (spec.words_of reason ≡ None) (λ words. spec.words_of reason ≡ Some words.now) }
+{
+    match reason {
+        1 => Some("Operation not permitted"),
+        11 => Some("Resource temporarily unavailable"),
+        12 => Some("Cannot allocate memory"),
+        13 => Some("Permission denied"),
+        23 => Some("Too many open files in system"),
+        24 => Some("Too many open files"),
+        28 => Some("No space left on device"),
+        97 => Some("Address family not supported by protocol"),
+        98 => Some("Address already in use"),
+        99 => Some("Cannot assign requested address"),
+        105 => Some("No buffer space available"),
+        _ => None,
+    }
+}
+
+/// Prints the usage: a line for each command.
+///
+/// # Errors
+///
+/// The writer's.
+pub fn print_usage<W: Write>(writer: &mut W) -> io::Result<()>
+    ensures { OnOk result
+        (Appends (W.contents writer.old) (W.contents writer.new) spec.usage_text) }
+{
+    writer.write_all(
+        b"usage: roam check CONF\n       roam sim CONF SCRIPT\n       roam serve [--seed-of-file] CONF [MS]\n       roam help\n       roam version\n",
+    )
+}
+
+/// Prints which program this is, and the line of the toolchain that proved it.
+///
+/// # Errors
+///
+/// The writer's.
+pub fn print_version<W: Write>(writer: &mut W) -> io::Result<()>
+    ensures { OnOk result
+        (Appends (W.contents writer.old) (W.contents writer.new) spec.version_text) }
+{
+    writer.write_all(b"roam 1.0.0\nrattle-kit-13b logic dac8208d650f15bf\n")
+}
+
+/// Prints that a socket can't be bound to an endpoint, and why.
+fn print_bind<W: Write>(writer: &mut W, endpoint: Endpoint, reason: u32) -> io::Result<()>
+    ensures { OnOk result
+        (Appends (W.contents writer.old) (W.contents writer.new)
+        (spec.text_of (Fault.Bind endpoint reason))) }
+{
+    let [a, b, c, d] = endpoint.ip;
+    let port = endpoint.port;
+    match words_of(reason) {
+        Some(words) => writeln!(writer, "roam: cannot bind {a}.{b}.{c}.{d}:{port}: {words}"),
+        None => writeln!(
+            writer,
+            "roam: cannot bind {a}.{b}.{c}.{d}:{port}: error {reason}"
+        ),
+    }
+}
+
+/// Prints that there is nothing to wait with for sockets, and why.
+fn print_wait<W: Write>(writer: &mut W, reason: u32) -> io::Result<()>
+    ensures { OnOk result
+        (Appends (W.contents writer.old) (W.contents writer.new) (spec.text_of (Fault.Wait reason))) }
+{
+    match words_of(reason) {
+        Some(words) => writeln!(writer, "roam: cannot wait for sockets: {words}"),
+        None => writeln!(writer, "roam: cannot wait for sockets: error {reason}"),
+    }
+}
+
 impl<'a> Fault<'a> {
     /// The fault of a configuration that isn't read: it is refused, or memory is wanting.
     pub fn of_configuration(path: &'a str, fault: ConfFault) -> Fault<'a>
@@ -92,7 +184,12 @@ impl<'a> Fault<'a> {
         ensures { result ≡ spec.fault_of fault }
     {
         match fault {
-            ServeFault::Bind(endpoint) => Fault::Bind { endpoint },
+            ServeFault::Clock => Fault::Clock,
+            ServeFault::Seed => Fault::Seed,
+            ServeFault::Bind(endpoint, Reason(reason)) => Fault::Bind { endpoint, reason },
+            ServeFault::Descriptors(wanted) => Fault::Descriptors { wanted },
+            ServeFault::Wait(Reason(reason)) => Fault::Wait { reason },
+            ServeFault::Thread => Fault::Thread,
             ServeFault::Receive => Fault::Receive,
             ServeFault::Audit => Fault::Audit,
             ServeFault::Memory => Fault::Memory,
@@ -116,7 +213,7 @@ impl<'a> Fault<'a> {
     {
         match self {
             Fault::Usage => 2,
-            Fault::Memory => 3,
+            Fault::Memory | Fault::Wait { .. } | Fault::Thread => 3,
             Fault::Audit => 4,
             _ => 1,
         }
@@ -132,9 +229,7 @@ impl<'a> Fault<'a> {
             (Appends (W.contents writer.old) (W.contents writer.new) (spec.text_of self.entry)) }
     {
         match self {
-            Fault::Usage => writer.write_all(
-                b"usage: roam check CONF | roam sim CONF SCRIPT | roam serve CONF [MS]\n",
-            ),
+            Fault::Usage => print_usage(writer),
             Fault::Unreadable { path } => writeln!(writer, "roam: {path}: unreadable"),
             Fault::Refused { path, fault } => {
                 let name = name_of(fault);
@@ -143,11 +238,14 @@ impl<'a> Fault<'a> {
             Fault::FaultyLine { path, number } => writeln!(writer, "roam: {path}: line {number}"),
             Fault::Write => writer.write_all(b"roam: write failed\n"),
             Fault::Memory => writer.write_all(b"roam: out of memory\n"),
-            Fault::Bind { endpoint } => {
-                let [a, b, c, d] = endpoint.ip;
-                let port = endpoint.port;
-                writeln!(writer, "roam: cannot bind {a}.{b}.{c}.{d}:{port}")
+            Fault::Clock => writer.write_all(b"roam: no clock\n"),
+            Fault::Seed => writer.write_all(b"roam: no random seed\n"),
+            Fault::Bind { endpoint, reason } => print_bind(writer, endpoint, reason),
+            Fault::Descriptors { wanted } => {
+                writeln!(writer, "roam: too few file descriptors: {wanted} wanted")
             }
+            Fault::Wait { reason } => print_wait(writer, reason),
+            Fault::Thread => writer.write_all(b"roam: cannot start a thread\n"),
             Fault::Receive => writer.write_all(b"roam: receive failed\n"),
             Fault::Audit => writer.write_all(b"roam: audit failed\n"),
         }

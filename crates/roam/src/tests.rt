@@ -4,10 +4,11 @@ use crate::program::command;
 use crate::report::Fault;
 use log::Log;
 use roam_conf::Endpoint;
-use roam_serve::ServeFault;
+use roam_serve::{Reason, ServeFault};
 use std::io::{ErrorKind, Write};
 use std::net::Net;
 use std::process::Abort;
+use std::random::RandomSource;
 use std::rt::{Env, Files};
 use std::sync::Wait;
 use std::test::Fail;
@@ -15,7 +16,16 @@ use std::thread::Threads;
 use std::time::Clock;
 use std::{env, fs, io, process};
 
-const USAGE: &str = "usage: roam check CONF | roam sim CONF SCRIPT | roam serve CONF [MS]\n";
+const USAGE: &str = "usage: roam check CONF
+       roam sim CONF SCRIPT
+       roam serve [--seed-of-file] CONF [MS]
+       roam help
+       roam version
+";
+
+const VERSION: &str = "roam 1.0.0
+rattle-kit-13b logic dac8208d650f15bf
+";
 
 const CONFIGURATION: &str = "shards = 1
 seed = \"0000000000000000000000000000000000000000000000000000000000000000\"
@@ -165,13 +175,9 @@ fn file<R: Files + Env + AllocGlobal>(
 }
 
 /// The program ends so: with this status, after it printed this, and this fault.
-fn expect<R: Files + AllocGlobal + Threads + Wait + Clock + Net + Log + Sync + Abort>(
-    rt: &R,
-    words: &[&str],
-    status: u8,
-    printed: &str,
-    told: &str,
-) {
+fn expect<
+    R: Files + AllocGlobal + Threads + Wait + Clock + Net + RandomSource + Log + Sync + Abort,
+>(rt: &R, words: &[&str], status: u8, printed: &str, told: &str) {
     let mut out = Vec::new(rt.alloc());
     let mut err = Vec::new(rt.alloc());
     let ended = command(rt, words, &mut out, &mut err);
@@ -210,7 +216,18 @@ const NO_COMMANDS: &[&[&str]] = &[
     &["serve", "a", "5 "],
     &["serve", "a", "5ms"],
     &["serve", "a", "5", "5"],
-    &["--help"],
+    &["serve", "--seed-of-file"],
+    &["serve", "a", "--seed-of-file"],
+    &["serve", "--seed-of-file", "a", "0"],
+    &["serve", "--seed-of-file", "a", "5", "5"],
+    &["serve", "--seed-of-files", "a"],
+    &["check", "--seed-of-file", "a"],
+    &["sim", "--seed-of-file", "a", "b"],
+    &["help", "a"],
+    &["Help"],
+    &["-H"],
+    &["--version", "a"],
+    &["-v"],
     &["a", "b"],
     &["a", "b", "c"],
 ];
@@ -219,6 +236,16 @@ const NO_COMMANDS: &[&[&str]] = &[
 fn other_words_give_the_usage(rt: HostRuntime) {
     for words in NO_COMMANDS {
         expect(&rt, words, 2, "", USAGE);
+    }
+}
+
+#[test]
+fn usage_and_version_are_printed(rt: HostRuntime) {
+    for word in ["help", "--help", "-h"] {
+        expect(&rt, &[word], 0, USAGE, "");
+    }
+    for word in ["version", "--version", "-V"] {
+        expect(&rt, &[word], 0, VERSION, "");
     }
 }
 
@@ -291,12 +318,9 @@ fn a_configuration_is_refused_by_name(rt: HostRuntime) -> Result<(), Fail> {
 }
 
 /// A file can't be read, wherever its path stands. The script is read before the configuration is judged.
-fn expect_unreadable<R: Files + AllocGlobal + Threads + Wait + Clock + Net + Log + Sync + Abort>(
-    rt: &R,
-    accepted: &str,
-    refused: &str,
-    path: &str,
-) -> Result<(), Fail> {
+fn expect_unreadable<
+    R: Files + AllocGlobal + Threads + Wait + Clock + Net + RandomSource + Log + Sync + Abort,
+>(rt: &R, accepted: &str, refused: &str, path: &str) -> Result<(), Fail> {
     let told = format!(in rt.alloc(); "roam: {path}: unreadable\n")?;
     expect(rt, &["check", path], 1, "", told.as_str());
     expect(rt, &["serve", path], 1, "", told.as_str());
@@ -344,12 +368,9 @@ const FAULTY: &[(&str, &str)] = &[
 ];
 
 /// A script is refused for its fifth line, which follows an exchange.
-fn expect_faulty<R: Files + Env + AllocGlobal + Threads + Wait + Clock + Net + Log + Sync + Abort>(
-    rt: &R,
-    process: u32,
-    configuration: &str,
-    line: &str,
-) -> Result<(), Fail> {
+fn expect_faulty<
+    R: Files + Env + AllocGlobal + Threads + Wait + Clock + Net + RandomSource + Log + Sync + Abort,
+>(rt: &R, process: u32, configuration: &str, line: &str) -> Result<(), Fail> {
     let text = format!(in rt.alloc(); "{EXCHANGE}\n{line}\nT 0 0\n{line}\n")?;
     let script = file(rt, process, "faulty.script", text.as_bytes())?;
     let script = script.as_str();
@@ -400,11 +421,9 @@ fn a_script_is_run(rt: HostRuntime) -> Result<(), Fail> {
 }
 
 /// How much room the output has, and the status: where all that is printed has room, it is 0.
-fn expect_refused<R: Files + AllocGlobal + Threads + Wait + Clock + Net + Log + Sync + Abort>(
-    rt: &R,
-    words: &[&str],
-    printed: usize,
-) {
+fn expect_refused<
+    R: Files + AllocGlobal + Threads + Wait + Clock + Net + RandomSource + Log + Sync + Abort,
+>(rt: &R, words: &[&str], printed: usize) {
     let mut room = [0u8; 400];
     for size in 0..=printed.min(400) {
         let mut out = &mut room[..size];
@@ -450,7 +469,7 @@ fn a_refused_write_is_told(rt: HostRuntime) -> Result<(), Fail> {
 }
 
 /// The status where nothing can be told.
-fn status_untold<R: Files + AllocGlobal + Threads + Wait + Clock + Net + Log + Sync>(
+fn status_untold<R: Files + AllocGlobal + Threads + Wait + Clock + Net + RandomSource + Log + Sync>(
     rt: &R,
     words: &[&str],
 ) -> u8 {
@@ -469,16 +488,41 @@ fn a_fault_that_cannot_be_told_keeps_its_status(rt: HostRuntime) {
     assert!(rt; err.as_slice() == b"roam: out of memory\n".as_slice());
 }
 
+const AUTH: Endpoint = Endpoint {
+    ip: [127, 0, 0, 1],
+    port: 11812,
+};
+
 /// What ends a server before its time: the status, and what is told.
 const SERVER_FAULTS: &[(ServeFault, u8, &str)] = &[
+    (ServeFault::Clock, 1, "roam: no clock\n"),
+    (ServeFault::Seed, 1, "roam: no random seed\n"),
     (
-        ServeFault::Bind(Endpoint {
-            ip: [127, 0, 0, 1],
-            port: 11812,
-        }),
+        ServeFault::Bind(AUTH, Reason(98)),
         1,
-        "roam: cannot bind 127.0.0.1:11812\n",
+        "roam: cannot bind 127.0.0.1:11812: Address already in use\n",
     ),
+    (
+        ServeFault::Bind(AUTH, Reason(13)),
+        1,
+        "roam: cannot bind 127.0.0.1:11812: Permission denied\n",
+    ),
+    (
+        ServeFault::Bind(AUTH, Reason(4000)),
+        1,
+        "roam: cannot bind 127.0.0.1:11812: error 4000\n",
+    ),
+    (
+        ServeFault::Descriptors(2057),
+        1,
+        "roam: too few file descriptors: 2057 wanted\n",
+    ),
+    (
+        ServeFault::Wait(Reason(28)),
+        3,
+        "roam: cannot wait for sockets: No space left on device\n",
+    ),
+    (ServeFault::Thread, 3, "roam: cannot start a thread\n"),
     (ServeFault::Receive, 1, "roam: receive failed\n"),
     (ServeFault::Audit, 4, "roam: audit failed\n"),
     (ServeFault::Memory, 3, "roam: out of memory\n"),

@@ -4,14 +4,14 @@ use Rattle.std.proofs.lemmas.Bool.{cases_order}
 use Rattle.roam_trace.specs.Steps.{PlainStep}
 use Rattle.roam_audit.specs.declared.audit_fault.AuditFault.{AuditFault}
 use Rattle.roam_audit.specs.declared.audit_fault.AuditFault.TheVariants as fault
-use Rattle.roam_audit.specs.declared.tally.Tally.{Tally}
+use Rattle.roam_audit.specs.Seats.{SeatView}
 use Rattle.roam_audit.specs.Receipts.{PlainReceipt}
 use Rattle.roam_audit.specs.Audit.{AllAgree, IsInOrder, IsFirstUneven, AreOfFirstWrong}
 use Rattle.roam_audit.specs.Findings.{FindsUneven, FindsWrong, Audits}
 use Rattle.roam_audit.proofs.ReceiptLemmas.{one_wrong, none_wrong}
 
 -- there is one least shard with which the seats don't agree
-pub one_uneven : (steps : List (List PlainStep)) (seats : List (List Tally)) (shard other : ℕ)
+pub one_uneven : (steps : List (List PlainStep)) (seats : List SeatView) (shard other : ℕ)
     → IsFirstUneven steps seats shard
     → IsFirstUneven steps seats other
     → shard ≡ other
@@ -23,13 +23,13 @@ one_uneven steps seats shard other first also =
     ]
 
 -- where they agree with every shard there is none
-pub none_uneven : (steps : List (List PlainStep)) (seats : List (List Tally)) (shard : ℕ)
+pub none_uneven : (steps : List (List PlainStep)) (seats : List SeatView) (shard : ℕ)
     → AllAgree steps seats
     → ¬ IsFirstUneven steps seats shard
 none_uneven steps seats shard agree first = first.against (agree shard first.there)
 
 -- what an audit answers says which of the three holds, and each of them what it answers
-pub record Decides (steps : List (List PlainStep)) (seats : List (List Tally))
+pub record Decides (steps : List (List PlainStep)) (seats : List SeatView)
     (receipts : List PlainReceipt) (result : Result (Unit {0}) AuditFault) : Type 0 where
   pub ok : IsOk result ↔ IsInOrder steps seats receipts
   pub uneven : (shard : ℕ) → (result ≡ Err (fault.Seats shard)) ↔ IsFirstUneven steps seats shard
@@ -38,7 +38,7 @@ pub record Decides (steps : List (List PlainStep)) (seats : List (List Tally))
       ↔ AreOfFirstWrong steps seats receipts shard number
 
 -- so it is decided
-pub decided : (steps : List (List PlainStep)) (seats : List (List Tally))
+pub decided : (steps : List (List PlainStep)) (seats : List SeatView)
     (receipts : List PlainReceipt) (result : Result (Unit {0}) AuditFault)
     → Audits steps seats receipts result
     → Decides steps seats receipts result
@@ -84,7 +84,7 @@ decided steps seats receipts (Err (fault.Receipt its_shard its_number)) found = 
 }
 
 -- a fault of the seats is the audit's
-pub audits_seats : (steps : List (List PlainStep)) (seats : List (List Tally))
+pub audits_seats : (steps : List (List PlainStep)) (seats : List SeatView)
     (receipts : List PlainReceipt) (what : AuditFault)
     → FindsUneven steps seats (Err what)
     → Audits steps seats receipts (Err what)
@@ -92,7 +92,7 @@ audits_seats steps seats receipts (fault.Seats shard) first = first
 audits_seats steps seats receipts (fault.Receipt shard number) never = absurd never
 
 -- where the seats agree with every shard, what is found of the receipts is the audit's
-pub audits_receipts : (steps : List (List PlainStep)) (seats : List (List Tally))
+pub audits_receipts : (steps : List (List PlainStep)) (seats : List SeatView)
     (receipts : List PlainReceipt) (result : Result (Unit {0}) AuditFault)
     → AllAgree steps seats
     → FindsWrong steps receipts result

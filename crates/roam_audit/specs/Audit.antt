@@ -1,9 +1,10 @@
--- What an audit asks (ours): whether what was recorded, shard by shard, is what the callers have.
+-- What an audit asks (ours): whether what was recorded, shard by shard, is what the callers have. All steps
+-- count, those that were let go of too.
 use Rattle.std.specs.Prelude.{◌≡◌, ℕ, ◌+◌, ◌<◌, ◌==◌, ◌&&◌, Bool, List, [], length, take, sum_by, Some, slice_get, slice_index_or, false}
 use Rattle.std.specs.List.{All, AllPairs}
 use Rattle.roam_trace.specs.Steps.{PlainStep}
-use Rattle.roam_audit.specs.declared.tally.Tally.{Tally}
-use Rattle.roam_audit.specs.Seats.{tally_of}
+use Rattle.roam_history.specs.Entries.{Entry}
+use Rattle.roam_audit.specs.Seats.{SeatView, tally_of}
 use Rattle.roam_audit.specs.Receipts.{PlainReceipt}
 
 -- the steps of a shard: none of a shard that isn't there
@@ -11,18 +12,18 @@ abbrev pub steps_of : List (List PlainStep) → ℕ → List PlainStep
 steps_of steps shard = slice_index_or steps shard []
 
 -- how many calls of a shard the seats counted together
-abbrev pub calls_of : List (List Tally) → ℕ → ℕ
-calls_of seats shard = sum_by (λ seat. (tally_of seat shard).calls) seats
+abbrev pub calls_of : List SeatView → ℕ → ℕ
+calls_of seats shard = sum_by (λ seat. (tally_of seat.tallies shard).calls) seats
 
 -- the seats agree with a shard: they counted as many calls as it has steps, and none is marked
 -- there
-pub record Agrees (steps : List (List PlainStep)) (seats : List (List Tally)) (shard : ℕ)
+pub record Agrees (steps : List (List PlainStep)) (seats : List SeatView) (shard : ℕ)
     : Type 0 where
   pub calls : calls_of seats shard ≡ length (steps_of steps shard)
-  pub unmarked : All (λ seat. (tally_of seat shard).is_marked ≡ false) seats
+  pub unmarked : All (λ seat. (tally_of seat.tallies shard).is_marked ≡ false) seats
 
 -- the seats agree with every shard
-abbrev pub AllAgree : List (List PlainStep) → List (List Tally) → Type 0
+abbrev pub AllAgree : List (List PlainStep) → List SeatView → Type 0
 AllAgree steps seats = (shard : ℕ) → shard < length steps → Agrees steps seats shard
 
 -- a receipt stands in the steps: its shard has its step at its number
@@ -39,13 +40,13 @@ pub record AreRight (steps : List (List PlainStep)) (receipts : List PlainReceip
   pub apart : AllPairs (λ one other. are_of_one_call one other ≡ false) receipts
 
 -- all is as it must be
-pub record IsInOrder (steps : List (List PlainStep)) (seats : List (List Tally))
+pub record IsInOrder (steps : List (List PlainStep)) (seats : List SeatView)
     (receipts : List PlainReceipt) : Type 0 where
   pub agree : AllAgree steps seats
   pub right : AreRight steps receipts
 
 -- the least shard with which the seats don't agree
-pub record IsFirstUneven (steps : List (List PlainStep)) (seats : List (List Tally)) (shard : ℕ)
+pub record IsFirstUneven (steps : List (List PlainStep)) (seats : List SeatView) (shard : ℕ)
     : Type 0 where
   pub there : shard < length steps
   pub before : (lower : ℕ) → lower < shard → Agrees steps seats lower
@@ -62,10 +63,14 @@ pub record IsFirstWrong (steps : List (List PlainStep)) (receipts : List PlainRe
 
 -- the shard and the number of the first receipt that isn't right, where the seats agree with every
 -- shard
-pub record AreOfFirstWrong (steps : List (List PlainStep)) (seats : List (List Tally))
+pub record AreOfFirstWrong (steps : List (List PlainStep)) (seats : List SeatView)
     (receipts : List PlainReceipt) (shard number : ℕ) : Type 0 where
   pub agree : AllAgree steps seats
   pub receipt : PlainReceipt
   pub first : IsFirstWrong steps receipts receipt
   pub its_shard : receipt.shard ≡ shard
   pub its_number : receipt.number ≡ number
+
+-- what was seen of a history begins the whole
+abbrev pub Begins : List Entry → List Entry → Type 0
+Begins seen whole = take (length seen) whole ≡ seen

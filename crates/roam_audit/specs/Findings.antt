@@ -4,12 +4,12 @@ use Rattle.std.specs.List.{All}
 use Rattle.roam_trace.specs.Steps.{PlainStep}
 use Rattle.roam_audit.specs.declared.audit_fault.AuditFault.{AuditFault}
 use Rattle.roam_audit.specs.declared.audit_fault.AuditFault.TheVariants as fault
-use Rattle.roam_audit.specs.declared.tally.Tally.{Tally}
+use Rattle.roam_audit.specs.Seats.{SeatView}
 use Rattle.roam_audit.specs.Receipts.{PlainReceipt}
 use Rattle.roam_audit.specs.Audit.{AllAgree, Stands, are_of_one_call, AreRight, IsInOrder, IsFirstUneven, IsFirstWrong, AreOfFirstWrong}
 
 -- what is found of the seats
-abbrev pub FindsUneven : List (List PlainStep) → List (List Tally) → Result (Unit {0}) AuditFault
+abbrev pub FindsUneven : List (List PlainStep) → List SeatView → Result (Unit {0}) AuditFault
     → Type 0
 FindsUneven steps seats (Ok _) = AllAgree steps seats
 FindsUneven steps seats (Err (fault.Seats shard)) = IsFirstUneven steps seats shard
@@ -38,7 +38,7 @@ pub record IsRightAfter (steps : List (List PlainStep)) (before : List PlainRece
   pub alone : All (λ earlier. are_of_one_call earlier receipt ≡ false) before
 
 -- what the whole audit answers
-abbrev pub Audits : List (List PlainStep) → List (List Tally) → List PlainReceipt
+abbrev pub Audits : List (List PlainStep) → List SeatView → List PlainReceipt
     → Result (Unit {0}) AuditFault → Type 0
 Audits steps seats receipts (Ok _) = IsInOrder steps seats receipts
 Audits steps seats receipts (Err (fault.Seats shard)) = IsFirstUneven steps seats shard

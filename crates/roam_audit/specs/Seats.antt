@@ -1,18 +1,32 @@
 -- What a caller counts of its calls (ours).
-use Rattle.std.specs.Prelude.{ℕ, ◌+◌, ◌-◌, ◌^◌, ◌==◌, ◌||◌, min, nat_lt, false, List, replicate, slice_index_or, slice_set}
+use Rattle.std.specs.Prelude.{ℕ, ◌+◌, ◌-◌, ◌^◌, ◌==◌, ◌||◌, min, nat_lt, false, List, [], replicate, slice_index_or, slice_set}
+use Rattle.roam_history.specs.Entries.{Entry}
 use Rattle.roam_audit.specs.declared.tally.Tally.{Tally}
+
+-- a seat: what it counts, and what it has seen of the one history of each shard, by shard
+pub record SeatView : Type 0 where
+  pub tallies : List Tally
+  pub fronts : List (List Entry)
 
 -- nothing is counted
 abbrev pub no_calls : Tally
 no_calls = record { calls = 0; next = 0; is_marked = false }
 
--- a seat that counted no call, for so many shards
-abbrev pub new_seat : ℕ → List Tally
-new_seat shards = replicate shards no_calls
+-- no call is counted, for so many shards
+abbrev pub no_tallies : ℕ → List Tally
+no_tallies shards = replicate shards no_calls
 
--- what a seat counted of a shard
+-- a seat that counted no call and has seen nothing, for so many shards
+abbrev pub new_seat : ℕ → SeatView
+new_seat shards = record { tallies = no_tallies shards; fronts = replicate shards [] }
+
+-- what is counted of a shard
 abbrev pub tally_of : List Tally → ℕ → Tally
-tally_of seat shard = slice_index_or seat shard no_calls
+tally_of tallies shard = slice_index_or tallies shard no_calls
+
+-- what a seat has seen of a shard's history
+abbrev pub front_of : SeatView → ℕ → List Entry
+front_of seat shard = slice_index_or seat.fronts shard []
 
 -- a call was recorded under a number. It is counted, as far as 64 bits go. The number should be at
 -- least the one after the last: where it is below, or the count stood at its end, that is marked
@@ -23,6 +37,21 @@ tally_after old number = record {
   is_marked = old.is_marked || old.calls == 2 ^ 64 - 1 || nat_lt number old.next;
 }
 
--- a seat after a call that was recorded under a number of a shard: other shards' tallies stay
+-- the tallies after a call that was recorded under a number of a shard: other shards' stay
 abbrev pub noted : List Tally → ℕ → ℕ → List Tally
-noted seat shard number = slice_set seat shard (tally_after (tally_of seat shard) number)
+noted tallies shard number =
+    slice_set tallies shard (tally_after (tally_of tallies shard) number)
+
+-- a seat that has seen these entries of a shard: all else stays
+abbrev pub having_seen : SeatView → ℕ → List Entry → SeatView
+having_seen seat shard entries =
+    record { tallies = seat.tallies; fronts = slice_set seat.fronts shard entries }
+
+-- a seat after a call that was recorded under a number of a shard, and of whose history it has then seen
+-- these entries
+abbrev pub after_call : SeatView → ℕ → ℕ → List Entry → SeatView
+after_call seat shard number entries =
+    record {
+      tallies = noted seat.tallies shard number;
+      fronts = slice_set seat.fronts shard entries;
+    }

@@ -1,26 +1,41 @@
 -- What the code's receipts and reports are seen as.
-use Rattle.std.specs.Prelude.{List, map}
+use Rattle.std.specs.Prelude.{ℕ, List, [], map, slice_index_or}
 use Rattle.std.specs.declared.vec.Vec.{Vec}
 use Rattle.roam_core.specs.Shown.{shown_event}
 use Rattle.roam_trace.specs.Steps.{PlainStep, shown_answer}
+use Rattle.roam_history.specs.declared.opened.Opened.{Ghosts}
+use Rattle.roam_history.specs.Entries.{Entry, steps_in}
+use Rattle.roam_history.specs.Fronts.{FrontView}
 use Rattle.roam_audit.specs.Receipts.{PlainReceipt}
 use Rattle.roam_audit.specs.declared.receipt.Receipt.{Receipt}
 use Rattle.roam_audit.specs.declared.report.Report.{Report}
 
 -- the step of a receipt: its event and its answer
-abbrev pub shown_step : {A : Type 0} → Receipt A → PlainStep
+abbrev pub shown_step : {A N : Type 0} {g : Ghosts N} → Receipt A N g → PlainStep
 shown_step r = record { event = shown_event r.event; answer = shown_answer r.answer }
 
-abbrev pub shown_receipt : {A : Type 0} → Receipt A → PlainReceipt
+abbrev pub shown_receipt : {A N : Type 0} {g : Ghosts N} → Receipt A N g → PlainReceipt
 shown_receipt r = record { shard = r.shard; number = r.number; step = shown_step r }
 
-abbrev pub shown_receipts : {A : Type 0} → List (Receipt A) → List PlainReceipt
+abbrev pub shown_receipts : {A N : Type 0} {g : Ghosts N} → List (Receipt A N g) → List PlainReceipt
 shown_receipts receipts = map shown_receipt receipts
 
--- the steps of one shard
+-- the steps of one shard that are still stored
 abbrev pub items_of : {A : Type 0} → Vec PlainStep A → List PlainStep
 items_of steps = steps.items
 
--- what a report recorded: the steps of each shard
-abbrev pub recorded : {A : Type 0} → Report A → List (List PlainStep)
-recorded report = map items_of report.steps.items
+-- what a report still has of each shard
+abbrev pub stored : {A N : Type 0} {g : Ghosts N} → Report A N g → List (List PlainStep)
+stored report = map items_of report.steps.items
+
+-- all steps of a shard, those that were let go of too
+abbrev pub all_in : FrontView → List PlainStep
+all_in front = steps_in front.entries
+
+-- what was recorded of each shard: all its steps
+abbrev pub recorded : {A N : Type 0} {g : Ghosts N} → Report A N g → List (List PlainStep)
+recorded report = map all_in report.fronts.items
+
+-- the whole history of a shard
+abbrev pub whole_of : {A N : Type 0} {g : Ghosts N} → Report A N g → ℕ → List Entry
+whole_of report shard = slice_index_or (map (λ f. f.entries) report.fronts.items) shard []

@@ -1,45 +1,40 @@
 //! What was recorded of all shards, and its audit.
 
-ghost use Rattle.std.specs.Prelude.{◌<◌, ◌^◌, vec_len};
+ghost use Rattle.std.specs.Prelude.{◌≡◌, ◌<◌, ◌^◌, vec_len};
+ghost use Rattle.roam_history.specs.Fronts.{AreOfShards};
 
 use crate::audit_fault::AuditFault;
 use crate::receipt::Receipt;
 use crate::seat::Seat;
 use roam_book::Start;
+use roam_history::{Front, Opened};
 use roam_trace::Step;
 use std::alloc::Allocator;
 
 /// Report: what was recorded of all shards, once no caller is left.
 #[derive(Drop)]
-pub struct Report<A: Allocator> {
-    /// By shard, and in each the steps in the order in which they were recorded.
+pub struct Report<A: Allocator, N: Opened> {
+    /// By shard, and in each the steps that are still stored, in the order in which they were recorded.
     pub steps: Vec<Vec<Step<A>, A>, A>,
     /// By realm, where it begins the next time.
     pub starts: Vec<Start, A>,
-    ghost few_shards: { vec_len steps < 2 ^ 16 },
+    /// By shard, its whole history: the steps that were let go of, and the stored ones.
+    pub fronts: Vec<Front<N>, A>,
+    ghost few_shards: { vec_len fronts < 2 ^ 16 },
+    ghost all_shards: { vec_len fronts ≡ N.opening.config.shards },
+    ghost of_shards: { AreOfShards fronts.items },
 }
 
-impl<A: Allocator> Report<A> {
-    ghost use Rattle.std.specs.Prelude.{◌≡◌, ◌↔◌, ℕ, length, Err, IsOk, IsTrue};
-    ghost use Rattle.std.specs.List.{All};
+impl<A: Allocator, N: Opened> Report<A, N> {
+    ghost use Rattle.std.specs.Prelude.{◌≡◌, ◌↔◌, ℕ, Err, IsOk};
     ghost use Rattle.roam_audit.specs.Shown.{recorded, shown_receipts};
     ghost use Rattle.roam_audit.specs.Audit.{IsInOrder, IsFirstUneven, AreOfFirstWrong};
 
-    /// Whether each of these seats has as many shards as there are here, as an audit requires. Takes
-    /// no memory.
-    pub fn takes(&self, seats: &[Seat<A>]) -> bool
-        ensures { IsTrue result ↔ All (λ seat. length seat ≡ vec_len self.now.steps) seats.now }
-    {
-        let shards = self.steps.len();
-        seats.iter().all(|seat| seat.shards() == shards)
-    }
-
     /// Compares what was recorded with what the callers have. Takes no memory.
     ///
-    /// Each shard is looked at before any receipt. A receipt costs a comparison of its step and a
-    /// look at the receipts before it; without receipts no step is looked at.
-    pub fn audit(&self, seats: &[Seat<A>], receipts: &[Receipt<A>]) -> Result<(), AuditFault>
-        requires { All (λ seat. length seat ≡ vec_len self.now.steps) seats.now }
+    /// Each shard is looked at before any receipt. All steps count, those that were let go of too. A
+    /// receipt costs a comparison of its number and a look at the receipts before it.
+    pub fn audit(&self, seats: &[Seat<A, N>], receipts: &[Receipt<A, N>]) -> Result<(), AuditFault>
         ensures ok { IsOk result
             ↔ IsInOrder (recorded self.now) seats.now (shown_receipts receipts.now) }
         ensures seats { (shard : ℕ) → (result ≡ Err (AuditFault.Seats shard))

@@ -1,76 +1,109 @@
-//! What one caller counts of its calls.
+//! What one caller counts of its calls, and has seen of the shards' histories.
 
-ghost use Rattle.std.specs.Prelude.{◌≡◌, ◌<◌, ◌-◌, ◌^◌, length, IfOk, IfErr};
-ghost use Rattle.roam_audit.specs.Seats.{new_seat, noted, tally_of};
+ghost use Rattle.std.specs.Prelude.{◌≡◌, ◌<◌, ◌-◌, ◌^◌, [], length, map, vec_len, IfOk, IfErr};
+ghost use Rattle.roam_history.specs.Fronts.{AreOfShards, entries_of};
+ghost use Rattle.roam_audit.specs.Seats.{after_call, front_of, having_seen, no_tallies, noted, tally_of};
 
 use crate::tally::Tally;
+use roam_history::{Front, Opened};
 use roam_wire::NoMemory;
 use std::alloc::Allocator;
 use std::marker::Model;
 
-/// Seat: what one caller counts of its recorded calls, for each shard. Contracts see it as the list
-/// of its tallies, by shard.
+/// Seat: what one caller counts of its recorded calls, for each shard, and what it has seen of that
+/// shard's one history. Contracts see the list of its tallies and the entries that it has seen, by shard.
 #[derive(Drop)]
-pub struct Seat<A: Allocator> {
+pub struct Seat<A: Allocator, N: Opened> {
     tallies: Vec<Tally, A>,
+    fronts: Vec<Front<N>, A>,
 }
 
-impl<A: Allocator> Model for Seat<A> {
-    ghost use Rattle.std.specs.Prelude.{List};
-    ghost use Rattle.roam_audit.specs.declared.tally.Tally.{Tally};
+impl<A: Allocator, N: Opened> Model for Seat<A, N> {
+    ghost use Rattle.std.specs.Prelude.{◌≡◌, length};
+    ghost use Rattle.roam_history.specs.Fronts.{AreOfShards, entries_of};
+    ghost use Rattle.roam_audit.specs.Seats.{SeatView};
 
-    ghost Value = { List Tally };
+    ghost Value = { SeatView };
 
-    ghost view = { λ s. s.tallies.items };
+    ghost view = { λ s. record { tallies = s.tallies.items; fronts = entries_of s.fronts.items } };
+
+    ghost invariant = { λ s. (length s.tallies.items ≡ N.opening.config.shards)
+        × (length s.fronts.items ≡ N.opening.config.shards)
+        × AreOfShards s.fronts.items };
 }
 
-impl<A: Allocator> Seat<A> {
-    /// How many shards it has.
-    pub fn shards(&self) -> usize
-        ensures { result ≡ length self.now }
-    {
-        self.tallies.len()
-    }
-
+impl<A: Allocator, N: Opened> Seat<A, N> {
     /// What is counted, by shard.
     pub fn tallies(&self) -> &[Tally]
-        ensures { result.now ≡ self.now }
+        ensures tallies { result.now ≡ self.now.tallies }
+        ensures shards { length result.now ≡ N.opening.config.shards }
     {
         self.tallies.as_slice()
     }
 
+    /// What it has seen of a shard's history.
+    pub fn front(&self, shard: u16) -> &Front<N>
+        requires { shard < N.opening.config.shards }
+        ensures shard { result.now.shard ≡ shard }
+        ensures there { shard < length self.now.fronts }
+        ensures entries { result.now.entries ≡ front_of self.now shard }
+    {
+        &self.fronts[usize::from(shard)]
+    }
+
     /// How many calls of a shard it counted.
     pub(crate) fn calls(&self, shard: usize) -> u64
-        requires { shard < length self.now }
-        ensures { result ≡ (tally_of self.now shard).calls }
+        requires { shard < N.opening.config.shards }
+        ensures { result ≡ (tally_of self.now.tallies shard).calls }
     {
         self.tallies[shard].calls
     }
 
     /// Whether it is marked at a shard.
     pub(crate) fn is_marked(&self, shard: usize) -> bool
-        requires { shard < length self.now }
-        ensures { result ≡ (tally_of self.now shard).is_marked }
+        requires { shard < N.opening.config.shards }
+        ensures { result ≡ (tally_of self.now.tallies shard).is_marked }
     {
         self.tallies[shard].is_marked
     }
 
-    /// Counts a call that was recorded under this number of the shard. Takes no memory.
-    pub fn note(&mut self, shard: u16, number: u64)
-        requires shard { shard < length self.old }
-        requires number { number < 2 ^ 64 - 1 }
-        ensures { self.new ≡ noted self.old shard number }
+    /// Has then seen this front of a shard's history. Takes no memory.
+    pub fn learn(&mut self, front: Front<N>)
+        requires { front.shard < N.opening.config.shards }
+        ensures { self.new ≡ having_seen self.old front.shard front.entries }
     {
-        let tally = &mut self.tallies[usize::from(shard)];
-        tally.is_marked = tally.is_marked || tally.calls == u64::MAX || number < tally.next;
-        tally.calls = tally.calls.saturating_add(1);
-        tally.next = number + 1;
+        let shard = usize::from(front.shard());
+        self.fronts[shard] = front;
+    }
+
+    /// Counts a call that was recorded under this number of a shard, and has then seen this front of its
+    /// history. Takes no memory.
+    pub fn note(&mut self, number: u64, front: Front<N>)
+        requires shard { front.shard < N.opening.config.shards }
+        requires number { number < 2 ^ 64 - 1 }
+        ensures { self.new ≡ after_call self.old front.shard number front.entries }
+    {
+        count(&mut self.tallies, front.shard(), number);
+        self.learn(front);
     }
 }
 
-/// A seat that counted no call, for so many shards.
-fn unused<A: Allocator>(alloc: A, shards: usize) -> Result<Seat<A>, NoMemory>
-    ensures { IfOk result (λ s. s ≡ new_seat shards) }
+/// Counts a call that was recorded under this number of a shard.
+fn count<A: Allocator>(tallies: &mut Vec<Tally, A>, shard: u16, number: u64)
+    requires shard { shard < length tallies.old.items }
+    requires number { number < 2 ^ 64 - 1 }
+    ensures items { tallies.new.items ≡ noted tallies.old.items shard number }
+    ensures len { vec_len tallies.new ≡ vec_len tallies.old }
+{
+    let tally = &mut tallies[usize::from(shard)];
+    tally.is_marked = tally.is_marked || tally.calls == u64::MAX || number < tally.next;
+    tally.calls = tally.calls.saturating_add(1);
+    tally.next = number + 1;
+}
+
+/// Tallies that count no call, for so many shards.
+fn no_tallies<A: Allocator>(alloc: A, shards: usize) -> Result<Vec<Tally, A>, NoMemory>
+    ensures { IfOk result (λ v. v.items ≡ no_tallies shards) }
 {
     let no_calls = Tally {
         calls: 0,
@@ -78,26 +111,53 @@ fn unused<A: Allocator>(alloc: A, shards: usize) -> Result<Seat<A>, NoMemory>
         is_marked: false,
     };
     let tallies = vec![in alloc; no_calls; shards]?;
-    Ok(Seat { tallies })
+    Ok(tallies)
 }
 
-impl<A: Allocator + Copy> Seat<A> {
-    /// A seat that counted no call, for so many shards.
-    pub fn new(alloc: A, shards: u16) -> Result<Seat<A>, NoMemory>
-        ensures { IfOk result (λ s. s ≡ new_seat shards) }
+/// Equal fronts.
+fn copies<A: Allocator, N: Opened>(
+    alloc: A,
+    fronts: &[Front<N>],
+) -> Result<Vec<Front<N>, A>, NoMemory>
+    ensures { IfOk result (λ v. v.items ≡ fronts.now) }
+{
+    let mut copies = Vec::with_capacity(alloc, fronts.len())?;
+    for front in fronts {
+        copies.push(front.again())?;
+    }
+    Ok(copies)
+}
+
+impl<A: Allocator, N: Opened> Seat<A, N> {
+    /// A seat that counted no call, and has seen these fronts, one for each shard.
+    pub fn new(alloc: A, fronts: Vec<Front<N>, A>) -> Result<Seat<A, N>, NoMemory>
+        requires count { vec_len fronts ≡ N.opening.config.shards }
+        requires shards { AreOfShards fronts.items }
+        ensures { IfOk result (λ s. s ≡ record {
+          tallies = no_tallies N.opening.config.shards;
+          fronts = entries_of fronts.items;
+        }) }
     {
-        unused(alloc, usize::from(shards))
+        let tallies = no_tallies(alloc, fronts.len())?;
+        Ok(Seat { tallies, fronts })
     }
 }
 
-/// The seat as it was, and another one for as many shards, that counted no call. Where memory is
-/// wanted the seat comes back as it was.
-pub fn split<A: Allocator + Copy>(seat: Seat<A>) -> Result<(Seat<A>, Seat<A>), (Seat<A>, NoMemory)>
+/// The seat as it was, and another one that has seen as much, and counted no call. Where memory is wanted
+/// the seat comes back as it was.
+pub fn split<A: Allocator + Copy, N: Opened>(
+    seat: Seat<A, N>,
+) -> Result<(Seat<A, N>, Seat<A, N>), (Seat<A, N>, NoMemory)>
     ensures same { IfOk result (λ seats. seats.0 ≡ seat) }
-    ensures new { IfOk result (λ seats. seats.1 ≡ new_seat (length seat)) }
+    ensures new { IfOk result (λ seats. seats.1.tallies ≡ no_tallies N.opening.config.shards) }
+    ensures seen { IfOk result (λ seats. seats.1.fronts ≡ seat.fronts) }
     ensures err { IfErr result (λ e. e.0 ≡ seat) }
 {
-    match unused(*seat.tallies.allocator(), seat.tallies.len()) {
+    let alloc = *seat.tallies.allocator();
+    let Ok(fronts) = copies(alloc, seat.fronts.as_slice()) else {
+        return Err((seat, NoMemory));
+    };
+    match Seat::new(alloc, fronts) {
         Ok(new) => Ok((seat, new)),
         Err(refused) => Err((seat, refused)),
     }

@@ -10,11 +10,12 @@ ghost use Rattle.roam_audit.specs.Findings.{FindsUneven};
 use crate::audit_fault::AuditFault;
 use crate::report::Report;
 use crate::seat::Seat;
+use roam_history::Opened;
 use std::alloc::Allocator;
 
 /// How many calls of a shard the seats counted together.
-fn calls_of<A: Allocator>(seats: &[Seat<A>], shard: usize) -> u128
-    requires { All (λ seat. shard < length seat) seats.now }
+fn calls_of<A: Allocator, N: Opened>(seats: &[Seat<A, N>], shard: usize) -> u128
+    requires { shard < N.opening.config.shards }
     ensures { result ≡ calls_of seats.now shard }
 {
     let mut calls = 0;
@@ -25,37 +26,35 @@ fn calls_of<A: Allocator>(seats: &[Seat<A>], shard: usize) -> u128
 }
 
 /// Whether no seat is marked at a shard.
-fn are_unmarked<A: Allocator>(seats: &[Seat<A>], shard: usize) -> bool
-    requires { All (λ seat. shard < length seat) seats.now }
-    ensures { IsTrue result ↔ All (λ seat. (tally_of seat shard).is_marked ≡ false) seats.now }
+fn are_unmarked<A: Allocator, N: Opened>(seats: &[Seat<A, N>], shard: usize) -> bool
+    requires { shard < N.opening.config.shards }
+    ensures { IsTrue result ↔ All (λ seat. (tally_of seat.tallies shard).is_marked ≡ false) seats.now }
 {
     seats.iter().all(|seat| !seat.is_marked(shard))
 }
 
-impl<A: Allocator> Report<A> {
-    /// How many steps a shard has.
-    fn steps_at(&self, shard: usize) -> usize
-        requires { shard < vec_len self.now.steps }
+impl<A: Allocator, N: Opened> Report<A, N> {
+    /// How many steps a shard has: those that were let go of, and the stored ones.
+    fn steps_at(&self, shard: usize) -> u64
+        requires { shard < vec_len self.now.fronts }
         ensures { result ≡ length (steps_of (recorded self.now) shard) }
     {
-        self.steps[shard].len()
+        self.fronts[shard].len()
     }
 
     /// Whether the seats agree with a shard.
-    fn agrees(&self, seats: &[Seat<A>], shard: usize) -> bool
-        requires shard { shard < vec_len self.now.steps }
-        requires seats { All (λ seat. length seat ≡ vec_len self.now.steps) seats.now }
+    fn agrees(&self, seats: &[Seat<A, N>], shard: usize) -> bool
+        requires { shard < vec_len self.now.fronts }
         ensures { IsTrue result ↔ Agrees (recorded self.now) seats.now shard }
     {
-        calls_of(seats, shard) == self.steps_at(shard) as u128 && are_unmarked(seats, shard)
+        calls_of(seats, shard) == u128::from(self.steps_at(shard)) && are_unmarked(seats, shard)
     }
 
     /// Compares the seats with each shard in turn.
-    pub(crate) fn check_seats(&self, seats: &[Seat<A>]) -> Result<(), AuditFault>
-        requires { All (λ seat. length seat ≡ vec_len self.now.steps) seats.now }
+    pub(crate) fn check_seats(&self, seats: &[Seat<A, N>]) -> Result<(), AuditFault>
         ensures { FindsUneven (recorded self.now) seats.now result }
     {
-        for shard in 0..self.steps.len() {
+        for shard in 0..self.fronts.len() {
             if !self.agrees(seats, shard) {
                 return Err(AuditFault::Seats {
                     shard: shard as u16,

@@ -8,7 +8,7 @@ use roam_hub::{Hub, HubFault, Opened, Receipt, Report, Seat};
 use std::alloc::Global;
 
 /// Closes a hub. The report says where the realms begin the next time.
-pub(crate) fn close<N: Opened>(hub: Hub<'_, Global, N>) -> Result<Report<Global>, Fault>
+pub(crate) fn close<N: Opened>(hub: Hub<'_, Global, N>) -> Result<Report<Global, N>, Fault>
     ensures { IfOk result (λ r. AreStarts N.opening.config r.starts.items) }
 {
     match hub.close() {
@@ -21,24 +21,24 @@ pub(crate) fn close<N: Opened>(hub: Hub<'_, Global, N>) -> Result<Report<Global>
 /// Closes a hub, and audits it by the seats of all its callers and the receipts that they kept.
 pub(crate) fn close_and_audit<N: Opened>(
     hub: Hub<'_, Global, N>,
-    seats: &[Seat<Global>],
-    receipts: &[Receipt<Global>],
-) -> Result<Report<Global>, Fault>
+    seats: &[Seat<Global, N>],
+    receipts: &[Receipt<Global, N>],
+) -> Result<Report<Global, N>, Fault>
     ensures { IfOk result (λ r. AreStarts N.opening.config r.starts.items) }
 {
     let report = close(hub)?;
-    if report.takes(seats) && report.audit(seats, receipts).is_ok() {
+    if report.audit(seats, receipts).is_ok() {
         Ok(report)
     } else {
         Err(Fault::Audit)
     }
 }
 
-/// How many steps a hub kept.
-pub(crate) fn count_steps(report: &Report<Global>) -> u64 {
+/// How many steps a hub recorded.
+pub(crate) fn count_steps<N: Opened>(report: &Report<Global, N>) -> u64 {
     let mut count = 0u64;
-    for steps in report.steps.iter() {
-        count = count.saturating_add(steps.len() as u64);
+    for front in report.fronts.iter() {
+        count = count.saturating_add(front.len());
     }
     count
 }

@@ -13,9 +13,10 @@ mod values;
 mod wellmade;
 mod world;
 
-ghost use Rattle.std.specs.Prelude.{◌≡◌, IfOk, length};
+ghost use Rattle.std.specs.Prelude.{◌≡◌, IfOk};
 ghost use Rattle.roam_conf.specs.Shown.{shown};
 ghost use Rattle.roam_shard.specs.ShardView.{AreStarts};
+ghost use Rattle.roam_history.specs.Books.{books_of, count_of};
 
 use crate::ended::{close_and_audit, count_steps};
 use crate::fault::Fault;
@@ -26,7 +27,7 @@ use crate::mutated::tally::{Sort, Tally};
 use crate::mutated::world::{config, starts};
 use roam_book::Start;
 use roam_conf::Config;
-use roam_hub::{Hub, Opened, Seat};
+use roam_hub::{Blanks, Hub, Opened};
 use std::alloc::Global;
 use std::marker::Brand;
 use std::sync::Wait;
@@ -130,12 +131,15 @@ impl Trial {
         rt: &R,
         config: &Config,
         starts: &[Start],
+        blanks: Blanks<Global>,
     ) -> Result<Vec<Start>, Fault>
         requires opening { N.opening ≡ record { config = shown config.now; starts = starts.now } }
+        requires books { N.books ≡ books_of blanks }
+        requires blanks { count_of blanks ≡ config.now.shards }
         requires starts { AreStarts (shown config.now) starts.now }
         ensures { IfOk result (λ starts. AreStarts (shown config.now) starts.items) }
     {
-        let (hub, seat) = Hub::<'_, Global, N>::open(self.alloc, config, starts)?;
+        let (hub, seat) = Hub::<'_, Global, N>::open(self.alloc, config, starts, blanks)?;
         let mut desk = Desk::new(self.alloc, config, &hub, seat);
         self.source.begin_epoch();
         self.give_until_full(rt, &mut desk)?;
@@ -156,7 +160,8 @@ impl Trial {
             if self.left == 0 {
                 break;
             }
-            next = self.epoch::<Brand, R>(rt, config, next.as_slice())?;
+            let blanks = Blanks::new(self.alloc, config.shards)?;
+            next = self.epoch::<Brand, R>(rt, config, next.as_slice(), blanks)?;
         }
         Ok(())
     }

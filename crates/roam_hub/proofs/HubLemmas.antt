@@ -14,13 +14,16 @@ use Rattle.roam_core.specs.Isolation.{packets_for}
 use Rattle.roam_core.specs.ManyRealms.{AllRealms, answer_to, answers_to, packets_in_turn, state_at}
 use Rattle.roam_core.specs.Openings.{one_realm_packets, openings, start_of}
 use Rattle.roam_core.proofs.IsolationLemmas.{isolated_from_start}
+use Rattle.roam_core.proofs.ProvenanceLemmas.{has_provenance}
 use Rattle.roam_shard.specs.ShardView.{AreStarts, IsStart, OpeningView, ShardView}
 use Rattle.roam_trace.specs.History.{AreSteps, IsHistory, end_of, states_next}
 use Rattle.roam_trace.specs.Steps.{PlainAnswer, PlainStep}
 use Rattle.roam_audit.specs.Audit.{steps_of}
 use Rattle.roam_hub.specs.Closing.{AreClosed, IsClosed}
-use Rattle.roam_hub.specs.HubOpening.{AreHistories, HubOpening, IsOfHub, opening_at, start_at_end, starts_at_end, starts_from, state_at_end}
-use Rattle.roam_hub.specs.InHistories.{RealmsInHistories, events_in, packets_in}
+use Rattle.roam_history.specs.Fronts.{AreOfShards, FrontView}
+use Rattle.roam_history.specs.HubOpening.{HubOpening, opening_at}
+use Rattle.roam_hub.specs.Histories.{AreHistories, start_at_end, starts_at_end, starts_from, state_at_end}
+use Rattle.roam_hub.specs.InHistories.{ProvenanceInHistories, RealmsInHistories, events_in, packets_in}
 
 -- what was sent in some steps is what the written broker answers to their events
 sent_in : (config : ConfigView) (shard : ℕ) (states : List RealmState) (steps : List PlainStep) → AreSteps config shard states steps → packets_in steps ≡ (answers_to config states (events_in steps)).packets
@@ -35,9 +38,9 @@ realms_in_histories o steps realm some within history =
     ap (λ (l : List PlainOut). packets_for realm l) (sent_in o.config o.shard (openings o.config o.starts) steps history)
     ∙ isolated_from_start o.config o.starts (events_in steps) some realm within
 
--- the opening of a trace of a hub
-pub its_opening : (o : HubOpening) (p : OpeningView) (shard : ℕ) → p.shard ≡ shard → p.config ≡ o.config → p.starts ≡ o.starts → p ≡ opening_at o shard
-its_opening o p shard one two three = λ j. record { shard = one j; config = two j; starts = three j }
+pub provenance_in_histories : ProvenanceInHistories
+provenance_in_histories o steps some history =
+    has_provenance o.config o.starts (events_in steps) (packets_in steps) (λ realm within. realms_in_histories o steps realm some within history)
 
 -- one shard more that was taken apart
 get-push : {X : Type 0} (xs : List X) (x y : X) (k : ℕ) → slice_get (xs ++ x ∷ []) k ≡ Some y → ((k ≡ length xs) × (x ≡ y)) ⊎ ((k < length xs) × (slice_get xs k ≡ Some y))
@@ -48,6 +51,16 @@ get-push (z ∷ zs) x y (suc k) at = elim (get-push zs x y k at) as (λ _. ((suc
   | inl last ↦ inl (ap suc last.0, last.1)
   | inr there ↦ inr ((let lt = there.0 in omega (arith, lt)), there.1)
 ]
+
+-- one front more
+pub push_shards : (fs : List FrontView) (f : FrontView) → AreOfShards fs → f.shard ≡ length fs → AreOfShards (fs ++ f ∷ [])
+push_shards fs f are is k g at = elim (get-push fs f g k at) as (λ _. g.shard ≡ k) [
+  | inl last ↦ ap (λ (h : FrontView). h.shard) (sym last.1) ∙ (is ∙ sym last.0)
+  | inr there ↦ are k g there.1
+]
+
+pub no_shards : AreOfShards []
+no_shards k g at = absurd (let bad : None ≡ Some g = at in cc)
 
 pub none_closed : (o : HubOpening) → AreClosed o 0 [] []
 none_closed o = record { shard_count = refl; step_count = refl; each = λ k s ss at. absurd (let bad : None ≡ Some s = at in cc) }

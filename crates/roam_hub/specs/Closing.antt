@@ -4,11 +4,16 @@ use Rattle.std.specs.declared.vec.Vec.{Vec}
 use Rattle.roam_shard.specs.ShardView.{ShardView}
 use Rattle.roam_trace.specs.History.{IsHistory, end_of}
 use Rattle.roam_trace.specs.Steps.{PlainStep}
-use Rattle.roam_audit.specs.Shown.{items_of}
-use Rattle.roam_hub.specs.HubOpening.{HubOpening, opening_at}
+use Rattle.roam_history.specs.Fronts.{FrontView}
+use Rattle.roam_history.specs.HubOpening.{HubOpening, opening_at}
+use Rattle.roam_audit.specs.Shown.{all_in, items_of}
 
-abbrev pub all_steps : {A : Type 0} → List (Vec PlainStep A) → List (List PlainStep)
-all_steps steps = map items_of steps
+-- the steps of each shard that are still stored, and all of them
+abbrev pub stored_steps : {A : Type 0} → List (Vec PlainStep A) → List (List PlainStep)
+stored_steps steps = map items_of steps
+
+abbrev pub all_steps : List FrontView → List (List PlainStep)
+all_steps fronts = map all_in fronts
 
 -- a shard that was cut from its steps: it stands where they end
 pub record IsClosed (o : HubOpening) (number : ℕ) (s : ShardView) (steps : List PlainStep) : Type 0 where

@@ -1,11 +1,13 @@
 -- Each realm in its shard's history (ours): the packets that were sent for it there are those that its
--- own written broker sends for its own events.
+-- own written broker sends for its own events, and each of them has its origin there. A history is a whole
+-- one: of the steps that were let go of, too.
 use Rattle.std.specs.Prelude.{◌≡◌, ℕ, ◌<◌, ◌≤◌, List, [], ◌∷◌, ◌++◌, length, map}
 use Rattle.roam_route.specs.Admission.{PlainOut}
 use Rattle.roam_book.specs.RealmConfig.{realm_config}
 use Rattle.roam_core.specs.Events.{PlainEvent, events_of_realm}
 use Rattle.roam_core.specs.Isolation.{packets_for}
 use Rattle.roam_core.specs.Openings.{one_realm_packets, start_of}
+use Rattle.roam_core.specs.Provenance.{HasProvenance}
 use Rattle.roam_shard.specs.ShardView.{OpeningView}
 use Rattle.roam_trace.specs.History.{IsHistory}
 use Rattle.roam_trace.specs.Steps.{PlainStep}
@@ -25,3 +27,11 @@ RealmsInHistories =
     → packets_for realm (packets_in steps)
     ≡ one_realm_packets (realm_config o.config realm) (start_of o.starts realm)
     (events_of_realm o.config realm (events_in steps))
+
+-- each packet that was sent for a realm is the forwarded one of a request of the realm's own events there,
+-- the returned one of a reply that was taken for such a packet, or the NAK of a reverse request
+abbrev pub ProvenanceInHistories : Type 0
+ProvenanceInHistories =
+    (o : OpeningView) (steps : List PlainStep)
+    → 1 ≤ o.config.shards → IsHistory o steps
+    → HasProvenance o.config o.starts (events_in steps) (packets_in steps)

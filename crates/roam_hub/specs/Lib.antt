@@ -1,4 +1,6 @@
-pub mod HubOpening
+pub mod Histories
 pub mod InHistories
+pub mod Calls
+pub mod Keeping
 pub mod Closing
 pub mod Faults

@@ -5,14 +5,15 @@ use roam_wire::NoMemory;
 use std::{error, fmt};
 
 /// Why a call of a hub isn't recorded: nothing changes then. They are looked at in this order, but for
-/// `NoMemory`, which comes wherever a growth was refused.
+/// `NoMemory`, which comes wherever a growth was refused, and where a history has 2^64 - 1 entries.
 #[derive(Clone, Copy, Debug, PartialEq, Eq)]
 pub enum HubFault {
     /// A tick names no shard (refusal 20).
     NoShard,
-    /// The lock holds another shard's trace (refusal 23).
+    /// The lock holds another shard's trace, or one that doesn't go on from what the seat has seen
+    /// (refusal 23).
     Misplaced,
-    /// The trace holds as many steps as its limit (refusal 22).
+    /// As many steps of the shard are stored as its trace can hold (refusal 22).
     TraceFull,
     /// A growth was refused (refusal 21).
     NoMemory,

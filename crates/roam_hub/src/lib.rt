@@ -5,18 +5,20 @@
 //! clock: events, moments and packets are values.
 #![tactic(auto)]
 
+mod answered;
 mod closing;
 mod fault;
 mod gate;
 mod hub;
 mod kept;
 mod laws;
-mod opened;
+mod opening;
 
+pub use answered::{Answered, Refused};
 pub use fault::HubFault;
 pub use gate::{Gate, Open};
 pub use hub::Hub;
-pub use laws::realms_in_histories;
-pub use opened::Opened;
-pub use roam_audit::{AuditFault, Receipt, Report, Seat, split};
+pub use laws::{provenance_in_histories, realms_in_histories};
+pub use roam_audit::{AuditFault, Audited, Receipt, Report, Seat, split};
+pub use roam_history::{Blanks, Front, Opened};
 pub use roam_ring::{Intake, Outlet, ring};

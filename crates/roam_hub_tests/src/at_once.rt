@@ -4,11 +4,12 @@
 ghost use Rattle.std.specs.Prelude.{◌≡◌};
 ghost use Rattle.roam_conf.specs.Shown.{shown};
 ghost use Rattle.roam_shard.specs.ShardView.{AreStarts};
+ghost use Rattle.roam_history.specs.Books.{books_of, count_of};
 
 use crate::caller::{Caller, OTHER_REQUEST_7, REQUEST_7};
 use roam_book::Start;
 use roam_conf::Config;
-use roam_hub::{Gate, Hub, Opened, Receipt, Report, Seat, split};
+use roam_hub::{Blanks, Gate, Hub, Opened, Receipt, Report, Seat, split};
 use std::alloc::Global;
 use std::process::Abort;
 use std::sync::Wait;
@@ -90,9 +91,9 @@ impl<R: Clock> Gate for Held<'_, '_, R> {
 
 /// What a caller has of a hub that it called once.
 #[derive(Drop)]
-struct Called {
-    receipt: Receipt<Global>,
-    seat: Seat<Global>,
+struct Called<N: Opened> {
+    receipt: Receipt<Global, N>,
+    seat: Seat<Global, N>,
 }
 
 /// A caller in a thread of its own submits its job.
@@ -100,7 +101,7 @@ fn submit_as<R: Abort + Wait, N: Opened, G: Gate>(
     rt: &R,
     mut caller: Caller<'_, '_, Global, N>,
     gate: &G,
-) -> Called {
+) -> Called<N> {
     let receipt = caller.submit(rt, gate).expect(rt, "a receipt");
     let seat = caller.into_seat();
     Called { receipt, seat }
@@ -112,7 +113,7 @@ fn submit_meanwhile<R: Abort + Wait + Clock, N: Opened, G: Gate>(
     caller: Caller<'_, '_, Global, N>,
     gate: &G,
     meeting: &Meeting,
-) -> Called {
+) -> Called<N> {
     meeting.wait_for(rt, INSIDE, TURNS);
     let called = submit_as(rt, caller, gate);
     meeting.go_on(ANSWERED);
@@ -122,10 +123,10 @@ fn submit_meanwhile<R: Abort + Wait + Clock, N: Opened, G: Gate>(
 /// What two callers have of one hub, what it has at its end, the last stage, and the shards that the
 /// gate was told, each one more than its number, added up.
 #[derive(Drop)]
-pub(crate) struct Ended {
-    pub(crate) receipts: [Receipt<Global>; 2],
-    pub(crate) seats: [Seat<Global>; 2],
-    pub(crate) report: Report<Global>,
+pub(crate) struct Ended<N: Opened> {
+    pub(crate) receipts: [Receipt<Global, N>; 2],
+    pub(crate) seats: [Seat<Global, N>; 2],
+    pub(crate) report: Report<Global, N>,
     pub(crate) stage: Stage,
     pub(crate) shards: u64,
 }
@@ -146,13 +147,16 @@ pub(crate) fn called_at_once<N: Opened + Send + Sync, R: Abort + Threads + Wait 
     alloc: Global,
     config: &Config,
     starts: &[Start],
+    blanks: Blanks<Global>,
     realm: u16,
     turns: u64,
-) -> Ended
+) -> Ended<N>
     requires opening { N.opening ≡ record { config = shown config.now; starts = starts.now } }
+    requires books { N.books ≡ books_of blanks }
+    requires blanks { count_of blanks ≡ config.now.shards }
     requires starts { AreStarts (shown config.now) starts.now }
 {
-    let (hub, seat) = Hub::<Global, N>::open(alloc, config, starts).expect(rt, "a hub");
+    let (hub, seat) = Hub::<Global, N>::open(alloc, config, starts, blanks).expect(rt, "a hub");
     let Ok((first, second)) = split(seat) else {
         panic!(rt; "no second seat");
     };

@@ -1,12 +1,13 @@
 //! A caller of a hub.
 
-ghost use Rattle.std.specs.Prelude.{◌≡◌, length};
+ghost use Rattle.std.specs.Prelude.{◌≡◌};
 ghost use Rattle.roam_conf.specs.Shown.{shown};
 ghost use Rattle.roam_route.specs.Events.{IsEvent};
 ghost use Rattle.roam_route.specs.Shown.{shown_job};
 
+use roam_book::Answer;
 use roam_conf::{Config, Endpoint, Place};
-use roam_hub::{Gate, Hub, HubFault, Opened, Receipt, Seat};
+use roam_hub::{Answered, Gate, Hub, HubFault, Open, Opened, Receipt, Seat};
 use roam_route::{Datagram, Job, Prepared, prepare};
 use roam_wire::Octets;
 use std::alloc::Allocator;
@@ -14,7 +15,7 @@ use std::process::Abort;
 use std::sync::Wait;
 
 /// The access server of the tests.
-const NAS: Endpoint = Endpoint {
+pub(crate) const NAS: Endpoint = Endpoint {
     ip: [192, 0, 2, 1],
     port: 5000,
 };
@@ -47,18 +48,23 @@ pub(crate) const SECOND: &str =
 #[derive(Drop)]
 pub(crate) struct Caller<'h, 'c, A: Allocator, N: Opened> {
     hub: &'h Hub<'c, A, N>,
-    seat: Seat<A>,
+    seat: Seat<A, N>,
     job: Job<A>,
     ghost event: { IsEvent N.opening.config (shown_job job) },
-    ghost count: { length seat ≡ N.opening.config.shards },
 }
 
-/// A datagram of the access server with these octets, in hexadecimal digits.
-fn request<A: Allocator + Copy>(rt: &impl Abort, alloc: A, octets: &str) -> Datagram<A> {
+/// A datagram that arrives at a place from somewhere, with these octets, in hexadecimal digits.
+pub(crate) fn datagram<A: Allocator + Copy>(
+    rt: &impl Abort,
+    alloc: A,
+    at: Place,
+    from: Endpoint,
+    octets: &str,
+) -> Datagram<A> {
     let octets = hex::decode(alloc, octets).expect(rt, "octets");
     Datagram {
-        at: Place::Auth,
-        from: NAS,
+        at,
+        from,
         octets: Octets::copy_of(alloc, octets.as_slice()).expect(rt, "memory"),
     }
 }
@@ -70,16 +76,15 @@ impl<'h, 'c, A: Allocator + Copy, N: Opened> Caller<'h, 'c, A, N> {
         alloc: A,
         config: &Config,
         hub: &'h Hub<'c, A, N>,
-        seat: Seat<A>,
+        seat: Seat<A, N>,
         octets: &str,
     ) -> Caller<'h, 'c, A, N>
         requires { shown config.now ≡ N.opening.config }
     {
-        let datagram = request(rt, alloc, octets);
+        let datagram = datagram(rt, alloc, Place::Auth, NAS, octets);
         let Ok(Prepared::Job(job)) = prepare(alloc, config, &datagram) else {
             panic!(rt; "no job");
         };
-        assert!(rt; seat.shards() == usize::from(config.shards));
         Caller { hub, seat, job }
     }
 
@@ -88,7 +93,7 @@ impl<'h, 'c, A: Allocator + Copy, N: Opened> Caller<'h, 'c, A, N> {
         &mut self,
         rt: &R,
         gate: &G,
-    ) -> Result<Receipt<A>, HubFault> {
+    ) -> Result<Receipt<A, N>, HubFault> {
         self.hub.submit(rt, &mut self.seat, 0, &self.job, gate)
     }
 
@@ -99,12 +104,28 @@ impl<'h, 'c, A: Allocator + Copy, N: Opened> Caller<'h, 'c, A, N> {
         now: u64,
         shard: u16,
         gate: &G,
-    ) -> Result<Receipt<A>, HubFault> {
+    ) -> Result<Receipt<A, N>, HubFault> {
         self.hub.tick(rt, &mut self.seat, now, shard, gate)
     }
 
+    /// Asks for a tick at a moment, where something is due.
+    pub(crate) fn tick_if_due<R: Wait>(
+        &mut self,
+        rt: &R,
+        now: u64,
+        shard: u16,
+    ) -> Result<Option<Answered<A>>, HubFault> {
+        self.hub.tick_if_due(rt, &mut self.seat, now, shard, &Open)
+    }
+
+    /// Lets go of the stored steps of a shard: how many there were.
+    pub(crate) fn let_go<R: Wait>(&mut self, rt: &R, shard: u16) -> Result<usize, HubFault> {
+        let steps = self.hub.let_go(rt, &mut self.seat, shard)?;
+        Ok(steps.len())
+    }
+
     /// Its seat, once it calls no more.
-    pub(crate) fn into_seat(self) -> Seat<A> {
+    pub(crate) fn into_seat(self) -> Seat<A, N> {
         let Caller { seat, .. } = self;
         seat
     }
@@ -114,11 +135,11 @@ impl<'h, 'c, A: Allocator + Copy, N: Opened> Caller<'h, 'c, A, N> {
 pub(crate) fn sends<A: Allocator + Copy>(
     rt: &impl Abort,
     alloc: A,
-    receipt: &Receipt<A>,
+    answer: &Answer<A>,
     octets: &str,
 ) -> bool {
     let octets = hex::decode(alloc, octets).expect(rt, "octets");
-    match receipt.answer.outs.as_slice() {
+    match answer.outs.as_slice() {
         [out] => out.bytes.as_slice() == octets.as_slice(),
         _ => false,
     }

@@ -3,12 +3,13 @@
 ghost use Rattle.std.specs.Prelude.{◌≡◌};
 ghost use Rattle.roam_conf.specs.Shown.{shown};
 ghost use Rattle.roam_shard.specs.ShardView.{AreStarts};
+ghost use Rattle.roam_history.specs.Books.{books_of, count_of};
 
 use crate::caller::{Caller, FIRST, REQUEST_7, sends};
 use crate::configuration::config_of;
 use roam_book::Start;
 use roam_conf::Config;
-use roam_hub::{Hub, HubFault, Open, Opened, Receipt, Seat};
+use roam_hub::{Blanks, Hub, HubFault, Open, Opened, Receipt};
 use roam_shard::first_starts;
 use roam_testing::Refusing;
 use std::alloc::Global;
@@ -19,14 +20,49 @@ use std::sync::Wait;
 /// An allocator that refuses growths.
 type Over<'r> = &'r Refusing<Global>;
 
-/// A hub, while growths are refused, and then with memory: whether each refusal is told.
-fn open_is_refused<'r, 'c, N: Opened>(over: Over<'r>, config: &'c Config, starts: &[Start]) -> bool
+/// Whether a hub is opened.
+fn opens<'r, N: Opened>(
+    over: Over<'r>,
+    config: &Config,
+    starts: &[Start],
+    blanks: Blanks<Over<'r>>,
+) -> bool
     requires opening { N.opening ≡ record { config = shown config.now; starts = starts.now } }
+    requires books { N.books ≡ books_of blanks }
+    requires blanks { count_of blanks ≡ config.now.shards }
     requires starts { AreStarts (shown config.now) starts.now }
 {
+    Hub::<Over<'r>, N>::open(over, config, starts, blanks).is_ok()
+}
+
+/// Histories with no entry, with memory.
+fn blanks<'r>(rt: &impl Abort, over: Over<'r>, shards: u16) -> Blanks<Over<'r>>
+    ensures { count_of result ≡ shards }
+{
+    over.refuse_nth(0);
+    Blanks::new(over, shards).expect(rt, "memory")
+}
+
+/// A hub, while growths are refused, and then with memory: whether each refusal is told.
+fn open_is_refused<'r>(rt: &impl Abort, over: Over<'r>, config: &Config, starts: &[Start]) -> bool
+    requires { AreStarts (shown config.now) starts.now }
+{
+    for n in over.each_growth() {
+        let blanks = blanks(rt, over, config.shards);
+        over.refuse_nth(n);
+        let is_refused = !opens::<Brand>(over, config, starts, blanks);
+        if is_refused != over.was_refused() {
+            return false;
+        }
+    }
+    true
+}
+
+/// Histories, while growths are refused, and then with memory: whether each refusal is told.
+fn blanks_are_refused<'r>(over: Over<'r>) -> bool {
     for n in over.each_growth() {
         over.refuse_nth(n);
-        let is_refused = Hub::<Over<'r>, N>::open(over, config, starts).is_err();
+        let is_refused = Blanks::new(over, 3).is_err();
         if is_refused != over.was_refused() {
             return false;
         }
@@ -35,7 +71,7 @@ fn open_is_refused<'r, 'c, N: Opened>(over: Over<'r>, config: &'c Config, starts
 }
 
 /// Whether a call is answered just where it is to be.
-fn is_told<'r>(over: Over<'r>, given: &Result<Receipt<Over<'r>>, HubFault>) -> bool {
+fn is_told<'r, N: Opened>(over: Over<'r>, given: &Result<Receipt<Over<'r>, N>, HubFault>) -> bool {
     match given {
         Ok(_) => !over.was_refused(),
         Err(fault) => over.was_refused() && *fault == HubFault::NoMemory,
@@ -47,7 +83,7 @@ fn submitted<'r, N: Opened, R: Wait>(
     rt: &R,
     over: Over<'r>,
     caller: &mut Caller<'_, '_, Over<'r>, N>,
-) -> Option<Receipt<Over<'r>>> {
+) -> Option<Receipt<Over<'r>, N>> {
     for n in over.each_growth() {
         over.refuse_nth(n);
         let given = caller.submit(rt, &Open);
@@ -67,7 +103,7 @@ fn ticked<'r, N: Opened, R: Wait>(
     rt: &R,
     over: Over<'r>,
     caller: &mut Caller<'_, '_, Over<'r>, N>,
-) -> Option<Receipt<Over<'r>>> {
+) -> Option<Receipt<Over<'r>, N>> {
     for n in over.each_growth() {
         over.refuse_nth(n);
         let given = caller.tick(rt, 1000, 0, &Open);
@@ -82,39 +118,41 @@ fn ticked<'r, N: Opened, R: Wait>(
 }
 
 /// Whether a receipt has this number, and the first request as its packet.
-fn is_first<'r>(
+fn is_first<'r, N: Opened>(
     rt: &impl Abort,
     over: Over<'r>,
-    receipt: &Option<Receipt<Over<'r>>>,
+    receipt: &Option<Receipt<Over<'r>, N>>,
     number: u64,
 ) -> bool {
     match receipt {
-        Some(receipt) => receipt.number == number && sends(rt, over, receipt, FIRST),
+        Some(receipt) => receipt.number == number && sends(rt, over, &receipt.answer, FIRST),
         None => false,
     }
 }
 
-/// Whether a request and a tick are recorded once each, whatever was refused before.
+/// Whether a request and a tick are recorded once each, whatever was refused before, and though the
+/// request's step is let go of between them.
 fn calls_are_refused<'r, N: Opened + Send + Sync, R: Abort + Wait>(
     rt: &R,
     over: Over<'r>,
     config: &Config,
     starts: &[Start],
+    blanks: Blanks<Over<'r>>,
 ) -> bool
     requires opening { N.opening ≡ record { config = shown config.now; starts = starts.now } }
+    requires books { N.books ≡ books_of blanks }
+    requires blanks { count_of blanks ≡ config.now.shards }
     requires starts { AreStarts (shown config.now) starts.now }
 {
-    if !open_is_refused::<N>(over, config, starts) {
-        return false;
-    }
-    let (hub, seat) = Hub::<Over<'r>, N>::open(over, config, starts).expect(rt, "a hub");
+    let (hub, seat) = Hub::<Over<'r>, N>::open(over, config, starts, blanks).expect(rt, "a hub");
     let mut caller = Caller::new(rt, over, config, &hub, seat, REQUEST_7);
     let request = submitted(rt, over, &mut caller);
     over.refuse_nth(0);
     let is_request = is_first(rt, over, &request, 0);
+    let gone = caller.let_go(rt, 0);
     let tick = ticked(rt, over, &mut caller);
     over.refuse_nth(0);
-    is_request && is_first(rt, over, &tick, 1)
+    is_request && gone == Ok(1) && is_first(rt, over, &tick, 1)
 }
 
 /// Opens and closes a hub that a request was submitted to: how many steps it has at its end, where
@@ -125,11 +163,14 @@ fn closed<'r, N: Opened + Send + Sync, R: Abort + Wait>(
     n: u64,
     config: &Config,
     starts: &[Start],
+    blanks: Blanks<Over<'r>>,
 ) -> Option<usize>
     requires opening { N.opening ≡ record { config = shown config.now; starts = starts.now } }
+    requires books { N.books ≡ books_of blanks }
+    requires blanks { count_of blanks ≡ config.now.shards }
     requires starts { AreStarts (shown config.now) starts.now }
 {
-    let (hub, seat) = Hub::<Over<'r>, N>::open(over, config, starts).expect(rt, "a hub");
+    let (hub, seat) = Hub::<Over<'r>, N>::open(over, config, starts, blanks).expect(rt, "a hub");
     let mut caller = Caller::new(rt, over, config, &hub, seat, REQUEST_7);
     let _receipt = caller.submit(rt, &Open).expect(rt, "a receipt");
     let _seat = caller.into_seat();
@@ -139,17 +180,17 @@ fn closed<'r, N: Opened + Send + Sync, R: Abort + Wait>(
 }
 
 /// Whether each growth of a hub's end is told that is refused, and its one step is there without.
-fn close_is_refused<'r, N: Opened + Send + Sync, R: Abort + Wait>(
+fn close_is_refused<'r, R: Abort + Wait>(
     rt: &R,
     over: Over<'r>,
     config: &Config,
     starts: &[Start],
 ) -> bool
-    requires opening { N.opening ≡ record { config = shown config.now; starts = starts.now } }
-    requires starts { AreStarts (shown config.now) starts.now }
+    requires { AreStarts (shown config.now) starts.now }
 {
     for n in over.each_growth() {
-        let steps = closed::<N, R>(rt, over, n, config, starts);
+        let blanks = blanks(rt, over, config.shards);
+        let steps = closed::<Brand, R>(rt, over, n, config, starts, blanks);
         let expected = if over.was_refused() { None } else { Some(1) };
         if steps != expected {
             return false;
@@ -158,18 +199,21 @@ fn close_is_refused<'r, N: Opened + Send + Sync, R: Abort + Wait>(
     true
 }
 
-/// Whether that holds of the calls of a hub over one realm, and of its end.
-fn are_refused<R: Abort + Wait>(rt: &R, alloc: Global) -> [bool; 2] {
+/// Whether that holds of histories, of a hub's opening over one realm, of its calls and of its end.
+fn are_refused<R: Abort + Wait>(rt: &R, alloc: Global) -> [bool; 4] {
     let config = config_of(rt, alloc, 1, 1000, "");
     let starts = first_starts(alloc, &config).expect(rt, "memory");
     let over = Refusing::new(alloc);
+    let blanks = blanks(rt, &over, config.shards);
     [
-        calls_are_refused::<Brand, _>(rt, &over, &config, &starts),
-        close_is_refused::<Brand, _>(rt, &over, &config, &starts),
+        blanks_are_refused(&over),
+        open_is_refused(rt, &over, &config, &starts),
+        calls_are_refused::<Brand, _>(rt, &over, &config, &starts, blanks),
+        close_is_refused(rt, &over, &config, &starts),
     ]
 }
 
 #[test]
 fn each_growth_of_a_hub(rt: HostRuntime) {
-    assert!(rt; are_refused(&rt, rt.alloc()) == [true, true]);
+    assert!(rt; are_refused(&rt, rt.alloc()) == [true; 4]);
 }

@@ -1,10 +1,16 @@
-//! Two threads over one hub, and the audit of its end.
+//! Two threads over one hub.
 
-use crate::at_once::{ANSWERED, Ended, IN_VAIN, called_at_once};
+ghost use Rattle.std.specs.Prelude.{◌≡◌};
+ghost use Rattle.roam_conf.specs.Shown.{shown};
+ghost use Rattle.roam_shard.specs.ShardView.{AreStarts};
+ghost use Rattle.roam_history.specs.Books.{books_of, count_of};
+
+use crate::at_once::{ANSWERED, IN_VAIN, called_at_once};
 use crate::caller::{FIRST, OTHER_FIRST, sends};
 use crate::configuration::{SECOND_REALM, config_of};
 use roam_book::Start;
-use roam_hub::{AuditFault, Receipt, Report, Seat};
+use roam_conf::Config;
+use roam_hub::{Blanks, Opened, Receipt, Report};
 use roam_shard::first_starts;
 use std::alloc::Global;
 use std::marker::Brand;
@@ -25,44 +31,20 @@ type Seen = (
     [Option<Start>; 2],
 );
 
-/// The end of a hub of so many shards, which two threads call at once: the second one for this realm.
-fn ended<R: Abort + Threads + Wait + Clock + Sync>(
-    rt: &R,
-    alloc: Global,
-    shards: u16,
-    added: &str,
-    realm: u16,
-    turns: u64,
-) -> Ended {
-    let config = config_of(rt, alloc, shards, 1000, added);
-    let starts = first_starts(alloc, &config).expect(rt, "memory");
-    called_at_once::<Brand, _>(rt, alloc, &config, &starts, realm, turns)
-}
-
-/// The second call is the same request, for the same shard. The first waits some 50 milliseconds.
-fn one_shard<R: Abort + Threads + Wait + Clock + Sync>(rt: &R, alloc: Global) -> Ended {
-    ended(rt, alloc, 1, "", 0, 5_000)
-}
-
-/// The second call is a request of a second realm, which has a shard of its own.
-fn two_shards<R: Abort + Threads + Wait + Clock + Sync>(rt: &R, alloc: Global) -> Ended {
-    ended(rt, alloc, 2, SECOND_REALM, 1, 1_000_000)
-}
-
 /// What is seen of a receipt, where this is the first packet of its realm.
-fn seen_of(
+fn seen_of<N: Opened>(
     rt: &impl Abort,
     alloc: Global,
-    receipt: &Receipt<Global>,
+    receipt: &Receipt<Global, N>,
     packet: &str,
 ) -> (u16, u64, usize, bool) {
     let packets = receipt.answer.outs.len();
-    let is_first = sends(rt, alloc, receipt, packet);
+    let is_first = sends(rt, alloc, &receipt.answer, packet);
     (receipt.shard, receipt.number, packets, is_first)
 }
 
 /// How many steps the first two shards have, and where the first two realms would go on.
-fn seen_at_end(report: &Report<Global>) -> ([Option<usize>; 2], [Option<Start>; 2]) {
+fn seen_at_end<N: Opened>(report: &Report<Global, N>) -> ([Option<usize>; 2], [Option<Start>; 2]) {
     let steps = [
         report.steps.get(0).map(|steps| steps.len()),
         report.steps.get(1).map(|steps| steps.len()),
@@ -71,15 +53,57 @@ fn seen_at_end(report: &Report<Global>) -> ([Option<usize>; 2], [Option<Start>; 
     (steps, starts)
 }
 
-/// What is seen of a hub's end, where this is the first packet of the second request's realm.
-fn seen(rt: &impl Abort, alloc: Global, ended: &Ended, packet: &str) -> Seen {
-    let [first, second] = &ended.receipts;
+/// What is seen of the end of a hub which two threads call at once: the second one for this realm, whose
+/// first packet this is.
+fn seen<N: Opened + Send + Sync, R: Abort + Threads + Wait + Clock + Sync>(
+    rt: &R,
+    alloc: Global,
+    config: &Config,
+    starts: &[Start],
+    blanks: Blanks<Global>,
+    second: Second,
+) -> Seen
+    requires opening { N.opening ≡ record { config = shown config.now; starts = starts.now } }
+    requires books { N.books ≡ books_of blanks }
+    requires blanks { count_of blanks ≡ config.now.shards }
+    requires starts { AreStarts (shown config.now) starts.now }
+{
+    let Second {
+        realm,
+        turns,
+        packet,
+    } = second;
+    let ended = called_at_once::<N, R>(rt, alloc, config, starts, blanks, realm, turns);
+    let [first, other] = &ended.receipts;
     let receipts = [
         seen_of(rt, alloc, first, FIRST),
-        seen_of(rt, alloc, second, packet),
+        seen_of(rt, alloc, other, packet),
     ];
     let (steps, starts) = seen_at_end(&ended.report);
     (ended.stage, ended.shards, receipts, steps, starts)
+}
+
+/// The second call: for which realm, for how many turns the first one waits for its answer, and its realm's
+/// first packet.
+#[derive(Clone, Copy)]
+struct Second {
+    realm: u16,
+    turns: u64,
+    packet: &'static str,
+}
+
+/// A hub of so many shards.
+fn seen_over<R: Abort + Threads + Wait + Clock + Sync>(
+    rt: &R,
+    alloc: Global,
+    shards: u16,
+    added: &str,
+    second: Second,
+) -> Seen {
+    let config = config_of(rt, alloc, shards, 1000, added);
+    let starts = first_starts(alloc, &config).expect(rt, "memory");
+    let blanks = Blanks::new(alloc, config.shards).expect(rt, "memory");
+    seen::<Brand, R>(rt, alloc, &config, &starts, blanks, second)
 }
 
 #[test]
@@ -96,8 +120,13 @@ fn a_held_shard_holds_up_its_own_calls(rt: HostRuntime) {
         [Some(2), None],
         [Some(next), None],
     );
-    let found = seen(&rt, rt.alloc(), &one_shard(&rt, rt.alloc()), FIRST);
-    assert!(rt; found == expected);
+    // The same request, for the same shard. The first waits some 50 milliseconds.
+    let second = Second {
+        realm: 0,
+        turns: 5_000,
+        packet: FIRST,
+    };
+    assert!(rt; seen_over(&rt, rt.alloc(), 1, "", second) == expected);
 }
 
 #[test]
@@ -113,54 +142,11 @@ fn a_held_shard_holds_up_no_call_of_another(rt: HostRuntime) {
         [Some(1), Some(1)],
         [Some(next), Some(next)],
     );
-    let found = seen(&rt, rt.alloc(), &two_shards(&rt, rt.alloc()), OTHER_FIRST);
-    assert!(rt; found == expected);
-}
-
-/// What the audit of a report finds.
-fn found(
-    rt: &impl Abort,
-    report: &Report<Global>,
-    seats: &[Seat<Global>],
-    receipts: &[Receipt<Global>],
-) -> Option<AuditFault> {
-    assert!(rt; report.takes(seats));
-    report.audit(seats, receipts).err()
-}
-
-/// What audits of a hub find: with both seats and no receipts, with its receipts, and with those of
-/// a fresh hub that was called alike; then with one seat; last with the receipts of both hubs.
-fn audits<R: Abort + Threads + Wait + Clock + Sync>(
-    rt: &R,
-    alloc: Global,
-) -> [Option<AuditFault>; 5] {
-    let Ended {
-        receipts: [first, second],
-        seats,
-        report,
-        ..
-    } = one_shard(rt, alloc);
-    let Ended {
-        receipts: [also_first, also_second],
-        ..
-    } = one_shard(rt, alloc);
-    let receipts = [first, second, also_first, also_second];
-    let (own, other) = receipts.split_at(2);
-    [
-        found(rt, &report, &seats, &[]),
-        found(rt, &report, &seats, own),
-        found(rt, &report, &seats, other),
-        found(rt, &report, seats.split_at(1).0, own),
-        found(rt, &report, &seats, &receipts),
-    ]
-}
-
-#[test]
-fn the_audit_of_two_calls(rt: HostRuntime) {
-    let one_seat = AuditFault::Seats { shard: 0 };
-    let twice = AuditFault::Receipt {
-        shard: 0,
-        number: 0,
+    // A request of a second realm, which has a shard of its own.
+    let second = Second {
+        realm: 1,
+        turns: 1_000_000,
+        packet: OTHER_FIRST,
     };
-    assert!(rt; audits(&rt, rt.alloc()) == [None, None, None, Some(one_seat), Some(twice)]);
+    assert!(rt; seen_over(&rt, rt.alloc(), 2, SECOND_REALM, second) == expected);
 }

@@ -3,12 +3,13 @@
 ghost use Rattle.std.specs.Prelude.{◌≡◌};
 ghost use Rattle.roam_conf.specs.Shown.{shown};
 ghost use Rattle.roam_shard.specs.ShardView.{AreStarts};
+ghost use Rattle.roam_history.specs.Books.{books_of, count_of};
 
 use crate::caller::{Caller, FIRST, REQUEST_7, sends};
 use crate::configuration::{SECOND_SERVER, config_of};
 use roam_book::Start;
 use roam_conf::Config;
-use roam_hub::{Hub, HubFault, Open, Opened};
+use roam_hub::{Blanks, Hub, HubFault, Open, Opened};
 use roam_shard::first_starts;
 use std::alloc::Global;
 use std::marker::Brand;
@@ -26,11 +27,14 @@ fn ticked<N: Opened + Send + Sync, R: Abort + Wait>(
     alloc: Global,
     config: &Config,
     starts: &[Start],
+    blanks: Blanks<Global>,
 ) -> Ticked
     requires opening { N.opening ≡ record { config = shown config.now; starts = starts.now } }
+    requires books { N.books ≡ books_of blanks }
+    requires blanks { count_of blanks ≡ config.now.shards }
     requires starts { AreStarts (shown config.now) starts.now }
 {
-    let (hub, seat) = Hub::<Global, N>::open(alloc, config, starts).expect(rt, "a hub");
+    let (hub, seat) = Hub::<Global, N>::open(alloc, config, starts, blanks).expect(rt, "a hub");
     let mut caller = Caller::new(rt, alloc, config, &hub, seat, REQUEST_7);
     let _request = caller.submit(rt, &Open).expect(rt, "a receipt");
     let tick = caller.tick(rt, 1000, 0, &Open).expect(rt, "a receipt");
@@ -41,7 +45,7 @@ fn ticked<N: Opened + Send + Sync, R: Abort + Wait>(
     let start = report.starts.first().copied();
     (
         tick.number,
-        sends(rt, alloc, &tick, FIRST),
+        sends(rt, alloc, &tick.answer, FIRST),
         no_shard,
         steps,
         start,
@@ -52,7 +56,8 @@ fn ticked<N: Opened + Send + Sync, R: Abort + Wait>(
 fn two_servers<R: Abort + Wait>(rt: &R, alloc: Global) -> Ticked {
     let config = config_of(rt, alloc, 1, 1000, SECOND_SERVER);
     let starts = first_starts(alloc, &config).expect(rt, "memory");
-    ticked::<Brand, _>(rt, alloc, &config, &starts)
+    let blanks = Blanks::new(alloc, config.shards).expect(rt, "memory");
+    ticked::<Brand, _>(rt, alloc, &config, &starts, blanks)
 }
 
 #[test]

@@ -1,4 +1,6 @@
 pub mod Listening
+pub mod Losses
+pub mod Outbox
 pub mod Port
 pub mod Sending
 pub mod Sockets

@@ -36,7 +36,7 @@ IsHeard receive_failed at old new h =
     (new ≡ faults_after_fault old)
     × (h ≡ (if faults_after_fault old == FAULTS_TO_GIVE_UP then give_up else nothing))
 IsHeard (went to octets) at old new h = ⊥
-IsHeard (send_failed to octets) at old new h = ⊥
+IsHeard (send_failed why to octets) at old new h = ⊥
 
 -- one receive was made, and no other call; and that is what was heard by it
 pub record Listens

@@ -1,6 +1,6 @@
 -- Which socket is which place's, by its number: `auth`, `acct`, then `out` and `reverse` of each
 -- realm (ours).
-use Rattle.std.specs.Prelude.{ℕ, ◌+◌, ◌*◌, List}
+use Rattle.std.specs.Prelude.{ℕ, ◌+◌, ◌*◌, ◌%◌, List, Bool, true, false}
 use Rattle.roam_conf.specs.declared.endpoint.Endpoint.{Endpoint}
 use Rattle.roam_conf.specs.declared.place.Place.{Place}
 use Rattle.roam_conf.specs.declared.place.Place.TheVariants as place
@@ -17,3 +17,12 @@ socket_number (place.Reverse realm) = 2 * realm + 3
 -- where the sockets are bound, in order of their numbers
 abbrev pub socket_endpoints : ConfigView → List Endpoint
 socket_endpoints config = own_endpoints config.auth config.acct config.realms
+
+-- the worker that hears a place's socket, of so many: in turn; or, where `auth` and `acct` are spread over the workers,
+-- that of the realm's shard, and of those two the first worker, beside which each other has its own
+abbrev pub worker_number : Bool → Place → ℕ → ℕ
+worker_number false place workers = socket_number place % workers
+worker_number true place.Auth workers = 0
+worker_number true place.Acct workers = 0
+worker_number true (place.Out realm) workers = realm % workers
+worker_number true (place.Reverse realm) workers = realm % workers

@@ -2,9 +2,22 @@
 
 use roam_conf::Endpoint;
 
-/// A receive or a send failed.
+/// A receive failed.
 #[derive(Clone, Copy, Debug, PartialEq, Eq)]
 pub struct PortFault;
+
+/// Why a packet isn't sent.
+#[derive(Clone, Copy, Debug, PartialEq, Eq)]
+pub enum SendFault {
+    /// The socket has no room for it now.
+    WouldBlock,
+    /// There is no way to its destination.
+    Unreachable,
+    /// The system doesn't permit it.
+    NotPermitted,
+    /// Any other reason.
+    Other,
+}
 
 /// A socket for datagrams, of the system or of a test.
 pub trait Port {
@@ -23,6 +36,6 @@ pub trait Port {
             (receive_call result buffer.new) };
 
     /// Sends these octets as one datagram.
-    fn send(&mut self, to: Endpoint, octets: &[u8]) -> Result<(), PortFault>
+    fn send(&mut self, to: Endpoint, octets: &[u8]) -> Result<(), SendFault>
         ensures { IsOneCall (calls self.old) (calls self.new) (send_call result to octets.now) };
 }

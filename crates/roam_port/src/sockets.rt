@@ -1,9 +1,9 @@
 //! The broker's sockets by number: which place is whose, where they are bound, which worker serves
 //! one.
 
-ghost use Rattle.std.specs.Prelude.{◌≡◌, ◌<◌, ◌≤◌, ◌%◌, ◌↔◌, IsTrue, length, option_map, slice_get};
+ghost use Rattle.std.specs.Prelude.{◌≡◌, ◌<◌, ◌≤◌, ◌%◌, length, option_map, slice_get};
 ghost use Rattle.roam_conf.specs.Shown.{shown};
-ghost use Rattle.roam_port.specs.Sockets.{socket_number, socket_endpoints};
+ghost use Rattle.roam_port.specs.Sockets.{socket_number, socket_endpoints, worker_number};
 
 use roam_conf::{Config, Endpoint, Place};
 
@@ -80,10 +80,17 @@ fn realm_endpoints(config: &Config, realm: u16) -> Option<(Endpoint, Endpoint)>
     }
 }
 
-/// Whether a socket is one of this worker's, of so many workers: they are dealt out in turn.
-pub fn is_served_by(socket: usize, worker: usize, workers: usize) -> bool
-    requires { worker < workers }
-    ensures { IsTrue result ↔ (socket % workers ≡ worker) }
+/// The worker that hears the socket of a place, of so many workers: the sockets are dealt out in turn.
+/// With `spread` a realm's two sockets belong to the worker of its shard, and those that stand here as the
+/// first worker's, `auth` and `acct`, each worker has of its own.
+pub fn worker_of(place: Place, workers: usize, is_spread: bool) -> usize
+    requires { 1 ≤ workers }
+    ensures value { result ≡ worker_number is_spread place workers }
+    ensures below { result < workers }
 {
-    socket % workers == worker
+    match (is_spread, place) {
+        (false, place) => socket_of(place) % workers,
+        (true, Place::Auth | Place::Acct) => 0,
+        (true, Place::Out(realm) | Place::Reverse(realm)) => usize::from(realm) % workers,
+    }
 }

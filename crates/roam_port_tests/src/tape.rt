@@ -3,7 +3,7 @@
 ghost use Rattle.std.specs.Prelude.{◌≤◌, length};
 
 use roam_conf::Endpoint;
-use roam_port::{Port, PortFault};
+use roam_port::{Port, PortFault, SendFault};
 use std::alloc::Global;
 
 /// One answer of a [`Tape`] to a receive.
@@ -14,8 +14,8 @@ pub enum Answer {
     Datagram,
 }
 
-/// A port that plays answers: receives give them in turn, and then faults. The sends of the places
-/// in `failing`, counted from 0, fail.
+/// A port that plays answers: receives give them in turn, and then faults. The sends of the numbers in `failing`,
+/// counted from 0, fail so.
 #[derive(Drop)]
 pub struct Tape<'a> {
     pub alloc: Global,
@@ -24,7 +24,7 @@ pub struct Tape<'a> {
     /// What each datagram holds, and where it comes from.
     pub octets: &'a [u8],
     pub from: Endpoint,
-    pub failing: &'a [usize],
+    pub failing: &'a [(usize, SendFault)],
     pub sends: usize,
     /// The first octet of each packet that went out.
     pub went: Vec<u8>,
@@ -57,14 +57,16 @@ impl Port for Tape<'_> {
         }
     }
 
-    fn send(&mut self, _to: Endpoint, octets: &[u8]) -> Result<(), PortFault> {
-        let place = self.sends;
+    fn send(&mut self, _to: Endpoint, octets: &[u8]) -> Result<(), SendFault> {
+        let number = self.sends;
         self.sends = self.sends.saturating_add(1);
-        if self.failing.contains(&place) {
-            return Err(PortFault);
+        for (failing, fault) in self.failing {
+            if *failing == number {
+                return Err(*fault);
+            }
         }
         self.went
             .push(octets.first().copied().unwrap_or(0))
-            .map_err(|_| PortFault)
+            .map_err(|_| SendFault::Other)
     }
 }

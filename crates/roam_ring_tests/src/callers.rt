@@ -1,9 +1,8 @@
 //! Callers of the ring in one thread: proved from the ring's contracts alone.
 
-ghost use Rattle.std.specs.Prelude.{◌≡◌, ◌≤◌, length, IfOk};
-ghost use Rattle.roam_ring.specs.declared.making.TheConstants.{RING_CAPACITY};
+ghost use Rattle.std.specs.Prelude.{◌≡◌, IfOk};
 
-use roam_ring::{Post, ring};
+use roam_ring::ring;
 use roam_route::Out;
 use roam_wire::NoMemory;
 use std::alloc::Allocator;
@@ -24,14 +23,4 @@ pub fn through<A: Allocator + Copy>(
     let older = intake.take().unwrap();
     let newer = intake.take().unwrap();
     Ok((older, newer))
-}
-
-/// How many of these packets a fresh ring loses: none, where it has room for all.
-pub fn lost_of<A: Allocator + Copy>(alloc: A, outs: Vec<Out<A>, A>) -> Result<u64, NoMemory>
-    ensures { IfOk result (λ lost. length outs.items ≤ RING_CAPACITY → lost ≡ 0) }
-{
-    let (outlet, _intake) = ring(alloc)?;
-    let mut post = Post::new(outlet);
-    post.put_all(outs);
-    Ok(post.lost())
 }

@@ -1,10 +1,8 @@
-//! The ring from a worker to its sender: proved callers, and rings and posts by example.
+//! The ring of packets that leave: proved callers, and rings by example.
 #![tactic(auto)]
 
 pub mod callers;
 #[cfg(test)]
 mod packets;
-#[cfg(test)]
-mod post_tests;
 #[cfg(test)]
 mod ring_tests;

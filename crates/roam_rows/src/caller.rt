@@ -1,6 +1,6 @@
 //! The one caller of a hub.
 
-ghost use Rattle.std.specs.Prelude.{◌≡◌, length};
+ghost use Rattle.std.specs.Prelude.{◌≡◌};
 ghost use Rattle.roam_conf.specs.Shown.{shown};
 ghost use Rattle.roam_route.specs.Events.{IsEvent};
 ghost use Rattle.roam_route.specs.Shown.{shown_job};
@@ -16,8 +16,8 @@ use std::sync::Wait;
 
 /// What an event gave: the receipt of a call that was recorded, or the answer to an arrival that came to no realm.
 #[derive(Drop)]
-pub(crate) enum Given<A: Allocator> {
-    Recorded(Receipt<A>),
+pub(crate) enum Given<A: Allocator, N: Opened> {
+    Recorded(Receipt<A, N>),
     Unrecorded(Answer<A>),
 }
 
@@ -27,10 +27,11 @@ pub(crate) struct Caller<'h, 'c, A: Allocator, N: Opened> {
     alloc: A,
     config: &'h Config,
     hub: &'h Hub<'c, A, N>,
-    seat: Seat<A>,
-    pub(crate) receipts: Vec<Receipt<A>>,
+    seat: Seat<A, N>,
+    pub(crate) receipts: Vec<Receipt<A, N>>,
+    /// How many of them there were when steps were let go of last.
+    gone: usize,
     ghost same: { shown config.now ≡ N.opening.config },
-    ghost count: { length seat ≡ N.opening.config.shards },
 }
 
 impl<'h, 'c, A: Allocator + Copy, N: Opened> Caller<'h, 'c, A, N> {
@@ -39,11 +40,10 @@ impl<'h, 'c, A: Allocator + Copy, N: Opened> Caller<'h, 'c, A, N> {
         alloc: A,
         config: &'h Config,
         hub: &'h Hub<'c, A, N>,
-        seat: Seat<A>,
-        receipts: Vec<Receipt<A>>,
+        seat: Seat<A, N>,
+        receipts: Vec<Receipt<A, N>>,
     ) -> Caller<'h, 'c, A, N>
-        requires same { shown config.now ≡ N.opening.config }
-        requires count { length seat ≡ N.opening.config.shards }
+        requires { shown config.now ≡ N.opening.config }
     {
         Caller {
             alloc,
@@ -51,11 +51,12 @@ impl<'h, 'c, A: Allocator + Copy, N: Opened> Caller<'h, 'c, A, N> {
             hub,
             seat,
             receipts,
+            gone: 0,
         }
     }
 
     /// Submits a job.
-    fn submit<R: Wait>(&mut self, rt: &R, now: u64, job: &Job<A>) -> Result<Receipt<A>, HubFault>
+    fn submit<R: Wait>(&mut self, rt: &R, now: u64, job: &Job<A>) -> Result<Receipt<A, N>, HubFault>
         requires { IsEvent (shown self.old.config.now) (shown_job job.now) }
     {
         self.hub.submit(rt, &mut self.seat, now, job, &Open)
@@ -67,7 +68,7 @@ impl<'h, 'c, A: Allocator + Copy, N: Opened> Caller<'h, 'c, A, N> {
         rt: &R,
         now: u64,
         datagram: &Datagram<A>,
-    ) -> Result<Given<A>, HubFault> {
+    ) -> Result<Given<A, N>, HubFault> {
         match prepare(self.alloc, self.config, datagram) {
             Ok(Prepared::Job(job)) => Ok(Given::Recorded(self.submit(rt, now, &job)?)),
             Ok(Prepared::Reject(out)) => Ok(Given::Unrecorded(rejected(self.alloc, out)?)),
@@ -76,21 +77,43 @@ impl<'h, 'c, A: Allocator + Copy, N: Opened> Caller<'h, 'c, A, N> {
     }
 
     /// Asks for a tick of a shard.
-    fn tick<R: Wait>(&mut self, rt: &R, now: u64, shard: u16) -> Result<Given<A>, HubFault> {
+    fn tick<R: Wait>(&mut self, rt: &R, now: u64, shard: u16) -> Result<Given<A, N>, HubFault> {
         let receipt = self.hub.tick(rt, &mut self.seat, now, shard, &Open)?;
         Ok(Given::Recorded(receipt))
     }
 
     /// Gives an event to the hub.
-    pub(crate) fn call<R: Wait>(&mut self, rt: &R, event: &Event<A>) -> Result<Given<A>, HubFault> {
+    pub(crate) fn call<R: Wait>(
+        &mut self,
+        rt: &R,
+        event: &Event<A>,
+    ) -> Result<Given<A, N>, HubFault> {
         match event {
             Event::Arrive { now, datagram } => self.arrive(rt, *now, datagram),
             Event::Tick { now, shard } => self.tick(rt, *now, *shard),
         }
     }
 
+    /// Lets go of the stored steps of the shard of its last call. Whether they are just the step of that call's
+    /// receipt, or none where it got no receipt since.
+    pub(crate) fn lets_go<R: Wait>(&mut self, rt: &R) -> bool {
+        let Some(receipt) = self.receipts.last() else {
+            return true;
+        };
+        let is_new = self.receipts.len() > self.gone;
+        self.gone = self.receipts.len();
+        match self.hub.let_go(rt, &mut self.seat, receipt.shard) {
+            Ok(steps) => match steps.as_slice() {
+                [] => !is_new,
+                [step] => is_new && step.is_of(&receipt.event, &receipt.answer),
+                _ => false,
+            },
+            Err(_) => false,
+        }
+    }
+
     /// Its seat and its receipts, once it calls no more.
-    pub(crate) fn into_parts(self) -> (Seat<A>, Vec<Receipt<A>>) {
+    pub(crate) fn into_parts(self) -> (Seat<A, N>, Vec<Receipt<A, N>>) {
         let Caller { seat, receipts, .. } = self;
         (seat, receipts)
     }

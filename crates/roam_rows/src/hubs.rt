@@ -1,17 +1,19 @@
-//! Rows through a hub, by one caller: each receipt is as the row says, and at the end the audit is passed.
+//! Rows through a hub, by one caller: each receipt is as the row says, and at the end the audit is passed. Where no
+//! growth is refused, the stored steps are let go of after each event.
 
 ghost use Rattle.std.specs.Prelude.{◌≡◌};
 ghost use Rattle.roam_conf.specs.Shown.{shown};
 ghost use Rattle.roam_shard.specs.ShardView.{AreStarts};
+ghost use Rattle.roam_history.specs.Books.{books_of, count_of};
 
 use crate::answers::{WANTING, is_taken, print_answer, print_fault};
 use crate::caller::{Caller, Given};
 use crate::player::{Over, Player};
 use crate::row::{Row, Step};
-use crate::stored::count_of;
+use crate::stored::{count_of, is_stored};
 use roam_book::Start;
 use roam_conf::Config;
-use roam_hub::{Hub, Opened, Receipt, Report, Seat};
+use roam_hub::{Blanks, Hub, Opened, Receipt, Report, Seat};
 use roam_shard::first_starts;
 use std::marker::Brand;
 use std::sync::Wait;
@@ -24,7 +26,7 @@ impl<'p, 'r> Player<'p, 'r> {
     fn keeps_receipt<N: Opened>(
         &mut self,
         caller: &mut Caller<'_, '_, Over<'r>, N>,
-        given: Given<Over<'r>>,
+        given: Given<Over<'r>, N>,
     ) -> bool {
         match given {
             Given::Recorded(receipt) => {
@@ -141,23 +143,30 @@ impl<'p, 'r> Player<'p, 'r> {
             if !is_answered {
                 return;
             }
+            self.over.refuse_nth(0);
+            if !meets_refusals && !caller.lets_go(rt) {
+                self.tell(step.line, "hub, let go of", "the event's step", "others");
+            }
         }
     }
 
-    /// Looks at what a hub recorded: as many steps as there are receipts, and the audit is passed.
-    fn audits(
+    /// Looks at what a hub recorded: as many steps as there are receipts, of which those that are stored are the
+    /// receipts' own; and the audit is passed.
+    fn audits<N: Opened>(
         &mut self,
         line: usize,
-        report: &Report<Over<'r>>,
-        seats: &[Seat<Over<'r>>],
-        receipts: &[Receipt<Over<'r>>],
+        report: &Report<Over<'r>, N>,
+        seats: &[Seat<Over<'r>, N>],
+        receipts: &[Receipt<Over<'r>, N>],
+        meets_refusals: bool,
     ) {
-        let steps = count_of(&report.steps);
-        self.tally.count_stored(steps);
-        if steps != receipts.len() {
-            self.tell(line, "hub, its steps", "as many as receipts", "others");
+        let stored = count_of(&report.steps);
+        self.tally.count_stored(receipts.len());
+        let wanted = if meets_refusals { receipts.len() } else { 0 };
+        if stored != wanted || !receipts.iter().all(|receipt| is_stored(report, receipt)) {
+            self.tell(line, "hub, its steps", "those of its receipts", "others");
         }
-        if !report.takes(seats) || report.audit(seats, receipts).is_err() {
+        if report.audit(seats, receipts).is_err() {
             self.tell(line, "hub", "an audit that is passed", "a fault");
         }
     }
@@ -169,12 +178,15 @@ impl<'p, 'r> Player<'p, 'r> {
         row: &Row<Over<'r>>,
         config: &Config,
         starts: &[Start],
+        blanks: Blanks<Over<'r>>,
         meets_refusals: bool,
     )
         requires opening { N.opening ≡ record { config = shown config.now; starts = starts.now } }
+        requires books { N.books ≡ books_of blanks }
+        requires blanks { count_of blanks ≡ config.now.shards }
         requires starts { AreStarts (shown config.now) starts.now }
     {
-        let Ok((hub, seat)) = Hub::<Over<'r>, N>::open(self.over, config, starts) else {
+        let Ok((hub, seat)) = Hub::<Over<'r>, N>::open(self.over, config, starts, blanks) else {
             return self.tell(row.line, "hub", "a hub", "want of memory");
         };
         let no_receipts = Vec::new(self.rt.alloc());
@@ -182,7 +194,7 @@ impl<'p, 'r> Player<'p, 'r> {
         self.calls_all(rt, row, &mut caller, meets_refusals);
         let (seat, receipts) = caller.into_parts();
         match hub.close() {
-            Ok(report) => self.audits(row.line, &report, &[seat], &receipts),
+            Ok(report) => self.audits(row.line, &report, &[seat], &receipts, meets_refusals),
             Err(_) => self.tell(row.line, "hub", "a report", "a fault"),
         }
     }
@@ -196,9 +208,12 @@ impl<'p, 'r> Player<'p, 'r> {
         meets_refusals: bool,
     ) {
         self.over.refuse_nth(0);
-        match first_starts(self.over, config) {
-            Ok(starts) => self.plays_hub::<Brand, R>(rt, row, config, &starts, meets_refusals),
-            Err(_) => self.tell(row.line, "hub", "starts", "want of memory"),
-        }
+        let (Ok(starts), Ok(blanks)) = (
+            first_starts(self.over, config),
+            Blanks::new(self.over, config.shards),
+        ) else {
+            return self.tell(row.line, "hub", "starts", "want of memory");
+        };
+        self.plays_hub::<Brand, R>(rt, row, config, &starts, blanks, meets_refusals)
     }
 }

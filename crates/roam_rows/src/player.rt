@@ -105,7 +105,7 @@ impl<'p, 'r> Player<'p, 'r> {
         let Playing::Traces(traces) = broker else {
             return;
         };
-        let wanted = usize::from(is_taken(self.got.as_slice()));
+        let wanted = u64::from(is_taken(self.got.as_slice()));
         if traces.more_steps() != Some(wanted) {
             let wanted = "one more where the event was taken, else none";
             self.tell(line, "steps stored", wanted, "others");

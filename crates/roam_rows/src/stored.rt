@@ -6,6 +6,7 @@ use crate::player::{Over, Player};
 use crate::row::{Row, Step};
 use roam_book::Answer;
 use roam_core::Event;
+use roam_hub::{Opened, Receipt, Report};
 use roam_route::Datagram;
 use roam_trace::Step as Stored;
 use roam_wire::Octets;
@@ -72,6 +73,25 @@ pub(crate) fn count_of<A: Allocator>(stored: &[Vec<Stored<A>, A>]) -> usize {
         count = count.saturating_add(steps.len());
     }
     count
+}
+
+/// Whether a receipt's step is stored at its number, where it wasn't let go of.
+pub(crate) fn is_stored<A: Allocator, N: Opened>(
+    report: &Report<A, N>,
+    receipt: &Receipt<A, N>,
+) -> bool {
+    let shard = usize::from(receipt.shard);
+    let (Some(steps), Some(front)) = (report.steps.get(shard), report.fronts.get(shard)) else {
+        return false;
+    };
+    let gone = front.len().saturating_sub(steps.len() as u64);
+    match receipt.number.checked_sub(gone) {
+        Some(place) => match steps.get(place as usize) {
+            Some(step) => step.is_of(&receipt.event, &receipt.answer),
+            None => false,
+        },
+        None => true,
+    }
 }
 
 /// Whether the stored steps are those of the events that were taken, with these answers.

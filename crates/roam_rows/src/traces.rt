@@ -32,7 +32,7 @@ pub(crate) struct Traces<'c, A: Allocator> {
     config: &'c Config,
     traces: Vec<Traced<'c, A>, A>,
     /// How many steps each trace held when that was looked at last.
-    seen: [usize; MOST_SHARDS],
+    seen: [u64; MOST_SHARDS],
     ghost same: { All (λ t. t.opening.config ≡ shown config.now) traces.items },
 }
 
@@ -98,8 +98,8 @@ impl<'c, A: Allocator + Copy> Traces<'c, A> {
     }
 
     /// How many steps more the traces hold than when this was looked at last, where none lost one.
-    pub(crate) fn more_steps(&mut self) -> Option<usize> {
-        let mut more = 0usize;
+    pub(crate) fn more_steps(&mut self) -> Option<u64> {
+        let mut more = 0u64;
         for (seen, traced) in self.seen.iter_mut().zip(self.traces.iter()) {
             let length = traced.len();
             more = more.saturating_add(length.checked_sub(*seen)?);

@@ -1,1 +1,2 @@
+pub mod BindLemmas
 pub mod EndingLemmas

@@ -7,10 +7,10 @@ use Rattle.roam_serve.specs.declared.fault.ServeFault.TheVariants as fault
 
 -- a fault of a server of this configuration: the endpoint that can't be bound is one of its own
 abbrev pub IsFaultOf : ConfigView → ServeFault → Type 0
-IsFaultOf config (fault.Bind endpoint) = Contains (socket_endpoints config) endpoint
+IsFaultOf config (fault.Bind endpoint reason) = Contains (socket_endpoints config) endpoint
 IsFaultOf config _ = Unit {0}
 
 -- a fault that comes when all sockets are bound
 abbrev pub IsAfterBinding : ServeFault → Type 0
-IsAfterBinding (fault.Bind endpoint) = ⊥
+IsAfterBinding (fault.Bind endpoint reason) = ⊥
 IsAfterBinding _ = Unit {0}

@@ -4,8 +4,8 @@ use Rattle.roam_wire.specs.declared.refusal.Refusal.{Refusal}
 use Rattle.roam_wire.specs.declared.refusal.Refusal.TheVariants as refusal
 use Rattle.roam_hub.specs.declared.fault.HubFault.{HubFault}
 use Rattle.roam_hub.specs.declared.fault.HubFault.TheVariants as hub
-use Rattle.roam_serve.specs.declared.notice.Notice.{Notice}
-use Rattle.roam_serve.specs.declared.notice.Notice.TheVariants as notice
+use Rattle.roam_serve.specs.declared.threads.notice.Notice.{Notice}
+use Rattle.roam_serve.specs.declared.threads.notice.Notice.TheVariants as notice
 
 -- the refusal that a hub's fault is told as
 abbrev pub refusal_of : HubFault → Refusal

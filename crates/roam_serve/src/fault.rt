@@ -1,20 +1,57 @@
 //! Why the server ends.
 
+ghost use Rattle.std.specs.Prelude.{◌≡◌, ◌↔◌, IsTrue};
+
 use roam_conf::Endpoint;
 use roam_wire::NoMemory;
 use std::alloc::{AllocError, AllocFailed};
+use std::io;
 
-/// Why the server ends before its time.
+/// Why the system refused a call: its number of the error (errno), or 0 where it gave none.
+#[derive(Clone, Copy, Debug, PartialEq, Eq)]
+pub struct Reason(pub u32);
+
+/// Why the server ends before its time, or doesn't begin.
 #[derive(Clone, Copy, Debug, PartialEq, Eq)]
 pub enum ServeFault {
+    /// The clock can't be read at the start.
+    Clock,
+    /// No seed can be drawn.
+    Seed,
     /// A socket can't be bound to this endpoint.
-    Bind(Endpoint),
+    Bind(Endpoint, Reason),
+    /// The process may not have as many descriptors as this, which the configuration wants.
+    Descriptors(u32),
+    /// The system gives nothing to wait with for sockets.
+    Wait(Reason),
+    /// A thread can't be started.
+    Thread,
     /// A hundred receives of one socket failed in a row.
     Receive,
     /// The steps that the hub kept aren't those of its seats, or its locks hold another hub's.
     Audit,
-    /// Want of memory, or of a thread, at the start of the program or of an epoch.
+    /// Want of memory at the start, or where the hub is closed.
     Memory,
+}
+
+/// The number of the error of a process that has as many descriptors as it may (EMFILE).
+const TOO_MANY_OPEN_FILES: u32 = 24;
+
+/// The system's reason.
+pub fn reason_of(error: &io::Error) -> Reason {
+    match error.raw_os_error() {
+        Some(number) => Reason(u32::try_from(number).unwrap_or(0)),
+        None => Reason(0),
+    }
+}
+
+impl Reason {
+    /// Whether the process has as many descriptors as it may.
+    pub fn is_want_of_descriptors(self) -> bool
+        ensures { IsTrue result ↔ (self.0 ≡ 24) }
+    {
+        self.0 == TOO_MANY_OPEN_FILES
+    }
 }
 
 impl From<AllocError> for ServeFault {

@@ -1,31 +1,20 @@
 //! The server: sockets, threads and time round the hub.
 //!
-//! A worker for each shard hears the sockets that are dealt to it and gives what arrives to the
-//! hub, and a timer worker ticks the shards. Each hands what is to leave to a sender of its own,
-//! by a ring. Refused arrivals are told on standard error, by a thread of its own. When a shard's
-//! trace is full, all stop, the hub is closed and audited, and a new one opens where it ended.
+//! A worker for each shard receives from the sockets that are dealt to it, gives what arrives to the hub, and
+//! sends what that answers; a timer does the same with what is due. Each has a ring of its own, whose both ends it
+//! holds. Refused arrivals are told on standard error, by a thread of its own. When a shard's stored steps are as
+//! many as they may be, they are let go of, and a thread frees them beside: nothing stops, and nothing of a realm
+//! changes. There is one hub from the start to the end, when it is closed and audited.
 //!
 //! What is decided here stands in small functions; the loops round them are the threads.
 #![tactic(auto)]
 
-mod binding;
-mod clock;
-mod crew;
-mod desk;
-mod ear;
-mod ending;
-mod epoch;
 mod fault;
-mod notice;
-mod past;
-mod sender;
-mod serving;
-mod shared;
-mod socket;
-mod teller;
-mod timer;
-mod waking;
-mod worker;
+mod run;
+mod server;
+mod system;
+mod threads;
 
-pub use fault::ServeFault;
-pub use serving::serve;
+pub use fault::{Reason, ServeFault};
+pub use server::serve;
+pub use system::seed::with_drawn_seed;

@@ -2,8 +2,12 @@
 
 use crate::ends::{Arrival, Ends, hear, local};
 use crate::exchange::{SENDS, Verdict, complete, repeat};
-use crate::packets::{ACCESS, ACCOUNTING, FAILED_OVER, OTHER_FORWARDED, OTHER_START, SECOND_START};
+use crate::packets::{
+    ACCESS, ACCOUNTING, DISCONNECT, Exchange, FAILED_OVER, LEDGER, OTHER_FORWARDED, OTHER_START,
+    SECOND_ACCESS, SECOND_ACCOUNTING,
+};
 use crate::stage::Stage;
+use std::net::{SocketAddr, UdpSocket};
 use std::sync::atomic::Ordering;
 use std::thread;
 use std::time::{Clock, Duration};
@@ -32,39 +36,89 @@ fn send_until_heard(ends: &Ends, request: &[u8]) -> Result<Arrival, &'static str
     Err("a request isn't forwarded")
 }
 
-/// The Identifier and the ticket of a forwarded packet. Its last eight octets are the ticket.
-fn identifier_and_ticket(octets: &[u8]) -> (u8, u64) {
-    match octets {
-        [_, identifier, .., a, b, c, d, e, f, g, h] => (
-            *identifier,
-            u64::from_be_bytes([*a, *b, *c, *d, *e, *f, *g, *h]),
-        ),
-        _ => (0, 0),
-    }
-}
-
 /// The worked accounting exchange.
 pub(crate) fn accounting(ends: &Ends) -> Verdict {
     complete(ends, local(11813), &ends.acct_home, &ACCOUNTING)
 }
 
-/// Two requests, a second apart. The second one's ticket is above the first's, and its Identifier
-/// is the first again, which the first request would hold still: an epoch ended between them.
-pub(crate) fn epochs<R: Clock>(stage: &Stage<'_, R>, ends: &Ends) -> Verdict {
-    let first = send_until_heard(ends, ACCOUNTING.request)?;
-    let (_, before) = identifier_and_ticket(first.octets());
-    thread::sleep(stage, Duration::from_millis(1000));
-    for _ in 0..SENDS {
-        let second = send_until_heard(ends, SECOND_START)?;
-        let (identifier, ticket) = identifier_and_ticket(second.octets());
-        if ticket <= before {
-            return Err("a ticket isn't above an earlier one");
+/// Requests on both sides of steps that are let go of: tickets, Identifiers and random words go on, a reply that is
+/// held answers its duplicates, and a session is known that began before.
+pub(crate) fn let_go(ends: &Ends) -> Verdict {
+    alone(ends, local(11812), &ends.home, &ACCESS)?;
+    alone(ends, local(11813), &ends.acct_home, &LEDGER)?;
+    for _ in 0..100 {
+        repeat(ends, local(11812), &ACCESS)?;
+    }
+    pass_over(ends);
+    alone(ends, local(11812), &ends.home, &SECOND_ACCESS)?;
+    alone(ends, local(11813), &ends.acct_home, &SECOND_ACCOUNTING)?;
+    alone(ends, local(13000), &ends.coa, &DISCONNECT)
+}
+
+/// An exchange, and what else comes of a request that was sent more than once.
+fn alone(ends: &Ends, to: SocketAddr, home: &UdpSocket, exchange: &Exchange) -> Verdict {
+    complete(ends, to, home, exchange)?;
+    pass_over(ends);
+    Ok(())
+}
+
+/// Passes over what the client still hears.
+fn pass_over(ends: &Ends) {
+    for _ in 0..1000 {
+        if hear(&ends.client).is_none() {
+            return;
         }
-        if identifier == 0 {
+    }
+}
+
+/// Steps were let go of, and often.
+pub(crate) fn was_let_go<R>(stage: &Stage<'_, R>) -> Verdict {
+    if stage.times.load(Ordering::SeqCst) >= 5 {
+        Ok(())
+    } else {
+        Err("no steps are let go of")
+    }
+}
+
+/// Requests, a millisecond apart, for one and a half seconds: the worker is busy all the time.
+pub(crate) fn busy<R: Clock>(stage: &Stage<'_, R>, ends: &Ends) -> Verdict {
+    for _ in 0..1500 {
+        if ends.client.send_to(ACCESS.request, local(11812)).is_err() {
+            return Err("the client can't send");
+        }
+        thread::sleep(stage, Duration::from_millis(1));
+    }
+    Ok(())
+}
+
+/// The first Request Authenticator that a server draws isn't that of the file's seed, nor one of an earlier server.
+pub(crate) fn drawn<R>(stage: &Stage<'_, R>, ends: &Ends) -> Verdict {
+    for _ in 0..SENDS {
+        if ends.client.send_to(ACCESS.request, local(11812)).is_err() {
+            return Err("the client can't send");
+        }
+        if let Some(arrival) = hear(&ends.home) {
+            let drawn = authenticator(arrival.octets());
+            if drawn == authenticator(ACCESS.forwarded) {
+                return Err("the seed of the file is used");
+            }
+            if stage.earlier.swap(drawn, Ordering::SeqCst) == drawn {
+                return Err("two servers draw the same");
+            }
             return Ok(());
         }
     }
-    Err("no epoch ends")
+    Err("a request isn't forwarded")
+}
+
+/// The first eight octets of a packet's Authenticator.
+fn authenticator(octets: &[u8]) -> u64 {
+    match octets {
+        [_, _, _, _, a, b, c, d, e, f, g, h, ..] => {
+            u64::from_be_bytes([*a, *b, *c, *d, *e, *f, *g, *h])
+        }
+        _ => 0,
+    }
 }
 
 /// Accounting of one realm goes on while the other's shard is held; its own request goes on after

@@ -68,12 +68,10 @@ fn hears_again(ends: &Ends) -> bool {
     false
 }
 
-/// The packets that found the ring full were told when the epoch ended, and are no more than those
-/// above its places.
+/// No packet found the ring full.
 pub(crate) fn judge<R>(stage: &Stage<'_, R>) -> Verdict {
     match stage.lost.load(Ordering::SeqCst) {
-        0 => Err("no packets are told to be lost"),
-        1..=256 => Ok(()),
-        _ => Err("more packets are lost than found the ring full"),
+        0 => Ok(()),
+        _ => Err("packets are lost"),
     }
 }

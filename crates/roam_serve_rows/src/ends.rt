@@ -26,6 +26,8 @@ pub(crate) struct Ends {
     pub(crate) home: UdpSocket,
     /// Where it takes Accounting-Requests.
     pub(crate) acct_home: UdpSocket,
+    /// Where the access server takes Disconnect- and CoA-Requests.
+    pub(crate) coa: UdpSocket,
     /// Has the port for reverse requests, in place of the server.
     _held: Option<UdpSocket>,
     pub(crate) error: Option<Unread>,
@@ -37,7 +39,7 @@ pub(crate) fn local(port: u16) -> SocketAddr {
 }
 
 /// Binds a socket whose receives wait for a bounded time.
-fn bind<R: Net>(rt: &R, port: u16) -> io::Result<UdpSocket> {
+pub(crate) fn bind<R: Net>(rt: &R, port: u16) -> io::Result<UdpSocket> {
     let socket = UdpSocket::bind(rt, local(port))?;
     socket.set_read_timeout(Some(Duration::from_millis(WAIT)))?;
     Ok(socket)
@@ -50,6 +52,7 @@ impl Ends {
             client: bind(rt, 25000)?,
             home: bind(rt, 21812)?,
             acct_home: bind(rt, 21813)?,
+            coa: bind(rt, 23799)?,
             _held: if row == Row::Taken {
                 Some(bind(rt, 13000)?)
             } else {

@@ -9,6 +9,7 @@
 #![tactic(auto)]
 
 mod acts;
+mod burst;
 mod crowd;
 mod ends;
 mod exchange;
@@ -21,20 +22,26 @@ use crate::ends::Ends;
 use crate::row::{ROWS, TAKEN};
 use crate::stage::Stage;
 use roam_serve::{ServeFault, serve};
+use std::sync::atomic::AtomicU64;
 use std::{io, thread};
 
 fn main(rt: HostRuntime) -> io::Result<()> {
     let alloc = rt.alloc();
+    let earlier = AtomicU64::new(0);
     for row in ROWS {
-        let stage = &Stage::new(&rt, row);
+        let stage = &Stage::new(&rt, row, &earlier);
         let gate = &stage.turnstile;
         let time = Some(row.milliseconds());
-        let verdict = match (row.config(&rt, alloc), Ends::bind(&rt, row)) {
-            (Some(config), Ok(ends)) => {
+        let verdict = match (row.config(stage, &rt, alloc), Ends::bind(&rt, row)) {
+            (Some(Ok(config)), Ok(ends)) => {
                 let config = &config;
                 let (acted, served) = thread::scope(thread::scope_env(), &rt, |scope| {
-                    let server = scope.spawn(move || serve(stage, alloc, config, time, gate));
-                    let mut acted = row.act(stage, &ends);
+                    let server = scope.spawn(move || {
+                        let served = serve(stage, alloc, config, time, gate);
+                        stage.note_end();
+                        served
+                    });
+                    let mut acted = row.act(stage, &ends, alloc);
                     if row.has_second() && serve(stage, alloc, config, time, gate) != TAKEN {
                         acted = Err("a second server has the ports too");
                     }
@@ -48,6 +55,7 @@ fn main(rt: HostRuntime) -> io::Result<()> {
                 });
                 row.verdict(stage, acted, served)
             }
+            (Some(Err(fault)), _) => row.verdict(stage, Ok(()), Err(fault)),
             _ => "the configuration or the sockets of the test can't be had",
         };
         let name = row.name();

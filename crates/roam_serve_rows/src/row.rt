@@ -3,13 +3,16 @@
 use crate::ends::Ends;
 use crate::exchange::Verdict;
 use crate::stage::Stage;
-use crate::{acts, crowd, hostile};
+use crate::{acts, burst, crowd, hostile};
 use roam_conf::{Config, Endpoint};
 use roam_conf_reader::read_config;
-use roam_serve::ServeFault;
+use roam_serve::{Reason, ServeFault, with_drawn_seed};
 use std::alloc::Global;
 use std::fs;
+use std::net::Net;
+use std::random::RandomSource;
 use std::rt::Files;
+use std::sync::atomic::Ordering;
 use std::time::Clock;
 
 /// A row.
@@ -22,8 +25,8 @@ pub(crate) enum Row {
     Hostile,
     /// A port that is taken.
     Taken,
-    /// Requests before and after the end of an epoch.
-    Epochs,
+    /// Requests on both sides of steps that are let go of.
+    LetGo,
     /// A request of one shard while a call of the other is held.
     Held,
     /// A socket at which every receive fails.
@@ -34,29 +37,56 @@ pub(crate) enum Row {
     Crowd,
     /// A clock that can't be read for a while.
     Clock,
+    /// A clock that can't be read at the start.
+    NoClock,
+    /// More replies at once than a ring holds.
+    Burst,
+    /// Sockets of its own for each worker.
+    Spread,
+    /// Too few descriptors.
+    Descriptors,
+    /// A seed that is drawn.
+    Drawn,
+    /// Another one.
+    DrawnAgain,
+    /// A seed that can't be drawn.
+    NoSeed,
     /// Standard error that nobody reads.
     Unread,
 }
 
 /// All rows. The last one takes standard error away.
-pub(crate) const ROWS: [Row; 10] = [
+pub(crate) const ROWS: [Row; 17] = [
     Row::Accounting,
     Row::Hostile,
     Row::Taken,
-    Row::Epochs,
+    Row::LetGo,
     Row::Held,
     Row::Deaf,
     Row::Unreachable,
     Row::Crowd,
     Row::Clock,
+    Row::NoClock,
+    Row::Burst,
+    Row::Spread,
+    Row::Descriptors,
+    Row::Drawn,
+    Row::DrawnAgain,
+    Row::NoSeed,
     Row::Unread,
 ];
 
 /// What a server answers while another has its ports.
-pub(crate) const TAKEN: Result<(), ServeFault> = Err(ServeFault::Bind(Endpoint {
-    ip: [127, 0, 0, 1],
-    port: 11812,
-}));
+pub(crate) const TAKEN: Result<(), ServeFault> = Err(ServeFault::Bind(
+    Endpoint {
+        ip: [127, 0, 0, 1],
+        port: 11812,
+    },
+    IN_USE,
+));
+
+/// The number of the system's error for an address that is in use (EADDRINUSE).
+const IN_USE: Reason = Reason(98);
 
 /// Where the realm takes reverse requests.
 const REVERSE: Endpoint = Endpoint {
@@ -71,9 +101,21 @@ fn read<R: Files>(rt: &R, alloc: Global, path: &str) -> Option<Config> {
 }
 
 impl Row {
-    /// What is served.
-    pub(crate) fn config<R: Files>(self, rt: &R, alloc: Global) -> Option<Config> {
-        read(rt, alloc, self.configuration())
+    /// What is served; none where it can't be read.
+    pub(crate) fn config<R: Files + RandomSource>(
+        self,
+        stage: &Stage<'_, R>,
+        rt: &R,
+        alloc: Global,
+    ) -> Option<Result<Config, ServeFault>> {
+        let config = match self {
+            Row::Burst => burst::config(alloc)?,
+            _ => read(rt, alloc, self.configuration())?,
+        };
+        match self {
+            Row::Drawn | Row::DrawnAgain | Row::NoSeed => Some(with_drawn_seed(stage, config)),
+            _ => Some(Ok(config)),
+        }
     }
 
     pub(crate) fn name(self) -> &'static str {
@@ -81,19 +123,27 @@ impl Row {
             Row::Accounting => "an accounting exchange, and a second server beside the first",
             Row::Hostile => "an Access exchange after hostile datagrams",
             Row::Taken => "a port that is taken",
-            Row::Epochs => "requests before and after the end of an epoch",
+            Row::LetGo => "requests on both sides of steps that are let go of",
             Row::Held => "a request of one shard while a call of the other is held",
-            Row::Deaf => "a socket at which every receive fails",
+            Row::Deaf => "a socket at which every receive fails, beside one that is busy",
             Row::Unreachable => "a server to which nothing can be sent",
             Row::Crowd => "more packets at once than a ring holds",
             Row::Clock => "a clock that can't be read for a while",
+            Row::NoClock => "a clock that can't be read at the start",
+            Row::Burst => "more replies at once than a ring holds",
+            Row::Spread => "sockets of its own for each worker",
+            Row::Descriptors => "too few descriptors",
+            Row::Drawn => "a seed that is drawn",
+            Row::DrawnAgain => "another seed that is drawn",
+            Row::NoSeed => "a seed that can't be drawn",
             Row::Unread => "standard error that nobody reads",
         }
     }
 
     fn configuration(self) -> &'static str {
         match self {
-            Row::Epochs => "short-trace.conf",
+            Row::LetGo => "short-trace.conf",
+            Row::Spread => "spread.conf",
             Row::Held => "two-shards.conf",
             Row::Unreachable => "unreachable.conf",
             Row::Crowd => "five-realms.conf",
@@ -105,49 +155,66 @@ impl Row {
     pub(crate) fn milliseconds(self) -> u64 {
         match self {
             Row::Accounting => 5000,
+            Row::Burst => 60_000,
             _ => 30_000,
         }
     }
 
     /// How long it serves at least.
-    fn least(self) -> u128 {
+    fn least(self) -> u64 {
         match self {
             Row::Accounting => 5000,
+            Row::Deaf => 990,
             _ => 0,
         }
     }
 
     /// Whether the server's time ends with the row's acts.
     pub(crate) fn ends_early(self) -> bool {
-        !matches!(self, Row::Accounting | Row::Taken | Row::Deaf)
+        !matches!(
+            self,
+            Row::Accounting | Row::Taken | Row::Deaf | Row::NoClock | Row::Descriptors
+        )
     }
 
     /// What the server is to answer.
     fn wanted(self) -> Result<(), ServeFault> {
         match self {
-            Row::Taken => Err(ServeFault::Bind(REVERSE)),
+            Row::Taken => Err(ServeFault::Bind(REVERSE, IN_USE)),
             Row::Deaf => Err(ServeFault::Receive),
+            Row::NoClock => Err(ServeFault::Clock),
+            Row::Descriptors => Err(ServeFault::Descriptors(13)),
+            Row::NoSeed => Err(ServeFault::Seed),
             _ => Ok(()),
         }
     }
 
     /// Whether a second server is to begin beside the first.
     pub(crate) fn has_second(self) -> bool {
-        self == Row::Accounting
+        matches!(self, Row::Accounting | Row::Spread)
     }
 
     /// What happens while the server runs.
-    pub(crate) fn act<R: Clock>(self, stage: &Stage<'_, R>, ends: &Ends) -> Verdict {
+    pub(crate) fn act<R: Clock + Net>(
+        self,
+        stage: &Stage<'_, R>,
+        ends: &Ends,
+        alloc: Global,
+    ) -> Verdict {
         match self {
             Row::Accounting => acts::accounting(ends),
             Row::Hostile => hostile::hostile(stage, ends),
-            Row::Epochs => acts::epochs(stage, ends),
+            Row::LetGo => acts::let_go(ends),
+            Row::Burst => burst::burst(stage, ends, alloc),
+            Row::Spread => burst::spread(stage, ends),
+            Row::Drawn | Row::DrawnAgain => acts::drawn(stage, ends),
+            Row::Deaf => acts::busy(stage, ends),
             Row::Held => acts::held(stage, ends),
             Row::Unreachable => acts::unreachable(ends),
             Row::Crowd => crowd::crowd(stage, ends),
             Row::Clock => acts::clock(stage, ends),
             Row::Unread => hostile::unread(stage, ends),
-            Row::Taken | Row::Deaf => Ok(()),
+            Row::Taken | Row::NoClock | Row::Descriptors | Row::NoSeed => Ok(()),
         }
     }
 
@@ -162,13 +229,30 @@ impl Row {
         if served != self.wanted() {
             return Err("the server answers otherwise");
         }
-        if stage.lasted() < self.least() {
+        if stage.ended() < self.least() {
             return Err("the server ends before its time");
         }
-        if self == Row::Crowd {
-            crowd::judge(stage)
-        } else {
-            Ok(())
+        if stage.serving.load(Ordering::SeqCst) != self.servings() {
+            return Err("that it serves isn't told as it should be");
+        }
+        match self {
+            Row::Crowd | Row::Burst => crowd::judge(stage),
+            Row::LetGo => acts::was_let_go(stage),
+            Row::Unreachable if stage.not_permitted.load(Ordering::SeqCst) == 0 => {
+                Err("no packets are told to be lost")
+            }
+            Row::Accounting if stage.steps.load(Ordering::SeqCst) > 100 => {
+                Err("a server at rest stores steps")
+            }
+            _ => Ok(()),
+        }
+    }
+
+    /// How often it is to be told that a configuration is served.
+    fn servings(self) -> u64 {
+        match self {
+            Row::Taken | Row::NoClock | Row::Descriptors | Row::NoSeed => 0,
+            _ => 1,
         }
     }
 

@@ -9,6 +9,7 @@ use roam_hub::Gate;
 use std::fmt::{Display, Write};
 use std::io::ErrorKind;
 use std::net::{Net, SocketAddr, UdpSocket};
+use std::random::RandomSource;
 use std::sync::Wait;
 use std::sync::atomic::{AtomicBool, AtomicU64, Ordering};
 use std::thread::Threads;
@@ -20,6 +21,9 @@ const LONGEST_HOLD: u64 = 30_000;
 
 /// Further ahead than any server's time, in milliseconds.
 const FAR: u64 = 1_000_000_000;
+
+/// The number of the system's error for a process that has as many descriptors as it may (EMFILE).
+const TOO_MANY_OPEN_FILES: i32 = 24;
 
 /// Waits while a flag is set, for a bounded time.
 fn wait_while<R: Clock>(rt: &R, flag: &AtomicBool) {
@@ -42,6 +46,10 @@ impl<R> Turnstile<'_, R> {
     pub(crate) fn open(&self) {
         self.is_shut.store(false, Ordering::SeqCst);
     }
+
+    pub(crate) fn shut(&self) {
+        self.is_shut.store(true, Ordering::SeqCst);
+    }
 }
 
 impl<R: Clock> Gate for Turnstile<'_, R> {
@@ -62,6 +70,10 @@ pub(crate) struct Stage<'t, R> {
     is_deaf: bool,
     /// Whether the clock stands still, but for what it is put forward.
     stands: bool,
+    /// Whether the system has no descriptor for the socket for reverse requests.
+    has_few_descriptors: bool,
+    /// Whether no random octets can be had.
+    has_no_seed: bool,
     /// Whether the clock can't be read.
     pub(crate) is_broken: AtomicBool,
     /// How far the clock was put forward, in milliseconds.
@@ -77,17 +89,30 @@ pub(crate) struct Stage<'t, R> {
     dropped: AtomicU64,
     /// How many packets were told to have found a ring full.
     pub(crate) lost: AtomicU64,
+    /// How many packets were told to be lost, since they may not be sent.
+    pub(crate) not_permitted: AtomicU64,
+    /// How often it was told that a configuration is served.
+    pub(crate) serving: AtomicU64,
+    /// How many steps the server recorded, and how often it let go of stored ones, as it told at its end.
+    pub(crate) steps: AtomicU64,
+    pub(crate) times: AtomicU64,
+    /// When the server ended, in milliseconds since the row began.
+    ended: AtomicU64,
+    /// What a server drew first, in an earlier row.
+    pub(crate) earlier: &'t AtomicU64,
 }
 
 impl<'t, R: Clock> Stage<'t, R> {
     /// As a row begins.
-    pub(crate) fn new(rt: &'t R, row: Row) -> Stage<'t, R> {
+    pub(crate) fn new(rt: &'t R, row: Row, earlier: &'t AtomicU64) -> Stage<'t, R> {
         Stage {
             rt,
             start: rt.monotonic().ok(),
             is_deaf: row == Row::Deaf,
             stands: row == Row::Crowd || row == Row::Clock,
-            is_broken: AtomicBool::new(false),
+            has_few_descriptors: row == Row::Descriptors,
+            has_no_seed: row == Row::NoSeed,
+            is_broken: AtomicBool::new(row == Row::NoClock),
             ahead: AtomicU64::new(0),
             turnstile: Turnstile {
                 rt,
@@ -98,15 +123,33 @@ impl<'t, R: Clock> Stage<'t, R> {
             refusal: AtomicU64::new(0),
             dropped: AtomicU64::new(0),
             lost: AtomicU64::new(0),
+            not_permitted: AtomicU64::new(0),
+            serving: AtomicU64::new(0),
+            steps: AtomicU64::new(0),
+            times: AtomicU64::new(0),
+            ended: AtomicU64::new(0),
+            earlier,
         }
     }
 
     /// How long the row lasts by now, in milliseconds: 0 where the system's clock can't be read.
-    pub(crate) fn lasted(&self) -> u128 {
+    pub(crate) fn lasted(&self) -> u64 {
         match (self.start, self.rt.monotonic()) {
-            (Some(start), Ok(now)) => now.saturating_sub(start).as_millis(),
+            (Some(start), Ok(now)) => {
+                u64::try_from(now.saturating_sub(start).as_millis()).unwrap_or(0)
+            }
             _ => 0,
         }
+    }
+
+    /// Notes that the server has ended.
+    pub(crate) fn note_end(&self) {
+        self.ended.store(self.lasted(), Ordering::SeqCst);
+    }
+
+    /// When the server ended, in milliseconds since the row began.
+    pub(crate) fn ended(&self) -> u64 {
+        self.ended.load(Ordering::SeqCst)
     }
 }
 
@@ -137,10 +180,22 @@ impl<R> Stage<'_, R> {
             .saturating_add(self.dropped.load(Ordering::SeqCst))
     }
 
+    /// Notes what is told of the server's end: `after STEPS steps, let go of TIMES times: audited`.
+    fn note_ended(&self, rest: &str) {
+        let mut words = rest.split(' ');
+        let steps = words.nth(1).unwrap_or("");
+        let times = words.nth(4).unwrap_or("");
+        self.steps
+            .store(steps.parse().unwrap_or(0), Ordering::SeqCst);
+        self.times
+            .store(times.parse().unwrap_or(0), Ordering::SeqCst);
+    }
+
     /// Notes what is told.
     fn note(&self, line: &str) {
         match line.split_once(' ') {
-            Some(("refused", number)) => {
+            Some(("refused", rest)) => {
+                let number = rest.split_once(' ').map_or(rest, |(number, _)| number);
                 self.refusal
                     .store(number.parse().unwrap_or(0), Ordering::SeqCst);
                 self.refused.fetch_add(1, Ordering::SeqCst);
@@ -153,6 +208,14 @@ impl<R> Stage<'_, R> {
                 self.lost
                     .fetch_add(count.parse().unwrap_or(0), Ordering::SeqCst);
             }
+            Some((count, "packets lost since they may not be sent")) => {
+                self.not_permitted
+                    .fetch_add(count.parse().unwrap_or(0), Ordering::SeqCst);
+            }
+            Some(("serving", _)) => {
+                self.serving.fetch_add(1, Ordering::SeqCst);
+            }
+            Some(("ended", rest)) => self.note_ended(rest),
             _ => {}
         }
     }
@@ -185,6 +248,16 @@ impl<R: Clock> Clock for Stage<'_, R> {
     }
 }
 
+impl<R: RandomSource> RandomSource for Stage<'_, R> {
+    fn fill_bytes(&self, buffer: &mut [u8]) -> io::Result<()> {
+        if self.has_no_seed {
+            Err(io::Error::from(ErrorKind::Other))
+        } else {
+            self.rt.fill_bytes(buffer)
+        }
+    }
+}
+
 impl<R: Net> Net for Stage<'_, R> {
     type Stream = R::Stream;
 
@@ -202,6 +275,8 @@ impl<R: Net> Net for Stage<'_, R> {
     fn bind_udp(&self, addr: SocketAddr) -> io::Result<UdpSocket> {
         if self.is_deaf && addr.port() == 13000 {
             Ok(UdpSocket::from(self.rt.unix_socket()?))
+        } else if self.has_few_descriptors && addr.port() == 13000 {
+            Err(io::Error::from_raw_os_error(TOO_MANY_OPEN_FILES))
         } else {
             self.rt.bind_udp(addr)
         }

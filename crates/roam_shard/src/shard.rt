@@ -1,6 +1,6 @@
 //! One shard of the broker: its realms' entries in shared tables.
 
-ghost use Rattle.std.specs.Prelude.{◌≡◌, ℕ, ◌+◌, ◌<◌, ◌≤◌, ◌^◌, ◌++◌, [], None, Some, true, length, slice_set, IfOk, IsOk, vec_len};
+ghost use Rattle.std.specs.Prelude.{◌≡◌, ◌↔◌, ℕ, ◌+◌, ◌<◌, ◌≤◌, ◌^◌, ◌++◌, [], None, Some, false, true, length, slice_set, IfOk, IsOk, vec_len};
 ghost use Rattle.roam_conf.specs.Shown.{shown};
 ghost use Rattle.roam_route.specs.Admission.{admitted};
 ghost use Rattle.roam_route.specs.Events.{IsEvent};
@@ -121,6 +121,14 @@ impl<'c, A: Allocator + Copy> Shard<'c, A> {
             unreachable!();
         };
         numbers.start()
+    }
+
+    /// Whether a tick at a moment in milliseconds has anything to do: an entry of one of the shard's
+    /// realms is due. Takes no memory.
+    pub fn is_due(&self, now: u64) -> bool
+        ensures { result ≡ false ↔ NothingDue now self.now.states }
+    {
+        any_due(&self.entries, &self.numbers, now)
     }
 
     /// Gives a job to its realm, at a moment in milliseconds: the answer twice, one to send and one to

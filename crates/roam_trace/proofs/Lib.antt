@@ -1,3 +1,4 @@
 pub mod ListLemmas
 pub mod SentLemmas
+pub mod OctetLemmas
 pub mod HistoryLemmas

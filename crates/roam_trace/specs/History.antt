@@ -1,5 +1,5 @@
 -- Histories of one shard: the written answers, one after the other (ours).
-use Rattle.std.specs.Prelude.{◌≡◌, ℕ, ◌<◌, ◌≤◌, ◌^◌, true, List, [], ◌∷◌, ◌++◌, length}
+use Rattle.std.specs.Prelude.{◌≡◌, ℕ, ◌+◌, ◌<◌, ◌≤◌, ◌^◌, true, List, [], ◌∷◌, ◌++◌, length}
 use Rattle.roam_conf.specs.Config.{ConfigView}
 use Rattle.roam_route.specs.Admission.{PlainJob, admission, admitted}
 use Rattle.roam_book.specs.RealmState.{RealmState}
@@ -50,21 +50,43 @@ IsHistory o steps = AreSteps o.config o.shard (opened o) steps
 abbrev pub end_of : OpeningView → List PlainStep → List RealmState
 end_of o steps = states_then o.config (opened o) steps
 
--- a trace: how its shard began, its steps, and how many it can hold
+-- a trace: how its shard began and stands, how many of its steps were let go of, the stored ones, and
+-- how many of these it can hold
 pub record TraceView : Type 0 where
   pub opening : OpeningView
+  pub states : List RealmState
+  pub gone : ℕ
   pub steps : List PlainStep
   pub limit : ℕ
 
--- a trace with one step more
+-- a trace with one step more: its shard stands where the written broker does after that step's event
 abbrev pub with_step : TraceView → PlainStep → TraceView
-with_step t s = record t { steps = t.steps ++ s ∷ [] }
+with_step t s = record t {
+  states = states_next t.opening.config t.states s.event;
+  steps = t.steps ++ s ∷ [];
+}
 
--- what a trace keeps: its steps are a history of its shard, where it ends the shard stands, and there
--- are at most as many as the limit
-pub record IsTrace (o : OpeningView) (states : List RealmState) (steps : List PlainStep) (limit : ℕ)
-    : Type 0 where
-  pub history : IsHistory o steps
-  pub stands : states ≡ end_of o steps
-  pub fits : length steps ≤ limit
-  pub size : limit < 2 ^ 64
+-- a trace whose stored steps were let go of: all else stays
+abbrev pub without_steps : TraceView → TraceView
+without_steps t = record t { gone = t.gone + length t.steps; steps = [] }
+
+-- these steps, and then the stored ones, are a history of a trace's shard, from its opening; and where
+-- it ends the shard stands
+pub record Ends (t : TraceView) (before : List PlainStep) : Type 0 where
+  pub history : IsHistory t.opening (before ++ t.steps)
+  pub stands : t.states ≡ end_of t.opening (before ++ t.steps)
+
+-- what a trace keeps: there are steps, as many as were let go of, such that these and then the stored
+-- ones are a history of its shard, and where it ends the shard stands. At most as many as the limit are
+-- stored
+pub record IsTrace (t : TraceView) : Type 0 where
+  pub before : List PlainStep
+  pub count : length before ≡ t.gone
+  pub ends : Ends t before
+  pub fits : length t.steps ≤ t.limit
+  pub size : t.limit < 2 ^ 64
+  pub all : t.gone + length t.steps < 2 ^ 64
+
+-- whatever history a trace ends, it then ends that history with these steps more
+abbrev pub GoesOn : TraceView → TraceView → Type 0
+GoesOn old new = (before : List PlainStep) → Ends old before → Ends new before

@@ -1,15 +1,18 @@
-//! The stored history of one shard: each event that it took, and what it answered.
+//! The history of one shard: each event that it took, and what it answered. Its last steps are stored.
 //!
 //! Nothing here touches a socket, a clock or a lock: events, moments and packets are values.
 #![tactic(auto)]
 
 mod came;
+mod event;
 mod fault;
+mod octets;
 mod same;
 mod sent;
 mod step;
 mod traced;
 
+pub use event::{copy_of, job_event};
 pub use fault::TraceFault;
 pub use step::Step;
-pub use traced::{Traced, job_event};
+pub use traced::Traced;

@@ -1,60 +1,67 @@
-//! A shard with its stored history.
+//! A shard with its history, of which the last steps are stored.
 
-ghost use Rattle.std.specs.Prelude.{◌≡◌, ◌↔◌, ◌+◌, ◌<◌, ◌≤◌, ◌/◌, ◌^◌, [], true, length, max, min, vec_capacity, vec_len, IfOk, IsErrOf, IsOk, OnErr, OnOk};
+ghost use Rattle.std.specs.Prelude.{List, ◌≡◌, ◌≢◌, ◌↔◌, ◌+◌, ◌-◌, ◌<◌, ◌≤◌, ◌/◌, ◌^◌, ◌++◌, [], ◌∷◌, false, true, length, max, min, vec_capacity, vec_len, IfErr, IfOk, IsErrOf, IsOk, OnErr, OnOk};
 ghost use Rattle.roam_conf.specs.Shown.{shown};
 ghost use Rattle.roam_route.specs.Events.{IsEvent, arrival_of};
 ghost use Rattle.roam_route.specs.Shown.{shown_job};
 ghost use Rattle.roam_core.specs.Events.{arrives, is_in_shard, ticks};
 ghost use Rattle.roam_core.specs.Shown.{shown_event};
 ghost use Rattle.roam_shard.specs.ShardView.{opened, shown_opening};
-ghost use Rattle.roam_trace.specs.History.{IsHistory, end_of, with_step};
-ghost use Rattle.roam_trace.specs.Steps.{shown_answer};
+ghost use Rattle.roam_shard.specs.Twins.{NothingDue};
+ghost use Rattle.roam_trace.specs.History.{Ends, GoesOn, IsHistory, TraceView, with_step, without_steps};
+ghost use Rattle.roam_trace.specs.Steps.{PlainStep, octets_in, octets_of, shown_answer};
 
+use crate::event::{copy_of, event_of};
 use crate::fault::TraceFault;
+use crate::octets::octets_of;
 use crate::step::Step;
-use roam_book::Answer;
+use roam_book::{Answer, Twin};
 use roam_core::Event;
-use roam_route::{Datagram, Job};
+use roam_route::Job;
 use roam_shard::{Opening, Shard};
-use roam_wire::{NoMemory, Octets};
+use roam_wire::NoMemory;
 use std::alloc::Allocator;
 use std::marker::Model;
+use std::mem;
 
-/// A shard with its stored history: every step that it took, from its opening on. Contracts see how it
-/// began, its steps, and how many it can hold; the shard stands where its steps end.
+/// A shard with its history, of which the last steps are stored: those before were let go of. Contracts
+/// see how it began and how its realms stand, how many steps were let go of, the stored ones, and how many
+/// of these it can hold. There are steps, as many as were let go of, which together with the stored ones,
+/// in this order, are a history of the shard from its opening; where it ends the shard stands.
 #[derive(Drop)]
 pub struct Traced<'c, A: Allocator> {
     alloc: A,
     shard: Shard<'c, A>,
+    /// How many steps were let go of.
+    gone: u64,
     steps: Vec<Step<A>, A>,
     limit: usize,
+    /// How many octets the datagrams and packets of the stored steps have; as many as 64 bits hold.
+    octets: u64,
 }
 
 impl<'c, A: Allocator> Model for Traced<'c, A> {
+    ghost use Rattle.std.specs.Prelude.{◌≡◌, ◌-◌, ◌^◌, min};
     ghost use Rattle.roam_trace.specs.History.{IsTrace, TraceView};
+    ghost use Rattle.roam_trace.specs.Steps.{octets_in};
 
     ghost Value = { TraceView };
 
     ghost view = { λ t. record {
       opening = t.shard.opening;
+      states = t.shard.states;
+      gone = t.gone;
       steps = t.steps.items;
       limit = t.limit;
     } };
 
-    ghost invariant = { λ t. IsTrace t.shard.opening t.shard.states t.steps.items t.limit };
-}
-
-/// The event of a job, at a moment in milliseconds: the arrival of its octets, which are copied.
-pub fn job_event<A: Allocator>(alloc: A, now: u64, job: &Job<A>) -> Result<Event<A>, NoMemory>
-    ensures { IfOk result (λ e. shown_event e ≡ arrives now (arrival_of (shown_job job.now))) }
-{
-    let octets = Octets::copy_of(alloc, job.octets.as_slice())?;
-    let datagram = Datagram {
-        at: job.place,
-        from: job.from,
-        octets,
-    };
-    Ok(Event::Arrive { now, datagram })
+    ghost invariant = { λ t. IsTrace (record {
+      opening = t.shard.opening;
+      states = t.shard.states;
+      gone = t.gone;
+      steps = t.steps.items;
+      limit = t.limit;
+    }) × (t.octets ≡ min (octets_in t.steps.items) (2 ^ 64 - 1)) };
 }
 
 /// Makes room for one step more, where fewer than the limit are stored. A full list grows by an eighth of
@@ -77,28 +84,74 @@ fn reserve_one<A: Allocator>(steps: &mut Vec<Step<A>, A>, limit: usize) -> Resul
     Ok(())
 }
 
+/// Stores a step for which there is room, with its octets, and hands out the answer. Takes no memory.
+fn store<A: Allocator>(
+    steps: &mut Vec<Step<A>, A>,
+    octets: &mut u64,
+    event: Event<A>,
+    twin: Twin<A>,
+) -> Answer<A>
+    requires room { vec_len steps.old < vec_capacity steps.old }
+    ensures items { steps.new.items ≡ steps.old.items ++ record {
+      event = shown_event event;
+      answer = shown_answer twin.copy;
+    } ∷ [] }
+    ensures octets { octets.new ≡ min (octets.old + min (octets_of (record {
+      event = shown_event event;
+      answer = shown_answer twin.copy;
+    })) (2 ^ 64 - 1)) (2 ^ 64 - 1) }
+    ensures answer { result ≡ twin.answer }
+{
+    let Twin { answer, copy } = twin;
+    *octets = octets.saturating_add(octets_of(&event, &copy));
+    steps.push_reserved(Step::new(event, copy));
+    answer
+}
+
 impl<'c, A: Allocator + Copy> Traced<'c, A> {
     /// A shard that stands at its opening, with no steps yet. Takes no memory.
     pub fn new(alloc: A, shard: Shard<'c, A>, limit: usize) -> Traced<'c, A>
         requires { shard.states ≡ opened shard.opening }
-        ensures { result
-            ≡ record { opening = shard.entry.opening; steps = []; limit = limit } }
+        ensures { result ≡ record {
+          opening = shard.entry.opening;
+          states = shard.entry.states;
+          gone = 0;
+          steps = [];
+          limit = limit;
+        } }
     {
         Traced {
             alloc,
             shard,
+            gone: 0,
             steps: Vec::new(alloc),
             limit,
+            octets: 0,
         }
     }
 
-    /// How many steps are stored. Takes no memory.
-    pub fn len(&self) -> usize
-        ensures value { result ≡ length self.now.steps }
+    /// How many steps there were: those that were let go of, and the stored ones. Takes no memory.
+    pub fn len(&self) -> u64
+        ensures value { result ≡ self.now.gone + length self.now.steps }
         ensures fits { length self.now.steps ≤ self.now.limit }
         ensures limit { self.now.limit < 2 ^ 64 }
     {
-        self.steps.len()
+        self.gone + self.steps.len() as u64
+    }
+
+    /// The stored steps. Takes no memory.
+    pub fn steps(&self) -> &[Step<A>]
+        ensures { result.now ≡ self.now.steps }
+    {
+        self.steps.as_slice()
+    }
+
+    /// How many octets the datagrams and packets of the stored steps have; as many as 64 bits hold.
+    /// Takes no memory.
+    pub fn octets(&self) -> u64
+        ensures { result ≡ min (octets_in self.now.steps) (2 ^ 64 - 1) }
+    {
+        self.octets
     }
 
     /// How the shard began. Takes no memory.
@@ -108,6 +161,13 @@ impl<'c, A: Allocator + Copy> Traced<'c, A> {
         self.shard.opening()
     }
 
+    /// Whether a tick at a moment in milliseconds has anything to do. Takes no memory.
+    pub fn is_due(&self, now: u64) -> bool
+        ensures { result ≡ false ↔ NothingDue now self.now.states }
+    {
+        self.shard.is_due(now)
+    }
+
     /// Whether no step more can be stored.
     fn is_full(&self) -> bool
         ensures { result ≡ true ↔ length self.now.steps ≡ self.now.limit }
@@ -115,13 +175,29 @@ impl<'c, A: Allocator + Copy> Traced<'c, A> {
         self.steps.len() >= self.limit
     }
 
+    /// Whether one step more may be stored.
+    fn check(&self) -> Result<(), TraceFault>
+        ensures full { IsErrOf result TraceFault.TraceFull
+            ↔ (length self.now.steps ≡ self.now.limit) }
+        ensures below { OnOk result (length self.now.steps < self.now.limit) }
+        ensures number { OnOk result (self.now.gone + length self.now.steps < 2 ^ 64 - 1) }
+    {
+        if self.is_full() {
+            return Err(TraceFault::TraceFull);
+        }
+        if self.len() == u64::MAX {
+            return Err(TraceFault::NoMemory);
+        }
+        Ok(())
+    }
+
     /// Gives a job of the shard to its realm, at a moment in milliseconds, and stores the step: what is
     /// returned is what is stored.
     ///
     /// # Errors
     ///
-    /// `TraceFull` just where the trace holds as many steps as its limit; else `NoMemory` where a
-    /// growth was refused. Nothing changes then.
+    /// `TraceFull` just where as many steps as the limit are stored; else `NoMemory` where a growth was
+    /// refused, or where there were 2^64 - 1 steps. Nothing changes then.
     pub fn step(&mut self, now: u64, job: &Job<A>) -> Result<Answer<A>, TraceFault>
         requires event { IsEvent self.old.opening.config (shown_job job.now) }
         requires own { is_in_shard self.old.opening.config self.old.opening.shard job.now.realm ≡ true }
@@ -130,39 +206,42 @@ impl<'c, A: Allocator + Copy> Traced<'c, A> {
         ensures err { OnErr result (self.new ≡ self.old) }
         ensures full { IsErrOf result TraceFault.TraceFull
             ↔ (length self.old.steps ≡ self.old.limit) }
-        ensures history { IsHistory self.new.opening self.new.steps }
+        ensures history { OnOk result (GoesOn self.old self.new) }
     {
         if self.is_full() {
             return Err(TraceFault::TraceFull);
         }
-        let event = job_event(self.alloc, now, job)?;
-        self.record(now, job, event)
+        match self.take(now, copy_of(self.alloc, job)?) {
+            Ok(answer) => Ok(answer),
+            Err((fault, _)) => Err(fault),
+        }
     }
 
-    /// The same, with the event of the job in hand: nothing is copied here but what is answered.
-    pub fn record(
-        &mut self,
-        now: u64,
-        job: &Job<A>,
-        event: Event<A>,
-    ) -> Result<Answer<A>, TraceFault>
-        requires event { IsEvent self.old.opening.config (shown_job job.now) }
-        requires own { is_in_shard self.old.opening.config self.old.opening.shard job.now.realm ≡ true }
-        requires same { shown_event event ≡ arrives now (arrival_of (shown_job job.now)) }
+    /// The same, of a job that is handed in: its octets go into the stored step, and nothing is copied
+    /// but what is answered. A job whose step isn't stored comes back as it was.
+    pub fn take(&mut self, now: u64, job: Job<A>) -> Result<Answer<A>, (TraceFault, Job<A>)>
+        requires event { IsEvent self.old.opening.config (shown_job job) }
+        requires own { is_in_shard self.old.opening.config self.old.opening.shard job.realm ≡ true }
         ensures ok { IfOk result (λ a. self.new ≡ with_step self.old
-            (record { event = arrives now (arrival_of (shown_job job.now)); answer = shown_answer a })) }
+            (record { event = arrives now (arrival_of (shown_job job)); answer = shown_answer a })) }
         ensures err { OnErr result (self.new ≡ self.old) }
-        ensures full { IsErrOf result TraceFault.TraceFull
-            ↔ (length self.old.steps ≡ self.old.limit) }
-        ensures history { IsHistory self.new.opening self.new.steps }
+        ensures back { IfErr result (λ e. shown_job e.1 ≡ shown_job job) }
+        ensures full { IfErr result (λ e. (e.0 ≡ TraceFault.TraceFull)
+            ↔ (length self.old.steps ≡ self.old.limit)) }
+        ensures room { OnOk result (length self.old.steps ≢ self.old.limit) }
+        ensures history { OnOk result (GoesOn self.old self.new) }
     {
-        if self.is_full() {
-            return Err(TraceFault::TraceFull);
+        if let Err(fault) = self.check() {
+            return Err((fault, job));
         }
-        reserve_one(&mut self.steps, self.limit)?;
-        let twin = self.shard.step(now, job)?;
-        self.steps.push_reserved(Step::new(event, twin.copy));
-        Ok(twin.answer)
+        if reserve_one(&mut self.steps, self.limit).is_err() {
+            return Err((TraceFault::NoMemory, job));
+        }
+        let Ok(twin) = self.shard.step(now, &job) else {
+            return Err((TraceFault::NoMemory, job));
+        };
+        let event = event_of(now, job);
+        Ok(store(&mut self.steps, &mut self.octets, event, twin))
     }
 
     /// A tick of the shard, at a moment in milliseconds, whose step is stored.
@@ -176,32 +255,38 @@ impl<'c, A: Allocator + Copy> Traced<'c, A> {
         ensures err { OnErr result (self.new ≡ self.old) }
         ensures full { IsErrOf result TraceFault.TraceFull
             ↔ (length self.old.steps ≡ self.old.limit) }
-        ensures history { IsHistory self.new.opening self.new.steps }
+        ensures history { OnOk result (GoesOn self.old self.new) }
     {
-        if self.is_full() {
-            return Err(TraceFault::TraceFull);
-        }
+        self.check()?;
         reserve_one(&mut self.steps, self.limit)?;
         let shard = self.shard.opening().shard;
-        let both = self.shard.tick(now)?;
-        self.steps
-            .push_reserved(Step::new(Event::Tick { now, shard }, both.copy));
-        Ok(both.answer)
+        let twin = self.shard.tick(now)?;
+        let event = Event::Tick { now, shard };
+        Ok(store(&mut self.steps, &mut self.octets, event, twin))
     }
 
-    /// The shard, and the steps that it took. Takes no memory.
+    /// Lets go of the stored steps: takes them out, and gives them back. All else of the shard stays as
+    /// it is. Takes no memory, and a time that doesn't grow with the steps.
+    pub fn let_go(&mut self) -> Vec<Step<A>, A>
+        ensures steps { result.items ≡ self.old.steps }
+        ensures gone { self.new ≡ without_steps self.old }
+        ensures history { (before : List PlainStep) → Ends self.old before
+            → Ends self.new (before ++ self.old.steps) }
+    {
+        self.gone = self.len();
+        self.octets = 0;
+        mem::replace(&mut self.steps, Vec::new(self.alloc))
+    }
+
+    /// The shard, and the stored steps. Takes no memory.
     pub fn cut(self) -> (Shard<'c, A>, Vec<Step<A>, A>)
         ensures opening { result.0.opening ≡ self.entry.opening }
-        ensures states { result.0.states ≡ end_of self.entry.opening self.entry.steps }
+        ensures states { result.0.states ≡ self.entry.states }
         ensures steps { result.1.items ≡ self.entry.steps }
-        ensures history { IsHistory self.entry.opening result.1.items }
+        ensures history { (before : List PlainStep) × Ends self.entry before
+            × (length before ≡ self.entry.gone) }
     {
-        let Traced {
-            alloc: _,
-            shard,
-            steps,
-            limit: _,
-        } = self;
+        let Traced { shard, steps, .. } = self;
         (shard, steps)
     }
 }

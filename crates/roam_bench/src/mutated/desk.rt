@@ -1,6 +1,6 @@
 //! One caller's desk at a hub, where datagrams and ticks are given to it and counted.
 
-ghost use Rattle.std.specs.Prelude.{◌≡◌, length};
+ghost use Rattle.std.specs.Prelude.{◌≡◌};
 ghost use Rattle.roam_conf.specs.Shown.{shown};
 
 use crate::fault::Fault;
@@ -20,14 +20,13 @@ const CALLS_TO_A_RECEIPT: u64 = 64;
 pub(crate) struct Desk<'s, 'c, N: Opened> {
     pub(crate) config: &'c Config,
     hub: &'s Hub<'c, Global, N>,
-    seat: Seat<Global>,
+    seat: Seat<Global, N>,
     /// Some of the receipts, for the audit.
-    receipts: Vec<Receipt<Global>>,
+    receipts: Vec<Receipt<Global, N>>,
     calls: u64,
     /// Whether the trace of a shard is full.
     pub(crate) is_full: bool,
     ghost same: { shown config.now ≡ N.opening.config },
-    ghost seated: { length seat ≡ N.opening.config.shards },
 }
 
 /// The refusal that a hub's fault is.
@@ -46,10 +45,9 @@ impl<'s, 'c, N: Opened> Desk<'s, 'c, N> {
         alloc: Global,
         config: &'c Config,
         hub: &'s Hub<'c, Global, N>,
-        seat: Seat<Global>,
+        seat: Seat<Global, N>,
     ) -> Desk<'s, 'c, N>
-        requires config { shown config.now ≡ N.opening.config }
-        requires seat { length seat ≡ N.opening.config.shards }
+        requires { shown config.now ≡ N.opening.config }
     {
         Desk {
             config,
@@ -62,7 +60,7 @@ impl<'s, 'c, N: Opened> Desk<'s, 'c, N> {
     }
 
     /// Gives back the seat and the receipts.
-    pub(crate) fn leave(self) -> (Seat<Global>, Vec<Receipt<Global>>) {
+    pub(crate) fn leave(self) -> (Seat<Global, N>, Vec<Receipt<Global, N>>) {
         (self.seat, self.receipts)
     }
 
@@ -74,7 +72,7 @@ impl<'s, 'c, N: Opened> Desk<'s, 'c, N> {
         tally: &mut Tally,
         sort: Sort,
         at: Option<Place>,
-        called: Result<Receipt<Global>, HubFault>,
+        called: Result<Receipt<Global, N>, HubFault>,
     ) -> Result<Vec<Out<Global>>, Fault> {
         match called {
             Ok(receipt) => {

@@ -3,8 +3,8 @@ use Rattle.roam_conf.specs.Shown.{shown}
 use Rattle.roam.proofs.OutcomeLemmas.{accepted-text, serve-fails}
 use Rattle.roam.proofs.serving.serve_file.Goals as goal
 
-pub returns-in-Ok-serve-clause-ok : goal.returns-in-Ok-serve-clause-ok
-returns-in-Ok-serve-clause-ok g c = (
+pub returns-in-Ok-serve_config-clause-ok : goal.returns-in-Ok-serve_config-clause-ok
+returns-in-Ok-serve_config-clause-ok g c = (
   shown c.in-Ok.config,
   accepted-text c.args.configuration.now c.as_str.result.now (shown c.in-Ok.config) c.as_str.ensures.value
       c.in-Ok.ensures.ok c.in-Ok.ensures.faultless,
@@ -15,4 +15,4 @@ returns-in-Ok-clause-err g c =
     let read = accepted-text c.args.configuration.now c.as_str.result.now (shown c.in-Ok.config)
     c.as_str.ensures.value c.in-Ok.ensures.ok c.in-Ok.ensures.faultless in
     rw c.of_server.ensures
-    (serve-fails c.args.configuration.now (shown c.in-Ok.config) c.in-Err-serve.fault read c.in-Err-serve.ensures)
+    (serve-fails c.args.configuration.now (shown c.in-Ok.config) c.in-Err-serve_config.fault read c.in-Err-serve_config.ensures)

@@ -12,6 +12,6 @@ pub loop-seat-preserved : goal.loop-seat-preserved
 loop-seat-preserved g c =
     let seats = c.args.seats.now in
     let more =
-    sum_by_more (λ seat. (tally_of seat c.args.shard).calls) seats c.loop-seat.seat-index
+    sum_by_more (λ seat. (tally_of seat.tallies c.args.shard).calls) seats c.loop-seat.seat-index
     c.seat-item.result (omega arith) in
     (cc, omega arith)

@@ -9,12 +9,12 @@ use Rattle.roam_core.specs.Events.{is_in_shard}
 use Rattle.roam_shard.specs.ShardView.{OpeningView}
 use Rattle.roam_audit.specs.Audit.{steps_of}
 use Rattle.roam_hub.specs.Closing.{all_steps}
-use Rattle.roam_hub.specs.HubOpening.{opening_at}
+use Rattle.roam_history.specs.HubOpening.{opening_at}
 use Rattle.roam_hub.proofs.HubLemmas.{all_starts, good_starts, no_starts, one_start_more, start_closed, steps-there}
 use Rattle.roam_hub.proofs.closing.starts_of.Goals as goal
 
 pub loop-realm-init : goal.loop-realm-init
-loop-realm-init g c = rw (c.in_ok-starts.ensures.items) (no_starts g.N.Opened.opening (all_steps c.args.closed.now.steps.items))
+loop-realm-init g c = rw (c.in_ok-starts.ensures.items) (no_starts g.N.Opened.opening (all_steps c.args.closed.now.fronts.items))
 
 -- the shard has the hub's configuration
 pub start-requires-clause-configured : goal.start-requires-clause-configured
@@ -23,7 +23,7 @@ start-requires-clause-configured g c =
     let k = c.from.result in
     let lt : k < length c.args.closed.now.shards.items = omega (arith, c.from.ensures, c.shard_of-shard.ensures.bound, c.requires.closed.shard_count) in
     let at = get-read c.args.closed.now.shards.items k c.index.result.now lt c.index.ensures in
-    let all = all_steps c.args.closed.now.steps.items in
+    let all = all_steps c.args.closed.now.fronts.items in
     let one = c.requires.closed.each k c.index.result.now (steps_of all k) at (steps-there all k (omega (arith, lt, c.requires.closed.shard_count, c.requires.closed.step_count))) in
     let same = ap (λ (o : OpeningView). length o.config.realms) one.opening ∙ ap (λ (x : ConfigView). length x.realms) (sym c.requires.config) in
     omega (arith, same, length-map config.realms.items shown_realm, config.realms.ok.0, c.loop-realm-test.true, c.len-realm-end.ensures)
@@ -33,7 +33,7 @@ start-requires-clause-own g c =
     let k = c.from.result in
     let lt : k < length c.args.closed.now.shards.items = omega (arith, c.from.ensures, c.shard_of-shard.ensures.bound, c.requires.closed.shard_count) in
     let at = get-read c.args.closed.now.shards.items k c.index.result.now lt c.index.ensures in
-    let all = all_steps c.args.closed.now.steps.items in
+    let all = all_steps c.args.closed.now.fronts.items in
     let one = c.requires.closed.each k c.index.result.now (steps_of all k) at (steps-there all k (omega (arith, lt, c.requires.closed.shard_count, c.requires.closed.step_count))) in
     let here : c.loop-realm.realm % (shown c.args.config.now).shards ≡ k = sym (c.from.ensures ∙ c.shard_of-shard.ensures.value) in
     let is : is_in_shard (shown c.args.config.now) k c.loop-realm.realm ≡ true = grind (arith, nat_tests, here) in
@@ -45,7 +45,7 @@ loop-realm-preserved g c =
     let k = c.from.result in
     let lt : k < length c.args.closed.now.shards.items = omega (arith, c.from.ensures, c.shard_of-shard.ensures.bound, c.requires.closed.shard_count) in
     let at = get-read c.args.closed.now.shards.items k c.index.result.now lt c.index.ensures in
-    let all = all_steps c.args.closed.now.steps.items in
+    let all = all_steps c.args.closed.now.fronts.items in
     let shards = ap (λ (x : ConfigView). c.loop-realm.realm % x.shards) c.requires.config in
     let is : k ≡ c.loop-realm.realm % g.N.Opened.opening.config.shards = c.from.ensures ∙ c.shard_of-shard.ensures.value ∙ shards in
     let start = start_closed g.N.Opened.opening c.args.config.now.shards c.args.closed.now.shards.items all k c.loop-realm.realm c.index.result.now c.start.result
@@ -56,7 +56,7 @@ loop-realm-preserved g c =
 pub returns-clause-starts : goal.returns-clause-starts
 returns-clause-starts g c =
     let config = c.args.config.now in
-    let all = all_steps c.args.closed.now.steps.items in
+    let all = all_steps c.args.closed.now.fronts.items in
     let same = ap (λ (x : ConfigView). length x.realms) c.requires.config in
     all_starts g.N.Opened.opening all c.loop-realm.realm c.loop-realm.starts.items c.loop-realm.invariant
     (omega (arith, same, length-map config.realms.items shown_realm, config.realms.ok.0, c.loop-realm-test.false, c.loop-realm.auto.realm-end, c.len-realm-end.ensures))
@@ -64,7 +64,7 @@ returns-clause-starts g c =
 pub returns-clause-good : goal.returns-clause-good
 returns-clause-good g c =
     let config = c.args.config.now in
-    let all = all_steps c.args.closed.now.steps.items in
+    let all = all_steps c.args.closed.now.fronts.items in
     let same = ap (λ (x : ConfigView). length x.realms) c.requires.config in
     good_starts g.N.Opened.opening all c.loop-realm.realm c.loop-realm.starts.items c.loop-realm.invariant
     (omega (arith, same, length-map config.realms.items shown_realm, config.realms.ok.0, c.loop-realm-test.false, c.loop-realm.auto.realm-end, c.len-realm-end.ensures))

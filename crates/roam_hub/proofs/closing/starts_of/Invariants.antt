@@ -3,4 +3,4 @@ use Rattle.roam_hub.proofs.HubLemmas.{AreFirstStarts}
 use Rattle.roam_hub.proofs.closing.starts_of.Given as goal
 
 abbrev pub invariant-loop-realm : goal.invariant-loop-realm
-invariant-loop-realm g l = AreFirstStarts g.N.Opened.opening (all_steps l.closed.steps.items) l.realm l.starts.items
+invariant-loop-realm g l = AreFirstStarts g.N.Opened.opening (all_steps l.closed.fronts.items) l.realm l.starts.items

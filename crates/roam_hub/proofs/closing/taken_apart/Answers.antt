@@ -1,17 +1,21 @@
-use Rattle.std.proofs.Common.{◌≡◌, ◌++◌, ◌∷◌, [], List, length, refl, ap, sym, ◌∙◌, arith}
+use Rattle.std.proofs.Common.{◌≡◌, ◌++◌, ◌∷◌, [], List, length, map, refl, ap, sym, ◌∙◌, arith}
 use Rattle.std.proofs.lemmas.List.{map-append}
 use Rattle.roam_trace.specs.Steps.{PlainStep}
-use Rattle.roam_audit.specs.Shown.{items_of}
-use Rattle.roam_hub.specs.Closing.{all_steps}
-use Rattle.roam_hub.proofs.HubLemmas.{none_closed, one_more_closed}
+use Rattle.roam_history.specs.Entries.{Entry, stored_of}
+use Rattle.roam_history.specs.Fronts.{FrontView, entries_of}
+use Rattle.roam_audit.specs.Shown.{all_in, items_of}
+use Rattle.roam_hub.specs.Closing.{all_steps, stored_steps}
+use Rattle.roam_hub.proofs.HubLemmas.{no_shards, none_closed, one_more_closed, push_shards}
 use Rattle.roam_hub.proofs.closing.taken_apart.Goals as goal
 
 pub loop-lock-init : goal.loop-lock-init
 loop-lock-init g c =
     let iter = c.into_iter-lock-iterator.ensures.into_iter_gives in
     record {
-      closed = rw (c.new-shards.ensures.items, c.new-steps.ensures.items) (none_closed g.N.Opened.opening);
-      few = c.new-steps.ensures.len;
+      closed = rw (c.new-shards.ensures.items, c.new-fronts.ensures.items) (none_closed g.N.Opened.opening);
+      stored = rw (c.new-steps.ensures.items, c.new-fronts.ensures.items) refl;
+      of_shards = rw c.new-fronts.ensures.items no_shards;
+      few = c.new-fronts.ensures.len;
       left = iter.1 ∙ c.args.locks.ok.0 ∙ ap length (sym iter.0);
       count = (let n = ap length iter.0 in omega (arith, n, c.args.locks.ok.0));
     }
@@ -22,11 +26,22 @@ loop-lock-preserved g c =
     let steps = c.in-Some.ensures.steps in
     let short = ap length steps.0 in
     let one = c.in_ok-shard.ensures in
-    let more = ap (λ l. all_steps l) c.in_ok-append-2.ensures.items ∙ map-append items_of c.loop-lock.steps.items (c.in_ok-shard.its_steps ∷ []) in
+    let front : FrontView = c.in_ok-shard.front in
+    let fronts = c.loop-lock.fronts.items in
+    let more = ap (λ l. all_steps l) c.in_ok-append-3.ensures.items ∙ map-append all_in fronts (front ∷ []) in
+    let stored = ap (λ l. stored_steps l) c.in_ok-append-2.ensures.items ∙ map-append items_of c.loop-lock.steps.items (c.in_ok-shard.its_steps ∷ []) in
+    let entries : entries_of (fronts ++ front ∷ []) ≡ entries_of fronts ++ front.entries ∷ [] = map-append (λ (f : FrontView). f.entries) fronts (front ∷ []) in
+    let all : map stored_of (entries_of (fronts ++ front ∷ [])) ≡ map stored_of (entries_of fronts) ++ stored_of front.entries ∷ [] =
+    ap (λ (l : List (List Entry)). map stored_of l) entries ∙ map-append stored_of (entries_of fronts) (front.entries ∷ []) in
     record {
-      closed = rw (c.in_ok-append.ensures.items, more) (one_more_closed g.N.Opened.opening c.loop-lock.number c.loop-lock.shards.items (all_steps c.loop-lock.steps.items)
-          c.in_ok-shard.shard (items_of c.in_ok-shard.its_steps) inv.closed (record { opening = one.opening; states = one.states; history = one.history }));
-      few = (let len = c.in_ok-append-2.ensures.len in omega (arith, len, inv.few));
+      closed = rw (c.in_ok-append.ensures.items, more) (one_more_closed g.N.Opened.opening c.loop-lock.number c.loop-lock.shards.items (all_steps fronts)
+          c.in_ok-shard.shard (all_in front) inv.closed (record { opening = one.opening; states = one.states; history = one.history }));
+      stored =
+          stored
+          ∙ ((λ j. inv.stored j ++ one.steps j ∷ [])
+          ∙ (sym all ∙ ap (λ (l : List FrontView). map stored_of (entries_of l)) (sym c.in_ok-append-3.ensures.items)));
+      of_shards = rw c.in_ok-append-3.ensures.items (push_shards fronts front inv.of_shards (let n = c.loop-lock.fronts.ok.0 in omega (arith, n, one.shard, inv.few)));
+      few = (let len = c.in_ok-append-3.ensures.len in omega (arith, len, inv.few));
       left = omega (arith, short, steps.1, inv.left);
       count = omega (arith, short, inv.count);
     }

@@ -1,7 +1,7 @@
 use Rattle.std.proofs.Common.{◌≡◌, length, IsTrue, arith}
 use Rattle.std.proofs.lemmas.List.{length-map}
 use borrow.Author.Count.{below_more}
-use Rattle.roam_audit.specs.Shown.{recorded, items_of}
+use Rattle.roam_audit.specs.Shown.{all_in, recorded}
 use Rattle.roam_audit.specs.Audit.{Agrees}
 use Rattle.roam_audit.proofs.report.Report.check_seats.Goals as goal
 
@@ -15,6 +15,6 @@ loop-shard-preserved g c =
 
 pub returns : goal.returns
 returns g c = λ shard within.
-    let steps = c.args.self.now.steps.items in
-    let shards : length (recorded c.args.self.now) ≡ length steps = length-map steps items_of in
+    let fronts = c.args.self.now.fronts.items in
+    let shards : length (recorded c.args.self.now) ≡ length fronts = length-map fronts all_in in
     c.loop-shard.invariant shard (omega arith)

@@ -1,4 +1,5 @@
 use Rattle.roam_conf.specs.Shown.{shown}
+use Rattle.roam_history.specs.Books.{books_of}
 use Rattle.roam_shard.specs.ShardView.{AreStarts}
 use Rattle.roam_bench.proofs.mutated.Trial.run_hubs.Given as goal
 
@@ -8,4 +9,4 @@ invariant-loop g l = AreStarts (shown l.config) l.next.items
 
 -- how it opens
 abbrev pub ghosts-epoch : goal.ghosts-epoch
-ghosts-epoch g a = record { opening = record { config = shown a.config.now; starts = a.starts.now } }
+ghosts-epoch g a = record { opening = record { config = shown a.config.now; starts = a.starts.now }; books = books_of a.blanks }

@@ -1,5 +1,16 @@
-use Rattle.std.proofs.Common.{◌≡◌, vec_len}
+use Rattle.std.specs.Vec.Iter.{into_iter_items, into_iter_len}
+use Rattle.std.proofs.Common.{◌≡◌, ◌+◌, [], ℕ, length, replicate, vec_len, Some, slice_get}
+use Rattle.roam_history.specs.Fronts.{AreOfShards, entries_of}
+use Rattle.roam_history.specs.declared.blank.Blank.{Blank}
 use Rattle.roam_hub.proofs.hub.Hub.open.Given as goal
 
-abbrev pub invariant-loop-shard : goal.invariant-loop-shard
-invariant-loop-shard g l = vec_len l.locks ≡ l.shard
+abbrev pub invariant-loop-blank : goal.invariant-loop-blank
+invariant-loop-blank g l = record {
+  books : (k : ℕ) (b : Blank) → slice_get (into_iter_items l.blank-iterator) k ≡ Some b → b.seen.book ≡ g.N.Opened.books (l.shard + k);
+  locks : vec_len l.locks ≡ l.shard;
+  fronts : vec_len l.fronts ≡ l.shard;
+  unseen : entries_of l.fronts.items ≡ replicate l.shard [];
+  of_shards : AreOfShards l.fronts.items;
+  left : into_iter_len l.blank-iterator ≡ length (into_iter_items l.blank-iterator);
+  count : l.shard + length (into_iter_items l.blank-iterator) ≡ l.config.shards;
+}

@@ -1,29 +1,33 @@
-use Rattle.std.proofs.Common.{◌≡◌, ap, subst, sym, ◌∙◌}
-use Rattle.roam_shard.specs.ShardView.{OpeningView}
-use Rattle.roam_trace.specs.History.{IsHistory, TraceView, end_of}
-use Rattle.roam_hub.specs.HubOpening.{opening_at}
-use Rattle.roam_hub.proofs.HubLemmas.{its_opening}
+-- The shard stands where its whole history ends.
+use Rattle.std.proofs.Common.{◌≡◌, ℕ, ap, subst, sym, ◌∙◌}
+use Rattle.roam_trace.specs.History.{IsHistory, end_of}
+use Rattle.roam_history.specs.Entries.{steps_in}
+use Rattle.roam_history.specs.HubOpening.{opening_at}
+use Rattle.roam_hub.specs.Keeping.{KeptView}
+use Rattle.roam_hub.proofs.KeptLemmas.{whole_end, whole_history}
 use Rattle.roam_hub.proofs.kept.Kept.cut.Goals as goal
 
 pub returns-clause-opening : goal.returns-clause-opening
 returns-clause-opening g c =
-    let i = c.self.inside in
     let o = g.N.Opened.opening in
-    let shard = ap (λ (v : TraceView). v.opening.shard) c.self.view_is ∙ c.is_of.ensures.0 c.if-not-is_of.false in
-    c.cut.ensures.opening ∙ its_opening o i.traced.opening c.args.shard shard c.self.invariant.config c.self.invariant.starts
+    let here : c.self.inside.front.shard ≡ c.args.shard = sym c.shard.ensures ∙ c.if-shard.false in
+    c.cut-shard.ensures.opening ∙ (c.self.invariant.0.opening ∙ ap (λ (n : ℕ). opening_at o n) here)
 
 pub returns-clause-states : goal.returns-clause-states
 returns-clause-states g c =
-    let i = c.self.inside in
     let o = g.N.Opened.opening in
-    let shard = ap (λ (v : TraceView). v.opening.shard) c.self.view_is ∙ c.is_of.ensures.0 c.if-not-is_of.false in
-    let is = its_opening o i.traced.opening c.args.shard shard c.self.invariant.config c.self.invariant.starts in
-    c.cut.ensures.states ∙ ap (λ (p : OpeningView). end_of p i.traced.steps) is ∙ ap (λ l. end_of (opening_at o c.args.shard) l) (sym c.cut.ensures.steps)
+    let i = c.self.inside in
+    let k : KeptView = record { trace = i.traced; front = i.front } in
+    let here : i.front.shard ≡ c.args.shard = sym c.shard.ensures ∙ c.if-shard.false in
+    c.cut-shard.ensures.states ∙ (whole_end o k c.self.invariant.0 ∙ ap (λ (n : ℕ). end_of (opening_at o n) (steps_in i.front.entries)) here)
 
 pub returns-clause-history : goal.returns-clause-history
 returns-clause-history g c =
-    let i = c.self.inside in
     let o = g.N.Opened.opening in
-    let shard = ap (λ (v : TraceView). v.opening.shard) c.self.view_is ∙ c.is_of.ensures.0 c.if-not-is_of.false in
-    let is = its_opening o i.traced.opening c.args.shard shard c.self.invariant.config c.self.invariant.starts in
-    subst (λ (p : OpeningView). IsHistory p c.cut.result.1.items) is c.cut.ensures.history
+    let i = c.self.inside in
+    let k : KeptView = record { trace = i.traced; front = i.front } in
+    let here : i.front.shard ≡ c.args.shard = sym c.shard.ensures ∙ c.if-shard.false in
+    subst (λ (n : ℕ). IsHistory (opening_at o n) (steps_in i.front.entries)) here (whole_history o k c.self.invariant.0)
+
+pub returns-clause-steps : goal.returns-clause-steps
+returns-clause-steps g c = c.cut-shard.ensures.steps ∙ c.self.invariant.0.stored

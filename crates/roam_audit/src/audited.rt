@@ -1,0 +1,93 @@
+//! A report that passed its audit.
+
+ghost use Rattle.std.specs.Prelude.{◌≡◌, ◌<◌, ℕ, true, IfOk, OnOk, vec_len};
+ghost use Rattle.std.specs.List.{All};
+ghost use mathlib.Core.List.{IsPrefix};
+ghost use Rattle.roam_audit.specs.Seats.{front_of};
+ghost use Rattle.roam_audit.specs.Shown.{recorded, whole_of};
+ghost use Rattle.roam_audit.specs.Audit.{AllAgree, Begins};
+
+use crate::audit_fault::AuditFault;
+use crate::report::Report;
+use crate::seat::Seat;
+use roam_history::Opened;
+use std::alloc::Allocator;
+
+/// Audited: a report that passed its audit, and the seats by which it did. Who has one knows that the seats
+/// counted just the steps that were recorded, and that all that each of them had seen of a shard's history
+/// begins the report's.
+#[derive(Drop)]
+pub struct Audited<A: Allocator, N: Opened> {
+    report: Report<A, N>,
+    seats: Vec<Seat<A, N>, A>,
+    ghost agree: { AllAgree (recorded report) seats.items },
+    ghost begun: { All (λ seat. (shard : ℕ) → shard < N.opening.config.shards
+        → Begins (front_of seat shard) (whole_of report shard)) seats.items },
+}
+
+impl<A: Allocator, N: Opened> Audited<A, N> {
+    /// The report. Takes no memory.
+    pub fn report(&self) -> &Report<A, N>
+        ensures { result.now ≡ self.now.report }
+    {
+        &self.report
+    }
+}
+
+impl<A: Allocator, N: Opened> Report<A, N> {
+    /// Whether all that a seat has seen of a shard begins that shard's history here.
+    fn has_seen(&self, seat: &Seat<A, N>, shard: usize) -> bool
+        requires { shard < vec_len self.now.fronts }
+        ensures { result ≡ true → IsPrefix (front_of seat.now shard) (whole_of self.now shard) }
+    {
+        seat.front(shard as u16).begins(&self.fronts[shard])
+    }
+
+    /// Whether all that a seat has seen of each shard begins that shard's history here.
+    fn has_all_of(&self, seat: &Seat<A, N>) -> bool
+        ensures { result ≡ true → (shard : ℕ) → shard < N.opening.config.shards
+            → Begins (front_of seat.now shard) (whole_of self.now shard) }
+    {
+        for shard in 0..self.fronts.len() {
+            if !self.has_seen(seat, shard) {
+                return false;
+            }
+        }
+        true
+    }
+
+    /// Whether all that each of these seats has seen begins the histories here.
+    fn has_all(&self, seats: &[Seat<A, N>]) -> bool
+        ensures { result ≡ true → All (λ seat. (shard : ℕ) → shard < N.opening.config.shards
+            → Begins (front_of seat shard) (whole_of self.now shard)) seats.now }
+    {
+        seats.iter().all(|seat| self.has_all_of(seat))
+    }
+
+    /// Audits the report by these seats, with no receipts, and looks at what they have seen.
+    fn passes(&self, seats: &[Seat<A, N>]) -> Result<(), AuditFault>
+        ensures agree { OnOk result (AllAgree (recorded self.now) seats.now) }
+        ensures begun { OnOk result (All (λ seat. (shard : ℕ) → shard < N.opening.config.shards
+            → Begins (front_of seat shard) (whole_of self.now shard)) seats.now) }
+    {
+        self.check_seats(seats)?;
+        if self.has_all(seats) {
+            Ok(())
+        } else {
+            Err(AuditFault::Seats { shard: 0 })
+        }
+    }
+
+    /// Audits the report by these seats, with no receipts: see `audit`. Where a seat has seen what isn't recorded here, that
+    /// is a fault of the seats of shard 0. Takes no memory.
+    pub fn audited(self, seats: Vec<Seat<A, N>, A>) -> Result<Audited<A, N>, AuditFault>
+        ensures report { IfOk result (λ a. a.report ≡ self) }
+        ensures seats { IfOk result (λ a. a.seats ≡ seats) }
+    {
+        self.passes(seats.as_slice())?;
+        Ok(Audited {
+            report: self,
+            seats,
+        })
+    }
+}

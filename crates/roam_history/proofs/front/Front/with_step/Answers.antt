@@ -1,0 +1,22 @@
+-- It has one entry more, which is a step.
+use Rattle.std.proofs.Common.{◌≡◌, ◌<◌, ◌+◌, ◌++◌, ◌∷◌, [], length, ap, sym, ◌∙◌, arith, length-append}
+use Rattle.roam_history.specs.Entries.{last_of, steps_in}
+use Rattle.roam_history.proofs.EntryLemmas.{counts_step, steps-few}
+use Rattle.roam_history.proofs.front.Front.with_step.Goals as goal
+
+pub overflow_add-result-2 : goal.overflow_add-result-2
+overflow_add-result-2 g c =
+    let log = c.self.inside.seen.log in
+    let room = c.requires.room in
+    let same = ap (λ f. length f.entries) c.self.view_is in
+    omega (arith, c.self.invariant.1, steps-few log, same, room)
+
+pub invariant_of-result : goal.invariant_of-result
+invariant_of-result g c =
+    let log = c.self.inside.seen.log in
+    let steps = c.args.traced.now.steps in
+    let is = c.in_ok-seen.ensures.log in (
+      omega (arith, c.self.invariant.0, ap length is, length-append log (last_of steps ∷ [])),
+      omega (arith, c.self.invariant.1, ap (λ l. length (steps_in l)) is, counts_step log steps c.requires.step.0 c.requires.step.1),
+      c.in_ok-seen.ensures.book ∙ c.self.invariant.2,
+    )

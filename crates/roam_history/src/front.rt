@@ -1,0 +1,176 @@
+//! A beginning of a shard's history that was seen.
+
+ghost use Rattle.std.specs.Prelude.{◌≡◌, ◌-◌, ◌<◌, ◌^◌, ◌++◌, ◌∷◌, ◌↔◌, [], Some, None, false, length, true, IfSome};
+ghost use mathlib.Core.List.{IsPrefix};
+ghost use Rattle.roam_history.specs.Entries.{last_of, steps_in};
+ghost use Rattle.roam_trace.specs.Steps.{PlainStep};
+
+use crate::head::Head;
+use crate::opened::Opened;
+use crate::rule::{Add, Entry, LetGo, Nothing, OneHistory};
+use logbook::{Offer, Plain, Seen};
+use roam_trace::Traced;
+use std::alloc::Allocator;
+use std::marker::{Model, PhantomData};
+
+/// Front: a beginning of a shard's one history that was seen. Contracts see of which shard, and the
+/// entries. At run time it is three numbers.
+#[derive(Drop)]
+pub struct Front<N: Opened> {
+    shard: u16,
+    /// How many entries it has.
+    entries: u64,
+    /// How many of them are steps.
+    steps: u64,
+    seen: Seen<Entry, u64, OneHistory>,
+    hub: PhantomData<N>,
+}
+
+impl<N: Opened> Model for Front<N> {
+    ghost use Rattle.std.specs.Prelude.{◌≡◌, length};
+    ghost use Rattle.roam_history.specs.Entries.{steps_in};
+    ghost use Rattle.roam_history.specs.Fronts.{FrontView};
+
+    ghost Value = { FrontView };
+
+    ghost view = { λ f. record { shard = f.shard; entries = f.seen.log } };
+
+    ghost invariant = { λ f. (f.entries ≡ length f.seen.log)
+        × (f.steps ≡ length (steps_in f.seen.log))
+        × (f.seen.book ≡ N.books f.shard) };
+}
+
+/// Adds an entry to all that was seen of a history, where no more was ever added: what is seen then. None
+/// where more was: nothing is added then. The one step of all this that threads share: a word is compared
+/// and exchanged.
+fn added<N: Opened, X, M: Plain<X, Entry, u64>>(
+    head: &Head<N>,
+    seen: &Seen<Entry, u64, OneHistory>,
+    entries: u64,
+    about: &X,
+) -> Option<Seen<Entry, u64, OneHistory>>
+    requires book { seen.now.book ≡ N.books head.now.shard }
+    requires entries { entries ≡ length seen.now.log }
+    requires room { entries < 2 ^ 64 - 1 }
+    requires state { M.state about.now ≡ None }
+    ensures log { IfSome result (λ s. s.log ≡ seen.now.log ++ M.ask about.now ∷ []) }
+    ensures book { IfSome result (λ s. s.book ≡ seen.now.book) }
+{
+    let mut seen = seen.again();
+    let mut offer: Offer<Entry, u64, OneHistory, Nothing> = seen.plain::<Nothing, X, M>(about);
+    let mut pen = seen.no_pen();
+    let found = head
+        .word
+        .compare_exchange::<Add, Nothing>(entries, entries + 1, &mut seen, &mut offer, &mut pen);
+    if found == entries { Some(seen) } else { None }
+}
+
+impl<N: Opened> Front<N> {
+    /// The front that has seen nothing.
+    pub(crate) fn new(shard: u16, seen: Seen<Entry, u64, OneHistory>) -> Front<N>
+        requires book { seen.book ≡ N.books shard }
+        requires empty { seen.log ≡ [] }
+        ensures { result ≡ record { shard = shard; entries = [] } }
+    {
+        Front {
+            shard,
+            entries: 0,
+            steps: 0,
+            seen,
+            hub: PhantomData,
+        }
+    }
+
+    /// How many steps it has: those that were let go of, and the stored ones. Takes no memory.
+    pub fn len(&self) -> u64
+        ensures { result ≡ length (steps_in self.now.entries) }
+    {
+        self.steps
+    }
+
+    /// How many entries it has. Takes no memory.
+    pub fn entries(&self) -> u64
+        ensures { result ≡ length self.now.entries }
+    {
+        self.entries
+    }
+
+    /// Of which shard it is. Takes no memory.
+    pub fn shard(&self) -> u16
+        ensures { result ≡ self.now.shard }
+    {
+        self.shard
+    }
+
+    /// The same. Takes no memory.
+    pub fn again(&self) -> Front<N>
+        ensures { result ≡ self.now }
+    {
+        Front {
+            shard: self.shard,
+            entries: self.entries,
+            steps: self.steps,
+            seen: self.seen.again(),
+            hub: PhantomData,
+        }
+    }
+
+    /// Whether the other one begins with this one. Of two fronts of one shard one always begins with the
+    /// other. Takes no memory.
+    pub fn begins(&self, whole: &Front<N>) -> bool
+        requires { whole.now.shard ≡ self.now.shard }
+        ensures begins { result ≡ true ↔ IsPrefix self.now.entries whole.now.entries }
+        ensures other { result ≡ false → IsPrefix whole.now.entries self.now.entries }
+    {
+        let mut both = self.seen.again();
+        both.learn(&whole.seen);
+        if self.entries <= whole.entries {
+            return true;
+        }
+        false
+    }
+
+    /// Adds the last step of a trace to all that was seen here, where no more was ever added: what is
+    /// seen then. None where more was: nothing is added then. Takes no memory.
+    pub fn with_step<A: Allocator>(
+        &self,
+        head: &Head<N>,
+        traced: &Traced<'_, A>,
+    ) -> Option<Front<N>>
+        requires shard { head.now.shard ≡ self.now.shard }
+        requires room { length self.now.entries < 2 ^ 64 - 1 }
+        requires step { (s : PlainStep) × (last_of traced.now.steps ≡ Some s) }
+        ensures { IfSome result (λ f. f ≡ record {
+          shard = self.now.shard;
+          entries = self.now.entries ++ last_of traced.now.steps ∷ [];
+        }) }
+    {
+        let seen = added::<N, Traced<'_, A>, Add>(head, &self.seen, self.entries, traced)?;
+        Some(Front {
+            shard: self.shard,
+            entries: self.entries + 1,
+            steps: self.steps + 1,
+            seen,
+            hub: PhantomData,
+        })
+    }
+
+    /// The same, with an entry which says that the stored steps were let go of.
+    pub fn without_steps(&self, head: &Head<N>) -> Option<Front<N>>
+        requires shard { head.now.shard ≡ self.now.shard }
+        requires room { length self.now.entries < 2 ^ 64 - 1 }
+        ensures { IfSome result (λ f. f ≡ record {
+          shard = self.now.shard;
+          entries = self.now.entries ++ None ∷ [];
+        }) }
+    {
+        let seen = added::<N, LetGo, LetGo>(head, &self.seen, self.entries, &LetGo)?;
+        Some(Front {
+            shard: self.shard,
+            entries: self.entries + 1,
+            steps: self.steps,
+            seen,
+            hub: PhantomData,
+        })
+    }
+}

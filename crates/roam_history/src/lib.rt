@@ -1,0 +1,20 @@
+//! One history of each shard, for all threads: what was written into it, as far as each of them has seen
+//! it.
+//!
+//! A history exists in proofs alone. What there is at run time is a word, which counts its entries, and
+//! in each [`Front`], a beginning of the history that was seen, how many it has. Nothing here touches a
+//! thread, a lock, a socket or a clock.
+#![tactic(auto)]
+
+mod blank;
+mod blanks;
+mod front;
+mod head;
+mod opened;
+mod rule;
+
+pub use blank::Blank;
+pub use blanks::Blanks;
+pub use front::Front;
+pub use head::Head;
+pub use opened::Opened;

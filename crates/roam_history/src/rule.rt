@@ -1,0 +1,68 @@
+//! What threads may do to a history: add an entry at its end, and nothing else.
+
+use logbook::{Gain, Plain, Play, Rule};
+use roam_trace::{Step, Traced};
+use std::alloc::{Allocator, Global};
+
+/// An entry of a history, in proofs alone: a step; or none, where the stored steps were let go of.
+pub(crate) type Entry = Option<Step<Global>>;
+
+/// The rule of a history.
+pub(crate) struct OneHistory;
+
+impl Rule<Entry, u64> for OneHistory {
+    ghost use Rattle.std.specs.Prelude.{[]};
+    ghost use base.Fml.{ftrue};
+    ghost use Rattle.roam_history.specs.Rules.{IsKept};
+
+    ghost holds = { λ cells log. IsKept cells log };
+
+    ghost first = { [] };
+
+    ghost hinted = { λ n log. Unit {0} };
+
+    ghost shows = { λ log. [] };
+
+    ghost keeps = { λ names log. ftrue };
+
+    ghost moves = { λ ask before after answer. Unit {0} };
+}
+
+/// Callers trade nothing.
+pub(crate) struct Nothing;
+
+impl Gain<Entry, u64> for Nothing {
+    ghost use base.Fml.{ftrue};
+
+    ghost after = { λ names about answer. ftrue };
+}
+
+/// An entry is added.
+pub(crate) struct Add;
+
+impl Play<Entry, u64> for Add {
+    ghost use Rattle.roam_history.specs.Rules.{Adds};
+
+    ghost then = { Adds };
+}
+
+/// The last step of a trace is added.
+impl<A: Allocator> Plain<Traced<'_, A>, Entry, u64> for Add {
+    ghost use Rattle.std.specs.Prelude.{None};
+    ghost use Rattle.roam_history.specs.Entries.{last_of};
+
+    ghost ask = { λ t. last_of t.steps };
+
+    ghost state = { λ _. None };
+}
+
+/// That stored steps were let go of.
+pub(crate) struct LetGo;
+
+impl Plain<LetGo, Entry, u64> for LetGo {
+    ghost use Rattle.std.specs.Prelude.{None};
+
+    ghost ask = { λ _. None };
+
+    ghost state = { λ _. None };
+}

@@ -1,0 +1,208 @@
+-- What lies under a lock, one call later.
+use Rattle.std.proofs.Common.{◌≡◌, ℕ, zero, suc, ◌+◌, ◌<◌, ◌≤◌, List, [], ◌∷◌, ◌++◌, length, Some, None, slice_get, slice_index_or, slice_set, refl, ap, sym, subst, ◌∙◌, arith}
+use Rattle.std.proofs.lemmas.List.{length-append, get_or-set_same, get_or-set_other}
+use mathlib.Core.List.{IsPrefix}
+use Rattle.roam_shard.specs.ShardView.{OpeningView, opened}
+use Rattle.roam_trace.specs.History.{Ends, GoesOn, IsHistory, TraceView, end_of, with_step, without_steps}
+use Rattle.roam_shard.specs.Twins.{NothingDue}
+use Rattle.roam_trace.specs.Steps.{PlainStep}
+use Rattle.roam_history.specs.Entries.{Entry, gone_of, last_of, steps_in, stored_of}
+use Rattle.roam_history.specs.Fronts.{FrontView}
+use Rattle.roam_history.specs.HubOpening.{HubOpening, opening_at}
+use Rattle.roam_history.proofs.EntryLemmas.{all-gone, all-steps, last-push, none-stored, one-step, one-stored, same-gone, same-steps, steps-append}
+use Rattle.roam_history.proofs.Prefixes.{prefix_length, prefix_self, prefix_trans}
+use Rattle.roam_audit.specs.Seats.{SeatView, after_call, front_of, having_seen}
+use Rattle.roam_audit.proofs.PrefixLemmas.{steps_begin}
+use Rattle.roam_hub.specs.Calls.{AreGone, IsCall, IsFull, IsQuiet, Sees}
+use Rattle.roam_hub.specs.Keeping.{IsKept, KeptView}
+
+-- a seat that has seen all entries of a shard
+front_same : (fronts : List (List Entry)) (shard : ℕ) (es : List Entry) → shard < length fronts → slice_index_or (slice_set fronts shard es) shard [] ≡ es
+front_same fronts shard es lt = get_or-set_same fronts shard es [] lt
+
+-- nothing was seen
+pub sees_same : (shard : ℕ) (old : SeatView) → Sees shard old old
+sees_same shard old = record { begins = prefix_self (front_of old shard); others = λ k ne. refl }
+
+sees_set : (shard : ℕ) (old new : SeatView) (es : List Entry) → new.fronts ≡ slice_set old.fronts shard es → shard < length old.fronts → IsPrefix (front_of old shard) es → Sees shard old new
+sees_set shard old new es is lt pre = record {
+  begins = subst (λ (l : List Entry). IsPrefix (front_of old shard) l) (sym (ap (λ (fs : List (List Entry)). slice_index_or fs shard []) is ∙ front_same old.fronts shard es lt)) pre;
+  others = λ k ne. ap (λ (fs : List (List Entry)). slice_index_or fs k []) is ∙ get_or-set_other old.fronts shard k es [] ne;
+}
+
+-- a seat that has then seen the whole history of a shard
+pub sees_whole : (shard : ℕ) (old new : SeatView) (es : List Entry) → new ≡ having_seen old shard es → shard < length old.fronts → IsPrefix (front_of old shard) es
+    → (front_of new shard ≡ es) × Sees shard old new
+sees_whole shard old new es is lt pre =
+    let fronts = ap (λ (s : SeatView). s.fronts) is in (
+      ap (λ (fs : List (List Entry)). slice_index_or fs shard []) fronts ∙ front_same old.fronts shard es lt,
+      sees_set shard old new es fronts lt pre,
+    )
+
+-- the whole history of a shard is one from the hub's opening, and where it ends the shard stands
+pub whole_history : (o : HubOpening) (k : KeptView) → IsKept o k → IsHistory (opening_at o k.front.shard) (steps_in k.front.entries)
+whole_history o k kept =
+    let all : gone_of k.front.entries ++ k.trace.steps ≡ steps_in k.front.entries =
+    ap (λ (l : List PlainStep). gone_of k.front.entries ++ l) kept.stored ∙ all-steps k.front.entries in
+    subst (λ (l : List PlainStep). IsHistory (opening_at o k.front.shard) l) all
+    (subst (λ (p : OpeningView). IsHistory p (gone_of k.front.entries ++ k.trace.steps)) kept.opening kept.ends.history)
+
+pub whole_end : (o : HubOpening) (k : KeptView) → IsKept o k → k.trace.states ≡ end_of (opening_at o k.front.shard) (steps_in k.front.entries)
+whole_end o k kept =
+    let all : gone_of k.front.entries ++ k.trace.steps ≡ steps_in k.front.entries =
+    ap (λ (l : List PlainStep). gone_of k.front.entries ++ l) kept.stored ∙ all-steps k.front.entries in
+    kept.ends.stands
+    ∙ (ap (λ (p : OpeningView). end_of p (gone_of k.front.entries ++ k.trace.steps)) kept.opening
+    ∙ ap (λ (l : List PlainStep). end_of (opening_at o k.front.shard) l) all)
+
+-- a shard at its opening
+pub kept_new : (o : HubOpening) (t : TraceView) (f : FrontView)
+    → t ≡ record { opening = opening_at o f.shard; states = opened (opening_at o f.shard); gone = 0; steps = []; limit = o.config.trace_limit }
+    → f.entries ≡ [] → IsKept o (record { trace = t; front = f })
+kept_new o t f is none =
+    let here : IsKept o (record { trace = record { opening = opening_at o f.shard; states = opened (opening_at o f.shard); gone = 0; steps = []; limit = o.config.trace_limit }; front = record { shard = f.shard; entries = [] } }) =
+    record {
+      opening = refl;
+      limit = refl;
+      ends = record { history = tt; stands = refl };
+      stored = refl;
+      gone = refl;
+    } in
+    subst (λ (v : TraceView). IsKept o (record { trace = v; front = f })) (sym is)
+    (subst (λ (es : List Entry). IsKept o (record { trace = record { opening = opening_at o f.shard; states = opened (opening_at o f.shard); gone = 0; steps = []; limit = o.config.trace_limit }; front = record { shard = f.shard; entries = es } })) (sym none) here)
+
+-- with one step more
+kept_step : (o : HubOpening) (k : KeptView) (s : PlainStep) → IsKept o k → GoesOn k.trace (with_step k.trace s)
+    → IsKept o (record { trace = with_step k.trace s; front = record { shard = k.front.shard; entries = k.front.entries ++ Some s ∷ [] } })
+kept_step o k s kept more =
+    let es = k.front.entries in
+    let gone : gone_of (es ++ Some s ∷ []) ≡ gone_of es = same-gone es s in
+    record {
+      opening = kept.opening;
+      limit = kept.limit;
+      ends = subst (λ (l : List PlainStep). Ends (with_step k.trace s) l) (sym gone) (more (gone_of es) kept.ends);
+      stored = ap (λ (l : List PlainStep). l ++ s ∷ []) kept.stored ∙ sym (one-stored es s);
+      gone = kept.gone ∙ ap length (sym gone);
+    }
+
+-- where the stored steps were let go of
+pub kept_gone : (o : HubOpening) (k : KeptView) → IsKept o k → Ends (without_steps k.trace) (gone_of k.front.entries ++ k.trace.steps)
+    → IsKept o (record { trace = without_steps k.trace; front = record { shard = k.front.shard; entries = k.front.entries ++ None ∷ [] } })
+kept_gone o k kept ends =
+    let es = k.front.entries in
+    let gone : gone_of es ++ k.trace.steps ≡ gone_of (es ++ None ∷ []) =
+    ap (λ (l : List PlainStep). gone_of es ++ l) kept.stored ∙ sym (all-gone es) in
+    record {
+      opening = kept.opening;
+      limit = kept.limit;
+      ends = subst (λ (l : List PlainStep). Ends (without_steps k.trace) l) gone ends;
+      stored = sym (none-stored es);
+      gone =
+          ap (λ (n : ℕ). n + length k.trace.steps) kept.gone
+          ∙ (sym (length-append (gone_of es) k.trace.steps) ∙ ap length gone);
+    }
+
+get-last : (xs : List PlainStep) (s : PlainStep) → slice_get (xs ++ s ∷ []) (length xs) ≡ Some s
+get-last [] s = refl
+get-last (x ∷ xs) s = get-last xs s
+
+-- a call was recorded
+pub record Recorded (o : HubOpening) (k : KeptView) (shard : ℕ) (old new : SeatView) (number : ℕ) (s : PlainStep) : Type 0 where
+  pub kept : IsKept o k
+  pub call : IsCall o shard old new number s
+  pub sees : Sees shard old new
+  pub front : front_of new shard ≡ k.front.entries
+
+-- what is known where it was
+pub record Recording (k : KeptView) (t : TraceView) (f : FrontView) (s : PlainStep) (shard number : ℕ) (old new : SeatView) : Type 0 where
+  pub trace : t ≡ with_step k.trace s
+  pub more : GoesOn k.trace t
+  pub front : f ≡ record { shard = k.front.shard; entries = k.front.entries ++ last_of t.steps ∷ [] }
+  pub here : k.front.shard ≡ shard
+  pub there : shard < length old.fronts
+  pub begins : IsPrefix (front_of old shard) k.front.entries
+  pub number_is : number ≡ length (steps_in k.front.entries)
+  pub noted : new ≡ after_call old shard number f.entries
+
+recorded-one : (o : HubOpening) (k : KeptView) (s : PlainStep) (shard number : ℕ) (old new : SeatView) → IsKept o k
+    → GoesOn k.trace (with_step k.trace s) → k.front.shard ≡ shard → shard < length old.fronts → IsPrefix (front_of old shard) k.front.entries
+    → number ≡ length (steps_in k.front.entries) → new ≡ after_call old shard number (k.front.entries ++ Some s ∷ [])
+    → Recorded o (record { trace = with_step k.trace s; front = record { shard = k.front.shard; entries = k.front.entries ++ Some s ∷ [] } }) shard old new number s
+recorded-one o k s shard number old new kept more here there begins number_is noted =
+    let es = k.front.entries in
+    let whole = es ++ Some s ∷ [] in
+    let after : KeptView = record { trace = with_step k.trace s; front = record { shard = k.front.shard; entries = whole } } in
+    let keeps : IsKept o after = kept_step o k s kept more in
+    let fronts = ap (λ (x : SeatView). x.fronts) noted in
+    let front : front_of new shard ≡ whole = ap (λ (fs : List (List Entry)). slice_index_or fs shard []) fronts ∙ front_same old.fronts shard whole there in
+    let steps : steps_in (front_of new shard) ≡ steps_in es ++ s ∷ [] = ap (λ (l : List Entry). steps_in l) front ∙ one-step es s in
+    let history : IsHistory (opening_at o shard) (steps_in whole) = subst (λ (n : ℕ). IsHistory (opening_at o n) (steps_in whole)) here (whole_history o after keeps) in
+    record {
+      kept = keeps;
+      call = record {
+        tallies = ap (λ (x : SeatView). x.tallies) noted;
+        stands = ap (λ (l : List PlainStep). slice_get l number) steps ∙ (ap (λ (n : ℕ). slice_get (steps_in es ++ s ∷ []) n) number_is ∙ get-last (steps_in es) s);
+        last = (let len = ap length steps in let more = length-append (steps_in es) (s ∷ []) in omega (arith, len, more, number_is));
+        rises = (let less = prefix_length (steps_in (front_of old shard)) (steps_in es) (steps_begin (front_of old shard) es begins) in omega (arith, less, number_is));
+        history = subst (λ (l : List Entry). IsHistory (opening_at o shard) (steps_in l)) (sym front) history;
+      };
+      sees = sees_set shard old new whole fronts there (prefix_trans (front_of old shard) es whole begins (Some s ∷ [], refl));
+      front = front;
+    }
+
+pub recorded : (o : HubOpening) (k : KeptView) (t : TraceView) (f : FrontView) (s : PlainStep) (shard number : ℕ) (old new : SeatView)
+    → IsKept o k → Recording k t f s shard number old new → Recorded o (record { trace = t; front = f }) shard old new number s
+recorded o k t f s shard number old new kept r =
+    let last : last_of t.steps ≡ Some s = ap (λ (v : TraceView). last_of v.steps) r.trace ∙ last-push k.trace.steps s in
+    let front : f ≡ record { shard = k.front.shard; entries = k.front.entries ++ Some s ∷ [] } =
+    r.front ∙ ap (λ (e : Entry). record { shard = k.front.shard; entries = k.front.entries ++ e ∷ [] }) last in
+    let noted = r.noted ∙ ap (λ (g : FrontView). after_call old shard number g.entries) front in
+    let more = subst (λ (v : TraceView). GoesOn k.trace v) r.trace r.more in
+    let one = recorded-one o k s shard number old new kept more r.here r.there r.begins r.number_is noted in
+    subst (λ (g : FrontView). Recorded o (record { trace = t; front = g }) shard old new number s) (sym front)
+    (subst (λ (v : TraceView). Recorded o (record { trace = v; front = record { shard = k.front.shard; entries = k.front.entries ++ Some s ∷ [] } }) shard old new number s) (sym r.trace) one)
+
+-- the stored steps of a shard were let go of
+pub gone_of_shard : (o : HubOpening) (k : KeptView) (shard : ℕ) (old new : SeatView) (steps : List PlainStep) → IsKept o k
+    → k.front.shard ≡ shard → shard < length old.fronts → IsPrefix (front_of old shard) k.front.entries
+    → steps ≡ k.trace.steps → new ≡ having_seen old shard (k.front.entries ++ None ∷ [])
+    → AreGone o shard old new steps × Sees shard old new
+gone_of_shard o k shard old new steps kept here there begins are seen =
+    let es = k.front.entries in
+    let whole = es ++ None ∷ [] in
+    let both = sees_whole shard old new whole seen there (prefix_trans (front_of old shard) es whole begins (None ∷ [], refl)) in
+    let history : IsHistory (opening_at o shard) (steps_in es) = subst (λ (n : ℕ). IsHistory (opening_at o n) (steps_in es)) here (whole_history o k kept) in (
+      record {
+        before = es;
+        entries = both.0;
+        steps_are = are ∙ kept.stored;
+        history = subst (λ (l : List PlainStep). IsHistory (opening_at o shard) l) (sym (ap (λ (l : List Entry). steps_in l) both.0 ∙ same-steps es)) history;
+        tallies = ap (λ (x : SeatView). x.tallies) seen;
+      },
+      both.1,
+    )
+
+-- nothing was due where the shard stands
+pub quiet : (o : HubOpening) (k : KeptView) (shard now : ℕ) (old new : SeatView) → IsKept o k
+    → k.front.shard ≡ shard → shard < length old.fronts → IsPrefix (front_of old shard) k.front.entries
+    → NothingDue now k.trace.states → new ≡ having_seen old shard k.front.entries
+    → IsQuiet o shard now old new × Sees shard old new
+quiet o k shard now old new kept here there begins none seen =
+    let both = sees_whole shard old new k.front.entries seen there begins in
+    let history = subst (λ (n : ℕ). IsHistory (opening_at o n) (steps_in k.front.entries)) here (whole_history o k kept) in
+    let end = whole_end o k kept ∙ ap (λ (n : ℕ). end_of (opening_at o n) (steps_in k.front.entries)) here in (
+      record {
+        tallies = ap (λ (x : SeatView). x.tallies) seen;
+        history = subst (λ (l : List Entry). IsHistory (opening_at o shard) (steps_in l)) (sym both.0) history;
+        quiet = subst (λ (l : List Entry). NothingDue now (end_of (opening_at o shard) (steps_in l))) (sym both.0) (subst (λ states. NothingDue now states) end none);
+      },
+      both.1,
+    )
+
+-- as many steps are stored as the trace can hold
+pub full : (o : HubOpening) (k : KeptView) (shard : ℕ) (old new : SeatView) → IsKept o k
+    → k.front.shard ≡ shard → shard < length old.fronts → IsPrefix (front_of old shard) k.front.entries
+    → new ≡ having_seen old shard k.front.entries → length k.trace.steps ≡ k.trace.limit → IsFull o shard new
+full o k shard old new kept here there begins seen all =
+    let both = sees_whole shard old new k.front.entries seen there begins in
+    ap (λ (l : List Entry). length (stored_of l)) both.0 ∙ (ap length (sym kept.stored) ∙ (all ∙ kept.limit))

@@ -1,0 +1,64 @@
+-- What a hub's calls do to a caller's seat (ours). A seat has seen a beginning of the one history of each
+-- shard; where a call is recorded its step stands in what the seat has then seen.
+use Rattle.std.specs.Prelude.{◌≡◌, ℕ, ◌+◌, ◌≤◌, List, [], ◌∷◌, ◌++◌, Option, Some, None, length, slice_get}
+use mathlib.Core.List.{IsPrefix}
+use Rattle.roam_core.specs.Events.{PlainEvent}
+use Rattle.roam_shard.specs.Twins.{NothingDue}
+use Rattle.roam_trace.specs.History.{IsHistory, end_of}
+use Rattle.roam_trace.specs.Steps.{PlainStep, shown_answer}
+use Rattle.roam_history.specs.Entries.{Entry, steps_in, stored_of}
+use Rattle.roam_history.specs.HubOpening.{HubOpening, opening_at}
+use Rattle.roam_audit.specs.Seats.{SeatView, front_of, noted}
+use Rattle.roam_hub.specs.declared.answered.Answered.{Answered}
+
+-- whatever a call of a shard gives: all that the seat had seen of that shard begins what it has then seen.
+-- Of other shards it has seen what it had
+pub record Sees (shard : ℕ) (old new : SeatView) : Type 0 where
+  pub begins : IsPrefix (front_of old shard) (front_of new shard)
+  pub others : (k : ℕ) → (k ≡ shard → ⊥) → front_of new k ≡ front_of old k
+
+-- what a seat has seen of a shard is a history from the hub's opening
+abbrev pub HasHistory : HubOpening → ℕ → SeatView → Type 0
+HasHistory o shard seat = IsHistory (opening_at o shard) (steps_in (front_of seat shard))
+
+-- a call was recorded under a number, as this step: the seat counts it, and its step stands at that number
+-- in the shard's one history, as the last that the seat has seen. Before the call it had seen no more
+-- steps than the number
+pub record IsCall (o : HubOpening) (shard : ℕ) (old new : SeatView) (number : ℕ) (step : PlainStep)
+    : Type 0 where
+  pub tallies : new.tallies ≡ noted old.tallies shard number
+  pub stands : slice_get (steps_in (front_of new shard)) number ≡ Some step
+  pub last : length (steps_in (front_of new shard)) ≡ number + 1
+  pub rises : length (steps_in (front_of old shard)) ≤ number
+  pub history : HasHistory o shard new
+
+-- as many steps of a shard are stored as its trace can hold
+abbrev pub IsFull : HubOpening → ℕ → SeatView → Type 0
+IsFull o shard seat = length (stored_of (front_of seat shard)) ≡ o.config.trace_limit
+
+-- nothing was recorded, since nothing was due where the shard stood: at the end of what the seat has then
+-- seen
+pub record IsQuiet (o : HubOpening) (shard now : ℕ) (old new : SeatView) : Type 0 where
+  pub tallies : new.tallies ≡ old.tallies
+  pub history : HasHistory o shard new
+  pub quiet : NothingDue now (end_of (opening_at o shard) (steps_in (front_of new shard)))
+
+-- the stored steps of a shard were let go of, and are these ones: the seat has seen the history up to there
+pub record AreGone (o : HubOpening) (shard : ℕ) (old new : SeatView) (steps : List PlainStep)
+    : Type 0 where
+  pub before : List Entry
+  pub entries : front_of new shard ≡ before ++ None ∷ []
+  pub steps_are : steps ≡ stored_of before
+  pub history : HasHistory o shard new
+  pub tallies : new.tallies ≡ old.tallies
+
+module _ {A : Type 0} where
+  -- the step of an event that was answered so
+  abbrev pub answered_step : PlainEvent → Answered A → PlainStep
+  answered_step event a = record { event = event; answer = shown_answer a.answer }
+
+  -- a tick where something is due was recorded, or nothing was
+  abbrev pub IsTick :
+      HubOpening → ℕ → ℕ → PlainEvent → SeatView → SeatView → Option (Answered A) → Type 0
+  IsTick o shard now event old new (Some a) = IsCall o shard old new a.number (answered_step event a)
+  IsTick o shard now event old new None = IsQuiet o shard now old new

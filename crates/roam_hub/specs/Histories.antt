@@ -1,0 +1,33 @@
+-- What the histories of a hub's shards are, and where its realms stand at their end (ours).
+use Rattle.std.specs.Prelude.{◌≡◌, ℕ, ◌+◌, ◌<◌, ◌%◌, zero, suc, List, [], ◌∷◌, length}
+use Rattle.roam_book.specs.RealmState.{RealmState}
+use Rattle.roam_book.specs.declared.start.Start.{Start}
+use Rattle.roam_core.specs.ManyRealms.{state_at}
+use Rattle.roam_trace.specs.History.{IsHistory, end_of}
+use Rattle.roam_trace.specs.Steps.{PlainStep}
+use Rattle.roam_history.specs.HubOpening.{HubOpening, opening_at}
+use Rattle.roam_audit.specs.Audit.{steps_of}
+
+-- what was recorded of all shards: of each, a history from the hub's opening
+pub record AreHistories (o : HubOpening) (steps : List (List PlainStep)) : Type 0 where
+  pub count : length steps ≡ o.config.shards
+  pub each : (shard : ℕ) → shard < length steps → IsHistory (opening_at o shard) (steps_of steps shard)
+
+-- where a realm stands at the end of its own shard's history
+abbrev pub state_at_end : HubOpening → List (List PlainStep) → ℕ → RealmState
+state_at_end o steps realm =
+    let shard = realm % o.config.shards in
+    state_at (end_of (opening_at o shard) (steps_of steps shard)) realm
+
+-- and where it would begin that went on from there
+abbrev pub start_at_end : HubOpening → List (List PlainStep) → ℕ → Start
+start_at_end o steps realm =
+    let s = state_at_end o steps realm in record { place = s.stream_position; ticket = s.ticket }
+
+-- those of so many realms from one on
+unfoldable pub starts_from : HubOpening → List (List PlainStep) → ℕ → ℕ → List Start
+starts_from o steps realm zero = []
+starts_from o steps realm (suc n) = start_at_end o steps realm ∷ starts_from o steps (realm + 1) n
+
+abbrev pub starts_at_end : HubOpening → List (List PlainStep) → List Start
+starts_at_end o steps = starts_from o steps 0 (length o.config.realms)

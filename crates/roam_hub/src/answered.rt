@@ -1,0 +1,25 @@
+//! What a caller gets of a call that is recorded without a receipt.
+
+use crate::fault::HubFault;
+use roam_book::Answer;
+use roam_route::Job;
+use std::alloc::Allocator;
+
+/// The answer to a call that was recorded.
+#[derive(Drop)]
+pub struct Answered<A: Allocator> {
+    pub shard: u16,
+    /// How many calls of that shard were recorded before this one.
+    pub number: u64,
+    pub answer: Answer<A>,
+    /// How many octets the datagrams and packets of the steps have that are stored of that shard, with this
+    /// one; as many as 64 bits hold.
+    pub octets: u64,
+}
+
+/// Why a job isn't recorded, and the job, as it was.
+#[derive(Drop)]
+pub struct Refused<A: Allocator> {
+    pub fault: HubFault,
+    pub job: Job<A>,
+}

@@ -1,0 +1,76 @@
+//! How a hub is opened.
+
+ghost use Rattle.std.specs.Prelude.{◌≡◌, ◌≢◌, ◌<◌, [], IfOk};
+ghost use Rattle.roam_conf.specs.Shown.{shown};
+ghost use Rattle.roam_shard.specs.ShardView.{AreStarts};
+ghost use Rattle.roam_history.specs.Books.{books_of, count_of};
+ghost use Rattle.roam_audit.specs.Seats.{new_seat};
+
+use crate::hub::Hub;
+use crate::kept::Kept;
+use roam_audit::Seat;
+use roam_book::Start;
+use roam_conf::Config;
+use roam_history::{Blank, Blanks, Front, Opened};
+use roam_shard::Shard;
+use roam_trace::Traced;
+use roam_wire::NoMemory;
+use std::alloc::Allocator;
+use std::sync::Mutex;
+
+/// A shard at its opening with no steps yet, to lie under its lock, and what is seen of its history:
+/// nothing.
+fn kept_at<'c, A: Allocator + Copy, N: Opened>(
+    alloc: A,
+    config: &'c Config,
+    shard: u16,
+    starts: &[Start],
+    blank: Blank,
+) -> Result<(Kept<'c, A, N>, Front<N>), NoMemory>
+    requires opening { N.opening ≡ record { config = shown config.now; starts = starts.now } }
+    requires shard { shard < config.now.shards }
+    requires starts { AreStarts (shown config.now) starts.now }
+    requires book { blank.seen.book ≡ N.books shard }
+    ensures { IfOk result (λ r. r.1 ≡ record { shard = shard; entries = [] }) }
+{
+    let (head, front) = blank.named::<N>(shard);
+    let seen = front.again();
+    let shard = Shard::new(alloc, config, shard, starts)?;
+    let traced = Traced::new(alloc, shard, config.trace_limit as usize);
+    Ok((Kept::new(traced, front, head), seen))
+}
+
+impl<'c, A: Allocator + Copy, N: Opened> Hub<'c, A, N> {
+    /// A hub whose realms begin at these starts, one for each realm, by its index, and the first seat.
+    /// Nothing is recorded yet, and so nothing is stored. `NoMemory` comes where a growth was refused;
+    /// nothing of the hub is left then.
+    pub fn open(
+        alloc: A,
+        config: &'c Config,
+        starts: &[Start],
+        blanks: Blanks<A>,
+    ) -> Result<(Hub<'c, A, N>, Seat<A, N>), NoMemory>
+        requires opening { N.opening ≡ record { config = shown config.now; starts = starts.now } }
+        requires books { N.books ≡ books_of blanks }
+        requires blanks { count_of blanks ≡ config.now.shards }
+        requires starts { AreStarts (shown config.now) starts.now }
+        ensures seat { IfOk result (λ r. r.1 ≡ new_seat config.now.shards) }
+    {
+        let mut locks = Vec::with_capacity(alloc, usize::from(config.shards))?;
+        let mut fronts = Vec::with_capacity(alloc, usize::from(config.shards))?;
+        let mut shard: u16 = 0;
+        for blank in blanks.blanks {
+            let (kept, front) = kept_at(alloc, config, shard, starts, blank)?;
+            locks.push(Mutex::new(kept))?;
+            fronts.push(front)?;
+            shard += 1;
+        }
+        let seat = Seat::new(alloc, fronts)?;
+        let hub = Hub {
+            alloc,
+            config,
+            locks,
+        };
+        Ok((hub, seat))
+    }
+}

@@ -1,0 +1,188 @@
+//! Hubs whose steps are let go of: nothing else of them changes.
+
+ghost use Rattle.std.specs.Prelude.{◌≡◌};
+ghost use Rattle.roam_conf.specs.Shown.{shown};
+ghost use Rattle.roam_shard.specs.ShardView.{AreStarts};
+ghost use Rattle.roam_history.specs.Books.{books_of, count_of};
+
+use crate::caller::{NAS, REQUEST_7, REQUEST_8, datagram, sends};
+use crate::configuration::config_of;
+use roam_book::Start;
+use roam_conf::{Config, Endpoint, Place};
+use roam_hub::{Answered, Blanks, Hub, HubFault, Open, Opened, Seat};
+use roam_route::{Datagram, Prepared, prepare};
+use roam_shard::first_starts;
+use std::alloc::Global;
+use std::marker::Brand;
+use std::process::Abort;
+use std::sync::Wait;
+
+/// The home server of the realm, for accounting.
+const SERVER: Endpoint = Endpoint {
+    ip: [198, 51, 100, 1],
+    port: 1813,
+};
+
+/// The same, for reverse requests.
+const SERVER_IN_REVERSE: Endpoint = Endpoint {
+    ip: [198, 51, 100, 1],
+    port: 40000,
+};
+
+/// The Start of session 01, the server's answer, and a Disconnect-Request with that session id and no
+/// User-Name; and what is sent for each of them. Computed by others, by the RFCs' formulas.
+const START: &str =
+    "0405002b40d7b5a889c55fa9032ba5d6be378f2e010d7540612e6578616d706c652806000000012c043031";
+
+const STARTED: &str = "0500001ea1e81fcd91eda44683d85e49b2655719210a0000000000000000";
+
+const DISCONNECT: &str = "2822001e98737cc5f650778d9e25e78d8098ea9320066e6173312c043031";
+
+const FORWARDED: &str =
+    "040000358df41562121fde074fa4a8b4ea7c9990010d7540612e6578616d706c652806000000012c043031210a0000000000000000";
+
+const RETURNED: &str = "050500144511dc97de8dbcfd887f32eb5da70447";
+
+const DISCONNECTED: &str =
+    "28000028d59a9ca4eb378569da60a8ec6bb9ce1220066e6173312c043031210a0000000000000001";
+
+/// The second request of the realm, Access-Request 8, as it leaves a hub: four further random words,
+/// Identifier 1 and ticket 1. Computed by the RFCs' formulas.
+const SECOND_OF_HUB: &str =
+    "0101003dbdd219b8a08ded1aa836efcc8b770dc75012eec378e4d7a2e2cf3c75b7a3041dfc75010d7540612e6578616d706c65210a0000000000000001";
+
+/// How often steps are let go of between a session's start and its end.
+const OFTEN: u32 = 50;
+
+/// Hands an arrival in; where its trace is full, once more, when its stored steps were let go of. What was
+/// answered, and how many steps were let go of.
+fn arrive<N: Opened, R: Abort + Wait>(
+    rt: &R,
+    alloc: Global,
+    config: &Config,
+    hub: &Hub<'_, Global, N>,
+    seat: &mut Seat<Global, N>,
+    datagram: &Datagram<Global>,
+) -> (Answered<Global>, usize)
+    requires { shown config.now ≡ N.opening.config }
+{
+    let Ok(Prepared::Job(job)) = prepare(alloc, config, datagram) else {
+        panic!(rt; "no job");
+    };
+    let refused = match hub.answer(rt, seat, 0, job, &Open) {
+        Ok(answered) => return (answered, 0),
+        Err(refused) => refused,
+    };
+    assert!(rt; refused.fault == HubFault::TraceFull);
+    let steps = hub.let_go(rt, seat, 0).expect(rt, "steps");
+    match hub.answer(rt, seat, 0, refused.job, &Open) {
+        Ok(answered) => (answered, steps.len()),
+        Err(_) => panic!(rt; "no answer"),
+    }
+}
+
+/// What is seen of a hub that stores one step: of the second request's answer the number, how many octets
+/// are stored then, and whether it is what the realm sends second; how many steps were let go of for it;
+/// and at the end how many steps are stored, and how many there were.
+type Full = (u64, u64, bool, usize, usize, u64);
+
+/// A hub that stores one step, and is given two requests.
+fn full<N: Opened + Send + Sync, R: Abort + Wait>(
+    rt: &R,
+    alloc: Global,
+    config: &Config,
+    starts: &[Start],
+    blanks: Blanks<Global>,
+) -> Full
+    requires opening { N.opening ≡ record { config = shown config.now; starts = starts.now } }
+    requires books { N.books ≡ books_of blanks }
+    requires blanks { count_of blanks ≡ config.now.shards }
+    requires starts { AreStarts (shown config.now) starts.now }
+{
+    let (hub, mut seat) = Hub::<Global, N>::open(alloc, config, starts, blanks).expect(rt, "a hub");
+    let first = datagram(rt, alloc, Place::Auth, NAS, REQUEST_7);
+    let second = datagram(rt, alloc, Place::Auth, NAS, REQUEST_8);
+    let (_, none) = arrive(rt, alloc, config, &hub, &mut seat, &first);
+    let (answered, gone) = arrive(rt, alloc, config, &hub, &mut seat, &second);
+    let is_second = sends(rt, alloc, &answered.answer, SECOND_OF_HUB);
+    let report = hub.close().expect(rt, "a report");
+    let stored = report.steps.first().map(|steps| steps.len()).unwrap_or(0);
+    let all = report.fronts.first().map(|front| front.len()).unwrap_or(0);
+    let mut seats = Vec::new(alloc);
+    seats.push(seat).expect(rt, "memory");
+    assert!(rt; none == 0 && report.audited(seats).is_ok());
+    (
+        answered.number,
+        answered.octets,
+        is_second,
+        gone,
+        stored,
+        all,
+    )
+}
+
+/// That hub.
+fn full_hub<R: Abort + Wait>(rt: &R, alloc: Global) -> Full {
+    let config = config_of(rt, alloc, 1, 1, "");
+    let starts = first_starts(alloc, &config).expect(rt, "memory");
+    let blanks = Blanks::new(alloc, config.shards).expect(rt, "memory");
+    full::<Brand, R>(rt, alloc, &config, &starts, blanks)
+}
+
+#[test]
+fn a_full_trace_lets_go_and_goes_on(rt: HostRuntime) {
+    // The request has 33 octets, and the packet 61.
+    assert!(rt; full_hub(&rt, rt.alloc()) == (1, 94, true, 1, 1, 2));
+}
+
+/// Whether a session's start is answered, whether a duplicate of it is answered from the held reply each
+/// time that steps were let go of, and whether the session ends by its id alone at last; and how many steps
+/// there were.
+type Held = (bool, bool, u32, bool, u64);
+
+/// A hub of which steps are let go of again and again, while a session lasts.
+fn session<N: Opened + Send + Sync, R: Abort + Wait>(
+    rt: &R,
+    alloc: Global,
+    config: &Config,
+    starts: &[Start],
+    blanks: Blanks<Global>,
+) -> Held
+    requires opening { N.opening ≡ record { config = shown config.now; starts = starts.now } }
+    requires books { N.books ≡ books_of blanks }
+    requires blanks { count_of blanks ≡ config.now.shards }
+    requires starts { AreStarts (shown config.now) starts.now }
+{
+    let (hub, mut seat) = Hub::<Global, N>::open(alloc, config, starts, blanks).expect(rt, "a hub");
+    let start = datagram(rt, alloc, Place::Acct, NAS, START);
+    let started = datagram(rt, alloc, Place::Out(0), SERVER, STARTED);
+    let disconnect = datagram(rt, alloc, Place::Reverse(0), SERVER_IN_REVERSE, DISCONNECT);
+    let (answered, _) = arrive(rt, alloc, config, &hub, &mut seat, &start);
+    let is_forwarded = sends(rt, alloc, &answered.answer, FORWARDED);
+    let (answered, _) = arrive(rt, alloc, config, &hub, &mut seat, &started);
+    let is_returned = sends(rt, alloc, &answered.answer, RETURNED);
+    let mut held = 0u32;
+    for _ in 0..OFTEN {
+        let (answered, gone) = arrive(rt, alloc, config, &hub, &mut seat, &start);
+        if gone == 1 && sends(rt, alloc, &answered.answer, RETURNED) {
+            held = held.saturating_add(1);
+        }
+    }
+    let (answered, _) = arrive(rt, alloc, config, &hub, &mut seat, &disconnect);
+    let is_ended = sends(rt, alloc, &answered.answer, DISCONNECTED);
+    let number = answered.number;
+    (is_forwarded, is_returned, held, is_ended, number)
+}
+
+/// That hub.
+fn session_of_a_hub<R: Abort + Wait>(rt: &R, alloc: Global) -> Held {
+    let config = config_of(rt, alloc, 1, 1, "");
+    let starts = first_starts(alloc, &config).expect(rt, "memory");
+    let blanks = Blanks::new(alloc, config.shards).expect(rt, "memory");
+    session::<Brand, R>(rt, alloc, &config, &starts, blanks)
+}
+
+#[test]
+fn sessions_held_replies_and_tickets_go_on(rt: HostRuntime) {
+    assert!(rt; session_of_a_hub(&rt, rt.alloc()) == (true, true, OFTEN, true, 52));
+}

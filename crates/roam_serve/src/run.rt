@@ -1,0 +1,9 @@
+//! The run of a server: its threads start, share, and end.
+
+pub mod audit;
+pub mod ending;
+pub mod losses;
+pub mod old_history;
+pub mod prepared;
+pub mod shared;
+pub mod start;

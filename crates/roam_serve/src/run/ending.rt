@@ -1,0 +1,39 @@
+//! Why a worker ended, and what it gives back.
+
+ghost use Rattle.std.specs.Prelude.{◌≡◌, ◌⊎◌, ◌↔◌, IsTrue};
+
+use roam_hub::{Opened, Seat};
+use std::alloc::Global;
+
+/// Why a worker ended.
+#[derive(Clone, Copy, Debug, PartialEq, Eq)]
+pub enum Ending {
+    /// Another one ended.
+    Stopped,
+    /// The server's time is over.
+    TimeOver,
+    /// A socket was given up.
+    GaveUp,
+}
+
+/// What a worker gives back.
+#[derive(Drop)]
+pub struct WorkerEnd<N: Opened> {
+    pub ending: Ending,
+    pub seat: Seat<Global, N>,
+}
+
+/// What all workers gave back.
+#[derive(Drop)]
+pub struct Ended<N: Opened> {
+    /// Whether one of them gave up a socket.
+    pub has_given_up: bool,
+    pub seats: Vec<Seat<Global, N>>,
+}
+
+/// Whether a worker gave up a socket, after one more has ended.
+pub fn has_given_up_after(has_given_up: bool, ending: Ending) -> bool
+    ensures { IsTrue result ↔ (IsTrue has_given_up ⊎ (ending ≡ Ending.GaveUp)) }
+{
+    has_given_up || ending == Ending::GaveUp
+}

@@ -1,0 +1,72 @@
+//! How many packets all threads lost, until that is told.
+
+use roam_port::{LossCause, Losses};
+use std::sync::atomic::{AtomicU64, Ordering};
+
+/// All causes of a loss.
+pub const CAUSES: [LossCause; 4] = [
+    LossCause::FullRing,
+    LossCause::Unreachable,
+    LossCause::NotPermitted,
+    LossCause::Other,
+];
+
+/// How many packets all threads lost, by their cause, that weren't told yet.
+#[derive(Drop)]
+pub struct SharedLosses {
+    full_ring: AtomicU64,
+    unreachable: AtomicU64,
+    not_permitted: AtomicU64,
+    other: AtomicU64,
+}
+
+/// Adds to a count, where there is something to add.
+fn add_to(count: &AtomicU64, more: u64) {
+    if more > 0 {
+        count.fetch_add(more, Ordering::SeqCst);
+    }
+}
+
+impl SharedLosses {
+    /// Nothing was lost.
+    pub fn new() -> SharedLosses {
+        SharedLosses {
+            full_ring: AtomicU64::new(0),
+            unreachable: AtomicU64::new(0),
+            not_permitted: AtomicU64::new(0),
+            other: AtomicU64::new(0),
+        }
+    }
+
+    /// The count of a cause.
+    fn of(&self, cause: LossCause) -> &AtomicU64 {
+        match cause {
+            LossCause::FullRing => &self.full_ring,
+            LossCause::Unreachable => &self.unreachable,
+            LossCause::NotPermitted => &self.not_permitted,
+            LossCause::Other => &self.other,
+        }
+    }
+
+    /// So many more were lost.
+    pub fn add(&self, losses: Losses) {
+        add_to(&self.full_ring, losses.full_ring);
+        add_to(&self.unreachable, losses.unreachable);
+        add_to(&self.not_permitted, losses.not_permitted);
+        add_to(&self.other, losses.other);
+    }
+
+    /// How many were lost for this cause since this was asked last.
+    pub fn take(&self, cause: LossCause) -> u64 {
+        if self.of(cause).load(Ordering::SeqCst) == 0 {
+            0
+        } else {
+            self.of(cause).swap(0, Ordering::SeqCst)
+        }
+    }
+
+    /// So many couldn't be told.
+    pub fn give_back(&self, cause: LossCause, count: u64) {
+        add_to(self.of(cause), count);
+    }
+}

@@ -1,0 +1,57 @@
+//! What the threads of a server share.
+
+ghost use Rattle.std.specs.Prelude.{◌≡◌};
+ghost use Rattle.roam_conf.specs.Shown.{shown};
+
+use crate::run::losses::SharedLosses;
+use crate::run::old_history::OldHistory;
+use mio::Waker;
+use roam_conf::Config;
+use roam_hub::{Hub, Opened};
+use std::alloc::Global;
+use std::sync::atomic::{AtomicBool, Ordering};
+use std::thread::Parker;
+use std::time::Instant;
+
+/// What the threads of a server share.
+#[derive(Drop)]
+pub struct Shared<'s, 'c, G, N: Opened> {
+    pub config: &'c Config,
+    pub hub: &'s Hub<'c, Global, N>,
+    pub gate: &'s G,
+    /// What the logger sleeps on.
+    pub logger: &'s Parker,
+    /// What ends the wait of each worker, and of the timer.
+    pub wakers: &'s [Waker],
+    pub losses: &'s SharedLosses,
+    pub old_history: &'s OldHistory,
+    /// Whether all are to end.
+    pub stop: &'s AtomicBool,
+    pub start: Instant,
+    /// When the server's time is over, in milliseconds since its start; none where it has no end.
+    pub end: Option<u64>,
+    ghost same: { shown config.now ≡ N.opening.config },
+}
+
+impl<G, N: Opened> Shared<'_, '_, G, N> {
+    /// Whether all are to end.
+    pub fn is_over(&self) -> bool {
+        self.stop.load(Ordering::SeqCst)
+    }
+
+    /// Has all end: whoever asks first wakes them. A worker that can't be woken looks by itself, soon enough.
+    pub fn end_all(&self) {
+        if self.stop.swap(true, Ordering::SeqCst) {
+            return;
+        }
+        for waker in self.wakers {
+            let _is_woken = waker.wake().is_ok();
+        }
+    }
+
+    /// Wakes the threads behind the workers, which end when all workers have.
+    pub fn wake_for_the_end(&self) {
+        self.logger.unpark();
+        self.old_history.wake();
+    }
+}

@@ -1,0 +1,124 @@
+//! The threads start, and end.
+
+ghost use Rattle.std.specs.Prelude.{IfErr};
+ghost use Rattle.roam_serve.specs.Faults.{IsAfterBinding};
+
+use crate::fault::ServeFault;
+use crate::run::ending::WorkerEnd;
+use crate::run::prepared::Prepared;
+use crate::run::shared::Shared;
+use crate::threads::logger::{log_notices, tell_or_drop};
+use crate::threads::notice::{Notice, serving};
+use crate::threads::timer::tick_on;
+use crate::threads::worker::{Worker, receive_on};
+use log::Log;
+use roam_hub::{Gate, Opened};
+use rtrb::Consumer;
+use std::alloc::Global;
+use std::sync::Wait;
+use std::thread;
+use std::thread::{JoinHandle, Scope, Threads};
+use std::time::Clock;
+
+/// Starts the threads behind the workers: the one that logs notices, and the one that frees stored steps.
+/// Answers whether both have started.
+fn start_behind<
+    's,
+    'w: 's,
+    'c: 's,
+    E,
+    R: Wait + Clock + Log + Sync,
+    G: Gate + Sync,
+    N: Opened + Send + Sync,
+>(
+    scope: &Scope<'s, E>,
+    rt: &'s R,
+    shared: &'s Shared<'w, 'c, G, N>,
+    queues: Vec<Consumer<Notice>>,
+) -> bool {
+    let logs = scope
+        .spawn(move || log_notices(rt, shared.logger, queues))
+        .is_ok();
+    let frees = scope
+        .spawn(move || shared.old_history.free_on(rt, shared.stop))
+        .is_ok();
+    logs && frees
+}
+
+/// Starts a thread for each worker. Answers whether all have started.
+fn start_workers<
+    's,
+    'w: 's,
+    'c: 's,
+    E,
+    R: Wait + Clock + Sync,
+    G: Gate + Sync,
+    N: Opened + Send + Sync,
+>(
+    scope: &Scope<'s, E>,
+    rt: &'s R,
+    alloc: Global,
+    workers: Vec<Worker<'w, 'c, G, N>>,
+    handles: &mut Vec<JoinHandle<WorkerEnd<N>>>,
+) -> bool {
+    let mut have_started = true;
+    for worker in workers {
+        match scope.spawn(move || receive_on(rt, alloc, worker)) {
+            Ok(handle) => have_started = handles.push(handle).is_ok() && have_started,
+            Err(_) => have_started = false,
+        }
+    }
+    have_started
+}
+
+/// Runs the threads until they have ended, and gives back what the workers do. That it serves is told once all
+/// run.
+///
+/// # Errors
+///
+/// `Thread`, where one can't be started; the others are ended.
+pub fn run_threads<
+    's,
+    R: Threads + Wait + Clock + Log + Sync,
+    G: Gate + Sync,
+    N: Opened + Send + Sync,
+>(
+    rt: &R,
+    alloc: Global,
+    shared: &Shared<'_, '_, G, N>,
+    prepared: Prepared<'s, '_, G, N>,
+) -> Result<Vec<WorkerEnd<N>>, ServeFault>
+    ensures { IfErr result IsAfterBinding }
+{
+    let Prepared {
+        workers,
+        timer,
+        queues,
+    } = prepared;
+    let count = workers.len().saturating_add(1);
+    let mut handles: Vec<JoinHandle<WorkerEnd<N>>> = Vec::with_capacity(alloc, count)?;
+    let mut ends = Vec::with_capacity(alloc, count)?;
+    let have_started = thread::scope(thread::scope_env(), rt, |scope| {
+        let mut have_started = start_behind(scope, rt, shared, queues);
+        have_started = start_workers(scope, rt, alloc, workers, &mut handles) && have_started;
+        match scope.spawn(move || tick_on(rt, timer)) {
+            Ok(handle) => have_started = handles.push(handle).is_ok() && have_started,
+            Err(_) => have_started = false,
+        }
+        if have_started {
+            tell_or_drop(rt, serving(shared.config));
+        } else {
+            shared.end_all();
+        }
+        for handle in handles {
+            have_started = ends.push(handle.join(rt)).is_ok() && have_started;
+        }
+        shared.wake_for_the_end();
+        have_started
+    });
+    if have_started {
+        Ok(ends)
+    } else {
+        Err(ServeFault::Thread)
+    }
+}

@@ -1,0 +1,23 @@
+//! Moments: milliseconds since the server began.
+
+ghost use Rattle.std.specs.Prelude.{◌≡◌, unwrap_or};
+
+use std::time::{Clock, Instant};
+
+/// The moment that was read, or the last one where the clock can't be read.
+pub fn moment(last: u64, read: Option<u64>) -> u64
+    ensures { result ≡ unwrap_or read last }
+{
+    read.unwrap_or(last)
+}
+
+/// The milliseconds since the beginning, where the clock can be read.
+fn since<R: Clock>(rt: &R, start: Instant) -> Option<u64> {
+    let elapsed = start.elapsed(rt).ok()?;
+    u64::try_from(elapsed.as_millis()).ok()
+}
+
+/// The moment now, or the last one where the clock can't be read.
+pub fn now<R: Clock>(rt: &R, start: Instant, last: u64) -> u64 {
+    moment(last, since(rt, start))
+}

@@ -1,0 +1,9 @@
+//! The threads of a server, each as it runs, and what they have.
+
+pub mod context;
+pub mod logger;
+pub mod notice;
+pub mod outgoing;
+pub mod receiver;
+pub mod timer;
+pub mod worker;

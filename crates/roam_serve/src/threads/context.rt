@@ -1,0 +1,200 @@
+//! What a worker has: its seat at the hub, its packets on their way out, and its notices.
+
+ghost use Rattle.std.specs.Prelude.{◌≡◌};
+ghost use Rattle.roam_route.specs.Events.{IsEvent};
+ghost use Rattle.roam_route.specs.Shown.{shown_job};
+ghost use Rattle.roam_serve.specs.Notices as spec;
+ghost use Rattle.roam_serve.specs.Remedies as remedies;
+
+use crate::run::ending::{Ending, WorkerEnd};
+use crate::run::shared::Shared;
+use crate::system::clock::now;
+use crate::threads::notice::{Notices, Origin};
+use crate::threads::outgoing::Outgoing;
+use roam_hub::{Answered, Gate, HubFault, Opened, Refused, Seat};
+use roam_route::{Datagram, Job, Prepared, prepare};
+use roam_wire::Refusal;
+use std::alloc::Global;
+use std::sync::Wait;
+use std::time::Clock;
+
+/// What a worker or the timer has: its seat at the hub, its packets on their way out, and its notices.
+#[derive(Drop)]
+pub struct WorkerContext<'s, 'c, G, N: Opened> {
+    pub shared: &'s Shared<'s, 'c, G, N>,
+    pub seat: Seat<Global, N>,
+    pub outgoing: Outgoing<'s>,
+    pub notices: Notices,
+    /// The last moment, in milliseconds since the server's start.
+    pub now: u64,
+}
+
+/// The refusal that a hub's fault is told as.
+fn refusal_of(fault: HubFault) -> Refusal
+    ensures { result ≡ spec.refusal_of fault }
+{
+    match fault {
+        HubFault::NoShard => Refusal::NoShard,
+        HubFault::Misplaced => Refusal::Misplaced,
+        HubFault::TraceFull => Refusal::TraceFull,
+        HubFault::NoMemory => Refusal::NoMemory,
+    }
+}
+
+/// What is done about a call that isn't recorded.
+#[derive(Clone, Copy, Debug, PartialEq, Eq)]
+pub enum Remedy {
+    /// The stored steps of its shard are let go of, and the same call is made again.
+    LetGo,
+    /// The same, and their memory is given back before.
+    FreeMemory,
+    /// Nothing: it is refused.
+    Refuse,
+}
+
+/// What is done about a call that isn't recorded, where so many were tried. A history that is full is let go of
+/// as often as it takes; where memory is wanting, it is let go of once.
+pub fn remedy_for(fault: HubFault, is_second: bool) -> Remedy
+    ensures { result ≡ remedies.remedy_for fault is_second }
+{
+    match (fault, is_second) {
+        (HubFault::TraceFull, _) => Remedy::LetGo,
+        (HubFault::NoMemory, false) => Remedy::FreeMemory,
+        _ => Remedy::Refuse,
+    }
+}
+
+impl<G: Gate, N: Opened> WorkerContext<'_, '_, G, N> {
+    /// Looks at the clock.
+    pub fn look_at_clock<R: Clock>(&mut self, rt: &R) {
+        self.now = now(rt, self.shared.start, self.now);
+    }
+
+    /// Takes a datagram: hands its packets to the sockets, or tells why it is refused.
+    pub fn arrive<R: Wait>(&mut self, rt: &R, alloc: Global, datagram: &Datagram<Global>) {
+        let origin = Origin::Datagram(datagram.at, datagram.from);
+        match prepare(alloc, self.shared.config, datagram) {
+            Ok(Prepared::Job(job)) => match self.answer(rt, job) {
+                Ok(answered) => self.finish(rt, answered, origin),
+                Err(refusal) => self.notices.refused(refusal, origin),
+            },
+            Ok(Prepared::Reject(out)) => self.outgoing.put(out),
+            Err(refusal) => self.notices.refused(refusal, origin),
+        }
+    }
+
+    /// Gives a job to the hub. Where the history is full, or memory is wanting, that of its shard is let go of, and
+    /// the same job handed in again.
+    fn answer<R: Wait>(&mut self, rt: &R, job: Job<Global>) -> Result<Answered<Global>, Refusal>
+        requires { IsEvent N.opening.config (shown_job job) }
+    {
+        let shared = self.shared;
+        let shard = shared.config.shard_of(job.realm);
+        let mut job = job;
+        let mut is_second = false;
+        for _ in rt.forever() {
+            match shared
+                .hub
+                .answer(rt, &mut self.seat, self.now, job, shared.gate)
+            {
+                Ok(answered) => return Ok(answered),
+                Err(Refused { fault, job: same }) => {
+                    if !self.remedy(rt, shard, fault, is_second) {
+                        return Err(refusal_of(fault));
+                    }
+                    job = same;
+                    is_second = true;
+                }
+            }
+        }
+        unreachable!()
+    }
+
+    /// Ticks a shard where something is due there, and hands its packets to the sockets.
+    pub fn tick<R: Wait>(&mut self, rt: &R, shard: u16) {
+        let shared = self.shared;
+        let mut is_second = false;
+        for _ in rt.forever() {
+            match shared
+                .hub
+                .tick_if_due(rt, &mut self.seat, self.now, shard, shared.gate)
+            {
+                Ok(Some(answered)) => return self.finish(rt, answered, Origin::Tick(shard)),
+                Ok(None) => return,
+                Err(fault) => {
+                    if !self.remedy(rt, shard, fault, is_second) {
+                        return self.notices.refused(refusal_of(fault), Origin::Tick(shard));
+                    }
+                    is_second = true;
+                }
+            }
+        }
+    }
+
+    /// Does what helps against a fault of a call. Answers whether it can be made again.
+    fn remedy<R: Wait>(&mut self, rt: &R, shard: u16, fault: HubFault, is_second: bool) -> bool {
+        match remedy_for(fault, is_second) {
+            Remedy::LetGo => self.let_go(rt, shard),
+            Remedy::FreeMemory => self.free_history(rt, shard),
+            Remedy::Refuse => false,
+        }
+    }
+
+    /// Lets go of the stored steps of a shard, which are freed beside. Answers whether that was done.
+    fn let_go<R: Wait>(&mut self, rt: &R, shard: u16) -> bool {
+        let shared = self.shared;
+        match shared.hub.let_go(rt, &mut self.seat, shard) {
+            Ok(steps) => {
+                shared.old_history.hand_over(rt, steps);
+                true
+            }
+            Err(_) => false,
+        }
+    }
+
+    /// Lets go of the stored steps of a shard, and frees them here and now: their memory is wanted.
+    fn free_history<R: Wait>(&mut self, rt: &R, shard: u16) -> bool {
+        match self.shared.hub.let_go(rt, &mut self.seat, shard) {
+            Ok(steps) => {
+                self.shared.old_history.count();
+                drop(steps);
+                true
+            }
+            Err(_) => false,
+        }
+    }
+
+    /// Hands the packets of an answer on, tells a refusal, and lets go of the shard's steps where their octets are
+    /// more than are to be stored.
+    fn finish<R: Wait>(&mut self, rt: &R, answered: Answered<Global>, origin: Origin) {
+        if let Some(refusal) = answered.answer.refusal {
+            self.notices.refused(refusal, origin);
+        }
+        self.outgoing.put_all(answered.answer.outs);
+        if answered.octets > u64::from(self.shared.config.trace_octets) {
+            self.let_go(rt, answered.shard);
+        }
+    }
+
+    /// Wakes the logger, where there is something for it.
+    pub fn wake_logger(&mut self) {
+        if self.notices.take_waiting() {
+            self.shared.logger.unpark();
+        }
+    }
+
+    /// Sends what can be sent, gives back the seat, and has all workers end.
+    pub fn leave(mut self, ending: Ending) -> WorkerEnd<N>
+        ensures ending { result.ending ≡ ending }
+    {
+        self.outgoing.send();
+        self.notices.end();
+        let shared = self.shared;
+        let end = WorkerEnd {
+            ending,
+            seat: self.seat,
+        };
+        shared.end_all();
+        end
+    }
+}

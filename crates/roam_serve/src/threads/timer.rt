@@ -1,0 +1,111 @@
+//! The worker that ticks the shards, and tells what was lost.
+
+ghost use Rattle.std.specs.Prelude.{◌↔◌, ◌≤◌, ◌+◌, IsTrue, IsFalse, MatchOption};
+
+use crate::run::ending::{Ending, WorkerEnd};
+use crate::run::losses::CAUSES;
+use crate::threads::context::WorkerContext;
+use mio::{Events, Poll};
+use roam_hub::{Gate, Opened};
+use std::alloc::Global;
+use std::sync::Wait;
+use std::thread;
+use std::time::{Clock, Duration};
+
+/// From one round of ticks to the next, in milliseconds.
+pub const TICK: u64 = 10;
+
+/// Lost packets of one cause are told once in so many milliseconds.
+pub const BETWEEN_LOSSES: u64 = 60_000;
+
+/// The worker that ticks the shards.
+#[derive(Drop)]
+pub struct Timer<'s, 'c, G, N: Opened> {
+    pub context: WorkerContext<'s, 'c, G, N>,
+    /// It is woken through this.
+    pub poll: Poll,
+    pub events: Events<Global>,
+    /// For each cause of a loss, when it was told last.
+    pub told: [Option<u64>; 4],
+}
+
+/// Whether the server's time is over.
+fn is_time_over(now: u64, end: Option<u64>) -> bool
+    ensures { MatchOption end (IsFalse result) (λ moment. IsTrue result ↔ (moment ≤ now)) }
+{
+    match end {
+        Some(end) => now >= end,
+        None => false,
+    }
+}
+
+/// Whether losses can be told again that were told last at this moment.
+fn may_tell(now: u64, last: Option<u64>) -> bool
+    ensures { MatchOption last (IsTrue result) (λ moment. IsTrue result ↔ (moment + 60000 ≤ now)) }
+{
+    match last {
+        Some(moment) => now.saturating_sub(moment) >= BETWEEN_LOSSES,
+        None => true,
+    }
+}
+
+/// Tells what was lost, each cause once a minute at most.
+fn tell_losses<G: Gate, N: Opened>(timer: &mut Timer<'_, '_, G, N>) {
+    let context = &mut timer.context;
+    let now = context.now;
+    for (last, cause) in timer.told.iter_mut().zip(CAUSES.iter()) {
+        if may_tell(now, *last) {
+            let count = context.shared.losses.take(*cause);
+            if count > 0 {
+                *last = Some(now);
+                if !context.notices.lost(*cause, count) {
+                    context.shared.losses.give_back(*cause, count);
+                }
+            }
+        }
+    }
+}
+
+/// One round of ticks: why the timer ends with it, if it does.
+fn round<R: Wait + Clock, G: Gate, N: Opened>(
+    rt: &R,
+    timer: &mut Timer<'_, '_, G, N>,
+) -> Option<Ending> {
+    if timer.context.shared.is_over() {
+        return Some(Ending::Stopped);
+    }
+    timer.context.look_at_clock(rt);
+    if is_time_over(timer.context.now, timer.context.shared.end) {
+        return Some(Ending::TimeOver);
+    }
+    timer.context.outgoing.send_again();
+    for shard in 0..timer.context.shared.config.shards {
+        timer.context.tick(rt, shard);
+        timer.context.outgoing.send();
+    }
+    tell_losses(timer);
+    timer.context.wake_logger();
+    None
+}
+
+/// Waits until the next round, or until it is woken.
+fn wait<R: Clock, G, N: Opened>(rt: &R, timer: &mut Timer<'_, '_, G, N>) {
+    let wait = Duration::from_millis(TICK);
+    if timer.poll.poll(&mut timer.events, Some(wait)).is_err() {
+        thread::sleep(rt, wait);
+    }
+}
+
+/// Ticks the shards about every `TICK` milliseconds, until the server ends.
+pub fn tick_on<R: Wait + Clock, G: Gate, N: Opened>(
+    rt: &R,
+    mut timer: Timer<'_, '_, G, N>,
+) -> WorkerEnd<N> {
+    for _ in rt.forever() {
+        if let Some(ending) = round(rt, &mut timer) {
+            return timer.context.leave(ending);
+        }
+        wait(rt, &mut timer);
+    }
+    unreachable!()
+}
