@@ -2,6 +2,7 @@
 -- ends. Ours.
 use Rattle.std.specs.Prelude.{ℕ, ◌==◌, if◌then◌else◌, List, ◌++◌, Option, Some, None, codes}
 use Rattle.std.specs.Fmt.{decimal}
+use Rattle.roam_conf.specs.declared.endpoint.Endpoint.{Endpoint}
 use Rattle.roam_sim.specs.Lines.{endpoint_text}
 use Rattle.roam_conf_reader.specs.declared.fault.ConfFault.{ConfFault}
 use Rattle.roam_conf_reader.specs.declared.fault.ConfFault.TheVariants as conf
@@ -56,6 +57,14 @@ words_or_number None number = codes "error " ++ decimal number
 abbrev pub reason_text : ℕ → List ℕ
 reason_text number = words_or_number (words_of number) number
 
+-- what is printed where a socket can't be bound to an endpoint
+abbrev pub unbound_text : Endpoint → List ℕ
+unbound_text endpoint = codes "roam: cannot bind " ++ endpoint_text endpoint
+
+-- the system's reason after it, with the line feed
+abbrev pub why_text : ℕ → List ℕ
+why_text number = codes ": " ++ reason_text number ++ codes "\n"
+
 -- what is printed of a fault, with its line feed
 abbrev pub text_of : Fault → List ℕ
 text_of fault.Usage = usage_text
@@ -67,8 +76,7 @@ text_of fault.Write = codes "roam: write failed\n"
 text_of fault.Memory = codes "roam: out of memory\n"
 text_of fault.Clock = codes "roam: no clock\n"
 text_of fault.Seed = codes "roam: no random seed\n"
-text_of (fault.Bind endpoint reason) =
-    codes "roam: cannot bind " ++ endpoint_text endpoint ++ codes ": " ++ reason_text reason ++ codes "\n"
+text_of (fault.Bind endpoint reason) = unbound_text endpoint ++ why_text reason
 text_of (fault.Descriptors wanted) =
     codes "roam: too few file descriptors: " ++ decimal wanted ++ codes " wanted\n"
 text_of (fault.Wait reason) = codes "roam: cannot wait for sockets: " ++ reason_text reason ++ codes "\n"

@@ -139,21 +139,34 @@ pub fn print_version<W: Write>(writer: &mut W) -> io::Result<()>
     writer.write_all(b"roam 1.0.0\nrattle-kit-13b logic dac8208d650f15bf\n")
 }
 
-/// Prints that a socket can't be bound to an endpoint, and why.
-fn print_bind<W: Write>(writer: &mut W, endpoint: Endpoint, reason: u32) -> io::Result<()>
+/// Prints to which endpoint a socket can't be bound.
+fn print_unbound<W: Write>(writer: &mut W, endpoint: Endpoint) -> io::Result<()>
     ensures { OnOk result
-        (Appends (W.contents writer.old) (W.contents writer.new)
-        (spec.text_of (Fault.Bind endpoint reason))) }
+        (Appends (W.contents writer.old) (W.contents writer.new) (spec.unbound_text endpoint)) }
 {
     let [a, b, c, d] = endpoint.ip;
     let port = endpoint.port;
+    write!(writer, "roam: cannot bind {a}.{b}.{c}.{d}:{port}")
+}
+
+/// Prints the system's reason, and ends the line.
+fn print_why<W: Write>(writer: &mut W, reason: u32) -> io::Result<()>
+    ensures { OnOk result
+        (Appends (W.contents writer.old) (W.contents writer.new) (spec.why_text reason)) }
+{
     match words_of(reason) {
-        Some(words) => writeln!(writer, "roam: cannot bind {a}.{b}.{c}.{d}:{port}: {words}"),
-        None => writeln!(
-            writer,
-            "roam: cannot bind {a}.{b}.{c}.{d}:{port}: error {reason}"
-        ),
+        Some(words) => writeln!(writer, ": {words}"),
+        None => writeln!(writer, ": error {reason}"),
     }
+}
+
+/// Prints that a socket can't be bound to an endpoint, and why.
+fn print_bind<W: Write>(writer: &mut W, endpoint: Endpoint, reason: u32) -> io::Result<()>
+    ensures { OnOk result
+        (Appends (W.contents writer.old) (W.contents writer.new) (spec.text_of (Fault.Bind endpoint reason))) }
+{
+    print_unbound(writer, endpoint)?;
+    print_why(writer, reason)
 }
 
 /// Prints that there is nothing to wait with for sockets, and why.
@@ -165,6 +178,31 @@ fn print_wait<W: Write>(writer: &mut W, reason: u32) -> io::Result<()>
         Some(words) => writeln!(writer, "roam: cannot wait for sockets: {words}"),
         None => writeln!(writer, "roam: cannot wait for sockets: error {reason}"),
     }
+}
+
+/// Prints that a configuration is refused, and by what name.
+fn print_refused<W: Write>(writer: &mut W, path: &str, fault: ConfFault) -> io::Result<()>
+    ensures { OnOk result
+        (Appends (W.contents writer.old) (W.contents writer.new) (spec.text_of (Fault.Refused path.entry fault))) }
+{
+    let name = name_of(fault);
+    writeln!(writer, "roam: {path}: {name}")
+}
+
+/// Prints which line of a script is faulty.
+fn print_line<W: Write>(writer: &mut W, path: &str, number: u64) -> io::Result<()>
+    ensures { OnOk result
+        (Appends (W.contents writer.old) (W.contents writer.new) (spec.text_of (Fault.FaultyLine path.entry number))) }
+{
+    writeln!(writer, "roam: {path}: line {number}")
+}
+
+/// Prints how many descriptors are wanted.
+fn print_descriptors<W: Write>(writer: &mut W, wanted: u32) -> io::Result<()>
+    ensures { OnOk result
+        (Appends (W.contents writer.old) (W.contents writer.new) (spec.text_of (Fault.Descriptors wanted))) }
+{
+    writeln!(writer, "roam: too few file descriptors: {wanted} wanted")
 }
 
 impl<'a> Fault<'a> {
@@ -231,19 +269,14 @@ impl<'a> Fault<'a> {
         match self {
             Fault::Usage => print_usage(writer),
             Fault::Unreadable { path } => writeln!(writer, "roam: {path}: unreadable"),
-            Fault::Refused { path, fault } => {
-                let name = name_of(fault);
-                writeln!(writer, "roam: {path}: {name}")
-            }
-            Fault::FaultyLine { path, number } => writeln!(writer, "roam: {path}: line {number}"),
+            Fault::Refused { path, fault } => print_refused(writer, path, fault),
+            Fault::FaultyLine { path, number } => print_line(writer, path, number),
             Fault::Write => writer.write_all(b"roam: write failed\n"),
             Fault::Memory => writer.write_all(b"roam: out of memory\n"),
             Fault::Clock => writer.write_all(b"roam: no clock\n"),
             Fault::Seed => writer.write_all(b"roam: no random seed\n"),
             Fault::Bind { endpoint, reason } => print_bind(writer, endpoint, reason),
-            Fault::Descriptors { wanted } => {
-                writeln!(writer, "roam: too few file descriptors: {wanted} wanted")
-            }
+            Fault::Descriptors { wanted } => print_descriptors(writer, wanted),
             Fault::Wait { reason } => print_wait(writer, reason),
             Fault::Thread => writer.write_all(b"roam: cannot start a thread\n"),
             Fault::Receive => writer.write_all(b"roam: receive failed\n"),
