@@ -48,40 +48,58 @@ abbrev WantsMemory : ConfFault → Type 0
 WantsMemory conf.Memory = Unit {0}
 WantsMemory _ = ⊥
 
--- a configuration that is refused, and nothing is printed
-refused-first : (file : TextFile) (text : List ℕ) (old : Option (List ℕ)) (why : ConfFault) (f : Fault) →
-    text ≡ string_bytes file.text → (why ≡ conf.Memory) ⊎ IsFirstFault text why →
-    (¬ (why ≡ conf.Memory) → f ≡ fault.Refused file.path why) → ¬ (why ≡ conf.Memory) →
-    CheckFails file old old f
-refused-first file text old why f same found refused apart =
+-- what holds of a configuration that is refused by its first fault
+refused-first : (P : Fault → Type 0) (file : TextFile) (text : List ℕ) (why : ConfFault) (f : Fault) →
+    (why ≡ conf.Memory) ⊎ IsFirstFault text why →
+    (¬ (why ≡ conf.Memory) → f ≡ fault.Refused file.path why) →
+    (IsFirstFault text why → P (fault.Refused file.path why)) → ¬ (why ≡ conf.Memory) → P f
+refused-first P file text why f found refused of-refused apart =
     let first : IsFirstFault text why = elim found [
       | inl wanted ↦ absurd (apart wanted)
       | inr first ↦ first
     ] in
-    rw (refused apart) (record { named = refl; first = rw (← same) first }, Keeps-refl old)
+    rw (refused apart) (of-refused first)
 
--- a configuration that isn't read, and nothing is printed: it is refused, or memory is wanting
+-- what holds of a configuration that isn't read: it is refused, or memory is wanting
+unread : (P : Fault → Type 0) (file : TextFile) (text : List ℕ) (why : ConfFault) (f : Fault) →
+    (why ≡ conf.Memory) ⊎ IsFirstFault text why →
+    (why ≡ conf.Memory → f ≡ fault.Memory) → (¬ (why ≡ conf.Memory) → f ≡ fault.Refused file.path why) →
+    (IsFirstFault text why → P (fault.Refused file.path why)) → P fault.Memory → P f
+unread P file text conf.Syntax f found memory refused of-refused of-memory =
+    refused-first P file text conf.Syntax f found refused of-refused (λ is. subst WantsMemory (sym is) tt)
+unread P file text conf.Missing f found memory refused of-refused of-memory =
+    refused-first P file text conf.Missing f found refused of-refused (λ is. subst WantsMemory (sym is) tt)
+unread P file text conf.BadValue f found memory refused of-refused of-memory =
+    refused-first P file text conf.BadValue f found refused of-refused (λ is. subst WantsMemory (sym is) tt)
+unread P file text conf.DuplicateRealm f found memory refused of-refused of-memory =
+    refused-first P file text conf.DuplicateRealm f found refused of-refused (λ is. subst WantsMemory (sym is) tt)
+unread P file text conf.DuplicatePeer f found memory refused of-refused of-memory =
+    refused-first P file text conf.DuplicatePeer f found refused of-refused (λ is. subst WantsMemory (sym is) tt)
+unread P file text conf.DuplicateEndpoint f found memory refused of-refused of-memory =
+    refused-first P file text conf.DuplicateEndpoint f found refused of-refused (λ is. subst WantsMemory (sym is) tt)
+unread P file text conf.DuplicateServer f found memory refused of-refused of-memory =
+    refused-first P file text conf.DuplicateServer f found refused of-refused (λ is. subst WantsMemory (sym is) tt)
+unread P file text conf.DuplicateLink f found memory refused of-refused of-memory =
+    refused-first P file text conf.DuplicateLink f found refused of-refused (λ is. subst WantsMemory (sym is) tt)
+unread P file text conf.Memory f found memory refused of-refused of-memory = rw (memory refl) of-memory
+
+-- such a configuration is checked, and nothing is printed
 pub unread-fails : (file : TextFile) (text : List ℕ) (old : Option (List ℕ)) (why : ConfFault) (f : Fault) →
     text ≡ string_bytes file.text → (why ≡ conf.Memory) ⊎ IsFirstFault text why →
     (why ≡ conf.Memory → f ≡ fault.Memory) → (¬ (why ≡ conf.Memory) → f ≡ fault.Refused file.path why) →
     CheckFails file old old f
-unread-fails file text old conf.Syntax f same found memory refused =
-    refused-first file text old conf.Syntax f same found refused (λ is. subst WantsMemory (sym is) tt)
-unread-fails file text old conf.Missing f same found memory refused =
-    refused-first file text old conf.Missing f same found refused (λ is. subst WantsMemory (sym is) tt)
-unread-fails file text old conf.BadValue f same found memory refused =
-    refused-first file text old conf.BadValue f same found refused (λ is. subst WantsMemory (sym is) tt)
-unread-fails file text old conf.DuplicateRealm f same found memory refused =
-    refused-first file text old conf.DuplicateRealm f same found refused (λ is. subst WantsMemory (sym is) tt)
-unread-fails file text old conf.DuplicatePeer f same found memory refused =
-    refused-first file text old conf.DuplicatePeer f same found refused (λ is. subst WantsMemory (sym is) tt)
-unread-fails file text old conf.DuplicateEndpoint f same found memory refused =
-    refused-first file text old conf.DuplicateEndpoint f same found refused (λ is. subst WantsMemory (sym is) tt)
-unread-fails file text old conf.DuplicateServer f same found memory refused =
-    refused-first file text old conf.DuplicateServer f same found refused (λ is. subst WantsMemory (sym is) tt)
-unread-fails file text old conf.DuplicateLink f same found memory refused =
-    refused-first file text old conf.DuplicateLink f same found refused (λ is. subst WantsMemory (sym is) tt)
-unread-fails file text old conf.Memory f same found memory refused = rw (memory refl) (Keeps-refl old)
+unread-fails file text old why f same found memory refused =
+    unread (λ g. CheckFails file old old g) file text why f found memory refused
+    (λ first. (record { named = refl; first = rw (← same) first }, Keeps-refl old)) (Keeps-refl old)
+
+-- such a configuration is to be served
+pub unread-serves : (file : TextFile) (text : List ℕ) (why : ConfFault) (f : Fault) →
+    text ≡ string_bytes file.text → (why ≡ conf.Memory) ⊎ IsFirstFault text why →
+    (why ≡ conf.Memory → f ≡ fault.Memory) → (¬ (why ≡ conf.Memory) → f ≡ fault.Refused file.path why) →
+    ServeFails file f
+unread-serves file text why f same found memory refused =
+    unread (λ g. ServeFails file g) file text why f found memory refused
+    (λ first. record { named = refl; first = rw (← same) first }) tt
 
 -- the lines are still there once the writer has handed them on
 pub handed-on-runs : {T E : Type 0} (configuration script : TextFile) (read-configuration read-script : List ℕ)

@@ -1,6 +1,6 @@
 -- The file's text states the configuration that is served.
 use Rattle.roam_conf.specs.Shown.{shown}
-use Rattle.roam.proofs.OutcomeLemmas.{accepted-text, serve-fails}
+use Rattle.roam.proofs.OutcomeLemmas.{accepted-text, serve-fails, unread-serves}
 use Rattle.roam.proofs.serving.serve_file.Goals as goal
 
 pub returns-in-Ok-serve_config-clause-ok : goal.returns-in-Ok-serve_config-clause-ok
@@ -10,9 +10,14 @@ returns-in-Ok-serve_config-clause-ok g c = (
       c.in-Ok.ensures.ok c.in-Ok.ensures.faultless,
 )
 
-pub returns-in-Ok-clause-err : goal.returns-in-Ok-clause-err
-returns-in-Ok-clause-err g c =
+pub returns-in-Err-serve_config-clause-err : goal.returns-in-Err-serve_config-clause-err
+returns-in-Err-serve_config-clause-err g c =
     let read = accepted-text c.args.configuration.now c.as_str.result.now (shown c.in-Ok.config)
     c.as_str.ensures.value c.in-Ok.ensures.ok c.in-Ok.ensures.faultless in
     rw c.of_server.ensures
     (serve-fails c.args.configuration.now (shown c.in-Ok.config) c.in-Err-serve_config.fault read c.in-Err-serve_config.ensures)
+
+pub returns-in-Err-clause-err : goal.returns-in-Err-clause-err
+returns-in-Err-clause-err g c =
+    unread-serves c.args.configuration.now c.as_str.result.now c.in-Err.fault c.of_configuration.result
+    c.as_str.ensures.value c.in-Err.ensures.err c.of_configuration.ensures.memory c.of_configuration.ensures.refused
