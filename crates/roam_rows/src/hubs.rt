@@ -10,7 +10,7 @@ use crate::answers::{WANTING, is_taken, print_answer, print_fault};
 use crate::caller::{Caller, Given};
 use crate::player::{Over, Player};
 use crate::row::{Row, Step};
-use crate::stored::{count_of, is_stored};
+use crate::stored::{are_stored, count_of};
 use roam_book::Start;
 use roam_conf::Config;
 use roam_hub::{Blanks, Hub, Opened, Receipt, Report, Seat};
@@ -163,7 +163,7 @@ impl<'p, 'r> Player<'p, 'r> {
         let stored = count_of(&report.steps);
         self.tally.count_stored(receipts.len());
         let wanted = if meets_refusals { receipts.len() } else { 0 };
-        if stored != wanted || !receipts.iter().all(|receipt| is_stored(report, receipt)) {
+        if stored != wanted || !are_stored(report, receipts) {
             self.tell(line, "hub, its steps", "those of its receipts", "others");
         }
         if report.audit(seats, receipts).is_err() {

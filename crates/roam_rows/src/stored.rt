@@ -75,11 +75,21 @@ pub(crate) fn count_of<A: Allocator>(stored: &[Vec<Stored<A>, A>]) -> usize {
     count
 }
 
-/// Whether a receipt's step is stored at its number, where it wasn't let go of.
-pub(crate) fn is_stored<A: Allocator, N: Opened>(
+/// Whether each receipt's step is stored at its number, where it wasn't let go of.
+pub(crate) fn are_stored<A: Allocator, N: Opened>(
     report: &Report<A, N>,
-    receipt: &Receipt<A, N>,
+    receipts: &[Receipt<A, N>],
 ) -> bool {
+    for receipt in receipts {
+        if !is_stored(report, receipt) {
+            return false;
+        }
+    }
+    true
+}
+
+/// Whether a receipt's step is stored at its number, where it wasn't let go of.
+fn is_stored<A: Allocator, N: Opened>(report: &Report<A, N>, receipt: &Receipt<A, N>) -> bool {
     let shard = usize::from(receipt.shard);
     let (Some(steps), Some(front)) = (report.steps.get(shard), report.fronts.get(shard)) else {
         return false;
