@@ -134,15 +134,15 @@ def refusals():
 
 
 def told():
-    """What the broker's log says of epochs, of full rings and of notices that it dropped."""
-    sums = {"epochs": 0, "steps": 0, "lost by a full ring": 0, "notices dropped": 0}
+    """What the broker's log says of steps, of how often they were let go of, of lost packets and of dropped notices."""
+    sums = {"steps": 0, "let go of": 0, "packets lost": 0, "notices dropped": 0}
     with open(LOG, "rb") as log:
         for line in log:
-            if found := re.search(rb"epoch \d+ ended with (\d+) steps", line):
-                sums["epochs"] += 1
+            if found := re.search(rb"ended after (\d+) steps, let go of (\d+) times: audited", line):
                 sums["steps"] += int(found.group(1))
-            elif found := re.search(rb"(\d+) packets lost by a full ring", line):
-                sums["lost by a full ring"] += int(found.group(1))
+                sums["let go of"] += int(found.group(2))
+            elif found := re.search(rb"(\d+) packets lost ", line):
+                sums["packets lost"] += int(found.group(1))
             elif found := re.search(rb"(\d+) notices dropped", line):
                 sums["notices dropped"] += int(found.group(1))
     return ", ".join(f"{name} {count}" for name, count in sums.items())

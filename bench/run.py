@@ -288,7 +288,7 @@ def idle(options):
 
 
 def pauses(options):
-    """How long nobody is answered when an epoch ends, at `--rate` exchanges a second."""
+    """The longest times in which nobody is answered while steps are let go of, at `--rate` exchanges a second."""
     seconds = options.seconds or 20
     realms = numbers_of(options.realms, "8")[0]
     shards = numbers_of(options.shards, "2")[0]
