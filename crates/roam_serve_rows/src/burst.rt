@@ -108,7 +108,7 @@ fn request(realm: u16, identifier: u8) -> Packet {
         octets: [0; 64],
         size: 0,
     };
-    let name = digits.size.saturating_add(10) as u8;
+    let name = u8::try_from(digits.size).unwrap_or(0).saturating_add(10);
     packet.add(&[1, identifier, 0, name.saturating_add(20)]);
     packet.add(&[0x5a; 16]);
     packet.add(&[1, name]);
