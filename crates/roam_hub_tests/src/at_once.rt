@@ -124,8 +124,8 @@ fn submit_meanwhile<R: Abort + Wait + Clock, N: Opened, G: Gate>(
 /// gate was told, each one more than its number, added up.
 #[derive(Drop)]
 pub(crate) struct Ended<N: Opened> {
-    pub(crate) receipts: [Receipt<Global, N>; 2],
-    pub(crate) seats: [Seat<Global, N>; 2],
+    pub(crate) receipts: (Receipt<Global, N>, Receipt<Global, N>),
+    pub(crate) seats: (Seat<Global, N>, Seat<Global, N>),
     pub(crate) report: Report<Global, N>,
     pub(crate) stage: Stage,
     pub(crate) shards: u64,
@@ -177,8 +177,8 @@ pub(crate) fn called_at_once<N: Opened + Send + Sync, R: Abort + Threads + Wait 
         || submit_meanwhile(rt, second, &gate, &meeting),
     );
     Ended {
-        receipts: [first.receipt, second.receipt],
-        seats: [first.seat, second.seat],
+        receipts: (first.receipt, second.receipt),
+        seats: (first.seat, second.seat),
         report: hub.close().expect(rt, "a report"),
         stage: meeting.stage.load(Ordering::SeqCst),
         shards: meeting.shards.load(Ordering::SeqCst),

@@ -11,7 +11,7 @@ use crate::configuration::{SECOND_REALM, config_of};
 use roam_book::{Answer, Start};
 use roam_conf::Config;
 use roam_core::Event;
-use roam_hub::{AuditFault, Blanks, Opened, Receipt, Seat, split};
+use roam_hub::{AuditFault, Blanks, Opened, Receipt, Report, Seat, split};
 use roam_route::Datagram;
 use roam_shard::first_starts;
 use roam_wire::Octets;
@@ -68,11 +68,20 @@ fn counting<N: Opened>(
     (same, other)
 }
 
-/// What audits of a hub of two shards find, where two callers made a call of shard 0 each: by both seats,
-/// with no receipts, with theirs, and with the second one twice; by the first seat alone; with a seat more,
-/// that counted a call of shard 0 or of shard 1; and by one seat alone, that counted both calls, and that is
-/// marked.
+/// What audits of a hub of two shards find, where two callers made a call of shard 0 each: by both seats, with no
+/// receipts, with theirs, and with the second one twice; then by seats that counted what these say: call 0 alone;
+/// both calls, and one that nobody made, of shard 0 and of shard 1; both calls by one seat, in their order, and in
+/// the other one.
 type Found = [Option<AuditFault>; 8];
+
+/// What an audit finds.
+fn found<N: Opened>(
+    report: &Report<Global, N>,
+    seats: &[Seat<Global, N>],
+    receipts: &[Receipt<Global, N>],
+) -> Option<AuditFault> {
+    report.audit(seats, receipts).err()
+}
 
 /// Those audits.
 fn audits<N: Opened + Send + Sync, R: Abort + Threads + Wait + Clock + Sync>(
@@ -93,25 +102,27 @@ fn audits<N: Opened + Send + Sync, R: Abort + Threads + Wait + Clock + Sync>(
         report,
         ..
     } = called_at_once::<N, R>(rt, alloc, config, starts, blanks, 0, 5_000);
-    let [first, second] = receipts;
-    let [one, other] = seats;
-    let again = equal(rt, alloc, &second);
-    let receipts = [first, second, again];
+    let (first, second) = receipts;
+    let (one, other) = seats;
+    let again = [equal(rt, alloc, &second), equal(rt, alloc, &second)];
+    let pair = [first, second];
+    let (one, zero) = counting(rt, one, &[(0, 0)]);
+    let (one, too_few) = counting(rt, one, &[(0, 0), (0, 1)]);
     let (one, too_many) = counting(rt, one, &[(0, 2)]);
+    let (one, of_both) = counting(rt, one, &[(0, 0), (0, 1)]);
     let (one, of_shard_1) = counting(rt, one, &[(1, 0)]);
     let (one, both) = counting(rt, one, &[(0, 0), (0, 1)]);
     let (one, marked) = counting(rt, one, &[(0, 1), (0, 0)]);
-    let seats = [one, other, too_many];
-    let (own, _) = seats.split_at(2);
-    let by_both = report.audit(own, &[]).err();
-    let with_receipts = report.audit(own, receipts.split_at(2).0).err();
-    let with_one_twice = report.audit(own, &receipts).err();
-    let by_one = report.audit(own.split_at(1).0, &[]).err();
-    let by_too_many = report.audit(&seats, &[]).err();
-    let [one, other, _] = seats;
-    let with_shard_1 = report.audit(&[one, other, of_shard_1], &[]).err();
-    let by_one_of_both = report.audit(&[both], &[]).err();
-    let by_marked = report.audit(&[marked], &[]).err();
+    let none = Vec::new(alloc);
+    let own = [one, other];
+    let by_both = found(&report, &own, none.as_slice());
+    let with_receipts = found(&report, &own, &pair);
+    let with_one_twice = found(&report, &own, &again);
+    let by_one = found(&report, &[zero], none.as_slice());
+    let by_too_many = found(&report, &[too_few, too_many], none.as_slice());
+    let with_shard_1 = found(&report, &[of_both, of_shard_1], none.as_slice());
+    let by_one_of_both = found(&report, &[both], none.as_slice());
+    let by_marked = found(&report, &[marked], none.as_slice());
     [
         by_both,
         with_receipts,

@@ -74,7 +74,7 @@ fn seen<N: Opened + Send + Sync, R: Abort + Threads + Wait + Clock + Sync>(
         packet,
     } = second;
     let ended = called_at_once::<N, R>(rt, alloc, config, starts, blanks, realm, turns);
-    let [first, other] = &ended.receipts;
+    let (first, other) = (&ended.receipts.0, &ended.receipts.1);
     let receipts = [
         seen_of(rt, alloc, first, FIRST),
         seen_of(rt, alloc, other, packet),
