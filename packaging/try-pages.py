@@ -74,18 +74,18 @@ def lines_of(block):
     return [command for command in found if command.strip()]
 
 
-def commands_of(page):
-    """Each command of a page, with the lines that it has to print."""
-    commands = []
+def blocks_of(name, page):
+    """The commands of a page: those of each block, with the lines that it has to print, and those within sentences."""
+    blocks = []
     for kind, block, word in re.findall(r"^```(\w*)\n(.*?)^```$|`([^`\n]+(?:\n[^`\n]+)?)`", page, re.DOTALL | re.MULTILINE):
         word = " ".join(word.split())
         if kind == "sh":
-            commands += [(command, []) for command in lines_of(block)]
-        elif kind == "text" and commands:
-            commands[-1][1].extend(block.splitlines())
-        elif word.startswith(tuple(f"{name} " for name in BEGINNINGS)) and not re.search(r"\b[A-Z]{2,}\b(?!=)", word):
-            commands.append((word, []))
-    return commands
+            blocks.append((lines_of(block), []))
+        elif kind == "text" and name == "QUICKSTART" and blocks:
+            blocks[-1][1].extend(block.splitlines())
+        elif word.startswith(tuple(f"{first} " for first in BEGINNINGS)) and not re.search(r"\b[A-Z]{2,}\b(?!=)", word):
+            blocks.append(([word], []))
+    return blocks
 
 
 def reason_against(command, shell, booted):
@@ -121,26 +121,34 @@ class Tally:
         print(f"NO: {text}")
 
 
+def try_command(command, shell, booted, tally):
+    """What a command printed, and its status; none where it isn't run."""
+    told = command.replace("\n", " ")
+    reason = reason_against(command, shell, booted)
+    if reason:
+        tally.unrun += 1
+        print(f"not run: {told}\n         {reason}")
+        return "", None
+    tally.ran += 1
+    printed, status = serve(shell, command, booted) if stays_in_foreground(command) else shell.run(command)
+    print(f"run: {told}")
+    return printed, status
+
+
 def try_commands(name, page, shell, booted, tally):
-    # A page's text blocks are what QUICKSTART prints; the other pages have files of others in them.
-    for command, wanted in commands_of(page):
-        told = command.replace("\n", " ")
-        reason = reason_against(command, shell, booted)
-        if reason:
-            tally.unrun += 1
-            print(f"not run: {told}\n         {reason}")
-            continue
-        printed, status = serve(shell, command, booted) if stays_in_foreground(command) else shell.run(command)
-        tally.ran += 1
-        if status:
-            tally.fail(f"{told}\nended with {status}, and printed\n{printed}")
-            continue
-        print(f"yes: {told}")
-        for line in wanted if name == "QUICKSTART" else []:
-            if line in printed:
+    """Where text is wanted of a block, the text decides, and else the status of each command."""
+    for commands, wanted in blocks_of(name, page):
+        all_printed = ""
+        for command in commands:
+            printed, status = try_command(command, shell, booted, tally)
+            all_printed += printed
+            if status and not wanted:
+                tally.fail(f"{command}\nended with {status}, and printed\n{printed}")
+        for line in wanted:
+            if line in all_printed:
                 print(f"     {line}")
-            elif not line.startswith("  "):
-                tally.fail(f"{line!r} behind\n{told}\nwhich printed\n{printed}")
+            else:
+                tally.fail(f"{line!r} behind\n{commands}\nwhich printed\n{all_printed}")
 
 
 def configurations(page):
@@ -160,7 +168,7 @@ def try_configurations(page, program, tally):
         if judged.returncode:
             tally.fail(f"a configuration of the page: {judged.stderr}")
         else:
-            print(f"yes: a configuration of the page: {judged.stdout.strip()}")
+            print(f"run: roam check of a configuration of the page: {judged.stdout.strip()}")
 
 
 def try_names(page, directory, tally):
