@@ -2,8 +2,12 @@
 # try-deb-inside.sh without|with
 #
 # What try-deb.sh runs in its Debian, where /try has the packages and the source. Not for any other machine.
+#
+# `must` looks at expressions itself, which so stand in single quotes.
+# shellcheck disable=SC2016,SC2034
 set -u
 cd /try || exit 1
+exec 2>&1
 export DEBIAN_FRONTEND=noninteractive LC_ALL=C.UTF-8
 conf=/etc/roam/roam.conf
 failed=
@@ -24,10 +28,11 @@ quiet() {
 }
 printed() { grep -q "$1" /try/printed; }
 not() { ! "$@"; }
-# Whatever a purge could leave: all files but the package system's own, logs and caches.
+# Whatever a purge could leave: all files, and folders named for it, but the package system's own, logs and caches.
 files() {
-    find / -xdev \( -path /try -o -path /proc -o -path /sys -o -path /run -o -path /tmp -o -path /var/lib/dpkg -o -path /var/lib/apt \
-        -o -path /var/lib/systemd -o -path /var/log -o -path /var/cache -o -path /root \) -prune -o -print | sort
+    find / -xdev \( -path /try -o -path /proc -o -path /sys -o -path /run -o -path /tmp -o -path /root -o -path /var/tmp \
+        -o -path /var/lib/dpkg -o -path /var/lib/apt -o -path /var/lib/systemd -o -path /var/log -o -path /var/cache \) -prune \
+        -o \( ! -type d -o -name '*roam*' \) -print | sort
 }
 put_sample() { install -m 600 /usr/share/doc/roam/samples/visited-network.conf $conf; }
 
@@ -77,15 +82,14 @@ said() { journalctl -u roam --no-pager -o cat | grep -q "$1"; }
 first_answer() {
     local start=$SECONDS
     must "apt installs it" quiet apt-get install -y ./first.deb
-    must "the pages' quick start, in an empty folder" quiet source/packaging/try-pages.py --booted --pages /usr/share/doc/roam \
+    must "the pages' quick start, in an empty folder" source/packaging/try-pages.py --booted --pages /usr/share/doc/roam \
         /usr/bin/roam QUICKSTART
-    cat /try/printed
     echo "from the package to all answers of the quick start: $((SECONDS - start)) s"
 }
 
 the_unit() {
     must "nothing was started or enabled" eval '[ "$(of ActiveState) $(of UnitFileState)" = "inactive disabled" ]'
-    must "without a configuration it isn't served" not systemctl start roam
+    must "without a configuration it isn't served" not systemctl start roam 2> /dev/null
     must "and the journal says why" said "there is no $conf"
     systemctl stop roam
     put_sample
@@ -117,16 +121,12 @@ to_be_rid_of_it() {
 
 # The commands of the pages install it in both ways, one after the other, and so it has to be taken away in both ways.
 the_pages() {
-    must "the commands of the pages" quiet source/packaging/try-pages.py --booted source/crates/roam/out/roam OPERATING MIGRATING
-    cat /try/printed
+    must "the commands of the pages" source/packaging/try-pages.py --booted source/crates/roam/out/roam OPERATING MIGRATING
     must "systemctl disable --now roam" quiet systemctl disable --now roam
     must "make uninstall" quiet make -C source/packaging uninstall
     must "apt purge roam" quiet apt-get purge -y roam
-    rm -rf /etc/radsecproxy.conf
-    find /usr/local -type d -empty -delete
     files > after
-    must "nothing is left but empty folders" quiet diff <(grep -v '^/usr/local' before) <(grep -v '^/usr/local' after)
-    must "and nothing of roam" [ -z "$(grep -w roam after)" ]
+    must "nothing is left but empty folders" quiet diff <(grep -v radsecproxy.conf before) <(grep -v radsecproxy.conf after)
 }
 
 with() {

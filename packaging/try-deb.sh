@@ -45,16 +45,17 @@ mkdir "$root/try"
 cp "$work"/debs/*-1_*.deb "$root/try/first.deb"
 cp "$work"/debs/*-2_*.deb "$root/try/second.deb"
 # The source, with the program in its place, and the pages' commands in it.
-mkdir -p "$root/try/source/crates/roam/out"
-cp "$program" "$root/try/source/crates/roam/out/roam"
-(cd "$here/.." && tar -c --exclude=out --exclude=__pycache__ packaging docs examples rows README.md CHANGELOG.md LICENSE-*) |
+mkdir "$root/try/source"
+(cd "$here/.." && tar -c --exclude=out --exclude=__pycache__ packaging docs examples rows bench crates ./*.md LICENSE-*) |
     tar -x -C "$root/try/source"
+mkdir "$root/try/source/crates/roam/out"
+cp "$program" "$root/try/source/crates/roam/out/roam"
 cp "$here/try-deb-inside.sh" "$root/try/inside.sh"
 
 echo "1. without systemd"
 failed=
 systemd-nspawn -q --register=no --keep-unit --private-network --console=pipe -D "$root" /try/inside.sh without \
-    < /dev/null || failed=yes
+    < /dev/null 2> "$work/said" || { failed=yes; cat "$work/said"; }
 
 echo
 echo "2. with systemd"

@@ -21,7 +21,10 @@ import sys
 import tempfile
 
 ROOT = os.path.dirname(os.path.dirname(os.path.abspath(__file__)))
+DOCS = os.path.join(ROOT, "docs")
 PAGES = ["QUICKSTART", "OPERATING", "MIGRATING"]
+# A file of the repository, or a page beside this one; and whether the page says that it isn't installed.
+NAMES = r"`((?:docs|packaging|bench|rows|crates|examples|samples)/[\w./-]*|[A-Z]+\.md)`( of the source)?"
 SOURCES = ["packaging", "docs", "examples", "rows", "CHANGELOG.md", "README.md", "LICENSE-MIT", "LICENSE-APACHE"]
 # The broker of the samples, which the commands ask.
 BROKER = "203.0.113.10"
@@ -106,9 +109,9 @@ def serve(shell, command, booted):
     """Runs a server that stays in the foreground: without systemd until the end, else until it is seen to serve."""
     if booted:
         shell.run("systemctl stop roam")
-    printed, status = shell.run(f"{{ {command}; }} & sleep 2; kill -0 %%")
+    printed, status = shell.run(f"{{ {command}; }} & started=$!; sleep 2; kill -0 $started")
     if booted:
-        shell.run("kill %%; wait; systemctl start roam; sleep 1")
+        shell.run("pkill -P $started; wait $started; systemctl start roam; sleep 1")
     return printed, status
 
 
@@ -171,12 +174,18 @@ def try_configurations(page, program, tally):
             print(f"run: roam check of a configuration of the page: {judged.stdout.strip()}")
 
 
-def try_names(page, directory, tally):
-    """Looks whether the files that a page names are there."""
-    names = re.findall(r"`((?:docs|packaging|bench|rows|crates|examples|samples)/[^`\s]*|[A-Z]+\.md)`( of the source)?", page)
-    for name, in_source in names:
-        if not os.path.exists(os.path.join(ROOT if in_source else directory, name)):
-            tally.fail(f"the page names {name}, which isn't there")
+def try_names(pages, directory, tally):
+    """Looks whether the files that the pages name are there."""
+    for page in sorted(os.listdir(pages)):
+        if not page.endswith(".md"):
+            continue
+        with open(os.path.join(pages, page)) as file:
+            names = re.findall(NAMES, file.read())
+        for name, in_source in names:
+            places = [ROOT] if in_source else [directory, pages]
+            if "NAME" not in name and not any(os.path.exists(os.path.join(place, name)) for place in places):
+                tally.fail(f"{page} names {name}, which isn't there")
+    print(f"\nfiles that the pages of {pages} name: looked at")
 
 
 def checkout(program, directory):
@@ -210,7 +219,7 @@ def try_page(name, pages, program, booted, tally):
     print(f"\n{name}")
     with open(os.path.join(pages, f"{name}.md")) as file:
         page = file.read()
-    installed = pages != os.path.join(ROOT, "docs")
+    installed = pages != DOCS
     with tempfile.TemporaryDirectory() as directory:
         editor = editor_for(page, directory)
         if not installed:
@@ -224,7 +233,6 @@ def try_page(name, pages, program, booted, tally):
             shell.run("make -s -C packaging install")
         try_commands(name, page, shell, booted, tally)
         try_configurations(page, program, tally)
-        try_names(page, pages if installed else ROOT, tally)
         shell.close()
 
 
@@ -250,7 +258,7 @@ def throw_away_later():
 
 def main():
     arguments = sys.argv[1:]
-    inside, booted, pages = False, False, os.path.join(ROOT, "docs")
+    inside, booted, pages = False, False, DOCS
     given = list(arguments)
     while given and given[0].startswith("--"):
         option = given.pop(0)
@@ -273,7 +281,8 @@ def main():
     tally = Tally()
     for name in given[1:] or PAGES:
         try_page(name, pages, os.path.abspath(given[0]), booted, tally)
-    print(f"\npages: {tally.ran} run, {tally.unrun} not run, {tally.failed or 'no'} failure")
+    try_names(pages, pages if pages != DOCS else ROOT, tally)
+    print(f"pages: {tally.ran} run, {tally.unrun} not run, {tally.failed or 'no'} failure")
     sys.exit(1 if tally.failed else 0)
 
 
