@@ -6,7 +6,8 @@
 # configuration, whose sockets must be on 127.0.0.1 (examples/two-realms.conf without it).
 #
 # It fails unless the unit starts as a user of its own with no capability, with a copy of the configuration that it alone
-# can read; stays through a SIGHUP; is started again after a crash and after a SIGTERM; and is gone after a stop.
+# can read; stays through a SIGHUP; is started again after a crash and after a SIGTERM; is gone after a stop; and says in
+# words that there is no configuration, or one that others can read.
 set -euo pipefail
 
 if [ $# -lt 1 ] || [ $# -gt 2 ] || [ ! -x "$1" ]; then
@@ -35,6 +36,7 @@ mount -t tmpfs -o mode=1777 tmpfs "$root/tmp"
 rm -rf "$root"/etc/systemd/system/* "$root/etc/fstab"
 : > "$root/etc/machine-id"
 install -D -m 755 "$program" "$root/usr/local/bin/roam"
+install -D -m 755 "$here/look-at-configuration" "$root/usr/local/lib/roam/look-at-configuration"
 install -D -m 600 "$conf" "$root/etc/roam/roam.conf"
 units=$root/etc/systemd/system
 install -m 644 "$here/roam.service" "$units"
@@ -61,6 +63,8 @@ within() { for _ in $(seq "$1"); do "${@:2}" && return 0; sleep 1; done; return 
 another() { [ "$(of MainPID)" != "$first" ] && serves; }
 again() { first=$(of MainPID); kill -s "$1" "$first"; within 20 another; }
 stays() { first=$(of MainPID); kill -s "$1" "$first"; sleep 3; [ "$(of MainPID)" = "$first" ] && serves; }
+said() { journalctl -u roam --no-pager -o cat | grep -q "$1"; }
+not_said() { ! said "$1"; }
 strangers_read() { setpriv --reuid nobody --regid nogroup --clear-groups cat "$1"; }
 
 systemctl start roam
@@ -78,6 +82,16 @@ must "and after a SIGTERM from elsewhere" again TERM
 systemctl stop roam
 must "a stop is no failure" [ "$(of Result)" = success ]
 must "and leaves no copy" [ ! -e $copy ]
+must "nothing is said of a file that root alone can read" not_said 'chmod 600'
+chmod 644 /etc/roam/roam.conf
+systemctl start roam
+must "of one that others can read it is said, and served" eval "within 20 serves && said 'others than root .*chmod 600'"
+systemctl stop roam
+mv /etc/roam/roam.conf /etc/roam/away
+systemctl start roam
+must "without a file it says so, and isn't served" eval "[ \"$(of ActiveState)\" != active ] && said 'there is no /etc/roam/roam.conf'"
+systemctl stop roam
+mv /etc/roam/away /etc/roam/roam.conf
 sed -i 's/^shards.*/shards = 0/' /etc/roam/roam.conf
 systemctl start roam
 must "a refused configuration isn't served" [ "$(of ActiveState)" != active ]
