@@ -6,8 +6,8 @@ PROGRAM as what was built. It fails where one of them fails; where a line of the
 in what it printed; where a configuration of the page is refused; and where a page names a file that isn't there. What
 it doesn't run it lists, with the reason.
 
-It needs radclient, make, ip and unshare. All is done in namespaces of its own: a network, and an /etc and a /usr/local
-that are thrown away. (Without root, by a user namespace.)
+It needs radclient, make, ip, unshare and root. All is done in namespaces of its own: a network, and an /etc and a
+/usr/local that are thrown away. Without root QUICKSTART alone is run, on the machine's own loopback.
 
   --pages DIR   the pages are read there, as /usr/share/doc/roam, and QUICKSTART is run in an empty folder
   --booted      this machine runs systemd and may be spoilt, as the one of try-deb.sh: services are started too
@@ -238,22 +238,29 @@ def try_page(name, pages, program, booted, tally):
 
 def enter_namespaces(arguments):
     """Runs this script in namespaces of its own, and never returns."""
-    user = [] if os.geteuid() == 0 else ["--user", "--map-root-user"]
-    os.execvp("unshare", ["unshare", *user, "--mount", "--propagation", "private", "--net", "--pid", "--fork", "--kill-child",
+    os.execvp("unshare", ["unshare", "--mount", "--propagation", "private", "--net", "--pid", "--fork", "--kill-child",
                           "--mount-proc", sys.executable, os.path.abspath(__file__), "--inside", *arguments])
 
 
 def throw_away_later():
-    """From here on what is written to /etc and /usr/local is kept in memory, and gone with these namespaces."""
-    kept = tempfile.mkdtemp()
+    """From here on what is written to /etc and /usr/local is kept in memory, and gone with these namespaces.
+
+    So is /run, where the sockets of the machine's own services are.
+    """
+    kept = "/run"
     subprocess.run(["mount", "-t", "tmpfs", "tmpfs", kept], check=True)
-    in_user_namespace = not open("/proc/self/uid_map").read().split()[1:] == ["0", "4294967295"]
     for place in ("/etc", "/usr/local"):
         upper, work = (os.path.join(kept, kind + place.replace("/", "-")) for kind in ("upper", "work"))
         os.makedirs(upper)
         os.makedirs(work)
-        options = f"lowerdir={place},upperdir={upper},workdir={work}" + (",userxattr" if in_user_namespace else "")
+        options = f"lowerdir={place},upperdir={upper},workdir={work}"
         subprocess.run(["mount", "-t", "overlay", "overlay", "-o", options, place], check=True)
+
+
+def be_alone():
+    """A network with nothing but the broker's address, and places that may be written to."""
+    throw_away_later()
+    subprocess.run(["ip", "link", "set", "lo", "up"], check=True)
 
 
 def main():
@@ -272,15 +279,20 @@ def main():
             sys.exit(__doc__)
     if not given or not set(given[1:]) <= set(PAGES):
         sys.exit(__doc__)
-    if not booted and not inside:
+    names = given[1:] or PAGES
+    is_root = os.geteuid() == 0
+    if is_root and not booted and not inside:
         enter_namespaces(arguments)
-    if not booted:
-        throw_away_later()
-    subprocess.run(["ip", "link", "set", "lo", "up"], check=True)
-    subprocess.run(["ip", "address", "replace", f"{BROKER}/32", "dev", "lo"], check=True)
+    if inside:
+        be_alone()
+    if is_root:
+        subprocess.run(["ip", "address", "replace", f"{BROKER}/32", "dev", "lo"], check=True)
     tally = Tally()
-    for name in given[1:] or PAGES:
-        try_page(name, pages, os.path.abspath(given[0]), booted, tally)
+    for name in names:
+        if is_root or name == "QUICKSTART":
+            try_page(name, pages, os.path.abspath(given[0]), booted, tally)
+        else:
+            print(f"\n{name}\nnot run: without root")
     try_names(pages, pages if pages != DOCS else ROOT, tally)
     print(f"pages: {tally.ran} run, {tally.unrun} not run, {tally.failed or 'no'} failure")
     sys.exit(1 if tally.failed else 0)
