@@ -1,0 +1,165 @@
+//! What may stand under a key, and the words for what doesn't fit.
+
+use roam_conf::{Endpoint, address};
+use std::fmt;
+use toml::Value;
+
+/// What stands under a key.
+#[derive(Clone, Copy)]
+pub(crate) enum Form {
+    /// An integer from the first to the second.
+    Number(u32, u32),
+    Flag,
+    /// 64 hexadecimal digits.
+    Seed,
+    /// An IPv4 address.
+    Address,
+    /// An IPv4 address, a colon and a port.
+    Endpoint,
+    /// A text of 1 to so many octets.
+    Text(usize),
+    /// A text of 1 to 64 octets, which is never shown.
+    Secret,
+    /// 1 to 64 of ASCII letters, digits, `.`, `-` and `_`.
+    PeerName,
+    /// 1 to 253 of ASCII letters, digits, `.` and `-`.
+    RealmName,
+    /// At most 256 texts: each a realm's name, `*.` and one, or `*`.
+    Names,
+    /// 1 to so many tables.
+    Tables(usize),
+}
+
+/// Whether the text has 1 to `most` octets: ASCII letters, digits, `.`, `-`, and `_` where that may stand.
+fn is_name(text: &str, most: usize, may_have_underscore: bool) -> bool {
+    for octet in text.bytes() {
+        let fits = match octet {
+            b'.' | b'-' => true,
+            b'_' => may_have_underscore,
+            _ => octet.is_ascii_alphanumeric(),
+        };
+        if !fits {
+            return false;
+        }
+    }
+    !text.is_empty() && text.len() <= most
+}
+
+fn is_seed(text: &str) -> bool {
+    for octet in text.bytes() {
+        if !octet.is_ascii_hexdigit() {
+            return false;
+        }
+    }
+    text.len() == 64
+}
+
+/// Whether the text is `*`, `*.` and a realm's name, or such a name.
+fn is_pattern(text: &str) -> bool {
+    if text == "*" {
+        return true;
+    }
+    match text.strip_prefix("*.") {
+        Some(name) => is_name(name, 253, false),
+        None => is_name(text, 253, false),
+    }
+}
+
+/// Whether the text is of the form, where that is one of texts.
+fn text_fits(form: Form, text: &str) -> bool {
+    match form {
+        Form::Seed => is_seed(text),
+        Form::Address => address(text).is_some(),
+        Form::Endpoint => Endpoint::from_text(text).is_some(),
+        Form::Text(most) => !text.is_empty() && text.len() <= most,
+        Form::Secret => !text.is_empty() && text.len() <= 64,
+        Form::PeerName => is_name(text, 64, true),
+        Form::RealmName => is_name(text, 253, false),
+        Form::Names => is_pattern(text),
+        _ => false,
+    }
+}
+
+/// The first of the items that isn't a text of the form, or a table where that is one of tables.
+fn first_misfit(form: Form, items: &[Value]) -> Option<&Value> {
+    for item in items {
+        let fits = match item {
+            Value::Table(_) => matches!(form, Form::Tables(_)),
+            Value::String(text) => text_fits(form, text.as_str()),
+            _ => false,
+        };
+        if !fits {
+            return Some(item);
+        }
+    }
+    None
+}
+
+/// Whether so many items, of which one may not fit, are of the form.
+fn items_fit(form: Form, items: &[Value]) -> bool {
+    let fits = match form {
+        Form::Names => items.len() <= 256,
+        Form::Tables(most) => !items.is_empty() && items.len() <= most,
+        _ => false,
+    };
+    fits && first_misfit(form, items).is_none()
+}
+
+/// Whether the value is of the form.
+pub(crate) fn fits(form: Form, value: &Value) -> bool {
+    match value {
+        Value::Integer(number) => match form {
+            Form::Number(least, most) => i64::from(least) <= *number && *number <= i64::from(most),
+            _ => false,
+        },
+        Value::Boolean(_) => match form {
+            Form::Flag => true,
+            _ => false,
+        },
+        Value::String(text) => match form {
+            Form::Names => false,
+            _ => text_fits(form, text.as_str()),
+        },
+        Value::Array(items) => items_fit(form, items.as_slice()),
+        _ => false,
+    }
+}
+
+/// What of a value is shown that isn't of the form: the first item that doesn't fit, or all of it.
+pub(crate) fn misfit(form: Form, value: &Value) -> &Value {
+    let Value::Array(items) = value else {
+        return value;
+    };
+    match form {
+        Form::Names if items.len() <= 256 => match first_misfit(form, items.as_slice()) {
+            Some(item) => item,
+            None => value,
+        },
+        _ => value,
+    }
+}
+
+/// What a value isn't that doesn't fit.
+impl fmt::Display for Form {
+    fn fmt<W: fmt::Write>(&self, f: &mut fmt::Formatter<W>) -> fmt::Result {
+        match *self {
+            Form::Number(least, most) => write!(f, "is not in {least}..{most}"),
+            Form::Flag => f.write_str("is neither true nor false"),
+            Form::Seed => f.write_str("is not a text of 64 hexadecimal digits"),
+            Form::Address => f.write_str("is no IPv4 address in decimal, as \"192.0.2.1\""),
+            Form::Endpoint => {
+                f.write_str("is no IPv4 address with a port of 1..65535, as \"192.0.2.1:1812\"")
+            }
+            Form::Text(most) => write!(f, "is not a text of 1..{most} octets"),
+            Form::Secret => f.write_str("is not a text of 1..64 octets"),
+            Form::PeerName => f.write_str("is not 1..64 of ASCII letters, digits, . - and _"),
+            Form::RealmName => {
+                f.write_str("is not 1..253 of ASCII letters, digits, . and - (patterns go to also)")
+            }
+            Form::Names => {
+                f.write_str("is not in an array of 0..256 texts, each a name, *. and a name, or *")
+            }
+            Form::Tables(most) => write!(f, "is no array of 1..{most} tables"),
+        }
+    }
+}

@@ -1,0 +1,88 @@
+//! The keys of a table, and what of their values may be shown.
+
+ghost use Rattle.std.specs.Prelude.{◌≡◌, codes, IsNone};
+
+use crate::forms::{Form, fits};
+use std::collections::btree_map;
+use toml::value::Array;
+use toml::{Table, Value};
+
+/// A table of the document. What stands in it under the key `secret`, or under `seed`, never leaves it.
+#[derive(Clone, Copy)]
+pub(crate) struct Keys<'a> {
+    table: &'a Table,
+}
+
+impl<'a> Keys<'a> {
+    pub(crate) fn new(table: &'a Table) -> Keys<'a> {
+        Keys { table }
+    }
+
+    pub(crate) fn has(self, key: &str) -> bool {
+        self.table.get(key).is_some()
+    }
+
+    /// Whether the key is absent, or what stands under it is of the form.
+    pub(crate) fn fits(self, key: &str, form: Form) -> bool {
+        match self.table.get(key) {
+            Some(value) => fits(form, value),
+            None => true,
+        }
+    }
+
+    /// Whether a seed stands there that is all zeros.
+    pub(crate) fn has_seed_of_zeros(self) -> bool {
+        match self.table.get("seed") {
+            Some(Value::String(seed)) => seed.as_bytes().iter().all(|octet| *octet == b'0'),
+            _ => false,
+        }
+    }
+
+    /// What stands under a key and may be shown.
+    pub(crate) fn value(self, key: &str) -> Option<&'a Value>
+        ensures secret { key.now ≡ codes "secret" → IsNone result }
+        ensures seed { key.now ≡ codes "seed" → IsNone result }
+    {
+        match key {
+            "secret" | "seed" => None,
+            _ => self.table.get(key),
+        }
+    }
+
+    /// The array under a key.
+    pub(crate) fn array(self, key: &str) -> Option<&'a Array> {
+        match self.value(key) {
+            Some(Value::Array(items)) => Some(items),
+            _ => None,
+        }
+    }
+
+    /// The text under a key.
+    pub(crate) fn text(self, key: &str) -> Option<&'a str> {
+        match self.value(key) {
+            Some(Value::String(text)) => Some(text.as_str()),
+            _ => None,
+        }
+    }
+
+    /// The integer under a key, or 0.
+    pub(crate) fn number(self, key: &str) -> i64 {
+        match self.value(key) {
+            Some(Value::Integer(number)) => *number,
+            _ => 0,
+        }
+    }
+
+    /// Whether `true` stands under a key.
+    pub(crate) fn is_set(self, key: &str) -> bool {
+        match self.value(key) {
+            Some(Value::Boolean(flag)) => *flag,
+            _ => false,
+        }
+    }
+
+    /// The names of the keys.
+    pub(crate) fn names(self) -> btree_map::Keys<'a, String, Value> {
+        self.table.keys()
+    }
+}

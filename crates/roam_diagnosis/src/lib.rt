@@ -1,0 +1,27 @@
+//! Where the faults of a configuration stand, and what is unwise in one that is accepted: lines for the operator.
+//!
+//! Nothing here judges a configuration: `roam_conf_reader` does, and its fault says which lines are looked for. No
+//! line holds a secret.
+#![tactic(auto)]
+
+mod advice;
+mod bad_values;
+mod diagnosis;
+mod document;
+mod duplicates;
+mod forms;
+mod keys;
+mod line;
+mod lines;
+mod missing;
+mod place;
+mod quoted;
+mod rules;
+mod scan;
+mod statements;
+mod syntax;
+mod unsaid;
+
+pub use diagnosis::{advise, diagnose};
+pub use line::Line;
+pub use lines::Lines;

@@ -1,0 +1,146 @@
+//! On which lines of a document its tables and their keys stand.
+//!
+//! The document was read already. A line that begins a statement is a header, as `[[realm]]`, or a key with its value;
+//! what stands in inline tables has the line of the statement.
+
+use crate::place::{Kind, Place};
+use crate::scan::Scan;
+
+/// The tables that came so far.
+#[derive(Clone, Copy)]
+struct Cursor {
+    peers: u32,
+    realms: u32,
+    /// Of the last realm.
+    servers: u32,
+    /// The one to which the next keys belong.
+    here: Place,
+}
+
+/// A key without blanks and quotation marks round it.
+fn bare(key: &str) -> &str {
+    key.trim().trim_matches(|c: char| c == '"' || c == '\'')
+}
+
+/// The first key of a dotted one, and what comes after the dot.
+fn first_key(dotted: &str) -> (&str, Option<&str>) {
+    match dotted.split_once('.') {
+        Some((first, rest)) => (bare(first), Some(rest)),
+        None => (bare(dotted), None),
+    }
+}
+
+/// What stands in a header's brackets, if the line is one.
+fn header_of(line: &str) -> Option<&str> {
+    let path = match line.strip_prefix("[[") {
+        Some(path) => path,
+        None => line.strip_prefix('[')?,
+    };
+    match path.split_once(']') {
+        Some((path, _)) => Some(path),
+        None => None,
+    }
+}
+
+/// The first key of a line `key = value`.
+fn key_of(line: &str) -> Option<&str> {
+    match line.split_once('=') {
+        Some((key, _)) => Some(first_key(key).0),
+        None => None,
+    }
+}
+
+impl Cursor {
+    const START: Cursor = Cursor {
+        peers: 0,
+        realms: 0,
+        servers: 0,
+        here: Place::TOP,
+    };
+
+    /// Passes a header below `realm`, and says under which key of which table it is.
+    fn enter_below_realm<'a>(&mut self, path: &'a str) -> (Place, &'a str) {
+        let (key, rest) = first_key(path);
+        if key != "server" {
+            return (Place::realm(self.realms), key);
+        }
+        match rest {
+            Some(rest) => (Place::server(self.realms, self.servers), first_key(rest).0),
+            None => {
+                self.servers = self.servers.saturating_add(1);
+                self.here = Place::server(self.realms, self.servers);
+                (Place::realm(self.realms), key)
+            }
+        }
+    }
+
+    /// Passes a header, and says under which key of which table it is.
+    fn enter<'a>(&mut self, path: &'a str) -> (Place, &'a str) {
+        self.here = Place::OTHER;
+        let (key, rest) = first_key(path);
+        match (key, rest) {
+            ("peer", None) => {
+                self.peers = self.peers.saturating_add(1);
+                self.here = Place::peer(self.peers);
+            }
+            ("peer", Some(rest)) => return (Place::peer(self.peers), first_key(rest).0),
+            ("realm", None) => {
+                self.realms = self.realms.saturating_add(1);
+                self.servers = 0;
+                self.here = Place::realm(self.realms);
+            }
+            ("realm", Some(rest)) => return self.enter_below_realm(rest),
+            _ => {}
+        }
+        (Place::TOP, key)
+    }
+
+    /// Passes a line that begins a statement, and says whether that is the key of the table; the empty key is the
+    /// table's header.
+    fn is_it(&mut self, line: &str, place: Place, key: &str) -> bool {
+        match header_of(line) {
+            Some(path) => {
+                let (table, name) = self.enter(path);
+                (table == place && name == key) || (key.is_empty() && self.here == place)
+            }
+            None => self.here == place && key_of(line) == Some(key),
+        }
+    }
+}
+
+/// The number of the line, from 1, on which the key of the table stands, or its header for the empty key; 0 where
+/// there is none.
+fn line_of(text: &str, place: Place, key: &str) -> u32 {
+    let mut cursor = Cursor::START;
+    let mut scan = Scan::START;
+    let mut number = 0u32;
+    for line in text.trim_start_matches('\u{feff}').lines() {
+        number = number.saturating_add(1);
+        if scan.is_at_rest() && cursor.is_it(line.trim_start(), place, key) {
+            return number;
+        }
+        scan = scan.after(line);
+    }
+    0
+}
+
+/// The number of the line, from 1, on which the key of the table stands, or else the table; 0 where there is none.
+pub(crate) fn nearest_line(text: &str, place: Place, key: &str) -> u32 {
+    let exact = line_of(text, place, key);
+    if exact > 0 {
+        return exact;
+    }
+    let header = match place.kind {
+        Kind::Top => 0,
+        _ => line_of(text, place, ""),
+    };
+    if header > 0 {
+        return header;
+    }
+    match place.kind {
+        Kind::Peer => line_of(text, Place::TOP, "peer"),
+        Kind::Realm => line_of(text, Place::TOP, "realm"),
+        Kind::Server => line_of(text, Place::realm(place.index), "server"),
+        _ => 0,
+    }
+}
