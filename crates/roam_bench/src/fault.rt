@@ -1,9 +1,7 @@
 //! Why nothing is measured.
 
 use roam_conf_reader::ConfFault;
-use roam_hub::HubFault;
 use roam_sim::ScriptFault;
-use roam_trace::TraceFault;
 use roam_wire::{NoMemory, Refusal};
 use std::alloc::{AllocError, AllocFailed};
 use std::io;
@@ -18,8 +16,6 @@ pub(crate) enum Fault {
     System,
     /// A configuration, a script or a packet that the program made isn't one, or isn't answered.
     Made,
-    /// An audit finds that a hub's steps aren't what its callers have.
-    Audit,
 }
 
 impl Fault {
@@ -30,7 +26,6 @@ impl Fault {
             Fault::Word => 2,
             Fault::Memory => 3,
             Fault::Made => 4,
-            Fault::Audit => 5,
         }
     }
 }
@@ -74,23 +69,5 @@ impl From<ConfFault> for Fault {
 impl From<ScriptFault> for Fault {
     fn from(_: ScriptFault) -> Fault {
         Fault::Made
-    }
-}
-
-impl From<TraceFault> for Fault {
-    fn from(fault: TraceFault) -> Fault {
-        match fault {
-            TraceFault::NoMemory => Fault::Memory,
-            TraceFault::TraceFull => Fault::Made,
-        }
-    }
-}
-
-impl From<HubFault> for Fault {
-    fn from(fault: HubFault) -> Fault {
-        match fault {
-            HubFault::NoMemory => Fault::Memory,
-            HubFault::NoShard | HubFault::Misplaced | HubFault::TraceFull => Fault::Made,
-        }
     }
 }

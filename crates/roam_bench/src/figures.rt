@@ -6,10 +6,18 @@ use std::time::Instant;
 use std::{fs, io};
 
 /// Whether only what is counted is shown, or what is measured too.
-#[derive(Clone, Copy, PartialEq, Eq)]
+#[derive(Clone, Copy)]
 pub(crate) enum Shown {
     Counts,
     Figures,
+}
+
+/// What is given to a broker, and what is shown of it.
+#[derive(Clone, Copy)]
+pub(crate) struct Load {
+    pub(crate) table: Table,
+    pub(crate) exchanges: u64,
+    pub(crate) shown: Shown,
 }
 
 /// How events were answered.
@@ -94,29 +102,13 @@ fn in_second(count: u64, nanoseconds: u64) -> u64 {
     count.saturating_mul(1_000_000_000) / nanoseconds.max(1)
 }
 
-/// Prints how many events were answered, and how.
-pub(crate) fn print_counts(rt: &HostRuntime, counts: Counts) -> io::Result<()> {
-    for (count, what) in [
-        (counts.events, " events "),
-        (counts.packets, " packets "),
-        (counts.refused, " refused "),
-        (counts.lost, " lost"),
-    ] {
-        rt.print(count)?;
-        rt.print(what)?;
+/// Prints texts, and a number behind each.
+fn print_parts(rt: &HostRuntime, parts: &[(&str, u64)]) -> io::Result<()> {
+    for (text, number) in parts {
+        rt.print(*text)?;
+        rt.print(*number)?;
     }
     Ok(())
-}
-
-/// Prints what is measured, and over which table.
-fn print_table(rt: &HostRuntime, what: &str, table: Table) -> io::Result<()> {
-    let Table { realms, places } = table;
-    rt.print(what)?;
-    rt.print(" ")?;
-    rt.print(realms)?;
-    rt.print(" x ")?;
-    rt.print(places)?;
-    rt.print(": ")
 }
 
 /// Prints a line: how many requests a table keeps, and how much memory each takes, of so many octets in all.
@@ -126,32 +118,56 @@ pub(crate) fn print_memory(
     table: Table,
     octets: u64,
 ) -> io::Result<()> {
-    print_table(rt, "memory", table)?;
-    rt.print(table.entries())?;
-    rt.print(" entries")?;
-    if shown == Shown::Figures {
-        rt.print(", octets of each ")?;
-        rt.print(octets / table.entries().max(1))?;
+    let Table { realms, places } = table;
+    let entries = table.entries();
+    let parts = [
+        ("memory ", u64::from(realms)),
+        (" x ", u64::from(places)),
+        (": ", entries),
+        (" entries, octets of each ", octets / entries.max(1)),
+    ];
+    match shown {
+        Shown::Counts => {
+            print_parts(rt, &parts[..3])?;
+            rt.println(" entries")
+        }
+        Shown::Figures => {
+            print_parts(rt, &parts)?;
+            rt.println("")
+        }
     }
-    rt.println("")
 }
 
 /// Prints a line: what was measured over which table, and its counts and figures.
 pub(crate) fn print_line(
     rt: &HostRuntime,
-    shown: Shown,
+    load: Load,
     what: &str,
-    table: Table,
     counts: Counts,
     took: Took,
 ) -> io::Result<()> {
-    print_table(rt, what, table)?;
-    print_counts(rt, counts)?;
-    if shown == Shown::Figures {
-        rt.print(", in a second ")?;
-        rt.print(in_second(counts.events, took.wall))?;
-        rt.print(", of processor time ")?;
-        rt.print(in_second(counts.events, took.processor))?;
+    let parts = [
+        (" ", u64::from(load.table.realms)),
+        (" x ", u64::from(load.table.places)),
+        (": ", counts.events),
+        (" events ", counts.packets),
+        (" packets ", counts.refused),
+        (" refused ", counts.lost),
+        (" lost, in a second ", in_second(counts.events, took.wall)),
+        (
+            ", of processor time ",
+            in_second(counts.events, took.processor),
+        ),
+    ];
+    rt.print(what)?;
+    match load.shown {
+        Shown::Counts => {
+            print_parts(rt, &parts[..6])?;
+            rt.println(" lost")
+        }
+        Shown::Figures => {
+            print_parts(rt, &parts)?;
+            rt.println("")
+        }
     }
-    rt.println("")
 }

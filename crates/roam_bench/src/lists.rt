@@ -2,133 +2,63 @@
 //! a script that is simulated.
 
 use crate::fault::Fault;
-use crate::figures::{Begun, Shown, print_line};
-use crate::filled::{fill, give, next_events};
+use crate::figures::{Load, Shown};
+use crate::filled::measure_filled;
 use crate::maker::Maker;
-use crate::simulated::{script_of, simulated};
+use crate::shards::measure_shards;
 use crate::table::Table;
-use roam_core::{Broker, Event, Stepper};
-use roam_shard::Shards;
-use std::alloc::Global;
+use roam_conf::Config;
+use roam_core::Broker;
 
 /// What is measured.
-const TABLE: Table = Table {
-    realms: 8,
-    places: 4096,
+const LOAD: Load = Load {
+    table: Table {
+        realms: 8,
+        places: 4096,
+    },
+    exchanges: 50_000,
+    shown: Shown::Figures,
 };
-
-/// How many exchanges of it.
-const EXCHANGES: u64 = 50_000;
 
 /// The same in small.
-const SMALL_TABLE: Table = Table {
-    realms: 8,
-    places: 32,
+const SMALL_LOAD: Load = Load {
+    table: Table {
+        realms: 8,
+        places: 32,
+    },
+    exchanges: 320,
+    shown: Shown::Counts,
 };
 
-/// How many of them in small.
-const FEW_EXCHANGES: u64 = 320;
-
-/// What a broker's figures are shown as.
-#[derive(Clone, Copy)]
-struct Names {
-    given: &'static str,
-    simulated: &'static str,
-}
-
-/// What is given to each broker.
-#[derive(Drop)]
-struct Load {
-    table: Table,
-    exchanges: u64,
-    shown: Shown,
-}
-
-/// Gives the events to a broker that is full of held replies.
-fn measure_given<S: Stepper<Global>>(
+/// Measures the broker with a list for each realm.
+fn measure_lists(
     rt: &HostRuntime,
-    load: &Load,
-    name: &str,
-    broker: &mut S,
-    events: &[Event<Global>],
-) -> Result<(), Fault> {
-    let begun = Begun::now(rt)?;
-    let counts = give(broker, events);
-    let took = begun.ended(rt)?;
-    print_line(rt, load.shown, name, load.table, counts, took)?;
-    Ok(())
-}
-
-/// Simulates a script over a broker that is full of held replies.
-fn measure_simulated<S: Stepper<Global>>(
-    rt: &HostRuntime,
-    load: &Load,
-    name: &str,
-    broker: &mut S,
-    events: &[Event<Global>],
+    load: Load,
+    config: &Config,
+    small: &Config,
 ) -> Result<(), Fault> {
     let alloc = rt.alloc();
-    let script = script_of(alloc, events)?;
-    let Ok(text) = std::str::from_utf8(script.as_slice()) else {
-        return Err(Fault::Made);
-    };
-    let mut lines = Vec::new(alloc);
-    let begun = Begun::now(rt)?;
-    let counts = simulated(alloc, broker, text, &mut lines)?;
-    let took = begun.ended(rt)?;
-    print_line(rt, load.shown, name, load.table, counts, took)?;
-    Ok(())
-}
-
-/// Fills a broker with held replies, gives it the next events, and then simulates those that follow.
-fn measure_broker<S: Stepper<Global>>(
-    rt: &HostRuntime,
-    load: &Load,
-    names: Names,
-    broker: &mut S,
-) -> Result<(), Fault> {
-    let alloc = rt.alloc();
-    let small = load.table.of_waiting().config(alloc)?;
-    let mut maker = Maker::new(alloc, &small)?;
-    fill(alloc, broker, &mut maker, load.table)?;
-    let events = next_events(alloc, &mut maker, load.exchanges)?;
-    measure_given(rt, load, names.given, broker, events.as_slice())?;
-    let events = next_events(alloc, &mut maker, load.exchanges)?;
-    measure_simulated(rt, load, names.simulated, broker, events.as_slice())
+    let mut maker = Maker::new(alloc, small)?;
+    let mut broker = Broker::new(alloc, config)?;
+    let simulated = Some("lists simulated");
+    measure_filled(rt, load, "lists", simulated, &mut broker, &mut maker)
 }
 
 /// Measures both brokers.
-fn measure_both(rt: &HostRuntime, load: &Load) -> Result<(), Fault> {
+fn measure_both(rt: &HostRuntime, load: Load) -> Result<(), Fault> {
     let alloc = rt.alloc();
     let config = load.table.config(alloc)?;
-    let names = Names {
-        given: "shards",
-        simulated: "shards simulated",
-    };
-    measure_broker(rt, load, names, &mut Shards::fresh(alloc, &config)?)?;
-    let names = Names {
-        given: "lists",
-        simulated: "lists simulated",
-    };
-    measure_broker(rt, load, names, &mut Broker::new(alloc, &config)?)
+    let small = load.table.of_waiting().config(alloc)?;
+    measure_shards(rt, load, Some("shards simulated"), &config, &small)?;
+    measure_lists(rt, load, &config, &small)
 }
 
 /// Measures both brokers at full size.
 pub(crate) fn measure(rt: &HostRuntime) -> Result<(), Fault> {
-    let load = Load {
-        table: TABLE,
-        exchanges: EXCHANGES,
-        shown: Shown::Figures,
-    };
-    measure_both(rt, &load)
+    measure_both(rt, LOAD)
 }
 
 /// Plays both in small.
 pub(crate) fn check(rt: &HostRuntime) -> Result<(), Fault> {
-    let load = Load {
-        table: SMALL_TABLE,
-        exchanges: FEW_EXCHANGES,
-        shown: Shown::Counts,
-    };
-    measure_both(rt, &load)
+    measure_both(rt, SMALL_LOAD)
 }

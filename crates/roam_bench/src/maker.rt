@@ -5,7 +5,7 @@ use crate::packets::{request, response};
 use crate::table::WAITING;
 use roam_conf::Config;
 use roam_core::{Event, Stepper};
-use roam_route::Out;
+use roam_route::{Datagram, Out};
 use roam_shard::Shards;
 use std::alloc::Global;
 
@@ -43,34 +43,26 @@ impl<'c> Maker<'c> {
         })
     }
 
-    /// The moment of the next event, in milliseconds.
-    fn now(&mut self) -> u64 {
+    /// The next request.
+    fn next_request(&mut self) -> Result<Datagram<Global>, Fault> {
+        let number = self.requests;
+        let realm = u16::try_from(number % self.realms.max(1)).unwrap_or(0);
+        self.requests = number.saturating_add(1);
+        request(self.alloc, realm, number)
+    }
+
+    /// Appends the arrival of a datagram, and answers what is forwarded then or returned.
+    fn arrive(
+        &mut self,
+        datagram: Datagram<Global>,
+        events: &mut Vec<Event<Global>>,
+    ) -> Result<Vec<Out<Global>>, Fault> {
         self.events = self.events.saturating_add(1);
-        self.events / EVENTS_IN_MILLISECOND
-    }
-
-    /// The next request, and what is forwarded of it.
-    fn request(&mut self) -> Result<(Event<Global>, Out<Global>), Fault> {
-        let now = self.now();
-        let realm = self.requests % self.realms.max(1);
-        let realm = u16::try_from(realm).unwrap_or(0);
-        let datagram = request(self.alloc, realm, self.requests)?;
-        self.requests = self.requests.saturating_add(1);
+        let now = self.events / EVENTS_IN_MILLISECOND;
         let event = Event::Arrive { now, datagram };
-        let mut answer = self.broker.step(&event)?;
-        match answer.outs.pop() {
-            Some(forwarded) => Ok((event, forwarded)),
-            None => Err(Fault::Made),
-        }
-    }
-
-    /// The response to a forwarded packet.
-    fn response(&mut self, forwarded: &Out<Global>) -> Result<Event<Global>, Fault> {
-        let now = self.now();
-        let datagram = response(self.alloc, forwarded)?;
-        let event = Event::Arrive { now, datagram };
-        self.broker.step(&event)?;
-        Ok(event)
+        let answer = self.broker.step(&event)?;
+        events.push(event)?;
+        Ok(answer.outs)
     }
 
     /// A tick, where one is due.
@@ -91,13 +83,13 @@ impl<'c> Maker<'c> {
         }
         let mut forwarded = Vec::new(self.alloc);
         for _ in 0..WAITING {
-            let (event, out) = self.request()?;
-            events.push(event)?;
-            forwarded.push(out)?;
+            let datagram = self.next_request()?;
+            let mut outs = self.arrive(datagram, events)?;
+            forwarded.append(&mut outs)?;
         }
         for out in forwarded.iter() {
-            let event = self.response(out)?;
-            events.push(event)?;
+            let datagram = response(self.alloc, out)?;
+            self.arrive(datagram, events)?;
         }
         Ok(())
     }

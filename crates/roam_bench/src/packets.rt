@@ -34,6 +34,27 @@ fn packet(
     Ok(packet.finish())
 }
 
+/// A packet of these attributes that is signed: an Accounting-Request, or the Accounting-Response to a request with that
+/// Authenticator.
+fn signed(
+    alloc: Global,
+    answered: Option<[u8; 16]>,
+    id: u8,
+    attributes: &[Attribute<'_>],
+) -> Result<Vec<u8>, Fault> {
+    let code = match answered {
+        Some(_) => ACCOUNTING_RESPONSE,
+        None => ACCOUNTING_REQUEST,
+    };
+    let unsigned = packet(alloc, code, id, &ZERO_OCTETS, attributes)?;
+    let view = View::read(unsigned.as_slice())?;
+    let signature = match answered {
+        Some(authenticator) => response_auth(&view, authenticator, HOME_SERVER_SECRET),
+        None => request_auth(&view, ACCESS_SERVER_SECRET),
+    };
+    packet(alloc, code, id, &signature, attributes)
+}
+
 /// An Accounting-Request of a user of a realm. Requests of other numbers have another Identifier or come from
 /// another port.
 pub(crate) fn request(alloc: Global, realm: u16, number: u64) -> Result<Datagram<Global>, Fault> {
@@ -46,16 +67,14 @@ pub(crate) fn request(alloc: Global, realm: u16, number: u64) -> Result<Datagram
         (ACCT_STATUS_TYPE, &[0, 0, 0, 1]),
         (ACCT_SESSION_ID, &session),
     ];
-    let unsigned = packet(alloc, ACCOUNTING_REQUEST, id, &ZERO_OCTETS, &attributes)?;
-    let signature = request_auth(&View::read(unsigned.as_slice())?, ACCESS_SERVER_SECRET);
-    let signed = packet(alloc, ACCOUNTING_REQUEST, id, &signature, &attributes)?;
+    let octets = signed(alloc, None, id, &attributes)?;
     Ok(Datagram {
         at: Place::Acct,
         from: Endpoint {
             ip: [192, 0, 2, 1],
             port,
         },
-        octets: Octets::from_vec(signed),
+        octets: Octets::from_vec(octets),
     })
 }
 
@@ -63,18 +82,12 @@ pub(crate) fn request(alloc: Global, realm: u16, number: u64) -> Result<Datagram
 /// is signed over its Authenticator.
 pub(crate) fn response(alloc: Global, forwarded: &Out<Global>) -> Result<Datagram<Global>, Fault> {
     let request = View::read(forwarded.bytes.as_slice())?;
-    let attributes = match request.first(PROXY_STATE) {
-        Some(state) => [(PROXY_STATE, state)],
-        None => return Err(Fault::Made),
-    };
-    let id = request.id();
-    let unsigned = packet(alloc, ACCOUNTING_RESPONSE, id, &ZERO_OCTETS, &attributes)?;
-    let reply = View::read(unsigned.as_slice())?;
-    let signature = response_auth(&reply, request.authenticator(), HOME_SERVER_SECRET);
-    let signed = packet(alloc, ACCOUNTING_RESPONSE, id, &signature, &attributes)?;
+    let state = request.first(PROXY_STATE).unwrap_or(&[]);
+    let answered = Some(request.authenticator());
+    let octets = signed(alloc, answered, request.id(), &[(PROXY_STATE, state)])?;
     Ok(Datagram {
         at: forwarded.from,
         from: forwarded.to,
-        octets: Octets::from_vec(signed),
+        octets: Octets::from_vec(octets),
     })
 }

@@ -1,8 +1,8 @@
 //! The broker over shared tables of several sizes, all of them full of held replies: so each new request makes one go.
 
 use crate::fault::Fault;
-use crate::figures::{Begun, Shown, print_line, print_memory, resident};
-use crate::filled::{fill, give, next_events};
+use crate::figures::{Load, Shown, print_memory, resident};
+use crate::filled::{fill, measure_filled};
 use crate::maker::Maker;
 use crate::table::Table;
 use roam_conf::Config;
@@ -47,20 +47,38 @@ const EXCHANGES: u64 = 200_000;
 /// How many of them in small.
 const FEW_EXCHANGES: u64 = 320;
 
+/// Measures a broker of a table. A second configuration of its realms keeps only what waits.
+pub(crate) fn measure_shards(
+    rt: &HostRuntime,
+    load: Load,
+    simulated: Option<&str>,
+    config: &Config,
+    small: &Config,
+) -> Result<(), Fault> {
+    let alloc = rt.alloc();
+    let mut maker = Maker::new(alloc, small)?;
+    let mut broker = Shards::fresh(alloc, config)?;
+    measure_filled(rt, load, "shards", simulated, &mut broker, &mut maker)
+}
+
 /// Measures one table.
 fn measure_one(rt: &HostRuntime, table: Table, exchanges: u64, shown: Shown) -> Result<(), Fault> {
     let alloc = rt.alloc();
-    let small = table.of_waiting().config(alloc)?;
+    let load = Load {
+        table,
+        exchanges,
+        shown,
+    };
     let config = table.config(alloc)?;
+    let small = table.of_waiting().config(alloc)?;
+    measure_shards(rt, load, None, &config, &small)
+}
+
+/// Fills a broker of a table with held replies.
+fn fill_table(alloc: Global, table: Table, broker: &mut Shards<'_, Global>) -> Result<(), Fault> {
+    let small = table.of_waiting().config(alloc)?;
     let mut maker = Maker::new(alloc, &small)?;
-    let mut broker = Shards::fresh(alloc, &config)?;
-    fill(alloc, &mut broker, &mut maker, table)?;
-    let events = next_events(alloc, &mut maker, exchanges)?;
-    let begun = Begun::now(rt)?;
-    let counts = give(&mut broker, events.as_slice());
-    let took = begun.ended(rt)?;
-    print_line(rt, shown, "shards", table, counts, took)?;
-    Ok(())
+    fill(alloc, broker, &mut maker, table)
 }
 
 /// A broker of a table that is full of held replies.
@@ -69,10 +87,8 @@ fn filled<'c>(
     table: Table,
     config: &'c Config,
 ) -> Result<Shards<'c, Global>, Fault> {
-    let small = table.of_waiting().config(alloc)?;
-    let mut maker = Maker::new(alloc, &small)?;
     let mut broker = Shards::fresh(alloc, config)?;
-    fill(alloc, &mut broker, &mut maker, table)?;
+    fill_table(alloc, table, &mut broker)?;
     Ok(broker)
 }
 

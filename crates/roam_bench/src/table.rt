@@ -36,43 +36,46 @@ impl Table {
         }
     }
 
-    /// The configuration. Replies are held for so long that none is due, and no session is remembered.
-    fn text(self, alloc: Global, shards: u16) -> Result<String, Fault> {
+    /// The configuration, in one shard. Replies are held for so long that none is due, and no session is remembered.
+    fn text(self, alloc: Global) -> Result<String, Fault> {
         let places = self.places;
-        let mut text = String::new(alloc);
-        write!(text, "shards = {shards}\n")?;
-        text.push_str(HEAD)?;
+        let mut text = String::from_str(alloc, HEAD)?;
         for realm in 0..self.realms {
             let out = 10000 + u32::from(realm);
             let reverse = 20000 + u32::from(realm);
-            write!(text, "[[realm]]\nname = \"r{realm}.example\"\n")?;
             write!(
                 text,
-                "out = \"127.0.0.1:{out}\"\nreverse = \"127.0.0.1:{reverse}\"\n"
+                "
+[[realm]]
+name = \"r{realm}.example\"
+out = \"127.0.0.1:{out}\"
+reverse = \"127.0.0.1:{reverse}\"
+tries = 2
+wait = 60000
+hold = 60000
+max_pending = {places}
+max_sessions = 0
+
+[[realm.server]]
+auth = \"198.51.100.1:1812\"
+acct = \"198.51.100.1:1813\"
+secret = \"h1\"
+"
             )?;
-            write!(
-                text,
-                "tries = 2\nwait = 60000\nhold = 60000\nmax_pending = {places}\n"
-            )?;
-            text.push_str(SERVER)?;
         }
         Ok(text)
     }
 
-    /// The configuration of the table, in so many shards.
-    pub(crate) fn config_of_shards(self, alloc: Global, shards: u16) -> Result<Config, Fault> {
-        let text = self.text(alloc, shards)?;
+    /// The configuration of the table.
+    pub(crate) fn config(self, alloc: Global) -> Result<Config, Fault> {
+        let text = self.text(alloc)?;
         let config = read_config(alloc, text.as_str())?;
         Ok(config)
     }
-
-    /// The configuration of the table, in one shard.
-    pub(crate) fn config(self, alloc: Global) -> Result<Config, Fault> {
-        self.config_of_shards(alloc, 1)
-    }
 }
 
-const HEAD: &str = "seed = \"0000000000000000000000000000000000000000000000000000000000000000\"
+const HEAD: &str = "shards = 1
+seed = \"0000000000000000000000000000000000000000000000000000000000000000\"
 auth = \"127.0.0.1:1812\"
 acct = \"127.0.0.1:1813\"
 trace_limit = 1000000
@@ -81,14 +84,4 @@ trace_limit = 1000000
 name = \"nas1\"
 ip = \"192.0.2.1\"
 secret = \"xyzzy5461\"
-
-";
-
-const SERVER: &str = "max_sessions = 0
-
-[[realm.server]]
-auth = \"198.51.100.1:1812\"
-acct = \"198.51.100.1:1813\"
-secret = \"h1\"
-
 ";
