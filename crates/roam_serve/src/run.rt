@@ -5,5 +5,6 @@ pub mod ending;
 pub mod losses;
 pub mod old_history;
 pub mod prepared;
+pub mod rest;
 pub mod shared;
 pub mod start;

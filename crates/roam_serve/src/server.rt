@@ -14,6 +14,7 @@ use crate::run::ending::{Ended, WorkerEnd, has_given_up_after};
 use crate::run::losses::{CAUSES, SharedLosses};
 use crate::run::old_history::OldHistory;
 use crate::run::prepared::prepare_threads;
+use crate::run::rest::TimerRest;
 use crate::run::shared::Shared;
 use crate::run::start::run_threads;
 use crate::system::bind::{BoundSocket, RECEIVE_BUFFER, bind_all, descriptors_wanted, widen};
@@ -89,12 +90,14 @@ fn run<'c, R: Threads + Wait + Clock + Net + Log + Sync, G: Gate + Sync, N: Open
     let wakers = make_wakers(alloc, polls.as_slice(), wanted)?;
     let logger = Parker::new();
     let stop = AtomicBool::new(false);
+    let rest = TimerRest::new(wakers.as_slice().first());
     let shared = Shared {
         config,
         hub,
         gate: parts.gate,
         logger: &logger,
         wakers: wakers.as_slice(),
+        rest: &rest,
         losses: parts.losses,
         old_history: parts.old_history,
         stop: &stop,

@@ -5,6 +5,7 @@ ghost use Rattle.roam_conf.specs.Shown.{shown};
 
 use crate::run::losses::SharedLosses;
 use crate::run::old_history::OldHistory;
+use crate::run::rest::TimerRest;
 use mio::Waker;
 use roam_conf::Config;
 use roam_hub::{Hub, Opened};
@@ -21,8 +22,9 @@ pub struct Shared<'s, 'c, G, N: Opened> {
     pub gate: &'s G,
     /// What the logger sleeps on.
     pub logger: &'s Parker,
-    /// What ends the wait of each worker, and of the timer.
+    /// What ends the wait of the timer, the first, and of each worker.
     pub wakers: &'s [Waker],
+    pub rest: &'s TimerRest<'s>,
     pub losses: &'s SharedLosses,
     pub old_history: &'s OldHistory,
     /// Whether all are to end.

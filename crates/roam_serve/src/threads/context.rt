@@ -75,7 +75,10 @@ impl<G: Gate, N: Opened> WorkerContext<'_, '_, G, N> {
         let origin = Origin::Datagram(datagram.at, datagram.from);
         match prepare(alloc, self.shared.config, datagram) {
             Ok(Prepared::Job(job)) => match self.answer(rt, job) {
-                Ok(answered) => self.finish(rt, answered, origin),
+                Ok(answered) => {
+                    self.shared.rest.wake();
+                    self.finish(rt, answered, origin);
+                }
                 Err(refusal) => self.notices.refused(refusal, origin),
             },
             Ok(Prepared::Reject(out)) => self.outgoing.put(out),
@@ -129,6 +132,20 @@ impl<G: Gate, N: Opened> WorkerContext<'_, '_, G, N> {
                 }
             }
         }
+    }
+
+    /// Whether nothing is due within so many milliseconds in any shard, as they stand, and no packet waits for a
+    /// socket.
+    pub fn can_rest<R: Wait>(&mut self, rt: &R, milliseconds: u64) -> bool {
+        let shared = self.shared;
+        let until = self.now.saturating_add(milliseconds);
+        for shard in 0..shared.config.shards {
+            match shared.hub.is_due(rt, &mut self.seat, until, shard) {
+                Ok(false) => {}
+                _ => return false,
+            }
+        }
+        !self.outgoing.is_blocked
     }
 
     /// Does what helps against a fault of a call. Answers whether it can be made again.

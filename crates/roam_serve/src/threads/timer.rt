@@ -1,6 +1,6 @@
 //! The worker that ticks the shards, and tells what was lost.
 
-ghost use Rattle.std.specs.Prelude.{◌↔◌, ◌≤◌, ◌+◌, IsTrue, IsFalse, MatchOption};
+ghost use Rattle.std.specs.Prelude.{◌≡◌, ◌↔◌, ◌≤◌, ◌+◌, ◌-◌, min, IsTrue, IsFalse, MatchOption};
 
 use crate::run::ending::{Ending, WorkerEnd};
 use crate::run::losses::CAUSES;
@@ -14,6 +14,9 @@ use std::time::{Clock, Duration};
 
 /// From one round of ticks to the next, in milliseconds.
 pub const TICK: u64 = 10;
+
+/// The same, where nothing is due so long in any shard, and no job was given to one.
+pub const REST: u64 = 1000;
 
 /// Lost packets of one cause are told once in so many milliseconds.
 pub const BETWEEN_LOSSES: u64 = 60_000;
@@ -88,15 +91,44 @@ fn round<R: Wait + Clock, G: Gate, N: Opened>(
     None
 }
 
-/// Waits until the next round, or until it is woken.
-fn wait<R: Clock, G, N: Opened>(rt: &R, timer: &mut Timer<'_, '_, G, N>) {
-    let wait = Duration::from_millis(TICK);
-    if timer.poll.poll(&mut timer.events, Some(wait)).is_err() {
-        thread::sleep(rt, wait);
+/// How long to wait where the server's time may be over before, in milliseconds.
+fn until_end(wait: u64, now: u64, end: Option<u64>) -> u64
+    ensures { MatchOption end (result ≡ wait) (λ moment. result ≡ min wait (moment - now)) }
+{
+    match end {
+        Some(end) => wait.min(end.saturating_sub(now)),
+        None => wait,
     }
 }
 
-/// Ticks the shards about every `TICK` milliseconds, until the server ends.
+/// Waits until the next round, or until it is woken: a short time, where the timer doesn't rest.
+fn wait<R: Clock, G, N: Opened>(rt: &R, timer: &mut Timer<'_, '_, G, N>, milliseconds: u64) {
+    let context = &timer.context;
+    let wait = until_end(milliseconds, context.now, context.shared.end);
+    let timeout = Some(Duration::from_millis(wait));
+    if timer.poll.poll(&mut timer.events, timeout).is_err() {
+        thread::sleep(rt, Duration::from_millis(TICK));
+    }
+}
+
+/// Waits until the next round. Before it rests it says so, and looks at the shards once more: a job that one was
+/// given before that look is seen there, and who gives one a job after it wakes the timer.
+fn rest<R: Wait + Clock, G: Gate, N: Opened>(rt: &R, timer: &mut Timer<'_, '_, G, N>) {
+    if !timer.context.can_rest(rt, REST) {
+        return wait(rt, timer, TICK);
+    }
+    let shared = timer.context.shared;
+    shared.rest.begin();
+    let milliseconds = if timer.context.can_rest(rt, REST) {
+        REST
+    } else {
+        TICK
+    };
+    wait(rt, timer, milliseconds);
+    shared.rest.end();
+}
+
+/// Ticks the shards about every `TICK` milliseconds where something may be due, until the server ends.
 pub fn tick_on<R: Wait + Clock, G: Gate, N: Opened>(
     rt: &R,
     mut timer: Timer<'_, '_, G, N>,
@@ -105,7 +137,7 @@ pub fn tick_on<R: Wait + Clock, G: Gate, N: Opened>(
         if let Some(ending) = round(rt, &mut timer) {
             return timer.context.leave(ending);
         }
-        wait(rt, &mut timer);
+        rest(rt, &mut timer);
     }
     unreachable!()
 }

@@ -1,0 +1,43 @@
+//! The rest of the timer, where nothing is due.
+
+use mio::Waker;
+use std::sync::atomic::{AtomicBool, Ordering};
+
+/// Whether the timer rests, and what wakes it.
+#[derive(Drop)]
+pub struct TimerRest<'s> {
+    is_resting: AtomicBool,
+    waker: Option<&'s Waker>,
+}
+
+impl<'s> TimerRest<'s> {
+    /// A timer that doesn't rest, and is woken through this.
+    pub fn new(waker: Option<&'s Waker>) -> TimerRest<'s> {
+        TimerRest {
+            is_resting: AtomicBool::new(false),
+            waker,
+        }
+    }
+
+    /// The timer rests: whoever gives a job to a shard from now on wakes it.
+    pub fn begin(&self) {
+        self.is_resting.store(true, Ordering::SeqCst);
+    }
+
+    /// The timer rests no more.
+    pub fn end(&self) {
+        self.is_resting.store(false, Ordering::SeqCst);
+    }
+
+    /// Wakes the timer where it rests: the first who asks does.
+    pub fn wake(&self) {
+        if !self.is_resting.load(Ordering::SeqCst)
+            || !self.is_resting.swap(false, Ordering::SeqCst)
+        {
+            return;
+        }
+        if let Some(waker) = self.waker {
+            let _is_woken = waker.wake().is_ok();
+        }
+    }
+}
