@@ -1,5 +1,5 @@
 -- Steps of histories of which one begins the other.
-use Rattle.std.proofs.Common.{◌≡◌, ℕ, ◌<◌, List, [], ◌∷◌, ◌++◌, length, take, Some, slice_get, refl, sym, ap, ◌∙◌, arith}
+use Rattle.std.proofs.Common.{◌≡◌, ℕ, zero, suc, ◌<◌, List, [], ◌∷◌, ◌++◌, length, take, Some, slice_get, refl, sym, ap, ◌∙◌, arith}
 use Rattle.std.proofs.lemmas.Option.{slice_get_within}
 use mathlib.Core.List.{IsPrefix}
 use Rattle.roam_trace.specs.Steps.{PlainStep}
@@ -15,6 +15,16 @@ take_append (x ∷ xs) ys = ap (λ l. x ∷ l) (take_append xs ys)
 
 pub prefix_begins : (es fs : List Entry) → IsPrefix es fs → Begins es fs
 prefix_begins es fs pre = ap (λ (l : List Entry). take (length es) l) (sym pre.1) ∙ take_append es pre.0
+
+take_rest : {X : Type 0} (n : ℕ) (xs : List X) → (ys : List X) × (take n xs ++ ys ≡ xs)
+take_rest zero xs = (xs, refl)
+take_rest (suc n) [] = ([], refl)
+take_rest (suc n) (x ∷ xs) = (let rest = take_rest n xs in (rest.0, ap (λ l. x ∷ l) rest.1))
+
+pub begins_prefix : (es fs : List Entry) → Begins es fs → IsPrefix es fs
+begins_prefix es fs begins =
+    let rest = take_rest (length es) fs in
+    (rest.0, ap (λ (l : List Entry). l ++ rest.0) (sym begins) ∙ rest.1)
 
 -- so its steps begin the other's
 pub steps_begin : (es fs : List Entry) → IsPrefix es fs → IsPrefix (steps_in es) (steps_in fs)

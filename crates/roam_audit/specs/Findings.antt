@@ -2,11 +2,12 @@
 use Rattle.std.specs.Prelude.{◌≡◌, ℕ, false, List, Result, Ok, Err}
 use Rattle.std.specs.List.{All}
 use Rattle.roam_trace.specs.Steps.{PlainStep}
+use Rattle.roam_history.specs.Entries.{Entry}
 use Rattle.roam_audit.specs.declared.audit_fault.AuditFault.{AuditFault}
 use Rattle.roam_audit.specs.declared.audit_fault.AuditFault.TheVariants as fault
 use Rattle.roam_audit.specs.Seats.{SeatView}
 use Rattle.roam_audit.specs.Receipts.{PlainReceipt}
-use Rattle.roam_audit.specs.Audit.{AllAgree, Stands, are_of_one_call, AreRight, IsInOrder, IsFirstUneven, IsFirstWrong, AreOfFirstWrong}
+use Rattle.roam_audit.specs.Audit.{AllAgree, Stands, are_of_one_call, AreRight, IsInOrder, IsFirstUneven, IsFirstFault, IsFirstWrong, IsPassed, AreOfFirstWrong}
 
 -- what is found of the seats
 abbrev pub FindsUneven : List (List PlainStep) → List SeatView → Result (Unit {0}) AuditFault
@@ -14,6 +15,12 @@ abbrev pub FindsUneven : List (List PlainStep) → List SeatView → Result (Uni
 FindsUneven steps seats (Ok _) = AllAgree steps seats
 FindsUneven steps seats (Err (fault.Seats shard)) = IsFirstUneven steps seats shard
 FindsUneven steps seats (Err (fault.Receipt shard number)) = ⊥
+
+-- what is found of the seats, and of what they have seen
+abbrev pub FindsPassed : List (List PlainStep) → ℕ → (ℕ → List Entry) → List SeatView
+    → Result (Unit {0}) AuditFault → Type 0
+FindsPassed steps shards whole seats (Ok _) = IsPassed steps shards whole seats
+FindsPassed steps shards whole seats (Err what) = IsFirstFault steps shards whole seats what
 
 -- the first receipt that isn't right has this shard and number
 pub record IsWrongAt (steps : List (List PlainStep)) (receipts : List PlainReceipt)

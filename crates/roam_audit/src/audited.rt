@@ -1,11 +1,12 @@
 //! A report that passed its audit.
 
-ghost use Rattle.std.specs.Prelude.{◌≡◌, ◌<◌, ℕ, true, IfOk, OnOk, vec_len};
+ghost use Rattle.std.specs.Prelude.{◌≡◌, ◌↔◌, ◌<◌, true, IfErr, IfOk, IsOk, IsTrue, vec_len};
 ghost use Rattle.std.specs.List.{All};
 ghost use mathlib.Core.List.{IsPrefix};
 ghost use Rattle.roam_audit.specs.Seats.{front_of};
 ghost use Rattle.roam_audit.specs.Shown.{recorded, whole_of};
-ghost use Rattle.roam_audit.specs.Audit.{AllAgree, Begins};
+ghost use Rattle.roam_audit.specs.Audit.{AllAgree, HasSeen, IsFirstFault, IsPassed};
+ghost use Rattle.roam_audit.specs.Findings.{FindsPassed};
 
 use crate::audit_fault::AuditFault;
 use crate::report::Report;
@@ -21,8 +22,7 @@ pub struct Audited<A: Allocator, N: Opened> {
     report: Report<A, N>,
     seats: Vec<Seat<A, N>, A>,
     ghost agree: { AllAgree (recorded report) seats.items },
-    ghost begun: { All (λ seat. (shard : ℕ) → shard < N.opening.config.shards
-        → Begins (front_of seat shard) (whole_of report shard)) seats.items },
+    ghost begun: { All (HasSeen N.opening.config.shards (whole_of report)) seats.items },
 }
 
 impl<A: Allocator, N: Opened> Audited<A, N> {
@@ -38,15 +38,14 @@ impl<A: Allocator, N: Opened> Report<A, N> {
     /// Whether all that a seat has seen of a shard begins that shard's history here.
     fn has_seen(&self, seat: &Seat<A, N>, shard: usize) -> bool
         requires { shard < vec_len self.now.fronts }
-        ensures { result ≡ true → IsPrefix (front_of seat.now shard) (whole_of self.now shard) }
+        ensures { result ≡ true ↔ IsPrefix (front_of seat.now shard) (whole_of self.now shard) }
     {
         seat.front(shard as u16).begins(&self.fronts[shard])
     }
 
     /// Whether all that a seat has seen of each shard begins that shard's history here.
     fn has_all_of(&self, seat: &Seat<A, N>) -> bool
-        ensures { result ≡ true → (shard : ℕ) → shard < N.opening.config.shards
-            → Begins (front_of seat.now shard) (whole_of self.now shard) }
+        ensures { IsTrue result ↔ HasSeen N.opening.config.shards (whole_of self.now) seat.now }
     {
         for shard in 0..self.fronts.len() {
             if !self.has_seen(seat, shard) {
@@ -58,36 +57,45 @@ impl<A: Allocator, N: Opened> Report<A, N> {
 
     /// Whether all that each of these seats has seen begins the histories here.
     fn has_all(&self, seats: &[Seat<A, N>]) -> bool
-        ensures { result ≡ true → All (λ seat. (shard : ℕ) → shard < N.opening.config.shards
-            → Begins (front_of seat shard) (whole_of self.now shard)) seats.now }
+        ensures { IsTrue result
+            ↔ All (HasSeen N.opening.config.shards (whole_of self.now)) seats.now }
     {
         seats.iter().all(|seat| self.has_all_of(seat))
     }
 
     /// Audits the report by these seats, with no receipts, and looks at what they have seen.
     fn passes(&self, seats: &[Seat<A, N>]) -> Result<(), AuditFault>
-        ensures agree { OnOk result (AllAgree (recorded self.now) seats.now) }
-        ensures begun { OnOk result (All (λ seat. (shard : ℕ) → shard < N.opening.config.shards
-            → Begins (front_of seat shard) (whole_of self.now shard)) seats.now) }
+        ensures { FindsPassed (recorded self.now) N.opening.config.shards (whole_of self.now)
+            seats.now result }
     {
-        self.check_seats(seats)?;
-        if self.has_all(seats) {
-            Ok(())
-        } else {
-            Err(AuditFault::Seats { shard: 0 })
+        match self.check_seats(seats) {
+            Ok(()) => {
+                if self.has_all(seats) {
+                    Ok(())
+                } else {
+                    Err(AuditFault::Seats { shard: 0 })
+                }
+            }
+            Err(fault) => Err(fault),
         }
     }
 
-    /// Audits the report by these seats, with no receipts: see `audit`. Where a seat has seen what isn't recorded here, that
-    /// is a fault of the seats of shard 0. Takes no memory.
+    /// Audits the report by these seats, with no receipts: see `audit`. Where a seat has seen what isn't
+    /// recorded here, that is a fault of the seats of shard 0. Takes no memory.
     pub fn audited(self, seats: Vec<Seat<A, N>, A>) -> Result<Audited<A, N>, AuditFault>
+        ensures ok { IsOk result
+            ↔ IsPassed (recorded self) N.opening.config.shards (whole_of self) seats.items }
+        ensures fault { IfErr result
+            (IsFirstFault (recorded self) N.opening.config.shards (whole_of self) seats.items) }
         ensures report { IfOk result (λ a. a.report ≡ self) }
         ensures seats { IfOk result (λ a. a.seats ≡ seats) }
     {
-        self.passes(seats.as_slice())?;
-        Ok(Audited {
-            report: self,
-            seats,
-        })
+        match self.passes(seats.as_slice()) {
+            Ok(()) => Ok(Audited {
+                report: self,
+                seats,
+            }),
+            Err(fault) => Err(fault),
+        }
     }
 }

@@ -1,5 +1,5 @@
 -- What lies under a lock, one call later.
-use Rattle.std.proofs.Common.{◌≡◌, ℕ, zero, suc, ◌+◌, ◌<◌, ◌≤◌, List, [], ◌∷◌, ◌++◌, length, Some, None, slice_get, slice_index_or, slice_set, refl, ap, sym, subst, ◌∙◌, arith}
+use Rattle.std.proofs.Common.{◌≡◌, ◌↔◌, Bool, false, ℕ, zero, suc, ◌+◌, ◌<◌, ◌≤◌, List, [], ◌∷◌, ◌++◌, length, Some, None, slice_get, slice_index_or, slice_set, refl, ap, sym, subst, ◌∙◌, arith}
 use Rattle.std.proofs.lemmas.List.{length-append, get_or-set_same, get_or-set_other}
 use mathlib.Core.List.{IsPrefix}
 use Rattle.roam_shard.specs.ShardView.{OpeningView, opened}
@@ -13,7 +13,7 @@ use Rattle.roam_history.proofs.EntryLemmas.{all-gone, all-steps, last-push, none
 use Rattle.roam_history.proofs.Prefixes.{prefix_length, prefix_self, prefix_trans}
 use Rattle.roam_audit.specs.Seats.{SeatView, after_call, front_of, having_seen}
 use Rattle.roam_audit.proofs.PrefixLemmas.{steps_begin}
-use Rattle.roam_hub.specs.Calls.{AreGone, IsCall, IsFull, IsQuiet, Sees}
+use Rattle.roam_hub.specs.Calls.{AreGone, IsCall, IsDueCall, IsFull, IsLook, Sees}
 use Rattle.roam_hub.specs.Keeping.{IsKept, KeptView}
 
 -- a seat that has seen all entries of a shard
@@ -112,6 +112,7 @@ pub record Recorded (o : HubOpening) (k : KeptView) (shard : ℕ) (old new : Sea
   pub call : IsCall o shard old new number s
   pub sees : Sees shard old new
   pub front : front_of new shard ≡ k.front.entries
+  pub last : last_of k.trace.steps ≡ Some s
 
 -- what is known where it was
 pub record Recording (k : KeptView) (t : TraceView) (f : FrontView) (s : PlainStep) (shard number : ℕ) (old new : SeatView) : Type 0 where
@@ -148,6 +149,7 @@ recorded-one o k s shard number old new kept more here there begins number_is no
       };
       sees = sees_set shard old new whole fronts there (prefix_trans (front_of old shard) es whole begins (Some s ∷ [], refl));
       front = front;
+      last = last-push k.trace.steps s;
     }
 
 pub recorded : (o : HubOpening) (k : KeptView) (t : TraceView) (f : FrontView) (s : PlainStep) (shard number : ℕ) (old new : SeatView)
@@ -182,22 +184,35 @@ gone_of_shard o k shard old new steps kept here there begins are seen =
       both.1,
     )
 
--- nothing was due where the shard stands
-pub quiet : (o : HubOpening) (k : KeptView) (shard now : ℕ) (old new : SeatView) → IsKept o k
+-- whether anything was due where the shard stands
+pub look : (o : HubOpening) (k : KeptView) (shard now : ℕ) (old new : SeatView) (due : Bool) → IsKept o k
     → k.front.shard ≡ shard → shard < length old.fronts → IsPrefix (front_of old shard) k.front.entries
-    → NothingDue now k.trace.states → new ≡ having_seen old shard k.front.entries
-    → IsQuiet o shard now old new × Sees shard old new
-quiet o k shard now old new kept here there begins none seen =
+    → (due ≡ false ↔ NothingDue now k.trace.states) → new ≡ having_seen old shard k.front.entries
+    → IsLook o shard now old new due × Sees shard old new
+look o k shard now old new due kept here there begins is seen =
     let both = sees_whole shard old new k.front.entries seen there begins in
     let history = subst (λ (n : ℕ). IsHistory (opening_at o n) (steps_in k.front.entries)) here (whole_history o k kept) in
     let end = whole_end o k kept ∙ ap (λ (n : ℕ). end_of (opening_at o n) (steps_in k.front.entries)) here in (
       record {
         tallies = ap (λ (x : SeatView). x.tallies) seen;
         history = subst (λ (l : List Entry). IsHistory (opening_at o shard) (steps_in l)) (sym both.0) history;
-        quiet = subst (λ (l : List Entry). NothingDue now (end_of (opening_at o shard) (steps_in l))) (sym both.0) (subst (λ states. NothingDue now states) end none);
+        due_is = subst (λ (l : List Entry). due ≡ false ↔ NothingDue now (end_of (opening_at o shard) (steps_in l))) (sym both.0) (subst (λ states. due ≡ false ↔ NothingDue now states) end is);
       },
       both.1,
     )
+
+-- a tick was recorded where something was due
+pub due_call : (o : HubOpening) (k : KeptView) (shard now : ℕ) (old new : SeatView) (number : ℕ) (s : PlainStep) → IsKept o k
+    → k.front.shard ≡ shard → (NothingDue now k.trace.states → ⊥) → IsCall o shard old new number s
+    → steps_in (front_of new shard) ≡ steps_in k.front.entries ++ s ∷ [] → IsDueCall o shard now old new number s
+due_call o k shard now old new number s kept here due call more =
+    let end = whole_end o k kept ∙ ap (λ (n : ℕ). end_of (opening_at o n) (steps_in k.front.entries)) here in
+    record {
+      call = call;
+      before = steps_in k.front.entries;
+      steps = more;
+      due = λ none. due (subst (λ states. NothingDue now states) (sym end) none);
+    }
 
 -- as many steps are stored as the trace can hold
 pub full : (o : HubOpening) (k : KeptView) (shard : ℕ) (old new : SeatView) → IsKept o k

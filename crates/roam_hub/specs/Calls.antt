@@ -1,6 +1,6 @@
 -- What a hub's calls do to a caller's seat (ours). A seat has seen a beginning of the one history of each
 -- shard; where a call is recorded its step stands in what the seat has then seen.
-use Rattle.std.specs.Prelude.{◌≡◌, ℕ, ◌+◌, ◌≤◌, List, [], ◌∷◌, ◌++◌, Option, Some, None, length, slice_get}
+use Rattle.std.specs.Prelude.{◌≡◌, ◌↔◌, ℕ, ◌+◌, ◌≤◌, Bool, false, List, [], ◌∷◌, ◌++◌, Option, Some, None, length, slice_get}
 use mathlib.Core.List.{IsPrefix}
 use Rattle.roam_core.specs.Events.{PlainEvent}
 use Rattle.roam_shard.specs.Twins.{NothingDue}
@@ -36,12 +36,20 @@ pub record IsCall (o : HubOpening) (shard : ℕ) (old new : SeatView) (number : 
 abbrev pub IsFull : HubOpening → ℕ → SeatView → Type 0
 IsFull o shard seat = length (stored_of (front_of seat shard)) ≡ o.config.trace_limit
 
--- nothing was recorded, since nothing was due where the shard stood: at the end of what the seat has then
--- seen
-pub record IsQuiet (o : HubOpening) (shard now : ℕ) (old new : SeatView) : Type 0 where
+-- a call was recorded where something was due: where the steps before this one end
+pub record IsDueCall (o : HubOpening) (shard now : ℕ) (old new : SeatView) (number : ℕ) (step : PlainStep)
+    : Type 0 where
+  pub call : IsCall o shard old new number step
+  pub before : List PlainStep
+  pub steps : steps_in (front_of new shard) ≡ before ++ step ∷ []
+  pub due : NothingDue now (end_of (opening_at o shard) before) → ⊥
+
+-- a shard was looked at, and nothing recorded: whether anything was due where it stood, at the end of what
+-- the seat has then seen
+pub record IsLook (o : HubOpening) (shard now : ℕ) (old new : SeatView) (due : Bool) : Type 0 where
   pub tallies : new.tallies ≡ old.tallies
   pub history : HasHistory o shard new
-  pub quiet : NothingDue now (end_of (opening_at o shard) (steps_in (front_of new shard)))
+  pub due_is : due ≡ false ↔ NothingDue now (end_of (opening_at o shard) (steps_in (front_of new shard)))
 
 -- the stored steps of a shard were let go of, and are these ones: the seat has seen the history up to there
 pub record AreGone (o : HubOpening) (shard : ℕ) (old new : SeatView) (steps : List PlainStep)
@@ -57,8 +65,9 @@ module _ {A : Type 0} where
   abbrev pub answered_step : PlainEvent → Answered A → PlainStep
   answered_step event a = record { event = event; answer = shown_answer a.answer }
 
-  -- a tick where something is due was recorded, or nothing was
+  -- a tick was recorded where something was due, or nothing was due and nothing recorded
   abbrev pub IsTick :
       HubOpening → ℕ → ℕ → PlainEvent → SeatView → SeatView → Option (Answered A) → Type 0
-  IsTick o shard now event old new (Some a) = IsCall o shard old new a.number (answered_step event a)
-  IsTick o shard now event old new None = IsQuiet o shard now old new
+  IsTick o shard now event old new (Some a) =
+      IsDueCall o shard now old new a.number (answered_step event a)
+  IsTick o shard now event old new None = IsLook o shard now old new false

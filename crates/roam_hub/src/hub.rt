@@ -10,7 +10,7 @@ ghost use Rattle.roam_trace.specs.Steps.{octets_in};
 ghost use Rattle.roam_history.specs.Entries.{steps_in, stored_of};
 ghost use Rattle.roam_audit.specs.Seats.{front_of};
 ghost use Rattle.roam_audit.specs.Shown.{shown_step};
-ghost use Rattle.roam_hub.specs.Calls.{AreGone, IsCall, IsFull, IsTick, Sees, answered_step};
+ghost use Rattle.roam_hub.specs.Calls.{AreGone, IsCall, IsFull, IsLook, IsTick, Sees, answered_step};
 
 use crate::answered::{Answered, Refused};
 use crate::fault::HubFault;
@@ -165,6 +165,34 @@ impl<'c, A: Allocator + Copy, N: Opened> Hub<'c, A, N> {
         let mut kept = self.locks[usize::from(shard)].lock(rt);
         gate.inside(shard);
         kept.tick_if_due(rt, seat, shard, now)
+    }
+
+    /// Whether anything of a shard is due at a moment in milliseconds, as it stands. Waits for the shard's
+    /// lock, records nothing, and takes no memory.
+    ///
+    /// # Errors
+    ///
+    /// `NoShard` just where there is no such shard; `Misplaced`; `NoMemory` where the history has 2^64 - 1
+    /// entries. The seat stays then.
+    pub fn is_due<R: Wait>(
+        &self,
+        rt: &R,
+        seat: &mut Seat<A, N>,
+        now: u64,
+        shard: u16,
+    ) -> Result<bool, HubFault>
+        ensures look { IfOk result (IsLook N.opening shard now seat.old seat.new) }
+        ensures seen { Sees shard seat.old seat.new }
+        ensures err { OnErr result (seat.new ≡ seat.old) }
+        ensures causes { IfErr result (λ f. f ≢ HubFault.TraceFull) }
+        ensures no_shard { IsErrOf result HubFault.NoShard ↔ N.opening.config.shards ≤ shard }
+    {
+        if usize::from(shard) >= self.locks.len() {
+            return Err(HubFault::NoShard);
+        }
+        self.locks[usize::from(shard)]
+            .lock(rt)
+            .is_due(seat, shard, now)
     }
 
     /// Lets go of the stored steps of a shard, for whose lock it waits: takes them out, and gives them

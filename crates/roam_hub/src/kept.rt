@@ -11,7 +11,7 @@ ghost use Rattle.roam_trace.specs.Steps.{PlainStep, octets_in};
 ghost use Rattle.roam_history.specs.Entries.{last_of, steps_in, stored_of};
 ghost use Rattle.roam_history.specs.HubOpening.{opening_at};
 ghost use Rattle.roam_audit.specs.Seats.{after_call, front_of};
-ghost use Rattle.roam_hub.specs.Calls.{AreGone, IsCall, IsFull, IsTick, Sees, answered_step};
+ghost use Rattle.roam_hub.specs.Calls.{AreGone, IsCall, IsFull, IsLook, IsTick, Sees, answered_step};
 
 use crate::answered::{Answered, Refused};
 use crate::fault::HubFault;
@@ -229,6 +229,8 @@ impl<'c, A: Allocator + Copy, N: Opened> Kept<'c, A, N> {
         requires { shard < N.opening.config.shards }
         ensures call { IfOk result (λ a. IsCall N.opening shard seat.old seat.new a.number
             (answered_step (ticks now shard) a)) }
+        ensures more { IfOk result (λ a. steps_in (front_of seat.new shard)
+            ≡ steps_in self.old.front.entries ++ answered_step (ticks now shard) a ∷ []) }
         ensures shard { IfOk result (λ a. a.shard ≡ shard) }
         ensures octets { IfOk result (λ a. a.octets
             ≡ min (octets_in (stored_of (front_of seat.new shard))) (2 ^ 64 - 1)) }
@@ -263,12 +265,32 @@ impl<'c, A: Allocator + Copy, N: Opened> Kept<'c, A, N> {
         ensures full { IsErrOf result HubFault.TraceFull → IsFull N.opening shard seat.new }
         ensures no_shard { IfErr result (λ f. f ≢ HubFault.NoShard) }
     {
+        self.check(seat, shard)?;
         if self.traced.is_due(now) {
             return Ok(Some(self.tick(rt, seat, shard, now)?));
         }
-        self.check(seat, shard)?;
         seat.learn(self.front.again());
         Ok(None)
+    }
+
+    /// Whether anything of this shard is due at a moment. The seat has then seen the whole history. Takes no
+    /// memory.
+    pub(crate) fn is_due(
+        &self,
+        seat: &mut Seat<A, N>,
+        shard: u16,
+        now: u64,
+    ) -> Result<bool, HubFault>
+        requires { shard < N.opening.config.shards }
+        ensures look { IfOk result (IsLook N.opening shard now seat.old seat.new) }
+        ensures seen { Sees shard seat.old seat.new }
+        ensures err { OnErr result (seat.new ≡ seat.old) }
+        ensures causes { IfErr result (λ f. (f ≢ HubFault.NoShard) × (f ≢ HubFault.TraceFull)) }
+    {
+        self.check(seat, shard)?;
+        let is_due = self.traced.is_due(now);
+        seat.learn(self.front.again());
+        Ok(is_due)
     }
 
     /// Lets go of the stored steps, and gives them back. The seat has then seen that. Takes no memory.

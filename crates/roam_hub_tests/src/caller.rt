@@ -118,6 +118,16 @@ impl<'h, 'c, A: Allocator + Copy, N: Opened> Caller<'h, 'c, A, N> {
         self.hub.tick_if_due(rt, &mut self.seat, now, shard, &Open)
     }
 
+    /// Asks whether anything is due at a moment.
+    pub(crate) fn is_due<R: Wait>(
+        &mut self,
+        rt: &R,
+        now: u64,
+        shard: u16,
+    ) -> Result<bool, HubFault> {
+        self.hub.is_due(rt, &mut self.seat, now, shard)
+    }
+
     /// Lets go of the stored steps of a shard: how many there were.
     pub(crate) fn let_go<R: Wait>(&mut self, rt: &R, shard: u16) -> Result<usize, HubFault> {
         let steps = self.hub.let_go(rt, &mut self.seat, shard)?;

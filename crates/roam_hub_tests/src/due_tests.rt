@@ -16,10 +16,18 @@ use std::marker::Brand;
 use std::process::Abort;
 use std::sync::Wait;
 
-/// Whether nothing is stored by a tick before the first request, and by one before its deadline; the number
-/// of the tick at its deadline, and whether that sends it again; why a tick of no shard isn't recorded; and
-/// how many steps there are at the end.
-type Due = (bool, bool, Option<(u64, bool)>, Option<HubFault>, usize);
+/// Whether nothing is stored by a tick before the first request, and by one before its deadline; what is said
+/// to be due in the shard before its deadline and at it, and in no shard; the number of the tick at its
+/// deadline, and whether that sends it again; why a tick of no shard isn't recorded; and how many steps there
+/// are at the end.
+type Due = (
+    bool,
+    bool,
+    [Result<bool, HubFault>; 3],
+    Option<(u64, bool)>,
+    Option<HubFault>,
+    usize,
+);
 
 /// Ticks of a hub that is given one request.
 fn due<N: Opened + Send + Sync, R: Abort + Wait>(
@@ -45,6 +53,11 @@ fn due<N: Opened + Send + Sync, R: Abort + Wait>(
         .tick_if_due(rt, 999, 0)
         .expect(rt, "a tick")
         .is_none();
+    let looks = [
+        caller.is_due(rt, 999, 0),
+        caller.is_due(rt, 1000, 0),
+        caller.is_due(rt, 1000, 1),
+    ];
     let tick = match caller.tick_if_due(rt, 1000, 0).expect(rt, "a tick") {
         Some(tick) => Some((tick.number, sends(rt, alloc, &tick.answer, FIRST))),
         None => None,
@@ -53,7 +66,7 @@ fn due<N: Opened + Send + Sync, R: Abort + Wait>(
     let _seat = caller.into_seat();
     let report = hub.close().expect(rt, "a report");
     let steps = report.steps.first().map(|steps| steps.len()).unwrap_or(0);
-    (at_first, too_soon, tick, no_shard, steps)
+    (at_first, too_soon, looks, tick, no_shard, steps)
 }
 
 /// Those of a hub.
@@ -66,6 +79,8 @@ fn due_in_a_hub<R: Abort + Wait>(rt: &R, alloc: Global) -> Due {
 
 #[test]
 fn a_tick_is_stored_where_something_is_due(rt: HostRuntime) {
-    let expected = (true, true, Some((1, true)), Some(HubFault::NoShard), 2);
+    let no_shard = HubFault::NoShard;
+    let looks = [Ok(false), Ok(true), Err(no_shard)];
+    let expected = (true, true, looks, Some((1, true)), Some(no_shard), 2);
     assert!(rt; due_in_a_hub(&rt, rt.alloc()) == expected);
 }

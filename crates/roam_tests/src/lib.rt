@@ -9,3 +9,4 @@ pub mod broker_callers;
 pub mod callers;
 #[cfg(test)]
 mod exchange_tests;
+pub mod run_callers;

@@ -1,16 +1,24 @@
 -- What the audit said of the slice holds of the seats.
-use Rattle.std.proofs.Common.{◌<◌, ℕ, List, subst}
+use Rattle.std.proofs.Common.{◌≡◌, ◌<◌, ℕ, List, subst, sym}
 use Rattle.std.specs.List.{All}
-use Rattle.roam_audit.specs.Audit.{AllAgree, Begins}
-use Rattle.roam_audit.specs.Seats.{SeatView, front_of}
+use Rattle.roam_audit.specs.Audit.{IsPassed}
+use Rattle.roam_audit.specs.Seats.{SeatView}
 use Rattle.roam_audit.specs.Shown.{recorded, whole_of}
+use Rattle.roam_audit.proofs.AuditLemmas.{not_passed}
 use Rattle.roam_audit.proofs.report.Report.audited.Goals as goal
 
 pub invariant_of-result : goal.invariant_of-result
 invariant_of-result g c =
     let is = c.as_slice.ensures.value in
-    record {
-      agree = subst (λ (l : List SeatView). AllAgree (recorded c.args.self) l) is c.in_ok-passes.ensures.agree;
-      begun = subst (λ (l : List SeatView). All (λ (seat : SeatView). (shard : ℕ) → shard < g.N.Opened.opening.config.shards
-          → Begins (front_of seat shard) (whole_of c.args.self shard)) l) is c.in_ok-passes.ensures.begun;
-    }
+    let passed = subst (λ (l : List SeatView). IsPassed (recorded c.args.self) g.N.Opened.opening.config.shards (whole_of c.args.self) l) is c.in-Ok.ensures in
+    record { agree = passed.agree; begun = passed.begun }
+
+pub returns-in-Err-clause-ok : goal.returns-in-Err-clause-ok
+returns-in-Err-clause-ok g c = (
+  λ yes. absurd (cc),
+  λ passed.
+      let is = sym c.as_slice.ensures.value in
+      let shards = g.N.Opened.opening.config.shards in
+      let of = subst (λ (l : List SeatView). IsPassed (recorded c.args.self) shards (whole_of c.args.self) l) is passed in
+      absurd (not_passed (recorded c.args.self) shards (whole_of c.args.self) c.as_slice.result.now c.in-Err.fault c.in-Err.ensures of),
+)

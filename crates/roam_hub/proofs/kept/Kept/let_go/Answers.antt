@@ -6,7 +6,7 @@ use Rattle.roam_trace.specs.Steps.{PlainStep}
 use Rattle.roam_history.specs.Entries.{Entry, gone_of}
 use Rattle.roam_history.specs.Fronts.{FrontView}
 use Rattle.roam_audit.specs.Seats.{SeatView, front_of, having_seen}
-use Rattle.roam_hub.specs.Calls.{AreGone, IsQuiet, Sees}
+use Rattle.roam_hub.specs.Calls.{AreGone, Sees}
 use Rattle.roam_hub.specs.Keeping.{IsKept, KeptView}
 use Rattle.roam_hub.proofs.KeptLemmas.{gone_of_shard, kept_gone}
 use Rattle.roam_hub.proofs.kept.Kept.let_go.Given.{Over}

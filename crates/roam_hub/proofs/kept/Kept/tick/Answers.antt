@@ -1,15 +1,15 @@
 -- The call is the last step of the shard's one history.
-use Rattle.std.proofs.Common.{◌≡◌, ℕ, ◌-◌, ◌^◌, List, length, min, ap, refl, sym, subst, ◌∙◌}
+use Rattle.std.proofs.Common.{◌≡◌, ℕ, ◌-◌, ◌^◌, ◌++◌, ◌∷◌, [], List, length, min, ap, refl, sym, subst, ◌∙◌}
 use mathlib.Core.List.{IsPrefix}
 use Rattle.roam_route.specs.Events.{IsEvent, arrival_of}
 use Rattle.roam_route.specs.Shown.{shown_job}
 use Rattle.roam_core.specs.Events.{arrives, is_in_shard, ticks}
 use Rattle.roam_trace.specs.History.{TraceView, with_step}
 use Rattle.roam_trace.specs.Steps.{PlainStep, octets_in, shown_answer}
-use Rattle.roam_history.specs.Entries.{Entry, last_of, stored_of}
+use Rattle.roam_history.specs.Entries.{Entry, last_of, steps_in, stored_of}
 use Rattle.roam_history.specs.HubOpening.{HubOpening, opening_at}
 use Rattle.roam_shard.specs.ShardView.{OpeningView}
-use Rattle.roam_history.proofs.EntryLemmas.{last-push}
+use Rattle.roam_history.proofs.EntryLemmas.{last-push, one-step}
 use Rattle.roam_history.specs.Fronts.{FrontView}
 use Rattle.roam_audit.specs.Seats.{SeatView, after_call, front_of, having_seen}
 use Rattle.roam_hub.specs.Keeping.{KeptView}
@@ -44,6 +44,14 @@ all g c =
 
 pub returns-in-Ok-clause-call : goal.returns-in-Ok-clause-call
 returns-in-Ok-clause-call g c = (all g c).call
+
+pub returns-in-Ok-clause-more : goal.returns-in-Ok-clause-more
+returns-in-Ok-clause-more g c =
+    let es = c.self.inside.front.entries in
+    let s : PlainStep = record { event = ticks c.args.now c.args.shard; answer = shown_answer c.recorded.result.answer } in
+    let last = (all g c).last in
+    let whole = (all g c).front ∙ (ap (λ (f : FrontView). f.entries) c.recorded.ensures.front ∙ ap (λ (e : Entry). es ++ e ∷ []) last) in
+    ap (λ (l : List Entry). steps_in l) whole ∙ (one-step es s ∙ ap (λ (v : KeptView). steps_in v.front.entries ++ s ∷ []) c.self.view_is)
 
 pub recorded-requires-clause-step : goal.recorded-requires-clause-step
 recorded-requires-clause-step g c =
