@@ -43,6 +43,10 @@ Asks words to_tell_version =
 abbrev pub AsksNothing : List (List ℕ) → Type 0
 AsksNothing words = (asked : Asked) → ¬ (Asks words asked)
 
+-- the words ask to check a configuration
+abbrev pub AsksToCheck : List (List ℕ) → Type 0
+AsksToCheck words = (configuration : List ℕ) × Asks words (to_check configuration)
+
 -- the words ask for a server of this configuration, for this time
 abbrev pub AsksToServeIt : List (List ℕ) → List ℕ → Option ℕ → Type 0
 AsksToServeIt words configuration milliseconds =

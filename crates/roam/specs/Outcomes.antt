@@ -10,7 +10,7 @@ use Rattle.roam_conf_reader.specs.Faults.{IsFirstFault}
 use Rattle.roam_sim.specs.Script.{script_states}
 use Rattle.roam_sim.specs.Simulation.{IsConfiguration, IsAccepted, Simulates, SimulatesInPart}
 use Rattle.roam.specs.CommandLine.{Asked, to_check, to_simulate, to_serve, to_serve_with_its_seed, to_help, to_tell_version, Asks, AsksToServe, AsksNothing, files_of, configuration_of}
-use Rattle.roam.specs.Report.{status_of, text_of, usage_text, version_text}
+use Rattle.roam.specs.Report.{status_of, usage_text, version_text, Tells}
 use Rattle.roam.specs.declared.text_file.TextFile.{TextFile}
 use Rattle.roam.specs.declared.report.Ending.{Ending}
 use Rattle.roam.specs.declared.report.Fault.{Fault}
@@ -169,9 +169,9 @@ pub record IsPrevented (words : List (List ℕ)) (old new : Option (List ℕ)) (
   pub status_is : status_of fault ≡ status
   pub prevents : Prevents words old new fault
 
--- and its text was told, where that could be
+-- and it was told, where that could be
 pub record IsToldFault (words : List (List ℕ)) (old new : Option (List ℕ)) (ending : Ending) (told_old told_new : Option (List ℕ)) : Type 0 where
   pub fault : Fault
   pub status_is : status_of fault ≡ ending.status
   pub prevents : Prevents words old new fault
-  pub told : OnOk ending.told (Appends told_old told_new (text_of fault))
+  pub told : OnOk ending.told (Tells fault told_old told_new)

@@ -1,7 +1,9 @@
 -- Why the program doesn't do what it is asked for: the text of each fault, and the status with which the program
 -- ends. Ours.
-use Rattle.std.specs.Prelude.{ℕ, ◌==◌, if◌then◌else◌, List, ◌++◌, Option, Some, None, codes}
+use Rattle.std.specs.Prelude.{◌≡◌, ℕ, ◌==◌, if◌then◌else◌, List, [], ◌++◌, Option, Some, None, codes}
 use Rattle.std.specs.Fmt.{decimal}
+use Rattle.std.specs.Io.KnownBytes.{Appends}
+use Rattle.roam_diagnosis.specs.Lines.{IsDiagnosis, printed}
 use Rattle.roam_conf.specs.declared.endpoint.Endpoint.{Endpoint}
 use Rattle.roam_sim.specs.Lines.{endpoint_text}
 use Rattle.roam_conf_reader.specs.declared.fault.ConfFault.{ConfFault}
@@ -112,3 +114,21 @@ fault_of serve.Thread = fault.Thread
 fault_of serve.Receive = fault.Receive
 fault_of serve.Audit = fault.Audit
 fault_of serve.Memory = fault.Memory
+
+-- it is that a configuration is refused
+abbrev pub IsRefusal : Fault → Type 0
+IsRefusal (fault.Refused path why) = Unit {0}
+IsRefusal _ = ⊥
+
+-- the lines of a diagnosis are said, ten at most
+pub record Says (old new : Option (List ℕ)) : Type 0 where
+  pub lines : List (List ℕ)
+  pub form : IsDiagnosis lines
+  pub said : Appends old new (printed lines)
+
+-- a fault's text is told, and behind a refused configuration's the lines of a diagnosis
+pub record Tells (f : Fault) (old new : Option (List ℕ)) : Type 0 where
+  pub lines : List (List ℕ)
+  pub form : IsDiagnosis lines
+  pub none : ¬ (IsRefusal f) → lines ≡ []
+  pub told : Appends old new (text_of f ++ printed lines)

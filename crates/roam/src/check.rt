@@ -10,6 +10,7 @@ use crate::report::Fault;
 use crate::text_file::TextFile;
 use roam_conf::Config;
 use roam_conf_reader::read_config;
+use roam_diagnosis::{Lines, advise, diagnose};
 use std::alloc::Global;
 use std::io::Write;
 
@@ -30,7 +31,8 @@ fn print_summary<W: Write>(writer: &mut W, config: &Config) -> Result<(), Fault<
     finish(writer)
 }
 
-/// Reads a configuration, and prints how much there is in it.
+/// Reads a configuration, and prints how much there is in it. `lines` are then what is unwise in it, or where its fault
+/// stands.
 ///
 /// # Errors
 ///
@@ -39,6 +41,7 @@ pub fn check<'a, W: Write>(
     alloc: Global,
     configuration: &TextFile<'a>,
     writer: &mut W,
+    lines: &mut Lines,
 ) -> Result<(), Fault<'a>>
     ensures ok { OnOk result
         (Checks (text_in configuration.now) (W.contents writer.old) (W.contents writer.new)) }
@@ -46,7 +49,13 @@ pub fn check<'a, W: Write>(
         (CheckFails configuration.now (W.contents writer.old) (W.contents writer.new)) }
 {
     match read_config(alloc, configuration.text.as_str()) {
-        Ok(config) => print_summary(writer, &config),
-        Err(fault) => Err(Fault::of_configuration(configuration.path, fault)),
+        Ok(config) => {
+            *lines = advise(alloc, configuration.text.as_str());
+            print_summary(writer, &config)
+        }
+        Err(fault) => {
+            *lines = diagnose(alloc, configuration.text.as_str(), fault);
+            Err(Fault::of_configuration(configuration.path, fault))
+        }
     }
 }

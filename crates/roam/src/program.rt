@@ -2,17 +2,19 @@
 
 ghost use Rattle.std.specs.Prelude.{◌≡◌, ◌≢◌, ◌≤◌, ◌↔◌, map, OnOk, IfErr};
 ghost use Rattle.std.specs.Io.KnownBytes.{Keeps};
-ghost use Rattle.roam.specs.CommandLine.{AsksNothing};
+ghost use Rattle.roam.specs.CommandLine.{AsksNothing, AsksToCheck};
 ghost use Rattle.roam.specs.Outcomes.{IsAnswered, IsPrevented, IsToldFault, Prevents};
+ghost use Rattle.roam.specs.Report.{Says};
 
 use crate::check::check;
 use crate::command_line::Command;
 use crate::report::{Ending, Fault};
 use crate::serving::serve_file;
 use crate::simulation::simulate;
-use crate::telling::{tell_usage, tell_version};
+use crate::telling::{tell_advice, tell_usage, tell_version};
 use crate::text_file::TextFile;
 use log::Log;
+use roam_diagnosis::Lines;
 use std::convert::AsStr;
 use std::io::Write;
 use std::net::Net;
@@ -22,13 +24,13 @@ use std::sync::Wait;
 use std::thread::Threads;
 use std::time::Clock;
 
-/// Does what the words ask for.
+/// Does what the words ask for. `lines` are then what is said of the configuration.
 fn run<
     'a,
     R: Files + AllocGlobal + Threads + Wait + Clock + Net + RandomSource + Log + Sync,
     S: AsStr,
     W: Write,
->(rt: &R, words: &'a [S], out: &mut W) -> Result<(), Fault<'a>>
+>(rt: &R, words: &'a [S], out: &mut W, lines: &mut Lines) -> Result<(), Fault<'a>>
     ensures ok { OnOk result
         (IsAnswered (map S.text words.now) (W.contents out.old) (W.contents out.new)) }
     ensures err { IfErr result
@@ -38,7 +40,7 @@ fn run<
         None => Err(Fault::Usage),
         Some(Command::Check { configuration }) => {
             let configuration = TextFile::read(rt, configuration)?;
-            check(rt.alloc(), &configuration, out)
+            check(rt.alloc(), &configuration, out, lines)
         }
         Some(
             Command::Sim {
@@ -48,7 +50,7 @@ fn run<
         ) => {
             let configuration = TextFile::read(rt, configuration)?;
             let script = TextFile::read(rt, script)?;
-            simulate(rt.alloc(), &configuration, &script, out)
+            simulate(rt.alloc(), &configuration, &script, out, lines)
         }
         Some(
             Command::Serve {
@@ -57,7 +59,7 @@ fn run<
             },
         ) => {
             let configuration = TextFile::read(rt, configuration)?;
-            serve_file(rt, &configuration, false, milliseconds)
+            serve_file(rt, &configuration, false, milliseconds, lines)
         }
         Some(
             Command::ServeWithItsSeed {
@@ -66,14 +68,14 @@ fn run<
             },
         ) => {
             let configuration = TextFile::read(rt, configuration)?;
-            serve_file(rt, &configuration, true, milliseconds)
+            serve_file(rt, &configuration, true, milliseconds, lines)
         }
         Some(Command::Help) => tell_usage(out),
         Some(Command::Version) => tell_version(out),
     }
 }
 
-/// Does what the words ask for, and tells the fault that prevents it.
+/// Does what the words ask for, and tells the fault that prevents it, and what is said of the configuration.
 fn answer<
     R: Files + AllocGlobal + Threads + Wait + Clock + Net + RandomSource + Log + Sync,
     S: AsStr,
@@ -83,23 +85,25 @@ fn answer<
     ensures status { result.status ≤ 4 }
     ensures done { result.status ≡ 0
         → IsAnswered (map S.text words.now) (W.contents out.old) (W.contents out.new) }
-    ensures silent { result.status ≡ 0 → err.new ≡ err.old }
+    ensures silent { result.status ≡ 0 → ¬ (AsksToCheck (map S.text words.now)) → err.new ≡ err.old }
+    ensures advice { result.status ≡ 0
+        → OnOk result.told (Says (E.contents err.old) (E.contents err.new)) }
     ensures fault { result.status ≢ 0
         → IsToldFault (map S.text words.now) (W.contents out.old) (W.contents out.new) result
         (E.contents err.old) (E.contents err.new) }
     ensures usage { (result.status ≡ 2) ↔ (AsksNothing (map S.text words.now)) }
 {
-    match run(rt, words, out) {
-        Ok(()) => Ending {
-            status: 0,
-            told: Ok(()),
-        },
-        Err(fault) => fault.tell(err),
+    let mut lines = Lines::new(rt.alloc());
+    match run(rt, words, out, &mut lines) {
+        Ok(()) => tell_advice(words, &lines, err),
+        Err(fault) => fault.tell_with(&lines, err),
     }
 }
 
 /// Does what the words after the program's name ask for, and answers the status with which the program ends: 0, or
-/// that of the fault that prevents it, whose text goes to `err`. Whether `err` takes it changes nothing.
+/// that of the fault that prevents it, whose text goes to `err`. Behind the text of a configuration's fault come the
+/// lines that say where it stands, ten at most; a check of one that is accepted says there what is unwise in it. Whether
+/// `err` takes them changes nothing.
 ///
 /// Each fault says what it leaves of `out`: all is as it was, but for what went out before a refused write, and
 /// for the lines of a simulation that lost events for want of memory. A server leaves it as it was, and of what its
@@ -113,7 +117,7 @@ pub fn command<
     ensures status { result ≤ 4 }
     ensures done { result ≡ 0
         → IsAnswered (map S.text words.now) (W.contents out.old) (W.contents out.new) }
-    ensures silent { result ≡ 0 → err.new ≡ err.old }
+    ensures silent { result ≡ 0 → ¬ (AsksToCheck (map S.text words.now)) → err.new ≡ err.old }
 
     // Any other status is that of the fault which prevents the answer; 2 comes just where nothing is asked for.
     ensures fault { result ≢ 0

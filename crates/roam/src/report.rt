@@ -6,6 +6,7 @@ ghost use Rattle.roam.specs.Report as spec;
 
 use roam_conf::Endpoint;
 use roam_conf_reader::ConfFault;
+use roam_diagnosis::Lines;
 use roam_serve::{Reason, ServeFault};
 use std::io;
 use std::io::{ErrorKind, Write};
@@ -293,6 +294,35 @@ impl<'a> Fault<'a> {
         Ending {
             status: self.status(),
             told: self.print(writer),
+        }
+    }
+
+    /// Prints the fault's text, and behind that of a configuration's the lines of a diagnosis.
+    ///
+    /// # Errors
+    ///
+    /// The writer's.
+    fn print_with<W: Write>(self, lines: &Lines, writer: &mut W) -> io::Result<()>
+        ensures { OnOk result
+            (spec.Tells self.entry (W.contents writer.old) (W.contents writer.new)) }
+    {
+        self.print(writer)?;
+        match self {
+            Fault::Refused { .. } => lines.print(writer),
+            _ => Ok(()),
+        }
+    }
+
+    /// Tells the fault on a writer, and behind a configuration's the lines of a diagnosis, and how the program ends after
+    /// it.
+    pub fn tell_with<W: Write>(self, lines: &Lines, writer: &mut W) -> Ending
+        ensures status { result.status ≡ spec.status_of self.entry }
+        ensures told { OnOk result.told
+            (spec.Tells self.entry (W.contents writer.old) (W.contents writer.new)) }
+    {
+        Ending {
+            status: self.status(),
+            told: self.print_with(lines, writer),
         }
     }
 }

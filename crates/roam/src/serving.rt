@@ -11,6 +11,7 @@ use crate::text_file::TextFile;
 use log::Log;
 use roam_conf::Config;
 use roam_conf_reader::read_config;
+use roam_diagnosis::{Lines, diagnose};
 use roam_hub::Open;
 use roam_serve::{ServeFault, serve, with_drawn_seed};
 use std::net::Net;
@@ -36,7 +37,8 @@ fn serve_config<R: AllocGlobal + Threads + Wait + Clock + Net + RandomSource + L
     serve(rt, rt.alloc(), &config, milliseconds, &Open)
 }
 
-/// Reads a configuration, and serves it for so many milliseconds, or without end.
+/// Reads a configuration, and serves it for so many milliseconds, or without end. Where it is refused, `lines` are where
+/// its fault stands.
 ///
 /// # Errors
 ///
@@ -47,6 +49,7 @@ pub fn serve_file<'a, R: AllocGlobal + Threads + Wait + Clock + Net + RandomSour
     configuration: &TextFile<'a>,
     has_seed_of_file: bool,
     milliseconds: Option<u64>,
+    lines: &mut Lines,
 ) -> Result<(), Fault<'a>>
     ensures ok { OnOk result (IsAccepted (text_in configuration.now)) }
     ensures err { IfErr result (ServeFails configuration.now) }
@@ -56,6 +59,9 @@ pub fn serve_file<'a, R: AllocGlobal + Threads + Wait + Clock + Net + RandomSour
             Ok(()) => Ok(()),
             Err(fault) => Err(Fault::of_server(fault)),
         },
-        Err(fault) => Err(Fault::of_configuration(configuration.path, fault)),
+        Err(fault) => {
+            *lines = diagnose(rt.alloc(), configuration.text.as_str(), fault);
+            Err(Fault::of_configuration(configuration.path, fault))
+        }
     }
 }

@@ -7,11 +7,13 @@ ghost use Rattle.roam.specs.Outcomes.{text_in, RunFails};
 use crate::output::finish;
 use crate::report::Fault;
 use crate::text_file::TextFile;
+use roam_diagnosis::{Lines, diagnose};
 use roam_sim::{SimFault, sim};
 use std::alloc::Global;
 use std::io::Write;
 
-/// Runs a script over a configuration, and prints a line for each packet that leaves.
+/// Runs a script over a configuration, and prints a line for each packet that leaves. Where the configuration is
+/// refused, `lines` are where its fault stands.
 ///
 /// # Errors
 ///
@@ -22,6 +24,7 @@ pub fn simulate<'a, W: Write>(
     configuration: &TextFile<'a>,
     script: &TextFile<'a>,
     writer: &mut W,
+    lines: &mut Lines,
 ) -> Result<(), Fault<'a>>
     ensures ok { OnOk result (Simulates (text_in configuration.now) (text_in script.now)
         (W.contents writer.old) (W.contents writer.new)) }
@@ -35,7 +38,10 @@ pub fn simulate<'a, W: Write>(
         writer,
     ) {
         Ok(()) => finish(writer),
-        Err(SimFault::Config(fault)) => Err(Fault::of_configuration(configuration.path, fault)),
+        Err(SimFault::Config(fault)) => {
+            *lines = diagnose(alloc, configuration.text.as_str(), fault);
+            Err(Fault::of_configuration(configuration.path, fault))
+        }
         Err(SimFault::Line(number)) => Err(Fault::FaultyLine {
             path: script.path,
             number,

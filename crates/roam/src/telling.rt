@@ -1,11 +1,15 @@
-//! The usage, and which program this is, on standard output.
+//! The usage, and which program this is, on standard output; and advice on standard error.
 
-ghost use Rattle.std.specs.Prelude.{◌≡◌, OnOk, IfErr};
+ghost use Rattle.std.specs.Prelude.{◌≡◌, map, OnOk, IfErr};
 ghost use Rattle.std.specs.Io.KnownBytes.{Appends};
-ghost use Rattle.roam.specs.Report.{usage_text, version_text};
+ghost use Rattle.roam.specs.CommandLine.{AsksToCheck};
+ghost use Rattle.roam.specs.Report.{Says, usage_text, version_text};
 
+use crate::command_line::Command;
 use crate::output::finish;
-use crate::report::{Fault, print_usage, print_version};
+use crate::report::{Ending, Fault, print_usage, print_version};
+use roam_diagnosis::Lines;
+use std::convert::AsStr;
 use std::io::Write;
 
 /// Prints the usage.
@@ -34,4 +38,18 @@ pub fn tell_version<W: Write>(writer: &mut W) -> Result<(), Fault<'static>>
 {
     print_version(writer).map_err(|_| Fault::Write)?;
     finish(writer)
+}
+
+/// Tells what is unwise in a configuration, where the words ask for a check: how the program ends after one that is
+/// accepted.
+pub fn tell_advice<S: AsStr, E: Write>(words: &[S], lines: &Lines, err: &mut E) -> Ending
+    ensures status { result.status ≡ 0 }
+    ensures silent { ¬ (AsksToCheck (map S.text words.now)) → err.new ≡ err.old }
+    ensures advice { OnOk result.told (Says (E.contents err.old) (E.contents err.new)) }
+{
+    let told = match Command::from_words(words) {
+        Some(Command::Check { .. }) => lines.print(err),
+        _ => Ok(()),
+    };
+    Ending { status: 0, told }
 }

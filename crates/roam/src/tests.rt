@@ -28,7 +28,7 @@ rattle-kit-13b logic dac8208d650f15bf
 ";
 
 const CONFIGURATION: &str = "shards = 1
-seed = \"0000000000000000000000000000000000000000000000000000000000000000\"
+seed = \"0000000000000000000000000000000000000000000000000000000000000001\"
 auth = \"127.0.0.1:1812\"
 acct = \"127.0.0.1:1813\"
 trace_limit = 1000
@@ -40,6 +40,7 @@ secret = \"xyzzy5461\"
 coa = \"192.0.2.1:3799\"
 nas_ip = \"192.0.2.1\"
 nas_id = \"nas1\"
+require_seal = true
 
 [[realm]]
 name = \"a.example\"
@@ -55,6 +56,7 @@ max_sessions = 100
 auth = \"198.51.100.1:1812\"
 acct = \"198.51.100.1:1813\"
 secret = \"h1\"
+require_seal = true
 ";
 
 /// Another peer, and another realm with a server: a change of the configuration that stands before its realm.
@@ -144,6 +146,12 @@ hold = 0
 max_pending = 1
 max_sessions = 0
 server = [{ auth = \"198.51.100.1:1812\", acct = \"198.51.100.1:1813\", secret = \"h\" }]
+";
+
+/// What is advised of it.
+const ADVICE: &str =
+    "  line 7: peer \"nas1\": require_seal: isn't true: an Access-Request without a Message-Authenticator, which can be forged, is taken (and so in 1 more)
+  line 26: realm \"a.example\", server 1: require_seal: isn't true: an Access-Accept without a Message-Authenticator, which can be forged, is taken (and so in 2 more)
 ";
 
 /// A writer that takes all, and refuses to hand it on.
@@ -266,31 +274,52 @@ fn a_configuration_is_counted(rt: HostRuntime) -> Result<(), Fail> {
         &["check", larger.as_str()],
         0,
         "ok realms 3 peers 2 shards 5\n",
-        "",
+        ADVICE,
     );
     fs::remove_file(&rt, least.as_str())?;
     fs::remove_file(&rt, larger.as_str())?;
     Ok(())
 }
 
-/// A line of the configuration, what stands in its place, and the fault of what comes.
+/// A line of the configuration, what stands in its place, and what is told of what comes: the fault, and where it
+/// stands.
 const REFUSED: &[(&str, &str, &str)] = &[
-    ("shards = 1", "shards = ", "Syntax"),
-    ("seed = ", "# ", "Missing"),
-    ("wait = 1000", "wait = 0", "BadValue"),
+    (
+        "shards = 1",
+        "shards = ",
+        "Syntax\n  line 1, column 10: invalid value, expected a string, number, boolean, date-time, array or inline table",
+    ),
+    ("seed = ", "# ", "Missing\n  seed: is missing"),
+    (
+        "wait = 1000",
+        "wait = 0",
+        "BadValue\n  line 21: realm \"a.example\": wait: 0 is not in 1..60000",
+    ),
     (
         "[[realm]]\nname = \"a.example\"",
         SECOND_REALM,
-        "DuplicateRealm",
+        "DuplicateRealm\n  line 32: realm \"a.example\": name: \"a.example\" stands also in line 17: realm \"A.EXAMPLE\": name",
     ),
     (
         "[[realm]]\nname = \"a.example\"",
         SECOND_PEER,
-        "DuplicatePeer",
+        "DuplicatePeer\n  line 18: peer \"nas2\": ip: \"192.0.2.1\" stands also in line 9: peer \"nas1\": ip",
     ),
-    ("127.0.0.1:2000", "127.0.0.1:1812", "DuplicateEndpoint"),
-    ("198.51.100.1:1813", "198.51.100.1:1812", "DuplicateServer"),
-    ("192.0.2.1:3799", "198.51.100.1:1812", "DuplicateLink"),
+    (
+        "127.0.0.1:2000",
+        "127.0.0.1:1812",
+        "DuplicateEndpoint\n  line 18: realm \"a.example\": out: \"127.0.0.1:1812\" stands also in line 3: auth",
+    ),
+    (
+        "198.51.100.1:1813",
+        "198.51.100.1:1812",
+        "DuplicateServer\n  line 28: realm \"a.example\", server 1: acct: \"198.51.100.1:1812\" stands also in line 27: realm \"a.example\", server 1: auth",
+    ),
+    (
+        "192.0.2.1:3799",
+        "198.51.100.1:1812",
+        "DuplicateLink\n  line 27: realm \"a.example\", server 1: auth: \"198.51.100.1:1812\" stands also in line 11: peer \"nas1\": coa",
+    ),
 ];
 
 /// The text with the first `old` in it replaced.

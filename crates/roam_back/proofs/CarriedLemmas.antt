@@ -3,13 +3,13 @@ use Rattle.std.proofs.Common.{◌≡◌, ◌≢◌, ℕ, Bool, true, false, inl,
 use Rattle.std.specs.Prelude.{if◌then◌else◌, ◌==◌, not}
 use Rattle.std.specs.List.{AllZip}
 use Rattle.std.proofs.lemmas.Bool.{cases_Bool, eq-eqb, ne_eqb}
-use Rattle.std.proofs.lemmas.List.Elements.{filter-append}
+use Rattle.std.proofs.lemmas.List.{map-append}
 use Rattle.roam_wire.specs.Packet.{Attribute, Packet}
 use Rattle.roam_wire.specs.Attributes.{has_kind, count_of, only_kind, without_kind}
 use Rattle.roam_wire.specs.declared.attribute_type.TheConstants.{PROXY_STATE, MESSAGE_AUTHENTICATOR, TUNNEL_PASSWORD, VENDOR_SPECIFIC}
 use Rattle.roam_wire.specs.declared.code.TheConstants.{ACCESS_ACCEPT}
 use Rattle.roam_auth.specs.Authenticators.{zero_octets}
-use Rattle.roam_auth.specs.MessageAuthenticator.{attribute_with_value}
+use Rattle.roam_auth.specs.MessageAuthenticator.{attribute_with_value, attributes_with_value}
 use Rattle.roam_auth.proofs.ValueLemmas.{stands_in_place}
 use Rattle.roam_auth.proofs.SealingLemmas.{count_of-append}
 use Rattle.roam_hide.specs.Hiding.{Key}
@@ -17,8 +17,8 @@ use Rattle.roam_hide.specs.SaltedFunctions.{tunnel_anew, vendor_anew}
 use Rattle.roam_hide.specs.SaltedValues.{IsTunnelAnew, IsVendorAnew}
 use Rattle.roam_hide.proofs.SaltedFunctionLemmas.{tunnel_anew_is, vendor_anew_is}
 use Rattle.roam_wire.specs.Codes.{is_access_reply}
-use Rattle.roam_back.specs.Returned.{Returning, proxy_states, with_salted_anew, carried_attributes, returned}
-use Rattle.roam_back.specs.CarriedLaws.{own_attributes, IsCarried}
+use Rattle.roam_back.specs.Returned.{Returning, proxy_states, with_salted_anew, returned_attributes, returned}
+use Rattle.roam_back.specs.CarriedLaws.{own_attributes, IsCarriedBack}
 use Rattle.roam_back.proofs.ReturnedLemmas.{count_of-only, other_kind, carried-others}
 use Rattle.roam_back.proofs.EveryCodeLemmas.{carried-access, count_of-rest, access_rest, seal_of, seal_apart}
 use Rattle.roam_back.proofs.PlainLemmas.{from_key, to_key, accept_is_access}
@@ -42,7 +42,7 @@ neither_of false false x y z first second = refl
 vendor_is_no_tunnel : (a : Attribute) → a.kind ≡ VENDOR_SPECIFIC → a.kind ≢ TUNNEL_PASSWORD
 vendor_is_no_tunnel a vendor tunnel = absurd (omega (arith, vendor, tunnel))
 
-carried_one : (r : Returning) (request : Packet) (a : Attribute) → IsCarried (from_key r) (to_key r request) a (with_salted_anew r request a)
+carried_one : (r : Returning) (request : Packet) (a : Attribute) → IsCarriedBack (from_key r) (to_key r request) a (with_salted_anew r request a)
 carried_one r request a =
     let from : Key = from_key r in
     let to : Key = to_key r request in
@@ -57,7 +57,7 @@ carried_one r request a =
       other = λ no_tunnel no_vendor. neither_of tunnel vendor x y a.value (ne_eqb a.kind TUNNEL_PASSWORD no_tunnel) (ne_eqb a.kind VENDOR_SPECIFIC no_vendor);
     }
 
-carried_all : (r : Returning) (request : Packet) (all : List Attribute) → AllZip (IsCarried (from_key r) (to_key r request)) all (map (with_salted_anew r request) all)
+carried_all : (r : Returning) (request : Packet) (all : List Attribute) → AllZip (IsCarriedBack (from_key r) (to_key r request)) all (map (with_salted_anew r request) all)
 carried_all r request [] = tt
 carried_all r request (a ∷ all) = (carried_one r request a, carried_all r request all)
 
@@ -74,7 +74,7 @@ filled_in r reply request access =
     ap (λ (all : List Attribute). map (attribute_with_value seal) (all ++ proxy_states request)) (carried-access r reply request access)
     ∙ stands_in_place seal zero_octets [] (rest ++ proxy_states request) refl none
 
-pub accept_carries : (r : Returning) (reply request : Packet) → reply.code ≡ ACCESS_ACCEPT → (seal : List ℕ) × (carried : List Attribute) × ((returned r reply request).attributes ≡ (record { kind = MESSAGE_AUTHENTICATOR; value = seal } ∷ carried) ++ proxy_states request) × AllZip (IsCarried (from_key r) (to_key r request)) (own_attributes reply) carried
+pub accept_carries : (r : Returning) (reply request : Packet) → reply.code ≡ ACCESS_ACCEPT → (seal : List ℕ) × (carried : List Attribute) × ((returned r reply request).attributes ≡ (record { kind = MESSAGE_AUTHENTICATOR; value = seal } ∷ carried) ++ proxy_states request) × AllZip (IsCarriedBack (from_key r) (to_key r request)) (own_attributes reply) carried
 accept_carries r reply request is =
     let own : List Attribute = own_attributes reply in
     let accept : (reply.code == ACCESS_ACCEPT) ≡ true = eq-eqb reply.code ACCESS_ACCEPT is in
@@ -94,31 +94,31 @@ access_carries r reply request access other =
 
 -- ---- any other reply
 
--- another Value in the Message-Authenticator changes no other attribute
-without-with_value : (value : List ℕ) (all : List Attribute) → without_kind MESSAGE_AUTHENTICATOR (map (attribute_with_value value) all) ≡ without_kind MESSAGE_AUTHENTICATOR all
-without-with_value value [] = refl
-without-with_value value (a ∷ all) =
+-- a Value that is left out leaves no trace of another one before it
+left_out : (value : List ℕ) (all : List Attribute) → attributes_with_value [] (map (attribute_with_value value) all) ≡ attributes_with_value [] all
+left_out value [] = refl
+left_out value (a ∷ all) =
     elim (cases_Bool (has_kind MESSAGE_AUTHENTICATOR a)) [
-      | inl seal ↦ rw seal (without-with_value value all)
-      | inr other ↦ rw other (ap (λ (l : List Attribute). a ∷ l) (without-with_value value all))
+      | inl seal ↦ rw seal (ap (λ (l : List Attribute). record { kind = a.kind; value = [] } ∷ l) (left_out value all))
+      | inr other ↦ rw other (ap (λ (l : List Attribute). a ∷ l) (left_out value all))
     ]
 
 -- no Proxy-State is a Message-Authenticator
-without-proxy_states : (all : List Attribute) → without_kind MESSAGE_AUTHENTICATOR (only_kind PROXY_STATE all) ≡ only_kind PROXY_STATE all
-without-proxy_states [] = refl
-without-proxy_states (a ∷ all) =
+proxy_states_stay : (all : List Attribute) → attributes_with_value [] (only_kind PROXY_STATE all) ≡ only_kind PROXY_STATE all
+proxy_states_stay [] = refl
+proxy_states_stay (a ∷ all) =
     elim (cases_Bool (has_kind PROXY_STATE a)) [
       | inl found ↦
           let other : has_kind MESSAGE_AUTHENTICATOR a ≡ false = other_kind MESSAGE_AUTHENTICATOR PROXY_STATE a seal_apart found in
-          rw (found, other) (ap (λ (l : List Attribute). a ∷ l) (without-proxy_states all))
-      | inr further ↦ rw further (without-proxy_states all)
+          rw (found, other) (ap (λ (l : List Attribute). a ∷ l) (proxy_states_stay all))
+      | inr further ↦ rw further (proxy_states_stay all)
     ]
 
-pub others_carried : (r : Returning) (reply request : Packet) → is_access_reply reply.code ≡ false → without_kind MESSAGE_AUTHENTICATOR (returned r reply request).attributes ≡ own_attributes reply ++ proxy_states request
+pub others_carried : (r : Returning) (reply request : Packet) → is_access_reply reply.code ≡ false → attributes_with_value [] (returned r reply request).attributes ≡ attributes_with_value [] (without_kind PROXY_STATE reply.attributes) ++ proxy_states request
 unfolding returned
 others_carried r reply request other =
-    let all : List Attribute = carried_attributes r reply request ++ proxy_states request in
-    without-with_value (seal_of r reply request) all
-    ∙ filter-append (λ (a : Attribute). not (has_kind MESSAGE_AUTHENTICATOR a)) (carried_attributes r reply request) (proxy_states request)
-    ∙ ap (λ (l : List Attribute). without_kind MESSAGE_AUTHENTICATOR (carried_attributes r reply request) ++ l) (without-proxy_states request.attributes)
-    ∙ ap (λ (l : List Attribute). without_kind MESSAGE_AUTHENTICATOR l ++ proxy_states request) (carried-others r reply request other)
+    let all : List Attribute = returned_attributes r reply request ++ proxy_states request in
+    left_out (seal_of r reply request) all
+    ∙ map-append (attribute_with_value []) (returned_attributes r reply request) (proxy_states request)
+    ∙ ap (λ (l : List Attribute). attributes_with_value [] (returned_attributes r reply request) ++ l) (proxy_states_stay request.attributes)
+    ∙ ap (λ (l : List Attribute). attributes_with_value [] l ++ proxy_states request) (carried-others r reply request other)

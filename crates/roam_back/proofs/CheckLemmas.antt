@@ -13,7 +13,7 @@ use Rattle.roam_auth.proofs.DecidingLemmas.{signed_reply_decided, well_sealed_de
 use Rattle.roam_auth.specs.MessageAuthenticator.{IsWellSealed}
 use Rattle.roam_auth.proofs.SealLemmas.{IsWellSealed-two}
 use Rattle.roam_wire.specs.Codes.{is_access_reply}
-use Rattle.roam_back.specs.ReplyCheck.{answers, sealing_authenticators, IsRightlySealed, has_seal_for_eap, has_required_seal, is_rightly_sealed, reply_fault, TakenHasNoFault}
+use Rattle.roam_back.specs.ReplyCheck.{answers, sealing_authenticators, IsRightlySealed, has_seal_for_eap, has_required_seal, is_reply_rightly_sealed, reply_fault, TakenHasNoFault}
 
 -- an accounting or reverse reply may be sealed over zeros too
 sealing_authenticators-others : (reply forwarded : Packet) → is_access_reply reply.code ≡ false → sealing_authenticators reply forwarded ≡ forwarded.authenticator ∷ zero_octets ∷ []
@@ -58,7 +58,7 @@ required_shown false access seals = (λ h. λ is also. absurd (cc is), λ h. ref
 
 -- the test of the seal shows it, and the other way round
 rightly_sealed_decided : (secret : List ℕ) (required : Bool) (reply forwarded : Packet) →
-    IsTrue (is_rightly_sealed secret required reply forwarded) ↔ IsRightlySealed secret required reply forwarded
+    IsTrue (is_reply_rightly_sealed secret required reply forwarded) ↔ IsRightlySealed secret required reply forwarded
 rightly_sealed_decided secret required reply forwarded =
     let access = is_access_reply reply.code in
     let seals = count_of MESSAGE_AUTHENTICATOR reply.attributes in
@@ -87,7 +87,7 @@ pub taken_has_no_fault : TakenHasNoFault
 taken_has_no_fault secret required reply forwarded =
     let code = answers forwarded.code reply.code in
     let signed = is_signed_reply secret forwarded.authenticator reply in
-    let sealed = is_rightly_sealed secret required reply forwarded in
+    let sealed = is_reply_rightly_sealed secret required reply forwarded in
     let tests = none_by code signed sealed in
     let signed_so = signed_reply_decided secret forwarded.authenticator reply in
     let sealed_so = rightly_sealed_decided secret required reply forwarded in (
@@ -98,7 +98,7 @@ taken_has_no_fault secret required reply forwarded =
 -- where the other two tests are true, the fault is the seal's
 pub bad_seal-fault : (secret : List ℕ) (required : Bool) (reply forwarded : Packet) → IsTrue (answers forwarded.code reply.code) → IsSignedReply secret forwarded.authenticator reply → (IsRightlySealed secret required reply forwarded → ⊥) → Some refusal.BadReplyMessageAuthenticator ≡ reply_fault secret required reply forwarded
 bad_seal-fault secret required reply forwarded code signed h =
-    let sealed = is_rightly_sealed secret required reply forwarded in
+    let sealed = is_reply_rightly_sealed secret required reply forwarded in
     let yes : is_signed_reply secret forwarded.authenticator reply ≡ true = (signed_reply_decided secret forwarded.authenticator reply).1 signed in
     let no : sealed ≡ false = is_false sealed (λ t. h ((rightly_sealed_decided secret required reply forwarded).0 t)) in
     rw (code, yes, no) refl

@@ -22,7 +22,7 @@ use Rattle.roam_hide.specs.SaltedFunctions.{tunnel_anew, vendor_anew}
 use Rattle.roam_hide.proofs.SaltedFunctionLemmas.{tunnel_anew_is, vendor_anew_is, length_tunnel_anew, length_vendor_anew}
 use Rattle.roam_hide.proofs.OctetLemmas.{AreOctets-tunnel_anew, AreOctets-vendor_anew}
 use Rattle.roam_wire.specs.Codes.{is_access_reply}
-use Rattle.roam_back.specs.Returned.{Returning, proxy_states, with_salted_anew, carried_attributes, unsealed, sealed, returned, returned_length}
+use Rattle.roam_back.specs.Returned.{Returning, proxy_states, with_salted_anew, returned_attributes, unsealed_return, sealed_return, returned, returned_length}
 use Rattle.roam_back.proofs.SignedLemmas.{IsPacket-sealed}
 use Rattle.roam_back.proofs.ReturnedLemmas.{other_kind, count_of-without_itself, count_of-only, short_kept, short_joined, carried-others, AtMostOne-others}
 
@@ -84,7 +84,7 @@ access_rest r reply request =
     then map (with_salted_anew r request) (without_kind MESSAGE_AUTHENTICATOR (without_kind PROXY_STATE reply.attributes))
     else without_kind MESSAGE_AUTHENTICATOR (without_kind PROXY_STATE reply.attributes)
 
-pub carried-access : (r : Returning) (reply request : Packet) → is_access_reply reply.code ≡ true → carried_attributes r reply request ≡ empty_message_authenticator ∷ access_rest r reply request
+pub carried-access : (r : Returning) (reply request : Packet) → is_access_reply reply.code ≡ true → returned_attributes r reply request ≡ empty_message_authenticator ∷ access_rest r reply request
 carried-access r reply request access = rw access refl
 
 -- what holds of both lists holds of the one chosen
@@ -106,21 +106,21 @@ count_of-rest r reply request =
 
 -- ---- the packet before it is sealed
 
-short_carried : (r : Returning) (reply request : Packet) → IsPacket reply → AllByRecursion IsAttribute (carried_attributes r reply request)
+short_carried : (r : Returning) (reply request : Packet) → IsPacket reply → AllByRecursion IsAttribute (returned_attributes r reply request)
 short_carried r reply request packet =
     elim (cases_Bool (is_access_reply reply.code)) [
       | inl access ↦ subst (AllByRecursion IsAttribute) (sym (carried-access r reply request access)) (record { kind = omega arith; octets = AreOctets-zeros 16; size = omega arith }, short_rest r reply request packet)
       | inr other ↦ subst (AllByRecursion IsAttribute) (sym (carried-others r reply request other)) (short_kept (λ (a : Attribute). not (has_kind PROXY_STATE a)) reply.attributes packet.attributes)
     ]
 
-pub IsPacket-unsealed : (r : Returning) (reply request : Packet) → IsPacket reply → IsPacket request → returned_length r reply request ≤ 4096 → IsPacket (unsealed r reply request)
+pub IsPacket-unsealed : (r : Returning) (reply request : Packet) → IsPacket reply → IsPacket request → returned_length r reply request ≤ 4096 → IsPacket (unsealed_return r reply request)
 unfolding returned_length
 IsPacket-unsealed r reply request a b short = record {
   code = a.code;
   id = b.id;
   octets = b.octets;
   authenticator = b.authenticator;
-  attributes = short_joined (carried_attributes r reply request) (proxy_states request) (short_carried r reply request a) (short_kept (has_kind PROXY_STATE) request.attributes b.attributes);
+  attributes = short_joined (returned_attributes r reply request) (proxy_states request) (short_carried r reply request a) (short_kept (has_kind PROXY_STATE) request.attributes b.attributes);
   size = short;
 }
 
@@ -128,7 +128,7 @@ pub seal_apart : MESSAGE_AUTHENTICATOR ≢ PROXY_STATE
 seal_apart e = absurd (omega (arith, e))
 
 -- an Access reply's has just one Message-Authenticator
-HasOne-access : (r : Returning) (reply request : Packet) → is_access_reply reply.code ≡ true → HasOneMessageAuthenticator (unsealed r reply request)
+HasOne-access : (r : Returning) (reply request : Packet) → is_access_reply reply.code ≡ true → HasOneMessageAuthenticator (unsealed_return r reply request)
 HasOne-access r reply request access =
     let rest = access_rest r reply request in
     let behind : List Attribute = rest ++ proxy_states request in
@@ -138,7 +138,7 @@ HasOne-access r reply request access =
     let h : HasOneMessageAuthenticator (p (empty_message_authenticator ∷ rest)) = record { one = one; size = refl } in
     subst (λ (all : List Attribute). HasOneMessageAuthenticator (p all)) (sym (carried-access r reply request access)) h
 
-pub AtMostOne-unsealed : (r : Returning) (reply request : Packet) → HasAtMostOneMessageAuthenticator reply → HasAtMostOneMessageAuthenticator (unsealed r reply request)
+pub AtMostOne-unsealed : (r : Returning) (reply request : Packet) → HasAtMostOneMessageAuthenticator reply → HasAtMostOneMessageAuthenticator (unsealed_return r reply request)
 AtMostOne-unsealed r reply request h =
     elim (cases_Bool (is_access_reply reply.code)) [
       | inl access ↦ inr (HasOne-access r reply request access)
@@ -192,7 +192,7 @@ only-with_value value (a ∷ all) =
       | inr further ↦ rw further (only-with_value value all)
     ]
 
-only-carried : (r : Returning) (reply request : Packet) → only_kind PROXY_STATE (carried_attributes r reply request) ≡ []
+only-carried : (r : Returning) (reply request : Packet) → only_kind PROXY_STATE (returned_attributes r reply request) ≡ []
 only-carried r reply request =
     let own = without_kind PROXY_STATE reply.attributes in
     let none = only-without PROXY_STATE reply.attributes in
@@ -208,21 +208,21 @@ only-carried r reply request =
 -- ---- the returned packet
 
 abbrev pub seal_of : Returning → Packet → Packet → List ℕ
-seal_of r reply request = message_authenticator r.client_secret request.authenticator (unsealed r reply request)
+seal_of r reply request = message_authenticator r.client_secret request.authenticator (unsealed_return r reply request)
 
 length-seal_of : (r : Returning) (reply request : Packet) → length (seal_of r reply request) ≡ 16
-length-seal_of r reply request = length-message_authenticator r.client_secret request.authenticator (unsealed r reply request)
+length-seal_of r reply request = length-message_authenticator r.client_secret request.authenticator (unsealed_return r reply request)
 
 pub IsPacket-returned : (r : Returning) (reply request : Packet) → IsPacket reply → IsPacket request → HasAtMostOneMessageAuthenticator reply → returned_length r reply request ≤ 4096 → IsPacket (returned r reply request)
 unfolding returned
 IsPacket-returned r reply request a b h short =
-    let packet : IsPacket (sealed r reply request) = IsPacket-sealed r.client_secret request.authenticator (unsealed r reply request) (AtMostOne-unsealed r reply request h) (IsPacket-unsealed r reply request a b short) in
-    IsPacket-signed_reply r.client_secret request.authenticator (sealed r reply request) packet
+    let packet : IsPacket (sealed_return r reply request) = IsPacket-sealed r.client_secret request.authenticator (unsealed_return r reply request) (AtMostOne-unsealed r reply request h) (IsPacket-unsealed r reply request a b short) in
+    IsPacket-signed_reply r.client_secret request.authenticator (sealed_return r reply request) packet
 
 pub packet_length-returned : (r : Returning) (reply request : Packet) → HasAtMostOneMessageAuthenticator reply → packet_length (returned r reply request) ≡ returned_length r reply request
 unfolding returned returned_length
 packet_length-returned r reply request h =
-    packet_length-with_value (seal_of r reply request) (unsealed r reply request) (length-seal_of r reply request) (AtMostOne-unsealed r reply request h)
+    packet_length-with_value (seal_of r reply request) (unsealed_return r reply request) (length-seal_of r reply request) (AtMostOne-unsealed r reply request h)
 
 pub IsSignedReply-returned : (r : Returning) (reply request : Packet) → IsSignedReply r.client_secret request.authenticator (returned r reply request)
 unfolding returned response_authenticator
@@ -231,12 +231,12 @@ IsSignedReply-returned r reply request = refl
 pub IsWellSealed-returned : (r : Returning) (reply request : Packet) → HasAtMostOneMessageAuthenticator reply → IsWellSealed r.client_secret (request.authenticator ∷ []) (returned r reply request)
 unfolding returned
 IsWellSealed-returned r reply request h =
-    IsWellSealed-with_authenticator r.client_secret (request.authenticator ∷ []) (response_authenticator r.client_secret request.authenticator (sealed r reply request)) (sealed r reply request) (IsWellSealed-sealed r.client_secret request.authenticator (unsealed r reply request) (AtMostOne-unsealed r reply request h))
+    IsWellSealed-with_authenticator r.client_secret (request.authenticator ∷ []) (response_authenticator r.client_secret request.authenticator (sealed_return r reply request)) (sealed_return r reply request) (IsWellSealed-sealed r.client_secret request.authenticator (unsealed_return r reply request) (AtMostOne-unsealed r reply request h))
 
 pub HasOne-returned : (r : Returning) (reply request : Packet) → is_access_reply reply.code ≡ true → HasOneMessageAuthenticator (returned r reply request)
 unfolding returned
 HasOne-returned r reply request access =
-    let one = HasOne-with_value (seal_of r reply request) (unsealed r reply request) (length-seal_of r reply request) (HasOne-access r reply request access) in
+    let one = HasOne-with_value (seal_of r reply request) (unsealed_return r reply request) (length-seal_of r reply request) (HasOne-access r reply request access) in
     record { one = one.one; size = one.size }
 
 -- the Message-Authenticator of an Access reply stands first
@@ -246,8 +246,8 @@ first-returned r reply request access =
     let rest = access_rest r reply request in
     let p : List Attribute → Packet = λ all. record { code = reply.code; id = request.id; authenticator = request.authenticator; attributes = all ++ proxy_states request } in
     let h : StandsFirst (p (empty_message_authenticator ∷ rest)) = (_, rest ++ proxy_states request, refl) in
-    let before : StandsFirst (unsealed r reply request) = subst (λ (all : List Attribute). StandsFirst (p all)) (sym (carried-access r reply request access)) h in
-    let after = StandsFirst-with_value (seal_of r reply request) (unsealed r reply request) before in
+    let before : StandsFirst (unsealed_return r reply request) = subst (λ (all : List Attribute). StandsFirst (p all)) (sym (carried-access r reply request access)) h in
+    let after = StandsFirst-with_value (seal_of r reply request) (unsealed_return r reply request) before in
     (after.0, after.1, after.2)
 
 pub code-returned : (r : Returning) (reply request : Packet) → (returned r reply request).code ≡ reply.code
@@ -261,7 +261,7 @@ id-returned r reply request = refl
 pub proxy_states-returned : (r : Returning) (reply request : Packet) → proxy_states (returned r reply request) ≡ proxy_states request
 unfolding returned
 proxy_states-returned r reply request =
-    only-with_value (seal_of r reply request) (carried_attributes r reply request ++ proxy_states request)
-    ∙ filter-append (has_kind PROXY_STATE) (carried_attributes r reply request) (proxy_states request)
+    only-with_value (seal_of r reply request) (returned_attributes r reply request ++ proxy_states request)
+    ∙ filter-append (has_kind PROXY_STATE) (returned_attributes r reply request) (proxy_states request)
     ∙ ap (λ (all : List Attribute). all ++ only_kind PROXY_STATE (proxy_states request)) (only-carried r reply request)
     ∙ only-only PROXY_STATE request.attributes

@@ -16,7 +16,7 @@ use Rattle.roam_hide.specs.declared.packet_values.Hidden.TheVariants.{SaltedStri
 use Rattle.roam_hide.specs.Hiding.{Key}
 use Rattle.roam_hide.specs.PacketAnew.{packet_anew, CanBeHiddenAnew}
 use Rattle.roam_wire.specs.Codes.{is_access_reply}
-use Rattle.roam_back.specs.Returned.{Returning, proxy_states, with_salted_anew, carried_attributes, unsealed, returned_length}
+use Rattle.roam_back.specs.Returned.{Returning, proxy_states, with_salted_anew, returned_attributes, unsealed_return, returned_length}
 use Rattle.roam_back.specs.Plain.{is_carried, first_seal, plain_attributes, plain_packet}
 use Rattle.roam_back.proofs.ReturnedLemmas.{short_kept, short_joined, carried-others}
 use Rattle.roam_back.proofs.EveryCodeLemmas.{salted_size, short_salted, carried-access}
@@ -100,26 +100,26 @@ plain-others reply request other =
 pub accept_is_access : (reply : Packet) → (reply.code == ACCESS_ACCEPT) ≡ true → is_access_reply reply.code ≡ true
 accept_is_access reply accept = rw accept refl
 
-unsealed-accept : (r : Returning) (reply request : Packet) → (reply.code == ACCESS_ACCEPT) ≡ true → unsealed r reply request ≡ with_header reply request (map (with_salted_anew r request) (plain_attributes reply request))
+unsealed-accept : (r : Returning) (reply request : Packet) → (reply.code == ACCESS_ACCEPT) ≡ true → unsealed_return r reply request ≡ with_header reply request (map (with_salted_anew r request) (plain_attributes reply request))
 unsealed-accept r reply request accept =
     let own : List Attribute = without_kind MESSAGE_AUTHENTICATOR (without_kind PROXY_STATE reply.attributes) in
     let anew : Attribute → Attribute = with_salted_anew r request in
     let access = accept_is_access reply accept in
     let rest : (if reply.code == ACCESS_ACCEPT then map anew own else own) ≡ map anew own = rw accept refl in
-    let carried : carried_attributes r reply request ≡ first_seal true ++ map anew own =
+    let carried : returned_attributes r reply request ≡ first_seal true ++ map anew own =
     carried-access r reply request access ∙ ap (λ (l : List Attribute). first_seal true ++ l) rest in
     ap (λ (all : List Attribute). with_header reply request (all ++ proxy_states request)) carried
     ∙ ap (with_header reply request) (sym (between-anew r request true own))
     ∙ ap (λ (all : List Attribute). with_header reply request (map anew all)) (sym (plain-access reply request access))
 
-unsealed-plain : (r : Returning) (reply request : Packet) → (reply.code == ACCESS_ACCEPT) ≡ false → unsealed r reply request ≡ plain_packet reply request
+unsealed-plain : (r : Returning) (reply request : Packet) → (reply.code == ACCESS_ACCEPT) ≡ false → unsealed_return r reply request ≡ plain_packet reply request
 unsealed-plain r reply request not_accept =
     let own : List Attribute = without_kind MESSAGE_AUTHENTICATOR (without_kind PROXY_STATE reply.attributes) in
     let anew : Attribute → Attribute = with_salted_anew r request in
     elim (cases_Bool (is_access_reply reply.code)) [
       | inl access ↦
           let rest : (if reply.code == ACCESS_ACCEPT then map anew own else own) ≡ own = rw not_accept refl in
-          let carried : carried_attributes r reply request ≡ first_seal true ++ own =
+          let carried : returned_attributes r reply request ≡ first_seal true ++ own =
           carried-access r reply request access ∙ ap (λ (l : List Attribute). first_seal true ++ l) rest in
           ap (λ (all : List Attribute). with_header reply request (all ++ proxy_states request)) carried
           ∙ ap (with_header reply request) (sym (plain-access reply request access))
@@ -202,12 +202,12 @@ pub can_be-salted : (all : List Attribute) → AllByRecursion (CanBeHiddenAnew S
 can_be-salted [] = tt
 can_be-salted (a ∷ all) = (record { password = λ e. absurd (cc e) }, can_be-salted all)
 
-pub rehidden_text : (r : Returning) (reply request p : Packet) → p ≡ plain_packet reply request → (reply.code == ACCESS_ACCEPT) ≡ true → packet_text (packet_anew SaltedStrings (from_key r) (to_key r request) p) ≡ packet_text (unsealed r reply request)
+pub rehidden_text : (r : Returning) (reply request p : Packet) → p ≡ plain_packet reply request → (reply.code == ACCESS_ACCEPT) ≡ true → packet_text (packet_anew SaltedStrings (from_key r) (to_key r request) p) ≡ packet_text (unsealed_return r reply request)
 rehidden_text r reply request p is accept =
     ap (λ (x : Packet). packet_text (packet_anew SaltedStrings (from_key r) (to_key r request) x)) is
     ∙ ap packet_text (sym (unsealed-accept r reply request accept))
 
-pub plain_text_stays : (r : Returning) (reply request p : Packet) → p ≡ plain_packet reply request → (reply.code == ACCESS_ACCEPT) ≡ false → packet_text p ≡ packet_text (unsealed r reply request)
+pub plain_text_stays : (r : Returning) (reply request p : Packet) → p ≡ plain_packet reply request → (reply.code == ACCESS_ACCEPT) ≡ false → packet_text p ≡ packet_text (unsealed_return r reply request)
 plain_text_stays r reply request p is other =
     ap packet_text is ∙ ap packet_text (sym (unsealed-plain r reply request other))
 
@@ -224,12 +224,12 @@ IsPacket-salted r request p h =
     }
 
 -- and that is a packet
-pub unsealed_there : (r : Returning) (reply request : Packet) (plain written : List ℕ) → IsPacketText plain → packet_of plain ≡ plain_packet reply request → written ≡ packet_text (unsealed r reply request) → AreTextOf (unsealed r reply request) written
+pub unsealed_there : (r : Returning) (reply request : Packet) (plain written : List ℕ) → IsPacketText plain → packet_of plain ≡ plain_packet reply request → written ≡ packet_text (unsealed_return r reply request) → AreTextOf (unsealed_return r reply request) written
 unsealed_there r reply request plain written text is written-is =
     let packet : IsPacket (plain_packet reply request) = subst IsPacket is text.packet in
-    let unsealed_packet : IsPacket (unsealed r reply request) =
+    let unsealed_packet : IsPacket (unsealed_return r reply request) =
     elim (cases_Bool (reply.code == ACCESS_ACCEPT)) [
       | inl accept ↦ subst IsPacket (sym (unsealed-accept r reply request accept)) (IsPacket-salted r request (plain_packet reply request) packet)
       | inr other ↦ subst IsPacket (sym (unsealed-plain r reply request other)) packet
     ] in
-    subst (AreTextOf (unsealed r reply request)) (sym written-is) (AreTextOf-packet_text (unsealed r reply request) unsealed_packet)
+    subst (AreTextOf (unsealed_return r reply request)) (sym written-is) (AreTextOf-packet_text (unsealed_return r reply request) unsealed_packet)

@@ -16,7 +16,7 @@ use Rattle.roam_auth.specs.MessageAuthenticator.{HasAtMostOneMessageAuthenticato
 use Rattle.roam_auth.proofs.ValueLemmas.{count_of-no}
 use Rattle.roam_auth.proofs.SealingLemmas.{count_of-append, length-attributes_text-append}
 use Rattle.roam_wire.specs.Codes.{is_access_reply}
-use Rattle.roam_back.specs.Returned.{Returning, proxy_states, carried_attributes, unsealed, returned, returned_length}
+use Rattle.roam_back.specs.Returned.{Returning, proxy_states, returned_attributes, unsealed_return, returned, returned_length}
 
 -- ---- counts of the attributes that are kept
 
@@ -115,10 +115,10 @@ restored reply request = record {
   attributes = without_kind PROXY_STATE reply.attributes ++ only_kind PROXY_STATE request.attributes;
 }
 
-pub carried-others : (r : Returning) (reply request : Packet) → is_access_reply reply.code ≡ false → carried_attributes r reply request ≡ without_kind PROXY_STATE reply.attributes
+pub carried-others : (r : Returning) (reply request : Packet) → is_access_reply reply.code ≡ false → returned_attributes r reply request ≡ without_kind PROXY_STATE reply.attributes
 carried-others r reply request other = rw other refl
 
-pub unsealed-others : (r : Returning) (reply request : Packet) → is_access_reply reply.code ≡ false → unsealed r reply request ≡ restored reply request
+pub unsealed-others : (r : Returning) (reply request : Packet) → is_access_reply reply.code ≡ false → unsealed_return r reply request ≡ restored reply request
 unsealed-others r reply request other =
     ap (λ (all : List Attribute). record { code = reply.code; id = request.id; authenticator = request.authenticator; attributes = all ++ proxy_states request }) (carried-others r reply request other)
 
@@ -164,7 +164,7 @@ AtMostOne-restored reply request h =
           inr (record { one = count ∙ one.one; size = subst sized (sym first) one.size })
     ]
 
-pub AtMostOne-others : (r : Returning) (reply request : Packet) → is_access_reply reply.code ≡ false → HasAtMostOneMessageAuthenticator reply → HasAtMostOneMessageAuthenticator (unsealed r reply request)
+pub AtMostOne-others : (r : Returning) (reply request : Packet) → is_access_reply reply.code ≡ false → HasAtMostOneMessageAuthenticator reply → HasAtMostOneMessageAuthenticator (unsealed_return r reply request)
 AtMostOne-others r reply request other h =
     subst HasAtMostOneMessageAuthenticator (sym (unsealed-others r reply request other)) (AtMostOne-restored reply request h)
 
@@ -174,7 +174,7 @@ AtMostOne-others r reply request other h =
 pub record IsBehind (r : Returning) (reply request : Packet) (before octets : List ℕ) (start : ℕ) : Type 0 where
   pub front : take start octets ≡ before
   pub text : IsPacketText (drop start octets)
-  pub packet : packet_of (drop start octets) ≡ unsealed r reply request
+  pub packet : packet_of (drop start octets) ≡ unsealed_return r reply request
 
 pub IsBehind-restored : (r : Returning) (reply request : Packet) (before reserved octets : List ℕ) (start size : ℕ) → is_access_reply reply.code ≡ false → IsPacket reply → IsPacket request → size ≡ 20 + length (attributes_text (without_kind PROXY_STATE reply.attributes)) + length (attributes_text (only_kind PROXY_STATE request.attributes)) → size ≤ 4096 → start ≡ length before → reserved ≡ before → octets ≡ reserved ++ packet_text (restored reply request) → IsBehind r reply request before octets start
 IsBehind-restored r reply request before reserved octets start size other a b size-is short start-is reserved-is octets-are =
@@ -189,7 +189,7 @@ IsBehind-restored r reply request before reserved octets start size other a b si
     }
 
 -- sealed and signed, it is the returned packet
-pub returned_text : (r : Returning) (reply request p : Packet) (authenticator : List ℕ) → authenticator ≡ request.authenticator → p ≡ unsealed r reply request → packet_text (signed_reply r.client_secret authenticator (with_message_authenticator r.client_secret authenticator p)) ≡ packet_text (returned r reply request)
+pub returned_text : (r : Returning) (reply request p : Packet) (authenticator : List ℕ) → authenticator ≡ request.authenticator → p ≡ unsealed_return r reply request → packet_text (signed_reply r.client_secret authenticator (with_message_authenticator r.client_secret authenticator p)) ≡ packet_text (returned r reply request)
 unfolding returned
 returned_text r reply request p authenticator same is =
     ap (λ (a : List ℕ). packet_text (signed_reply r.client_secret a (with_message_authenticator r.client_secret a p))) same

@@ -1,11 +1,12 @@
 -- What the returned packet carries of the reply (RFC 2865, section 2.3). Each law is a clause of a
 -- function of src/laws.rt.
-use Rattle.std.specs.Prelude.{◌≡◌, ◌≢◌, ℕ, true, false, List, ◌∷◌, ◌++◌}
+use Rattle.std.specs.Prelude.{◌≡◌, ◌≢◌, ℕ, true, false, List, [], ◌∷◌, ◌++◌}
 use Rattle.std.specs.List.{AllZip}
 use Rattle.roam_wire.specs.Packet.{Attribute, Packet}
 use Rattle.roam_wire.specs.Attributes.{without_kind}
 use Rattle.roam_wire.specs.declared.attribute_type.TheConstants.{PROXY_STATE, MESSAGE_AUTHENTICATOR, TUNNEL_PASSWORD, VENDOR_SPECIFIC}
 use Rattle.roam_wire.specs.declared.code.TheConstants.{ACCESS_ACCEPT}
+use Rattle.roam_auth.specs.MessageAuthenticator.{attributes_with_value}
 use Rattle.roam_hide.specs.Hiding.{Key}
 use Rattle.roam_hide.specs.SaltedValues.{IsTunnelAnew, IsVendorAnew}
 use Rattle.roam_wire.specs.Codes.{is_access_reply}
@@ -18,7 +19,7 @@ own_attributes reply = without_kind MESSAGE_AUTHENTICATOR (without_kind PROXY_ST
 -- an attribute of an Access-Accept as it is carried to the requester: salted strings hide the same plain
 -- texts with the other key, and all else is the same octet for octet (RFC 2868, section 3.5; RFC 2548,
 -- section 2.4)
-pub record IsCarried (from to : Key) (old new : Attribute) : Type 0 where
+pub record IsCarriedBack (from to : Key) (old new : Attribute) : Type 0 where
   pub kind : new.kind ≡ old.kind
   pub tunnel_password : old.kind ≡ TUNNEL_PASSWORD → IsTunnelAnew from to old.value new.value
   pub vendor_specific : old.kind ≡ VENDOR_SPECIFIC → IsVendorAnew from to old.value new.value
@@ -33,20 +34,21 @@ AcceptCarriesAll = (r : Returning) (reply request : Packet) → reply.code ≡ A
     (seal : List ℕ) × (carried : List Attribute)
     × ((returned r reply request).attributes
     ≡ (record { kind = MESSAGE_AUTHENTICATOR; value = seal } ∷ carried) ++ proxy_states request)
-    × AllZip (IsCarried from to) (own_attributes reply) carried
+    × AllZip (IsCarriedBack from to) (own_attributes reply) carried
 
 -- those of an Access-Reject and an Access-Challenge: the same, all octet for octet
-abbrev pub AccessCarriesAll : Type 0
-AccessCarriesAll = (r : Returning) (reply request : Packet) →
+abbrev pub RejectCarriesAll : Type 0
+RejectCarriesAll = (r : Returning) (reply request : Packet) →
     is_access_reply reply.code ≡ true → reply.code ≢ ACCESS_ACCEPT →
     (seal : List ℕ)
     × ((returned r reply request).attributes
     ≡ (record { kind = MESSAGE_AUTHENTICATOR; value = seal } ∷ own_attributes reply)
     ++ proxy_states request)
 
--- any other reply's: all in their order, octet for octet but for the Message-Authenticator's Value
-abbrev pub OthersAreCarried : Type 0
-OthersAreCarried = (r : Returning) (reply request : Packet) →
+-- any other reply's: all but its Proxy-States in their places, octet for octet but for the
+-- Message-Authenticator's Value, which is left out here on both sides, then the request's Proxy-States
+abbrev pub OthersAreCarriedBack : Type 0
+OthersAreCarriedBack = (r : Returning) (reply request : Packet) →
     is_access_reply reply.code ≡ false →
-    without_kind MESSAGE_AUTHENTICATOR (returned r reply request).attributes
-    ≡ own_attributes reply ++ proxy_states request
+    attributes_with_value [] (returned r reply request).attributes
+    ≡ attributes_with_value [] (without_kind PROXY_STATE reply.attributes) ++ proxy_states request

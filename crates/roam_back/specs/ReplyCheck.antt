@@ -73,8 +73,8 @@ has_required_seal required reply =
     || nat_lt 0 (count_of MESSAGE_AUTHENTICATOR reply.attributes)
 
 -- whether a reply is rightly sealed for a forwarded request (RFC 3579, sections 3.1 and 3.2)
-abbrev pub is_rightly_sealed : List ℕ → Bool → Packet → Packet → Bool
-is_rightly_sealed secret required reply forwarded =
+abbrev pub is_reply_rightly_sealed : List ℕ → Bool → Packet → Packet → Bool
+is_reply_rightly_sealed secret required reply forwarded =
     is_well_sealed secret (sealing_authenticators reply forwarded) reply
     && (has_seal_for_eap reply && has_required_seal required reply)
 
@@ -84,7 +84,7 @@ abbrev pub reply_fault : List ℕ → Bool → Packet → Packet → Option Refu
 reply_fault secret required reply forwarded =
     if not (answers forwarded.code reply.code) then Some refusal.WrongReply
     else if not (is_signed_reply secret forwarded.authenticator reply) then Some refusal.BadReply
-    else if not (is_rightly_sealed secret required reply forwarded)
+    else if not (is_reply_rightly_sealed secret required reply forwarded)
     then Some refusal.BadReplyMessageAuthenticator
     else None
 

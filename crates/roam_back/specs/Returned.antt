@@ -33,8 +33,8 @@ with_salted_anew r request a =
 -- the reply's own attributes as they are returned: without Proxy-State; in an Access reply without
 -- Message-Authenticator too, behind one that is still to be filled in; in an Access-Accept with
 -- salted strings hidden anew (RFC 2865, section 2.3)
-abbrev pub carried_attributes : Returning → Packet → Packet → List Attribute
-carried_attributes r reply request =
+abbrev pub returned_attributes : Returning → Packet → Packet → List Attribute
+returned_attributes r reply request =
     let own = without_kind PROXY_STATE reply.attributes in
     if is_access_reply reply.code
     then empty_message_authenticator
@@ -45,26 +45,26 @@ carried_attributes r reply request =
 
 -- the packet before it is sealed and signed: the reply's code, the request's Identifier and
 -- Authenticator, and the request's Proxy-States behind the reply's own attributes
-abbrev pub unsealed : Returning → Packet → Packet → Packet
-unsealed r reply request = record {
+abbrev pub unsealed_return : Returning → Packet → Packet → Packet
+unsealed_return r reply request = record {
   code = reply.code;
   id = request.id;
   authenticator = request.authenticator;
-  attributes = carried_attributes r reply request ++ proxy_states request;
+  attributes = returned_attributes r reply request ++ proxy_states request;
 }
 
 -- sealed with the requester's secret over the request's Authenticator (RFC 3579, section 3.2)
-abbrev pub sealed : Returning → Packet → Packet → Packet
-sealed r reply request =
-    with_message_authenticator r.client_secret request.authenticator (unsealed r reply request)
+abbrev pub sealed_return : Returning → Packet → Packet → Packet
+sealed_return r reply request =
+    with_message_authenticator r.client_secret request.authenticator (unsealed_return r reply request)
 
 -- the returned packet: sealed, and signed for the requester (RFC 2865, section 3)
 unfoldable pub returned : Returning → Packet → Packet → Packet
 returned r reply request =
     with_authenticator
-    (response_authenticator r.client_secret request.authenticator (sealed r reply request))
-    (sealed r reply request)
+    (response_authenticator r.client_secret request.authenticator (sealed_return r reply request))
+    (sealed_return r reply request)
 
 -- its size, in octets
 unfoldable pub returned_length : Returning → Packet → Packet → ℕ
-returned_length r reply request = packet_length (unsealed r reply request)
+returned_length r reply request = packet_length (unsealed_return r reply request)

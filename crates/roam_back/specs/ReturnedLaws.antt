@@ -6,6 +6,7 @@ use Rattle.roam_wire.specs.Reading.{ReadsAs}
 use Rattle.roam_auth.specs.Authenticators.{IsSignedReply}
 use Rattle.roam_auth.specs.MessageAuthenticator.{HasOneMessageAuthenticator, HasAtMostOneMessageAuthenticator, IsWellSealed, StandsFirst}
 use Rattle.roam_wire.specs.Codes.{is_access_reply}
+use Rattle.roam_wire.specs.declared.packet_size.TheConstants.{MAX_PACKET_LENGTH}
 use Rattle.roam_back.specs.Returned.{Returning, proxy_states, returned, returned_length}
 
 -- a reply to a request, both read, that can be returned: it has at most one Message-Authenticator, of
@@ -14,7 +15,7 @@ pub record IsReturnable (r : Returning) (reply request : Packet) : Type 0 where
   pub reply_is_packet : IsPacket reply
   pub request_is_packet : IsPacket request
   pub at_most_one : HasAtMostOneMessageAuthenticator reply
-  pub short : returned_length r reply request ≤ 4096
+  pub short : returned_length r reply request ≤ MAX_PACKET_LENGTH
 
 -- what is returned is a packet (RFC 2865, section 3)
 abbrev pub ReturnedIsPacket : Type 0
@@ -51,8 +52,8 @@ AccessIsSealed = (r : Returning) (reply request : Packet) →
     HasOneMessageAuthenticator (returned r reply request)
 
 -- which is its first attribute (ours)
-abbrev pub AccessHasSealFirst : Type 0
-AccessHasSealFirst = (r : Returning) (reply request : Packet) →
+abbrev pub AccessReplyHasSealFirst : Type 0
+AccessReplyHasSealFirst = (r : Returning) (reply request : Packet) →
     IsTrue (is_access_reply reply.code) →
     StandsFirst (returned r reply request)
 

@@ -2,9 +2,9 @@
 //! functions do nothing: their contracts hold of all replies and requests.
 
 ghost use Rattle.roam_back.specs.ReplyCheck.{TakenHasNoFault};
-ghost use Rattle.roam_back.specs.CarriedLaws.{AcceptCarriesAll, AccessCarriesAll, OthersAreCarried};
+ghost use Rattle.roam_back.specs.CarriedLaws.{AcceptCarriesAll, RejectCarriesAll, OthersAreCarriedBack};
 ghost use Rattle.roam_back.specs.NakLaws.{NakIsPacket, NakReads, NakHasLength, NakIsShort, NakAnswers, NakHasIdentifier, NakIsSigned, NakHasNoSeal, NakHasOneCause, NakTellsCause, NakHasProxyStates, NakHasNothingElse, NothingElseCounts};
-ghost use Rattle.roam_back.specs.ReturnedLaws.{ReturnedIsPacket, ReturnedReads, ReturnedHasLength, ReturnedIsSigned, ReturnedIsWellSealed, AccessIsSealed, AccessHasSealFirst, CodeIsTheReplys, IdentifierIsTheRequests, ProxyStatesAreTheRequests};
+ghost use Rattle.roam_back.specs.ReturnedLaws.{ReturnedIsPacket, ReturnedReads, ReturnedHasLength, ReturnedIsSigned, ReturnedIsWellSealed, AccessIsSealed, AccessReplyHasSealFirst, CodeIsTheReplys, IdentifierIsTheRequests, ProxyStatesAreTheRequests};
 
 /// The tests of a reply find no fault just where it is taken (RFC 2865, section 2.3).
 pub fn taken_replies()
@@ -23,7 +23,7 @@ pub fn returned_authenticators()
     ensures signed { ReturnedIsSigned }
     ensures well_sealed { ReturnedIsWellSealed }
     ensures access { AccessIsSealed }
-    ensures access_first { AccessHasSealFirst }
+    ensures access_first { AccessReplyHasSealFirst }
 {}
 
 /// It has the reply's code, the request's Identifier, and the request's Proxy-States (RFC 2865,
@@ -38,8 +38,8 @@ pub fn returned_to_the_requester()
 /// strings of an Access-Accept open to the same plain text (RFC 2865, section 2.3).
 pub fn returned_carries()
     ensures accept { AcceptCarriesAll }
-    ensures access { AccessCarriesAll }
-    ensures others { OthersAreCarried }
+    ensures access { RejectCarriesAll }
+    ensures others { OthersAreCarriedBack }
 {}
 
 /// A NAK is a packet of the stated size, which reads (RFC 2865, section 3).

@@ -5,7 +5,7 @@ ghost use Rattle.roam_wire.specs.Packet.{packet_text};
 ghost use Rattle.roam_wire.specs.Reading.{IsPacketText, packet_of};
 ghost use Rattle.roam_auth.specs.Authenticators.{signed_reply};
 ghost use Rattle.roam_auth.specs.MessageAuthenticator.{HasAtMostOneMessageAuthenticator, with_message_authenticator};
-ghost use Rattle.roam_back.specs.Returned.{unsealed, returned, returned_length};
+ghost use Rattle.roam_back.specs.Returned.{unsealed_return, returned, returned_length};
 ghost use Rattle.roam_back.specs.Plain.{plain_packet};
 
 use crate::appending::{append_plain, returned_len};
@@ -26,7 +26,7 @@ fn rehide_accept(
 )
     requires packet { IsPacketText octets.old }
     requires plain { packet_of octets.old ≡ plain_packet reply.now request.now }
-    ensures { octets.new ≡ packet_text (unsealed
+    ensures { octets.new ≡ packet_text (unsealed_return
         (record {
           forwarded_authenticator = forwarded_authenticator;
           home_secret = home_secret.now;

@@ -77,7 +77,7 @@ gone-on_link c es n (Some x) g l i sound gone is at =
     stands-on_link c gone.0.request gone.0.standing l i (sym gone.1.place ∙ there) well
 
 -- what a realm keeps is kept where a done entry goes
-without-done :
+pub without-done :
     {A : Type 0} (c : RealmConfig) (es : List PlainEntry) (n : Numbers A) (t : ℕ) (e : PlainEntry)
     → IsSound c es n → find_ticket t es ≡ Some e → is_done e ≡ true → IsSound c (without t es) n
 without-done c es n t e sound found is = record {

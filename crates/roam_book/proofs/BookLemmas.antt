@@ -60,6 +60,35 @@ kept-book config realm old new m c configured own is keeps sound list =
       list = subst IsEntryList (held-entries new realm c (shown config) is now) list;
     }
 
+-- what is said of the realm's state before a call of the realm and after it holds of the book's
+own-becomes : {A : Type 0} (P : RealmConfig → RealmState → RealmState → Type 0)
+    (view : BookView) (config : ConfigView) (realm : ℕ)
+    (old new : Held) (n m : Numbers A) (c : RealmConfig)
+    → view ≡ record { config = config; realm = realm; state = state_of old.entries n }
+    → c ≡ realm_config config realm → old.realm ≡ realm → new.realm ≡ realm
+    → P c (state_of (entries_in old c.index) n) (state_of (entries_in new c.index) m)
+    → P (settings_of view) view.state (state_of new.entries m)
+own-becomes P view config realm old new n m c v is own now h =
+    let of : RealmConfig = realm_config config realm in
+    let here : P of (state_of (entries_in old realm) n) (state_of (entries_in new realm) m) =
+    subst (λ (x : RealmConfig). P x (state_of (entries_in old x.index) n) (state_of (entries_in new x.index) m)) is h in
+    let before : P of (state_of old.entries n) (state_of (entries_in new realm) m) =
+    subst (λ (es : List PlainEntry). P of (state_of es n) (state_of (entries_in new realm) m)) (own-entries old realm own) here in
+    let after : P of (state_of old.entries n) (state_of new.entries m) =
+    subst (λ (es : List PlainEntry). P of (state_of old.entries n) (state_of es m)) (own-entries new realm now) before in
+    subst (λ (b : BookView). P (settings_of b) b.state (state_of new.entries m)) (sym v) after
+
+pub realm-becomes : {A : Type 0} (P : RealmConfig → RealmState → RealmState → Type 0)
+    (view : BookView) (config : ConfigView) (realm : ℕ)
+    (old new : Held) (n m : Numbers A) (c k : RealmConfig) → k ≡ c
+    → view ≡ record { config = config; realm = realm; state = state_of old.entries n }
+    → c ≡ realm_config config realm → old.realm ≡ realm → keeps_in new ≡ keeps_in old
+    → P c (state_of (entries_in old c.index) n) (state_of (entries_in new k.index) m)
+    → P (settings_of view) view.state (state_of new.entries m)
+realm-becomes P view config realm old new n m c k at v is own keeps h =
+    own-becomes P view config realm old new n m c v is own (own-realm old new realm own keeps)
+    (subst (λ (x : RealmConfig). P c (state_of (entries_in old c.index) n) (state_of (entries_in new x.index) m)) at h)
+
 -- what a call of the realm gives, the book gives
 pub own-gives : {A : Type 0} (f : RealmConfig → RealmState → Turn)
     (r : Result (Answer A) NoMemory) (view : BookView) (config : ConfigView) (realm : ℕ)

@@ -7,6 +7,7 @@ pub mod HolderLemmas
 pub mod JobLemmas
 pub mod LaneLemmas
 pub mod LeastLemmas
+pub mod LettingGoLemmas
 pub mod LinkLaneLemmas
 pub mod MemoryLemmas
 pub mod NakLemmas

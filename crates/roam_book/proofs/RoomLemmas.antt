@@ -48,7 +48,7 @@ dues-more : {A : Type 0} (slots : List (Slot A)) (slot : Slot A)
     → dues_of (slots ++ slot ∷ []) ≡ dues_of slots ++ slot.due ∷ []
 dues-more slots slot = map-append (λ s. s.due) slots (slot ∷ [])
 
-last_or-more : (o : Option Due) (ds : List Due) (d : Due) → last_or o (ds ++ d ∷ []) ≡ Some d
+pub last_or-more : (o : Option Due) (ds : List Due) (d : Due) → last_or o (ds ++ d ∷ []) ≡ Some d
 last_or-more o [] d = refl
 last_or-more o (x ∷ xs) d = last_or-more (Some x) xs d
 

@@ -6,6 +6,7 @@ use Rattle.roam_wire.specs.Reading.{packet_of}
 use Rattle.roam_wire.specs.declared.code.TheConstants.{ACCOUNTING_RESPONSE}
 use Rattle.roam_wire.specs.declared.refusal.Refusal.{Refusal}
 use Rattle.roam_wire.specs.declared.refusal.Refusal.TheVariants as refusal
+use Rattle.roam_wire.specs.declared.packet_size.TheConstants.{MAX_PACKET_LENGTH}
 use Rattle.roam_conf.specs.declared.place.Link.{Link}
 pub use Rattle.roam_back.specs.ReplyCheck.{reply_fault}
 use Rattle.roam_back.specs.Returned.{Returning, returned, returned_length}
@@ -60,7 +61,7 @@ once_returned c now s e l reply octets = record s {
 -- a reply that is taken, for an entry: its packet is returned
 abbrev pub return_reply : RealmConfig → ℕ → RealmState → PlainEntry → Link → Packet → Packet → Turn
 return_reply c now s e l forwarded reply =
-    if nat_lt 4096 (returned_length (returning c e.request l forwarded) reply (packet_of e.request.octets))
+    if nat_lt MAX_PACKET_LENGTH (returned_length (returning c e.request l forwarded) reply (packet_of e.request.octets))
     then refuses refusal.ReplyTooLong
     else sends (packet_back c e.request.key (returned_octets c e.request l forwarded reply) ∷ [])
     (once_returned c now s e l reply (returned_octets c e.request l forwarded reply))

@@ -1,8 +1,9 @@
 -- The memory of a tick (ours): no definition of what the broker does rests on it.
-use Rattle.std.specs.Prelude.{◌≡◌, ℕ, ◌+◌, Bool, List, [], ◌∷◌, length, map, Option, Some, None, is_some}
+use Rattle.std.specs.Prelude.{◌≡◌, ℕ, ◌+◌, Bool, true, List, [], ◌∷◌, length, map, Option, Some, None, is_some}
+use Rattle.std.specs.List.{list_all}
 use Rattle.roam_pending.specs.declared.due.Due.{Due}
 use Rattle.roam_pending.specs.DueOrder.{due_list}
-use Rattle.roam_pending.specs.PlainEntry.{PlainEntry}
+use Rattle.roam_pending.specs.PlainEntry.{PlainEntry, is_done}
 use Rattle.roam_pending.specs.EntryList.{find_ticket}
 use Rattle.roam_book.specs.Memory.{HasBuffers, IsOuts}
 use Rattle.roam_book.specs.declared.room.Room.{Room}
@@ -32,3 +33,16 @@ pub record IsRoomFor {A : Type 0} (now : ℕ) (entries : List PlainEntry)
   pub dues : dues_of room.slots.items ≡ due_list now entries
   pub buffers : EachHasBuffers room.outs.twice entries room.slots.items
   pub outs : IsOuts (length room.slots.items) room.outs.twice [] room.outs
+
+-- an entry doesn't wait for a reply: it was answered, or isn't there
+abbrev pub done_or_gone : Option PlainEntry → Bool
+done_or_gone None = true
+done_or_gone (Some e) = is_done e
+
+-- what is due there was answered
+abbrev pub is_done_at : List PlainEntry → Due → Bool
+is_done_at entries due = done_or_gone (find_ticket due.ticket entries)
+
+-- each entry that is due was answered, so that a tick only lets them go: no memory is wanted for that
+abbrev pub only_done_due : ℕ → List PlainEntry → Bool
+only_done_due now entries = list_all (is_done_at entries) (due_list now entries)

@@ -27,9 +27,13 @@ abbrev pub state_after : RealmState → Turn → RealmState
 state_after old (refuses why) = old
 state_after old (sends packets state) = state
 
--- an event whose moment is above 2^62 milliseconds is refused
+-- the latest moment of an event, in milliseconds: so no deadline passes 2^64
+abbrev pub latest_moment : ℕ
+latest_moment = 2 ^ 62
+
+-- an event whose moment is above it is refused
 abbrev pub in_time : ℕ → Turn → Turn
-in_time now turn = if nat_lt (2 ^ 62) now then refuses refusal.Moment else turn
+in_time now turn = if nat_lt latest_moment now then refuses refusal.Moment else turn
 
 -- the packets of an answer
 abbrev pub shown_outs : {A : Type 0} → List (Out A) → List PlainOut

@@ -7,14 +7,15 @@ ghost use Rattle.roam_route.specs.Shown.{shown_job};
 ghost use Rattle.roam_pending.specs.DueOrder.{due_list};
 ghost use Rattle.roam_book.specs.RealmConfig.{realm_config};
 ghost use Rattle.roam_book.specs.RealmState.{opening};
-ghost use Rattle.roam_book.specs.Turn.{Answers, Gives, packets_of};
+ghost use Rattle.roam_book.specs.Turn.{Answers, Gives, packets_of, sends};
 ghost use Rattle.roam_book.specs.OnTick.{on_tick};
 ghost use Rattle.roam_book.specs.OneRealm.{event_of, on_event, request_came};
 ghost use Rattle.roam_book.specs.Sound.{IsRequest, shown_request};
-ghost use Rattle.roam_book.specs.Rooms.{IsRoomFor};
+ghost use Rattle.roam_book.specs.Rooms.{IsRoomFor, only_done_due};
 ghost use Rattle.roam_book.specs.BookView.{IsTakenFrom, is_link, settings_of};
 
-use crate::answer::{Answer, refused};
+use crate::answer::{Answer, nothing, refused};
+use crate::letting_go::only_done_due;
 use crate::numbers::Numbers;
 use crate::realm::Realm;
 use crate::requests::LATEST;
@@ -221,18 +222,48 @@ impl<'c, A: Allocator + Copy> Book<'c, A> {
         realm.on_tick(now, room)
     }
 
+    /// A tick at a moment in milliseconds at which only done entries are due: they go, and nothing is
+    /// sent. Takes no memory.
+    pub fn let_go(&mut self, now: u64)
+        requires moment { now ≤ 2 ^ 62 }
+        requires done { only_done_due now self.old.state.entries ≡ true }
+        ensures turn { on_tick (settings_of self.old) now self.old.state ≡ sends [] self.new.state }
+        ensures config { self.new.config ≡ self.old.config }
+        ensures realm { self.new.realm ≡ self.old.realm }
+    {
+        let settings = Settings::new(self.config, self.realm);
+        let mut realm = Realm {
+            settings: &settings,
+            entries: &mut self.entries,
+            numbers: &mut self.numbers,
+        };
+        realm.let_go(now);
+    }
+
+    /// Whether each entry that is due at a moment in milliseconds was answered. Takes no memory.
+    pub fn has_only_done_due(&self, now: u64) -> bool
+        ensures { result ≡ only_done_due now self.now.state.entries }
+    {
+        only_done_due(&self.entries, self.realm, now)
+    }
+
     /// A tick at a moment in milliseconds. `NoMemory` comes where a growth was refused; the book is
-    /// then as it was. No memory is wanted where nothing is due, and where the moment is refused.
+    /// then as it was. No memory is wanted where each entry that is due was answered, so that they only
+    /// go, and where the moment is refused.
     pub fn tick(&mut self, now: u64) -> Result<Answer<A>, NoMemory>
         ensures turn { Gives result self.old.state self.new.state
             (on_tick (settings_of self.old) now self.old.state) }
-        ensures nothing_due { due_list now self.old.state.entries ≡ [] → IsOk result }
+        ensures only_done { only_done_due now self.old.state.entries ≡ true → IsOk result }
         ensures too_late { 2 ^ 62 < now → IsOk result }
         ensures config { self.new.config ≡ self.old.config }
         ensures realm { self.new.realm ≡ self.old.realm }
     {
         if now > LATEST {
             return Ok(refused(self.numbers.alloc, Refusal::Moment));
+        }
+        if self.has_only_done_due(now) {
+            self.let_go(now);
+            return Ok(nothing(self.numbers.alloc));
         }
         let room = self.tick_room(now)?;
         Ok(self.tick_reserved(now, room))

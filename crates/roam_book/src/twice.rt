@@ -8,10 +8,10 @@ ghost use Rattle.roam_book.specs.Turn.{packets_of};
 ghost use Rattle.roam_book.specs.OnTick.{on_tick};
 ghost use Rattle.roam_book.specs.OneRealm.{event_of, on_event};
 ghost use Rattle.roam_book.specs.RealmTurn.{GivesTwice};
-ghost use Rattle.roam_book.specs.Rooms.{IsRoomFor};
+ghost use Rattle.roam_book.specs.Rooms.{IsRoomFor, only_done_due};
 ghost use Rattle.roam_book.specs.BookView.{is_link, settings_of};
 
-use crate::answer::{Twin, refused};
+use crate::answer::{Twin, nothing, refused};
 use crate::book::{Book, asked_by, link_of};
 use crate::realm::Realm;
 use crate::requests::LATEST;
@@ -99,7 +99,7 @@ impl<'c, A: Allocator + Copy> Book<'c, A> {
     pub fn tick_twice(&mut self, now: u64) -> Result<Twin<A>, NoMemory>
         ensures turn { GivesTwice result self.old.state self.new.state
             (on_tick (settings_of self.old) now self.old.state) }
-        ensures nothing_due { due_list now self.old.state.entries ≡ [] → IsOk result }
+        ensures only_done { only_done_due now self.old.state.entries ≡ true → IsOk result }
         ensures too_late { 2 ^ 62 < now → IsOk result }
         ensures config { self.new.config ≡ self.old.config }
         ensures realm { self.new.realm ≡ self.old.realm }
@@ -107,6 +107,12 @@ impl<'c, A: Allocator + Copy> Book<'c, A> {
         if now > LATEST {
             let answer = refused(self.numbers.alloc, Refusal::Moment);
             let copy = refused(self.numbers.alloc, Refusal::Moment);
+            return Ok(Twin { answer, copy });
+        }
+        if self.has_only_done_due(now) {
+            self.let_go(now);
+            let answer = nothing(self.numbers.alloc);
+            let copy = nothing(self.numbers.alloc);
             return Ok(Twin { answer, copy });
         }
         let room = self.tick_room_for_two(now)?;

@@ -6,6 +6,7 @@ use Rattle.std.specs.Cmp.Lexicographic.{pointwise}
 use Rattle.std.proofs.lemmas.Bool.{cases_Bool}
 use Rattle.std.proofs.lemmas.Bool.Decides.{nat_tests}
 use Rattle.std.proofs.lemmas.List.{length-append}
+use Rattle.std.proofs.lemmas.Option.{slice_get_within}
 use Rattle.roam_wire.specs.Packet.{Packet}
 use Rattle.roam_wire.specs.Reading.{packet_of}
 use Rattle.roam_wire.specs.declared.refusal.Refusal.{Refusal}
@@ -15,6 +16,7 @@ use Rattle.roam_pending.specs.ListLaws.{IsIn}
 use Rattle.roam_pending.specs.declared.due.Due.{Due}
 use Rattle.roam_pending.specs.DueOrder.{due_list}
 use Rattle.roam_pending.specs.PlainEntry.{PlainRequest, PlainStanding, PlainEntry, waiting, done}
+use Rattle.roam_pending.proofs.TestLemmas.{compared}
 use Rattle.roam_pending.specs.EntryList.{find_client, find_link, find_ticket, first_done, without_client}
 use Rattle.roam_book.specs.RealmConfig.{RealmConfig}
 use Rattle.roam_book.specs.RealmState.{RealmState, Target, opening}
@@ -26,7 +28,7 @@ use Rattle.roam_book.specs.OneRealm.{RealmEvent, request_came, reply_came, tick_
 use Rattle.roam_book.specs.declared.start.Start.{Start}
 use Rattle.roam_core.specs.Draws.{DrawsAt, drawn, drawn_between, drawn_by, drawn_by_dues}
 use Rattle.roam_core.specs.Openings.{state_then}
-use Rattle.roam_core.specs.ProvenanceLaws.{WordsAreDrawnInOrder, WordsAreDrawnOnce}
+use Rattle.roam_core.specs.ProvenanceLaws.{DrawsAreApart, WordsAreDrawnInOrder, WordsAreDrawnOnce}
 use Rattle.roam_core.proofs.OriginRequestLemmas.{moves, next_position}
 use Rattle.roam_core.proofs.RealmRunLemmas.{state-append}
 use Rattle.roam_core.proofs.SentLemmas.{either}
@@ -276,6 +278,22 @@ is-draw c start before e p draw =
 -- of two numbers in one stream the words differ
 differ : (place i j p o : ℕ) → i < j → j < 2 ^ 66 → At place i p → At place j o → p % 2 ^ 68 ≡ o % 2 ^ 68 → ⊥
 differ place i j p o less within a b same = omega (arith, less, within, a, b, same)
+
+-- two draws of one list
+pub draws_are_apart : DrawsAreApart
+draws_are_apart c start events i j p o few here there same =
+    let own = drawn c (opening c start) events in
+    let within = slice_get_within own i p here in
+    let below = slice_get_within own j o there in
+    let first = words_are_drawn_in_order c start events i p here in
+    let second = words_are_drawn_in_order c start events j o there in
+    elim (compared i j) as (λ _. i ≡ j) [
+      | inl less ↦ absurd (differ start.place i j p o less (omega (arith, below, few)) first second same)
+      | inr rest ↦ elim rest as (λ _. i ≡ j) [
+        | inl is ↦ is
+        | inr more ↦ absurd (differ start.place j i o p more (omega (arith, within, few)) second first (sym same))
+      ]
+    ]
 
 not-later : (c : RealmConfig) (start : Start) (events xs ys mid rest : List RealmEvent) (e f : RealmEvent) (p o : ℕ)
     → count c start events ≤ 2 ^ 66 → IsDraw c start xs e p → IsDraw c start ys f o → p % 2 ^ 68 ≡ o % 2 ^ 68

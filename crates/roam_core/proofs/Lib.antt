@@ -13,6 +13,7 @@ pub mod OwnPartLemmas
 pub mod RunLemmas
 pub mod BookLemmas
 pub mod ShardLemmas
+pub mod LettingGoLemmas
 pub mod OriginLemmas
 pub mod OriginRequestLemmas
 pub mod OriginReplyLemmas

@@ -5,7 +5,7 @@ use Rattle.std.proofs.lemmas.Option.{unwrap_or-slice_get}
 use Rattle.std.specs.Option.{unwrap_or}
 use Rattle.roam_conf.specs.Config.{ConfigView, PeerView, RealmView}
 use Rattle.roam_route.specs.Admission.{Admission, Arrival, PlainJob, refused, rejected, admitted, admission}
-use Rattle.roam_route.specs.OwnPart.{own}
+use Rattle.roam_route.specs.OwnPart.{HaveSamePart, own}
 use Rattle.roam_route.proofs.OwnLemmas.{own_part_decides}
 use Rattle.roam_book.specs.RealmConfig.{RealmConfig, no_realm, realm_config}
 use Rattle.roam_book.specs.OneRealm.{RealmEvent, event_of, tick_came}
@@ -27,34 +27,34 @@ by-own realm now (refused why) = refl
 by-own realm now (rejected out) = refl
 by-own realm now (admitted job) = chosen (job.realm == realm) now job
 
-given-same : (one other : ConfigView) (realm : ℕ) (e : PlainEvent) → AgreeFor one other realm → given_to_realm one realm e ≡ given_to_realm other realm e
-given-same one other realm (arrives now a) agree =
+given-same : (one other : ConfigView) (realm : ℕ) (e : PlainEvent) → HaveSamePart one other realm → one.shards ≡ other.shards → given_to_realm one realm e ≡ given_to_realm other realm e
+given-same one other realm (arrives now a) part shards =
     by-own realm now (admission one a)
-    ∙ ap (of_own now) (own_part_decides one other realm a agree.part)
+    ∙ ap (of_own now) (own_part_decides one other realm a part)
     ∙ sym (by-own realm now (admission other a))
-given-same one other realm (ticks now shard) agree = rw agree.shards refl
+given-same one other realm (ticks now shard) part shards = rw shards refl
 
 pub same_own_events : SameOwnEvents
-same_own_events one other realm [] agree = refl
-same_own_events one other realm (e ∷ es) agree =
-    ap (λ (l : List RealmEvent). l ++ events_of_realm one realm es) (given-same one other realm e agree)
-    ∙ ap (λ (l : List RealmEvent). given_to_realm other realm e ++ l) (same_own_events one other realm es agree)
+same_own_events one other realm [] part shards = refl
+same_own_events one other realm (e ∷ es) part shards =
+    ap (λ (l : List RealmEvent). l ++ events_of_realm one realm es) (given-same one other realm e part shards)
+    ∙ ap (λ (l : List RealmEvent). given_to_realm other realm e ++ l) (same_own_events one other realm es part shards)
 
 -- a realm's part of the configuration, from what it is made of
-abbrev part : List ℕ → ℕ → RealmView → List PeerView → RealmConfig
-part seed index realm peers = record { seed = seed; index = index; realm = realm; peers = peers }
+abbrev made_of : List ℕ → ℕ → RealmView → List PeerView → RealmConfig
+made_of seed index realm peers = record { seed = seed; index = index; realm = realm; peers = peers }
 
 same-part : (one other : ConfigView) (realm : ℕ) → AgreeFor one other realm → realm_config one realm ≡ realm_config other realm
 same-part one other realm agree =
     let entry = sym (unwrap_or-slice_get one.realms realm no_realm)
     ∙ ap (λ (o : Option RealmView). unwrap_or o no_realm) agree.part.entry
     ∙ unwrap_or-slice_get other.realms realm no_realm in
-    ap (λ (s : List ℕ). part s realm (realm_config one realm).realm one.peers) agree.seed
-    ∙ ap (λ (r : RealmView). part other.seed realm r one.peers) entry
-    ∙ ap (λ (ps : List PeerView). part other.seed realm (realm_config other realm).realm ps) agree.part.peers
+    ap (λ (s : List ℕ). made_of s realm (realm_config one realm).realm one.peers) agree.seed
+    ∙ ap (λ (r : RealmView). made_of other.seed realm r one.peers) entry
+    ∙ ap (λ (ps : List PeerView). made_of other.seed realm (realm_config other realm).realm ps) agree.part.peers
 
 pub same_packets : SamePacketsOfOwnPart
 same_packets one other realm ss ts events some here there agree starts =
     same_in_two_worlds_from_start realm one other ss ts events events some
     (subst (λ (n : ℕ). 1 ≤ n) agree.shards some) here there (same-part one other realm agree) starts
-    (same_own_events one other realm events agree)
+    (same_own_events one other realm events agree.part agree.shards)

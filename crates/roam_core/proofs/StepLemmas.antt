@@ -6,13 +6,14 @@ use Rattle.roam_book.specs.declared.answer.Answer.{Answer}
 use Rattle.roam_core.specs.BrokerView.{BrokerView}
 use Rattle.roam_core.specs.Events.{PlainEvent}
 use Rattle.roam_core.specs.ManyRealms.{answer_to}
-use Rattle.roam_core.specs.Steps.{EventWantsMemory, GivesAnswer, StepsTo}
+use Rattle.roam_core.specs.Steps.{EventWantsMemory, GivesAnswer, SomeEntryWaits, StepsTo}
 
 pub steps_to :
     {A : Type 0} (r : Result (Answer A) NoMemory) (old new : BrokerView) (e : PlainEvent)
     → GivesAnswer r old.states new.states (answer_to old.config old.states e)
     → new.config ≡ old.config → (IsErr r → EventWantsMemory old.config e)
+    → (IsErr r → SomeEntryWaits old e)
     → StepsTo old e (is_ok r) new
-steps_to (Ok answer) old new e gives same wants = record { config = same; states = gives.states }
-steps_to (Err why) old new e gives same wants =
-    record { config = same; states = gives; wanted = wants refl }
+steps_to (Ok answer) old new e gives same wants waits = record { config = same; states = gives.states }
+steps_to (Err why) old new e gives same wants waits =
+    record { config = same; states = gives; wanted = wants refl; waits = waits refl }

@@ -1,13 +1,13 @@
 -- The random words that a realm draws from its stream: for each Access-Request that it forwards, the four
 -- words of a Request Authenticator, which is to be unpredictable and unique (RFC 2865, section 3; that they
 -- are words of one stream, one after the other, is ours).
-use Rattle.std.specs.Prelude.{ℕ, ◌^◌, ◌==◌, nat_lt, List, [], ◌∷◌, ◌++◌, if◌then◌else◌}
+use Rattle.std.specs.Prelude.{ℕ, ◌==◌, nat_lt, List, [], ◌∷◌, ◌++◌, if◌then◌else◌}
 use Rattle.roam_pending.specs.ListLaws.{IsIn}
 use Rattle.roam_pending.specs.declared.due.Due.{Due}
 use Rattle.roam_pending.specs.DueOrder.{due_list}
 use Rattle.roam_book.specs.RealmConfig.{RealmConfig}
 use Rattle.roam_book.specs.RealmState.{RealmState}
-use Rattle.roam_book.specs.Turn.{state_after}
+use Rattle.roam_book.specs.Turn.{latest_moment, state_after}
 use Rattle.roam_book.specs.OnTick.{due_one}
 use Rattle.roam_book.specs.OneRealm.{RealmEvent, request_came, reply_came, tick_came, on_event}
 use Rattle.roam_book.specs.declared.start.Start.{Start}
@@ -32,7 +32,7 @@ drawn_by c s (request_came now named q) =
     drawn_between s (state_after s (on_event c s (request_came now named q)))
 drawn_by c s (reply_came now l octets) = []
 drawn_by c s (tick_came now) =
-    if nat_lt (2 ^ 62) now then [] else drawn_by_dues c now s (due_list now s.entries)
+    if nat_lt latest_moment now then [] else drawn_by_dues c now s (due_list now s.entries)
 
 -- those of a list of events, in order
 abbrev pub drawn : RealmConfig → RealmState → List RealmEvent → List ℕ

@@ -1,13 +1,13 @@
 -- The written broker of many realms (ours): what it answers an event with, and how its realms then
 -- stand: one state for each realm, in the order of their indexes.
-use Rattle.std.specs.Prelude.{ℕ, ◌+◌, ◌^◌, nat_lt, List, [], ◌∷◌, ◌++◌, slice_index_or, slice_set, Option, Some, None, if◌then◌else◌}
+use Rattle.std.specs.Prelude.{ℕ, ◌+◌, nat_lt, List, [], ◌∷◌, ◌++◌, slice_index_or, slice_set, Option, Some, None, if◌then◌else◌}
 use Rattle.roam_wire.specs.declared.refusal.Refusal.{Refusal}
 use Rattle.roam_wire.specs.declared.refusal.Refusal.TheVariants as refusal
 use Rattle.roam_conf.specs.Config.{ConfigView}
 use Rattle.roam_route.specs.Admission.{PlainOut, Admission, refused, rejected, admitted, admission}
 use Rattle.roam_book.specs.RealmConfig.{realm_config}
 use Rattle.roam_book.specs.RealmState.{RealmState}
-use Rattle.roam_book.specs.Turn.{Turn, refuses, sends, packets_of, state_after}
+use Rattle.roam_book.specs.Turn.{Turn, latest_moment, refuses, sends, packets_of, state_after}
 use Rattle.roam_book.specs.OnTick.{on_tick}
 use Rattle.roam_book.specs.OneRealm.{event_of, on_event}
 use Rattle.roam_core.specs.Events.{PlainEvent, arrives, ticks, is_in_shard}
@@ -89,7 +89,7 @@ tick_all config states now shard =
 abbrev pub to_tick : ConfigView → List RealmState → ℕ → ℕ → BrokerTurn
 to_tick config states now shard =
     if nat_lt shard config.shards
-    then if nat_lt (2 ^ 62) now then refuses_it refusal.Moment else tick_all config states now shard
+    then if nat_lt latest_moment now then refuses_it refusal.Moment else tick_all config states now shard
     else refuses_it refusal.NoShard
 
 -- what the broker answers an event with

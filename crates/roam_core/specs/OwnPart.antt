@@ -15,10 +15,11 @@ pub record AgreeFor (one other : ConfigView) (realm : ℕ) : Type 0 where
   pub seed : one.seed ≡ other.seed
   pub shards : one.shards ≡ other.shards
 
--- then any list of events gives the same events to the realm
+-- then any list of events gives the same events to the realm, whatever the seeds
 abbrev pub SameOwnEvents : Type 0
 SameOwnEvents =
-    (one other : ConfigView) (realm : ℕ) (events : List PlainEvent) → AgreeFor one other realm
+    (one other : ConfigView) (realm : ℕ) (events : List PlainEvent)
+    → HaveSamePart one other realm → one.shards ≡ other.shards
     → events_of_realm one realm events ≡ events_of_realm other realm events
 
 -- and begun at the same start it sends the same packets: no other realm's configuration changes them

@@ -46,7 +46,18 @@ WordsAreDrawnInOrder =
     → slice_get (drawn c (opening c start) events) i ≡ Some position
     → position % 2 ^ 68 ≡ (start.place + 4 * i) % 2 ^ 68
 
--- so no words are drawn twice, up to 2^66 draws, which are a whole stream: two places of the list where words
+-- so no two draws of a list of events take words of one position, up to 2^66 draws, which are a whole stream:
+-- neither in two turns nor in one tick
+abbrev pub DrawsAreApart : Type 0
+DrawsAreApart =
+    (c : RealmConfig) (start : Start) (events : List RealmEvent) (i j position other : ℕ)
+    → length (drawn c (opening c start) events) ≤ 2 ^ 66
+    → slice_get (drawn c (opening c start) events) i ≡ Some position
+    → slice_get (drawn c (opening c start) events) j ≡ Some other
+    → position % 2 ^ 68 ≡ other % 2 ^ 68
+    → i ≡ j
+
+-- and by their turns: two places of the list where words
 -- are drawn from one position are one. Forwarded Access-Requests of two turns never have an Authenticator of
 -- the same words (RFC 2865, section 3: it is to be unique)
 abbrev pub WordsAreDrawnOnce : Type 0

@@ -1,12 +1,12 @@
 -- The memory of a shard's tick (ours): no definition of what the broker does rests on it.
-use Rattle.std.specs.Prelude.{◌≡◌, ℕ, ◌+◌, Bool, List, [], ◌∷◌, ◌++◌, length, Option, Some, None, is_some}
+use Rattle.std.specs.Prelude.{◌≡◌, ℕ, ◌+◌, ◌&&◌, ◌||◌, Bool, true, not, List, [], ◌∷◌, ◌++◌, length, Option, Some, None, is_some}
 use Rattle.roam_conf.specs.Config.{ConfigView}
 use Rattle.roam_pending.specs.PlainEntry.{PlainEntry}
 use Rattle.roam_book.specs.RealmConfig.{realm_config}
 use Rattle.roam_book.specs.RealmState.{RealmState}
 use Rattle.roam_book.specs.Turn.{Turn, sends, packets_of, state_after}
 use Rattle.roam_book.specs.OnTick.{on_tick}
-use Rattle.roam_book.specs.Rooms.{IsRoomFor}
+use Rattle.roam_book.specs.Rooms.{IsRoomFor, only_done_due}
 use Rattle.roam_book.specs.declared.room.Room.{Room}
 use Rattle.roam_core.specs.Events.{is_in_shard}
 use Rattle.roam_core.specs.ManyRealms.{AllRealms}
@@ -63,3 +63,11 @@ tick_in config now realm (s ∷ ss) (room ∷ rooms) =
       packets = packets_of turn ++ others.packets;
       states = state_after s turn ∷ others.states;
     }
+
+-- at a shard's tick each entry that is due in its realms, from this index on, was answered: the tick only lets
+-- them go, and wants no memory
+abbrev pub only_done_from : ConfigView → ℕ → ℕ → ℕ → List RealmState → Bool
+only_done_from config now shard realm [] = true
+only_done_from config now shard realm (s ∷ ss) =
+    (not (is_in_shard config shard realm) || only_done_due now s.entries)
+    && only_done_from config now shard (realm + 1) ss

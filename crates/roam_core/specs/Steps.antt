@@ -1,14 +1,15 @@
 -- What a call that answers one event gives (ours).
-use Rattle.std.specs.Prelude.{◌≡◌, ◌<◌, ◌≤◌, ◌^◌, Bool, true, false, List, Result, Ok, Err}
+use Rattle.std.specs.Prelude.{◌≡◌, ◌<◌, ◌≤◌, Bool, true, false, List, Result, Ok, Err}
 use Rattle.roam_wire.specs.declared.refusal.NoMemory.{NoMemory}
 use Rattle.roam_conf.specs.Config.{ConfigView}
 use Rattle.roam_route.specs.Admission.{admission}
 use Rattle.roam_route.specs.Shown.{WantsMemory}
 use Rattle.roam_book.specs.RealmState.{RealmState}
-use Rattle.roam_book.specs.Turn.{shown_outs}
+use Rattle.roam_book.specs.Turn.{latest_moment, shown_outs}
 use Rattle.roam_book.specs.declared.answer.Answer.{Answer}
 use Rattle.roam_core.specs.Events.{PlainEvent, arrives, ticks}
 use Rattle.roam_core.specs.BrokerView.{BrokerView}
+use Rattle.roam_core.specs.ShardRooms.{only_done_from}
 use Rattle.roam_core.specs.ManyRealms.{BrokerTurn, answer_to, packets_in_turn, refusal_given, states_after}
 
 -- an answer and the states after it are those of a turn
@@ -30,18 +31,24 @@ GivesAnswer (Err e) old new turn = new ≡ old
 -- refused for its cause, whatever memory there is
 abbrev pub EventWantsMemory : ConfigView → PlainEvent → Type 0
 EventWantsMemory config (arrives now a) = WantsMemory (admission config a)
-EventWantsMemory config (ticks now shard) = (shard < config.shards) × (now ≤ 2 ^ 62)
+EventWantsMemory config (ticks now shard) = (shard < config.shards) × (now ≤ latest_moment)
 
 -- an event was answered: its realms stand as the written broker's do after it
 pub record WasAnswered (old : BrokerView) (e : PlainEvent) (new : BrokerView) : Type 0 where
   pub config : new.config ≡ old.config
   pub states : new.states ≡ states_after old.states (answer_to old.config old.states e)
 
+-- a tick at which each entry that is due was answered wants no memory
+abbrev pub SomeEntryWaits : BrokerView → PlainEvent → Type 0
+SomeEntryWaits old (arrives now a) = Unit {0}
+SomeEntryWaits old (ticks now shard) = only_done_from old.config now shard 0 old.states ≡ false
+
 -- an event was lost: it wants memory, and nothing changed
 pub record WasLost (old : BrokerView) (e : PlainEvent) (new : BrokerView) : Type 0 where
   pub config : new.config ≡ old.config
   pub states : new.states ≡ old.states
   pub wanted : EventWantsMemory old.config e
+  pub waits : SomeEntryWaits old e
 
 -- what a step of a broker says of itself: from how it stood, with an event, whether it was answered, to
 -- how it stands then

@@ -1,20 +1,22 @@
 //! The broker over a list of books, one for each realm.
 
-ghost use Rattle.std.specs.Prelude.{◌≡◌, ◌+◌, ◌<◌, ◌≤◌, ◌++◌, [], ◌∷◌, Some, None, length, slice_set, IfOk, IsErr, vec_len, vec_capacity};
+ghost use Rattle.std.specs.Prelude.{◌≡◌, ◌+◌, ◌<◌, ◌≤◌, ◌^◌, ◌++◌, [], ◌∷◌, Some, None, false, true, length, slice_set, IfOk, IsErr, vec_len, vec_capacity};
 ghost use Rattle.roam_conf.specs.Shown.{shown};
 ghost use Rattle.roam_route.specs.Admission.{admitted, admission};
 ghost use Rattle.roam_route.specs.Events.{IsEvent};
 ghost use Rattle.roam_route.specs.Shown.{WantsMemory, shown_arrival, shown_job, shown_out};
 ghost use Rattle.roam_book.specs.BookView.{settings_of};
 ghost use Rattle.roam_book.specs.OneRealm.{event_of, on_event};
-ghost use Rattle.roam_book.specs.Turn.{Gives, packets_of, shown_outs, state_after};
-ghost use Rattle.roam_core.specs.ManyRealms.{state_at, to_arrival, to_tick};
+ghost use Rattle.roam_book.specs.Rooms.{only_done_due};
+ghost use Rattle.roam_book.specs.Turn.{Gives, packets_of, sends, shown_outs, state_after};
+ghost use Rattle.roam_core.specs.Events.{is_in_shard};
+ghost use Rattle.roam_core.specs.ManyRealms.{state_at, tick_from, tick_of, to_arrival, to_tick};
 ghost use Rattle.roam_core.specs.Steps.{GivesAnswer, StepsTo};
 ghost use Rattle.roam_core.specs.Openings.{fresh};
-ghost use Rattle.roam_core.specs.ShardRooms.{AllFit, Fits, most_of, most_of_all, tick_in, turn_in};
+ghost use Rattle.roam_core.specs.ShardRooms.{AllFit, Fits, most_of, most_of_all, only_done_from, tick_in, turn_in};
 
 use crate::event::Event;
-use crate::shard_room::{ShardRoom, room_of_shard};
+use crate::shard_room::{ShardRoom, has_only_done, room_of_shard};
 use crate::stepper::Stepper;
 use roam_book::{Answer, Book, LATEST, Room, Start, refused};
 use roam_conf::Config;
@@ -22,6 +24,17 @@ use roam_route::{Datagram, Job, Out, Prepared, Side, prepare};
 use roam_wire::{NoMemory, Refusal};
 use std::alloc::Allocator;
 use std::marker::Model;
+
+/// Nothing is sent. Takes no memory.
+fn nothing<A: Allocator>(alloc: A) -> Answer<A>
+    ensures outs { shown_outs result.outs.items ≡ [] }
+    ensures refusal { result.refusal ≡ None }
+{
+    Answer {
+        outs: Vec::new(alloc),
+        refusal: None,
+    }
+}
 
 /// A local reject is sent.
 fn rejected<A: Allocator>(alloc: A, out: Out<A>) -> Result<Answer<A>, NoMemory>
@@ -183,13 +196,47 @@ impl<'c, A: Allocator + Copy> Broker<'c, A> {
         }
     }
 
-    /// Answers a shard's tick: all its memory is taken before anything changes.
+    /// A realm's part of a tick at which only done entries are due: they go, where the realm belongs to the
+    /// shard. Takes no memory.
+    fn let_one_go(&mut self, now: u64, shard: u16, realm: usize)
+        requires there { realm < length self.old.states }
+        requires moment { now ≤ 2 ^ 62 }
+        requires done { is_in_shard self.old.config shard realm ≡ true
+            → only_done_due now (state_at self.old.states realm).entries ≡ true }
+        ensures turn { tick_of self.old.config now shard realm (state_at self.old.states realm)
+            ≡ sends [] (state_at self.new.states realm) }
+        ensures states { self.new.states
+            ≡ slice_set self.old.states realm (state_at self.new.states realm) }
+        ensures config { self.new.config ≡ self.old.config }
+    {
+        if self.config.shard_of(realm as u16) == shard {
+            self.books[realm].let_go(now);
+        }
+    }
+
+    /// A tick at which only done entries are due: they go, and nothing is sent. Takes no memory.
+    fn let_go(&mut self, now: u64, shard: u16)
+        requires moment { now ≤ 2 ^ 62 }
+        requires done { only_done_from self.old.config now shard 0 self.old.states ≡ true }
+        ensures packets { (tick_from self.old.config now shard 0 self.old.states).packets ≡ [] }
+        ensures states { (tick_from self.old.config now shard 0 self.old.states).states
+            ≡ self.new.states }
+        ensures config { self.new.config ≡ self.old.config }
+    {
+        for realm in 0..self.books.len() {
+            self.let_one_go(now, shard, realm);
+        }
+    }
+
+    /// Answers a shard's tick: all its memory is taken before anything changes. Where each entry that is due
+    /// was answered, so that they only go, none is wanted.
     fn tick(&mut self, now: u64, shard: u16) -> Result<Answer<A>, NoMemory>
         ensures turn { GivesAnswer result self.old.states self.new.states
             (to_tick self.old.config self.old.states now shard) }
         ensures config { self.new.config ≡ self.old.config }
         ensures there { IsErr result → shard < self.old.config.shards }
         ensures in_time { IsErr result → now ≤ LATEST }
+        ensures waits { IsErr result → only_done_from self.old.config now shard 0 self.old.states ≡ false }
         ensures whole { length self.old.states ≡ length self.old.config.realms }
         ensures shards { 1 ≤ self.old.config.shards }
     {
@@ -198,6 +245,10 @@ impl<'c, A: Allocator + Copy> Broker<'c, A> {
         }
         if now > LATEST {
             return Ok(refused(self.alloc, Refusal::Moment));
+        }
+        if has_only_done(self.config, &self.books, now, shard) {
+            self.let_go(now, shard);
+            return Ok(nothing(self.alloc));
         }
         let room = room_of_shard(self.alloc, self.config, &self.books, now, shard)?;
         Ok(self.tick_in(now, room))

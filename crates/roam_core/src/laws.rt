@@ -4,7 +4,7 @@
 ghost use Rattle.roam_core.specs.Alone.{OneRealmIsAlone};
 ghost use Rattle.roam_core.specs.Isolation.{EachIsIsolatedFromStart, EachLedgerIsIsolated, EachRealmIsIsolated, EachRealmOpens, EachRealmStandsAlone, SameInTwoWorlds, SameInTwoWorldsFromStart};
 ghost use Rattle.roam_core.specs.OwnPart.{SameOwnEvents, SamePacketsOfOwnPart};
-ghost use Rattle.roam_core.specs.ProvenanceLaws.{EachEntryHasOrigin, EachPacketHasOrigin, OneRequestHasTicket, TicketIsGivenOnce, WordsAreDrawnInOrder, WordsAreDrawnOnce};
+ghost use Rattle.roam_core.specs.ProvenanceLaws.{DrawsAreApart, EachEntryHasOrigin, EachPacketHasOrigin, OneRequestHasTicket, TicketIsGivenOnce, WordsAreDrawnInOrder, WordsAreDrawnOnce};
 
 /// Whatever the events, what the broker sends for a realm, and how the realm then stands, is what the
 /// written broker of that one realm does with the realm's own events.
@@ -55,5 +55,6 @@ pub fn provenance()
     ensures tickets { TicketIsGivenOnce }
     ensures requests { OneRequestHasTicket }
     ensures words { WordsAreDrawnInOrder }
+    ensures apart { DrawsAreApart }
     ensures once { WordsAreDrawnOnce }
 {}

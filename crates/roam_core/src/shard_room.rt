@@ -1,9 +1,11 @@
 //! The memory of a shard's tick, taken before anything changes.
 
-ghost use Rattle.std.specs.Prelude.{◌≡◌, ◌+◌, ◌≤◌, [], length, IfOk, vec_len, vec_capacity};
+ghost use Rattle.std.specs.Prelude.{◌≡◌, ◌+◌, ◌≤◌, ◌||◌, [], length, not, IfOk, vec_len, vec_capacity};
 ghost use Rattle.roam_conf.specs.Shown.{shown};
+ghost use Rattle.roam_book.specs.Rooms.{only_done_due};
 ghost use Rattle.roam_core.specs.BrokerView.{states_of};
-ghost use Rattle.roam_core.specs.ShardRooms.{AreRooms, IsRealmRoom, most_of, most_of_all};
+ghost use Rattle.roam_core.specs.Events.{is_in_shard};
+ghost use Rattle.roam_core.specs.ShardRooms.{AreRooms, IsRealmRoom, most_of, most_of_all, only_done_from};
 
 use roam_book::{Book, Room};
 use roam_conf::Config;
@@ -75,4 +77,36 @@ pub(crate) fn room_of_shard<A: Allocator + Copy>(
     }
     let outs = Vec::with_capacity(alloc, most)?;
     Ok(ShardRoom { rooms, outs })
+}
+
+/// Whether each entry of a realm that is due was answered, where the realm belongs to the shard.
+fn is_done<A: Allocator + Copy>(
+    config: &Config,
+    book: &Book<'_, A>,
+    realm: u16,
+    now: u64,
+    shard: u16,
+) -> bool
+    ensures { result ≡ (not (is_in_shard (shown config.now) shard realm)
+        || only_done_due now book.now.state.entries) }
+{
+    config.shard_of(realm) != shard || book.has_only_done_due(now)
+}
+
+/// Whether each entry that is due in a shard's realms was answered. Takes no memory.
+pub(crate) fn has_only_done<A: Allocator + Copy>(
+    config: &Config,
+    books: &[Book<'_, A>],
+    now: u64,
+    shard: u16,
+) -> bool
+    requires { length books.now ≤ 65536 }
+    ensures { result ≡ only_done_from (shown config.now) now shard 0 (states_of books.now) }
+{
+    for (realm, book) in books.iter().enumerate() {
+        if !is_done(config, book, realm as u16, now, shard) {
+            return false;
+        }
+    }
+    true
 }

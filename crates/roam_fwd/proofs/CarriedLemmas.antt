@@ -1,15 +1,15 @@
 -- What the forwarded packet carries of the request.
 use Rattle.std.proofs.Common.{◌≡◌, ◌≢◌, ℕ, Bool, true, false, inl, inr, List, [], ◌∷◌, ◌++◌, map, refl, ap, ◌∙◌, arith}
-use Rattle.std.specs.Prelude.{if◌then◌else◌, ◌==◌, not}
+use Rattle.std.specs.Prelude.{if◌then◌else◌, ◌==◌}
 use Rattle.std.specs.List.{AllByRecursion, AllZip}
 use Rattle.std.proofs.lemmas.Bool.{cases_Bool, eq-eqb, ne_eqb}
-use Rattle.std.proofs.lemmas.List.Elements.{filter-append}
+use Rattle.std.proofs.lemmas.List.{map-append}
 use Rattle.roam_wire.specs.Packet.{Attribute, Packet}
 use Rattle.roam_wire.specs.Attributes.{has_kind, count_of, without_kind}
 use Rattle.roam_wire.specs.declared.attribute_type.TheConstants.{USER_PASSWORD, MESSAGE_AUTHENTICATOR}
 use Rattle.roam_wire.specs.declared.code.TheConstants.{ACCESS_REQUEST}
 use Rattle.roam_auth.specs.Authenticators.{zero_octets}
-use Rattle.roam_auth.specs.MessageAuthenticator.{attribute_with_value, message_authenticator}
+use Rattle.roam_auth.specs.MessageAuthenticator.{attribute_with_value, attributes_with_value, message_authenticator}
 use Rattle.roam_auth.proofs.ValueLemmas.{stands_in_place}
 use Rattle.roam_auth.proofs.SealingLemmas.{count_of-append}
 use Rattle.roam_hide.specs.Hiding.{Key, IsHiddenAnew, hidden_anew}
@@ -74,18 +74,18 @@ access_carries f q can access =
 
 -- ---- any other request
 
--- another Value in the Message-Authenticator changes no other attribute
-without-with_value : (value : List ℕ) (all : List Attribute) → without_kind MESSAGE_AUTHENTICATOR (map (attribute_with_value value) all) ≡ without_kind MESSAGE_AUTHENTICATOR all
-without-with_value value [] = refl
-without-with_value value (a ∷ all) =
+-- a Value that is left out leaves no trace of another one before it
+left_out : (value : List ℕ) (all : List Attribute) → attributes_with_value [] (map (attribute_with_value value) all) ≡ attributes_with_value [] all
+left_out value [] = refl
+left_out value (a ∷ all) =
     elim (cases_Bool (has_kind MESSAGE_AUTHENTICATOR a)) [
-      | inl seal ↦ rw seal (without-with_value value all)
-      | inr other ↦ rw other (ap (λ (l : List Attribute). a ∷ l) (without-with_value value all))
+      | inl seal ↦ rw seal (ap (λ (l : List Attribute). record { kind = a.kind; value = [] } ∷ l) (left_out value all))
+      | inr other ↦ rw other (ap (λ (l : List Attribute). a ∷ l) (left_out value all))
     ]
 
-pub others_carried : (f : Forwarding) (q : Packet) → q.code ≢ ACCESS_REQUEST → without_kind MESSAGE_AUTHENTICATOR (forwarded f q).attributes ≡ without_kind MESSAGE_AUTHENTICATOR q.attributes ++ ticket_state f.ticket ∷ []
+pub others_carried : (f : Forwarding) (q : Packet) → q.code ≢ ACCESS_REQUEST → attributes_with_value [] (forwarded f q).attributes ≡ attributes_with_value [] q.attributes ++ ticket_state f.ticket ∷ []
 others_carried f q other =
     let seal : List ℕ = message_authenticator f.to_secret zero_octets (with_ticket_and_zeros f q) in
-    ap (λ (p : Packet). without_kind MESSAGE_AUTHENTICATOR p.attributes) (forwarded-is f q other)
-    ∙ without-with_value seal (with_ticket f q.attributes)
-    ∙ filter-append (λ (a : Attribute). not (has_kind MESSAGE_AUTHENTICATOR a)) q.attributes (ticket_state f.ticket ∷ [])
+    ap (λ (p : Packet). attributes_with_value [] p.attributes) (forwarded-is f q other)
+    ∙ left_out seal (with_ticket f q.attributes)
+    ∙ map-append (attribute_with_value []) q.attributes (ticket_state f.ticket ∷ [])

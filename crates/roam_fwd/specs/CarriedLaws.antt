@@ -8,6 +8,7 @@ use Rattle.roam_wire.specs.Reading.{ReadsAs}
 use Rattle.roam_wire.specs.declared.attribute_type.TheConstants.{USER_PASSWORD, MESSAGE_AUTHENTICATOR}
 use Rattle.roam_wire.specs.declared.code.TheConstants.{ACCESS_REQUEST}
 use Rattle.roam_auth.specs.Authenticators.{AreSixteenOctets}
+use Rattle.roam_auth.specs.MessageAuthenticator.{attributes_with_value}
 use Rattle.roam_hide.specs.Hiding.{Key, IsHiddenAnew}
 use Rattle.roam_fwd.specs.Forwarded.{Forwarding, ticket_state, added_challenge, forwarded, CanBeForwarded}
 
@@ -37,9 +38,9 @@ AccessCarriesAll = (f : Forwarding) (request : Packet) → CanBeForwarded reques
     ++ added_challenge request ++ ticket_state f.ticket ∷ [])
     × AllZip (IsCarried from to) (without_kind MESSAGE_AUTHENTICATOR request.attributes) carried
 
--- Any other request's: all of them in their order, octet for octet but for the Message-Authenticator's
--- Value, then the ticket.
+-- Any other request's: all of them in their places, octet for octet but for the Message-Authenticator's
+-- Value, which is left out here on both sides, then the ticket.
 abbrev pub OthersAreCarried : Type 0
 OthersAreCarried = (f : Forwarding) (request : Packet) → request.code ≢ ACCESS_REQUEST →
-    without_kind MESSAGE_AUTHENTICATOR (forwarded f request).attributes
-    ≡ without_kind MESSAGE_AUTHENTICATOR request.attributes ++ ticket_state f.ticket ∷ []
+    attributes_with_value [] (forwarded f request).attributes
+    ≡ attributes_with_value [] request.attributes ++ ticket_state f.ticket ∷ []

@@ -6,6 +6,7 @@ use Rattle.roam_wire.specs.Packet.{Attribute, Packet, packet_length}
 use Rattle.roam_wire.specs.Attributes.{count_of, without_kind}
 use Rattle.roam_wire.specs.declared.attribute_type.TheConstants.{USER_PASSWORD, CHAP_PASSWORD, PROXY_STATE, CHAP_CHALLENGE, MESSAGE_AUTHENTICATOR}
 use Rattle.roam_wire.specs.declared.code.TheConstants.{ACCESS_REQUEST}
+use Rattle.roam_wire.specs.declared.packet_size.TheConstants.{MAX_PACKET_LENGTH}
 use Rattle.roam_auth.specs.Authenticators.{zero_octets, with_authenticator, request_authenticator}
 use Rattle.roam_auth.specs.MessageAuthenticator.{HasAtMostOneMessageAuthenticator, empty_message_authenticator, with_message_authenticator}
 use Rattle.roam_hide.specs.Hiding.{Key, HasWholeBlocks}
@@ -105,4 +106,4 @@ pub record HasPasswordBlocks (a : Attribute) : Type 0 where
 pub record CanBeForwarded (request : Packet) : Type 0 where
   pub message_authenticator : HasAtMostOneMessageAuthenticator request
   pub passwords : request.code ≡ ACCESS_REQUEST → AllByRecursion HasPasswordBlocks request.attributes
-  pub size : forwarded_length request ≤ 4096
+  pub size : forwarded_length request ≤ MAX_PACKET_LENGTH

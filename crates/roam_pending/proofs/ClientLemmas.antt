@@ -9,7 +9,8 @@ use Rattle.roam_conf.specs.declared.place.Link.{Link}
 use Rattle.roam_conf.specs.declared.place.Place.{Place}
 use Rattle.roam_conf.specs.declared.place.Place.TheVariants as place
 use Rattle.roam_pending.specs.declared.key.Key.{Key}
-use Rattle.roam_pending.specs.PlainEntry.{PlainEntry, PlainStanding, waiting, done, has_key, same_endpoint, same_key, same_link, same_place, stands_at, is_done}
+use Rattle.roam_pending.specs.PlainEntry.{PlainEntry, PlainStanding, waiting, done, has_key, same_key, same_link, same_place, stands_at, is_done}
+use Rattle.roam_conf.specs.Duplicates.{same_endpoint}
 use Rattle.roam_pending.specs.EntryList.{IsInOrder, HasDistinctKeys, find_client, find_link, find_ticket, first_done, identifier_on, identifiers_on, without, without_client}
 use Rattle.roam_pending.proofs.TestLemmas.{same, differs, key_is_same, all-find}
 use Rattle.roam_pending.proofs.OrderLemmas.{IsOfOthers, find-above, without-absent}

@@ -8,7 +8,7 @@ use Rattle.roam_pending.specs.declared.due.Due.{Due}
 use Rattle.roam_pending.specs.PlainEntry.{PlainEntry, deadline_of}
 use Rattle.roam_pending.specs.EntryList.{IsInOrder, put, without}
 use Rattle.roam_pending.specs.DueOrder.{is_before, into, due_at, is_due, due_list, is_after, due_after}
-use Rattle.roam_pending.specs.ListLaws.{IsIn, AreRising, IsDueEntry}
+use Rattle.roam_pending.specs.ListLaws.{IsIn, AreInDueOrder, IsDueEntry}
 use Rattle.roam_pending.proofs.TestLemmas.{same, differs, compared, all-weaker}
 use Rattle.roam_pending.proofs.OrderLemmas.{IsAbove, find-above, put-after, put-same, put-before, without-absent}
 use Rattle.roam_pending.proofs.DueLemmas.{IsNotAfter, IsRising, not_after-further, rising-due_list}
@@ -67,7 +67,7 @@ other-due now s (e ∷ es) h =
     ]
 
 strict-into :
-    (d : Due) (ds : List Due) → IsOfOtherTickets d.ticket ds → AreRising ds → AreRising (into d ds)
+    (d : Due) (ds : List Due) → IsOfOtherTickets d.ticket ds → AreInDueOrder ds → AreInDueOrder (into d ds)
 strict-into d [] other h = (tt, tt)
 strict-into d (x ∷ xs) other h =
     elim (cases_Bool (is_before x d)) [
@@ -78,7 +78,7 @@ strict-into d (x ∷ xs) other h =
     ]
 
 -- the list of what is due rises
-pub strict-due : (now : ℕ) (es : List PlainEntry) → IsInOrder es → AreRising (due_list now es)
+pub strict-due : (now : ℕ) (es : List PlainEntry) → IsInOrder es → AreInDueOrder (due_list now es)
 strict-due now [] h = tt
 strict-due now (e ∷ es) h =
     elim (cases_Bool (is_due now e)) [
@@ -279,7 +279,7 @@ all-front P [] ys h = tt
 all-front P (x ∷ xs) ys h = (h.0, all-front P xs ys h.1)
 
 next-after :
-    (d : Due) (ds rest : List Due) → AreRising (d ∷ ds ++ rest)
+    (d : Due) (ds rest : List Due) → AreInDueOrder (d ∷ ds ++ rest)
     → find (is_after (last_or (Some d) ds)) (d ∷ ds ++ rest) ≡ slice_get rest 0
 next-after d [] [] h = rw (not_before_itself d) refl
 next-after d [] (r ∷ rest) h = rw (not_before_itself d, h.0.0) refl
@@ -293,4 +293,4 @@ pub due-next :
     → due_list now es ≡ ds ++ rest → due_after now (last_or None ds) es ≡ slice_get rest 0
 due-next now es [] [] order h = rw h refl
 due-next now es [] (r ∷ rest) order h = rw h refl
-due-next now es (d ∷ ds) rest order h = rw h (next-after d ds rest (subst AreRising h (strict-due now es order)))
+due-next now es (d ∷ ds) rest order h = rw h (next-after d ds rest (subst AreInDueOrder h (strict-due now es order)))

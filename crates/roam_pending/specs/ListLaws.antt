@@ -15,9 +15,9 @@ IsIn x [] = ⊥
 IsIn x (y ∷ ys) = (y ≡ x) ⊎ IsIn x ys
 
 -- each comes before all later ones
-abbrev pub AreRising : List Due → Type 0
-AreRising [] = Unit {0}
-AreRising (d ∷ ds) = AllByRecursion (λ x. is_before d x ≡ true) ds × AreRising ds
+abbrev pub AreInDueOrder : List Due → Type 0
+AreInDueOrder [] = Unit {0}
+AreInDueOrder (d ∷ ds) = AllByRecursion (λ x. is_before d x ≡ true) ds × AreInDueOrder ds
 
 -- an entry of the list whose deadline is reached is due as d says
 pub record IsDueEntry (now : ℕ) (d : Due) (e : PlainEntry) (es : List PlainEntry) : Type 0 where
@@ -128,7 +128,7 @@ UsedIsFound =
 
 -- what is due rises by deadline and ticket, and is just the entries whose deadline is reached
 abbrev pub DueRises : Type 0
-DueRises = (now : ℕ) (es : List PlainEntry) → IsInOrder es → AreRising (due_list now es)
+DueRises = (now : ℕ) (es : List PlainEntry) → IsInOrder es → AreInDueOrder (due_list now es)
 
 abbrev pub DueIsReached : Type 0
 DueIsReached =

@@ -1,7 +1,6 @@
 -- A pending request as a plain record: what the code's entry says, without its buffers.
-use Rattle.std.specs.Prelude.{ℕ, ◌==◌, ◌&&◌, Bool, true, false, List, nat_eq}
-use Rattle.std.specs.Cmp.Lexicographic.{pointwise}
-use Rattle.roam_conf.specs.declared.endpoint.Endpoint.{Endpoint}
+use Rattle.std.specs.Prelude.{ℕ, ◌==◌, ◌&&◌, Bool, true, false, List}
+use Rattle.roam_conf.specs.Duplicates.{same_endpoint}
 use Rattle.roam_conf.specs.declared.place.Link.{Link}
 use Rattle.roam_conf.specs.declared.place.Link.TheVariants as link
 use Rattle.roam_conf.specs.declared.place.Place.{Place}
@@ -33,10 +32,6 @@ same_place place.Acct place.Acct = true
 same_place (place.Out a) (place.Out b) = a == b
 same_place (place.Reverse a) (place.Reverse b) = a == b
 same_place _ _ = false
-
--- one address and one port
-abbrev pub same_endpoint : Endpoint → Endpoint → Bool
-same_endpoint a b = pointwise nat_eq a.ip b.ip && a.port == b.port
 
 -- place, source and Identifier are the same (RFC 2865, section 3: what makes a request a duplicate)
 abbrev pub same_key : Key → Key → Bool

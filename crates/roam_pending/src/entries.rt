@@ -1,6 +1,6 @@
 //! What a realm's rules need of its entries, whatever keeps them.
 
-ghost use Rattle.std.specs.Prelude.{◌≡◌, ◌<◌, ◌≤◌, ◌+◌, ℕ, Bool, List, Some, None, length, OnOk, IsOk, IfSome, IsSomeAnd, IsTrue};
+ghost use Rattle.std.specs.Prelude.{◌≡◌, ◌<◌, ◌≤◌, ◌+◌, ℕ, Bool, List, Some, None, length, OnErr, OnOk, IsOk, IfSome, IsSomeAnd, IsTrue};
 ghost use Rattle.roam_pending.specs.PlainEntry.{PlainEntry};
 ghost use Rattle.roam_pending.specs.EntryList.{IsEntryList, IsNew, HasPlaceOf, find_client, find_ticket, first_done, besides, put, without};
 ghost use Rattle.roam_pending.specs.DueOrder.{due_after};
@@ -57,10 +57,12 @@ pub trait Entries<A: Allocator> {
         ensures found { result ≡ due_after now last (entries_of self.now realm) }
         ensures list { IsEntryList (entries_of self.now realm) };
 
-    /// Makes room for one entry more of the realm. No entry changes.
+    /// Makes room for one entry more of the realm. No entry changes. `NoMemory` comes where there was
+    /// no room and a growth was refused; all is then as it was, but for room that was gained.
     fn reserve(&mut self, realm: u16) -> Result<(), NoMemory>
         requires { IsTrue (keeps self.old realm) }
         ensures ok { OnOk result (0 < room_for self.new realm) }
+        ensures err { OnErr result ((r : ℕ) → room_for self.old r ≤ room_for self.new r) }
         ensures succeeds { 0 < room_for self.old realm → IsOk result }
         ensures entries { entries_of self.new ≡ entries_of self.old }
         ensures room { room_for self.old realm ≤ room_for self.new realm }

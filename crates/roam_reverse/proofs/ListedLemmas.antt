@@ -3,7 +3,7 @@ use Rattle.std.proofs.Common.{◌≡◌, ◌≢◌, ℕ, zero, suc, ◌+◌, ◌
 use Rattle.std.specs.Prelude.{◌||◌, filter, IsSome, if◌then◌else◌}
 use Rattle.std.specs.List.{cons_option, list_any}
 use Rattle.std.proofs.lemmas.Bool.{cases_Bool, cases_eq, or_from}
-use Rattle.roam_reverse.specs.Tickets.{listed}
+use Rattle.roam_wire.specs.Numbered.{listed}
 
 module _ {X : Type 0} where
   -- what passes a test

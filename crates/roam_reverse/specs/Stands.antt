@@ -7,7 +7,8 @@ use Rattle.indexmap.specs.IndexMap.{IndexMap, index_map_len, spare}
 use Rattle.roam_reverse.specs.Row.{session_row}
 use Rattle.roam_reverse.specs.Sessions.{Session}
 use Rattle.roam_reverse.specs.Shown.{shown_session}
-use Rattle.roam_reverse.specs.Tickets.{IsChain, PlainNode, PlainChain, all_listed, session_at, tickets_end}
+use Rattle.roam_reverse.specs.Tickets.{IsChain, PlainNode, PlainChain, all_listed, session_at}
+use Rattle.roam_wire.specs.Numbered.{tickets_end}
 use Rattle.roam_reverse.specs.declared.node.Node.{Node}
 use Rattle.roam_reverse.specs.declared.chain.Chain.{Chain}
 

@@ -1,26 +1,12 @@
 -- Sessions by their tickets, which rise in the order in which the sessions were opened (ours).
-use Rattle.std.specs.Prelude.{◌≡◌, ◌≢◌, ℕ, zero, suc, ◌+◌, ◌<◌, ◌≤◌, ◌==◌, Bool, false, List, [], length, Option, Some, None, IsSome, option_map, if◌then◌else◌}
-use Rattle.std.specs.List.{cons_option}
+use Rattle.std.specs.Prelude.{◌≡◌, ℕ, ◌+◌, ◌<◌, ◌≤◌, ◌==◌, Bool, false, List, length, Option, Some, None, IsSome, option_map, if◌then◌else◌}
+use Rattle.roam_wire.specs.Numbered.{listed, tickets_end}
 use Rattle.roam_reverse.specs.Sessions.{Session, same_session}
 
--- every ticket is below: 2^64
-unfoldable pub tickets_end : ℕ
-tickets_end = 18446744073709551616
-
 module _ {X : Type 0} where
-  -- what so many tickets from t on have, in their order
-  unfoldable pub listed : (ℕ → Option X) → ℕ → ℕ → List X
-  listed f t zero = []
-  listed f t (suc n) = cons_option (f t) (listed f (t + 1) n)
-
   -- what all tickets have
   abbrev pub all_listed : (ℕ → Option X) → List X
   all_listed f = listed f 0 tickets_end
-
-  -- a ticket has this now, and every other one what it had
-  pub record PutsAt (f g : ℕ → Option X) (t : ℕ) (w : Option X) : Type 0 where
-    pub changed : g t ≡ w
-    pub others : (u : ℕ) → u ≢ t → g u ≡ f u
 
   -- v is the first ticket from `least` on that has anything
   pub record IsFirst (f : ℕ → Option X) (least v : ℕ) : Type 0 where

@@ -4,7 +4,8 @@ ghost use Rattle.std.specs.Prelude.{◌≡◌, ℕ, ◌+◌, ◌-◌, ◌<◌, �
 ghost use Rattle.roam_reverse.specs.Sessions.{Session, without_peer};
 ghost use Rattle.roam_reverse.specs.Shown.{shown_session};
 ghost use Rattle.roam_reverse.specs.Stands.{IsSound, chain_of, sessions_of};
-ghost use Rattle.roam_reverse.specs.Tickets.{PutsAt, end_beside, session_at};
+ghost use Rattle.roam_reverse.specs.Tickets.{end_beside, session_at};
+ghost use Rattle.roam_wire.specs.Numbered.{PutsAt};
 
 use crate::index::{Index, find, forget, note, ticket_of};
 use crate::node::{Node, Nodes, peer_and_newer, put, set_newer, set_older, take};

@@ -26,7 +26,7 @@ use Rattle.roam_route.specs.LocalAnswer.{answer_length, local_reject, status_ans
 use Rattle.roam_route.specs.LocalReject.{is_rejected}
 use Rattle.roam_route.specs.Admission.{Arrival, PlainJob, PlainOut, Admission, refused, rejected, admitted, sender, checked, given_to, forwarded_for, answered_by, rejected_for, named, routed, request_admission, packet_admission, sent_admission, read_admission, admission, is_taken, is_rightly_signed, is_rightly_sealed, has_needed_seal, has_few_hops, has_seal, is_status_request, status_admission, status_from, seal_required, peer_secret, home_secret}
 use Rattle.roam_route.specs.Events.{arrival_of, IsEvent, IsPrepared, IsConfigured, IsForwardable, IsNamed, EventHasRealm, EventIsSound}
-use Rattle.roam_route.specs.Shown.{Answers, shown_job}
+use Rattle.roam_route.specs.Shown.{IsAdmission, shown_job}
 use Rattle.roam_route.specs.declared.job.Prepared.{Prepared}
 use Rattle.roam_route.specs.declared.job.Prepared.TheVariants as prepared
 use Rattle.roam_route.specs.declared.job.Side.{Side}
@@ -351,7 +351,7 @@ same_as_sent config a p read = ap (read_admission config a) read
 pub prepared_of_sent : {A : Type 0}
     → (config : ConfigView) (a : Arrival) (p : Packet) (s : Side) (r : Result (Prepared A) Refusal)
     → IsPacket p → reading a.octets ≡ Ok p → sender config a a.at ≡ Some s
-    → Answers r (sent_admission config a p (Some s)) → IfOk r (IsPrepared config a)
+    → IsAdmission r (sent_admission config a p (Some s)) → IfOk r (IsPrepared config a)
 prepared_of_sent config a p s (Err why) packet read from answers = tt
 prepared_of_sent config a p s (Ok (prepared.Job j)) packet read from answers =
     let sent = ap (sent_admission config a p) from in

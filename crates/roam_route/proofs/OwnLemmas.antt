@@ -81,7 +81,13 @@ sent-own realm config a p s =
       | inr not_so ↦ rw not_so refl
     ]
 
-module _ (one other : ConfigView) (realm : ℕ) (same : HaveSamePart one other realm) where
+-- two configurations have the same peers, the same meaning of each name, and the same limit of hops
+pub record LooksAlike (one other : ConfigView) : Type 0 where
+  pub peers : one.peers ≡ other.peers
+  pub names : (name : List ℕ) → realm_named one.realms name ≡ realm_named other.realms name
+  pub max_hops : one.max_hops ≡ other.max_hops
+
+module _ (one other : ConfigView) (same : LooksAlike one other) where
   names-same : (o : Option (List ℕ)) → option_and_then (realm_named one.realms) o ≡ option_and_then (realm_named other.realms) o
   names-same None = refl
   names-same (Some name) = same.names name
@@ -108,23 +114,31 @@ module _ (one other : ConfigView) (realm : ℕ) (same : HaveSamePart one other r
       ∙ ap (asked secret p (seal_required other s) other.max_hops) (routed-same secret a s p a.at)
 
   -- a request of a peer
-  peer-same : (a : Arrival) (i : ℕ) (p : Packet) → request_admission one (peer_secret one i) a (side.Peer i) p ≡ request_admission other (peer_secret other i) a (side.Peer i) p
+  pub peer-same : (a : Arrival) (i : ℕ) (p : Packet) → request_admission one (peer_secret one i) a (side.Peer i) p ≡ request_admission other (peer_secret other i) a (side.Peer i) p
   peer-same a i p =
       let secret : peer_secret one i ≡ peer_secret other i = ap (λ (ps : List PeerView). secrets.peer_secret ps i) same.peers in
       rw secret (request-same (peer_secret other i) a (side.Peer i) p)
+
+  -- and which peer it is
+  pub peer-found : (ip : List ℕ) → peer_with_ip one.peers ip ≡ peer_with_ip other.peers ip
+  peer-found ip = ap (λ (ps : List PeerView). peer_with_ip ps ip) same.peers
+
+module _ (one other : ConfigView) (realm : ℕ) (same : HaveSamePart one other realm) where
+  alike : LooksAlike one other
+  alike = record { peers = same.peers; names = same.names; max_hops = same.max_hops }
 
   -- of a home server of the realm
   home-same : (a : Arrival) (i : ℕ) (p : Packet) → request_admission one (home_secret one realm i) a (side.Home i) p ≡ request_admission other (home_secret other realm i) a (side.Home i) p
   home-same a i p =
       let secret : home_secret one realm i ≡ home_secret other realm i = ap (λ (r : Option RealmView). secrets.server_secret (servers_of r) i) same.entry in
-      rw secret (request-same (home_secret other realm i) a (side.Home i) p)
+      rw secret (request-same one other alike (home_secret other realm i) a (side.Home i) p)
 
   -- a packet at a place that isn't another realm's
   packet-same : (a : Arrival) (s : Side) (p : Packet) (at : Place) → ((k : ℕ) → at ≡ place.Reverse k → k ≡ realm) → packet_admission one a s p at ≡ packet_admission other a s p at
   packet-same a s p (place.Out k) own_place = refl
-  packet-same a (side.Peer i) p place.Auth own_place = peer-same a i p
-  packet-same a (side.Peer i) p place.Acct own_place = peer-same a i p
-  packet-same a (side.Peer i) p (place.Reverse k) own_place = peer-same a i p
+  packet-same a (side.Peer i) p place.Auth own_place = peer-same one other alike a i p
+  packet-same a (side.Peer i) p place.Acct own_place = peer-same one other alike a i p
+  packet-same a (side.Peer i) p (place.Reverse k) own_place = peer-same one other alike a i p
   packet-same a (side.Home i) p (place.Reverse k) own_place = rw (own_place k refl) (home-same a i p)
   packet-same a (side.Home i) p place.Auth own_place = refl
   packet-same a (side.Home i) p place.Acct own_place = refl
@@ -141,9 +155,6 @@ module _ (one other : ConfigView) (realm : ℕ) (same : HaveSamePart one other r
       ∙ sym (sent-own realm other a p s)
 
   -- and who sent it is the same
-  peer-found : (ip : List ℕ) → peer_with_ip one.peers ip ≡ peer_with_ip other.peers ip
-  peer-found ip = ap (λ (ps : List PeerView). peer_with_ip ps ip) same.peers
-
   link-found : (from : Endpoint) → link_in one realm from ≡ link_in other realm from
   link-found from = rw (same.peers, same.entry) refl
 
@@ -175,10 +186,10 @@ module _ (one other : ConfigView) (realm : ℕ) (same : HaveSamePart one other r
       own realm (sent_admission one a p (sender one a at)) ≡ own realm (sent_admission other a p (sender other a at))
   place-same place.Auth from octets p =
       let a : Arrival = record { at = place.Auth; from = from; octets = octets } in
-      rw (peer-found from.ip) (known-same a p (sender other a place.Auth) (λ k is. absurd (cc is)))
+      rw (peer-found one other alike from.ip) (known-same a p (sender other a place.Auth) (λ k is. absurd (cc is)))
   place-same place.Acct from octets p =
       let a : Arrival = record { at = place.Acct; from = from; octets = octets } in
-      rw (peer-found from.ip) (known-same a p (sender other a place.Acct) (λ k is. absurd (cc is)))
+      rw (peer-found one other alike from.ip) (known-same a p (sender other a place.Acct) (λ k is. absurd (cc is)))
   place-same (place.Out k) from octets p =
       let a : Arrival = record { at = place.Out k; from = from; octets = octets } in
       elim (cases_Bool (k == realm)) [

@@ -10,6 +10,7 @@ use Rattle.roam_wire.specs.declared.attribute_type.TheConstants.{EAP_MESSAGE, ME
 use Rattle.roam_wire.specs.declared.code.TheConstants.{ACCESS_REQUEST, ACCOUNTING_REQUEST, ACCOUNTING_RESPONSE, STATUS_SERVER}
 use Rattle.roam_wire.specs.declared.refusal.Refusal.{Refusal}
 use Rattle.roam_wire.specs.declared.refusal.Refusal.TheVariants as refusal
+use Rattle.roam_wire.specs.declared.packet_size.TheConstants.{MAX_PACKET_LENGTH}
 use Rattle.roam_auth.specs.Authenticators.{zero_octets}
 use Rattle.roam_auth.specs.Deciding.{is_signed_request, is_well_sealed}
 use Rattle.roam_conf.specs.Config.{ConfigView}
@@ -133,7 +134,7 @@ given_to a s p realm names =
 -- a request of a realm, where its forwarded packet has at most 4096 octets
 abbrev pub forwarded_for : Arrival → Side → Packet → ℕ → Option ℕ → Admission
 forwarded_for a s p realm names =
-    checked (nat_le (forwarded_length p) 4096) refusal.TooLong (given_to a s p realm names)
+    checked (nat_le (forwarded_length p) MAX_PACKET_LENGTH) refusal.TooLong (given_to a s p realm names)
 
 -- an answer of the broker itself: it carries no realm, and goes back to where the request came from
 abbrev pub answered_by : Arrival → Packet → Admission
@@ -143,7 +144,7 @@ answered_by a answer =
 -- the local reject, where it has at most 4096 octets
 abbrev pub rejected_for : List ℕ → Arrival → Packet → Admission
 rejected_for secret a p =
-    checked (nat_le (answer_length p) 4096) refusal.TooLong (answered_by a (local_reject secret p))
+    checked (nat_le (answer_length p) MAX_PACKET_LENGTH) refusal.TooLong (answered_by a (local_reject secret p))
 
 -- a request that names its realm, or none
 abbrev pub named : Arrival → Side → Packet → Option ℕ → Admission

@@ -2,7 +2,7 @@
 use Rattle.std.specs.Prelude.{◌≡◌, ℕ, ◌==◌, List, Option, Some, None, slice_get, if◌then◌else◌}
 use Rattle.roam_conf.specs.Config.{ConfigView}
 use Rattle.roam_conf.specs.Lookup.{realm_named}
-use Rattle.roam_route.specs.Admission.{Arrival, PlainJob, Admission, refused, rejected, admitted, admission}
+use Rattle.roam_route.specs.Admission.{Arrival, PlainJob, PlainOut, Admission, refused, rejected, admitted, admission}
 
 -- what an admission gives to the realm of an index
 abbrev pub own : ℕ → Admission → Option PlainJob
@@ -24,3 +24,23 @@ abbrev pub OwnPartDecides : Type 0
 OwnPartDecides = (one other : ConfigView) (realm : ℕ) (a : Arrival) →
     HaveSamePart one other realm →
     own realm (admission one a) ≡ own realm (admission other a)
+
+-- what the broker answers itself, if it does
+abbrev pub answered : Admission → Option PlainOut
+answered (refused why) = None
+answered (rejected out) = Some out
+answered (admitted job) = None
+
+-- two configurations have the same peers, the same meaning of each name, the same limit of hops, and both have
+-- Status-Servers answered, or neither: what the broker's own answers are made by
+pub record AnswerAlike (one other : ConfigView) : Type 0 where
+  pub peers : one.peers ≡ other.peers
+  pub names : (name : List ℕ) → realm_named one.realms name ≡ realm_named other.realms name
+  pub max_hops : one.max_hops ≡ other.max_hops
+  pub status_server : one.status_server ≡ other.status_server
+
+-- which arrivals they answer themselves, and with which packets, is the same: no realm's sockets, servers,
+-- secrets or limits are looked at
+abbrev pub OwnAnswersDecided : Type 0
+OwnAnswersDecided = (one other : ConfigView) (a : Arrival) → AnswerAlike one other →
+    answered (admission one a) ≡ answered (admission other a)

@@ -5,6 +5,7 @@ use Rattle.roam_wire.specs.Packet.{Packet, IsPacket, packet_length, packet_text}
 use Rattle.roam_wire.specs.Attributes.{only_kind}
 use Rattle.roam_wire.specs.Reading.{ReadsAs}
 use Rattle.roam_wire.specs.declared.attribute_type.TheConstants.{PROXY_STATE}
+use Rattle.roam_wire.specs.declared.packet_size.TheConstants.{MAX_PACKET_LENGTH}
 use Rattle.roam_auth.specs.Authenticators.{IsSignedReply}
 use Rattle.roam_auth.specs.MessageAuthenticator.{IsWellSealed, StandsFirst}
 use Rattle.roam_route.specs.LocalAnswer.{answer_length, local_reject}
@@ -12,7 +13,7 @@ use Rattle.roam_route.specs.LocalAnswer.{answer_length, local_reject}
 -- it is a packet, and its octets read as it (RFC 2865, section 3)
 abbrev pub RejectReads : Type 0
 RejectReads = (secret : List ℕ) (request : Packet) →
-    IsPacket request → answer_length request ≤ 4096 →
+    IsPacket request → answer_length request ≤ MAX_PACKET_LENGTH →
     ReadsAs (packet_text (local_reject secret request)) (local_reject secret request)
 
 -- it has the stated size

@@ -39,8 +39,8 @@ shown (Ok (prepared.Reject o)) = rejected (shown_out o)
 shown (Err why) = refused why
 
 -- an answer of `prepare` is this admission, or NoMemory, since a growth may be refused
-abbrev pub Answers : {A : Type 0} → Result (Prepared A) Refusal → Admission → Type 0
-Answers result admission = (result ≡ Err refusal.NoMemory) ⊎ (shown result ≡ admission)
+abbrev pub IsAdmission : {A : Type 0} → Result (Prepared A) Refusal → Admission → Type 0
+IsAdmission result admission = (result ≡ Err refusal.NoMemory) ⊎ (shown result ≡ admission)
 
 -- memory is wanted for octets that are handed on, so for no arrival that is refused
 abbrev pub WantsMemory : Admission → Type 0
@@ -57,5 +57,5 @@ pub record IsHome (config : Config) (realm server : ℕ) : Type 0 where
 -- So what is refused is refused for its cause, whatever memory there is
 pub record Prepares {A : Type 0} (result : Result (Prepared A) Refusal) (admission : Admission)
     : Type 0 where
-  pub answer : Answers result admission
+  pub answer : IsAdmission result admission
   pub memory : IsErrOf result refusal.NoMemory → WantsMemory admission

@@ -4,7 +4,7 @@ ghost use Rattle.std.specs.Prelude.{◌≡◌, ℕ, ◌<◌, ◌≤◌, length, 
 ghost use Rattle.roam_conf.specs.Shown.{shown};
 ghost use Rattle.roam_route.specs.Admission.{admission, forwarded_for, given_to, is_taken, named, packet_admission, rejected_for, request_admission, routed, sent_admission, status_admission, status_from};
 ghost use Rattle.roam_route.specs.Events.{IsPrepared};
-ghost use Rattle.roam_route.specs.Shown.{Answers, IsHome, Prepares, WantsMemory, shown_arrival};
+ghost use Rattle.roam_route.specs.Shown.{IsAdmission, IsHome, Prepares, WantsMemory, shown_arrival};
 
 use crate::answering::{reject, status_answer};
 use crate::checks::{
@@ -271,7 +271,7 @@ pub fn prepare<A: Allocator + Copy>(
     config: &Config,
     datagram: &Datagram<A>,
 ) -> Result<Prepared<A>, Refusal>
-    ensures answer { Answers result
+    ensures answer { IsAdmission result
         (admission (shown config.now) (shown_arrival datagram.now)) }
 
     // What is refused is refused for its cause, whatever memory there is.

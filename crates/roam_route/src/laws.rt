@@ -3,7 +3,7 @@
 
 ghost use Rattle.roam_route.specs.Events.{EventHasRealm, EventIsSound};
 ghost use Rattle.roam_route.specs.NameLaws.{LastAtSignDecides, NameWithoutAtSign};
-ghost use Rattle.roam_route.specs.OwnPart.{OwnPartDecides};
+ghost use Rattle.roam_route.specs.OwnPart.{OwnAnswersDecided, OwnPartDecides};
 ghost use Rattle.roam_route.specs.RejectLaws.{RejectCarriesProxyStates, RejectHasLength, RejectHasSealFirst, RejectIsSigned, RejectIsWellSealed, RejectReads};
 ghost use Rattle.roam_route.specs.StatusLaws.{StatusAnswerAtAcct, StatusAnswerAtAuth, StatusAnswerCarriesProxyStates, StatusAnswerHasIdentifier, StatusAnswerHasSealFirst, StatusAnswerIsNoLonger, StatusAnswerIsSigned, StatusAnswerIsWellSealed, StatusAnswerReads};
 
@@ -50,4 +50,10 @@ pub fn status_answers()
 /// hops, and by that realm's own entry of the configuration.
 pub fn own_part()
     ensures { OwnPartDecides }
+{}
+
+/// What the broker answers itself is decided by the peers, by what each name means, by the limit of hops,
+/// and by whether Status-Servers are answered.
+pub fn own_answers()
+    ensures { OwnAnswersDecided }
 {}

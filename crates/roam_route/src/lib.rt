@@ -18,7 +18,7 @@ pub use admission::prepare;
 pub use answering::{reject, status_answer};
 pub use datagram::{Datagram, Out};
 pub use job::{Job, Prepared, Side};
-pub use laws::{events, names, own_part, rejects, status_answers};
+pub use laws::{events, names, own_answers, own_part, rejects, status_answers};
 pub use nas::{NasName, nas_of};
 pub use source::is_reverse_request;
 pub use user_name::{realm_of, realm_part};

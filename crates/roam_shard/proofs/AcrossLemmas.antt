@@ -1,6 +1,6 @@
 -- The states of all realms, each in its own shard.
-use Rattle.std.proofs.Common.{◌≡◌, ◌≢◌, ℕ, zero, suc, ◌+◌, ◌%◌, ◌<◌, ◌≤◌, ◌^◌, ◌==◌, Bool, true, false, List, [], ◌∷◌, ◌++◌, length, set, Some, None, Result, Ok, Err, refl, ap, sym, ◌∙◌, subst, inl, inr, arith}
-use Rattle.std.specs.Prelude.{◌⊎◌, if◌then◌else◌, IsErr, IsOk, nat_lt, slice_get, slice_index_or}
+use Rattle.std.proofs.Common.{◌≡◌, ◌≢◌, ℕ, zero, suc, ◌+◌, ◌%◌, ◌<◌, ◌≤◌, ◌^◌, ◌==◌, ◌&&◌, ◌||◌, Bool, true, false, List, [], ◌∷◌, ◌++◌, length, set, Some, None, Result, Ok, Err, refl, ap, sym, ◌∙◌, subst, inl, inr, arith}
+use Rattle.std.specs.Prelude.{◌⊎◌, if◌then◌else◌, IsErr, IsOk, nat_lt, not, slice_get, slice_index_or}
 use Rattle.std.proofs.Math.ListN.{length-set}
 use Rattle.std.proofs.lemmas.Bool.{cases_eq}
 use Rattle.std.proofs.lemmas.Bool.Decides.{nat_tests}
@@ -14,12 +14,14 @@ use Rattle.roam_book.specs.OneRealm.{event_of, on_event}
 use Rattle.roam_book.specs.OnTick.{on_tick}
 use Rattle.roam_book.specs.RealmConfig.{realm_config}
 use Rattle.roam_book.specs.RealmState.{RealmState}
+use Rattle.roam_book.specs.Rooms.{only_done_due}
 use Rattle.roam_book.specs.Turn.{Turn, refuses, sends, packets_of, refusal_of, state_after}
 use Rattle.roam_book.specs.declared.answer.Answer.{Answer}
 use Rattle.roam_book.specs.declared.answer.Twin.{Twin}
 use Rattle.roam_book.specs.declared.start.Start.{Start}
 use Rattle.roam_core.specs.BrokerView.{BrokerView}
-use Rattle.roam_core.specs.Events.{ticks}
+use Rattle.roam_core.specs.Events.{is_in_shard, ticks}
+use Rattle.roam_core.specs.ShardRooms.{only_done_from}
 use Rattle.roam_core.specs.ManyRealms.{BrokerTurn, no_state, refusal_given, refuses_it, state_at, states_after, tick_all, tick_from, tick_of, to_arrival, to_tick, turn_of_one}
 use Rattle.roam_core.specs.Openings.{openings, openings_from}
 use Rattle.roam_core.specs.Steps.{GivesAnswer, IsAnswer}
@@ -310,6 +312,43 @@ module _ (config : ConfigView) (shards : List ShardView) (k : ℕ) (s t : ShardV
   ticked_packets now whole =
       let many = length-across config shards 0 (length config.realms) in
       packets_same now 0 s.states (all_states config shards) (omega (arith, whole, many))
+      (λ j lt is. (
+      let e : 0 + j ≡ j = omega arith in
+      sym (state_there j (omega (arith, whole, lt))
+      (ap (λ (q : ℕ). q % config.shards) (sym e) ∙ is))))
+
+  -- what is due in the shard's realms is the same among all
+  done_same : (now first : ℕ) (ss ts : List RealmState) → length ss ≡ length ts
+      → ((j : ℕ) → j < length ss → (first + j) % config.shards ≡ k → state_at ss j ≡ state_at ts j)
+      → only_done_from config now k first ss ≡ only_done_from config now k first ts
+  done_same now first [] [] many same = refl
+  done_same now first [] (x ∷ xs) many same = absurd (omega arith)
+  done_same now first (x ∷ xs) [] many same = absurd (omega arith)
+  done_same now first (x ∷ xs) (y ∷ ys) many same =
+      let asked : RealmState → Bool =
+      λ z. not (is_in_shard config k first) || only_done_due now z.entries in
+      let here : asked x ≡ asked y =
+      elim (cases_eq (first % config.shards) k) as (λ _. asked x ≡ asked y) [
+        | inl is ↦ (
+            let zero_is : (first + 0) % config.shards ≡ k =
+            (let e : first + 0 ≡ first = omega arith in ap (λ (q : ℕ). q % config.shards) e
+            ∙ is) in
+            ap asked (same 0 (omega arith) zero_is))
+        | inr ne ↦ (
+            let no : (first % config.shards == k) ≡ false = grind (arith, nat_tests, ne) in
+            rw no refl)
+      ] in
+      let rest = done_same now (first + 1) xs ys (omega arith) (λ j lt is. (
+      let e : first + suc j ≡ first + 1 + j = omega arith in
+      same (suc j) (omega arith) (ap (λ (q : ℕ). q % config.shards) e ∙ is))) in
+      λ j. here j && rest j
+
+  pub done_across : (now : ℕ) → length s.states ≡ length config.realms
+      → only_done_from config now k 0 s.states
+      ≡ only_done_from config now k 0 (all_states config shards)
+  done_across now whole =
+      let many = length-across config shards 0 (length config.realms) in
+      done_same now 0 s.states (all_states config shards) (omega (arith, whole, many))
       (λ j lt is. (
       let e : 0 + j ≡ j = omega arith in
       sym (state_there j (omega (arith, whole, lt))

@@ -1,5 +1,6 @@
 pub mod ShardLemmas
 pub mod DueLemmas
+pub mod LettingGoLemmas
 pub mod OpeningLemmas
 pub mod RoomLemmas
 pub mod TickLemmas

@@ -6,7 +6,7 @@ use Rattle.roam_wire.specs.declared.refusal.Refusal.{Refusal}
 use Rattle.roam_wire.specs.declared.refusal.Refusal.TheVariants as refusal
 use Rattle.roam_conf.specs.Config.{ConfigView}
 use Rattle.roam_route.specs.Admission.{Admission, refused}
-use Rattle.roam_route.specs.Shown.{Answers}
+use Rattle.roam_route.specs.Shown.{IsAdmission}
 use Rattle.roam_book.specs.RealmState.{RealmState}
 use Rattle.roam_book.specs.declared.answer.Answer.{Answer}
 use Rattle.roam_core.specs.ManyRealms.{to_arrival}
@@ -27,7 +27,7 @@ refusal_gives (Err e) why config states now given h is = refl
 -- what `prepare` says of a refusal, by what the broker reads of its configuration
 pub refusal_of : {A : Type 0} (why : Refusal) (config other : ConfigView)
     (given : ConfigView → Admission)
-    → Answers {A = A} (Err why) (given config) → config ≡ other
+    → IsAdmission {A = A} (Err why) (given config) → config ≡ other
     → (why ≡ refusal.NoMemory) ⊎ (refused why ≡ given other)
 refusal_of why config other given (inl lost) same = inl (cc lost)
 refusal_of why config other given (inr is) same = inr (is ∙ ap given same)

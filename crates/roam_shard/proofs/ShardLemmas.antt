@@ -4,7 +4,7 @@ use Rattle.std.specs.Prelude.{nat_lt, slice_get}
 use Rattle.std.proofs.Math.ListN.{length-set}
 use Rattle.std.proofs.lemmas.Bool.{cases_eq, cases_lt}
 use Rattle.std.proofs.lemmas.Bool.Decides.{nat_tests}
-use Rattle.std.proofs.lemmas.List.{set-get_or}
+use Rattle.std.proofs.lemmas.List.{get_or-set_same, set-get_or}
 use Rattle.roam_wire.specs.declared.refusal.NoMemory.{NoMemory}
 use Rattle.roam_pending.specs.EntryList.{IsEntryList}
 use Rattle.roam_pending.specs.PlainEntry.{PlainEntry}
@@ -216,6 +216,12 @@ module _ {A : Type 0} where
           (state_after (state_at view.states k)
           (on_tick (realm_config view.opening.config k) now (state_at view.states k)))
 
+    -- what its part of a tick leaves to be seen that lets done entries go
+    pub record GoesSeen (now : ℕ) (view : ShardView) (new : List RealmState) : Type 0 where
+      pub turn : on_tick (realm_config view.opening.config k) now (state_at view.states k)
+          ≡ sends [] (state_at new k)
+      pub states : new ≡ set view.states k (state_at new k)
+
     module _ (tables2 : List RealmView) (n2 : Numbers A) (c2 : RealmConfig) (stays : c2 ≡ c)
         (keeps : keeps_in tables2 ≡ keeps_in tables)
         (others : OthersStay c.index (entries_in tables) (entries_in tables2)) where
@@ -366,4 +372,29 @@ module _ {A : Type 0} where
             packets = seen.0.packets ∙ packets_one view.states k turn;
             copies = seen.1.packets ∙ packets_one view.states k turn;
             states = seen.0.states ∙ states_one view.states k turn;
+          }
+
+      -- its part of a tick that lets done entries go
+      pub goes_seen : k < length ns → (now : ℕ) (view : ShardView)
+          → record { opening = o; states = states_in o tables ns } ≡ view → (m : Option (Numbers A))
+          → m ≡ Some n2
+          → on_tick c now (state_of (entries_in tables c.index) n)
+          ≡ sends [] (state_of (entries_in tables2 c2.index) n2)
+          → GoesSeen now view (states_in o tables2 (set ns k m))
+      goes_seen lt now view is m same turn =
+          let s2 : RealmState = state_of (entries_in tables2 k) n2 in
+          let new : List RealmState = states_in o tables2 (set ns k m) in
+          let new_is : new ≡ set view.states k s2 =
+          ap (λ (z : Option (Numbers A)). states_in o tables2 (set ns k z)) same
+          ∙ states_after_turn ∙ ap (λ (v : ShardView). set v.states k s2) is in
+          let count = shard_count o tables ns view is in
+          let within : k < length view.states = omega (arith, count, lt) in
+          let here : state_at new k ≡ s2 = ap (λ (l : List RealmState). state_at l k) new_is
+          ∙ get_or-set_same view.states k s2 no_state within in
+          let turned : on_tick (realm_config view.opening.config k) now (state_at view.states k)
+          ≡ sends [] s2 = sym (own_turn (λ x s. on_tick x now s) view is k refl) ∙ turn
+          ∙ ap (λ (x : RealmConfig). sends [] (state_of (entries_in tables2 x.index) n2)) is_own in
+          record {
+            turn = turned ∙ ap (λ (s : RealmState). sends [] s) (sym here);
+            states = new_is ∙ ap (λ (s : RealmState). set view.states k s) (sym here);
           }

@@ -59,11 +59,16 @@ module _ {A : Type 0} where
   abbrev pub states_in : OpeningView → List RealmView → List (Option (Numbers A)) → List RealmState
   states_in o tables numbers = states_from o (entries_in tables) 0 numbers
 
-  -- what is kept: each of the shard's own realms has numbers that its entries fit, and no other has
+  -- each of the shard's own realms has numbers, and no other has
+  abbrev pub HaveNumbers : OpeningView → List (Option (Numbers A)) → Type 0
+  HaveNumbers o numbers =
+      (r : ℕ) (n : Option (Numbers A)) → slice_get numbers r ≡ Some n
+      → is_some n ≡ is_in_shard o.config o.shard r
+
+  -- what is kept: the shard's own realms have numbers that their entries fit, and no other has any
   pub record IsShard (o : OpeningView) (tables : List RealmView) (numbers : List (Option (Numbers A)))
       : Type 0 where
-    pub own : (r : ℕ) (n : Option (Numbers A)) → slice_get numbers r ≡ Some n
-        → is_some n ≡ is_in_shard o.config o.shard r
+    pub own : HaveNumbers o numbers
     pub sound : (r : ℕ) (n : Numbers A) → slice_get numbers r ≡ Some (Some n)
         → IsSound (realm_config o.config r) (entries_in tables r) n
     pub lists : (r : ℕ) → IsEntryList (entries_in tables r)

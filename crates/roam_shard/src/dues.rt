@@ -3,10 +3,12 @@
 ghost use Rattle.std.specs.Prelude.{◌≡◌, ◌≢◌, ◌≤◌, [], false, true, is_some, length};
 ghost use Rattle.roam_pending.specs.DueOrder.{due_list};
 ghost use Rattle.roam_tables.specs.Stands.{entries_in};
-ghost use Rattle.roam_shard.specs.ShardView.{OpeningView, states_in};
+ghost use Rattle.roam_book.specs.Rooms.{only_done_due};
+ghost use Rattle.roam_core.specs.ShardRooms.{only_done_from};
+ghost use Rattle.roam_shard.specs.ShardView.{HaveNumbers, OpeningView, state_seen, states_in};
 ghost use Rattle.roam_shard.specs.Twins.{NothingDue};
 
-use roam_book::Numbers;
+use roam_book::{Numbers, only_done_due};
 use roam_pending::Entries;
 use roam_tables::Tables;
 use std::alloc::Allocator;
@@ -47,4 +49,35 @@ pub(crate) fn any_due<A: Allocator + Copy>(
         }
     }
     false
+}
+
+/// Whether each entry of a realm that is due was answered, where the realm is one of the shard's own.
+fn own_only_done<A: Allocator + Copy>(
+    entries: &Tables<A>,
+    own: &Option<Numbers<A>>,
+    realm: u16,
+    now: u64,
+) -> bool
+    ensures { (o : OpeningView) → result
+        ≡ only_done_due now (state_seen o realm (entries_in entries.now realm) own.now).entries }
+{
+    own.is_none() || only_done_due(entries, realm, now)
+}
+
+/// Whether each entry of the shard's realms that is due was answered. Takes no memory.
+pub(crate) fn all_done<A: Allocator + Copy>(
+    entries: &Tables<A>,
+    numbers: &[Option<Numbers<A>>],
+    now: u64,
+) -> bool
+    requires { length numbers.now ≤ 65536 }
+    ensures { (o : OpeningView) → HaveNumbers o numbers.now → result
+        ≡ only_done_from o.config now o.shard 0 (states_in o entries.now numbers.now) }
+{
+    for (realm, own) in numbers.iter().enumerate() {
+        if !own_only_done(entries, own, realm as u16, now) {
+            return false;
+        }
+    }
+    true
 }

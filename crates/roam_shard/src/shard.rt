@@ -8,17 +8,17 @@ ghost use Rattle.roam_route.specs.Shown.{shown_job};
 ghost use Rattle.roam_book.specs.OneRealm.{event_of, on_event};
 ghost use Rattle.roam_book.specs.OnTick.{on_tick};
 ghost use Rattle.roam_book.specs.RealmConfig.{realm_config};
-ghost use Rattle.roam_book.specs.Rooms.{IsRoomFor};
-ghost use Rattle.roam_book.specs.Turn.{packets_of, shown_outs, state_after};
+ghost use Rattle.roam_book.specs.Rooms.{IsRoomFor, only_done_due};
+ghost use Rattle.roam_book.specs.Turn.{packets_of, sends, shown_outs, state_after};
 ghost use Rattle.roam_core.specs.Events.{is_in_shard};
-ghost use Rattle.roam_core.specs.ManyRealms.{state_at, to_arrival, to_tick};
+ghost use Rattle.roam_core.specs.ManyRealms.{state_at, tick_from, tick_of, to_arrival, to_tick};
 ghost use Rattle.roam_core.specs.Openings.{openings};
-ghost use Rattle.roam_core.specs.ShardRooms.{AllFit, Fits, most_of, most_of_all, tick_in, turn_in};
+ghost use Rattle.roam_core.specs.ShardRooms.{AllFit, Fits, most_of, most_of_all, only_done_from, tick_in, turn_in};
 ghost use Rattle.roam_shard.specs.Rooms.{AllTwice, HasPlaces, IsTwice};
 ghost use Rattle.roam_shard.specs.ShardView.{AreStarts, IsStart, shown_opening};
 ghost use Rattle.roam_shard.specs.Twins.{AreOwnRooms, GivesTwin, IsOwnRoom, NothingDue};
 
-use crate::dues::any_due;
+use crate::dues::{all_done, any_due};
 use crate::numbers::opened_numbers;
 use crate::opening::Opening;
 use crate::rooms::{ShardRoom, room_of_shard};
@@ -236,16 +236,62 @@ impl<'c, A: Allocator + Copy> Shard<'c, A> {
         both.into_twin()
     }
 
+    /// A realm's part of a tick at which only done entries are due: they go. Takes no memory.
+    fn let_one_go(&mut self, now: u64, realm: usize)
+        requires there { realm < length self.old.states }
+        requires moment { now ≤ 2 ^ 62 }
+        requires done { is_in_shard self.old.opening.config self.old.opening.shard realm ≡ true
+            → only_done_due now (state_at self.old.states realm).entries ≡ true }
+        ensures turn { tick_of self.old.opening.config now self.old.opening.shard realm
+            (state_at self.old.states realm) ≡ sends [] (state_at self.new.states realm) }
+        ensures states { self.new.states
+            ≡ slice_set self.old.states realm (state_at self.new.states realm) }
+        ensures opening { self.new.opening ≡ self.old.opening }
+    {
+        if self.numbers[realm].is_none() {
+            return;
+        }
+        let settings = Settings::new(self.opening.config, realm as u16);
+        let Some(numbers) = &mut self.numbers[realm] else {
+            unreachable!();
+        };
+        let mut one = Realm {
+            settings: &settings,
+            entries: &mut self.entries,
+            numbers,
+        };
+        one.let_go(now);
+    }
+
+    /// A tick at which only done entries are due: they go, and nothing is sent. Takes no memory.
+    fn let_go(&mut self, now: u64)
+        requires moment { now ≤ 2 ^ 62 }
+        requires done { only_done_from self.old.opening.config now self.old.opening.shard 0
+            self.old.states ≡ true }
+        ensures packets { (tick_from self.old.opening.config now self.old.opening.shard 0
+            self.old.states).packets ≡ [] }
+        ensures states { (tick_from self.old.opening.config now self.old.opening.shard 0
+            self.old.states).states ≡ self.new.states }
+        ensures opening { self.new.opening ≡ self.old.opening }
+    {
+        for realm in 0..self.numbers.len() {
+            self.let_one_go(now, realm);
+        }
+    }
+
     /// A tick of the shard, at a moment in milliseconds: its realms in rising index, each of whose due
     /// entries is taken once, in order of deadline and ticket. The answer is given twice. Refused
     /// where the moment is above 2^62 milliseconds (`Moment`).
     ///
     /// All memory is taken before anything changes: `NoMemory` comes where a growth was refused, and
-    /// the shard is then as it was. Where nothing is due no memory is wanted.
+    /// the shard is then as it was. Where each entry that is due was answered, so that they only go, no
+    /// memory is wanted.
     pub fn tick(&mut self, now: u64) -> Result<Twin<A>, NoMemory>
         ensures turn { GivesTwin result self.old.states self.new.states
             (to_tick self.old.opening.config self.old.states now self.old.opening.shard) }
         ensures nothing_due { NothingDue now self.old.states → IsOk result }
+        ensures only_done { only_done_from self.old.opening.config now self.old.opening.shard 0
+            self.old.states ≡ true → IsOk result }
         ensures too_late { 2 ^ 62 < now → IsOk result }
         ensures opening { self.new.opening ≡ self.old.opening }
     {
@@ -253,6 +299,10 @@ impl<'c, A: Allocator + Copy> Shard<'c, A> {
             return Ok(refused_twice(self.alloc, Refusal::Moment));
         }
         if !any_due(&self.entries, &self.numbers, now) {
+            return Ok(Both::none(self.alloc).into_twin());
+        }
+        if all_done(&self.entries, &self.numbers, now) {
+            self.let_go(now);
             return Ok(Both::none(self.alloc).into_twin());
         }
         let room = room_of_shard(self.alloc, &self.opening, &self.entries, &self.numbers, now)?;

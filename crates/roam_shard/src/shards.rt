@@ -1,12 +1,13 @@
 //! The broker over one shard for each number.
 
-ghost use Rattle.std.specs.Prelude.{◌≡◌, ◌<◌, ◌≤◌, [], ◌∷◌, None, length, IfOk, IsErr};
+ghost use Rattle.std.specs.Prelude.{◌≡◌, ◌<◌, ◌≤◌, [], ◌∷◌, None, false, length, IfOk, IsErr};
 ghost use Rattle.roam_conf.specs.Shown.{shown};
 ghost use Rattle.roam_route.specs.Admission.{admitted, admission};
 ghost use Rattle.roam_route.specs.Events.{IsEvent};
 ghost use Rattle.roam_route.specs.Shown.{WantsMemory, shown_arrival, shown_job};
 ghost use Rattle.roam_core.specs.ManyRealms.{to_arrival, to_tick};
 ghost use Rattle.roam_core.specs.Openings.{fresh, openings};
+ghost use Rattle.roam_core.specs.ShardRooms.{only_done_from};
 ghost use Rattle.roam_core.specs.Steps.{GivesAnswer, StepsTo};
 ghost use Rattle.roam_shard.specs.Across.{IsSharded};
 ghost use Rattle.roam_shard.specs.ShardView.{AreStarts};
@@ -112,6 +113,8 @@ impl<'c, A: Allocator + Copy> Shards<'c, A> {
             (to_tick self.old.config self.old.states now shard) }
         ensures config { self.new.config ≡ self.old.config }
         ensures in_time { IsErr result → now ≤ LATEST }
+        ensures waits { IsErr result
+            → only_done_from self.old.config now shard 0 self.old.states ≡ false }
     {
         first(self.shards[usize::from(shard)].tick(now))
     }
@@ -123,6 +126,8 @@ impl<'c, A: Allocator + Copy> Shards<'c, A> {
         ensures config { self.new.config ≡ self.old.config }
         ensures there { IsErr result → shard < self.old.config.shards }
         ensures in_time { IsErr result → now ≤ LATEST }
+        ensures waits { IsErr result
+            → only_done_from self.old.config now shard 0 self.old.states ≡ false }
         ensures whole { length self.old.states ≡ length self.old.config.realms }
         ensures shards { 1 ≤ self.old.config.shards }
     {

@@ -8,7 +8,7 @@ use Rattle.roam_pending.proofs.TestLemmas.{same, differs}
 use Rattle.roam_pending.proofs.ChangeLemmas.{length-without}
 use Rattle.roam_tables.specs.declared.mark.Mark.{Mark}
 use Rattle.roam_tables.specs.declared.runs.Runs.{Runs}
-use Rattle.roam_tables.specs.Listed.{listed, tickets_end}
+use Rattle.roam_wire.specs.Numbered.{listed, tickets_end}
 use Rattle.roam_tables.specs.Marks.{mark_of, waits_part, holds_part, tickets_part, part_at, held, Holds, SameRuns, CanEnter, Leaves, Changes, IsRunsOf}
 use Rattle.roam_tables.proofs.ListedLemmas.{IsNumbered, order-listed, find-listed, listed-without}
 use Rattle.roam_tables.proofs.MarkLemmas.{tells-same, can_enter, runs_enter, runs_leave, holds_more}

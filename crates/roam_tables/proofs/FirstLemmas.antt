@@ -7,13 +7,13 @@ use Rattle.std.proofs.lemmas.Bool.Decides.{nat_tests}
 use Rattle.roam_pending.specs.declared.due.Due.{Due}
 use Rattle.roam_pending.specs.DueOrder.{is_after, is_before, due_at, due_list, due_after}
 use Rattle.roam_pending.specs.EntryList.{IsInOrder, besides, first_done, is_beside, is_done_beside}
-use Rattle.roam_pending.specs.ListLaws.{IsIn, AreRising}
+use Rattle.roam_pending.specs.ListLaws.{IsIn, AreInDueOrder}
 use Rattle.roam_pending.specs.PlainEntry.{PlainEntry, is_done}
 use Rattle.roam_pending.proofs.DueListLemmas.{strict-due, due-in, in-due}
 use Rattle.roam_pending.proofs.FindLemmas.{first_done-besides}
 use Rattle.roam_tables.specs.declared.runs.Runs.{Runs}
 use Rattle.roam_tables.specs.Rising.{AmongBoth, IsNext, NoneNext, IsFirstBesides}
-use Rattle.roam_tables.specs.Listed.{listed, tickets_end}
+use Rattle.roam_wire.specs.Numbered.{listed, tickets_end}
 use Rattle.roam_tables.specs.Marks.{mark_of, waits_part, holds_part, tickets_part, IsRunsOf}
 use Rattle.roam_tables.proofs.RisingLemmas.{All-in, due_less_before}
 use Rattle.roam_tables.proofs.ListedLemmas.{IsNumbered, order-listed, find-listed, find-listed_none, in-listed, from-listed}
@@ -26,7 +26,7 @@ before_both a b h k = grind (arith, nat_tests, h, k)
 before_deadline : (a b : Due) → is_before a b ≡ true → a.deadline ≤ b.deadline
 before_deadline a b h = grind (arith, nat_tests, h)
 
-find-rising : (last : Option Due) (ds : List Due) (d : Due) → AreRising ds → IsIn d ds
+find-rising : (last : Option Due) (ds : List Due) (d : Due) → AreInDueOrder ds → IsIn d ds
     → is_after last d ≡ true
     → ((x : Due) → IsIn x ds → is_after last x ≡ true → (d ≡ x) ⊎ (is_before d x ≡ true))
     → find (is_after last) ds ≡ Some d

@@ -1,6 +1,7 @@
 -- What growing leaves.
-use Rattle.std.proofs.Common.{◌≡◌, ℕ, ◌<◌, ◌≤◌, List, length, Option, Result, Ok, Err, refl, ap, sym, ◌∙◌, subst, arith}
-use Rattle.std.specs.Prelude.{OnOk}
+use Rattle.std.proofs.Common.{◌≡◌, ℕ, ◌<◌, ◌≤◌, List, length, Option, Result, Ok, Err, refl, ap, sym, ◌∙◌, subst, arith, inl, inr}
+use Rattle.std.specs.Prelude.{OnErr, OnOk}
+use Rattle.std.proofs.lemmas.Bool.{cases_eq}
 use Rattle.slab.specs.Slab.{Slab}
 use Rattle.indexmap.specs.IndexMap.{IndexMap, spare}
 use Rattle.roam_tables.specs.declared.slots.Slot.{Slot}
@@ -17,6 +18,10 @@ use Rattle.roam_tables.proofs.ViewLemmas.{seen_entries, seen_length, seen_room}
 pub on_ok : {X E : Type 0} (P Q : Type 0) (r : Result X E) → (P → Q) → OnOk r P → OnOk r Q
 on_ok P Q (Ok x) f h = f h
 on_ok P Q (Err e) f h = tt
+
+pub on_err : {X E : Type 0} (P : Type 0) (r : Result X E) → P → OnErr r P
+on_err P (Ok x) p = tt
+on_err P (Err e) p = p
 
 module _ {A H : Type 0} (s : Slab (Slot A)) (t : IndexMap TicketKey ℕ H)
     (c : IndexMap ClientKey ℕ H) (rs : List (Runs A))
@@ -55,6 +60,22 @@ module _ {A H : Type 0} (s : Slab (Slot A)) (t : IndexMap TicketKey ℕ H)
         (at_realm_fewer SameRuns rs rs2 r 0 runs runs.becomes.as_many
         (let a = runs.becomes.waits_len in let b = runs.becomes.holds_len in omega arith))) in
         omega arith
+
+    -- no realm loses room
+    pub grow_all_room : slab_room s ≤ slab_room s2 → spare t ≤ spare t2 → spare c ≤ spare c2
+        → (q : ℕ) → room_in v q ≤ room_in (tables_view s2 t2 c2 rs2) q
+    grow_all_room x y z q =
+        elim (cases_eq q r) as (λ _. room_in v q ≤ room_in (tables_view s2 t2 c2 rs2) q) [
+          | inl is ↦ subst (λ (k : ℕ). room_in v k ≤ room_in (tables_view s2 t2 c2 rs2) k)
+              (sym is) (grow_room x y z)
+          | inr ne ↦ (
+              let same = runs.others q ne in
+              let k = tables_room s t c rs sound v is s2 t2 c2 rs2 grow_sound
+              (tables_view s2 t2 c2 rs2) refl q 0
+              (four_fewer _ _ _ _ _ _ _ _ 0 (omega arith) (omega arith) (omega arith)
+              (rw same (omega arith))) in
+              omega arith)
+        ]
 
     pub grow_realms : length (tables_view s2 t2 c2 rs2) ≡ length v
     grow_realms =

@@ -7,7 +7,8 @@ use Rattle.roam_conf.specs.declared.place.Place.{Place}
 use Rattle.roam_conf.specs.declared.place.Place.TheVariants as place
 use Rattle.roam_conf.specs.contracts.place.PlacePartialEq.TheImpl as places
 use Rattle.roam_pending.specs.contracts.key.KeyPartialEq.TheImpl as keys
-use Rattle.roam_pending.specs.PlainEntry.{same_endpoint, same_key, same_place}
+use Rattle.roam_pending.specs.PlainEntry.{same_key, same_place}
+use Rattle.roam_conf.specs.Duplicates.{same_endpoint}
 use Rattle.roam_pending.proofs.TestLemmas.{same, key_is_same}
 use Rattle.roam_pending.proofs.ClientLemmas.{key-equal}
 use Rattle.roam_tables.specs.declared.index.ClientKey.{ClientKey}

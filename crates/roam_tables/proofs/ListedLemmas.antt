@@ -8,7 +8,7 @@ use Rattle.roam_pending.specs.EntryList.{IsInOrder, HasDistinctKeys, IsEntryList
 use Rattle.roam_pending.specs.ListLaws.{IsIn}
 use Rattle.roam_pending.proofs.TestLemmas.{same, differs}
 use Rattle.roam_pending.proofs.OrderLemmas.{IsAbove, below-none, above-all, put-after, put-same}
-use Rattle.roam_tables.specs.Listed.{listed}
+use Rattle.roam_wire.specs.Numbered.{listed}
 
 -- each entry has the ticket at which it stands
 pub record IsNumbered (f : ℕ → Option PlainEntry) : Type 0 where

@@ -11,7 +11,7 @@ use Rattle.roam_tables.specs.declared.index.TicketKey.{TicketKey}
 use Rattle.roam_tables.specs.declared.index.ClientKey.{ClientKey}
 use Rattle.roam_tables.specs.declared.runs.Runs.{Runs}
 use Rattle.roam_tables.specs.Indexes.{look}
-use Rattle.roam_tables.specs.Listed.{tickets_end}
+use Rattle.roam_wire.specs.Numbered.{tickets_end}
 use Rattle.roam_tables.specs.Stands.{Stored, entry_at, entries_at, Sound}
 use Rattle.roam_tables.proofs.ListedLemmas.{IsNumbered, HasOwnKeys, list-listed, find-listed, find-listed_none, listed_nobody}
 

@@ -9,7 +9,7 @@ use Rattle.roam_pending.specs.PlainEntry.{PlainEntry}
 use Rattle.roam_tables.specs.declared.mark.Mark.{Mark}
 use Rattle.roam_tables.specs.declared.runs.Runs.{Runs}
 use Rattle.roam_tables.specs.Rising.{Rises, due_cmp}
-use Rattle.roam_tables.specs.Listed.{listed, tickets_end}
+use Rattle.roam_wire.specs.Numbered.{listed, tickets_end}
 use Rattle.roam_tables.specs.Marks.{mark_of, waits_part, holds_part, tickets_part, part_at, Tells, Gains, Loses, IsAbsent, IsPresent, held, Holds, HoldsAsMany, AllRise, CanEnter, Enters, CanLeave, Leaves, IsRunsOf}
 use Rattle.roam_tables.proofs.ListedLemmas.{IsNumbered}
 

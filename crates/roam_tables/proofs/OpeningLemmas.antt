@@ -9,7 +9,7 @@ use Rattle.roam_tables.specs.declared.index.ClientKey.{ClientKey}
 use Rattle.roam_tables.specs.declared.mark.Mark.{Mark}
 use Rattle.roam_tables.specs.declared.runs.Runs.{Runs}
 use Rattle.roam_tables.specs.Rising.{due_cmp}
-use Rattle.roam_tables.specs.Listed.{tickets_end}
+use Rattle.roam_wire.specs.Numbered.{tickets_end}
 use Rattle.roam_tables.specs.Marks.{AreEmpty, IsRunsOf, Tells, part_at, waits_part, holds_part, tickets_part}
 use Rattle.roam_tables.specs.Stands.{Sound, Stored, entries_at, entry_at}
 use Rattle.roam_tables.proofs.ListedLemmas.{listed_nobody}

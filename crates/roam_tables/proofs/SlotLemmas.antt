@@ -8,7 +8,7 @@ use Rattle.slab.specs.Slab.{Slab, with_value}
 use Rattle.roam_pending.specs.declared.entry.Entry.{Entry}
 use Rattle.roam_pending.specs.Shown.{shown}
 use Rattle.roam_tables.specs.declared.slots.Slot.{Slot}
-use Rattle.roam_tables.specs.Indexes.{PutsAt}
+use Rattle.roam_wire.specs.Numbered.{PutsAt}
 use Rattle.roam_tables.specs.Stands.{place, stored, with_entry}
 
 within_slots : {X : Type 0} (s : Slab X) (i : ℕ) (x : X) → slab.get s i ≡ Some x

@@ -8,8 +8,9 @@ use Rattle.roam_pending.specs.Realms.{RealmBecomes}
 use Rattle.roam_tables.specs.declared.index.TicketKey.{TicketKey}
 use Rattle.roam_tables.specs.declared.index.ClientKey.{ClientKey}
 use Rattle.roam_tables.specs.declared.runs.Runs.{Runs}
-use Rattle.roam_tables.specs.Indexes.{PutsAt, Puts}
-use Rattle.roam_tables.specs.Listed.{listed, tickets_end}
+use Rattle.roam_tables.specs.Indexes.{Puts}
+use Rattle.roam_wire.specs.Numbered.{PutsAt}
+use Rattle.roam_wire.specs.Numbered.{listed, tickets_end}
 use Rattle.roam_tables.specs.Marks.{mark_of, held, Holds, SameRuns, Enters, Leaves, Changes, IsRunsOf}
 use Rattle.roam_tables.specs.Stands.{Stored, ticket_key, client_key, ticket_eq, client_eq, entry_at, entries_at, Sound, AtRealm}
 use Rattle.roam_tables.proofs.IndexLemmas.{puts_here, puts_other, index-new, index-change, index-clear, look-other, look-none}

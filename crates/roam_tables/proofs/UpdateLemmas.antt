@@ -12,8 +12,9 @@ use Rattle.roam_tables.specs.declared.index.TicketKey.{TicketKey}
 use Rattle.roam_tables.specs.declared.index.ClientKey.{ClientKey}
 use Rattle.roam_tables.specs.declared.mark.Mark.{Mark}
 use Rattle.roam_tables.specs.declared.runs.Runs.{Runs}
-use Rattle.roam_tables.specs.Indexes.{PutsAt, Puts}
-use Rattle.roam_tables.specs.Listed.{tickets_end}
+use Rattle.roam_tables.specs.Indexes.{Puts}
+use Rattle.roam_wire.specs.Numbered.{PutsAt}
+use Rattle.roam_wire.specs.Numbered.{tickets_end}
 use Rattle.roam_tables.specs.Marks.{CanEnter, CanLeave, Changes, Enters, HoldsAsMany, Leaves, mark_of, held}
 use Rattle.roam_tables.specs.Stands.{AtRealm, RealmView, Sound, Stored, client_at, client_eq, entries_at, entries_in, entry_at, place, room_in, runs_room, slab_room, tables_view, ticket_at, ticket_eq, ticket_key_of, with_entry}
 use Rattle.roam_tables.proofs.ChangeLemmas.{can_come_back}

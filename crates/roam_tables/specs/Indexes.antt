@@ -1,5 +1,5 @@
 -- Slots, and an index that finds each by a key (ours).
-use Rattle.std.specs.Prelude.{◌≡◌, ◌≢◌, ℕ, Bool, Option, Some, if◌then◌else◌, option_and_then}
+use Rattle.std.specs.Prelude.{◌≡◌, ℕ, Bool, Option, Some, if◌then◌else◌, option_and_then}
 
 -- what each slot holds and where each key's slot is, for each other
 pub record IsIndex {X K : Type 0} (key : X → K) (S : ℕ → Option X) (I : K → Option ℕ) : Type 0 where
@@ -9,11 +9,6 @@ pub record IsIndex {X K : Type 0} (key : X → K) (S : ℕ → Option X) (I : K 
 -- what the slot of a key holds
 abbrev pub look : {X K : Type 0} → (ℕ → Option X) → (K → Option ℕ) → K → Option X
 look S I k = option_and_then S (I k)
-
--- one slot holds this now, and every other one what it held
-pub record PutsAt {X : Type 0} (S S2 : ℕ → Option X) (i : ℕ) (w : Option X) : Type 0 where
-  pub changed : S2 i ≡ w
-  pub others : (j : ℕ) → j ≢ i → S2 j ≡ S j
 
 -- one key has this slot now, and every other one the slot that it had
 abbrev pub Puts : {K : Type 0} → (K → K → Bool) → (K → Option ℕ) → (K → Option ℕ) → K → Option ℕ → Type 0

@@ -10,7 +10,7 @@ use Rattle.roam_pending.specs.PlainEntry.{PlainEntry, is_done}
 use Rattle.roam_tables.specs.declared.mark.Mark.{Mark}
 use Rattle.roam_tables.specs.declared.runs.Runs.{Runs}
 use Rattle.roam_tables.specs.Rising.{Adds, Drops, Rises, due_cmp}
-use Rattle.roam_tables.specs.Listed.{listed, tickets_end}
+use Rattle.roam_wire.specs.Numbered.{listed, tickets_end}
 
 -- when an entry is due, and whether it was answered
 abbrev pub mark_of : PlainEntry → Mark

@@ -14,7 +14,7 @@ use Rattle.roam_tables.specs.contracts.index.TicketKeyPartialEq.TheImpl as ticke
 use Rattle.roam_tables.specs.contracts.index.ClientKeyPartialEq.TheImpl as client_keys
 use Rattle.roam_tables.specs.declared.runs.Runs.{Runs}
 use Rattle.roam_tables.specs.Indexes.{IsIndex, look}
-use Rattle.roam_tables.specs.Listed.{listed, tickets_end}
+use Rattle.roam_wire.specs.Numbered.{listed, tickets_end}
 use Rattle.roam_tables.specs.Marks.{IsRunsOf, held}
 
 -- an entry with its realm

@@ -4,7 +4,7 @@ ghost use Rattle.std.specs.Prelude.{◌≡◌, ◌<◌, ◌≤◌, ◌+◌, None
 ghost use Rattle.indexmap.specs.IndexMap.{spare};
 ghost use Rattle.roam_tables.specs.Indexes.{Puts};
 ghost use Rattle.roam_tables.specs.Stands.{client_at, client_eq, ticket_at, ticket_eq, ticket_key_of};
-ghost use Rattle.roam_tables.specs.Listed.{tickets_end};
+ghost use Rattle.roam_wire.specs.Numbered.{tickets_end};
 
 use indexmap::IndexMap;
 use roam_pending::Key;

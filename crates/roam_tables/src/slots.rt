@@ -3,7 +3,7 @@
 ghost use Rattle.std.specs.Prelude.{◌≡◌, ◌≤◌, ◌+◌, None, Some, IsSome, option_map};
 ghost use Rattle.slab.specs.Slab.{HasRoomFor};
 ghost use Rattle.roam_pending.specs.Shown.{seen, shown};
-ghost use Rattle.roam_tables.specs.Indexes.{PutsAt};
+ghost use Rattle.roam_wire.specs.Numbered.{PutsAt};
 ghost use Rattle.roam_tables.specs.Stands.{place, slab_room, stored, with_entry};
 
 use roam_pending::Entry;

@@ -1,6 +1,6 @@
 //! The entries of all realms of a shard in one slab, with indexes and runs beside it.
 
-ghost use Rattle.std.specs.Prelude.{◌≡◌, ℕ, ◌<◌, ◌≤◌, ◌+◌, [], Some, OnOk, IsOk, IfOk, length};
+ghost use Rattle.std.specs.Prelude.{◌≡◌, ℕ, ◌<◌, ◌≤◌, ◌+◌, [], Some, OnErr, OnOk, IsOk, IfOk, length};
 ghost use Rattle.indexmap.specs.IndexMap.{spare};
 ghost use Rattle.roam_pending.specs.DueOrder.{due_after};
 ghost use Rattle.roam_pending.specs.EntryList.{HasPlaceOf, IsEntryList, IsNew, besides, find_client, find_ticket, first_done, put, without};
@@ -126,10 +126,13 @@ impl<A: Allocator + Copy> Tables<A> {
         }
     }
 
-    /// Makes room for one entry more of a realm that is kept here. No entry changes.
+    /// Makes room for one entry more of a realm that is kept here. No entry changes. `NoMemory` comes
+    /// where there was no room and a growth was refused; all is then as it was, but for room that was
+    /// gained.
     pub fn reserve(&mut self, realm: u16) -> Result<(), NoMemory>
         requires kept { realm < length self.old }
         ensures ok { OnOk result (0 < room_in self.new realm) }
+        ensures err { OnErr result ((r : ℕ) → room_in self.old r ≤ room_in self.new r) }
         ensures succeeds { 0 < room_in self.old realm → IsOk result }
         ensures entries { entries_in self.new ≡ entries_in self.old }
         ensures room { room_in self.old realm ≤ room_in self.new realm }

@@ -1,8 +1,9 @@
--- The numbers of codes and attribute types, as the RFCs give them. Each is a clause of a function of
+-- The numbers of codes and attribute types, and the size of the largest packet, as the RFCs give them. Each is a clause of a function of
 -- src/laws.rt.
 use Rattle.std.specs.Prelude.{◌≡◌, [], ◌∷◌}
 use Rattle.roam_wire.specs.declared.attribute_type.TheConstants as kind
 use Rattle.roam_wire.specs.declared.code.TheConstants as code
+use Rattle.roam_wire.specs.declared.packet_size.TheConstants.{MAX_PACKET_LENGTH}
 
 -- Access-Request, -Accept, -Reject, -Challenge (RFC 2865, section 3), and Status-Server (RFC 5997,
 -- section 3)
@@ -41,3 +42,7 @@ abbrev pub OtherTypes : Type 0
 OtherTypes =
     kind.TUNNEL_PASSWORD ∷ kind.EAP_MESSAGE ∷ kind.MESSAGE_AUTHENTICATOR ∷ kind.ERROR_CAUSE ∷ []
     ≡ 69 ∷ 79 ∷ 80 ∷ 101 ∷ []
+
+-- the most octets that a packet has (RFC 2865, section 3)
+abbrev pub LargestPacket : Type 0
+LargestPacket = MAX_PACKET_LENGTH ≡ 4096

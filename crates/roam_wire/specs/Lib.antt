@@ -4,6 +4,7 @@ pub mod Attributes
 pub mod Shown
 pub mod Refusal
 pub mod Codes
+pub mod Numbered
 pub mod Constants
 pub mod Building
 pub mod Laws

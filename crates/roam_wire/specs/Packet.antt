@@ -1,6 +1,7 @@
 -- A packet, and its octets (RFC 2865, sections 3 and 5).
 use Rattle.std.specs.Prelude.{◌≡◌, ℕ, ◌+◌, ◌/◌, ◌%◌, ◌<◌, ◌≤◌, List, ◌∷◌, ◌++◌, length, slice_index}
 use Rattle.std.specs.List.{flat_map, AllByRecursion}
+use Rattle.roam_wire.specs.declared.packet_size.TheConstants.{MAX_PACKET_LENGTH}
 
 -- an attribute: its Type, and its Value (RFC 2865, section 5)
 pub record Attribute : Type 0 where
@@ -50,4 +51,4 @@ pub record IsPacket (p : Packet) : Type 0 where
   pub octets : AreOctets p.authenticator
   pub authenticator : length p.authenticator ≡ 16
   pub attributes : AllByRecursion IsAttribute p.attributes
-  pub size : packet_length p ≤ 4096
+  pub size : packet_length p ≤ MAX_PACKET_LENGTH

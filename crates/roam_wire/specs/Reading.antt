@@ -5,6 +5,7 @@ use Rattle.std.specs.Option.{option_map_or}
 use Rattle.roam_wire.specs.Packet.{Attribute, Packet, IsPacket, packet_text}
 use Rattle.roam_wire.specs.declared.refusal.Refusal.{Refusal}
 use Rattle.roam_wire.specs.declared.refusal.Refusal.TheVariants as refusal
+use Rattle.roam_wire.specs.declared.packet_size.TheConstants.{MAX_PACKET_LENGTH}
 
 -- the Length field of a datagram: two octets, the high one first (RFC 2865, section 3)
 abbrev pub length_field : List ℕ → ℕ
@@ -13,7 +14,7 @@ length_field datagram = 256 * slice_index datagram 2 + slice_index datagram 3
 -- Length is from 20 to 4096, and all those octets came (RFC 2865, section 3)
 pub record HasLength (datagram : List ℕ) : Type 0 where
   pub at_least_header : 20 ≤ length_field datagram
-  pub at_most_4096 : length_field datagram ≤ 4096
+  pub at_most_4096 : length_field datagram ≤ MAX_PACKET_LENGTH
   pub all_came : length_field datagram ≤ length datagram
 
 -- a datagram reads as a packet where its first octets, as many as its Length field says, are the
@@ -76,7 +77,7 @@ front_of datagram = take (length_field datagram) datagram
 -- whether Length is from 20 to 4096 and all those octets came, as a test
 abbrev pub has_length : List ℕ → Bool
 has_length datagram =
-    nat_le 20 (length_field datagram) && nat_le (length_field datagram) 4096
+    nat_le 20 (length_field datagram) && nat_le (length_field datagram) MAX_PACKET_LENGTH
     && nat_le (length_field datagram) (length datagram)
 
 -- what reading a datagram answers, as a function, for definitions that go on from it. What it means is

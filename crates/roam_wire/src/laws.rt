@@ -1,7 +1,7 @@
 //! Laws of reading, of packets' octets, and of the numbers that RFCs give to codes and attribute types.
 //! These functions do nothing: their contracts hold of all packets and datagrams.
 
-ghost use Rattle.roam_wire.specs.Constants.{AccessCodes, AccessTypes, AccountingCodes, AccountingTypes, OtherTypes, ReverseCodes};
+ghost use Rattle.roam_wire.specs.Constants.{AccessCodes, AccessTypes, AccountingCodes, AccountingTypes, LargestPacket, OtherTypes, ReverseCodes};
 ghost use Rattle.roam_wire.specs.Laws.{ReadingIsRight, PacketTextReads, PacketTextIsReadAgain, PacketTextIsOfPacket, PacketTextHasLength, PacketTextIsOctets};
 
 /// What a datagram reads as.
@@ -30,4 +30,9 @@ pub fn numbers_of_attribute_types()
     ensures access { AccessTypes }
     ensures accounting { AccountingTypes }
     ensures others { OtherTypes }
+{}
+
+/// The size of the largest packet.
+pub fn largest_packet()
+    ensures { LargestPacket }
 {}

@@ -17,7 +17,9 @@ mod view;
 mod walk;
 
 pub use attributes::{Attr, Attrs};
-pub use laws::{numbers_of_attribute_types, numbers_of_codes, packet_octets, readings};
+pub use laws::{
+    largest_packet, numbers_of_attribute_types, numbers_of_codes, packet_octets, readings,
+};
 pub use octets::Octets;
 pub use packet_buf::PacketBuf;
 pub use packet_size::MAX_PACKET_LENGTH;

@@ -2,6 +2,6 @@
 use Rattle.roam.proofs.AnswerLemmas.{usage-status}
 use Rattle.roam.proofs.program.answer.Goals as goal
 
-pub returns-in-Err-clause-usage : goal.returns-in-Err-clause-usage
-returns-in-Err-clause-usage g c =
-    usage-status _ _ _ c.in-Err.fault c.tell.result.status c.tell.ensures.status c.in-Err.ensures.err
+pub returns-clause-usage : goal.returns-clause-usage
+returns-clause-usage g c =
+    usage-status _ _ _ c.in-Err.fault c.tell_with.result.status c.tell_with.ensures.status c.in-Err.ensures.err

@@ -2,7 +2,7 @@ use Rattle.std.proofs.Common.{◌∙◌, sym, subst}
 use Rattle.roam_wire.specs.Reading.{packet_of}
 use Rattle.roam_wire.proofs.LawLemmas.{AreTextOf}
 use Rattle.roam_auth.specs.MessageAuthenticator.{HasAtMostOneMessageAuthenticator}
-use Rattle.roam_back.specs.Returned.{Returning, unsealed}
+use Rattle.roam_back.specs.Returned.{Returning, unsealed_return}
 use Rattle.roam_back.proofs.ReturnedLemmas.{returned_text}
 use Rattle.roam_back.proofs.EveryCodeLemmas.{AtMostOne-unsealed}
 use Rattle.roam_back.proofs.PlainLemmas.{unsealed_there}
@@ -16,7 +16,7 @@ seal_and_sign-requires-clause-packet c =
       home_secret = c.args.home_secret.now;
       client_secret = c.args.client_secret.now;
     } in
-    let there : AreTextOf (unsealed r c.args.reply.now c.args.request.now) c.rehide_accept.new.octets = unsealed_there r c.args.reply.now c.args.request.now c.args.octets.now c.rehide_accept.new.octets c.requires.packet c.requires.plain c.rehide_accept.ensures in
+    let there : AreTextOf (unsealed_return r c.args.reply.now c.args.request.now) c.rehide_accept.new.octets = unsealed_there r c.args.reply.now c.args.request.now c.args.octets.now c.rehide_accept.new.octets c.requires.packet c.requires.plain c.rehide_accept.ensures in
     there.text
 
 -- with at most one Message-Authenticator
@@ -27,7 +27,7 @@ seal_and_sign-requires-clause-at_most_one c =
       home_secret = c.args.home_secret.now;
       client_secret = c.args.client_secret.now;
     } in
-    let there : AreTextOf (unsealed r c.args.reply.now c.args.request.now) c.rehide_accept.new.octets = unsealed_there r c.args.reply.now c.args.request.now c.args.octets.now c.rehide_accept.new.octets c.requires.packet c.requires.plain c.rehide_accept.ensures in
+    let there : AreTextOf (unsealed_return r c.args.reply.now c.args.request.now) c.rehide_accept.new.octets = unsealed_there r c.args.reply.now c.args.request.now c.args.octets.now c.rehide_accept.new.octets c.requires.packet c.requires.plain c.rehide_accept.ensures in
     subst HasAtMostOneMessageAuthenticator (sym there.packet) (AtMostOne-unsealed r c.args.reply.now c.args.request.now c.requires.at_most_one)
 
 -- sealed and signed, it is the returned packet
@@ -38,5 +38,5 @@ returns c =
       home_secret = c.args.home_secret.now;
       client_secret = c.args.client_secret.now;
     } in
-    let there : AreTextOf (unsealed r c.args.reply.now c.args.request.now) c.rehide_accept.new.octets = unsealed_there r c.args.reply.now c.args.request.now c.args.octets.now c.rehide_accept.new.octets c.requires.packet c.requires.plain c.rehide_accept.ensures in
+    let there : AreTextOf (unsealed_return r c.args.reply.now c.args.request.now) c.rehide_accept.new.octets = unsealed_there r c.args.reply.now c.args.request.now c.args.octets.now c.rehide_accept.new.octets c.requires.packet c.requires.plain c.rehide_accept.ensures in
     c.seal_and_sign.ensures ∙ returned_text r c.args.reply.now c.args.request.now (packet_of c.rehide_accept.new.octets) c.authenticator.result c.authenticator.ensures there.packet

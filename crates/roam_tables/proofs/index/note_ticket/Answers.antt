@@ -1,5 +1,5 @@
 use Rattle.std.proofs.Common.{arith}
-use Rattle.roam_tables.specs.Listed.{tickets_end}
+use Rattle.roam_wire.specs.Numbered.{tickets_end}
 use Rattle.roam_tables.proofs.index.note_ticket.Goals as goal
 
 pub returns-clause-range : goal.returns-clause-range

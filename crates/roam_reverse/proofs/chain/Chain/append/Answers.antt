@@ -3,7 +3,7 @@ use Rattle.std.specs.Prelude.{◌+◌}
 use Rattle.roam_reverse.specs.Shown.{shown_session}
 use Rattle.indexmap.specs.IndexMap.{index_map_len}
 use Rattle.roam_reverse.specs.Stands.{chain_of, node_at, ticket_at}
-use Rattle.roam_reverse.specs.Tickets.{tickets_end}
+use Rattle.roam_wire.specs.Numbered.{tickets_end}
 use Rattle.roam_reverse.proofs.AppendLemmas.{Appends, chain-appended, listed-after}
 use Rattle.roam_reverse.proofs.chain.Chain.append.Goals as goal
 

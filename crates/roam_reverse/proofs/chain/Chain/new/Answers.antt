@@ -1,5 +1,5 @@
 use Rattle.std.proofs.Common.{refl, arith}
-use Rattle.roam_reverse.specs.Tickets.{tickets_end}
+use Rattle.roam_wire.specs.Numbered.{tickets_end}
 use Rattle.roam_reverse.proofs.ChainLemmas.{chain-empty}
 use Rattle.roam_reverse.proofs.chain.Chain.new.Goals as goal
 

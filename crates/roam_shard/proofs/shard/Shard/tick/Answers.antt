@@ -4,9 +4,9 @@ use Rattle.std.proofs.lemmas.List.{length-map}
 use Rattle.roam_conf.specs.Parts.{shown_realm}
 use Rattle.roam_book.specs.Turn.{shown_outs}
 use Rattle.roam_core.specs.ManyRealms.{AllRealms, tick_from}
-use Rattle.roam_core.specs.ShardRooms.{AreRooms}
+use Rattle.roam_core.specs.ShardRooms.{AreRooms, only_done_from}
 use Rattle.roam_core.proofs.ShardLemmas.{all-fit, tick-in, ticked}
-use Rattle.roam_shard.specs.ShardView.{ShardView, shown_opening, states_in}
+use Rattle.roam_shard.specs.ShardView.{HaveNumbers, ShardView, shown_opening, states_in}
 use Rattle.roam_shard.specs.Twins.{NothingDue}
 use Rattle.roam_shard.proofs.DueLemmas.{nothing_ticked}
 use Rattle.roam_shard.proofs.RoomLemmas.{own_rooms}
@@ -66,6 +66,61 @@ any_due-requires g c =
     let same = ap (λ ns. length ns) c.deref.ensures.value in
     omega (arith, realms, same, config.realms.ok.0, config.realm_count, c.self.invariant.count)
 
+-- the done ones go
+pub all_done-requires : goal.all_done-requires
+all_done-requires g c =
+    let i = c.self.inside in
+    let config = i.opening.config.now in
+    let realms = length-map config.realms.items shown_realm in
+    let same = ap (λ ns. length ns) c.deref-2.ensures.value in
+    omega (arith, realms, same, config.realms.ok.0, config.realm_count, c.self.invariant.count)
+
+pub let_go-requires-clause-done : goal.let_go-requires-clause-done
+let_go-requires-clause-done g c =
+    let i = c.self.inside in
+    let o = shown_opening i.opening in
+    let own = subst (λ ns. HaveNumbers o ns) (sym c.deref-2.ensures.value) c.self.invariant.own in
+    let same = c.all_done.ensures o own
+    ∙ ap (λ ns. only_done_from o.config c.args.now o.shard 0 (states_in o i.entries ns))
+    c.deref-2.ensures.value
+    ∙ ap (λ (v : ShardView).
+    only_done_from v.opening.config c.args.now v.opening.shard 0 v.states) c.self.view_is in
+    sym same ∙ c.if-all_done.true
+
+pub returns-then-all_done-clause-turn : goal.returns-then-all_done-clause-turn
+returns-then-all_done-clause-turn g c =
+    let o = c.args.self.now.opening in
+    let states = c.args.self.now.states in
+    let there = subst (λ (v : ShardView). v.opening.shard < v.opening.config.shards) c.self.view_is
+    c.self.invariant.there in
+    let early : c.args.now ≤ 2 ^ 62 = omega (arith, c.if-now-gt-LATEST.false) in
+    let gone = c.let_go.ensures in
+    let sent : shown_outs c.into_twin-then-all_done.result.answer.outs.items ≡ [] =
+    ap (λ v. shown_outs v.items) c.into_twin-then-all_done.ensures.sent
+    ∙ ap (λ l. shown_outs l) c.none-then-all_done.ensures.sent in
+    let copies : shown_outs c.into_twin-then-all_done.result.copy.outs.items ≡ [] =
+    ap (λ v. shown_outs v.items) c.into_twin-then-all_done.ensures.copies
+    ∙ ap (λ l. shown_outs l) c.none-then-all_done.ensures.copies in (
+      ticked c.into_twin-then-all_done.result.answer o.config states c.let_go.new.self.states c.args.now o.shard
+          there early (sent ∙ sym gone.packets) c.into_twin-then-all_done.ensures.refusal (sym gone.states),
+      ticked c.into_twin-then-all_done.result.copy o.config states c.let_go.new.self.states c.args.now o.shard
+          there early (copies ∙ sym gone.packets) c.into_twin-then-all_done.ensures.copy_refusal
+          (sym gone.states),
+    )
+
+-- memory is wanted only where an entry is due that waits
+pub returns-in_err-room-clause-only_done : goal.returns-in_err-room-clause-only_done
+returns-in_err-room-clause-only_done g c = λ done.
+    let i = c.self.inside in
+    let o = shown_opening i.opening in
+    let own = subst (λ ns. HaveNumbers o ns) (sym c.deref-2.ensures.value) c.self.invariant.own in
+    let same = c.all_done.ensures o own
+    ∙ ap (λ ns. only_done_from o.config c.args.now o.shard 0 (states_in o i.entries ns))
+    c.deref-2.ensures.value
+    ∙ ap (λ (v : ShardView).
+    only_done_from v.opening.config c.args.now v.opening.shard 0 v.states) c.self.view_is in
+    absurd (let bad : false ≡ true = sym c.if-all_done.false ∙ same ∙ done in cc)
+
 pub returns-in_err-room-clause-too_late : goal.returns-in_err-room-clause-too_late
 returns-in_err-room-clause-too_late g c = λ late.
     absurd (omega (arith, c.if-now-gt-LATEST.false, late))
@@ -87,7 +142,7 @@ tick_in-requires-clause-rooms g c =
     let rooms = c.in_ok-room.room.rooms.items in
     let o = shown_opening i.opening in
     let seen = subst (λ ns. AreRooms o.config c.args.now o.shard 0 (states_in o i.entries ns) rooms)
-    c.deref-2.ensures.value c.in_ok-room.ensures.rooms in
+    c.deref-3.ensures.value c.in_ok-room.ensures.rooms in
     let are = subst (λ (v : ShardView).
     AreRooms v.opening.config c.args.now v.opening.shard 0 v.states rooms) c.self.view_is seen
     in
@@ -100,7 +155,7 @@ tick_in-requires-clause-own g c =
     let rooms = c.in_ok-room.room.rooms.items in
     let o = shown_opening i.opening in
     let seen = subst (λ ns. AreRooms o.config c.args.now o.shard 0 (states_in o i.entries ns) rooms)
-    c.deref-2.ensures.value c.in_ok-room.ensures.rooms in
+    c.deref-3.ensures.value c.in_ok-room.ensures.rooms in
     let are = subst (λ (v : ShardView).
     AreRooms v.opening.config c.args.now v.opening.shard 0 v.states rooms) c.self.view_is seen
     in
@@ -112,7 +167,7 @@ returns-clause-turn g c =
     let rooms = c.in_ok-room.room.rooms.items in
     let p = shown_opening i.opening in
     let seen = subst (λ ns. AreRooms p.config c.args.now p.shard 0 (states_in p i.entries ns) rooms)
-    c.deref-2.ensures.value c.in_ok-room.ensures.rooms in
+    c.deref-3.ensures.value c.in_ok-room.ensures.rooms in
     let are = subst (λ (v : ShardView).
     AreRooms v.opening.config c.args.now v.opening.shard 0 v.states rooms) c.self.view_is seen
     in

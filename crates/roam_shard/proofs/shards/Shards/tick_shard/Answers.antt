@@ -1,15 +1,16 @@
 -- A tick goes to its shard.
-use Rattle.std.proofs.Common.{◌<◌, ◌≤◌, ◌^◌, length, set, ap, subst, arith, inl, inr}
-use Rattle.std.proofs.lemmas.Bool.{cases_lt}
+use Rattle.std.proofs.Common.{◌≡◌, ℕ, ◌<◌, ◌≤◌, ◌^◌, length, set, ap, subst, arith, inl, inr, ◌∙◌}
+use Rattle.std.proofs.lemmas.Bool.{cases_Bool, cases_lt}
 use Rattle.roam_conf.specs.Config.{ConfigView}
 use Rattle.roam_conf.specs.Shown.{shown}
 use Rattle.roam_tables.proofs.RealmLemmas.{get-read}
 use Rattle.roam_core.specs.BrokerView.{BrokerView}
 use Rattle.roam_core.specs.ManyRealms.{to_tick}
+use Rattle.roam_core.specs.ShardRooms.{only_done_from}
 use Rattle.roam_core.specs.Steps.{GivesAnswer}
 use Rattle.roam_shard.specs.Across.{all_states}
 use Rattle.roam_shard.specs.Twins.{GivesTwin}
-use Rattle.roam_shard.proofs.AcrossLemmas.{first_fails, still_sharded, tick_length, ticks_across}
+use Rattle.roam_shard.proofs.AcrossLemmas.{done_across, first_fails, still_sharded, tick_length, ticks_across}
 use Rattle.roam_shard.proofs.shards.Shards.tick_shard.Goals as goal
 
 pub invariant_of-self : goal.invariant_of-self
@@ -60,4 +61,28 @@ returns-clause-in_time g c = λ err.
       | inl late ↦ absurd (first_fails c.tick.result c.first.result c.first.ensures err
           (c.tick.ensures.too_late late))
       | inr early ↦ early
+    ]
+
+-- nor does one at which each entry that is due was answered
+pub returns-clause-waits : goal.returns-clause-waits
+returns-clause-waits g c = λ err.
+    let i = c.self.inside in
+    let config : ConfigView = shown i.config.now in
+    let old = c.index_mut.result.now in
+    let shards = ap (λ (v : BrokerView). v.config.shards) c.self.view_is in
+    let lt : c.from.result < length i.shards.items =
+    omega (arith, c.from.ensures, c.requires, shards, c.self.invariant.count) in
+    let at = get-read i.shards.items c.from.result old lt c.index_mut.ensures.value in
+    let own = c.self.invariant.each c.from.result old at in
+    let seen : only_done_from old.opening.config c.args.now old.opening.shard 0 old.states
+    ≡ only_done_from c.args.self.now.config c.args.now c.args.shard 0 c.args.self.now.states =
+    ap (λ (x : ConfigView). only_done_from x c.args.now old.opening.shard 0 old.states) own.same_config
+    ∙ ap (λ (n : ℕ). only_done_from config c.args.now n 0 old.states) own.own_number
+    ∙ done_across config i.shards.items c.from.result old old at lt c.args.now own.whole
+    ∙ ap (λ (n : ℕ). only_done_from config c.args.now n 0 (all_states config i.shards.items)) c.from.ensures
+    ∙ ap (λ (v : BrokerView). only_done_from v.config c.args.now c.args.shard 0 v.states) c.self.view_is in
+    elim (cases_Bool (only_done_from c.args.self.now.config c.args.now c.args.shard 0 c.args.self.now.states)) [
+      | inl done ↦ absurd (first_fails c.tick.result c.first.result c.first.ensures err
+          (c.tick.ensures.only_done (seen ∙ done)))
+      | inr waits ↦ waits
     ]

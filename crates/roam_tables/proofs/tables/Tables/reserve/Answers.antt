@@ -1,6 +1,6 @@
 use Rattle.std.proofs.Common.{◌<◌}
 use Rattle.roam_tables.specs.Stands.{room_at}
-use Rattle.roam_tables.proofs.GrowthLemmas.{grow_entries, grow_ok, grow_realms, grow_room, grow_room_was, grow_sound, kept_within, on_ok}
+use Rattle.roam_tables.proofs.GrowthLemmas.{grow_all_room, grow_entries, grow_ok, grow_realms, grow_room, grow_room_was, grow_sound, kept_within, on_err, on_ok}
 use Rattle.roam_tables.proofs.tables.Tables.reserve.Goals as goal
 
 pub grow-requires : goal.grow-requires
@@ -28,6 +28,16 @@ returns-clause-ok g c =
     c.self.view_is c.args.realm c.grow.new.slots c.grow.new.by_ticket c.grow.new.by_client
     c.grow.new.realms.items c.grow.ensures.slots c.grow.ensures.tickets c.grow.ensures.clients
     c.grow.ensures.runs) c.grow.ensures.ok
+
+pub returns-clause-err : goal.returns-clause-err
+returns-clause-err g c =
+    let i = c.self.inside in
+    on_err _ c.grow.result
+    (grow_all_room i.slots i.by_ticket i.by_client i.realms.items c.self.invariant c.args.self.now
+    c.self.view_is c.args.realm c.grow.new.slots c.grow.new.by_ticket c.grow.new.by_client
+    c.grow.new.realms.items c.grow.ensures.slots c.grow.ensures.tickets c.grow.ensures.clients
+    c.grow.ensures.runs c.grow.ensures.slots_room c.grow.ensures.tickets_room
+    c.grow.ensures.clients_room)
 
 pub returns-clause-succeeds : goal.returns-clause-succeeds
 returns-clause-succeeds g c =
