@@ -1,5 +1,5 @@
 #!/usr/bin/env python3
-"""Tries the mistakes that the gate doesn't: those of large crates, whose edits would cost a second proof of the whole crate.
+"""Tries the mistakes that the gate doesn't: those of crates whose edits would cost a second proof of the whole crate.
 
     mistakes/try.py [CRATE ..]
 
