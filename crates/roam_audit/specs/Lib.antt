@@ -3,3 +3,4 @@ pub mod Receipts
 pub mod Shown
 pub mod Audit
 pub mod Findings
+pub mod Texts

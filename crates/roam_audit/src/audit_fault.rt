@@ -1,5 +1,8 @@
 //! What an audit finds at fault.
 
+ghost use Rattle.std.specs.Prelude.{Some};
+ghost use Rattle.roam_audit.specs.Texts.{text_of};
+
 use std::error::Error;
 use std::fmt;
 
@@ -13,6 +16,8 @@ pub enum AuditFault {
 }
 
 impl fmt::Display for AuditFault {
+    ghost output = { λ fault. Some (text_of fault) };
+
     fn fmt<W: fmt::Write>(&self, f: &mut fmt::Formatter<W>) -> fmt::Result {
         match self {
             AuditFault::Seats { shard } => write!(f, "seats of shard {shard}"),

@@ -4,3 +4,4 @@ pub mod Calls
 pub mod Keeping
 pub mod Closing
 pub mod Faults
+pub mod Texts

@@ -1,5 +1,8 @@
 //! Why a hub's call isn't recorded.
 
+ghost use Rattle.std.specs.Prelude.{Some};
+ghost use Rattle.roam_hub.specs.Texts.{text_of};
+
 use roam_trace::TraceFault;
 use roam_wire::NoMemory;
 use std::{error, fmt};
@@ -20,6 +23,8 @@ pub enum HubFault {
 }
 
 impl fmt::Display for HubFault {
+    ghost output = { λ fault. Some (text_of fault) };
+
     fn fmt<W: fmt::Write>(&self, f: &mut fmt::Formatter<W>) -> fmt::Result {
         f.write_str(match self {
             HubFault::NoShard => "no such shard",

@@ -1,5 +1,8 @@
 //! Why a step isn't recorded.
 
+ghost use Rattle.std.specs.Prelude.{Some};
+ghost use Rattle.roam_trace.specs.Texts.{text_of};
+
 use roam_wire::NoMemory;
 use std::{error, fmt};
 
@@ -13,6 +16,8 @@ pub enum TraceFault {
 }
 
 impl fmt::Display for TraceFault {
+    ghost output = { λ fault. Some (text_of fault) };
+
     fn fmt<W: fmt::Write>(&self, f: &mut fmt::Formatter<W>) -> fmt::Result {
         f.write_str(match self {
             TraceFault::TraceFull => "the trace is full",
