@@ -9,7 +9,6 @@ when everything else is over: of a session that began before all that junk.
 
 import argparse
 import multiprocessing
-import re
 import sys
 import time
 
@@ -86,13 +85,13 @@ class Reached:
 
 
 def refused():
-    """What the log says was refused, by number: how often, and in how many lines."""
+    """What the log says was refused, by number: how often."""
     counts = {}
     with open(processes.LOG, "rb") as log:
         for line in log:
-            if found := re.search(rb"refused (\d+)", line):
-                number = int(found.group(1))
-                counts[number] = counts.get(number, 0) + 1
+            if found := processes.refused_in(line):
+                number, count = found
+                counts[number] = counts.get(number, 0) + count
     return counts
 
 

@@ -121,15 +121,20 @@ class Broker:
         stop(self.process)
 
 
+def refused_in(line):
+    """The number of the refusals that a line of the broker's log tells, and how many they are; None where it tells none."""
+    found = re.search(rb"refused (\d+)(?:.*\((\d+) times\))?", line)
+    return found and (int(found.group(1)), int(found.group(2) or 1))
+
+
 def refusals():
-    """How often the broker's log has each `refused N`."""
+    """How often the broker's log tells each `refused N`."""
     counts = {}
     with open(LOG, "rb") as log:
         for line in log:
-            found = re.search(rb"refused (\d+)", line)
-            if found:
-                number = int(found.group(1))
-                counts[number] = counts.get(number, 0) + 1
+            if found := refused_in(line):
+                number, count = found
+                counts[number] = counts.get(number, 0) + count
     return ", ".join(f"{number}: {counts[number]}" for number in sorted(counts)) or "none"
 
 

@@ -7,23 +7,11 @@ use Rattle.roam_diagnosis.specs.Lines.{IsDiagnosis, printed}
 use Rattle.roam_conf.specs.declared.endpoint.Endpoint.{Endpoint}
 use Rattle.roam_sim.specs.Lines.{endpoint_text}
 use Rattle.roam_conf_reader.specs.declared.fault.ConfFault.{ConfFault}
-use Rattle.roam_conf_reader.specs.declared.fault.ConfFault.TheVariants as conf
+use Rattle.roam_conf_reader.specs.FaultNames.{name_of}
 use Rattle.roam_serve.specs.declared.fault.ServeFault.{ServeFault}
 use Rattle.roam_serve.specs.declared.fault.ServeFault.TheVariants as serve
 use Rattle.roam.specs.declared.report.Fault.{Fault}
 use Rattle.roam.specs.declared.report.Fault.TheVariants as fault
-
--- the name of a configuration's fault
-abbrev pub name_of : ConfFault → List ℕ
-name_of conf.Syntax = codes "Syntax"
-name_of conf.Missing = codes "Missing"
-name_of conf.BadValue = codes "BadValue"
-name_of conf.DuplicateRealm = codes "DuplicateRealm"
-name_of conf.DuplicatePeer = codes "DuplicatePeer"
-name_of conf.DuplicateEndpoint = codes "DuplicateEndpoint"
-name_of conf.DuplicateServer = codes "DuplicateServer"
-name_of conf.DuplicateLink = codes "DuplicateLink"
-name_of conf.Memory = codes "Memory"
 
 -- the usage: a line for each command
 abbrev pub usage_text : List ℕ

@@ -77,23 +77,6 @@ pub struct Ending {
     pub told: io::Result<()>,
 }
 
-/// The name of a configuration's fault.
-fn name_of(fault: ConfFault) -> &'static str
-    ensures { result.now ≡ spec.name_of fault }
-{
-    match fault {
-        ConfFault::Syntax => "Syntax",
-        ConfFault::Missing => "Missing",
-        ConfFault::BadValue => "BadValue",
-        ConfFault::DuplicateRealm => "DuplicateRealm",
-        ConfFault::DuplicatePeer => "DuplicatePeer",
-        ConfFault::DuplicateEndpoint => "DuplicateEndpoint",
-        ConfFault::DuplicateServer => "DuplicateServer",
-        ConfFault::DuplicateLink => "DuplicateLink",
-        ConfFault::Memory => "Memory",
-    }
-}
-
 /// What the system says of the error of a number, if this is known here.
 fn words_of(reason: u32) -> Option<&'static str>
     ensures { MatchOption result (spec.words_of reason ≡ None) (λ words. spec.words_of reason ≡ Some words.now) }
@@ -186,8 +169,7 @@ fn print_refused<W: Write>(writer: &mut W, path: &str, fault: ConfFault) -> io::
     ensures { OnOk result
         (Appends (W.contents writer.old) (W.contents writer.new) (spec.text_of (Fault.Refused path.entry fault))) }
 {
-    let name = name_of(fault);
-    writeln!(writer, "roam: {path}: {name}")
+    writeln!(writer, "roam: {path}: {fault}")
 }
 
 /// Prints which line of a script is faulty.

@@ -35,7 +35,8 @@ abbrev pub realm_optional : List (List ℕ)
 realm_optional = codes "also" ∷ codes "rest" ∷ codes "rest_after" ∷ []
 
 abbrev pub top_optional : List (List ℕ)
-top_optional = codes "max_hops" ∷ codes "status_server" ∷ codes "trace_octets" ∷ codes "spread" ∷ []
+top_optional =
+    codes "max_hops" ∷ codes "status_server" ∷ codes "trace_octets" ∷ codes "spread" ∷ codes "metrics" ∷ []
 
 -- the key is one of these
 abbrev pub is_one_of : List (List ℕ) → List ℕ → Bool
@@ -107,6 +108,8 @@ pub record StatesConfig (members : Members) (config : ConfigView) : Type 0 where
   pub spread : flag (get_member (codes "spread") members) ≡ Some config.spread
   pub peers : StatesTables StatesPeer (value_at (array_of 1024) (codes "peer") members) config.peers
   pub realms : StatesTables StatesRealm (value_at (array_of 1024) (codes "realm") members) config.realms
+  -- what serves isn't the broker's: here it only has to be an endpoint
+  pub metrics : is_some (optional_at endpoint (codes "metrics") members) ≡ true
   pub no_other_key : has_only top_required top_optional members ≡ true
 
 -- each of the keys stands in the table

@@ -1,6 +1,7 @@
 //! Why a configuration is refused.
 
-ghost use Rattle.std.specs.Prelude.{◌≡◌};
+ghost use Rattle.std.specs.Prelude.{◌≡◌, Some};
+ghost use Rattle.roam_conf_reader.specs.FaultNames as names;
 ghost use Rattle.roam_conf_reader.specs.declared.fault.ConfFault.TheVariants.{Memory};
 
 use std::alloc::{AllocError, AllocFailed};
@@ -33,7 +34,9 @@ pub enum ConfFault {
 }
 
 /// The name of a fault.
-fn name_of(fault: ConfFault) -> &'static str {
+fn name_of(fault: ConfFault) -> &'static str
+    ensures { result.now ≡ names.name_of fault }
+{
     match fault {
         ConfFault::Syntax => "Syntax",
         ConfFault::Missing => "Missing",
@@ -48,6 +51,8 @@ fn name_of(fault: ConfFault) -> &'static str {
 }
 
 impl fmt::Display for ConfFault {
+    ghost output = { λ fault. Some (names.name_of fault) };
+
     fn fmt<W: fmt::Write>(&self, f: &mut fmt::Formatter<W>) -> fmt::Result {
         f.write_str(name_of(*self))
     }

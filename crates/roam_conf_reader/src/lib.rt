@@ -13,9 +13,11 @@ mod pattern;
 mod peer;
 mod realm;
 mod server;
+mod settings;
 mod stated;
 mod tables;
 mod values;
 
 pub use config::read_config;
 pub use fault::ConfFault;
+pub use settings::{Settings, read_settings};

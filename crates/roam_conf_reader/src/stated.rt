@@ -44,6 +44,7 @@ fn top_text(table: &Table) -> Option<TopText<'_>>
     if !has_only(table, &TOP_KEYS, &TOP_OPTIONAL_KEYS) {
         return None;
     }
+    let _metrics = keys::optional_endpoint(table, "metrics")?;
     Some(TopText {
         shards: keys::number(table, "shards", 1, 64)? as u16,
         seed: keys::seed(table, "seed")?,

@@ -7,7 +7,7 @@ use crate::place::Kind;
 #[derive(Clone, Copy)]
 pub(crate) struct Rule(pub &'static str, pub bool, pub Form);
 
-const TOP: [Rule; 11] = [
+const TOP: [Rule; 12] = [
     Rule("shards", true, Form::Number(1, 64)),
     Rule("seed", true, Form::Seed),
     Rule("auth", true, Form::Endpoint),
@@ -17,6 +17,7 @@ const TOP: [Rule; 11] = [
     Rule("max_hops", false, Form::Number(1, 100)),
     Rule("status_server", false, Form::Flag),
     Rule("spread", false, Form::Flag),
+    Rule("metrics", false, Form::Endpoint),
     Rule("peer", true, Form::Tables(1024)),
     Rule("realm", true, Form::Tables(1024)),
 ];

@@ -14,9 +14,10 @@ refusal_of hub.Misplaced = refusal.Misplaced
 refusal_of hub.TraceFull = refusal.TraceFull
 refusal_of hub.NoMemory = refusal.NoMemory
 
--- for how many notices one stands: a notice of dropped ones for those
+-- for how many notices one stands: a notice of dropped ones or of refusals for those
 abbrev pub notices_in : Notice → ℕ
 notices_in (notice.Dropped count) = count
+notices_in (notice.Refused tally) = tally.count
 notices_in _ = 1
 
 -- for how many some stand together

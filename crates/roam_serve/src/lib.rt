@@ -16,5 +16,6 @@ mod system;
 mod threads;
 
 pub use fault::{Reason, ServeFault};
+pub use run::counters::{Counters, Watch};
 pub use server::serve;
 pub use system::seed::with_drawn_seed;

@@ -1,6 +1,7 @@
 //! The run of a server: its threads start, share, and end.
 
 pub mod audit;
+pub mod counters;
 pub mod ending;
 pub mod losses;
 pub mod old_history;

@@ -8,8 +8,9 @@ ghost use Rattle.roam_serve.specs.Endings.{endings_of};
 ghost use Rattle.roam_serve.specs.declared.run.ending.Ending.TheVariants as ending;
 ghost use Rattle.roam_serve.specs.Faults.{IsAfterBinding, IsFaultOf};
 
-use crate::fault::ServeFault;
+use crate::fault::{ServeFault, reason_of};
 use crate::run::audit::close_and_audit;
+use crate::run::counters::Watch;
 use crate::run::ending::{Ended, WorkerEnd, has_given_up_after};
 use crate::run::losses::{CAUSES, SharedLosses};
 use crate::run::old_history::OldHistory;
@@ -18,6 +19,7 @@ use crate::run::rest::TimerRest;
 use crate::run::shared::Shared;
 use crate::run::start::run_threads;
 use crate::system::bind::{BoundSocket, RECEIVE_BUFFER, bind_all, descriptors_wanted, widen};
+use crate::system::listener::listen_at;
 use crate::system::polls::{make_polls, make_wakers};
 use crate::threads::logger::tell_or_drop;
 use crate::threads::notice::Notice;
@@ -28,7 +30,8 @@ use roam_hub::{Audited, Blanks, Gate, Hub, Opened, Seat};
 use roam_shard::first_starts;
 use std::alloc::Global;
 use std::marker::Brand;
-use std::net::Net;
+use std::net::{Net, TcpListener};
+use std::random::RandomSource;
 use std::sync::Wait;
 use std::sync::atomic::AtomicBool;
 use std::thread::{Parker, Threads};
@@ -40,17 +43,39 @@ struct ServerParts<'s, G> {
     sockets: &'s [BoundSocket],
     gate: &'s G,
     losses: &'s SharedLosses,
+    watch: Option<Watch<'s>>,
+    listener: Option<&'s TcpListener>,
     old_history: &'s OldHistory,
     start: Instant,
     end: Option<u64>,
 }
 
 /// Gives the sockets room for what arrives, and tells where the system gives less.
-fn widen_all<R: Log>(rt: &R, sockets: &[BoundSocket]) {
+fn widen_all<R: Log>(rt: &R, config: &Config, sockets: &[BoundSocket]) {
     for bound in sockets {
         let room = widen(&bound.socket);
         if room < RECEIVE_BUFFER {
-            tell_or_drop(rt, Notice::Narrow(bound.endpoint, room));
+            tell_or_drop(rt, config, Notice::Narrow(bound.endpoint, room));
+        }
+    }
+}
+
+/// The socket at which the counts are asked for, where there is one. Tells where it can't be had.
+fn listener<R: Log>(rt: &R, config: &Config, watch: Option<Watch<'_>>) -> Option<TcpListener> {
+    let Some(
+        Watch {
+            metrics: Some(endpoint),
+            ..
+        },
+    ) = watch
+    else {
+        return None;
+    };
+    match listen_at(endpoint) {
+        Ok(listener) => Some(listener),
+        Err(error) => {
+            tell_or_drop(rt, config, Notice::NoMetrics(endpoint, reason_of(&error)));
+            None
         }
     }
 }
@@ -74,7 +99,12 @@ fn gather<N: Opened>(alloc: Global, ends: Vec<WorkerEnd<N>>) -> Result<Ended<N>,
 }
 
 /// The threads, from their start to their end.
-fn run<'c, R: Threads + Wait + Clock + Net + Log + Sync, G: Gate + Sync, N: Opened + Send + Sync>(
+fn run<
+    'c,
+    R: Threads + Wait + Clock + Net + RandomSource + Log + Sync,
+    G: Gate + Sync,
+    N: Opened + Send + Sync,
+>(
     rt: &R,
     alloc: Global,
     parts: &ServerParts<'_, G>,
@@ -99,6 +129,11 @@ fn run<'c, R: Threads + Wait + Clock + Net + Log + Sync, G: Gate + Sync, N: Open
         wakers: wakers.as_slice(),
         rest: &rest,
         losses: parts.losses,
+        counters: match parts.watch {
+            Some(watch) => Some(watch.counters),
+            None => None,
+        },
+        listener: parts.listener,
         old_history: parts.old_history,
         stop: &stop,
         start: parts.start,
@@ -110,11 +145,11 @@ fn run<'c, R: Threads + Wait + Clock + Net + Log + Sync, G: Gate + Sync, N: Open
 }
 
 /// Tells what wasn't told of the packets that were lost.
-fn tell_losses<R: Log>(rt: &R, losses: &SharedLosses) {
+fn tell_losses<R: Log>(rt: &R, config: &Config, losses: &SharedLosses) {
     for cause in CAUSES {
         let count = losses.take(cause);
         if count > 0 {
-            tell_or_drop(rt, Notice::Lost(cause, count));
+            tell_or_drop(rt, config, Notice::Lost(cause, count));
         }
     }
 }
@@ -131,18 +166,23 @@ fn count_steps<N: Opened>(audited: &Audited<Global, N>) -> u64 {
 /// How a server ends whose history passed the audit.
 fn end<R: Log, N: Opened>(
     rt: &R,
+    config: &Config,
     audited: Audited<Global, N>,
     old_history: &OldHistory,
 ) -> Result<(), ServeFault>
     ensures { IsOk result }
 {
     let steps = count_steps(&audited);
-    tell_or_drop(rt, Notice::Ended(steps, old_history.times()));
+    tell_or_drop(rt, config, Notice::Ended(steps, old_history.times()));
     Ok(())
 }
 
 /// One hub, from its opening to its audit.
-fn run_hub<N: Opened + Send + Sync, R: Threads + Wait + Clock + Net + Log + Sync, G: Gate + Sync>(
+fn run_hub<
+    N: Opened + Send + Sync,
+    R: Threads + Wait + Clock + Net + RandomSource + Log + Sync,
+    G: Gate + Sync,
+>(
     rt: &R,
     alloc: Global,
     parts: &ServerParts<'_, G>,
@@ -165,7 +205,11 @@ fn run_hub<N: Opened + Send + Sync, R: Threads + Wait + Clock + Net + Log + Sync
 }
 
 /// One hub, from its opening to its audit, and how the server ends then.
-fn serve_hub<N: Opened + Send + Sync, R: Threads + Wait + Clock + Net + Log + Sync, G: Gate + Sync>(
+fn serve_hub<
+    N: Opened + Send + Sync,
+    R: Threads + Wait + Clock + Net + RandomSource + Log + Sync,
+    G: Gate + Sync,
+>(
     rt: &R,
     alloc: Global,
     parts: &ServerParts<'_, G>,
@@ -180,20 +224,22 @@ fn serve_hub<N: Opened + Send + Sync, R: Threads + Wait + Clock + Net + Log + Sy
     ensures { IfErr result IsAfterBinding }
 {
     let audited = run_hub::<N, R, G>(rt, alloc, parts, config, starts, blanks);
-    tell_losses(rt, parts.losses);
-    end(rt, audited?, parts.old_history)
+    tell_losses(rt, config, parts.losses);
+    end(rt, config, audited?, parts.old_history)
 }
 
-/// Serves a configuration for so many milliseconds, or without end.
+/// Serves a configuration for so many milliseconds, or without end. What its threads do is counted where somebody
+/// watches it.
 ///
 /// # Errors
 ///
 /// The first of `Clock`, `Bind`, `Descriptors`, `Memory`, `Wait`, `Thread`, `Receive` and `Audit` that comes up.
 /// `Bind` names an endpoint of the configuration. `Ok` comes of an audit alone.
-pub fn serve<R: Threads + Wait + Clock + Net + Log + Sync, G: Gate + Sync>(
+pub fn serve<R: Threads + Wait + Clock + Net + RandomSource + Log + Sync, G: Gate + Sync>(
     rt: &R,
     alloc: Global,
     config: &Config,
+    watch: Option<Watch<'_>>,
     milliseconds: Option<u64>,
     gate: &G,
 ) -> Result<(), ServeFault>
@@ -203,13 +249,16 @@ pub fn serve<R: Threads + Wait + Clock + Net + Log + Sync, G: Gate + Sync>(
         return Err(ServeFault::Clock);
     };
     let sockets = bind_all(rt, alloc, config)?;
-    widen_all(rt, sockets.as_slice());
+    widen_all(rt, config, sockets.as_slice());
+    let listener = listener(rt, config, watch);
     let losses = SharedLosses::new();
     let old_history = OldHistory::new(alloc, config.shards)?;
     let parts = ServerParts {
         sockets: sockets.as_slice(),
         gate,
         losses: &losses,
+        watch,
+        listener: listener.as_ref(),
         old_history: &old_history,
         start,
         end: milliseconds,

@@ -1,7 +1,9 @@
 //! The threads of a server, each as it runs, and what they have.
 
 pub mod context;
+pub mod counting;
 pub mod logger;
+pub mod metrics;
 pub mod notice;
 pub mod outgoing;
 pub mod receiver;

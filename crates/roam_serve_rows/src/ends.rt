@@ -2,7 +2,7 @@
 
 use crate::row::Row;
 use std::io;
-use std::io::{ErrorKind, Read};
+use std::io::{ErrorKind, Read, Write};
 use std::net::{Ipv4Addr, Net, SocketAddr, UdpSocket};
 use std::os::fd::AsRawFd;
 use std::os::unix::net::UnixStream;
@@ -70,7 +70,7 @@ impl Ends {
 /// Standard error of this process, of which nothing is read until a row asks for it.
 #[derive(Drop)]
 pub(crate) struct Unread {
-    _written: UnixStream,
+    written: UnixStream,
     reader: UnixStream,
 }
 
@@ -84,10 +84,23 @@ impl Unread {
         if written.as_raw_fd() != STANDARD_ERROR {
             return Err(io::Error::from(ErrorKind::Other));
         }
-        Ok(Unread {
-            _written: written,
-            reader,
-        })
+        Ok(Unread { written, reader })
+    }
+
+    /// Writes until there is room for no more. Answers whether that was reached.
+    pub(crate) fn fill(&self) -> bool {
+        let octets = [b'.'; LARGEST];
+        if self.written.set_nonblocking(true).is_err() {
+            return false;
+        }
+        for size in [LARGEST, 64, 1] {
+            for _ in 0..1_000_000 {
+                if (&self.written).write(&octets[..size]).is_err() {
+                    break;
+                }
+            }
+        }
+        self.written.set_nonblocking(false).is_ok()
     }
 
     /// Reads all that was written, so that there is room for more.

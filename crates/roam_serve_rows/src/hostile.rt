@@ -4,6 +4,7 @@ use crate::ends::{Ends, Unread, local};
 use crate::exchange::{SENDS, Verdict, complete, repeat};
 use crate::packets::ACCESS;
 use crate::stage::Stage;
+use std::net::{Ipv4Addr, Net, SocketAddr, UdpSocket};
 use std::sync::atomic::Ordering;
 use std::thread;
 use std::time::{Clock, Duration};
@@ -27,6 +28,12 @@ const HOSTILE: [(u16, u8, usize, u64); 10] = [
     (11813, 4, LARGEST, 6),
 ];
 
+/// How often each of them is sent.
+const TIMES: u64 = 3;
+
+/// How many of them differ in their number, place or source.
+const DISTINCT: u64 = 9;
+
 /// Waits until so many arrivals were told to be refused, or their notices to be dropped.
 fn is_told<R: Clock>(stage: &Stage<'_, R>, count: u64) -> bool {
     for _ in 0..5000 {
@@ -38,17 +45,7 @@ fn is_told<R: Clock>(stage: &Stage<'_, R>, count: u64) -> bool {
     false
 }
 
-/// Sends so many octets, until a refusal is told: its number.
-fn refusal<R: Clock>(stage: &Stage<'_, R>, ends: &Ends, to: u16, octets: &[u8]) -> u64 {
-    let count = stage.told().saturating_add(1);
-    if ends.client.send_to(octets, local(to)).is_ok() && is_told(stage, count) {
-        stage.refusal.load(Ordering::SeqCst)
-    } else {
-        0
-    }
-}
-
-/// Waits until the server hears: until a datagram of no octets is told to be refused.
+/// Waits until the server hears: until datagrams of no octets are told to be refused, and no more are.
 fn begin<R: Clock>(stage: &Stage<'_, R>, ends: &Ends) -> Verdict {
     for _ in 0..SENDS {
         if ends.client.send_to(&[], local(11812)).is_err() {
@@ -56,23 +53,100 @@ fn begin<R: Clock>(stage: &Stage<'_, R>, ends: &Ends) -> Verdict {
         }
         thread::sleep(stage, Duration::from_millis(100));
         if stage.told() > 0 {
+            thread::sleep(stage, Duration::from_millis(1500));
             return Ok(());
         }
     }
     Err("the server doesn't begin")
 }
 
+/// Sends all of them, slowly enough that the server's sockets have room for them, and answers the sum of their
+/// numbers.
+fn send_hostile<R: Clock>(stage: &Stage<'_, R>, ends: &Ends) -> Result<u64, &'static str> {
+    let mut numbers = 0u64;
+    for (to, octet, size, number) in HOSTILE {
+        let octets = [octet; LARGEST];
+        if size > LARGEST || ends.client.send_to(&octets[..size], local(to)).is_err() {
+            return Err("the client can't send");
+        }
+        thread::sleep(stage, Duration::from_millis(20));
+        numbers = numbers.saturating_add(number);
+    }
+    Ok(numbers)
+}
+
+/// Datagrams that are refused: all are told by their numbers, and those that are alike together, in one line or two
+/// where a second ends meanwhile.
+fn refused<R: Clock>(stage: &Stage<'_, R>, ends: &Ends) -> Verdict {
+    let told = stage.told();
+    let lines = stage.lines.load(Ordering::SeqCst);
+    let mut numbers = stage.numbers.load(Ordering::SeqCst);
+    for _ in 0..TIMES {
+        numbers = numbers.saturating_add(send_hostile(stage, ends)?);
+    }
+    if !is_told(stage, told.saturating_add(TIMES * 10)) {
+        return Err("a datagram isn't told to be refused");
+    }
+    if stage.numbers.load(Ordering::SeqCst) != numbers {
+        return Err("a datagram isn't refused as it should be");
+    }
+    if stage.lines.load(Ordering::SeqCst) > lines.saturating_add(2 * DISTINCT) {
+        return Err("equal refusals aren't told together");
+    }
+    Ok(())
+}
+
 /// An Access exchange after datagrams that are refused: they take no ticket, no Identifier and no
 /// random words.
 pub(crate) fn hostile<R: Clock>(stage: &Stage<'_, R>, ends: &Ends) -> Verdict {
     begin(stage, ends)?;
-    for (to, octet, size, number) in HOSTILE {
-        let octets = [octet; LARGEST];
-        if size > LARGEST || refusal(stage, ends, to, &octets[..size]) != number {
-            return Err("a datagram isn't refused as it should be");
+    refused(stage, ends)?;
+    complete(ends, local(11812), &ends.home, &ACCESS)
+}
+
+/// How many sources a flood has, and how many datagrams come of each.
+const SOURCES: u8 = 40;
+
+const OF_EACH: u64 = 100;
+
+/// Datagrams of no octets from many addresses, and among them some of another kind: these are told, and of the others
+/// how many they were.
+pub(crate) fn flood<R: Clock + Net>(stage: &Stage<'_, R>, ends: &Ends) -> Verdict {
+    begin(stage, ends)?;
+    let told = stage.told();
+    let lines = stage.lines.load(Ordering::SeqCst);
+    for last in 2..2 + SOURCES {
+        let address = SocketAddr::from((Ipv4Addr::new(127, 0, 0, last), 25000));
+        let Ok(source) = UdpSocket::bind(stage, address) else {
+            return Err("the test can't bind its sockets");
+        };
+        for _ in 0..OF_EACH {
+            if source.send_to(&[], local(11812)).is_err() {
+                return Err("the client can't send");
+            }
+        }
+        thread::sleep(stage, Duration::from_millis(1));
+        if ends.client.send_to(&[4; 1028], local(11813)).is_err() {
+            return Err("the client can't send");
         }
     }
-    complete(ends, local(11812), &ends.home, &ACCESS)
+    if !is_told(
+        stage,
+        told.saturating_add(u64::from(SOURCES) * (OF_EACH + 1)),
+    ) {
+        return Err("a datagram isn't told to be refused");
+    }
+    if stage.watched.load(Ordering::SeqCst) != u64::from(SOURCES) {
+        return Err("a flood hides what else is refused");
+    }
+    if stage.elsewhere.load(Ordering::SeqCst) == 0 {
+        return Err("refusals of many sources aren't told together");
+    }
+    // Ten lines a second at most, for three seconds at most.
+    if stage.lines.load(Ordering::SeqCst) > lines.saturating_add(30) {
+        return Err("equal refusals aren't told together");
+    }
+    Ok(())
 }
 
 /// How many datagrams a burst has.
@@ -113,9 +187,8 @@ fn is_each_told<R: Clock>(stage: &Stage<'_, R>, ends: &Ends, error: &Unread, sen
     false
 }
 
-/// Refusals while nobody reads standard error. First the teller of notices stalls, until its queues
-/// are full; then it goes on, and there is no room on standard error. Notices are dropped at both
-/// places, and all are counted in the end.
+/// Refusals while nobody reads standard error. First the teller of notices stalls; then it goes on, and
+/// there is no room on standard error. Notices are dropped, and all are counted in the end.
 pub(crate) fn unread<R: Clock>(stage: &Stage<'_, R>, ends: &Ends) -> Verdict {
     let Some(error) = &ends.error else {
         return Err("standard error is as it was");
@@ -124,8 +197,14 @@ pub(crate) fn unread<R: Clock>(stage: &Stage<'_, R>, ends: &Ends) -> Verdict {
     stage.stall(true);
     bursts(ends, 30)?;
     stage.stall(false);
+    if !is_told(stage, 30 * BURST) || !error.fill() {
+        return Err("notices are lost");
+    }
     bursts(ends, 10)?;
-    if is_each_told(stage, ends, error, 40 * BURST) && stage.refused.load(Ordering::SeqCst) < 1000 {
+    thread::sleep(stage, Duration::from_millis(1500));
+    if is_each_told(stage, ends, error, 40 * BURST)
+        && stage.refused.load(Ordering::SeqCst) < 40 * BURST
+    {
         Ok(())
     } else {
         Err("the dropped notices aren't counted")

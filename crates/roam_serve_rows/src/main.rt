@@ -9,7 +9,9 @@
 #![tactic(auto)]
 
 mod acts;
+mod asked;
 mod burst;
+mod counted;
 mod crowd;
 mod ends;
 mod exchange;
@@ -21,7 +23,7 @@ mod stage;
 use crate::ends::Ends;
 use crate::row::{ROWS, TAKEN};
 use crate::stage::Stage;
-use roam_serve::{ServeFault, serve};
+use roam_serve::{ServeFault, Watch, serve};
 use std::sync::atomic::AtomicU64;
 use std::{io, thread};
 
@@ -35,14 +37,23 @@ fn main(rt: HostRuntime) -> io::Result<()> {
         let verdict = match (row.config(stage, &rt, alloc), Ends::bind(&rt, row)) {
             (Some(Ok(config)), Ok(ends)) => {
                 let config = &config;
+                let counted = row.counters(alloc, config);
+                let counters = counted.as_ref();
+                let watch = match counters {
+                    Some(counters) => Some(Watch {
+                        counters,
+                        metrics: row.metrics(),
+                    }),
+                    None => None,
+                };
                 let (acted, served) = thread::scope(thread::scope_env(), &rt, |scope| {
                     let server = scope.spawn(move || {
-                        let served = serve(stage, alloc, config, time, gate);
+                        let served = serve(stage, alloc, config, watch, time, gate);
                         stage.note_end();
                         served
                     });
                     let mut acted = row.act(stage, &ends, alloc);
-                    if row.has_second() && serve(stage, alloc, config, time, gate) != TAKEN {
+                    if row.has_second() && serve(stage, alloc, config, watch, time, gate) != TAKEN {
                         acted = Err("a second server has the ports too");
                     }
                     if row.ends_early() {
@@ -53,9 +64,9 @@ fn main(rt: HostRuntime) -> io::Result<()> {
                         Err(_) => (acted, Err(ServeFault::Memory)),
                     }
                 });
-                row.verdict(stage, acted, served)
+                row.verdict(stage, acted, served, counters)
             }
-            (Some(Err(fault)), _) => row.verdict(stage, Ok(()), Err(fault)),
+            (Some(Err(fault)), _) => row.verdict(stage, Ok(()), Err(fault), None),
             _ => "the configuration or the sockets of the test can't be had",
         };
         let name = row.name();

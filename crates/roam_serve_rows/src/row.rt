@@ -1,12 +1,13 @@
 //! The rows: what is served, what happens meanwhile, and how the server is to end.
 
+use crate::asked::METRICS;
 use crate::ends::Ends;
 use crate::exchange::Verdict;
 use crate::stage::Stage;
-use crate::{acts, burst, crowd, hostile};
+use crate::{acts, asked, burst, counted, crowd, hostile};
 use roam_conf::{Config, Endpoint};
 use roam_conf_reader::read_config;
-use roam_serve::{Reason, ServeFault, with_drawn_seed};
+use roam_serve::{Counters, Reason, ServeFault, with_drawn_seed};
 use std::alloc::Global;
 use std::fs;
 use std::net::Net;
@@ -23,6 +24,10 @@ pub(crate) enum Row {
     Accounting,
     /// An Access exchange after datagrams that are refused.
     Hostile,
+    /// A flood of refusals of one kind, and some of another.
+    Flood,
+    /// Counts that are asked for over HTTP.
+    Metrics,
     /// A port that is taken.
     Taken,
     /// Requests on both sides of steps that are let go of.
@@ -56,9 +61,11 @@ pub(crate) enum Row {
 }
 
 /// All rows. The last one takes standard error away.
-pub(crate) const ROWS: [Row; 17] = [
+pub(crate) const ROWS: [Row; 19] = [
     Row::Accounting,
     Row::Hostile,
+    Row::Flood,
+    Row::Metrics,
     Row::Taken,
     Row::LetGo,
     Row::Held,
@@ -118,10 +125,25 @@ impl Row {
         }
     }
 
+    /// What counts what its server does, where something does.
+    pub(crate) fn counters(self, alloc: Global, config: &Config) -> Option<Counters> {
+        match self {
+            Row::Clock => None,
+            _ => Counters::new(alloc, config).ok(),
+        }
+    }
+
+    /// Where what its server counts is answered, if anywhere.
+    pub(crate) fn metrics(self) -> Option<Endpoint> {
+        (self == Row::Metrics).then_some(METRICS)
+    }
+
     pub(crate) fn name(self) -> &'static str {
         match self {
             Row::Accounting => "an accounting exchange, and a second server beside the first",
             Row::Hostile => "an Access exchange after hostile datagrams",
+            Row::Flood => "a flood of refusals of one kind, and some of another",
+            Row::Metrics => "counts that are asked for, beside those who ask for nothing",
             Row::Taken => "a port that is taken",
             Row::LetGo => "requests on both sides of steps that are let go of",
             Row::Held => "a request of one shard while a call of the other is held",
@@ -204,6 +226,8 @@ impl Row {
         match self {
             Row::Accounting => acts::accounting(ends),
             Row::Hostile => hostile::hostile(stage, ends),
+            Row::Flood => hostile::flood(stage, ends),
+            Row::Metrics => asked::metrics(stage, ends, alloc),
             Row::LetGo => acts::let_go(ends),
             Row::Burst => burst::burst(stage, ends, alloc),
             Row::Spread => burst::spread(stage, ends),
@@ -224,6 +248,7 @@ impl Row {
         stage: &Stage<'_, R>,
         acted: Verdict,
         served: Result<(), ServeFault>,
+        counters: Option<&Counters>,
     ) -> Verdict {
         acted?;
         if served != self.wanted() {
@@ -234,6 +259,9 @@ impl Row {
         }
         if stage.serving.load(Ordering::SeqCst) != self.servings() {
             return Err("that it serves isn't told as it should be");
+        }
+        if let Some(counters) = counters {
+            counted::judge(self, counters)?;
         }
         match self {
             Row::Crowd | Row::Burst => crowd::judge(stage),
@@ -262,8 +290,9 @@ impl Row {
         stage: &Stage<'_, R>,
         acted: Verdict,
         served: Result<(), ServeFault>,
+        counters: Option<&Counters>,
     ) -> &'static str {
-        match self.judge(stage, acted, served) {
+        match self.judge(stage, acted, served, counters) {
             Ok(()) => "as it should be",
             Err(words) => words,
         }

@@ -81,10 +81,14 @@ pub(crate) struct Stage<'t, R> {
     pub(crate) turnstile: Turnstile<'t, R>,
     /// Whether what is told waits.
     stalls: AtomicBool,
-    /// How many arrivals were told to be refused.
+    /// How many arrivals were told to be refused, and in how many lines.
     pub(crate) refused: AtomicU64,
-    /// The number of the last refusal that was told.
-    pub(crate) refusal: AtomicU64,
+    pub(crate) lines: AtomicU64,
+    /// The sum of the numbers of those refusals.
+    pub(crate) numbers: AtomicU64,
+    /// How many were told at `WATCHED`, and how many to be elsewhere.
+    pub(crate) watched: AtomicU64,
+    pub(crate) elsewhere: AtomicU64,
     /// How many notices were told to be dropped.
     dropped: AtomicU64,
     /// How many packets were told to have found a ring full.
@@ -120,7 +124,10 @@ impl<'t, R: Clock> Stage<'t, R> {
             },
             stalls: AtomicBool::new(false),
             refused: AtomicU64::new(0),
-            refusal: AtomicU64::new(0),
+            lines: AtomicU64::new(0),
+            numbers: AtomicU64::new(0),
+            watched: AtomicU64::new(0),
+            elsewhere: AtomicU64::new(0),
             dropped: AtomicU64::new(0),
             lost: AtomicU64::new(0),
             not_permitted: AtomicU64::new(0),
@@ -191,15 +198,28 @@ impl<R> Stage<'_, R> {
             .store(times.parse().unwrap_or(0), Ordering::SeqCst);
     }
 
+    /// Notes refusals that are told: `NUMBER NAME at PLACE from SOURCE`, and where they are several
+    /// `(COUNT times)`.
+    fn note_refused(&self, rest: &str) {
+        let number = rest.split_once(' ').map_or(rest, |(number, _)| number);
+        let number: u64 = number.parse().unwrap_or(0);
+        let (said, count) = times_of(rest);
+        self.refused.fetch_add(count, Ordering::SeqCst);
+        self.lines.fetch_add(1, Ordering::SeqCst);
+        self.numbers
+            .fetch_add(number.saturating_mul(count), Ordering::SeqCst);
+        if said == WATCHED {
+            self.watched.fetch_add(count, Ordering::SeqCst);
+        }
+        if said == ELSEWHERE {
+            self.elsewhere.fetch_add(count, Ordering::SeqCst);
+        }
+    }
+
     /// Notes what is told.
     fn note(&self, line: &str) {
         match line.split_once(' ') {
-            Some(("refused", rest)) => {
-                let number = rest.split_once(' ').map_or(rest, |(number, _)| number);
-                self.refusal
-                    .store(number.parse().unwrap_or(0), Ordering::SeqCst);
-                self.refused.fetch_add(1, Ordering::SeqCst);
-            }
+            Some(("refused", rest)) => self.note_refused(rest),
             Some((count, "notices dropped")) => {
                 self.dropped
                     .fetch_add(count.parse().unwrap_or(0), Ordering::SeqCst);
@@ -283,17 +303,37 @@ impl<R: Net> Net for Stage<'_, R> {
     }
 }
 
+/// A refusal that rows look for in what is told.
+const WATCHED: &str = "6 BadAuthenticator at acct from 127.0.0.1:25000";
+
+/// Refusals of more sources than are told apart.
+const ELSEWHERE: &str = "1 Short elsewhere";
+
+/// What is said of refusals, and how many they are.
+fn times_of(said: &str) -> (&str, u64) {
+    let counted = said
+        .strip_suffix(" times)")
+        .and_then(|rest| rest.rsplit_once(" ("));
+    match counted {
+        Some((said, count)) => (said, count.parse().unwrap_or(0)),
+        None => (said, 1),
+    }
+}
+
+/// How many octets of a line are looked at.
+const LINE: usize = 160;
+
 /// A line of text that fits, or its beginning.
 #[derive(Drop)]
 struct Line {
-    octets: [u8; 64],
+    octets: [u8; LINE],
     size: usize,
 }
 
 impl Write for Line {
     fn write_str(&mut self, text: &str) -> fmt::Result {
         for octet in text.as_bytes() {
-            if self.size < 64 {
+            if self.size < LINE {
                 self.octets[self.size] = *octet;
                 self.size += 1;
             }
@@ -310,11 +350,11 @@ impl<R: Log + Clock> Log for Stage<'_, R> {
     fn log<D: Display, K: Source, S: Spans>(&self, record: &Record<'_, D, K, S>) {
         wait_while(self.rt, &self.stalls);
         let mut line = Line {
-            octets: [0; 64],
+            octets: [0; LINE],
             size: 0,
         };
         let _ = write!(line, "{}", record.args());
-        if line.size <= 64 {
+        if line.size <= LINE {
             self.note(std::str::from_utf8(&line.octets[..line.size]).unwrap_or(""));
         }
         self.rt.log(record);

@@ -1,4 +1,7 @@
 -- Why a simulation ends early. Ours.
+use Rattle.std.specs.Prelude.{ℕ, List, ◌++◌, codes}
+use Rattle.std.specs.Fmt.{decimal}
+use Rattle.roam_conf_reader.specs.FaultNames.{name_of}
 use Rattle.roam_conf_reader.specs.declared.fault.ConfFault.{ConfFault}
 use Rattle.roam_conf_reader.specs.declared.fault.ConfFault.TheVariants.{Memory}
 use Rattle.roam_sim.specs.declared.script.ScriptFault.{ScriptFault}
@@ -21,3 +24,10 @@ abbrev pub IsFaultOfText : SimFault → Type 0
 IsFaultOfText (sim.Config fault) = Unit {0}
 IsFaultOfText (sim.Line number) = Unit {0}
 IsFaultOfText _ = ⊥
+
+-- what is printed of it
+abbrev pub text_of : SimFault → List ℕ
+text_of (sim.Config fault) = name_of fault
+text_of (sim.Line number) = codes "line " ++ decimal number
+text_of sim.Write = codes "write failed"
+text_of sim.Memory = codes "out of memory"

@@ -1,5 +1,8 @@
 //! Why a simulation ends early.
 
+ghost use Rattle.std.specs.Prelude.{Some};
+ghost use Rattle.roam_sim.specs.Faults.{text_of};
+
 use crate::script::ScriptFault;
 use roam_conf_reader::ConfFault;
 use roam_wire::NoMemory;
@@ -22,6 +25,8 @@ pub enum SimFault {
 }
 
 impl fmt::Display for SimFault {
+    ghost output = { λ fault. Some (text_of fault) };
+
     fn fmt<W: fmt::Write>(&self, f: &mut fmt::Formatter<W>) -> fmt::Result {
         match *self {
             SimFault::Config(fault) => write!(f, "{fault}"),

@@ -9,6 +9,7 @@ use crate::system::bind::BoundSocket;
 use crate::system::polls::Polls;
 use crate::system::socket::Socket;
 use crate::threads::context::WorkerContext;
+use crate::threads::counting::Counting;
 use crate::threads::notice::{Notice, Notices, queue_of_notices};
 use crate::threads::outgoing::{Outgoing, ROOM_EVENTS};
 use crate::threads::receiver::Receiver;
@@ -105,10 +106,18 @@ fn context<'s, 'c, G, N: Opened>(
         notices,
     } = parts;
     let workers = usize::from(shared.config.shards);
+    let counting = Counting {
+        config: shared.config,
+        counts: match shared.counters {
+            Some(counters) => counters.of_thread(number),
+            None => None,
+        },
+    };
     let outgoing = Outgoing {
         outbox: Outbox::new(alloc)?,
         ports: ports(alloc, sockets, number, workers)?,
         losses: shared.losses,
+        counting,
         room,
         events: Events::with_capacity(alloc, ROOM_EVENTS)?,
         is_blocked: false,
@@ -118,6 +127,7 @@ fn context<'s, 'c, G, N: Opened>(
         seat,
         outgoing,
         notices,
+        counting,
         now: 0,
     })
 }

@@ -3,6 +3,7 @@
 ghost use Rattle.std.specs.Prelude.{◌≡◌};
 ghost use Rattle.roam_conf.specs.Shown.{shown};
 
+use crate::run::counters::Counters;
 use crate::run::losses::SharedLosses;
 use crate::run::old_history::OldHistory;
 use crate::run::rest::TimerRest;
@@ -10,6 +11,7 @@ use mio::Waker;
 use roam_conf::Config;
 use roam_hub::{Hub, Opened};
 use std::alloc::Global;
+use std::net::TcpListener;
 use std::sync::atomic::{AtomicBool, Ordering};
 use std::thread::Parker;
 use std::time::Instant;
@@ -26,6 +28,10 @@ pub struct Shared<'s, 'c, G, N: Opened> {
     pub wakers: &'s [Waker],
     pub rest: &'s TimerRest<'s>,
     pub losses: &'s SharedLosses,
+    /// What is counted, where somebody reads it.
+    pub counters: Option<&'s Counters>,
+    /// Where it is asked for.
+    pub listener: Option<&'s TcpListener>,
     pub old_history: &'s OldHistory,
     /// Whether all are to end.
     pub stop: &'s AtomicBool,

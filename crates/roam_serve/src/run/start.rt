@@ -8,6 +8,7 @@ use crate::run::ending::WorkerEnd;
 use crate::run::prepared::Prepared;
 use crate::run::shared::Shared;
 use crate::threads::logger::{log_notices, tell_or_drop};
+use crate::threads::metrics::{Page, answer_on};
 use crate::threads::notice::{Notice, serving};
 use crate::threads::timer::tick_on;
 use crate::threads::worker::{Worker, receive_on};
@@ -15,6 +16,7 @@ use log::Log;
 use roam_hub::{Gate, Opened};
 use rtrb::Consumer;
 use std::alloc::Global;
+use std::random::RandomSource;
 use std::sync::Wait;
 use std::thread;
 use std::thread::{JoinHandle, Scope, Threads};
@@ -27,7 +29,7 @@ fn start_behind<
     'w: 's,
     'c: 's,
     E,
-    R: Wait + Clock + Log + Sync,
+    R: Wait + Clock + RandomSource + Log + Sync,
     G: Gate + Sync,
     N: Opened + Send + Sync,
 >(
@@ -37,12 +39,35 @@ fn start_behind<
     queues: Vec<Consumer<Notice>>,
 ) -> bool {
     let logs = scope
-        .spawn(move || log_notices(rt, shared.logger, queues))
+        .spawn(move || log_notices(rt, shared.config, shared.logger, queues))
         .is_ok();
     let frees = scope
         .spawn(move || shared.old_history.free_on(rt, shared.stop))
         .is_ok();
     logs && frees
+}
+
+/// Starts the thread that answers who asks for the counts, where somebody may. Answers whether it has started.
+fn start_metrics<
+    's,
+    'w: 's,
+    'c: 's,
+    E,
+    R: Wait + Clock + RandomSource + Sync,
+    G: Gate + Sync,
+    N: Opened + Send + Sync,
+>(scope: &Scope<'s, E>, rt: &'s R, alloc: Global, shared: &'s Shared<'w, 'c, G, N>) -> bool {
+    let (Some(listener), Some(counters)) = (shared.listener, shared.counters) else {
+        return true;
+    };
+    let page = Page {
+        alloc,
+        config: shared.config,
+        counters,
+    };
+    scope
+        .spawn(move || answer_on(rt, page, listener, shared.start, shared.stop))
+        .is_ok()
 }
 
 /// Starts a thread for each worker. Answers whether all have started.
@@ -79,7 +104,7 @@ fn start_workers<
 /// `Thread`, where one can't be started; the others are ended.
 pub fn run_threads<
     's,
-    R: Threads + Wait + Clock + Log + Sync,
+    R: Threads + Wait + Clock + RandomSource + Log + Sync,
     G: Gate + Sync,
     N: Opened + Send + Sync,
 >(
@@ -100,13 +125,14 @@ pub fn run_threads<
     let mut ends = Vec::with_capacity(alloc, count)?;
     let have_started = thread::scope(thread::scope_env(), rt, |scope| {
         let mut have_started = start_behind(scope, rt, shared, queues);
+        have_started = start_metrics(scope, rt, alloc, shared) && have_started;
         have_started = start_workers(scope, rt, alloc, workers, &mut handles) && have_started;
         match scope.spawn(move || tick_on(rt, timer)) {
             Ok(handle) => have_started = handles.push(handle).is_ok() && have_started,
             Err(_) => have_started = false,
         }
         if have_started {
-            tell_or_drop(rt, serving(shared.config));
+            tell_or_drop(rt, shared.config, serving(shared.config));
         } else {
             shared.end_all();
         }

@@ -46,7 +46,7 @@ pub fn descriptors_wanted(config: &Config) -> u32
 }
 
 /// Sets an option of a socket, which is a number.
-fn set_option(fd: RawFd, name: i32, number: u32) -> bool
+pub fn set_option(fd: RawFd, name: i32, number: u32) -> bool
     requires name { SockOption (pos 1) name }
 {
     let mut value = [0u8; 16];
@@ -55,7 +55,7 @@ fn set_option(fd: RawFd, name: i32, number: u32) -> bool
 }
 
 /// The octets of an endpoint's address, as the system takes them.
-fn address_octets(endpoint: Endpoint) -> [u8; 128] {
+pub fn address_octets(endpoint: Endpoint) -> [u8; 128] {
     let mut octets = [0u8; 128];
     let family = (libc::net::AF_INET as u16).to_ne_bytes();
     octets[..2].copy_from_slice(&family);

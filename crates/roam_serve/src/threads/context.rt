@@ -9,9 +9,11 @@ ghost use Rattle.roam_serve.specs.Remedies as remedies;
 use crate::run::ending::{Ending, WorkerEnd};
 use crate::run::shared::Shared;
 use crate::system::clock::now;
-use crate::threads::notice::{Notices, Origin};
+use crate::threads::counting::{Counting, turn_of};
+use crate::threads::notice::Notices;
 use crate::threads::outgoing::Outgoing;
 use roam_hub::{Answered, Gate, HubFault, Opened, Refused, Seat};
+use roam_notices::Origin;
 use roam_route::{Datagram, Job, Prepared, prepare};
 use roam_wire::Refusal;
 use std::alloc::Global;
@@ -25,6 +27,7 @@ pub struct WorkerContext<'s, 'c, G, N: Opened> {
     pub seat: Seat<Global, N>,
     pub outgoing: Outgoing<'s>,
     pub notices: Notices,
+    pub counting: Counting<'s>,
     /// The last moment, in milliseconds since the server's start.
     pub now: u64,
 }
@@ -73,16 +76,36 @@ impl<G: Gate, N: Opened> WorkerContext<'_, '_, G, N> {
     /// Takes a datagram: hands its packets to the sockets, or tells why it is refused.
     pub fn arrive<R: Wait>(&mut self, rt: &R, alloc: Global, datagram: &Datagram<Global>) {
         let origin = Origin::Datagram(datagram.at, datagram.from);
+        self.counting.received(datagram.at);
         match prepare(alloc, self.shared.config, datagram) {
-            Ok(Prepared::Job(job)) => match self.answer(rt, job) {
-                Ok(answered) => {
-                    self.shared.rest.wake();
-                    self.finish(rt, answered, origin);
-                }
-                Err(refusal) => self.notices.refused(refusal, origin),
-            },
-            Ok(Prepared::Reject(out)) => self.outgoing.put(out),
-            Err(refusal) => self.notices.refused(refusal, origin),
+            Ok(Prepared::Job(job)) => self.take(rt, job, origin),
+            Ok(Prepared::Reject(out)) => {
+                self.counting.answered(&out);
+                self.outgoing.put(out);
+            }
+            Err(refusal) => {
+                self.counting.refused(refusal, datagram.at, datagram.from);
+                self.refuse(refusal, origin);
+            }
+        }
+    }
+
+    /// Gives a job to the hub: hands its packets to the sockets, or tells why it is refused.
+    fn take<R: Wait>(&mut self, rt: &R, job: Job<Global>, origin: Origin)
+        requires { IsEvent N.opening.config (shown_job job) }
+    {
+        let turn = turn_of(&job);
+        self.counting.came(turn);
+        match self.answer(rt, job) {
+            Ok(answered) => {
+                self.shared.rest.wake();
+                self.counting.gave(turn, &answered.answer);
+                self.finish(rt, answered, origin);
+            }
+            Err(refusal) => {
+                self.counting.failed(turn, refusal);
+                self.refuse(refusal, origin);
+            }
         }
     }
 
@@ -122,11 +145,15 @@ impl<G: Gate, N: Opened> WorkerContext<'_, '_, G, N> {
                 .hub
                 .tick_if_due(rt, &mut self.seat, self.now, shard, shared.gate)
             {
-                Ok(Some(answered)) => return self.finish(rt, answered, Origin::Tick(shard)),
+                Ok(Some(answered)) => {
+                    self.counting.ticked(&answered.answer);
+                    return self.finish(rt, answered, Origin::Tick(shard));
+                }
                 Ok(None) => return,
                 Err(fault) => {
                     if !self.remedy(rt, shard, fault, is_second) {
-                        return self.notices.refused(refusal_of(fault), Origin::Tick(shard));
+                        self.counting.refused_here(refusal_of(fault));
+                        return self.refuse(refusal_of(fault), Origin::Tick(shard));
                     }
                     is_second = true;
                 }
@@ -162,6 +189,7 @@ impl<G: Gate, N: Opened> WorkerContext<'_, '_, G, N> {
         let shared = self.shared;
         match shared.hub.let_go(rt, &mut self.seat, shard) {
             Ok(steps) => {
+                self.counting.let_go(steps.len());
                 shared.old_history.hand_over(rt, steps);
                 true
             }
@@ -173,6 +201,7 @@ impl<G: Gate, N: Opened> WorkerContext<'_, '_, G, N> {
     fn free_history<R: Wait>(&mut self, rt: &R, shard: u16) -> bool {
         match self.shared.hub.let_go(rt, &mut self.seat, shard) {
             Ok(steps) => {
+                self.counting.let_go(steps.len());
                 self.shared.old_history.count();
                 drop(steps);
                 true
@@ -184,8 +213,9 @@ impl<G: Gate, N: Opened> WorkerContext<'_, '_, G, N> {
     /// Hands the packets of an answer on, tells a refusal, and lets go of the shard's steps where their octets are
     /// more than are to be stored.
     fn finish<R: Wait>(&mut self, rt: &R, answered: Answered<Global>, origin: Origin) {
+        self.counting.stored();
         if let Some(refusal) = answered.answer.refusal {
-            self.notices.refused(refusal, origin);
+            self.refuse(refusal, origin);
         }
         self.outgoing.put_all(answered.answer.outs);
         if answered.octets > u64::from(self.shared.config.trace_octets) {
@@ -193,8 +223,14 @@ impl<G: Gate, N: Opened> WorkerContext<'_, '_, G, N> {
         }
     }
 
-    /// Wakes the logger, where there is something for it.
+    /// Notes that an arrival or a tick is refused.
+    pub fn refuse(&mut self, refusal: Refusal, origin: Origin) {
+        self.notices.refused(refusal, origin, self.now);
+    }
+
+    /// Hands what was refused to the logger, once a second, and wakes it where there is something for it.
     pub fn wake_logger(&mut self) {
+        self.notices.tell_due(self.now);
         if self.notices.take_waiting() {
             self.shared.logger.unpark();
         }

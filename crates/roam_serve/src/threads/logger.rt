@@ -4,6 +4,7 @@ use crate::threads::notice::{Notice, notices_in, tell};
 use libc::net::{POLLOUT, poll};
 use libc::types::pollfd;
 use log::Log;
+use roam_conf::Config;
 use rtrb::Consumer;
 use std::sync::Wait;
 use std::thread::Parker;
@@ -22,20 +23,20 @@ fn has_room(milliseconds: i32) -> bool {
 }
 
 /// Tells a notice where standard error has room for it. Answers whether it has.
-pub fn tell_or_drop<R: Log>(rt: &R, notice: Notice) -> bool {
+pub fn tell_or_drop<R: Log>(rt: &R, config: &Config, notice: Notice) -> bool {
     let is_told = has_room(0);
     if is_told {
-        tell(rt, notice);
+        tell(rt, config, notice);
     }
     is_told
 }
 
 /// Tells what lies in one queue, or drops it, and answers how many notices are lost by that.
-fn empty<R: Wait + Log>(rt: &R, queue: &mut Consumer<Notice>) -> u64 {
+fn empty<R: Wait + Log>(rt: &R, config: &Config, queue: &mut Consumer<Notice>) -> u64 {
     let mut dropped = 0u64;
     for _ in rt.forever() {
         match queue.pop() {
-            Ok(notice) if tell_or_drop(rt, notice) => {}
+            Ok(notice) if tell_or_drop(rt, config, notice) => {}
             Ok(notice) => dropped = dropped.saturating_add(notices_in(notice)),
             Err(_) => return dropped,
         }
@@ -53,14 +54,19 @@ fn are_abandoned(queues: &mut [Consumer<Notice>]) -> bool {
 }
 
 /// Tells what lies in the queues until their workers have ended.
-pub fn log_notices<R: Wait + Log>(rt: &R, wake: &Parker, mut queues: Vec<Consumer<Notice>>) {
+pub fn log_notices<R: Wait + Log>(
+    rt: &R,
+    config: &Config,
+    wake: &Parker,
+    mut queues: Vec<Consumer<Notice>>,
+) {
     let mut dropped = 0u64;
     for _ in rt.forever() {
         let have_ended = are_abandoned(queues.as_mut_slice());
         for queue in queues.iter_mut() {
-            dropped = dropped.saturating_add(empty(rt, queue));
+            dropped = dropped.saturating_add(empty(rt, config, queue));
         }
-        if dropped > 0 && tell_or_drop(rt, Notice::Dropped(dropped)) {
+        if dropped > 0 && tell_or_drop(rt, config, Notice::Dropped(dropped)) {
             dropped = 0;
         }
         if have_ended {

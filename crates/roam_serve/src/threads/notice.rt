@@ -1,88 +1,47 @@
 //! What is told on standard error, and a thread's end of its queue of it.
 
-ghost use Rattle.std.specs.Prelude.{◌≡◌, ◌+◌, ◌-◌, ◌^◌, ◌<◌, [], ◌∷◌, ◌++◌, IsTrue, IsFalse};
+ghost use Rattle.std.specs.Prelude.{◌≡◌, ◌≢◌, ℕ, ◌+◌, ◌-◌, ◌^◌, ◌<◌, ◌≤◌, [], ◌∷◌, ◌++◌, Some, None, IsTrue, IsFalse, IfSome, MatchOption, min, unwrap_or};
+ghost use Rattle.std.specs.Option.{ForSome};
 ghost use Rattle.rtrb.specs.Ring.{sent};
+ghost use Rattle.roam_notices.specs.Repeats.{all_tallies, row_at, row_of};
+ghost use Rattle.roam_notices.specs.Tallies.{IsNoted, counted_in};
 ghost use Rattle.roam_serve.specs.Notices.{notices_in, notices_among};
 
+use crate::fault::Reason;
 use log::{Log, info, warn};
-use roam_conf::{Config, Endpoint, Place};
+use roam_conf::{Config, Endpoint};
+use roam_notices::{EndpointText, Origin, RefusedText, Repeats, Tally};
 use roam_port::LossCause;
 use roam_wire::Refusal;
 use rtrb::{Consumer, Producer, RingBuffer};
 use std::alloc::{AllocError, Global};
-use std::fmt;
-use std::fmt::{Display, Formatter, Write};
+
+/// From the first refusal that isn't told yet to the line that tells it, in milliseconds: those that are like it
+/// stand in the same line.
+pub const SECOND: u64 = 1000;
 
 /// How many notices of one thread wait to be told. What finds the queue full is dropped, and
 /// counted.
 pub const NOTICES: usize = 1024;
 
-/// What was refused, and where.
-#[derive(Clone, Copy, Debug, PartialEq, Eq)]
-pub enum Origin {
-    /// A datagram that came to this place from this endpoint.
-    Datagram(Place, Endpoint),
-    /// A datagram that came to this place, of which no more is known.
-    Place(Place),
-    /// A tick of this shard.
-    Tick(u16),
-}
-
 /// What is told on standard error.
 #[derive(Clone, Copy, Debug, PartialEq, Eq)]
 pub enum Notice {
-    /// An arrival or a tick was refused.
-    Refused(Refusal, Origin),
+    /// Arrivals or ticks were refused.
+    Refused(Tally),
     /// So many notices were dropped.
     Dropped(u64),
     /// So many packets were lost, for this cause.
     Lost(LossCause, u64),
     /// The socket of this endpoint has room for so many octets only.
     Narrow(Endpoint, u32),
+    /// The endpoint for metrics can't be had, for this reason: the server goes on without.
+    NoMetrics(Endpoint, Reason),
     /// A configuration of so many realms, peers and shards is served.
     Serving(usize, usize, u16),
     /// The server ended after so many steps, of which stored ones were let go of so many times. They passed the
     /// audit.
     Ended(u64, u64),
-}
-
-/// An endpoint as `ADDRESS:PORT`.
-#[derive(Drop)]
-struct EndpointText(Endpoint);
-
-impl Display for EndpointText {
-    fn fmt<W: Write>(&self, f: &mut Formatter<W>) -> fmt::Result {
-        let [a, b, c, d] = self.0.ip;
-        let port = self.0.port;
-        write!(f, "{a}.{b}.{c}.{d}:{port}")
-    }
-}
-
-/// A place as a script names it.
-#[derive(Drop)]
-struct PlaceText(Place);
-
-impl Display for PlaceText {
-    fn fmt<W: Write>(&self, f: &mut Formatter<W>) -> fmt::Result {
-        match self.0 {
-            Place::Auth => f.write_str("auth"),
-            Place::Acct => f.write_str("acct"),
-            Place::Out(realm) => write!(f, "out:{realm}"),
-            Place::Reverse(realm) => write!(f, "reverse:{realm}"),
-        }
-    }
-}
-
-impl Display for Origin {
-    fn fmt<W: Write>(&self, f: &mut Formatter<W>) -> fmt::Result {
-        match *self {
-            Origin::Datagram(place, from) => {
-                write!(f, "{} from {}", PlaceText(place), EndpointText(from))
-            }
-            Origin::Place(place) => write!(f, "{}", PlaceText(place)),
-            Origin::Tick(shard) => write!(f, "tick:{shard}"),
-        }
-    }
 }
 
 /// Why packets were lost, in words.
@@ -96,15 +55,16 @@ fn words_of(cause: LossCause) -> &'static str {
 }
 
 /// Tells a notice. Waits where standard error has no room.
-pub fn tell<R: Log>(rt: &R, notice: Notice) {
+pub fn tell<R: Log>(rt: &R, config: &Config, notice: Notice) {
     match notice {
-        Notice::Refused(refusal, origin) => {
-            warn!(rt; "refused {} {:?} at {}", refusal.number(), refusal, origin)
-        }
+        Notice::Refused(tally) => warn!(rt; "{}", RefusedText::new(config, tally)),
         Notice::Dropped(count) => warn!(rt; "{} notices dropped", count),
         Notice::Lost(cause, count) => warn!(rt; "{} packets lost {}", count, words_of(cause)),
         Notice::Narrow(at, octets) => {
             warn!(rt; "{} has room for {} octets alone", EndpointText(at), octets)
+        }
+        Notice::NoMetrics(at, Reason(number)) => {
+            warn!(rt; "no metrics at {} (errno {})", EndpointText(at), number)
         }
         Notice::Serving(realms, peers, shards) => {
             info!(rt; "serving realms {} peers {} shards {}", realms, peers, shards)
@@ -115,12 +75,13 @@ pub fn tell<R: Log>(rt: &R, notice: Notice) {
     }
 }
 
-/// For how many notices one stands: a notice of dropped ones for those.
+/// For how many notices one stands: a notice of dropped ones or of refusals for those.
 pub fn notices_in(notice: Notice) -> u64
     ensures { result ≡ notices_in notice }
 {
     match notice {
         Notice::Dropped(count) => count,
+        Notice::Refused(tally) => tally.count,
         _ => 1,
     }
 }
@@ -130,10 +91,13 @@ pub fn serving(config: &Config) -> Notice {
     Notice::Serving(config.realms.len(), config.peers.len(), config.shards)
 }
 
-/// A thread's end of its queue of notices.
+/// A thread's end of its queue of notices, and what was refused since that was told last.
 #[derive(Drop)]
 pub struct Notices {
     queue: Producer<Notice>,
+    repeats: Repeats,
+    /// When what was refused is told, where there is any.
+    due: Option<u64>,
     dropped: u64,
     is_waiting: bool,
 }
@@ -143,6 +107,8 @@ pub fn queue_of_notices(alloc: Global) -> Result<(Notices, Consumer<Notice>), Al
     let (queue, told) = RingBuffer::new(alloc, NOTICES)?;
     let notices = Notices {
         queue,
+        repeats: Repeats::new(alloc)?,
+        due: None,
         dropped: 0,
         is_waiting: false,
     };
@@ -155,6 +121,8 @@ impl Notices {
         ensures put { IsTrue result → sent self.new.queue ≡ sent self.old.queue ++ notice ∷ [] }
         ensures full { IsFalse result → sent self.new.queue ≡ sent self.old.queue }
         ensures dropped { self.new.dropped ≡ self.old.dropped }
+        ensures repeats { self.new.repeats ≡ self.old.repeats }
+        ensures due { self.new.due ≡ self.old.due }
         ensures woken { IsTrue result → IsTrue self.new.is_waiting }
         ensures waiting { IsFalse result → self.new.is_waiting ≡ self.old.is_waiting }
     {
@@ -168,18 +136,72 @@ impl Notices {
         self.put(Notice::Lost(cause, count))
     }
 
-    /// Says that an arrival or a tick was refused. Never waits. What the queue was given and what was dropped
-    /// grow by one notice together, until the count of dropped ones stands at its end.
-    pub fn refused(&mut self, refusal: Refusal, origin: Origin)
-        ensures { self.old.dropped < 2 ^ 64 - 1
+    /// Says that an arrival or a tick was refused at this moment: it is told within a second, and the time of a
+    /// round more, with those that are like it.
+    pub fn refused(&mut self, refusal: Refusal, origin: Origin, now: u64)
+        ensures row { IsNoted refusal origin (row_at self.old.repeats (row_of refusal))
+            (row_at self.new.repeats (row_of refusal)) }
+        ensures other { (i : ℕ) → i ≢ row_of refusal → row_at self.new.repeats i ≡ row_at self.old.repeats i }
+        ensures due { self.new.due ≡ Some (unwrap_or self.old.due (min (2 ^ 64 - 1) (now + 1000))) }
+        ensures queue { sent self.new.queue ≡ sent self.old.queue }
+        ensures dropped { self.new.dropped ≡ self.old.dropped }
+    {
+        self.repeats.note(refusal, origin);
+        self.due = Some(self.due.unwrap_or(now.saturating_add(SECOND)));
+    }
+
+    /// Puts a notice behind the others, or counts it as dropped. What the queue was given and what was dropped
+    /// grow by it together, until the count of dropped ones stands at its end.
+    fn put_or_drop(&mut self, notice: Notice)
+        ensures counted { self.old.dropped + notices_in notice < 2 ^ 64
             → notices_among (sent self.new.queue) + self.new.dropped
-            ≡ notices_among (sent self.old.queue) + self.old.dropped + 1 }
+            ≡ notices_among (sent self.old.queue) + self.old.dropped + notices_in notice }
+        ensures dropped { self.new.dropped ≤ self.old.dropped + notices_in notice }
+        ensures repeats { self.new.repeats ≡ self.old.repeats }
+        ensures due { self.new.due ≡ self.old.due }
     {
         if self.dropped > 0 && self.put(Notice::Dropped(self.dropped)) {
             self.dropped = 0;
         }
-        if !self.put(Notice::Refused(refusal, origin)) {
-            self.dropped = self.dropped.saturating_add(1);
+        if !self.put(notice) {
+            self.dropped = self.dropped.saturating_add(notices_in(notice));
+        }
+    }
+
+    /// Has all be told that was refused. What the queue was given and what was dropped grow by it together.
+    pub fn tell_refused(&mut self)
+        ensures counted { self.old.dropped + counted_in (all_tallies self.old.repeats) < 2 ^ 64
+            → notices_among (sent self.new.queue) + self.new.dropped
+            ≡ notices_among (sent self.old.queue) + self.old.dropped + counted_in (all_tallies self.old.repeats) }
+        ensures repeats { all_tallies self.new.repeats ≡ [] }
+        ensures due { self.new.due ≡ None }
+    {
+        while let Some(tally) = self.repeats.take_first() {
+            self.put_or_drop(Notice::Refused(tally));
+        }
+        self.due = None;
+    }
+
+    /// Has what was refused be told, where its second is over.
+    pub fn tell_due(&mut self, now: u64)
+        ensures later { ForSome self.old.due (λ due. now < due)
+            → (sent self.new.queue ≡ sent self.old.queue) × (self.new.repeats ≡ self.old.repeats) }
+        ensures due { IfSome self.old.due (λ due. due ≤ now → all_tallies self.new.repeats ≡ []) }
+    {
+        if let Some(due) = self.due {
+            if due <= now {
+                self.tell_refused();
+            }
+        }
+    }
+
+    /// In how many milliseconds it is to be told; 2^64 - 1 where nothing was refused.
+    pub fn time_left(&self, now: u64) -> u64
+        ensures { MatchOption self.now.due (result ≡ 2 ^ 64 - 1) (λ due. result ≡ due - now) }
+    {
+        match self.due {
+            Some(due) => due.saturating_sub(now),
+            None => u64::MAX,
         }
     }
 
@@ -188,6 +210,7 @@ impl Notices {
         ensures value { result ≡ self.old.is_waiting }
         ensures taken { IsFalse self.new.is_waiting }
         ensures queue { sent self.new.queue ≡ sent self.old.queue }
+        ensures repeats { self.new.repeats ≡ self.old.repeats }
         ensures dropped { self.new.dropped ≡ self.old.dropped }
     {
         let is_waiting = self.is_waiting;
@@ -195,8 +218,9 @@ impl Notices {
         is_waiting
     }
 
-    /// Says how many notices were dropped of which that isn't said yet.
+    /// Has all be told that was refused, and how many notices were dropped of which that isn't said yet.
     pub fn end(&mut self) {
+        self.tell_refused();
         if self.dropped > 0 && self.put(Notice::Dropped(self.dropped)) {
             self.dropped = 0;
         }

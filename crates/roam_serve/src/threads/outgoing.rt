@@ -3,9 +3,10 @@
 use crate::run::losses::SharedLosses;
 use crate::system::polls::Polls;
 use crate::system::socket::Socket;
+use crate::threads::counting::Counting;
 use mio::unix::SourceFd;
 use mio::{Events, Interest, Poll, Token};
-use roam_port::Outbox;
+use roam_port::{Outbox, Sending};
 use roam_route::Out;
 use std::alloc::Global;
 use std::time::Duration;
@@ -20,6 +21,7 @@ pub struct Outgoing<'s> {
     /// In the order of their numbers, one of each place.
     pub ports: Vec<Socket<'s>>,
     pub losses: &'s SharedLosses,
+    pub counting: Counting<'s>,
     /// Tells which sockets that had no room may have some again.
     pub room: Poll,
     pub events: Events<Global>,
@@ -45,10 +47,15 @@ impl Outgoing<'_> {
 
     /// Hands each packet that waits to its socket once. Those whose socket has no room wait on.
     pub fn send(&mut self) {
+        let mut gone = 0u64;
         for _ in 0..self.outbox.len() {
-            let _sending = self.outbox.send_next(self.ports.as_mut_slice());
+            if let Sending::Gone = self.outbox.send_next(self.ports.as_mut_slice()) {
+                gone = gone.saturating_add(1);
+            }
         }
-        self.losses.add(self.outbox.take_losses());
+        let losses = self.outbox.take_losses();
+        self.losses.add(losses);
+        self.counting.sent(gone, losses);
         if self.outbox.len() > 0 {
             self.watch();
         }

@@ -2,10 +2,10 @@
 
 use crate::run::ending::{Ending, WorkerEnd};
 use crate::threads::context::WorkerContext;
-use crate::threads::notice::Origin;
 use crate::threads::receiver::{Receiver, WAIT_AFTER_FAULT};
 use mio::{Events, Poll, Token};
 use roam_hub::{Gate, Opened};
+use roam_notices::Origin;
 use roam_port::Heard;
 use roam_wire::Refusal;
 use std::alloc::Global;
@@ -78,11 +78,14 @@ fn wait_before(receivers: &[Receiver<'_>], ready: &[usize], now: u64) -> u64 {
     }
 }
 
-/// Waits until something arrives or the worker is woken, and marks the receivers at which something did.
+/// Waits until something arrives, the worker is woken or refusals are to be told, and marks the receivers at which
+/// something did arrive.
 /// Where the wait itself fails, a short time goes by, and then all are marked.
 fn wait<R: Clock, G, N: Opened>(rt: &R, worker: &mut Worker<'_, '_, G, N>) {
     let receivers = worker.receivers.as_slice();
-    let wait = wait_before(receivers, worker.ready.as_slice(), worker.context.now);
+    let now = worker.context.now;
+    let wait = wait_before(receivers, worker.ready.as_slice(), now);
+    let wait = wait.min(worker.context.notices.time_left(now));
     let timeout = Some(Duration::from_millis(wait));
     if worker.poll.poll(&mut worker.events, timeout).is_ok() {
         mark_ready(
@@ -112,9 +115,8 @@ fn receive_portion<R: Wait + Clock, G: Gate, N: Opened>(
         match receiver.receive(alloc, buffer) {
             Heard::Datagram(datagram) => context.arrive(rt, alloc, &datagram),
             Heard::NoMemory => {
-                context
-                    .notices
-                    .refused(Refusal::NoMemory, Origin::Place(place));
+                context.counting.refused_here(Refusal::NoMemory);
+                context.refuse(Refusal::NoMemory, Origin::Place(place));
             }
             Heard::Nothing => break,
             Heard::GiveUp => {

@@ -6,18 +6,18 @@ use Rattle.roam.proofs.serving.serve_file.Goals as goal
 pub returns-in-Ok-serve_config-clause-ok : goal.returns-in-Ok-serve_config-clause-ok
 returns-in-Ok-serve_config-clause-ok g c = (
   shown c.in-Ok.config,
-  accepted-text c.args.configuration.now c.as_str.result.now (shown c.in-Ok.config) c.as_str.ensures.value
+  accepted-text c.args.configuration.now c.as_str-text.result.now (shown c.in-Ok.config) c.as_str-text.ensures.value
       c.in-Ok.ensures.ok c.in-Ok.ensures.faultless,
 )
 
 pub returns-in-Err-serve_config-clause-err : goal.returns-in-Err-serve_config-clause-err
 returns-in-Err-serve_config-clause-err g c =
-    let read = accepted-text c.args.configuration.now c.as_str.result.now (shown c.in-Ok.config)
-    c.as_str.ensures.value c.in-Ok.ensures.ok c.in-Ok.ensures.faultless in
+    let read = accepted-text c.args.configuration.now c.as_str-text.result.now (shown c.in-Ok.config)
+    c.as_str-text.ensures.value c.in-Ok.ensures.ok c.in-Ok.ensures.faultless in
     rw c.of_server.ensures
     (serve-fails c.args.configuration.now (shown c.in-Ok.config) c.in-Err-serve_config.fault read c.in-Err-serve_config.ensures)
 
 pub returns-in-Err-clause-err : goal.returns-in-Err-clause-err
 returns-in-Err-clause-err g c =
-    unread-serves c.args.configuration.now c.as_str.result.now c.in-Err.fault c.of_configuration.result
-    c.as_str.ensures.value c.in-Err.ensures.err c.of_configuration.ensures.memory c.of_configuration.ensures.refused
+    unread-serves c.args.configuration.now c.as_str-text.result.now c.in-Err.fault c.of_configuration.result
+    c.as_str-text.ensures.value c.in-Err.ensures.err c.of_configuration.ensures.memory c.of_configuration.ensures.refused

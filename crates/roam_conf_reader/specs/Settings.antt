@@ -1,0 +1,26 @@
+-- What a document states beside its configuration. Ours.
+use Rattle.std.specs.Prelude.{◌≡◌, ℕ, codes, List, Some, None}
+use Rattle.toml.specs.Data.{Members}
+use Rattle.toml.specs.Parse.{parse_document}
+use Rattle.roam_conf_reader.specs.declared.fault.ConfFault.{ConfFault}
+use Rattle.roam_conf_reader.specs.declared.fault.ConfFault.TheVariants.{Syntax, BadValue}
+use Rattle.roam_conf_reader.specs.declared.settings.Settings.{Settings}
+use Rattle.roam_conf_reader.specs.Values.{endpoint, optional_at}
+
+-- the text is a TOML document that states the settings
+pub record StatesSettings (text : List ℕ) (settings : Settings) : Type 0 where
+  pub members : Members
+  pub parsed : parse_document text ≡ Some members
+  pub metrics : optional_at endpoint (codes "metrics") members ≡ Some settings.metrics
+
+-- the text is a document with a bad value of their key
+pub record HasBadSettings (text : List ℕ) : Type 0 where
+  pub members : Members
+  pub parsed : parse_document text ≡ Some members
+  pub metrics : optional_at endpoint (codes "metrics") members ≡ None
+
+-- the text states none, for this fault
+abbrev pub IsNoSettings : List ℕ → ConfFault → Type 0
+IsNoSettings text Syntax = parse_document text ≡ None
+IsNoSettings text BadValue = HasBadSettings text
+IsNoSettings text _ = ⊥

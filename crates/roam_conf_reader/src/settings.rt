@@ -1,0 +1,33 @@
+//! What a text states beside its configuration: how it is served, which isn't the broker's.
+
+ghost use Rattle.std.specs.Prelude.{◌≡◌, ◌⊎◌, IfOk, IfErr};
+ghost use Rattle.roam_conf_reader.specs.Settings.{IsNoSettings, StatesSettings};
+
+use crate::document::document;
+use crate::{ConfFault, keys};
+use roam_conf::Endpoint;
+use std::alloc::Global;
+
+/// How a configuration is served.
+#[derive(Clone, Copy, Debug, PartialEq, Eq)]
+pub struct Settings {
+    /// Where the counts of the server are answered over HTTP; nowhere where the key `metrics` is absent.
+    pub metrics: Option<Endpoint>,
+}
+
+/// Reads the settings of a configuration from its text.
+///
+/// # Errors
+///
+/// `Syntax` or `BadValue`, where the text states none: then it states no configuration either; `Memory`, which comes
+/// where a growth was refused.
+pub fn read_settings(alloc: Global, text: &str) -> Result<Settings, ConfFault>
+    ensures ok { IfOk result (λ settings. StatesSettings text.now settings) }
+    ensures err { IfErr result (λ f. (f ≡ ConfFault.Memory) ⊎ IsNoSettings text.now f) }
+{
+    let table = document(alloc, text)?;
+    match keys::optional_endpoint(&table, "metrics") {
+        Some(metrics) => Ok(Settings { metrics }),
+        None => Err(ConfFault::BadValue),
+    }
+}

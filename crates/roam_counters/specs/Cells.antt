@@ -1,0 +1,33 @@
+-- Where each count stands: those of the server first, and behind them a row for each subject. Ours.
+use Rattle.std.specs.Prelude.{ℕ, ◌+◌, ◌*◌, ◌<◌}
+use Rattle.roam_counters.specs.Events.{event_place}
+use Rattle.roam_counters.specs.Process.{process_place}
+use Rattle.roam_counters.specs.declared.cell.Layout.{Layout}
+use Rattle.roam_counters.specs.declared.cell.Subject.{Subject}
+use Rattle.roam_counters.specs.declared.cell.Subject.TheVariants as subject
+use Rattle.roam_counters.specs.declared.event.Event.{Event}
+use Rattle.roam_counters.specs.declared.process.Process.{Process}
+
+-- how many there are
+abbrev pub cells : Layout → ℕ
+cells layout = 12 + 69 * (1 + 9 * layout.realms + layout.peers)
+
+-- the row of a subject: one for all, nine for each realm with its home servers, one for each peer
+abbrev pub row_of : Layout → Subject → ℕ
+row_of layout subject.All = 0
+row_of layout (subject.Realm realm) = 1 + 9 * realm
+row_of layout (subject.Server realm server) = 2 + 9 * realm + server
+row_of layout (subject.Peer peer) = 1 + 9 * layout.realms + peer
+
+abbrev pub cell_of : Layout → Subject → Event → ℕ
+cell_of layout subject event = 12 + 69 * row_of layout subject + event_place event
+
+abbrev pub process_cell : Process → ℕ
+process_cell process = process_place process
+
+-- a subject of a configuration with so many realms and peers
+abbrev pub IsOf : Layout → Subject → Type 0
+IsOf layout subject.All = Unit {0}
+IsOf layout (subject.Realm realm) = realm < layout.realms
+IsOf layout (subject.Server realm server) = (realm < layout.realms) × (server < 8)
+IsOf layout (subject.Peer peer) = peer < layout.peers

@@ -1,0 +1,7 @@
+pub mod Apart
+pub mod Cells
+pub mod Ends
+pub mod Events
+pub mod Kinds
+pub mod Process
+pub mod Turns

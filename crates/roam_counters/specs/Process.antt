@@ -1,0 +1,28 @@
+-- What is counted of the whole server. Ours.
+use Rattle.std.specs.Prelude.{ℕ}
+use Rattle.roam_conf.specs.declared.place.Place.{Place}
+use Rattle.roam_conf.specs.declared.place.Place.TheVariants as place
+use Rattle.roam_counters.specs.declared.process.Process.{Process}
+use Rattle.roam_counters.specs.declared.process.Process.TheVariants as process
+
+-- that a datagram came to this place
+abbrev pub received : Place → Process
+received place.Auth = process.ReceivedAuth
+received place.Acct = process.ReceivedAcct
+received (place.Out realm) = process.ReceivedOut
+received (place.Reverse realm) = process.ReceivedReverse
+
+-- its place among these counts, from 0
+abbrev pub process_place : Process → ℕ
+process_place process.ReceivedAuth = 0
+process_place process.ReceivedAcct = 1
+process_place process.ReceivedOut = 2
+process_place process.ReceivedReverse = 3
+process_place process.Sent = 4
+process_place process.LostFullRing = 5
+process_place process.LostUnreachable = 6
+process_place process.LostNotPermitted = 7
+process_place process.LostOther = 8
+process_place process.Step = 9
+process_place process.StepLetGo = 10
+process_place process.TimeLetGo = 11

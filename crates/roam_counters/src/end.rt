@@ -1,0 +1,39 @@
+//! Who is at the other end of a packet.
+
+ghost use Rattle.std.specs.Prelude.{◌≡◌};
+ghost use Rattle.roam_conf.specs.Shown.{shown};
+ghost use Rattle.roam_counters.specs.Ends as spec;
+
+use crate::cell::Subject;
+use roam_conf::{Config, Endpoint, Link, Place};
+
+/// The subject of a link of a realm.
+pub(crate) fn subject_of(realm: u16, link: Link) -> Subject
+    ensures { result ≡ spec.subject_of realm link }
+{
+    match link {
+        Link::Auth(server) | Link::Acct(server) => Subject::Server(realm, server),
+        Link::Coa(peer) => Subject::Peer(peer),
+    }
+}
+
+/// Who is at the other end of a packet that comes to this place from this endpoint, or leaves from this place to it; none where
+/// nobody of the configuration has it there.
+pub fn end_at(config: &Config, place: Place, endpoint: Endpoint) -> Option<Subject>
+    ensures { result ≡ spec.end_at (shown config.now) place endpoint }
+{
+    match place {
+        Place::Auth | Place::Acct => match config.peer_by_ip(endpoint.ip) {
+            Some(peer) => Some(Subject::Peer(peer)),
+            None => None,
+        },
+        Place::Out(realm) => match config.link_of(realm, endpoint) {
+            Some(link) => Some(subject_of(realm, link)),
+            None => None,
+        },
+        Place::Reverse(realm) => match config.home_of(realm, endpoint.ip) {
+            Some(server) => Some(Subject::Server(realm, server)),
+            None => None,
+        },
+    }
+}

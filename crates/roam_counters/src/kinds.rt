@@ -1,0 +1,90 @@
+//! The kinds of requests and replies, by their codes (RFC 2865 section 3, RFC 2866 section 3, RFC 5176 section 2.3).
+
+ghost use Rattle.std.specs.Prelude.{◌≡◌};
+ghost use Rattle.roam_counters.specs.Kinds as spec;
+
+use roam_wire::code;
+
+/// A request.
+#[derive(Clone, Copy, Debug, PartialEq, Eq)]
+pub enum RequestKind {
+    Access,
+    Accounting,
+    Disconnect,
+    Coa,
+}
+
+/// A reply.
+#[derive(Clone, Copy, Debug, PartialEq, Eq)]
+pub enum ReplyKind {
+    AccessAccept,
+    AccessReject,
+    AccessChallenge,
+    AccountingResponse,
+    DisconnectAck,
+    DisconnectNak,
+    CoaAck,
+    CoaNak,
+}
+
+impl RequestKind {
+    /// The request of a code; none where the code is no such request's.
+    pub fn of(code: u8) -> Option<RequestKind>
+        ensures { result ≡ spec.request_of code }
+    {
+        match code {
+            code::ACCESS_REQUEST => Some(RequestKind::Access),
+            code::ACCOUNTING_REQUEST => Some(RequestKind::Accounting),
+            code::DISCONNECT_REQUEST => Some(RequestKind::Disconnect),
+            code::COA_REQUEST => Some(RequestKind::Coa),
+            _ => None,
+        }
+    }
+
+    /// Its place among the four.
+    pub fn place(self) -> usize
+        ensures { result ≡ spec.request_place self }
+    {
+        match self {
+            RequestKind::Access => 0,
+            RequestKind::Accounting => 1,
+            RequestKind::Disconnect => 2,
+            RequestKind::Coa => 3,
+        }
+    }
+}
+
+impl ReplyKind {
+    /// The reply of a code; none where the code is no such reply's.
+    pub fn of(code: u8) -> Option<ReplyKind>
+        ensures { result ≡ spec.reply_of code }
+    {
+        match code {
+            code::ACCESS_ACCEPT => Some(ReplyKind::AccessAccept),
+            code::ACCESS_REJECT => Some(ReplyKind::AccessReject),
+            code::ACCESS_CHALLENGE => Some(ReplyKind::AccessChallenge),
+            code::ACCOUNTING_RESPONSE => Some(ReplyKind::AccountingResponse),
+            code::DISCONNECT_ACK => Some(ReplyKind::DisconnectAck),
+            code::DISCONNECT_NAK => Some(ReplyKind::DisconnectNak),
+            code::COA_ACK => Some(ReplyKind::CoaAck),
+            code::COA_NAK => Some(ReplyKind::CoaNak),
+            _ => None,
+        }
+    }
+
+    /// Its place among the eight.
+    pub fn place(self) -> usize
+        ensures { result ≡ spec.reply_place self }
+    {
+        match self {
+            ReplyKind::AccessAccept => 0,
+            ReplyKind::AccessReject => 1,
+            ReplyKind::AccessChallenge => 2,
+            ReplyKind::AccountingResponse => 3,
+            ReplyKind::DisconnectAck => 4,
+            ReplyKind::DisconnectNak => 5,
+            ReplyKind::CoaAck => 6,
+            ReplyKind::CoaNak => 7,
+        }
+    }
+}

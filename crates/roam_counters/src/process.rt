@@ -1,0 +1,64 @@
+//! What is counted of the whole server.
+
+ghost use Rattle.std.specs.Prelude.{◌≡◌, ◌<◌};
+ghost use Rattle.roam_counters.specs.Process as spec;
+
+use roam_conf::Place;
+
+/// What is counted of the whole server.
+#[derive(Clone, Copy, Debug, PartialEq, Eq)]
+pub enum Process {
+    /// A datagram came to a place of this kind.
+    ReceivedAuth,
+    ReceivedAcct,
+    ReceivedOut,
+    ReceivedReverse,
+    /// A packet was sent.
+    Sent,
+    /// A packet was lost, for one of these causes.
+    LostFullRing,
+    LostUnreachable,
+    LostNotPermitted,
+    LostOther,
+    /// A step was stored.
+    Step,
+    /// A stored step was let go of.
+    StepLetGo,
+    /// The stored steps of a shard were let go of.
+    TimeLetGo,
+}
+
+impl Process {
+    /// That a datagram came to this place.
+    pub fn received(place: Place) -> Process
+        ensures { result ≡ spec.received place }
+    {
+        match place {
+            Place::Auth => Process::ReceivedAuth,
+            Place::Acct => Process::ReceivedAcct,
+            Place::Out(_) => Process::ReceivedOut,
+            Place::Reverse(_) => Process::ReceivedReverse,
+        }
+    }
+
+    /// Its place among these counts.
+    pub fn place(self) -> usize
+        ensures value { result ≡ spec.process_place self }
+        ensures below { result < 12 }
+    {
+        match self {
+            Process::ReceivedAuth => 0,
+            Process::ReceivedAcct => 1,
+            Process::ReceivedOut => 2,
+            Process::ReceivedReverse => 3,
+            Process::Sent => 4,
+            Process::LostFullRing => 5,
+            Process::LostUnreachable => 6,
+            Process::LostNotPermitted => 7,
+            Process::LostOther => 8,
+            Process::Step => 9,
+            Process::StepLetGo => 10,
+            Process::TimeLetGo => 11,
+        }
+    }
+}

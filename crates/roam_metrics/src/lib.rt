@@ -1,0 +1,13 @@
+//! The counts of a server as a page in Prometheus' text format, version 0.0.4.
+//!
+//! Nothing here counts or opens a socket: a page is text that is made of what [`Counts`] answers.
+#![tactic(auto)]
+
+mod families;
+pub mod laws;
+mod pages;
+mod samples;
+mod words;
+
+pub use pages::{Counts, page};
+pub use samples::{Label, push_header, push_sample};

@@ -1,0 +1,70 @@
+-- The line of refusals: what was refused, where, from whom, and how often. Ours.
+use Rattle.std.specs.Prelude.{ℕ, ◌==◌, List, [], ◌++◌, Option, Some, None, if◌then◌else◌, codes, slice_index}
+use Rattle.std.specs.Fmt.{decimal}
+use Rattle.roam_conf.specs.declared.endpoint.Endpoint.{Endpoint}
+use Rattle.roam_conf.specs.declared.place.Place.{Place}
+use Rattle.roam_conf.specs.declared.place.Place.TheVariants as place
+use Rattle.roam_wire.specs.Refusal.{number_of}
+use Rattle.roam_wire.specs.declared.refusal.Refusal.{Refusal}
+use Rattle.roam_wire.specs.declared.refusal.Refusal.TheVariants as refusal
+use Rattle.roam_notices.specs.declared.origin.Origin.{Origin}
+use Rattle.roam_notices.specs.declared.origin.Origin.TheVariants as origin
+use Rattle.roam_notices.specs.declared.tally.Tally.{Tally}
+
+-- the name of a refusal
+abbrev pub refusal_name : Refusal → List ℕ
+refusal_name refusal.Short = codes "Short"
+refusal_name refusal.BadLength = codes "BadLength"
+refusal_name refusal.BadAttribute = codes "BadAttribute"
+refusal_name refusal.UnknownSource = codes "UnknownSource"
+refusal_name refusal.WrongCode = codes "WrongCode"
+refusal_name refusal.BadAuthenticator = codes "BadAuthenticator"
+refusal_name refusal.BadMessageAuthenticator = codes "BadMessageAuthenticator"
+refusal_name refusal.MissingMessageAuthenticator = codes "MissingMessageAuthenticator"
+refusal_name refusal.NoRealm = codes "NoRealm"
+refusal_name refusal.TooLong = codes "TooLong"
+refusal_name refusal.Exhausted = codes "Exhausted"
+refusal_name refusal.NoIdentifier = codes "NoIdentifier"
+refusal_name refusal.Busy = codes "Busy"
+refusal_name refusal.NoEntry = codes "NoEntry"
+refusal_name refusal.WrongReply = codes "WrongReply"
+refusal_name refusal.BadReply = codes "BadReply"
+refusal_name refusal.BadReplyMessageAuthenticator = codes "BadReplyMessageAuthenticator"
+refusal_name refusal.ReplyTooLong = codes "ReplyTooLong"
+refusal_name refusal.Moment = codes "Moment"
+refusal_name refusal.NoShard = codes "NoShard"
+refusal_name refusal.NoMemory = codes "NoMemory"
+refusal_name refusal.TraceFull = codes "TraceFull"
+refusal_name refusal.Misplaced = codes "Misplaced"
+refusal_name refusal.TooManyHops = codes "TooManyHops"
+
+-- four decimal numbers joined by dots, a colon and the port
+abbrev pub endpoint_text : Endpoint → List ℕ
+endpoint_text e =
+    decimal (slice_index e.ip 0) ++ codes "." ++ decimal (slice_index e.ip 1) ++ codes "." ++
+    decimal (slice_index e.ip 2) ++ codes "." ++ decimal (slice_index e.ip 3) ++ codes ":" ++ decimal e.port
+
+-- a place as a script names it, with the name of its realm
+abbrev pub place_text : Place → List ℕ → List ℕ
+place_text place.Auth realm = codes "auth"
+place_text place.Acct realm = codes "acct"
+place_text (place.Out number) realm = codes "out:" ++ decimal number ++ codes " (" ++ realm ++ codes ")"
+place_text (place.Reverse number) realm = codes "reverse:" ++ decimal number ++ codes " (" ++ realm ++ codes ")"
+
+-- where it was; of those that are tallied nowhere else no more is known
+abbrev pub origin_text : Option Origin → List ℕ → List ℕ
+origin_text (Some (origin.Datagram place from)) realm =
+    codes " at " ++ place_text place realm ++ codes " from " ++ endpoint_text from
+origin_text (Some (origin.Place place)) realm = codes " at " ++ place_text place realm
+origin_text (Some (origin.Tick shard)) realm = codes " at tick:" ++ decimal shard
+origin_text None realm = codes " elsewhere"
+
+-- how often, where it was not once
+abbrev pub count_text : ℕ → List ℕ
+count_text count = if count == 1 then [] else (codes " (" ++ decimal count ++ codes " times)")
+
+-- the line: no octet of a packet stands in it
+abbrev pub refused_text : Tally → List ℕ → List ℕ
+refused_text tally realm =
+    codes "refused " ++ decimal (number_of tally.refusal) ++ codes " " ++ refusal_name tally.refusal ++
+    origin_text tally.origin realm ++ count_text tally.count

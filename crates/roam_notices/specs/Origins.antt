@@ -1,0 +1,27 @@
+-- Where something was refused. Ours.
+use Rattle.std.specs.Prelude.{ℕ, Option, Some, None}
+use Rattle.roam_conf.specs.declared.place.Place.{Place}
+use Rattle.roam_conf.specs.declared.place.Place.TheVariants as place
+use Rattle.roam_notices.specs.declared.origin.Origin.{Origin}
+use Rattle.roam_notices.specs.declared.origin.Origin.TheVariants as origin
+use Rattle.roam_notices.specs.declared.origin.Kind.{Kind}
+use Rattle.roam_notices.specs.declared.origin.Kind.TheVariants as kind
+
+-- what of it is compared: the port that a datagram came from is not
+abbrev pub kind_of : Origin → Kind
+kind_of (origin.Datagram place from) = kind.Source place from.ip
+kind_of (origin.Place place) = kind.Place place
+kind_of (origin.Tick shard) = kind.Tick shard
+
+-- the realm that a place belongs to
+abbrev pub realm_at : Place → Option ℕ
+realm_at place.Auth = None
+realm_at place.Acct = None
+realm_at (place.Out realm) = Some realm
+realm_at (place.Reverse realm) = Some realm
+
+-- the realm whose name stands in a line
+abbrev pub realm_of : Origin → Option ℕ
+realm_of (origin.Datagram place from) = realm_at place
+realm_of (origin.Place place) = realm_at place
+realm_of (origin.Tick shard) = None

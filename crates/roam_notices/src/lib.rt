@@ -1,0 +1,19 @@
+//! What is told of refusals: equal ones within a second are one line with a count, and a flood of one number hides
+//! no other.
+//!
+//! Nothing here writes a line, reads a clock or starts a thread.
+#![tactic(auto)]
+
+mod origin;
+mod repeats;
+mod row;
+mod tally;
+#[cfg(test)]
+mod tests;
+mod text;
+
+pub use origin::{Kind, Origin};
+pub use repeats::Repeats;
+pub use row::{KINDS, Row};
+pub use tally::Tally;
+pub use text::{EndpointText, RefusedText};

@@ -1,0 +1,58 @@
+//! Where something was refused.
+
+ghost use Rattle.std.specs.Prelude.{◌≡◌};
+ghost use Rattle.roam_notices.specs.Origins as spec;
+
+use roam_conf::{Endpoint, Place};
+
+/// Where something was refused.
+#[derive(Clone, Copy, Debug, PartialEq, Eq)]
+pub enum Origin {
+    /// A datagram that came to this place from this endpoint.
+    Datagram(Place, Endpoint),
+    /// A datagram that came to this place, of which no more is known.
+    Place(Place),
+    /// A tick of this shard.
+    Tick(u16),
+}
+
+/// What of an origin is compared: of a datagram its place and the address that it came from, and not the port.
+#[derive(Clone, Copy, Debug, PartialEq, Eq)]
+pub enum Kind {
+    Source(Place, [u8; 4]),
+    Place(Place),
+    Tick(u16),
+}
+
+/// The realm that a place belongs to, by its index.
+fn realm_at(place: Place) -> Option<u16>
+    ensures { result ≡ spec.realm_at place }
+{
+    match place {
+        Place::Out(realm) | Place::Reverse(realm) => Some(realm),
+        Place::Auth | Place::Acct => None,
+    }
+}
+
+impl Origin {
+    /// What of it is compared.
+    pub fn kind(self) -> Kind
+        ensures { result ≡ spec.kind_of self }
+    {
+        match self {
+            Origin::Datagram(place, from) => Kind::Source(place, from.ip),
+            Origin::Place(place) => Kind::Place(place),
+            Origin::Tick(shard) => Kind::Tick(shard),
+        }
+    }
+
+    /// The index of the realm that its place belongs to, where it belongs to one.
+    pub fn realm(self) -> Option<u16>
+        ensures { result ≡ spec.realm_of self }
+    {
+        match self {
+            Origin::Datagram(place, _) | Origin::Place(place) => realm_at(place),
+            Origin::Tick(_) => None,
+        }
+    }
+}

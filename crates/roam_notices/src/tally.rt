@@ -1,0 +1,36 @@
+//! How often something was refused.
+
+ghost use Rattle.std.specs.Prelude.{◌≡◌, ◌↔◌, IsTrue};
+ghost use Rattle.roam_notices.specs.Tallies.{IsOfKind, one_more};
+
+use crate::origin::{Kind, Origin};
+use roam_wire::Refusal;
+
+/// How often something was refused within a second.
+#[derive(Clone, Copy, Debug, PartialEq, Eq)]
+pub struct Tally {
+    pub refusal: Refusal,
+    /// Where the first of them was; none where they are all those of the refusal that are tallied nowhere else.
+    pub origin: Option<Origin>,
+    /// A count stays at 2^64 - 1.
+    pub count: u64,
+}
+
+impl Tally {
+    /// Whether it counts this kind.
+    pub fn is_of(&self, kind: Kind) -> bool
+        ensures { IsTrue result ↔ IsOfKind kind self.now }
+    {
+        match self.origin {
+            Some(origin) => origin.kind() == kind,
+            None => false,
+        }
+    }
+
+    /// Counts one more.
+    pub fn count_one(&mut self)
+        ensures { self.new ≡ one_more self.old }
+    {
+        self.count = self.count.saturating_add(1);
+    }
+}

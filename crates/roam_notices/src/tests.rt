@@ -1,0 +1,82 @@
+//! The lines of refusals.
+
+use crate::{Origin, RefusedText, Tally};
+use roam_conf::{Endpoint, Place};
+use roam_wire::Refusal;
+use std::process::Abort;
+
+/// Where it came from in the tests.
+const SOURCE: Endpoint = Endpoint {
+    ip: [198, 51, 100, 1],
+    port: 1812,
+};
+
+/// These refusals are told so, where their place belongs to the realm `b.example` or to none.
+fn expect<R: AllocGlobal + Abort>(
+    rt: &R,
+    refusal: Refusal,
+    origin: Option<Origin>,
+    count: u64,
+    line: &str,
+) {
+    let tally = Tally {
+        refusal,
+        origin,
+        count,
+    };
+    let text = RefusedText {
+        tally,
+        realm: "b.example",
+    };
+    let written = format!(in rt.alloc(); "{text}");
+    assert!(rt;
+        written.is_ok_and(|written| written.as_str() == line),
+        "{line}"
+    );
+}
+
+#[test]
+fn lines(rt: HostRuntime) {
+    expect(
+        &rt,
+        Refusal::BadReply,
+        Some(Origin::Datagram(Place::Out(3), SOURCE)),
+        1,
+        "refused 16 BadReply at out:3 (b.example) from 198.51.100.1:1812",
+    );
+    expect(
+        &rt,
+        Refusal::UnknownSource,
+        Some(Origin::Datagram(Place::Auth, SOURCE)),
+        1234,
+        "refused 4 UnknownSource at auth from 198.51.100.1:1812 (1234 times)",
+    );
+    expect(
+        &rt,
+        Refusal::WrongCode,
+        Some(Origin::Datagram(Place::Reverse(0), SOURCE)),
+        2,
+        "refused 5 WrongCode at reverse:0 (b.example) from 198.51.100.1:1812 (2 times)",
+    );
+    expect(
+        &rt,
+        Refusal::NoMemory,
+        Some(Origin::Place(Place::Acct)),
+        1,
+        "refused 21 NoMemory at acct",
+    );
+    expect(
+        &rt,
+        Refusal::Moment,
+        Some(Origin::Tick(7)),
+        1,
+        "refused 19 Moment at tick:7",
+    );
+    expect(
+        &rt,
+        Refusal::UnknownSource,
+        None,
+        19992,
+        "refused 4 UnknownSource elsewhere (19992 times)",
+    );
+}

@@ -1,0 +1,184 @@
+//! The line of a refusal.
+
+ghost use Rattle.std.specs.Prelude.{◌≡◌, Some};
+ghost use Rattle.roam_conf.specs.Shown.{shown};
+ghost use Rattle.roam_notices.specs.Lines as lines;
+ghost use Rattle.roam_notices.specs.Names.{name_of, realm_name};
+
+use crate::origin::Origin;
+use crate::tally::Tally;
+use roam_conf::{Config, Endpoint, Place};
+use roam_wire::Refusal;
+use std::fmt;
+use std::fmt::{Display, Formatter, Write};
+
+/// An endpoint as `ADDRESS:PORT`.
+#[derive(Clone, Copy)]
+pub struct EndpointText(pub Endpoint);
+
+impl Display for EndpointText {
+    ghost output = { λ text. Some (lines.endpoint_text text.0) };
+
+    fn fmt<W: Write>(&self, f: &mut Formatter<W>) -> fmt::Result {
+        let Endpoint { ip, port } = self.0;
+        let [a, b, c, d] = ip;
+        write!(f, "{a}.{b}.{c}.{d}:{port}")
+    }
+}
+
+/// A place as a script names it, with the name of its realm.
+#[derive(Clone, Copy)]
+struct PlaceText<'n> {
+    place: Place,
+    realm: &'n str,
+}
+
+impl Display for PlaceText<'_> {
+    ghost output = { λ text. Some (lines.place_text text.place text.realm.now) };
+
+    fn fmt<W: Write>(&self, f: &mut Formatter<W>) -> fmt::Result {
+        let realm = self.realm;
+        match self.place {
+            Place::Auth => f.write_str("auth"),
+            Place::Acct => f.write_str("acct"),
+            Place::Out(number) => write!(f, "out:{number} ({realm})"),
+            Place::Reverse(number) => write!(f, "reverse:{number} ({realm})"),
+        }
+    }
+}
+
+/// Refusals as a line: `refused NUMBER NAME at PLACE (REALM) from ADDRESS:PORT`, and behind it how many they were
+/// where they were several. No octet of a packet stands in it.
+#[derive(Clone, Copy)]
+pub struct RefusedText<'n> {
+    pub tally: Tally,
+    /// The name of the realm that the place belongs to, where it belongs to one.
+    pub realm: &'n str,
+}
+
+/// The name of the realm of this index; empty where there is none.
+fn name_of(config: &Config, realm: Option<u16>) -> &str
+    ensures { result.now ≡ name_of (shown config.now).realms realm }
+{
+    let Some(number) = realm else {
+        return "";
+    };
+    match config.realms.get(usize::from(number)) {
+        Some(realm) => realm.name.as_str(),
+        None => "",
+    }
+}
+
+impl<'n> RefusedText<'n> {
+    /// The line of these refusals, where this is the configuration.
+    pub fn new(config: &'n Config, tally: Tally) -> RefusedText<'n>
+        ensures tally { result.tally ≡ tally }
+        ensures realm { result.realm.now ≡ realm_name (shown config.now).realms tally }
+    {
+        let realm = match tally.origin {
+            Some(origin) => origin.realm(),
+            None => None,
+        };
+        RefusedText {
+            tally,
+            realm: name_of(config, realm),
+        }
+    }
+}
+
+/// Where it was, behind a blank.
+#[derive(Clone, Copy)]
+struct OriginText<'n> {
+    origin: Option<Origin>,
+    realm: &'n str,
+}
+
+impl Display for OriginText<'_> {
+    ghost output = { λ text. Some (lines.origin_text text.origin text.realm.now) };
+
+    fn fmt<W: Write>(&self, f: &mut Formatter<W>) -> fmt::Result {
+        let realm = self.realm;
+        match self.origin {
+            Some(Origin::Datagram(place, from)) => {
+                let place = PlaceText { place, realm };
+                let from = EndpointText(from);
+                write!(f, " at {place} from {from}")
+            }
+            Some(Origin::Place(place)) => {
+                let place = PlaceText { place, realm };
+                write!(f, " at {place}")
+            }
+            Some(Origin::Tick(shard)) => write!(f, " at tick:{shard}"),
+            None => f.write_str(" elsewhere"),
+        }
+    }
+}
+
+/// How often, behind a blank, where it was not once.
+#[derive(Clone, Copy)]
+struct CountText(u64);
+
+impl Display for CountText {
+    ghost output = { λ text. Some (lines.count_text text.0) };
+
+    fn fmt<W: Write>(&self, f: &mut Formatter<W>) -> fmt::Result {
+        let count = self.0;
+        if count == 1 {
+            f.write_str("")
+        } else {
+            write!(f, " ({count} times)")
+        }
+    }
+}
+
+/// The name of a refusal.
+fn refusal_name(refusal: Refusal) -> &'static str
+    ensures { result.now ≡ lines.refusal_name refusal }
+{
+    match refusal {
+        Refusal::Short => "Short",
+        Refusal::BadLength => "BadLength",
+        Refusal::BadAttribute => "BadAttribute",
+        Refusal::UnknownSource => "UnknownSource",
+        Refusal::WrongCode => "WrongCode",
+        Refusal::BadAuthenticator => "BadAuthenticator",
+        Refusal::BadMessageAuthenticator => "BadMessageAuthenticator",
+        Refusal::MissingMessageAuthenticator => "MissingMessageAuthenticator",
+        Refusal::NoRealm => "NoRealm",
+        Refusal::TooLong => "TooLong",
+        Refusal::Exhausted => "Exhausted",
+        Refusal::NoIdentifier => "NoIdentifier",
+        Refusal::Busy => "Busy",
+        Refusal::NoEntry => "NoEntry",
+        Refusal::WrongReply => "WrongReply",
+        Refusal::BadReply => "BadReply",
+        Refusal::BadReplyMessageAuthenticator => "BadReplyMessageAuthenticator",
+        Refusal::ReplyTooLong => "ReplyTooLong",
+        Refusal::Moment => "Moment",
+        Refusal::NoShard => "NoShard",
+        Refusal::NoMemory => "NoMemory",
+        Refusal::TraceFull => "TraceFull",
+        Refusal::Misplaced => "Misplaced",
+        Refusal::TooManyHops => "TooManyHops",
+    }
+}
+
+impl Display for RefusedText<'_> {
+    ghost output = { λ text. Some (lines.refused_text text.tally text.realm.now) };
+
+    fn fmt<W: Write>(&self, f: &mut Formatter<W>) -> fmt::Result {
+        let Tally {
+            refusal,
+            origin,
+            count,
+        } = self.tally;
+        let number = refusal.number();
+        let name = refusal_name(refusal);
+        let place = OriginText {
+            origin,
+            realm: self.realm,
+        };
+        let count = CountText(count);
+        write!(f, "refused {number} {name}{place}{count}")
+    }
+}

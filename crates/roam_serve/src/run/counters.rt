@@ -1,0 +1,106 @@
+//! What a server counts: each of its threads apart.
+
+ghost use Rattle.std.specs.Prelude.{◌≡◌, IfOk, vec_len};
+
+use roam_conf::{Config, Endpoint};
+use roam_counters::{Event, Layout, Process, Subject};
+use roam_metrics::Counts;
+use std::alloc::{AllocError, Global};
+use std::sync::atomic::{AtomicU64, Ordering};
+
+/// What a server counts: each of its threads apart, so that none waits for another. What is read is the sum.
+#[derive(Drop)]
+pub struct Counters {
+    layout: Layout,
+    threads: Vec<Vec<AtomicU64>>,
+}
+
+/// So many counts that stand at 0.
+fn zeros(alloc: Global, count: usize) -> Result<Vec<AtomicU64>, AllocError> {
+    let mut zeros = Vec::with_capacity(alloc, count)?;
+    for _ in 0..count {
+        zeros.push(AtomicU64::new(0))?;
+    }
+    Ok(zeros)
+}
+
+impl Counters {
+    /// Nothing was counted yet, by the threads of a server of this configuration.
+    pub fn new(alloc: Global, config: &Config) -> Result<Counters, AllocError> {
+        let layout = Layout::new(config);
+        let mut threads = Vec::new(alloc);
+        for _ in 0..config.shards + 1 {
+            threads.push(zeros(alloc, layout.cells())?)?;
+        }
+        Ok(Counters { layout, threads })
+    }
+
+    /// What the threads counted together at a place; it begins again at 0 after 2^64 - 1.
+    fn sum(&self, cell: usize) -> u64 {
+        let mut sum = 0u64;
+        for thread in &self.threads {
+            if let Some(count) = thread.get(cell) {
+                sum = sum.wrapping_add(count.load(Ordering::SeqCst));
+            }
+        }
+        sum
+    }
+
+    /// The counts of one thread.
+    pub(crate) fn of_thread(&self, number: usize) -> Option<ThreadCounts<'_>> {
+        let layout = self.layout;
+        match self.threads.get(number) {
+            Some(cells) => Some(ThreadCounts {
+                layout,
+                cells: cells.as_slice(),
+            }),
+            None => None,
+        }
+    }
+}
+
+impl Counts for Counters {
+    fn event(&self, subject: Subject, event: Event) -> u64 {
+        self.sum(self.layout.cell(subject, event))
+    }
+
+    fn process(&self, process: Process) -> u64 {
+        self.sum(process.cell())
+    }
+}
+
+/// That a server counts what it does, and where that can be read.
+#[derive(Clone, Copy)]
+pub struct Watch<'w> {
+    pub counters: &'w Counters,
+    /// Where it is answered over HTTP, if anywhere.
+    pub metrics: Option<Endpoint>,
+}
+
+/// The counts of one thread.
+#[derive(Clone, Copy)]
+pub struct ThreadCounts<'t> {
+    layout: Layout,
+    cells: &'t [AtomicU64],
+}
+
+impl ThreadCounts<'_> {
+    /// Adds to a count.
+    fn add(&self, cell: usize, more: u64) {
+        if let Some(count) = self.cells.get(cell) {
+            count.fetch_add(more, Ordering::SeqCst);
+        }
+    }
+
+    /// One more of this of a subject.
+    pub fn event(&self, subject: Subject, event: Event) {
+        self.add(self.layout.cell(subject, event), 1);
+    }
+
+    /// So many more of this of the whole server.
+    pub fn process(&self, process: Process, more: u64) {
+        if more > 0 {
+            self.add(process.cell(), more);
+        }
+    }
+}
