@@ -1,4 +1,4 @@
-"""Rows in the form of crates/roam_rows/data, and what a broker written apart answers to them."""
+"""Rows in the form of crates/test_rows/data, and what a broker written apart answers to them."""
 import broker
 from configurations import CONFIGURATIONS
 from formulas import HOME, NAS, S1

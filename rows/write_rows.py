@@ -1,5 +1,5 @@
 #!/usr/bin/env python3
-"""Writes the rows into crates/roam_rows/data, which plays them.
+"""Writes the rows into crates/test_rows/data, which plays them.
 
 write_rows.py          writes the configurations, the rows said by hand here, the random scripts and vectors.txt
 write_rows.py --check  changes nothing; fails where a file isn't what would be written
@@ -16,7 +16,7 @@ from vectors import text as vectors
 import access, arrivals, held_replies, identifiers, realms, replies, requests, rests, reverse, servers
 
 ROWS = pathlib.Path(__file__).resolve().parent
-DATA = ROWS.parent / "crates" / "roam_rows" / "data"
+DATA = ROWS.parent / "crates" / "test_rows" / "data"
 
 
 def written():

@@ -1,12 +1,12 @@
 -- What the words get, from what the command that they ask for did.
-use Rattle.std.proofs.Common.{◌≡◌, ◌⊎◌, inl, inr, ℕ, List, Option, Some, Result, Ok, Err, IfErr, ap, sym, arith}
+use Rattle.std.proofs.Common.{◌≡◌, ◌⊎◌, inl, inr, ℕ, List, Option, Some, Result, Ok, Err, IfErr, ap, sym, arith, rules}
 use Rattle.std.specs.Io.KnownBytes.{Keeps}
 use Rattle.roam_sim.specs.Simulation.{SimulatesInPart}
-use Rattle.roam.specs.CommandLine.{to_simulate, to_serve, to_serve_with_its_seed, Asks, AsksToServeIt, AsksToServe, AsksNothing}
+use Rattle.roam.specs.CommandLine.{to_control, to_simulate, to_serve, to_serve_with_its_seed, Asks, AsksToServeIt, AsksToServe, AsksNothing}
 use Rattle.roam.specs.declared.text_file.TextFile.{TextFile}
 use Rattle.roam.specs.declared.report.Fault.{Fault}
 use Rattle.roam.specs.declared.report.Fault.TheVariants as fault
-use Rattle.roam.specs.Outcomes.{text_in, RunFails, ServeFails, NamesConfiguration, IsAnsweredInPart, Prevents}
+use Rattle.roam.specs.Outcomes.{text_in, RunFails, ServeFails, NamesConfiguration, NamesFile, IsAnsweredInPart, Prevents}
 use Rattle.roam.specs.Report.{status_of}
 
 -- some events were lost, or the output is as it was
@@ -32,6 +32,7 @@ pub run-prevents : {T : Type 0} (words : List (List ℕ)) (configuration script 
 run-prevents words configuration script old new (Ok x) worded fails = tt
 run-prevents words configuration script old new (Err fault.Usage) worded fails = absurd fails
 run-prevents words configuration script old new (Err (fault.Unreadable path)) worded fails = absurd fails
+run-prevents words configuration script old new (Err (fault.Unanswered path)) worded fails = absurd fails
 run-prevents words configuration script old new (Err (fault.Refused path why)) worded fails =
     ((to_simulate configuration.path.now script.path.now, worded, ap Some (sym fails.0.named)), fails.1)
 run-prevents words configuration script old new (Err (fault.FaultyLine path number)) worded fails =
@@ -75,6 +76,7 @@ pub serve-prevents : {T : Type 0} (words : List (List ℕ)) (file : TextFile) (m
 serve-prevents words file milliseconds out (Ok x) asks kept fails = tt
 serve-prevents words file milliseconds out (Err fault.Usage) asks kept fails = absurd fails
 serve-prevents words file milliseconds out (Err (fault.Unreadable path)) asks kept fails = absurd fails
+serve-prevents words file milliseconds out (Err (fault.Unanswered path)) asks kept fails = absurd fails
 serve-prevents words file milliseconds out (Err (fault.Refused path why)) asks kept fails =
     (names-it words path.now file.path.now milliseconds fails.named asks, kept)
 serve-prevents words file milliseconds out (Err (fault.FaultyLine path number)) asks kept fails = absurd fails
@@ -113,6 +115,8 @@ pub usage-status : (words : List (List ℕ)) (old new : Option (List ℕ)) (f : 
 usage-status words old new fault.Usage status is prevents = (λ two. prevents.0, λ nothing. is)
 usage-status words old new (fault.Unreadable path) status is prevents =
     (λ two. absurd (omega arith), λ nothing. absurd (nothing prevents.0.0 prevents.0.1))
+usage-status words old new (fault.Unanswered path) status is prevents =
+    (λ two. absurd (omega arith), λ nothing. absurd (nothing (to_control path.now prevents.0.0) prevents.0.1))
 usage-status words old new (fault.Refused path why) status is prevents =
     (λ two. absurd (omega arith), λ nothing. absurd (nothing prevents.0.0 prevents.0.1))
 usage-status words old new (fault.FaultyLine path number) status is prevents =
@@ -137,3 +141,13 @@ usage-status words old new fault.Receive status is prevents =
     serves words old new status (λ two. omega (arith, is, two)) prevents
 usage-status words old new fault.Audit status is prevents =
     serves words old new status (λ two. omega (arith, is, two)) prevents
+
+-- the words of a simulation name its script
+pub names_script : (words : List (List ℕ)) (configuration script : List ℕ) →
+    Asks words (to_simulate configuration script) → NamesFile words script
+names_script words configuration script worded = (to_simulate configuration script, worded, search rules)
+
+-- and ask for something
+pub asks_for_simulation : (words : List (List ℕ)) (configuration script : List ℕ) →
+    Asks words (to_simulate configuration script) → ¬ (AsksNothing words)
+asks_for_simulation words configuration script worded nothing = nothing (to_simulate configuration script) worded

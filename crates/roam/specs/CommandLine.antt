@@ -1,15 +1,18 @@
 -- What a command line asks for, by the words after the program's name. Ours.
 use Rattle.std.specs.Prelude.{◌≡◌, ◌⊎◌, ℕ, List, [], ◌∷◌, codes, Option, Some, None}
 use Rattle.roam_conf.specs.Texts.{decimal_in}
+use Rattle.roam.specs.declared.command_line.Order.{Order}
+use Rattle.roam.specs.declared.command_line.Order.TheVariants as order
 
 -- to say how much there is in a configuration; to run a script over one; to serve one, with a seed that is drawn or with
--- its own, for so many milliseconds or without end; to print the usage; or to print which program this is. The files are
--- given by their paths
+-- its own, for so many milliseconds or without end; to ask a server something through its control socket; to print the
+-- usage; or to print which program this is. The files and the socket are given by their paths
 pub data Asked : Type 0 where
   to_check : List ℕ → Asked
   to_simulate : List ℕ → List ℕ → Asked
   to_serve : List ℕ → Option ℕ → Asked
   to_serve_with_its_seed : List ℕ → Option ℕ → Asked
+  to_control : List ℕ → Order → Asked
   to_help : Asked
   to_tell_version : Asked
 
@@ -20,6 +23,12 @@ seed_of_file = codes "--seed-of-file"
 -- a word for milliseconds is a decimal number from 1 to those of a day, without leading zeros
 abbrev pub IsTime : List ℕ → ℕ → Type 0
 IsTime word milliseconds = decimal_in 1 86400000 word ≡ Some milliseconds
+
+-- the word that asks a server for it
+abbrev pub order_word : Order → List ℕ
+order_word order.Status = codes "status"
+order_word order.Metrics = codes "metrics"
+order_word order.Stop = codes "stop"
 
 -- the words ask for it. After `serve` the word `--seed-of-file` is never the configuration
 abbrev pub Asks : List (List ℕ) → Asked → Type 0
@@ -34,6 +43,7 @@ Asks words (to_serve_with_its_seed configuration None) =
     codes "serve" ∷ seed_of_file ∷ configuration ∷ [] ≡ words
 Asks words (to_serve_with_its_seed configuration (Some milliseconds)) =
     (word : List ℕ) × (codes "serve" ∷ seed_of_file ∷ configuration ∷ word ∷ [] ≡ words) × IsTime word milliseconds
+Asks words (to_control path order) = codes "ctl" ∷ path ∷ order_word order ∷ [] ≡ words
 Asks words to_help =
     (codes "help" ∷ [] ≡ words) ⊎ (codes "--help" ∷ [] ≡ words) ⊎ (codes "-h" ∷ [] ≡ words)
 Asks words to_tell_version =
@@ -63,14 +73,16 @@ configuration_of (to_check configuration) = Some configuration
 configuration_of (to_simulate configuration script) = Some configuration
 configuration_of (to_serve configuration milliseconds) = Some configuration
 configuration_of (to_serve_with_its_seed configuration milliseconds) = Some configuration
+configuration_of (to_control path order) = None
 configuration_of to_help = None
 configuration_of to_tell_version = None
 
--- the paths of all files that it is about
+-- the paths of all files that it is about; a socket is none
 abbrev pub files_of : Asked → List (List ℕ)
 files_of (to_check configuration) = configuration ∷ []
 files_of (to_simulate configuration script) = configuration ∷ script ∷ []
 files_of (to_serve configuration milliseconds) = configuration ∷ []
 files_of (to_serve_with_its_seed configuration milliseconds) = configuration ∷ []
+files_of (to_control path order) = []
 files_of to_help = []
 files_of to_tell_version = []

@@ -9,7 +9,8 @@ use Rattle.roam_conf_reader.specs.declared.fault.ConfFault.{ConfFault}
 use Rattle.roam_conf_reader.specs.Faults.{IsFirstFault}
 use Rattle.roam_sim.specs.Script.{script_states}
 use Rattle.roam_sim.specs.Simulation.{IsConfiguration, IsAccepted, Simulates, SimulatesInPart}
-use Rattle.roam.specs.CommandLine.{Asked, to_check, to_simulate, to_serve, to_serve_with_its_seed, to_help, to_tell_version, Asks, AsksToServe, AsksNothing, files_of, configuration_of}
+use Rattle.roam.specs.CommandLine.{Asked, to_check, to_simulate, to_serve, to_serve_with_its_seed, to_control, to_help, to_tell_version, Asks, AsksToServe, AsksNothing, files_of, configuration_of}
+use Rattle.roam.specs.declared.command_line.Order.{Order}
 use Rattle.roam.specs.Report.{status_of, usage_text, version_text, Tells}
 use Rattle.roam.specs.declared.text_file.TextFile.{TextFile}
 use Rattle.roam.specs.declared.report.Ending.{Ending}
@@ -46,6 +47,7 @@ pub record IsFaulty (file : TextFile) (path : List ℕ) (number : ℕ) : Type 0 
 abbrev pub CheckFails : TextFile → Option (List ℕ) → Option (List ℕ) → Fault → Type 0
 CheckFails file old new fault.Usage = ⊥
 CheckFails file old new (fault.Unreadable path) = ⊥
+CheckFails file old new (fault.Unanswered path) = ⊥
 CheckFails file old new (fault.Refused path why) = IsRefused file path.now why × Keeps old new
 CheckFails file old new (fault.FaultyLine path number) = ⊥
 CheckFails file old new fault.Write = IsAccepted (text_in file)
@@ -70,6 +72,7 @@ pub record AreRead (configuration script : List ℕ) : Type 0 where
 abbrev pub RunFails : TextFile → TextFile → Option (List ℕ) → Option (List ℕ) → Fault → Type 0
 RunFails configuration script old new fault.Usage = ⊥
 RunFails configuration script old new (fault.Unreadable path) = ⊥
+RunFails configuration script old new (fault.Unanswered path) = ⊥
 RunFails configuration script old new (fault.Refused path why) =
     IsRefused configuration path.now why × Keeps old new
 RunFails configuration script old new (fault.FaultyLine path number) =
@@ -92,6 +95,7 @@ RunFails configuration script old new fault.Audit = ⊥
 abbrev pub ServeFails : TextFile → Fault → Type 0
 ServeFails file fault.Usage = ⊥
 ServeFails file (fault.Unreadable path) = ⊥
+ServeFails file (fault.Unanswered path) = ⊥
 ServeFails file (fault.Refused path why) = IsRefused file path.now why
 ServeFails file (fault.FaultyLine path number) = ⊥
 ServeFails file fault.Write = ⊥
@@ -106,8 +110,21 @@ ServeFails file (fault.Bind endpoint reason) =
 ServeFails file fault.Receive = IsAccepted (text_in file)
 ServeFails file fault.Audit = IsAccepted (text_in file)
 
+-- something was printed
+abbrev pub IsPrinted : Option (List ℕ) → Option (List ℕ) → Type 0
+IsPrinted old new = (text : List ℕ) × Appends old new text
+
+-- the faults of a question to a server: no answer came through the socket of this path, a write was refused, or memory
+-- is wanting
+abbrev pub AskFails : List ℕ → Option (List ℕ) → Option (List ℕ) → Fault → Type 0
+AskFails path old new (fault.Unanswered named) = (named.now ≡ path) × Keeps old new
+AskFails path old new fault.Write = Unit {0}
+AskFails path old new fault.Memory = Keeps old new
+AskFails path old new _ = ⊥
+
 -- what is asked for was done, over texts in the files: which ones, nothing here can say. Of a server nothing more is
--- said: it prints nothing, and what its sockets took and gave no contract can say
+-- said: it prints nothing, and what its sockets took and gave no contract can say; nor of what a server answers that is
+-- asked through its control socket: it is printed
 abbrev pub IsDone : Asked → Option (List ℕ) → Option (List ℕ) → Type 0
 IsDone (to_check configuration) old new = (text : List ℕ) × Checks text old new
 IsDone (to_simulate configuration script) old new =
@@ -115,6 +132,7 @@ IsDone (to_simulate configuration script) old new =
 IsDone (to_serve configuration milliseconds) old new = (text : List ℕ) × IsAccepted text × Keeps old new
 IsDone (to_serve_with_its_seed configuration milliseconds) old new =
     (text : List ℕ) × IsAccepted text × Keeps old new
+IsDone (to_control path order) old new = IsPrinted old new
 IsDone to_help old new = Appends old new usage_text
 IsDone to_tell_version old new = Appends old new version_text
 
@@ -124,9 +142,12 @@ pub record IsAnswered (words : List (List ℕ)) (old new : Option (List ℕ)) : 
   pub worded : Asks words asked
   pub done : IsDone asked old new
 
--- the words name this file, or this one as the configuration, or this one as the script
+-- the words name this file, or this control socket, or this file as the configuration, or as the script
 abbrev pub NamesFile : List (List ℕ) → List ℕ → Type 0
 NamesFile words path = (asked : Asked) × Asks words asked × Contains (files_of asked) path
+
+abbrev pub NamesSocket : List (List ℕ) → List ℕ → Type 0
+NamesSocket words path = (order : Order) × Asks words (to_control path order)
 
 abbrev pub NamesConfiguration : List (List ℕ) → List ℕ → Type 0
 NamesConfiguration words path = (asked : Asked) × Asks words asked × (configuration_of asked ≡ Some path)
@@ -149,6 +170,7 @@ pub record IsAnsweredInPart (words : List (List ℕ)) (old new : Option (List �
 abbrev pub Prevents : List (List ℕ) → Option (List ℕ) → Option (List ℕ) → Fault → Type 0
 Prevents words old new fault.Usage = AsksNothing words × Keeps old new
 Prevents words old new (fault.Unreadable path) = NamesFile words path.now × Keeps old new
+Prevents words old new (fault.Unanswered path) = NamesSocket words path.now × Keeps old new
 Prevents words old new (fault.Refused path why) = NamesConfiguration words path.now × Keeps old new
 Prevents words old new (fault.FaultyLine path number) = NamesScript words path.now × Keeps old new
 Prevents words old new fault.Write = ¬ (AsksNothing words)

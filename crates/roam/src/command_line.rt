@@ -10,6 +10,17 @@ use std::convert::AsStr;
 /// The most milliseconds for which a server can be asked: a day.
 const LONGEST: u64 = 86_400_000;
 
+/// What a server is asked for through its control socket.
+#[derive(Clone, Copy, Debug, PartialEq, Eq)]
+pub enum Order {
+    /// How it stands.
+    Status,
+    /// All that it counts.
+    Metrics,
+    /// To stop.
+    Stop,
+}
+
 /// What the program is asked to do.
 #[derive(Clone, Copy)]
 pub enum Command<'a> {
@@ -38,6 +49,13 @@ pub enum Command<'a> {
         configuration: &'a str,
         /// For how many milliseconds, as above.
         milliseconds: Option<u64>,
+    },
+    /// To ask a server something through its control socket: `ctl PATH ORDER`.
+    Control {
+        /// The path of the socket.
+        path: &'a str,
+        /// What it is asked for: `status`, `metrics` or `stop`.
+        order: Order,
     },
     /// To print the usage: `help`, `--help` or `-h`.
     Help,
@@ -103,6 +121,20 @@ fn of_serve_for<'a>(first: &'a str, last: &'a str) -> Option<Command<'a>>
     }
 }
 
+/// What `ctl` and two words ask for.
+fn of_control<'a>(path: &'a str, order: &str) -> Option<Command<'a>>
+    ensures { MatchOption result (AsksNothing (codes "ctl" ∷ path.now ∷ order.now ∷ []))
+        (λ c. Asks (codes "ctl" ∷ path.now ∷ order.now ∷ []) (shown c)) }
+{
+    let order = match order {
+        "status" => Order::Status,
+        "metrics" => Order::Metrics,
+        "stop" => Order::Stop,
+        _ => return None,
+    };
+    Some(Command::Control { path, order })
+}
+
 /// What three words ask for.
 fn of_three_words<'a>(word: &str, configuration: &'a str, last: &'a str) -> Option<Command<'a>>
     ensures { MatchOption result (AsksNothing (word.now ∷ configuration.now ∷ last.now ∷ []))
@@ -114,6 +146,7 @@ fn of_three_words<'a>(word: &str, configuration: &'a str, last: &'a str) -> Opti
             script: last,
         }),
         "serve" => of_serve_for(configuration, last),
+        "ctl" => of_control(configuration, last),
         _ => None,
     }
 }

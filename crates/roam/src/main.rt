@@ -6,6 +6,7 @@
 
 mod check;
 mod command_line;
+mod control;
 mod output;
 mod program;
 mod report;

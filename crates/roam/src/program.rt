@@ -8,6 +8,7 @@ ghost use Rattle.roam.specs.Report.{Says};
 
 use crate::check::check;
 use crate::command_line::Command;
+use crate::control::ask;
 use crate::report::{Ending, Fault};
 use crate::serving::serve_file;
 use crate::simulation::simulate;
@@ -70,6 +71,7 @@ fn run<
             let configuration = TextFile::read(rt, configuration)?;
             serve_file(rt, &configuration, true, milliseconds, lines)
         }
+        Some(Command::Control { path, order }) => ask(rt, path, order, out),
         Some(Command::Help) => tell_usage(out),
         Some(Command::Version) => tell_version(out),
     }

@@ -21,6 +21,11 @@ pub enum Fault<'a> {
         /// The path of the file.
         path: &'a str,
     },
+    /// No answer comes of a server through its control socket.
+    Unanswered {
+        /// The path of the socket.
+        path: &'a str,
+    },
     /// A configuration is refused.
     Refused {
         /// The path of its file.
@@ -107,7 +112,7 @@ pub fn print_usage<W: Write>(writer: &mut W) -> io::Result<()>
         (Appends (W.contents writer.old) (W.contents writer.new) spec.usage_text) }
 {
     writer.write_all(
-        b"usage: roam check CONF\n       roam sim CONF SCRIPT\n       roam serve [--seed-of-file] CONF [MS]\n       roam help\n       roam version\n",
+        b"usage: roam check CONF\n       roam sim CONF SCRIPT\n       roam serve [--seed-of-file] CONF [MS]\n       roam ctl PATH status|metrics|stop\n       roam help\n       roam version\n",
     )
 }
 
@@ -252,6 +257,7 @@ impl<'a> Fault<'a> {
         match self {
             Fault::Usage => print_usage(writer),
             Fault::Unreadable { path } => writeln!(writer, "roam: {path}: unreadable"),
+            Fault::Unanswered { path } => writeln!(writer, "roam: {path}: no answer"),
             Fault::Refused { path, fault } => print_refused(writer, path, fault),
             Fault::FaultyLine { path, number } => print_line(writer, path, number),
             Fault::Write => writer.write_all(b"roam: write failed\n"),

@@ -8,44 +8,73 @@ ghost use Rattle.roam.specs.Outcomes.{text_in, ServeFails};
 
 use crate::report::Fault;
 use crate::text_file::TextFile;
-use log::Log;
-use roam_conf::{Config, Endpoint};
-use roam_conf_reader::{read_config, read_settings};
+use log::{Log, warn};
+use roam_conf::Config;
+use roam_conf_reader::{Settings, read_config, read_settings};
 use roam_diagnosis::{Lines, diagnose};
 use roam_hub::Open;
-use roam_serve::{Counters, ServeFault, Watch, serve, with_drawn_seed};
+use roam_serve::{ControlSocket, Counters, ServeFault, Watch, serve, with_drawn_seed};
+use std::fs;
 use std::net::Net;
 use std::random::RandomSource;
+use std::rt::Files;
 use std::sync::Wait;
 use std::thread::Threads;
 use std::time::Clock;
 
+/// The control socket, where one is wanted. Tells where it can't be had.
+fn control_socket<R: Files + Net + Log>(rt: &R, settings: &Settings) -> Option<ControlSocket> {
+    let Some(path) = &settings.control else {
+        return None;
+    };
+    match ControlSocket::bind(rt, path.as_str()) {
+        Ok(socket) => Some(socket),
+        Err(error) => {
+            warn!(rt; "no control socket at {:?} ({})", path, error);
+            None
+        }
+    }
+}
+
+/// Removes the file of a control socket.
+fn remove<R: Files>(rt: &R, settings: &Settings) {
+    if let Some(path) = &settings.control {
+        let _is_gone = fs::remove_file(rt, path.as_str()).is_ok();
+    }
+}
+
 /// Serves a configuration. What the server does is counted where somebody may ask for the counts.
-fn serve_watched<R: AllocGlobal + Threads + Wait + Clock + Net + RandomSource + Log + Sync>(
+fn serve_watched<R: Files + AllocGlobal + Threads + Wait + Clock + Net + RandomSource + Log + Sync>(
     rt: &R,
     config: &Config,
-    metrics: Option<Endpoint>,
+    settings: &Settings,
     milliseconds: Option<u64>,
 ) -> Result<(), ServeFault>
     ensures { IfErr result (IsFaultOf (shown config.now)) }
 {
-    if metrics.is_none() {
+    if settings.metrics.is_none() && settings.control.is_none() {
         return serve(rt, rt.alloc(), config, None, milliseconds, &Open);
     }
     let counters = Counters::new(rt.alloc(), config)?;
+    let socket = control_socket(rt, settings);
     let watch = Watch {
         counters: &counters,
-        metrics,
+        metrics: settings.metrics,
+        control: socket.as_ref(),
     };
-    serve(rt, rt.alloc(), config, Some(watch), milliseconds, &Open)
+    let ended = serve(rt, rt.alloc(), config, Some(watch), milliseconds, &Open);
+    if socket.is_some() {
+        remove(rt, settings);
+    }
+    ended
 }
 
 /// Serves a configuration, with its own seed or with one that is drawn.
-fn serve_config<R: AllocGlobal + Threads + Wait + Clock + Net + RandomSource + Log + Sync>(
+fn serve_config<R: Files + AllocGlobal + Threads + Wait + Clock + Net + RandomSource + Log + Sync>(
     rt: &R,
     config: Config,
     has_seed_of_file: bool,
-    metrics: Option<Endpoint>,
+    settings: &Settings,
     milliseconds: Option<u64>,
 ) -> Result<(), ServeFault>
     ensures { IfErr result (IsFaultOf (shown config)) }
@@ -55,7 +84,24 @@ fn serve_config<R: AllocGlobal + Threads + Wait + Clock + Net + RandomSource + L
     } else {
         with_drawn_seed(rt, config)?
     };
-    serve_watched(rt, &config, metrics, milliseconds)
+    serve_watched(rt, &config, settings, milliseconds)
+}
+
+/// Serves a configuration as its text states that it is served.
+fn serve_stated<R: Files + AllocGlobal + Threads + Wait + Clock + Net + RandomSource + Log + Sync>(
+    rt: &R,
+    text: &str,
+    config: Config,
+    has_seed_of_file: bool,
+    milliseconds: Option<u64>,
+) -> Result<(), ServeFault>
+    ensures { IfErr result (IsFaultOf (shown config)) }
+{
+    // Where there is a configuration there are settings too, unless memory is wanting.
+    match read_settings(rt.alloc(), text) {
+        Ok(settings) => serve_config(rt, config, has_seed_of_file, &settings, milliseconds),
+        Err(_) => Err(ServeFault::Memory),
+    }
 }
 
 /// Reads a configuration, and serves it for so many milliseconds, or without end. Where it is refused, `lines` are where
@@ -65,7 +111,10 @@ fn serve_config<R: AllocGlobal + Threads + Wait + Clock + Net + RandomSource + L
 ///
 /// `Refused`; `Memory`; `Clock`, `Seed`, `Bind`, `Descriptors`, `Wait`, `Thread`, `Receive` and `Audit`, and the
 /// configuration is accepted then, and the endpoint one of its own.
-pub fn serve_file<'a, R: AllocGlobal + Threads + Wait + Clock + Net + RandomSource + Log + Sync>(
+pub fn serve_file<
+    'a,
+    R: Files + AllocGlobal + Threads + Wait + Clock + Net + RandomSource + Log + Sync,
+>(
     rt: &R,
     configuration: &TextFile<'a>,
     has_seed_of_file: bool,
@@ -77,16 +126,10 @@ pub fn serve_file<'a, R: AllocGlobal + Threads + Wait + Clock + Net + RandomSour
 {
     let text = configuration.text.as_str();
     match read_config(rt.alloc(), text) {
-        Ok(config) => {
-            // Where there is a configuration there are settings too, unless memory is wanting.
-            let Ok(settings) = read_settings(rt.alloc(), text) else {
-                return Err(Fault::Memory);
-            };
-            match serve_config(rt, config, has_seed_of_file, settings.metrics, milliseconds) {
-                Ok(()) => Ok(()),
-                Err(fault) => Err(Fault::of_server(fault)),
-            }
-        }
+        Ok(config) => match serve_stated(rt, text, config, has_seed_of_file, milliseconds) {
+            Ok(()) => Ok(()),
+            Err(fault) => Err(Fault::of_server(fault)),
+        },
         Err(fault) => {
             *lines = diagnose(rt.alloc(), text, fault);
             Err(Fault::of_configuration(configuration.path, fault))

@@ -19,6 +19,7 @@ use std::{env, fs, io, process};
 const USAGE: &str = "usage: roam check CONF
        roam sim CONF SCRIPT
        roam serve [--seed-of-file] CONF [MS]
+       roam ctl PATH status|metrics|stop
        roam help
        roam version
 ";
@@ -231,6 +232,11 @@ const NO_COMMANDS: &[&[&str]] = &[
     &["serve", "--seed-of-files", "a"],
     &["check", "--seed-of-file", "a"],
     &["sim", "--seed-of-file", "a", "b"],
+    &["ctl", "a"],
+    &["ctl", "a", "trace"],
+    &["ctl", "status", "a"],
+    &["ctl", "a", "stop", "0"],
+    &["Ctl", "a", "stop"],
     &["help", "a"],
     &["Help"],
     &["-H"],
@@ -255,6 +261,20 @@ fn usage_and_version_are_printed(rt: HostRuntime) {
     for word in ["version", "--version", "-V"] {
         expect(&rt, &[word], 0, VERSION, "");
     }
+}
+
+#[test]
+fn where_nobody_listens_there_is_no_answer(rt: HostRuntime) -> Result<(), Fail> {
+    let process = process::id(rt.process());
+    let path = file(&rt, process, "no-socket", b"")?;
+    for path in ["/nowhere/control", path.as_str()] {
+        let told = format!(in rt.alloc(); "roam: {path}: no answer\n")?;
+        for order in ["status", "metrics", "stop"] {
+            expect(&rt, &["ctl", path, order], 1, "", told.as_str());
+        }
+    }
+    fs::remove_file(&rt, path.as_str())?;
+    Ok(())
 }
 
 #[test]

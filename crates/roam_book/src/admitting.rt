@@ -166,6 +166,7 @@ impl<A: Allocator + Copy, E: Entries<A>> Realm<'_, '_, '_, '_, A, E> {
             key: asked.key,
             requester: asked.requester,
             octets,
+            came: now,
         };
         let entry = Entry {
             request,

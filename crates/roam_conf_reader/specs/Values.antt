@@ -1,5 +1,5 @@
 -- What a single TOML value states: a number, a text, an address, an endpoint, a seed, an array. Ours.
-use Rattle.std.specs.Prelude.{ℕ, suc, pos, ◌&&◌, nat_le, Bool, true, false, if◌then◌else◌, List, [], ◌∷◌, take, drop, length, Option, Some, None, option_map, option_and_then}
+use Rattle.std.specs.Prelude.{ℕ, suc, pos, ◌&&◌, ◌==◌, not, nat_le, Bool, true, false, if◌then◌else◌, List, [], ◌∷◌, take, drop, length, Option, Some, None, option_map, option_and_then}
 use Rattle.std.specs.List.{list_all}
 use Rattle.std.specs.Result.{result_ok}
 use Rattle.std.specs.Str.{bytes_eq}
@@ -7,7 +7,7 @@ use Rattle.hex.specs.Hex.{decode_sized}
 use Rattle.toml.specs.Data.{Data, string, integer, boolean, array, Items, no_items, item, Members, get_member}
 use Rattle.roam_conf.specs.declared.endpoint.Endpoint.{Endpoint}
 use Rattle.roam_conf_reader.specs.declared.values.Letters.{Letters}
-use Rattle.roam_conf_reader.specs.declared.values.Letters.TheVariants.{Any, PeerName, RealmName}
+use Rattle.roam_conf_reader.specs.declared.values.Letters.TheVariants.{Any, NoZero, PeerName, RealmName}
 use Rattle.roam_conf.specs.Config.{PatternView, whole, suffix, any}
 use Rattle.roam_conf.specs.Letters.{is_peer_letter, is_realm_letter}
 use Rattle.roam_conf.specs.Patterns.{is_realm_name}
@@ -18,9 +18,10 @@ unfoldable pub number : ℕ → ℕ → Data → Option ℕ
 number least most (integer (pos n)) = if nat_le least n && nat_le n most then Some n else None
 number least most _ = None
 
--- the octets that a text may have: any, those of a peer's name, those of a realm's name
+-- the octets that a text may have: any, any but 0, those of a peer's name, those of a realm's name
 abbrev pub letters_of : Letters → ℕ → Bool
 letters_of Any = λ octet. true
+letters_of NoZero = λ octet. not (octet == 0)
 letters_of PeerName = is_peer_letter
 letters_of RealmName = is_realm_letter
 
@@ -33,6 +34,10 @@ text_fits most letters octets =
 unfoldable pub text : ℕ → (ℕ → Bool) → Data → Option (List ℕ)
 text most letters (string octets) = if text_fits most letters octets then Some octets else None
 text most letters _ = None
+
+-- a path that the address of a UNIX socket has room for: 1 to 107 octets, none of them 0
+abbrev pub socket_path : Data → Option (List ℕ)
+socket_path = text 107 (letters_of NoZero)
 
 -- a text that is an address
 unfoldable pub address : Data → Option (List ℕ)

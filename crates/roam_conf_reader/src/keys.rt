@@ -121,6 +121,17 @@ pub(crate) fn optional_text<'a>(table: &'a Table, key: &str, most: usize) -> Opt
     }
 }
 
+/// A path that the address of a UNIX socket has room for, or `Some(None)` where the key is absent.
+pub(crate) fn optional_socket_path<'a>(table: &'a Table, key: &str) -> Option<Option<&'a str>>
+    ensures { option_map (λ text. option_copied text) result
+        ≡ optional_at spec.socket_path key.now (table_view table.now) }
+{
+    match value(table, key) {
+        Some(value) => Some(Some(values::text_of(value, 107, Letters::NoZero)?)),
+        None => Some(None),
+    }
+}
+
 /// A boolean, false where the key is absent.
 #[tactic(auto, unfolding(crate::specs::Values::flag))]
 pub(crate) fn flag(table: &Table, key: &str) -> Option<bool>

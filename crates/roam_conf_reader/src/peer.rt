@@ -50,7 +50,7 @@ fn peer_text(table: &Table) -> Option<PeerText<'_>>
 }
 
 /// A copy of a text that may be absent.
-fn copied(alloc: Global, text: Option<&str>) -> Result<Option<String>, ConfFault>
+pub(crate) fn copied(alloc: Global, text: Option<&str>) -> Result<Option<String>, ConfFault>
     ensures ok { IfOk result (λ o. option_map string_bytes o ≡ option_copied text.entry) }
     ensures causes { IsMemoryFault result }
 {

@@ -4,15 +4,19 @@ ghost use Rattle.std.specs.Prelude.{◌≡◌, ◌⊎◌, IfOk, IfErr};
 ghost use Rattle.roam_conf_reader.specs.Settings.{IsNoSettings, StatesSettings};
 
 use crate::document::document;
+use crate::peer::copied;
 use crate::{ConfFault, keys};
 use roam_conf::Endpoint;
 use std::alloc::Global;
 
 /// How a configuration is served.
-#[derive(Clone, Copy, Debug, PartialEq, Eq)]
+#[derive(Debug, Drop, PartialEq, Eq)]
 pub struct Settings {
     /// Where the counts of the server are answered over HTTP; nowhere where the key `metrics` is absent.
     pub metrics: Option<Endpoint>,
+    /// The path of the UNIX socket through which the server is asked and stopped; none where the key `control` is
+    /// absent.
+    pub control: Option<String>,
 }
 
 /// Reads the settings of a configuration from its text.
@@ -26,8 +30,14 @@ pub fn read_settings(alloc: Global, text: &str) -> Result<Settings, ConfFault>
     ensures err { IfErr result (λ f. (f ≡ ConfFault.Memory) ⊎ IsNoSettings text.now f) }
 {
     let table = document(alloc, text)?;
-    match keys::optional_endpoint(&table, "metrics") {
-        Some(metrics) => Ok(Settings { metrics }),
-        None => Err(ConfFault::BadValue),
-    }
+    let Some(metrics) = keys::optional_endpoint(&table, "metrics") else {
+        return Err(ConfFault::BadValue);
+    };
+    let Some(control) = keys::optional_socket_path(&table, "control") else {
+        return Err(ConfFault::BadValue);
+    };
+    Ok(Settings {
+        metrics,
+        control: copied(alloc, control)?,
+    })
 }

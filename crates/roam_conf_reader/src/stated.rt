@@ -45,6 +45,7 @@ fn top_text(table: &Table) -> Option<TopText<'_>>
         return None;
     }
     let _metrics = keys::optional_endpoint(table, "metrics")?;
+    let _control = keys::optional_socket_path(table, "control")?;
     Some(TopText {
         shards: keys::number(table, "shards", 1, 64)? as u16,
         seed: keys::seed(table, "seed")?,

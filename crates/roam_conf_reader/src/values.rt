@@ -18,6 +18,8 @@ use toml::{Table, Value};
 #[derive(Clone, Copy)]
 pub(crate) enum Letters {
     Any,
+    /// All but 0.
+    NoZero,
     /// ASCII letters and digits, `.`, `-` and `_`.
     PeerName,
     /// ASCII letters and digits, `.` and `-`.
@@ -31,6 +33,7 @@ impl Letters {
     {
         match self {
             Letters::Any => true,
+            Letters::NoZero => octet != 0,
             Letters::PeerName => {
                 octet.is_ascii_alphanumeric() || octet == b'.' || octet == b'-' || octet == b'_'
             }

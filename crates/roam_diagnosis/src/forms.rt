@@ -18,6 +18,8 @@ pub(crate) enum Form {
     Endpoint,
     /// A text of 1 to so many octets.
     Text(usize),
+    /// A text of 1 to 107 octets, none of them 0.
+    SocketPath,
     /// A text of 1 to 64 octets, which is never shown.
     Secret,
     /// 1 to 64 of ASCII letters, digits, `.`, `-` and `_`.
@@ -54,6 +56,15 @@ fn is_seed(text: &str) -> bool {
     text.len() == 64
 }
 
+fn is_socket_path(text: &str) -> bool {
+    for octet in text.bytes() {
+        if octet == 0 {
+            return false;
+        }
+    }
+    !text.is_empty() && text.len() <= 107
+}
+
 /// Whether the text is `*`, `*.` and a realm's name, or such a name.
 fn is_pattern(text: &str) -> bool {
     if text == "*" {
@@ -72,6 +83,7 @@ fn text_fits(form: Form, text: &str) -> bool {
         Form::Address => address(text).is_some(),
         Form::Endpoint => Endpoint::from_text(text).is_some(),
         Form::Text(most) => !text.is_empty() && text.len() <= most,
+        Form::SocketPath => is_socket_path(text),
         Form::Secret => !text.is_empty() && text.len() <= 64,
         Form::PeerName => is_name(text, 64, true),
         Form::RealmName => is_name(text, 253, false),
@@ -151,6 +163,7 @@ impl fmt::Display for Form {
                 f.write_str("is no IPv4 address with a port of 1..65535, as \"192.0.2.1:1812\"")
             }
             Form::Text(most) => write!(f, "is not a text of 1..{most} octets"),
+            Form::SocketPath => f.write_str("is not a path of 1..107 octets"),
             Form::Secret => f.write_str("is not a text of 1..64 octets"),
             Form::PeerName => f.write_str("is not 1..64 of ASCII letters, digits, . - and _"),
             Form::RealmName => {

@@ -7,7 +7,7 @@ use crate::place::Kind;
 #[derive(Clone, Copy)]
 pub(crate) struct Rule(pub &'static str, pub bool, pub Form);
 
-const TOP: [Rule; 12] = [
+const TOP: [Rule; 13] = [
     Rule("shards", true, Form::Number(1, 64)),
     Rule("seed", true, Form::Seed),
     Rule("auth", true, Form::Endpoint),
@@ -18,6 +18,7 @@ const TOP: [Rule; 12] = [
     Rule("status_server", false, Form::Flag),
     Rule("spread", false, Form::Flag),
     Rule("metrics", false, Form::Endpoint),
+    Rule("control", false, Form::SocketPath),
     Rule("peer", true, Form::Tables(1024)),
     Rule("realm", true, Form::Tables(1024)),
 ];

@@ -7,7 +7,9 @@ mod families;
 pub mod laws;
 mod pages;
 mod samples;
+mod standing;
 mod words;
 
 pub use pages::{Counts, page};
 pub use samples::{Label, push_header, push_sample};
+pub use standing::{Form, status};

@@ -69,6 +69,7 @@ fn make_hollow<A: Allocator + Copy>(alloc: A, entry: &Entry<A>) -> Entry<A>
             key: entry.request.key,
             requester: entry.request.requester,
             octets: Octets::from_vec(Vec::new(alloc)),
+            came: entry.request.came,
         },
         ticket: entry.ticket,
         standing: hollow_standing(alloc, &entry.standing),

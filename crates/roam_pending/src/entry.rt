@@ -27,6 +27,8 @@ pub struct Request<A: Allocator> {
     pub requester: Requester,
     /// The octets up to Length.
     pub octets: Octets<A>,
+    /// When it came in, in milliseconds: for what is told of it alone. No rule reads it.
+    pub came: u64,
 }
 
 /// A request that was forwarded and has no reply yet.

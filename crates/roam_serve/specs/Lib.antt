@@ -4,5 +4,6 @@ pub mod Faults
 pub mod Notices
 pub mod Packets
 pub mod Remedies
+pub mod Requests
 pub mod Seeded
 pub mod SocketErrors

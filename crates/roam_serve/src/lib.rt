@@ -18,4 +18,5 @@ mod threads;
 pub use fault::{Reason, ServeFault};
 pub use run::counters::{Counters, Watch};
 pub use server::serve;
+pub use system::control_socket::ControlSocket;
 pub use system::seed::with_drawn_seed;

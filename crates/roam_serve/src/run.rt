@@ -9,3 +9,4 @@ pub mod prepared;
 pub mod rest;
 pub mod shared;
 pub mod start;
+pub mod stopping;

@@ -18,6 +18,7 @@ use crate::run::prepared::prepare_threads;
 use crate::run::rest::TimerRest;
 use crate::run::shared::Shared;
 use crate::run::start::run_threads;
+use crate::run::stopping::Stopping;
 use crate::system::bind::{BoundSocket, RECEIVE_BUFFER, bind_all, descriptors_wanted, widen};
 use crate::system::listener::listen_at;
 use crate::system::polls::{make_polls, make_wakers};
@@ -121,6 +122,7 @@ fn run<
     let logger = Parker::new();
     let stop = AtomicBool::new(false);
     let rest = TimerRest::new(wakers.as_slice().first());
+    let stopping = Stopping::new();
     let shared = Shared {
         config,
         hub,
@@ -134,6 +136,11 @@ fn run<
             None => None,
         },
         listener: parts.listener,
+        control: match parts.watch {
+            Some(watch) => watch.control,
+            None => None,
+        },
+        stopping: &stopping,
         old_history: parts.old_history,
         stop: &stop,
         start: parts.start,

@@ -2,6 +2,7 @@
 
 pub mod bind;
 pub mod clock;
+pub mod control_socket;
 pub mod listener;
 pub mod polls;
 pub mod seed;

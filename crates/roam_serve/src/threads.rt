@@ -1,6 +1,8 @@
 //! The threads of a server, each as it runs, and what they have.
 
+pub mod connections;
 pub mod context;
+pub mod control;
 pub mod counting;
 pub mod logger;
 pub mod metrics;

@@ -2,6 +2,7 @@
 
 ghost use Rattle.std.specs.Prelude.{◌≡◌, IfOk, vec_len};
 
+use crate::system::control_socket::ControlSocket;
 use roam_conf::{Config, Endpoint};
 use roam_counters::{Event, Layout, Process, Subject};
 use roam_metrics::Counts;
@@ -75,6 +76,8 @@ pub struct Watch<'w> {
     pub counters: &'w Counters,
     /// Where it is answered over HTTP, if anywhere.
     pub metrics: Option<Endpoint>,
+    /// Through which it is answered and the server is stopped, if through any.
+    pub control: Option<&'w ControlSocket>,
 }
 
 /// The counts of one thread.

@@ -206,6 +206,7 @@ pub fn prepare_threads<'s, 'c, G, N: Opened>(
         poll: arrivals,
         events: Events::with_capacity(alloc, 2)?,
         told: [None; 4],
+        is_stop_told: false,
     };
     Ok(Prepared {
         workers,

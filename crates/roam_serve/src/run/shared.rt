@@ -7,6 +7,8 @@ use crate::run::counters::Counters;
 use crate::run::losses::SharedLosses;
 use crate::run::old_history::OldHistory;
 use crate::run::rest::TimerRest;
+use crate::run::stopping::Stopping;
+use crate::system::control_socket::ControlSocket;
 use mio::Waker;
 use roam_conf::Config;
 use roam_hub::{Hub, Opened};
@@ -32,6 +34,9 @@ pub struct Shared<'s, 'c, G, N: Opened> {
     pub counters: Option<&'s Counters>,
     /// Where it is asked for.
     pub listener: Option<&'s TcpListener>,
+    /// Through which it is asked for, and the server is stopped.
+    pub control: Option<&'s ControlSocket>,
+    pub stopping: &'s Stopping,
     pub old_history: &'s OldHistory,
     /// Whether all are to end.
     pub stop: &'s AtomicBool,

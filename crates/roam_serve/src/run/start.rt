@@ -7,8 +7,10 @@ use crate::fault::ServeFault;
 use crate::run::ending::WorkerEnd;
 use crate::run::prepared::Prepared;
 use crate::run::shared::Shared;
+use crate::threads::connections::answer_on;
+use crate::threads::control::Control;
 use crate::threads::logger::{log_notices, tell_or_drop};
-use crate::threads::metrics::{Page, answer_on};
+use crate::threads::metrics::Page;
 use crate::threads::notice::{Notice, serving};
 use crate::threads::timer::tick_on;
 use crate::threads::worker::{Worker, receive_on};
@@ -66,7 +68,36 @@ fn start_metrics<
         counters,
     };
     scope
-        .spawn(move || answer_on(rt, page, listener, shared.start, shared.stop))
+        .spawn(move || answer_on(rt, alloc, page, listener, shared.start, shared.stop))
+        .is_ok()
+}
+
+/// Starts the thread that answers through the control socket, where there is one. Answers whether it has started.
+fn start_control<
+    's,
+    'w: 's,
+    'c: 's,
+    E,
+    R: Wait + Clock + RandomSource + Sync,
+    G: Gate + Sync,
+    N: Opened + Send + Sync,
+>(scope: &Scope<'s, E>, rt: &'s R, alloc: Global, shared: &'s Shared<'w, 'c, G, N>) -> bool {
+    let (Some(socket), Some(counters)) = (shared.control, shared.counters) else {
+        return true;
+    };
+    let control = Control {
+        page: Page {
+            alloc,
+            config: shared.config,
+            counters,
+        },
+        stopping: shared.stopping,
+        rest: shared.rest,
+        now: 0,
+    };
+    let listener = &socket.listener;
+    scope
+        .spawn(move || answer_on(rt, alloc, control, listener, shared.start, shared.stop))
         .is_ok()
 }
 
@@ -126,6 +157,7 @@ pub fn run_threads<
     let have_started = thread::scope(thread::scope_env(), rt, |scope| {
         let mut have_started = start_behind(scope, rt, shared, queues);
         have_started = start_metrics(scope, rt, alloc, shared) && have_started;
+        have_started = start_control(scope, rt, alloc, shared) && have_started;
         have_started = start_workers(scope, rt, alloc, workers, &mut handles) && have_started;
         match scope.spawn(move || tick_on(rt, timer)) {
             Ok(handle) => have_started = handles.push(handle).is_ok() && have_started,

@@ -4,6 +4,7 @@ ghost use Rattle.std.specs.Prelude.{◌≡◌};
 ghost use Rattle.roam_route.specs.Events.{IsEvent};
 ghost use Rattle.roam_route.specs.Shown.{shown_job};
 ghost use Rattle.roam_serve.specs.Notices as spec;
+ghost use Rattle.roam_serve.specs.Requests as requests;
 ghost use Rattle.roam_serve.specs.Remedies as remedies;
 
 use crate::run::ending::{Ending, WorkerEnd};
@@ -16,6 +17,9 @@ use roam_hub::{Answered, Gate, HubFault, Opened, Refused, Seat};
 use roam_notices::Origin;
 use roam_route::{Datagram, Job, Prepared, prepare};
 use roam_wire::Refusal;
+use roam_wire::code::{
+    ACCESS_REQUEST, ACCOUNTING_REQUEST, COA_REQUEST, DISCONNECT_REQUEST, STATUS_SERVER,
+};
 use std::alloc::Global;
 use std::sync::Wait;
 use std::time::Clock;
@@ -41,6 +45,22 @@ fn refusal_of(fault: HubFault) -> Refusal
         HubFault::Misplaced => Refusal::Misplaced,
         HubFault::TraceFull => Refusal::TraceFull,
         HubFault::NoMemory => Refusal::NoMemory,
+    }
+}
+
+/// Whether a datagram is a request, by its code (RFC 2865 section 3, RFC 5997 section 3, RFC 5176 section 2.3).
+fn is_request(octets: &[u8]) -> bool
+    ensures { result ≡ requests.is_request octets.now }
+{
+    match octets.first() {
+        Some(code) => {
+            *code == ACCESS_REQUEST
+                || *code == ACCOUNTING_REQUEST
+                || *code == STATUS_SERVER
+                || *code == DISCONNECT_REQUEST
+                || *code == COA_REQUEST
+        }
+        None => false,
     }
 }
 
@@ -73,10 +93,14 @@ impl<G: Gate, N: Opened> WorkerContext<'_, '_, G, N> {
         self.now = now(rt, self.shared.start, self.now);
     }
 
-    /// Takes a datagram: hands its packets to the sockets, or tells why it is refused.
+    /// Takes a datagram: hands its packets to the sockets, or tells why it is refused. A server that is asked to stop takes
+    /// no request.
     pub fn arrive<R: Wait>(&mut self, rt: &R, alloc: Global, datagram: &Datagram<Global>) {
         let origin = Origin::Datagram(datagram.at, datagram.from);
         self.counting.received(datagram.at);
+        if self.shared.stopping.is_asked() && is_request(datagram.octets.as_slice()) {
+            return;
+        }
         match prepare(alloc, self.shared.config, datagram) {
             Ok(Prepared::Job(job)) => self.take(rt, job, origin),
             Ok(Prepared::Reject(out)) => {

@@ -37,6 +37,8 @@ pub enum Notice {
     Narrow(Endpoint, u32),
     /// The endpoint for metrics can't be had, for this reason: the server goes on without.
     NoMetrics(Endpoint, Reason),
+    /// The server is asked to stop.
+    Stopping,
     /// A configuration of so many realms, peers and shards is served.
     Serving(usize, usize, u16),
     /// The server ended after so many steps, of which stored ones were let go of so many times. They passed the
@@ -66,6 +68,7 @@ pub fn tell<R: Log>(rt: &R, config: &Config, notice: Notice) {
         Notice::NoMetrics(at, Reason(number)) => {
             warn!(rt; "no metrics at {} (errno {})", EndpointText(at), number)
         }
+        Notice::Stopping => info!(rt; "asked to stop: no request is taken any more"),
         Notice::Serving(realms, peers, shards) => {
             info!(rt; "serving realms {} peers {} shards {}", realms, peers, shards)
         }
@@ -134,6 +137,11 @@ impl Notices {
     /// Says that packets were lost. Never waits. Answers whether it will be told.
     pub fn lost(&mut self, cause: LossCause, count: u64) -> bool {
         self.put(Notice::Lost(cause, count))
+    }
+
+    /// Says that the server is asked to stop. Never waits. Answers whether it will be told.
+    pub fn stopping(&mut self) -> bool {
+        self.put(Notice::Stopping)
     }
 
     /// Says that an arrival or a tick was refused at this moment: it is told within a second, and the time of a

@@ -30,6 +30,8 @@ pub struct Timer<'s, 'c, G, N: Opened> {
     pub events: Events<Global>,
     /// For each cause of a loss, when it was told last.
     pub told: [Option<u64>; 4],
+    /// Whether it was told that the server is asked to stop.
+    pub is_stop_told: bool,
 }
 
 /// Whether the server's time is over.
@@ -69,6 +71,19 @@ fn tell_losses<G: Gate, N: Opened>(timer: &mut Timer<'_, '_, G, N>) {
     }
 }
 
+/// When the server's time is over, as far as that is known.
+fn end_of<G, N: Opened>(timer: &Timer<'_, '_, G, N>) -> Option<u64> {
+    let shared = timer.context.shared;
+    shared.stopping.or_earlier(shared.end)
+}
+
+/// Tells once that the server is asked to stop.
+fn tell_stop<G, N: Opened>(timer: &mut Timer<'_, '_, G, N>) {
+    if !timer.is_stop_told && timer.context.shared.stopping.is_asked() {
+        timer.is_stop_told = timer.context.notices.stopping();
+    }
+}
+
 /// One round of ticks: why the timer ends with it, if it does.
 fn round<R: Wait + Clock, G: Gate, N: Opened>(
     rt: &R,
@@ -78,7 +93,8 @@ fn round<R: Wait + Clock, G: Gate, N: Opened>(
         return Some(Ending::Stopped);
     }
     timer.context.look_at_clock(rt);
-    if is_time_over(timer.context.now, timer.context.shared.end) {
+    tell_stop(timer);
+    if is_time_over(timer.context.now, end_of(timer)) {
         return Some(Ending::TimeOver);
     }
     timer.context.outgoing.send_again();
@@ -103,8 +119,7 @@ fn until_end(wait: u64, now: u64, end: Option<u64>) -> u64
 
 /// Waits until the next round, or until it is woken: a short time, where the timer doesn't rest.
 fn wait<R: Clock, G, N: Opened>(rt: &R, timer: &mut Timer<'_, '_, G, N>, milliseconds: u64) {
-    let context = &timer.context;
-    let wait = until_end(milliseconds, context.now, context.shared.end);
+    let wait = until_end(milliseconds, timer.context.now, end_of(timer));
     let timeout = Some(Duration::from_millis(wait));
     if timer.poll.poll(&mut timer.events, timeout).is_err() {
         thread::sleep(rt, Duration::from_millis(TICK));

@@ -1,7 +1,7 @@
 use Rattle.std.proofs.Common.{inl, inr, map, rules, subst, sym}
 use Rattle.std.specs.Io.KnownBytes.{Keeps}
 use Rattle.roam.specs.CommandLine.{to_simulate, to_serve, to_serve_with_its_seed, Asks}
-use Rattle.roam.proofs.AnswerLemmas.{run-prevents, serve-prevents}
+use Rattle.roam.proofs.AnswerLemmas.{run-prevents, serve-prevents, names_script, asks_for_simulation}
 use Rattle.roam.proofs.program.run.Goals as goal
 
 -- The words are those of a simulation, by the paths of the files that were read.
@@ -41,3 +41,7 @@ returns-in_ok-configuration-in-Some-ServeWithItsSeed-clause-err g c =
     (sym c.in_ok-configuration-in-Some-ServeWithItsSeed.ensures.ok) asked in
     let kept : Keeps out out = search rules in
     serve-prevents _ file milliseconds out c.serve_file-in-Some-ServeWithItsSeed.result (inr asks) kept c.serve_file-in-Some-ServeWithItsSeed.ensures.err
+
+-- The script isn't read: the words name it.
+pub returns-in_err-script-in-Some-Sim-clause-err : goal.returns-in_err-script-in-Some-Sim-clause-err
+returns-in_err-script-in-Some-Sim-clause-err g c = search (rules, names_script, asks_for_simulation)

@@ -1,0 +1,99 @@
+//! Asking a server something through its control socket.
+
+ghost use Rattle.std.specs.Prelude.{◌≡◌, ◌⊎◌, OnOk, IfErr};
+ghost use Rattle.roam.specs.Outcomes.{AskFails, IsPrinted};
+
+use crate::command_line::Order;
+use crate::output::finish;
+use crate::report::Fault;
+use std::io::{Read, Write};
+use std::net::Net;
+use std::os::unix::net::UnixStream;
+use std::time::{Clock, Duration};
+use std::{io, thread};
+
+/// How long it waits for an answer, in seconds.
+const PATIENCE: u64 = 10;
+
+/// How often it looks whether a server has ended that was asked to stop, and how long it waits before each look, in
+/// milliseconds: 45 seconds in all.
+const LOOKS: u32 = 450;
+
+const BETWEEN_LOOKS: u64 = 100;
+
+/// What is sent.
+fn question(order: Order) -> &'static [u8] {
+    match order {
+        Order::Status => b"GET /status HTTP/1.1\r\nHost: roam\r\nConnection: close\r\n\r\n",
+        Order::Metrics => b"GET /metrics HTTP/1.1\r\nHost: roam\r\nConnection: close\r\n\r\n",
+        Order::Stop => {
+            b"POST /stop HTTP/1.1\r\nHost: roam\r\nContent-Length: 0\r\nConnection: close\r\n\r\n"
+        }
+    }
+}
+
+/// All that is answered.
+fn answer<R: AllocGlobal + Net>(rt: &R, path: &str, order: Order) -> io::Result<Vec<u8>> {
+    let mut stream = UnixStream::connect(rt, path)?;
+    stream.set_read_timeout(Some(Duration::from_secs(PATIENCE)))?;
+    stream.set_write_timeout(Some(Duration::from_secs(PATIENCE)))?;
+    stream.write_all(question(order))?;
+    let mut answer = Vec::new(rt.alloc());
+    stream.read_to_end(&mut answer)?;
+    Ok(answer)
+}
+
+/// The body of an answer that tells success (RFC 9112, sections 4 and 6).
+fn body(answer: &[u8]) -> Option<&[u8]> {
+    if !answer.starts_with(b"HTTP/1.1 2") {
+        return None;
+    }
+    let end = answer
+        .windows(4)
+        .position(|four| four == b"\r\n\r\n".as_slice())?;
+    answer.get(end + 4..)
+}
+
+/// Prints what a server answers.
+fn print<'a, W: Write>(body: &[u8], out: &mut W) -> Result<(), Fault<'a>>
+    ensures ok { OnOk result (IsPrinted (W.contents out.old) (W.contents out.new)) }
+    ensures err { IfErr result (λ fault. fault ≡ Fault.Write) }
+{
+    out.write_all(body).map_err(|_| Fault::Write)?;
+    finish(out)
+}
+
+/// Waits until nobody listens at the path any more, but not for ever. Answers whether that is so.
+fn has_ended<R: Net + Clock>(rt: &R, path: &str) -> bool {
+    for _ in 0..LOOKS {
+        if UnixStream::connect(rt, path).is_err() {
+            return true;
+        }
+        thread::sleep(rt, Duration::from_millis(BETWEEN_LOOKS));
+    }
+    false
+}
+
+/// Asks a server something through the control socket of this path, and prints what it answers; one that is asked to
+/// stop, when it has ended.
+///
+/// # Errors
+///
+/// `Unanswered`, where no answer comes that tells success, or a server that is asked to stop doesn't end; `Memory`; `Write`.
+pub fn ask<'a, R: AllocGlobal + Net + Clock, W: Write>(
+    rt: &R,
+    path: &'a str,
+    order: Order,
+    out: &mut W,
+) -> Result<(), Fault<'a>>
+    ensures ok { OnOk result (IsPrinted (W.contents out.old) (W.contents out.new)) }
+    ensures err { IfErr result (AskFails path.now (W.contents out.old) (W.contents out.new)) }
+{
+    match answer(rt, path, order) {
+        Ok(answer) => match body(answer.as_slice()) {
+            Some(body) if order != Order::Stop || has_ended(rt, path) => print(body, out),
+            _ => Err(Fault::Unanswered { path }),
+        },
+        Err(error) => Err(Fault::Unanswered { path }.unless_memory(&error)),
+    }
+}

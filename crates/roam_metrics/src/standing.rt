@@ -1,0 +1,248 @@
+//! How a server stands: what it serves, and how often of each realm, home server and peer, as text that a person reads
+//! and as JSON (RFC 8259).
+
+use crate::families::{OF_REPLIES, OF_REQUESTS, OfReplies, OfRequests, REFUSALS};
+use crate::pages::Counts;
+use crate::words::{REPLIES, REQUESTS};
+use roam_conf::{Config, Realm};
+use roam_counters::{Event, Subject};
+use roam_notices::EndpointText;
+use std::alloc::{AllocError, Global};
+use std::fmt;
+use std::fmt::{Display, Formatter, Write};
+
+/// In which form it is told.
+#[derive(Clone, Copy, Debug, PartialEq, Eq)]
+pub enum Form {
+    Text,
+    Json,
+}
+
+/// What is told of a realm, a home server or a peer.
+#[derive(Clone, Copy)]
+struct Totals {
+    requests: u64,
+    forwarded: u64,
+    sent_by_tick: u64,
+    replies: u64,
+    returned: u64,
+    refused: u64,
+}
+
+/// How often this was counted, of requests of all kinds.
+fn of_requests<C: Counts>(counts: &C, subject: Subject, family: OfRequests) -> u64 {
+    let mut sum = 0u64;
+    for kind in &REQUESTS {
+        sum = sum.wrapping_add(counts.event(subject, family.event(*kind)));
+    }
+    sum
+}
+
+/// The same of replies.
+fn of_replies<C: Counts>(counts: &C, subject: Subject, family: OfReplies) -> u64 {
+    let mut sum = 0u64;
+    for kind in &REPLIES {
+        sum = sum.wrapping_add(counts.event(subject, family.event(*kind)));
+    }
+    sum
+}
+
+/// The same of refusals.
+fn of_refusals<C: Counts>(counts: &C, subject: Subject) -> u64 {
+    let mut sum = 0u64;
+    for refusal in &REFUSALS {
+        sum = sum.wrapping_add(counts.event(subject, Event::Refused(*refusal)));
+    }
+    sum
+}
+
+impl Totals {
+    fn of<C: Counts>(counts: &C, subject: Subject) -> Totals {
+        Totals {
+            requests: of_requests(counts, subject, OfRequests::Came),
+            forwarded: of_requests(counts, subject, OfRequests::Forwarded),
+            sent_by_tick: of_requests(counts, subject, OfRequests::SentByTick),
+            replies: of_replies(counts, subject, OfReplies::Came),
+            returned: of_replies(counts, subject, OfReplies::Returned),
+            refused: of_refusals(counts, subject),
+        }
+    }
+}
+
+/// Them in a form.
+#[derive(Clone, Copy)]
+struct TotalsText(Totals, Form);
+
+impl TotalsText {
+    fn write_text<W: Write>(totals: Totals, f: &mut Formatter<W>) -> fmt::Result {
+        let Totals {
+            requests,
+            forwarded,
+            sent_by_tick,
+            replies,
+            returned,
+            refused,
+        } = totals;
+        write!(
+            f,
+            "requests {requests} forwarded {forwarded} sent again {sent_by_tick}"
+        )?;
+        write!(
+            f,
+            " replies {replies} returned {returned} refused {refused}"
+        )
+    }
+
+    fn write_json<W: Write>(totals: Totals, f: &mut Formatter<W>) -> fmt::Result {
+        let Totals {
+            requests,
+            forwarded,
+            sent_by_tick,
+            replies,
+            returned,
+            refused,
+        } = totals;
+        write!(
+            f,
+            "\"requests\":{requests},\"forwarded\":{forwarded},\"sent_again\":{sent_by_tick}"
+        )?;
+        write!(
+            f,
+            ",\"replies\":{replies},\"returned\":{returned},\"refused\":{refused}"
+        )
+    }
+}
+
+impl Display for TotalsText {
+    fn fmt<W: Write>(&self, f: &mut Formatter<W>) -> fmt::Result {
+        match self.1 {
+            Form::Text => TotalsText::write_text(self.0, f),
+            Form::Json => TotalsText::write_json(self.0, f),
+        }
+    }
+}
+
+/// What stands before an item of a JSON array.
+fn comma(at: usize) -> &'static str {
+    if at == 0 { "" } else { "," }
+}
+
+/// Adds the home servers of a realm.
+fn write_servers<C: Counts>(
+    out: &mut String,
+    counts: &C,
+    number: u16,
+    realm: &Realm,
+    form: Form,
+) -> Result<(), AllocError> {
+    for (at, server) in realm.servers.iter().enumerate() {
+        let place = u8::try_from(at).unwrap_or(u8::MAX);
+        let totals = TotalsText(Totals::of(counts, Subject::Server(number, place)), form);
+        let endpoint = EndpointText(server.auth);
+        match form {
+            Form::Text => writeln!(out, "  server {endpoint}: {totals}")?,
+            Form::Json => {
+                let comma = comma(at);
+                write!(out, "{comma}{{\"endpoint\":\"{endpoint}\",{totals}}}")?;
+            }
+        }
+    }
+    Ok(())
+}
+
+/// Adds the realms, each with its home servers.
+fn write_realms<C: Counts>(
+    out: &mut String,
+    counts: &C,
+    config: &Config,
+    form: Form,
+) -> Result<(), AllocError> {
+    for (at, realm) in config.realms.iter().enumerate() {
+        let number = u16::try_from(at).unwrap_or(u16::MAX);
+        let totals = TotalsText(Totals::of(counts, Subject::Realm(number)), form);
+        let name = realm.name.as_str();
+        match form {
+            Form::Text => writeln!(out, "realm {name}: {totals}")?,
+            Form::Json => {
+                let comma = comma(at);
+                write!(out, "{comma}{{\"name\":\"{name}\",{totals},\"servers\":[")?;
+            }
+        }
+        write_servers(out, counts, number, realm, form)?;
+        if form == Form::Json {
+            out.push_str("]}")?;
+        }
+    }
+    Ok(())
+}
+
+/// Adds the peers.
+fn write_peers<C: Counts>(
+    out: &mut String,
+    counts: &C,
+    config: &Config,
+    form: Form,
+) -> Result<(), AllocError> {
+    for (at, peer) in config.peers.iter().enumerate() {
+        let number = u16::try_from(at).unwrap_or(u16::MAX);
+        let totals = TotalsText(Totals::of(counts, Subject::Peer(number)), form);
+        let name = peer.name.as_str();
+        match form {
+            Form::Text => writeln!(out, "peer {name}: {totals}")?,
+            Form::Json => {
+                let comma = comma(at);
+                write!(out, "{comma}{{\"name\":\"{name}\",{totals}}}")?;
+            }
+        }
+    }
+    Ok(())
+}
+
+/// Adds what is served, and for how long.
+fn write_head(
+    out: &mut String,
+    config: &Config,
+    seconds: u64,
+    form: Form,
+) -> Result<(), AllocError> {
+    let realms = config.realms.len();
+    let peers = config.peers.len();
+    let shards = config.shards;
+    match form {
+        Form::Text => {
+            writeln!(
+                out,
+                "serving for {seconds} s: realms {realms} peers {peers} shards {shards}"
+            )
+        }
+        Form::Json => write!(
+            out,
+            "{{\"seconds\":{seconds},\"shards\":{shards},\"realms\":["
+        ),
+    }
+}
+
+/// How a server of this configuration stands after so many seconds, in this form.
+///
+/// # Errors
+///
+/// Where a growth was refused.
+pub fn status<C: Counts>(
+    alloc: Global,
+    config: &Config,
+    counts: &C,
+    seconds: u64,
+    form: Form,
+) -> Result<String, AllocError> {
+    let mut out = String::new(alloc);
+    write_head(&mut out, config, seconds, form)?;
+    write_realms(&mut out, counts, config, form)?;
+    if form == Form::Json {
+        out.push_str("],\"peers\":[")?;
+    }
+    write_peers(&mut out, counts, config, form)?;
+    if form == Form::Json {
+        out.push_str("]}\n")?;
+    }
+    Ok(out)
+}

@@ -1,0 +1,62 @@
+//! That the server is asked to stop: it takes no request any more, and ends when what waits had time to be answered.
+
+ghost use Rattle.std.specs.Prelude.{◌≡◌, Some, IfSome, MatchOption, min};
+
+use std::sync::atomic::{AtomicBool, AtomicU64, Ordering};
+
+/// The longest time from the moment at which it is asked to stop to its end, in milliseconds.
+pub const LONGEST: u64 = 30_000;
+
+/// Whether the server is asked to stop, and when it ends then.
+#[derive(Drop)]
+pub struct Stopping {
+    is_asked: AtomicBool,
+    /// In milliseconds since the server's start; 2^64 - 1 where it isn't asked to.
+    end: AtomicU64,
+}
+
+/// The earlier of two ends, where there is one.
+fn earlier(end: Option<u64>, other: u64) -> Option<u64>
+    ensures { MatchOption end (IfSome result (λ moment. moment ≡ other))
+        (λ moment. result ≡ Some (min moment other)) }
+{
+    match end {
+        Some(moment) => Some(moment.min(other)),
+        None if other == u64::MAX => None,
+        None => Some(other),
+    }
+}
+
+impl Stopping {
+    /// It isn't asked to stop.
+    pub fn new() -> Stopping {
+        Stopping {
+            is_asked: AtomicBool::new(false),
+            end: AtomicU64::new(u64::MAX),
+        }
+    }
+
+    /// Asks it to stop: no request is taken any more.
+    pub fn ask(&self) {
+        self.is_asked.store(true, Ordering::SeqCst);
+    }
+
+    /// Whether it is asked to stop.
+    pub fn is_asked(&self) -> bool {
+        self.is_asked.load(Ordering::SeqCst)
+    }
+
+    /// Has it end at this moment, where none was set before. Answers whether there was none.
+    pub fn end_at(&self, moment: u64) -> bool {
+        if self.end.load(Ordering::SeqCst) < u64::MAX {
+            return false;
+        }
+        self.end.store(moment, Ordering::SeqCst);
+        true
+    }
+
+    /// When the server's time is over: at this moment, or where it was asked to stop and that is earlier, then.
+    pub fn or_earlier(&self, end: Option<u64>) -> Option<u64> {
+        earlier(end, self.end.load(Ordering::SeqCst))
+    }
+}

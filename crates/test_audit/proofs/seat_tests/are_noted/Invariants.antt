@@ -1,0 +1,11 @@
+use Rattle.std.proofs.Common.{[]}
+use Rattle.roam_history.specs.Books.{books_of}
+use Rattle.roam_history.specs.HubOpening.{no_opening}
+use Rattle.test_audit.proofs.seat_tests.are_noted.Given as goal
+
+-- a hub of two shards
+abbrev pub ghosts-noted : goal.ghosts-noted
+ghosts-noted g a = record {
+  opening = record { config = record no_opening.config { shards = 2 }; starts = [] };
+  books = books_of a.blanks;
+}

@@ -1,0 +1,11 @@
+use Rattle.std.proofs.Common.{[]}
+use Rattle.roam_history.specs.Books.{books_of}
+use Rattle.roam_history.specs.HubOpening.{no_opening}
+use Rattle.test_audit.proofs.seat_tests.splits_are_refused.Given as goal
+
+-- a hub of two shards
+abbrev pub ghosts-split_refused : goal.ghosts-split_refused
+ghosts-split_refused g a = record {
+  opening = record { config = record no_opening.config { shards = 2 }; starts = [] };
+  books = books_of a.blanks;
+}

@@ -1,0 +1,132 @@
+//! A caller for each crate of the broker, as in `callers`: proved from the crates' contracts alone.
+
+ghost use Rattle.std.specs.Prelude.{◌≡◌, ◌<◌, ◌≤◌, [], Some, true, IfOk, OnErr, OnOk, length};
+ghost use Rattle.std.specs.Bool.{OnTrue};
+ghost use Rattle.roam_wire.specs.Packet.{packet_text};
+ghost use Rattle.roam_conf.specs.Shown.{shown as shown_config};
+ghost use Rattle.roam_fwd.specs.Forwarded.{CanBeForwarded, forwarded};
+ghost use Rattle.roam_back.specs.ReplyCheck.{IsTaken};
+ghost use Rattle.roam_random.specs.RandomWords.{next_position, request_authenticator_at};
+ghost use Rattle.roam_route.specs.Admission.{admission};
+ghost use Rattle.roam_route.specs.Shown.{shown_arrival};
+ghost use Rattle.roam_reverse.specs.Sessions.{applied, has_session};
+ghost use Rattle.roam_pending.specs.EntryList.{IsNew, put};
+ghost use Rattle.roam_pending.specs.Shown.{shown as shown_entry};
+ghost use Rattle.test_callers.specs.Admitted.{IsAdmittedFor};
+
+use roam_back::check_reply;
+use roam_book::Book;
+use roam_conf::Config;
+use roam_fwd::forward;
+use roam_pending::{Entry, Pending};
+use roam_random::{next_position, request_authenticator};
+use roam_reverse::Sessions;
+use roam_route::{Datagram, Prepared, prepare};
+use roam_wire::{NoMemory, View};
+use std::alloc::Allocator;
+
+/// The realm whose event an arrival is, if it is one's.
+pub fn realm_of_arrival<A: Allocator + Copy>(
+    alloc: A,
+    config: &Config,
+    datagram: &Datagram<A>,
+) -> Option<u16>
+    ensures { (realm : _) → result ≡ Some realm → IsAdmittedFor realm
+        (admission (shown_config config.now) (shown_arrival datagram.now)) }
+{
+    match prepare(alloc, config, datagram) {
+        Ok(Prepared::Job(job)) => Some(job.realm),
+        Ok(Prepared::Reject(_)) | Err(_) => None,
+    }
+}
+
+/// How many packets a realm sends at a tick that finds nothing pending there.
+pub fn sent_by_idle_tick<A: Allocator + Copy>(book: &mut Book<'_, A>, now: u64) -> usize
+    requires { book.old.state.entries ≡ [] }
+    ensures { result ≡ 0 }
+{
+    match book.tick(now) {
+        Ok(answer) => answer.outs.len(),
+        Err(_) => 1,
+    }
+}
+
+/// Keeps an entry of one realm, if memory is there. Else the list is as it was.
+pub fn keep<A: Allocator>(pending: &mut Pending<A>, entry: Entry<A>) -> Result<(), NoMemory>
+    requires { IsNew (shown_entry entry) pending.old.entries }
+    ensures ok { OnOk result (pending.new.entries ≡ put (shown_entry entry) pending.old.entries) }
+    ensures err { OnErr result (pending.new ≡ pending.old) }
+{
+    pending.reserve()?;
+    pending.insert_reserved(entry);
+    Ok(())
+}
+
+/// The Request Authenticators of two Access-Requests of a realm, one after the other.
+pub fn two_authenticators(seed: [u8; 32], realm: u16, position: u128) -> ([u8; 16], [u8; 16])
+    ensures first { result.0 ≡ request_authenticator_at seed realm position }
+    ensures second { result.1 ≡ request_authenticator_at seed realm (next_position position) }
+{
+    let first = request_authenticator(seed, u64::from(realm), position);
+    let second = request_authenticator(seed, u64::from(realm), next_position(position));
+    (first, second)
+}
+
+/// Counts an Accounting-Request of a peer that was answered. Whether a session of it is open then.
+pub fn is_open_after<A: Allocator + Copy>(
+    sessions: &mut Sessions<A>,
+    peer: u16,
+    request: &View<'_>,
+    id: &[u8],
+) -> Result<bool, NoMemory>
+    ensures { IfOk result (λ found. found ≡ has_session (record { peer = peer; id = id.now })
+        (applied sessions.old.limit peer request.now.attributes sessions.old.sessions)) }
+{
+    sessions.apply(peer, request)?;
+    Ok(sessions.has(peer, id))
+}
+
+/// The octets that go to a home server for a peer's request.
+pub fn octets_to_home<A: Allocator>(
+    alloc: A,
+    request: &View<'_>,
+    peer_secret: &[u8],
+    home_secret: &[u8],
+    id: u8,
+    authenticator: [u8; 16],
+    ticket: u64,
+) -> Result<Vec<u8, A>, NoMemory>
+    requires can_be_forwarded { CanBeForwarded request.now }
+    requires peer_at_least_one { 1 ≤ length peer_secret.now }
+    requires peer_at_most_64 { length peer_secret.now ≤ 64 }
+    requires home_at_least_one { 1 ≤ length home_secret.now }
+    requires home_at_most_64 { length home_secret.now ≤ 64 }
+    ensures { IfOk result (λ octets. octets.items ≡ packet_text (forwarded (record {
+      from_secret = peer_secret.now;
+      to_secret = home_secret.now;
+      id = id;
+      authenticator = authenticator;
+      ticket = ticket;
+    }) request.now)) }
+{
+    let mut octets = Vec::new(alloc);
+    forward(
+        request,
+        peer_secret,
+        home_secret,
+        id,
+        authenticator,
+        ticket,
+        &mut octets,
+    )?;
+    Ok(octets)
+}
+
+/// Whether a home server's reply answers what was forwarded to it.
+pub fn is_answer(reply: &View<'_>, forwarded: &View<'_>, secret: &[u8]) -> bool
+    requires at_least_one { 1 ≤ length secret.now }
+    requires at_most_64 { length secret.now ≤ 64 }
+    ensures { OnTrue result (IsTaken secret.now true reply.now forwarded.now) }
+{
+    check_reply(reply, forwarded, secret, true).is_ok()
+}

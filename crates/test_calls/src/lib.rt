@@ -1,0 +1,19 @@
+//! Tests of calls that no row makes: rows (`test_rows`) show what the broker answers to events.
+#![tactic(auto)]
+
+#[cfg(test)]
+mod configuration;
+#[cfg(test)]
+mod faults;
+#[cfg(test)]
+mod last_ticket;
+#[cfg(test)]
+mod lines;
+#[cfg(test)]
+mod realm;
+#[cfg(test)]
+mod scripts;
+#[cfg(test)]
+mod tick_room;
+#[cfg(test)]
+mod twins;

@@ -1,0 +1,55 @@
+//! A tick in the room that was made for it.
+
+use crate::configuration::TWO_SERVERS;
+use crate::realm::Realm;
+use roam_conf_reader::read_config;
+use roam_sim::read_script;
+use test_allocator::Refusing;
+use std::alloc::Global;
+use std::process::Abort;
+
+/// Two requests that were sent twice, one that was sent once, and one whose reply is held until 6000.
+const EVENTS: &str =
+    "A 0 acct 192.0.2.1:5000 0405002b40d7b5a889c55fa9032ba5d6be378f2e010d7540612e6578616d706c652806000000012c043031
+A 0 acct 192.0.2.1:5000 0406002b5da1d812d2a70a644c6fcdbd88485ea4010d7540612e6578616d706c652806000000012c043031
+T 1000 0
+A 1000 acct 192.0.2.1:5000 0407002bec3212554c78c204e417dfe8b2abd79f010d7540612e6578616d706c652806000000012c043031
+A 1000 acct 192.0.2.1:5000 0408002b088cf0e1a6a1475c3309fc2fd9da6372010d7540612e6578616d706c652806000000012c043031
+A 1000 out:0 198.51.100.1:1813 05030014c1a6893ab9676564fdba5c8c6026bcc7
+";
+
+/// A tick in its room: how many packets the room is for, how many are sent, and how many growths are asked for
+/// once the room is there.
+fn ticks_in_room<'r>(
+    rt: &impl Abort,
+    over: &'r Refusing<Global>,
+    realm: &mut Realm<'_, &'r Refusing<Global>>,
+    now: u64,
+) -> [u64; 3] {
+    let room = realm.book.tick_room(now).expect(rt, "memory");
+    let most = room.most();
+    over.refuse_nth(1);
+    let answer = realm.book.tick_reserved(now, room);
+    let growths = over.growths();
+    over.refuse_nth(0);
+    [most as u64, answer.outs.len() as u64, growths]
+}
+
+/// Two ticks behind the events.
+fn counts(rt: &impl Abort, alloc: Global) -> [[u64; 3]; 2] {
+    let config = read_config(alloc, TWO_SERVERS).expect(rt, "a configuration");
+    let over = Refusing::new(alloc);
+    let mut realm = Realm::new(&over, &config, 0).expect(rt, "memory");
+    for event in read_script(&over, EVENTS).expect(rt, "a script").iter() {
+        realm.meets(&over, event).expect(rt, "memory");
+    }
+    let first = ticks_in_room(rt, &over, &mut realm, 6000);
+    let second = ticks_in_room(rt, &over, &mut realm, 6999);
+    [first, second]
+}
+
+// Two are moved and one is sent again; the held reply, which goes, has its place too. The three wait until 7000.
+#[test]
+fn tick_in_its_room_wants_no_memory(rt: HostRuntime) {
+    assert!(rt; counts(&rt, rt.alloc()) == [[4, 3, 0], [0, 0, 0]]);
+}

@@ -1,0 +1,110 @@
+//! A socket whose receives fail, and one that hears a request in between.
+//!
+//! The request is an Accounting-Request of a worked exchange, whose digest was computed apart.
+
+use crate::tape::{Answer, Tape};
+use roam_conf::{Endpoint, Place};
+use roam_port::{FAULTS_TO_GIVE_UP, Heard, listen};
+use test_allocator::Refusing;
+use std::alloc::{Allocator, Global};
+use std::test::Fail;
+
+const REQUEST: [u8; 43] = [
+    4, 5, 0, 43, 64, 215, 181, 168, 137, 197, 95, 169, 3, 43, 165, 214, 190, 55, 143, 46, 1, 13,
+    117, 64, 97, 46, 101, 120, 97, 109, 112, 108, 101, 40, 6, 0, 0, 0, 1, 44, 4, 48, 49,
+];
+
+const ACCESS_SERVER: Endpoint = Endpoint {
+    ip: [192, 0, 2, 1],
+    port: 5000,
+};
+
+/// A port that fails 99 times, gives the request, and fails from then on.
+fn tape(alloc: Global, answers: &[Answer]) -> Tape<'_> {
+    Tape {
+        alloc,
+        answers,
+        played: 0,
+        octets: &REQUEST,
+        from: ACCESS_SERVER,
+        failing: &[],
+        sends: 0,
+        went: Vec::new(alloc),
+    }
+}
+
+/// What is heard, in words; a datagram where it is the request from that access server.
+fn word<A: Allocator>(heard: &Heard<A>) -> &'static str {
+    match heard {
+        Heard::Nothing => "nothing",
+        Heard::GiveUp => "given up",
+        Heard::NoMemory => "no memory",
+        Heard::Datagram(d)
+            if d.at == Place::Acct
+                && d.from == ACCESS_SERVER
+                && d.octets.as_slice() == REQUEST.as_slice() => { "the request" }
+        Heard::Datagram(_) => "another datagram",
+    }
+}
+
+/// How many receives in a row hear nothing, then what the next one hears, and the count that it
+/// leaves.
+fn heard_after_silence<A: Allocator + Copy>(
+    alloc: A,
+    port: &mut Tape<'_>,
+    faults: &mut u32,
+) -> (u32, &'static str, u32) {
+    let mut buffer = [0u8; 100];
+    for n in 0..1000 {
+        if *faults > FAULTS_TO_GIVE_UP {
+            break;
+        }
+        let heard = word(&listen(alloc, port, Place::Acct, &mut buffer, faults));
+        if heard != "nothing" {
+            return (n, heard, *faults);
+        }
+    }
+    (1000, "nothing", *faults)
+}
+
+/// The answers of that port to its first hundred receives.
+fn answers() -> [Answer; 100] {
+    let mut answers = [Answer::Fault; 100];
+    answers[99] = Answer::Datagram;
+    answers
+}
+
+#[test]
+fn hundred_faults_in_a_row_give_up(rt: HostRuntime) -> Result<(), Fail> {
+    let answers = answers();
+    let mut port = tape(rt.alloc(), &answers);
+    let mut faults = 0;
+    let first = heard_after_silence(rt.alloc(), &mut port, &mut faults);
+    let second = heard_after_silence(rt.alloc(), &mut port, &mut faults);
+    assert!(rt; first == (99, "the request", 0) && second == (99, "given up", 100));
+    Ok(())
+}
+
+#[test]
+fn datagram_without_memory_is_lost(rt: HostRuntime) -> Result<(), Fail> {
+    let answers = answers();
+    let mut port = tape(rt.alloc(), &answers);
+    let mut faults = 0;
+    let refusing = Refusing::new(rt.alloc());
+    refusing.refuse_nth(1);
+    let first = heard_after_silence(&refusing, &mut port, &mut faults);
+    let second = heard_after_silence(&refusing, &mut port, &mut faults);
+    assert!(rt; first == (99, "no memory", 0) && second == (99, "given up", 100));
+    Ok(())
+}
+
+#[test]
+fn silence_ends_a_row_of_faults(rt: HostRuntime) -> Result<(), Fail> {
+    let mut answers = [Answer::Fault; 60];
+    answers[50] = Answer::Nothing;
+    let mut port = tape(rt.alloc(), &answers);
+    let mut faults = 0;
+    let heard = heard_after_silence(rt.alloc(), &mut port, &mut faults);
+    assert!(rt; heard == (150, "given up", 100));
+    Ok(())
+}

@@ -1,0 +1,96 @@
+//! A program that plays the rows of a folder over the broker, and says which differ. It is a test alone.
+//!
+//! It reads three folders where it runs: `rows/` has worked rows, `random/` random ones, and `configurations/` those
+//! that the rows name; `faulty-lines` has lines that are none of a script. What a row is stands in `row`; it is played
+//! with memory in `playing`, with growths refused in `growths` and `losses`, and through a hub in `hubs`. `stored` looks
+//! at the steps that a broker over traces stored.
+#![tactic(auto)]
+
+mod answers;
+mod brokers;
+mod caller;
+mod early;
+mod faulty;
+mod files;
+mod growths;
+mod hubs;
+mod losses;
+mod player;
+mod playing;
+mod row;
+mod stored;
+mod tally;
+mod traces;
+
+use crate::brokers::Kept;
+use crate::player::Player;
+use test_allocator::Refusing;
+use std::process::ExitCode;
+use std::sync::Wait;
+use std::{fs, io};
+
+/// The names of the files in a folder, in order.
+fn names(rt: &HostRuntime, folder: &str) -> io::Result<Vec<String>> {
+    let mut names = Vec::new(rt.alloc());
+    for entry in fs::read_dir(rt, folder)? {
+        names.push(String::from_str(rt.alloc(), entry?.file_name())?)?;
+    }
+    names.sort()?;
+    Ok(names)
+}
+
+/// The text of the next file whose rows are played.
+fn read_file(player: &mut Player<'_, '_>, folder: &str, name: &str) -> io::Result<String> {
+    player.file = format!(in player.rt.alloc(); "{folder}/{name}")?;
+    fs::read_to_string(player.rt, player.file.as_str())
+}
+
+/// Plays the rows of all files of a folder over a broker, with growths refused too or with memory alone.
+fn plays_folder(player: &mut Player<'_, '_>, folder: &str, meets_refusals: bool) -> io::Result<()> {
+    for name in names(player.rt, folder)?.iter() {
+        let text = read_file(player, folder, name.as_str())?;
+        player.plays_text(text.as_str(), meets_refusals)?;
+    }
+    Ok(())
+}
+
+/// Plays the rows of all files of a folder through hubs.
+fn plays_through_hubs<R: Wait>(
+    rt: &R,
+    player: &mut Player<'_, '_>,
+    folder: &str,
+) -> io::Result<()> {
+    for name in names(player.rt, folder)?.iter() {
+        let text = read_file(player, folder, name.as_str())?;
+        player.plays_text_through_hubs(rt, text.as_str())?;
+    }
+    Ok(())
+}
+
+/// Plays all rows, and says how many: all of them over each broker, and those of `rows/` through hubs. Over traces no
+/// growths of random rows are refused. Whether all is as they say.
+fn plays_all<R: Wait>(rt: &HostRuntime, waiting: &R) -> io::Result<bool> {
+    let refusing = Refusing::new(rt.alloc());
+    let mut player = Player::new(rt, &refusing);
+    for kept in [Kept::InLists, Kept::InTables] {
+        player.kept = kept;
+        plays_folder(&mut player, "rows", true)?;
+        plays_folder(&mut player, "random", true)?;
+    }
+    player.kept = Kept::InTraces;
+    plays_folder(&mut player, "rows", true)?;
+    plays_folder(&mut player, "random", false)?;
+    plays_through_hubs(waiting, &mut player, "rows")?;
+    player.file = String::from_str(rt.alloc(), "faulty-lines")?;
+    let faulty = fs::read_to_string(rt, "faulty-lines")?;
+    player.finds_faults(faulty.as_str())?;
+    player.tally.print(rt)?;
+    Ok(player.tally.is_clean())
+}
+
+fn main(rt: HostRuntime) -> ExitCode {
+    match plays_all(&rt, &rt) {
+        Ok(is_clean) => ExitCode::from(u8::from(!is_clean)),
+        Err(_) => ExitCode::from(2),
+    }
+}
