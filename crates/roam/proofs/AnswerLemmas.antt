@@ -1,5 +1,8 @@
 -- What the words get, from what the command that they ask for did.
-use Rattle.std.proofs.Common.{◌≡◌, ◌⊎◌, inl, inr, ℕ, List, Option, Some, Result, Ok, Err, IfErr, ap, sym, arith, rules}
+use Rattle.std.proofs.Common.{◌≡◌, ◌⊎◌, ◌∷◌, [], ◌∙◌, inl, inr, ℕ, List, Option, Some, Result, Ok, Err, IfErr, IsErrAnd, Contains, ap, subst, sym, arith, rules}
+use Rattle.std.proofs.lemmas.List.Elements.{Contains-append_left, Contains-push}
+use Rattle.std.proofs.KnownBytes.{Keeps-refl}
+use Rattle.std.specs.Borrow.{Bor}
 use Rattle.std.specs.Io.KnownBytes.{Keeps}
 use Rattle.roam_sim.specs.Simulation.{SimulatesInPart}
 use Rattle.roam.specs.CommandLine.{to_control, to_simulate, to_serve, to_serve_with_its_seed, Asks, AsksToServeIt, AsksToServe, AsksNothing}
@@ -142,12 +145,77 @@ usage-status words old new fault.Receive status is prevents =
 usage-status words old new fault.Audit status is prevents =
     serves words old new status (λ two. omega (arith, is, two)) prevents
 
--- the words of a simulation name its script
-pub names_script : (words : List (List ℕ)) (configuration script : List ℕ) →
-    Asks words (to_simulate configuration script) → NamesFile words script
-names_script words configuration script worded = (to_simulate configuration script, worded, search rules)
+-- each of two is among them
+first-of-two : (a b : List ℕ) → Contains (a ∷ b ∷ []) a
+first-of-two a b = Contains-append_left (a ∷ []) (b ∷ []) a (Contains-push [] a)
 
--- and ask for something
-pub asks_for_simulation : (words : List (List ℕ)) (configuration script : List ℕ) →
+second-of-two : (a b : List ℕ) → Contains (a ∷ b ∷ []) b
+second-of-two a b = Contains-push (a ∷ []) b
+
+-- the words of a simulation ask for something
+asks-for-it : (words : List (List ℕ)) (configuration script : List ℕ) →
     Asks words (to_simulate configuration script) → ¬ (AsksNothing words)
-asks_for_simulation words configuration script worded nothing = nothing (to_simulate configuration script) worded
+asks-for-it words configuration script worded nothing = nothing (to_simulate configuration script) worded
+
+-- what isn't an error is none
+not-both : {T E : Type 0} (x : T) (e : E) → Ok x ≡ Err e → ⊥
+not-both x e same = cc
+
+-- what a file that isn't read says to words that name it
+unread-says : (words : List (List ℕ)) (configuration script : List ℕ) (path : Bor (List ℕ)) (out : Option (List ℕ))
+    (why : Fault) → Contains (configuration ∷ script ∷ []) path.now →
+    Asks words (to_simulate configuration script) → (why ≡ fault.Memory) ⊎ (why ≡ fault.Unreadable path) →
+    Prevents words out out why
+unread-says words configuration script path out why named worded cases = elim cases [
+  | inl memory ↦
+    let prevents : Prevents words out out fault.Memory =
+    (asks-for-it words configuration script worded, inl (Keeps-refl out)) in
+    subst (λ f. Prevents words out out f) (sym memory) prevents
+  | inr there ↦
+    let prevents : Prevents words out out (fault.Unreadable path) =
+    ((to_simulate configuration script, worded, named), Keeps-refl out) in
+    subst (λ f. Prevents words out out f) (sym there) prevents
+]
+
+-- one of the two files of a simulation isn't read
+unread-prevents : {T U : Type 0} (configuration script : List ℕ) (path : Bor (List ℕ)) (out : Option (List ℕ))
+    (why : Fault) (read : Result T Fault) (told : Result U Fault) →
+    Contains (configuration ∷ script ∷ []) path.now → read ≡ Err why → IsErrAnd told (λ given. given ≡ why) →
+    IfErr read (λ f. (f ≡ fault.Memory) ⊎ (f ≡ fault.Unreadable path)) →
+    IfErr told (λ f. (words : List (List ℕ)) → Asks words (to_simulate configuration script) → Prevents words out out f)
+unread-prevents configuration script path out why (Ok x) told named was same unread = absurd (not-both x why was)
+unread-prevents configuration script path out why (Err e) (Ok y) named was same unread = tt
+unread-prevents configuration script path out why (Err e) (Err given) named was same unread = λ words worded.
+    let given-is : given ≡ why = same in
+    let read-is : e ≡ why = cc in
+    let cases = subst (λ f. (f ≡ fault.Memory) ⊎ (f ≡ fault.Unreadable path)) (read-is ∙ sym given-is) unread in
+    unread-says words configuration script path out given named worded cases
+
+pub unread-configuration-prevents : {T U : Type 0} (configuration : Bor (List ℕ)) (script : List ℕ)
+    (out : Option (List ℕ)) (why : Fault) (read : Result T Fault) (told : Result U Fault) →
+    read ≡ Err why → IsErrAnd told (λ given. given ≡ why) →
+    IfErr read (λ f. (f ≡ fault.Memory) ⊎ (f ≡ fault.Unreadable configuration)) →
+    IfErr told (λ f. (words : List (List ℕ)) → Asks words (to_simulate configuration.now script) → Prevents words out out f)
+unread-configuration-prevents configuration script out why read told was same unread =
+    unread-prevents configuration.now script configuration out why read told
+    (first-of-two configuration.now script) was same unread
+
+pub unread-script-prevents : {T U : Type 0} (configuration : List ℕ) (script : Bor (List ℕ))
+    (out : Option (List ℕ)) (why : Fault) (read : Result T Fault) (told : Result U Fault) →
+    read ≡ Err why → IsErrAnd told (λ given. given ≡ why) →
+    IfErr read (λ f. (f ≡ fault.Memory) ⊎ (f ≡ fault.Unreadable script)) →
+    IfErr told (λ f. (words : List (List ℕ)) → Asks words (to_simulate configuration script.now) → Prevents words out out f)
+unread-script-prevents configuration script out why read told was same unread =
+    unread-prevents configuration script.now script out why read told
+    (second-of-two configuration script.now) was same unread
+
+-- the faults of a run, to all words that name its two files
+pub run-prevents-all : {T : Type 0} (configuration script : TextFile) (first second : Bor (List ℕ))
+    (old new : Option (List ℕ)) (r : Result T Fault) → configuration.path ≡ first → script.path ≡ second →
+    IfErr r (RunFails configuration script old new) →
+    IfErr r (λ f. (words : List (List ℕ)) → Asks words (to_simulate first.now second.now) → Prevents words old new f)
+run-prevents-all {T} configuration script first second old new (Ok x) named also fails = tt
+run-prevents-all {T} configuration script first second old new (Err why) named also fails = λ words worded.
+    let by-configuration = subst (λ p. Asks words (to_simulate p.now second.now)) (sym named) worded in
+    let by-both = subst (λ p. Asks words (to_simulate configuration.path.now p.now)) (sym also) by-configuration in
+    run-prevents {T = T} words configuration script old new (Err why) by-both fails
