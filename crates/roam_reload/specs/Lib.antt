@@ -1,0 +1,3 @@
+pub mod Reload
+pub mod Differences
+pub mod SameLimits
