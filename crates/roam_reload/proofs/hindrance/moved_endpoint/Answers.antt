@@ -27,12 +27,12 @@ pub returns-in-None-clause-none : goal.returns-in-None-clause-none
 returns-in-None-clause-none c =
     none_moved (shown c.args.old.now) (shown c.args.new.now) c.moved_reverse.result
     (sym c.is_moved.ensures ∙ c.if-is_moved.false) (sym c.is_moved-2.ensures ∙ c.if-is_moved-2.false)
-    (sym c.moved_out.ensures ∙ c.in-None.is) c.moved_reverse.ensures
+    (rw (← c.as_slice.ensures.value) (sym c.moved_out.ensures ∙ c.in-None.is)) (rw (← c.as_slice-in-None.ensures.value) c.moved_reverse.ensures)
 
 pub returns-in-None-clause-some : goal.returns-in-None-clause-some
 returns-in-None-clause-some c =
-    found_moved (shown c.args.old.now) (shown c.args.new.now) Reverse c.moved_reverse.result c.moved_reverse.ensures
+    found_moved (shown c.args.old.now) (shown c.args.new.now) Reverse c.moved_reverse.result (rw (← c.as_slice-in-None.ensures.value) c.moved_reverse.ensures)
 
 pub returns-in_default-clause-some : goal.returns-in_default-clause-some
 returns-in_default-clause-some c =
-    found_moved (shown c.args.old.now) (shown c.args.new.now) Out c.moved_out.result c.moved_out.ensures
+    found_moved (shown c.args.old.now) (shown c.args.new.now) Out c.moved_out.result (rw (← c.as_slice.ensures.value) c.moved_out.ensures)
