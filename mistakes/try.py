@@ -1,11 +1,12 @@
 #!/usr/bin/env python3
-"""Tries the mistakes that the gate doesn't: those of crates whose edits would cost a second proof of the whole crate.
+"""Tries the mistakes that the gate doesn't: of each crate the gate tries three or four, and none of those whose edits
+would cost it a second proof of a long crate.
 
     mistakes/try.py [CRATE ..]
 
-Each file of `mistakes/CRATE` is an edit in the form of `crates/*/must-fail`. They are laid there, `rt must-fail CRATE` tries
-them (the crate and those below it are proved first, where that isn't done), and they are taken away again. The status is 0
-where the prover refuses them all.
+Each file of `mistakes/CRATE` is an edit in the form of `crates/*/must-fail`. They are laid there, beside the gate's own,
+`rt must-fail CRATE` tries them all (the crate and those below it are proved first, where that isn't done), and they are
+taken away again. The status is 0 where the prover refuses them all.
 """
 import pathlib
 import shutil
@@ -19,14 +20,21 @@ ROOT = HERE.parent
 def refused(crate: str) -> bool:
     """Whether the prover refuses each edit of a crate."""
     place = ROOT / "crates" / crate / "must-fail"
-    if place.exists():
-        print(f"{place} is there: its edits are the gate's")
+    was_there = place.exists()
+    place.mkdir(exist_ok=True)
+    laid = [place / it.name for it in sorted((HERE / crate).glob("*.edit"))]
+    if any(it.exists() for it in laid):
+        print(f"{place} has an edit of one of these names")
         return False
-    shutil.copytree(HERE / crate, place)
     try:
+        for it in laid:
+            shutil.copyfile(HERE / crate / it.name, it)
         return subprocess.run(["rt", "must-fail", crate], cwd=ROOT, check=False).returncode == 0
     finally:
-        shutil.rmtree(place)
+        for it in laid:
+            it.unlink(missing_ok=True)
+        if not was_there:
+            place.rmdir()
 
 
 def main() -> int:

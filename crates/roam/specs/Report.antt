@@ -20,7 +20,7 @@ usage_text =
 
 -- which program this is, and the line of the toolchain that proved it
 abbrev pub version_text : List ℕ
-version_text = codes "roam 1.0.0\nrattle-kit-13b logic dac8208d650f15bf\n"
+version_text = codes "roam 1.0.0\nrattle-kit-13f logic dac8208d650f15bf\n"
 
 -- what the system says of the errors that bind, socket, epoll and eventfd give, by their numbers (Linux)
 abbrev pub words_of : ℕ → Option (List ℕ)

@@ -1,9 +1,9 @@
 //! What the program does, over any two writers.
 
-ghost use Rattle.std.specs.Prelude.{◌≡◌, ◌≢◌, ◌≤◌, ◌↔◌, map, OnOk, IfErr};
+ghost use Rattle.std.specs.Prelude.{◌≡◌, ◌≢◌, ◌≤◌, ◌↔◌, ℕ, List, map, OnOk, IfErr};
 ghost use Rattle.std.specs.Io.KnownBytes.{Keeps};
-ghost use Rattle.roam.specs.CommandLine.{AsksNothing, AsksToCheck};
-ghost use Rattle.roam.specs.Outcomes.{IsAnswered, IsPrevented, IsToldFault, Prevents};
+ghost use Rattle.roam.specs.CommandLine.{Asks, AsksNothing, AsksToCheck, to_simulate};
+ghost use Rattle.roam.specs.Outcomes.{IsAnswered, IsDone, IsPrevented, IsToldFault, Prevents};
 ghost use Rattle.roam.specs.Report.{Says};
 
 use crate::check::check;
@@ -24,6 +24,25 @@ use std::rt::Files;
 use std::sync::Wait;
 use std::thread::Threads;
 use std::time::Clock;
+
+/// Runs the script of a path over the configuration of a path. `lines` are then what is said of the configuration.
+fn simulate_files<'a, R: Files + AllocGlobal, W: Write>(
+    rt: &R,
+    configuration: &'a str,
+    script: &'a str,
+    out: &mut W,
+    lines: &mut Lines,
+) -> Result<(), Fault<'a>>
+    ensures ok { OnOk result (IsDone (to_simulate configuration.now script.now)
+        (W.contents out.old) (W.contents out.new)) }
+    ensures err { IfErr result (λ fault. (words : List (List ℕ))
+        → Asks words (to_simulate configuration.now script.now)
+        → Prevents words (W.contents out.old) (W.contents out.new) fault) }
+{
+    let configuration = TextFile::read(rt, configuration)?;
+    let script = TextFile::read(rt, script)?;
+    simulate(rt.alloc(), &configuration, &script, out, lines)
+}
 
 /// Does what the words ask for. `lines` are then what is said of the configuration.
 fn run<
@@ -48,11 +67,7 @@ fn run<
                 configuration,
                 script,
             },
-        ) => {
-            let configuration = TextFile::read(rt, configuration)?;
-            let script = TextFile::read(rt, script)?;
-            simulate(rt.alloc(), &configuration, &script, out, lines)
-        }
+        ) => simulate_files(rt, configuration, script, out, lines),
         Some(
             Command::Serve {
                 configuration,

@@ -125,7 +125,7 @@ pub fn print_version<W: Write>(writer: &mut W) -> io::Result<()>
     ensures { OnOk result
         (Appends (W.contents writer.old) (W.contents writer.new) spec.version_text) }
 {
-    writer.write_all(b"roam 1.0.0\nrattle-kit-13b logic dac8208d650f15bf\n")
+    writer.write_all(b"roam 1.0.0\nrattle-kit-13f logic dac8208d650f15bf\n")
 }
 
 /// Prints to which endpoint a socket can't be bound.

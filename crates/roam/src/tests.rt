@@ -25,7 +25,7 @@ const USAGE: &str = "usage: roam check CONF
 ";
 
 const VERSION: &str = "roam 1.0.0
-rattle-kit-13b logic dac8208d650f15bf
+rattle-kit-13f logic dac8208d650f15bf
 ";
 
 const CONFIGURATION: &str = "shards = 1

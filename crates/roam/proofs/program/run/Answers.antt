@@ -1,16 +1,8 @@
 use Rattle.std.proofs.Common.{inl, inr, map, rules, subst, sym}
 use Rattle.std.specs.Io.KnownBytes.{Keeps}
-use Rattle.roam.specs.CommandLine.{to_simulate, to_serve, to_serve_with_its_seed, Asks}
-use Rattle.roam.proofs.AnswerLemmas.{run-prevents, serve-prevents, names_script, asks_for_simulation}
+use Rattle.roam.specs.CommandLine.{to_serve, to_serve_with_its_seed, Asks}
+use Rattle.roam.proofs.AnswerLemmas.{serve-prevents}
 use Rattle.roam.proofs.program.run.Goals as goal
-
--- The words are those of a simulation, by the paths of the files that were read.
-pub returns-in_ok-script-in-Some-Sim-clause-err : goal.returns-in_ok-script-in-Some-Sim-clause-err
-returns-in_ok-script-in-Some-Sim-clause-err g c =
-    let configuration = c.in_ok-configuration-in-Some-Sim.configuration in
-    let script = c.in_ok-script-in-Some-Sim.script in
-    let worded : Asks (map g.S.AsStr.text c.args.words.now) (to_simulate configuration.path.now script.path.now) = search rules in
-    run-prevents _ configuration script _ _ c.simulate.result worded c.simulate.ensures.err
 
 -- The words are those of a server, by the path of the file that was read.
 pub returns-in_ok-configuration-in-Some-Serve-clause-err :
@@ -41,7 +33,3 @@ returns-in_ok-configuration-in-Some-ServeWithItsSeed-clause-err g c =
     (sym c.in_ok-configuration-in-Some-ServeWithItsSeed.ensures.ok) asked in
     let kept : Keeps out out = search rules in
     serve-prevents _ file milliseconds out c.serve_file-in-Some-ServeWithItsSeed.result (inr asks) kept c.serve_file-in-Some-ServeWithItsSeed.ensures.err
-
--- The script isn't read: the words name it.
-pub returns-in_err-script-in-Some-Sim-clause-err : goal.returns-in_err-script-in-Some-Sim-clause-err
-returns-in_err-script-in-Some-Sim-clause-err g c = search (rules, names_script, asks_for_simulation)
