@@ -12,6 +12,7 @@ pub mod LinkLaneLemmas
 pub mod MemoryLemmas
 pub mod NakLemmas
 pub mod RealmLemmas
+pub mod ReloadLemmas
 pub mod ReplyLemmas
 pub mod RequestLemmas
 pub mod RestLemmas

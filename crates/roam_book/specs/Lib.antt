@@ -12,6 +12,7 @@ pub mod RestLaws
 -- What the contracts of public calls say beside that.
 pub mod BookView
 pub mod RealmTurn
+pub mod Reload
 pub mod Rooms
 pub mod Sound
 -- Words of private functions and of proofs alone.

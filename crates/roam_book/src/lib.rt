@@ -18,6 +18,7 @@ mod letting_go;
 mod numbers;
 mod outs;
 mod realm;
+mod reload;
 mod replies;
 mod requests;
 mod rest;
