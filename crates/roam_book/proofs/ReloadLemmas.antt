@@ -1,9 +1,9 @@
 -- A realm that is carried over is sound under its new settings.
-use Rattle.std.proofs.Common.{◌≡◌, ◌≢◌, inl, inr, ◌⊎◌, ℕ, ◌+◌, ◌-◌, ◌*◌, ◌<◌, ◌≤◌, ◌==◌, ◌&&◌, Bool, true, false, cond, List, [], ◌∷◌, ◌++◌, Option, Some, None, is_some, refl, ap, sym, subst, ◌∙◌, arith, get_or, length, map, take, replicate, add-one, append_assoc}
+use Rattle.std.proofs.Common.{◌≡◌, ◌≢◌, inl, inr, ◌⊎◌, ℕ, zero, suc, ◌+◌, ◌-◌, ◌*◌, ◌<◌, ◌≤◌, ◌==◌, ◌&&◌, Bool, true, false, cond, List, [], ◌∷◌, ◌++◌, Option, Some, None, is_some, option_map, unwrap_or, slice_get, refl, ap, sym, subst, ◌∙◌, arith, get_or, length, map, take, replicate, add-one, append_assoc}
 use Rattle.std.specs.List.{AllByRecursion}
 use Rattle.std.proofs.lemmas.Bool.{cases_Bool, cases_lt, false≢true, true≢false}
 use Rattle.std.proofs.lemmas.List.{length-map, length-append, length_push, get_or-take, get_or-map, get_or_append_left, get_or_past, get_or_push, map_push, replicate_more, take-append-le}
-use Rattle.roam_conf.specs.Config.{PeerView, RealmView}
+use Rattle.roam_conf.specs.Config.{ConfigView, PeerView, RealmView}
 use Rattle.roam_conf.specs.declared.place.Link.{Link}
 use Rattle.roam_conf.specs.declared.place.Link.TheVariants as link
 use Rattle.roam_ids.specs.LaneState.{LaneState, is_used, place_at, ticket_at}
@@ -14,8 +14,8 @@ use Rattle.roam_pending.specs.declared.key.Requester.{Requester}
 use Rattle.roam_pending.specs.declared.key.Requester.TheVariants as requester
 use Rattle.roam_pending.specs.EntryList.{find_ticket}
 use Rattle.roam_pending.specs.PlainEntry.{PlainEntry, PlainRequest, PlainStanding, waiting, done, has_ticket, same_link, stands_at, waits_at}
-use Rattle.roam_reload.specs.Reload.{KeepsPeers, peer_part}
-use Rattle.roam_book.specs.RealmConfig.{RealmConfig, IsLink, IsRequester, link_count, link_place}
+use Rattle.roam_reload.specs.Reload.{IsCarried, KeepsPeers, peer_part, realm_part}
+use Rattle.roam_book.specs.RealmConfig.{RealmConfig, IsLink, IsRequester, link_count, link_place, no_realm, realm_config}
 use Rattle.roam_book.specs.Reload.{AreMoreLanes, Carries}
 use Rattle.roam_book.specs.Sound.{AreOwnLanes, IsEntry, IsRequest, IsSound, IsWaiting, LanesTell, Mark, StandsWell, TellsAt, cursors_of, lane_of, mark_of, marks_of, no_lane, own_tags, waits_there}
 use Rattle.roam_book.specs.declared.numbers.Numbers.{Numbers}
@@ -203,3 +203,17 @@ module _ {A : Type 0} where
     lanes_tell = lanes_tell b c k old.ticket es old.lanes.items new.lanes.items more is.lane_count is.each is.lanes_tell;
     ledger = rw sessions (is.ledger ∙ sym (ap (λ (x : RealmView). x.max_sessions) k.table));
   }
+
+-- the part of a realm's table that is read by its index
+part_of : (realms : List RealmView) (r : ℕ) → realm_part (get_or realms r no_realm) ≡ unwrap_or (option_map realm_part (slice_get realms r)) (realm_part no_realm)
+part_of [] r = refl
+part_of (x ∷ xs) zero = refl
+part_of (x ∷ xs) (suc r) = part_of xs r
+
+pub go_on : (old new : ConfigView) (r : ℕ) → new.seed ≡ old.seed → IsCarried old new r → Carries (realm_config old r) (realm_config new r)
+go_on old new r seed is = record {
+  seed = seed;
+  index = refl;
+  table = part_of new.realms r ∙ ap (λ (o : Option RealmView). unwrap_or o (realm_part no_realm)) is.table ∙ sym (part_of old.realms r);
+  peers = is.peers;
+}

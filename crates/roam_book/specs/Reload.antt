@@ -2,8 +2,9 @@
 use Rattle.std.specs.Prelude.{◌≡◌, ℕ, ◌-◌, ◌≤◌, List, ◌++◌, length, map, replicate, slice_index_or, take}
 use Rattle.roam_ids.specs.LaneState.{LaneState, place_at}
 use Rattle.roam_ids.specs.declared.place.Place.TheVariants.{Free}
-use Rattle.roam_reload.specs.Reload.{KeepsPeers, realm_part}
-use Rattle.roam_book.specs.RealmConfig.{RealmConfig, link_count}
+use Rattle.roam_conf.specs.Config.{ConfigView}
+use Rattle.roam_reload.specs.Reload.{IsCarried, KeepsPeers, realm_part}
+use Rattle.roam_book.specs.RealmConfig.{RealmConfig, link_count, realm_config}
 use Rattle.roam_book.specs.RealmState.{RealmState}
 use Rattle.roam_book.specs.Sound.{Mark, cursors_of, marks_of, no_lane, own_tags}
 
@@ -13,6 +14,12 @@ pub record Carries (old new : RealmConfig) : Type 0 where
   pub index : new.index ≡ old.index
   pub table : realm_part new.realm ≡ realm_part old.realm
   pub peers : KeepsPeers old.peers new.peers
+
+-- so it does where a configuration with the same seed carries its realm over
+abbrev pub CarriedRealmsGoOn : Type 0
+CarriedRealmsGoOn =
+    (old new : ConfigView) (realm : ℕ) → new.seed ≡ old.seed → IsCarried old new realm
+    → Carries (realm_config old realm) (realm_config new realm)
 
 -- its state then: as it was, with a cursor 0 for each further peer
 abbrev pub carried : RealmConfig → RealmState → RealmState

@@ -38,6 +38,7 @@ pub use laws::{events, silent_servers, ticks_take_the_least_due_first};
 pub use letting_go::only_done_due;
 pub use numbers::Numbers;
 pub use realm::Realm;
+pub use reload::carried_realms_go_on;
 pub use requests::LATEST;
 pub use rest::Rest;
 pub use room::{Room, room_for};

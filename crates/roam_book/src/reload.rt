@@ -3,7 +3,7 @@
 ghost use Rattle.std.specs.Prelude.{◌≡◌, ◌≤◌, List, length, OnOk, vec_capacity};
 ghost use Rattle.roam_pending.specs.PlainEntry.{PlainEntry};
 ghost use Rattle.roam_book.specs.RealmConfig.{RealmConfig, link_count};
-ghost use Rattle.roam_book.specs.Reload.{AreMoreLanes, Carries, carried};
+ghost use Rattle.roam_book.specs.Reload.{AreMoreLanes, CarriedRealmsGoOn, Carries, carried};
 ghost use Rattle.roam_book.specs.Sound.{IsSound, state_of};
 
 use crate::numbers::{Numbers, tag_of};
@@ -59,3 +59,9 @@ impl<A: Allocator + Copy> Numbers<A> {
         add_lanes(self.alloc, settings, &mut self.lanes);
     }
 }
+
+/// A realm that a configuration carries over goes on as it stands, under its own part of the new one. This function
+/// does nothing.
+pub fn carried_realms_go_on()
+    ensures { CarriedRealmsGoOn }
+{}
