@@ -17,6 +17,7 @@ pub mod ReplyLemmas
 pub mod RequestLemmas
 pub mod RestLemmas
 pub mod RoomLemmas
+pub mod SameBrokerLemmas
 pub mod SendingLemmas
 pub mod SoundLemmas
 pub mod TakenLaneLemmas

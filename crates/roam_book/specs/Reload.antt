@@ -6,6 +6,7 @@ use Rattle.roam_conf.specs.Config.{ConfigView}
 use Rattle.roam_reload.specs.Reload.{IsCarried, KeepsPeers, realm_part}
 use Rattle.roam_book.specs.RealmConfig.{RealmConfig, link_count, realm_config}
 use Rattle.roam_book.specs.RealmState.{RealmState}
+use Rattle.roam_book.specs.OneRealm.{RealmEvent, one_realm_run}
 use Rattle.roam_book.specs.Sound.{Mark, cursors_of, marks_of, no_lane, own_tags}
 
 -- the realm goes on as it stands: it has the same seed, index and part of its table, and the old peers stay
@@ -20,6 +21,13 @@ abbrev pub CarriedRealmsGoOn : Type 0
 CarriedRealmsGoOn =
     (old new : ConfigView) (realm : ℕ) → new.seed ≡ old.seed → IsCarried old new realm
     → Carries (realm_config old realm) (realm_config new realm)
+
+-- and where no peer is added, its written broker is the same: in any state, whatever its events, it sends the same
+-- packets and comes to the same state
+abbrev pub NothingChangesForThem : Type 0
+NothingChangesForThem =
+    (old new : RealmConfig) → Carries old new → length new.peers ≡ length old.peers
+    → (s : RealmState) (events : List RealmEvent) → one_realm_run new s events ≡ one_realm_run old s events
 
 -- its state then: as it was, with a cursor 0 for each further peer
 abbrev pub carried : RealmConfig → RealmState → RealmState

@@ -3,7 +3,7 @@
 ghost use Rattle.std.specs.Prelude.{◌≡◌, ◌≤◌, List, length, OnOk, vec_capacity};
 ghost use Rattle.roam_pending.specs.PlainEntry.{PlainEntry};
 ghost use Rattle.roam_book.specs.RealmConfig.{RealmConfig, link_count};
-ghost use Rattle.roam_book.specs.Reload.{AreMoreLanes, CarriedRealmsGoOn, Carries, carried};
+ghost use Rattle.roam_book.specs.Reload.{AreMoreLanes, CarriedRealmsGoOn, Carries, NothingChangesForThem, carried};
 ghost use Rattle.roam_book.specs.Sound.{IsSound, state_of};
 
 use crate::numbers::{Numbers, tag_of};
@@ -60,8 +60,10 @@ impl<A: Allocator + Copy> Numbers<A> {
     }
 }
 
-/// A realm that a configuration carries over goes on as it stands, under its own part of the new one. This function
-/// does nothing.
+/// A realm that a configuration carries over goes on as it stands, under its own part of the new one; and where no
+/// peer is added, its written broker is the same, so that nothing changes of what it is sent. This function does
+/// nothing.
 pub fn carried_realms_go_on()
-    ensures { CarriedRealmsGoOn }
+    ensures parts { CarriedRealmsGoOn }
+    ensures same { NothingChangesForThem }
 {}
