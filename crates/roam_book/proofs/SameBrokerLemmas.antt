@@ -1,6 +1,6 @@
 -- What names a realm and its peers, and whether a peer's Access-Requests need a Message-Authenticator, a realm's
 -- written broker doesn't look at.
-use Rattle.std.proofs.Common.{◌≡◌, ℕ, zero, suc, ◌+◌, ◌-◌, ◌*◌, ◌%◌, ◌^◌, ◌==◌, nat_lt, nat_eq, Bool, true, false, not, cond, List, [], ◌∷◌, ◌++◌, length, map, Option, Some, None, option_map, unwrap_or, slice_get, slice_index, slice_index_or, slice_set, if◌then◌else◌, refl, ap, sym, ◌∙◌, arith, append-nil}
+use Rattle.std.proofs.Common.{◌≡◌, ℕ, zero, suc, ◌+◌, ◌-◌, ◌*◌, ◌%◌, ◌^◌, ◌==◌, nat_lt, nat_eq, Bool, true, false, not, cond, List, [], ◌∷◌, ◌++◌, length, map, Option, Some, None, option_map, unwrap_or, slice_get, slice_index, slice_index_or, slice_set, if◌then◌else◌, refl, ap, sym, ◌∙◌, arith, append-nil, append_assoc}
 use Rattle.std.proofs.lemmas.List.{length-append, length-map, nil_from_length}
 use Rattle.std.specs.Cmp.Lexicographic.{pointwise}
 use Rattle.std.specs.List.{filter, position_from}
@@ -373,3 +373,22 @@ bare_same b c k count = λ i. record {
 pub stays_the_same : (b c : RealmConfig) → Carries b c → length c.peers ≡ length b.peers → (s : RealmState) (es : List RealmEvent) → one_realm_run c s es ≡ one_realm_run b s es
 stays_the_same b c k count s es =
     sym (run_same c s es) ∙ ap (λ (x : RealmConfig). one_realm_run x s es) (bare_same b c k count) ∙ run_same b s es
+
+-- events in two parts
+run_parts : (c : RealmConfig) (s : RealmState) (es fs : List RealmEvent)
+    → (one_realm_run c s (es ++ fs)).packets ≡ (one_realm_run c s es).packets ++ (one_realm_run c (one_realm_run c s es).state fs).packets
+run_parts c s [] fs = refl
+run_parts c s (e ∷ es) fs =
+    let turn = on_event c s e in
+    let next = state_after s turn in
+    let others = one_realm_run c next es in
+    ap (λ (ps : List PlainOut). packets_of turn ++ ps) (run_parts c next es fs)
+    ∙ sym (append_assoc (packets_of turn) others.packets (one_realm_run c others.state fs).packets)
+
+pub as_if_nothing : (b c : RealmConfig) → Carries b c → length c.peers ≡ length b.peers → (s : RealmState) (before after : List RealmEvent)
+    → (one_realm_run b s (before ++ after)).packets
+    ≡ (one_realm_run b s before).packets ++ (one_realm_run c (one_realm_run b s before).state after).packets
+as_if_nothing b c k count s before after =
+    let then' = one_realm_run b s before in
+    run_parts b s before after
+    ∙ ap (λ (p : Progress). then'.packets ++ p.packets) (sym (stays_the_same b c k count then'.state after))

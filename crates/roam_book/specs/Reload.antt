@@ -29,6 +29,15 @@ NothingChangesForThem =
     (old new : RealmConfig) → Carries old new → length new.peers ≡ length old.peers
     → (s : RealmState) (events : List RealmEvent) → one_realm_run new s events ≡ one_realm_run old s events
 
+-- so over both configurations it sends what its broker would have sent had nothing changed: events before and after
+-- the change are one list to it
+abbrev pub AsIfNothingChanged : Type 0
+AsIfNothingChanged =
+    (old new : RealmConfig) → Carries old new → length new.peers ≡ length old.peers
+    → (s : RealmState) (before after : List RealmEvent)
+    → (one_realm_run old s (before ++ after)).packets
+    ≡ (one_realm_run old s before).packets ++ (one_realm_run new (one_realm_run old s before).state after).packets
+
 -- its state then: as it was, with a cursor 0 for each further peer
 abbrev pub carried : RealmConfig → RealmState → RealmState
 carried c s = record s { cursors = s.cursors ++ replicate (link_count c - length s.cursors) 0 }

@@ -1,13 +1,18 @@
 //! A realm that goes on under another configuration.
 
-ghost use Rattle.std.specs.Prelude.{◌≡◌, ◌≤◌, List, length, OnOk, vec_capacity};
+ghost use Rattle.std.specs.Prelude.{◌≡◌, ◌≤◌, List, length, OnErr, OnOk, vec_capacity};
+ghost use Rattle.roam_conf.specs.Shown.{shown};
 ghost use Rattle.roam_pending.specs.PlainEntry.{PlainEntry};
+ghost use Rattle.roam_reload.specs.Reload.{IsCarried};
+ghost use Rattle.roam_book.specs.BookView.{settings_of};
 ghost use Rattle.roam_book.specs.RealmConfig.{RealmConfig, link_count};
-ghost use Rattle.roam_book.specs.Reload.{AreMoreLanes, CarriedRealmsGoOn, Carries, NothingChangesForThem, carried};
+ghost use Rattle.roam_book.specs.Reload.{AreMoreLanes, AsIfNothingChanged, CarriedRealmsGoOn, Carries, NothingChangesForThem, carried};
 ghost use Rattle.roam_book.specs.Sound.{IsSound, state_of};
 
+use crate::book::Book;
 use crate::numbers::{Numbers, tag_of};
 use crate::settings::Settings;
+use roam_conf::Config;
 use roam_ids::LazyLane;
 use roam_wire::NoMemory;
 use std::alloc::Allocator;
@@ -60,10 +65,30 @@ impl<A: Allocator + Copy> Numbers<A> {
     }
 }
 
-/// A realm that a configuration carries over goes on as it stands, under its own part of the new one; and where no
-/// peer is added, its written broker is the same, so that nothing changes of what it is sent. This function does
-/// nothing.
+/// A realm that a configuration carries over goes on as it stands, under its own part of the new one. Where no peer is
+/// added its written broker is the same: over both configurations it is sent what it would have been sent had nothing
+/// changed. This function does nothing.
 pub fn carried_realms_go_on()
     ensures parts { CarriedRealmsGoOn }
     ensures same { NothingChangesForThem }
+    ensures over_both { AsIfNothingChanged }
 {}
+
+impl<'c, A: Allocator + Copy> Book<'c, A> {
+    /// Goes on under another configuration, which carries the book's realm over. `NoMemory` comes where a growth was
+    /// refused, and the book is then as it was.
+    pub fn carry_over(&mut self, config: &'c Config) -> Result<(), NoMemory>
+        requires seed { config.now.seed ≡ self.old.config.seed }
+        requires carried { IsCarried self.old.config (shown config.now) self.old.realm }
+        ensures config { OnOk result (self.new.config ≡ shown config.now) }
+        ensures state { OnOk result (self.new.state ≡ carried (settings_of self.new) self.old.state) }
+        ensures realm { self.new.realm ≡ self.old.realm }
+        ensures err { OnErr result (self.new ≡ self.old) }
+    {
+        let settings = Settings::new(config, self.realm);
+        self.numbers.reserve_lanes(&settings)?;
+        self.numbers.carry_over(&settings);
+        self.config = config;
+        Ok(())
+    }
+}
