@@ -16,7 +16,8 @@ use Rattle.roam_pending.specs.EntryList.{find_ticket}
 use Rattle.roam_pending.specs.PlainEntry.{PlainEntry, PlainRequest, PlainStanding, waiting, done, has_ticket, same_link, stands_at, waits_at}
 use Rattle.roam_reload.specs.Reload.{IsCarried, KeepsPeers, peer_part, realm_part}
 use Rattle.roam_book.specs.RealmConfig.{RealmConfig, IsLink, IsRequester, link_count, link_place, no_realm, realm_config}
-use Rattle.roam_book.specs.Reload.{AreMoreLanes, Carries}
+use Rattle.roam_book.specs.MoreLanes.{AreMoreLanes}
+use Rattle.roam_book.specs.Reload.{Carries}
 use Rattle.roam_book.specs.Sound.{AreOwnLanes, IsEntry, IsRequest, IsSound, IsWaiting, LanesTell, Mark, StandsWell, TellsAt, cursors_of, lane_of, mark_of, marks_of, no_lane, own_tags, waits_there}
 use Rattle.roam_book.specs.declared.numbers.Numbers.{Numbers}
 use Rattle.roam_book.proofs.SoundLemmas.{same_link-equal}

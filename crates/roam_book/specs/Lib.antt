@@ -19,5 +19,6 @@ pub mod Sound
 pub mod Fates
 pub mod Judged
 pub mod Memory
+pub mod MoreLanes
 pub mod NewEntry
 pub mod ReplyPlans

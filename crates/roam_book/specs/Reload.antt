@@ -1,13 +1,10 @@
 -- A realm that is carried over when the configuration changes (ours).
-use Rattle.std.specs.Prelude.{◌≡◌, ℕ, ◌-◌, ◌≤◌, List, ◌++◌, length, map, replicate, slice_index_or, take}
-use Rattle.roam_ids.specs.LaneState.{LaneState, place_at}
-use Rattle.roam_ids.specs.declared.place.Place.TheVariants.{Free}
+use Rattle.std.specs.Prelude.{◌≡◌, ℕ, ◌-◌, List, ◌++◌, length, replicate}
 use Rattle.roam_conf.specs.Config.{ConfigView}
 use Rattle.roam_reload.specs.Reload.{IsCarried, KeepsPeers, realm_part}
 use Rattle.roam_book.specs.RealmConfig.{RealmConfig, link_count, realm_config}
 use Rattle.roam_book.specs.RealmState.{RealmState}
 use Rattle.roam_book.specs.OneRealm.{RealmEvent, one_realm_run}
-use Rattle.roam_book.specs.Sound.{Mark, cursors_of, marks_of, no_lane, own_tags}
 
 -- the realm goes on as it stands: it has the same seed, index and part of its table, and the old peers stay
 pub record Carries (old new : RealmConfig) : Type 0 where
@@ -41,12 +38,3 @@ AsIfNothingChanged =
 -- its state then: as it was, with a cursor 0 for each further peer
 abbrev pub carried : RealmConfig → RealmState → RealmState
 carried c s = record s { cursors = s.cursors ++ replicate (link_count c - length s.cursors) 0 }
-
--- lanes, and behind them lanes of which nothing is in use, so many in all: words of private functions alone
-pub record AreMoreLanes (c : RealmConfig) (count : ℕ) (old new : List LaneState) : Type 0 where
-  pub number : length new ≡ count
-  pub kept : take (length old) new ≡ old
-  pub cursors : cursors_of new ≡ cursors_of old ++ replicate (count - length old) 0
-  pub tags : map (λ m. m.tag) (marks_of old) ≡ own_tags c.index (length old)
-      → map (λ m. m.tag) (marks_of new) ≡ own_tags c.index count
-  pub free : (place id : ℕ) → length old ≤ place → place_at (slice_index_or new place no_lane) id ≡ Free

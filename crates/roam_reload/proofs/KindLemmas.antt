@@ -7,7 +7,8 @@ use Rattle.roam_conf.specs.Config.{ConfigView}
 use Rattle.roam_conf.specs.Duplicates.{is_among, same_endpoint}
 use Rattle.roam_conf.specs.declared.endpoint.Endpoint.{Endpoint}
 use Rattle.roam_conf.proofs.EqualLemmas.{endpoint_decides}
-use Rattle.roam_reload.specs.Differences.{HasMoved, is_moved}
+use Rattle.roam_reload.specs.Differences.{HasMoved}
+use Rattle.roam_reload.specs.Moves.{is_moved}
 use Rattle.roam_reload.specs.Reload.{KeepsKinds, endpoints_of}
 use Rattle.roam_reload.specs.declared.kind.Kind.{Kind}
 use Rattle.roam_reload.specs.declared.kind.Kind.TheVariants.{Auth, Acct, Out, Reverse}

@@ -1,5 +1,5 @@
 -- Why a configuration may not follow another, and why a realm isn't carried over. Ours.
-use Rattle.std.specs.Prelude.{◌≡◌, ◌≢◌, ℕ, ◌<◌, ◌≤◌, ◌&&◌, ◌||◌, Bool, true, false, List, map, option_map, Some, length, slice_get}
+use Rattle.std.specs.Prelude.{◌≡◌, ◌≢◌, ℕ, ◌<◌, ◌≤◌, true, List, map, option_map, Some, length, slice_get}
 use Rattle.roam_conf.specs.Config.{ConfigView, PeerView, RealmView}
 use Rattle.roam_conf.specs.Duplicates.{is_among}
 use Rattle.roam_conf.specs.declared.endpoint.Endpoint.{Endpoint}
@@ -13,7 +13,6 @@ use Rattle.roam_reload.specs.declared.keys.PeerKey.TheVariants as peer_key
 use Rattle.roam_reload.specs.declared.keys.RealmKey.{RealmKey}
 use Rattle.roam_reload.specs.declared.keys.RealmKey.TheVariants as realm_key
 use Rattle.roam_reload.specs.declared.kind.Kind.{Kind}
-use Rattle.roam_reload.specs.declared.kind.Kind.TheVariants.{Auth, Acct, Out, Reverse}
 
 -- the two tables of a realm differ in a key; the two of a peer
 abbrev pub RealmsDiffer : RealmView → RealmView → RealmKey → Type 0
@@ -78,18 +77,3 @@ Hinders old new hindrance.Seed = new.seed ≢ old.seed
 Hinders old new hindrance.Shards = new.shards ≢ old.shards
 Hinders old new hindrance.Spread = new.spread ≢ old.spread
 Hinders old new (hindrance.Endpoint endpoint) = HasMoved old new endpoint
-
--- the endpoint is at a place of another kind than this: words of private functions alone
-abbrev pub is_moved : ConfigView → Kind → Endpoint → Bool
-is_moved config Auth endpoint =
-    is_among (endpoints_of config Acct) endpoint || is_among (endpoints_of config Out) endpoint
-    || is_among (endpoints_of config Reverse) endpoint
-is_moved config Acct endpoint =
-    is_among (endpoints_of config Auth) endpoint || is_among (endpoints_of config Out) endpoint
-    || is_among (endpoints_of config Reverse) endpoint
-is_moved config Out endpoint =
-    is_among (endpoints_of config Auth) endpoint || is_among (endpoints_of config Acct) endpoint
-    || is_among (endpoints_of config Reverse) endpoint
-is_moved config Reverse endpoint =
-    is_among (endpoints_of config Auth) endpoint || is_among (endpoints_of config Acct) endpoint
-    || is_among (endpoints_of config Out) endpoint

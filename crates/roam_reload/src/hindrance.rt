@@ -4,7 +4,8 @@ ghost use Rattle.std.specs.Prelude.{◌≡◌, IfNone, IfSome, map};
 ghost use Rattle.std.specs.List.{find};
 ghost use Rattle.roam_conf.specs.Parts.{shown_realm};
 ghost use Rattle.roam_conf.specs.Shown.{shown};
-ghost use Rattle.roam_reload.specs.Differences.{HasMoved, Hinders, is_moved};
+ghost use Rattle.roam_reload.specs.Differences.{HasMoved, Hinders};
+ghost use Rattle.roam_reload.specs.Moves.{is_moved};
 ghost use Rattle.roam_reload.specs.Reload.{KeepsKinds, MayFollow};
 ghost use Rattle.roam_reload.specs.declared.kind.Kind.TheVariants as kind;
 

@@ -5,7 +5,7 @@ ghost use Rattle.std.specs.List.{list_any};
 ghost use Rattle.roam_conf.specs.Duplicates.{is_among};
 ghost use Rattle.roam_conf.specs.Parts.{shown_realm};
 ghost use Rattle.roam_conf.specs.Shown.{shown};
-ghost use Rattle.roam_reload.specs.Differences.{is_moved};
+ghost use Rattle.roam_reload.specs.Moves.{is_moved};
 ghost use Rattle.roam_reload.specs.Reload.{endpoints_of};
 
 use roam_conf::{Config, Endpoint, Realm, is_same_endpoint};

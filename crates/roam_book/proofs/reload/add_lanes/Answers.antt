@@ -1,6 +1,6 @@
 use Rattle.std.proofs.Common.{◌≡◌, ◌∙◌, arith, ap, sym, subst, length, vec_len}
 use Rattle.roam_ids.specs.LaneState.{LaneState}
-use Rattle.roam_book.specs.Reload.{AreMoreLanes}
+use Rattle.roam_book.specs.MoreLanes.{AreMoreLanes}
 use Rattle.roam_book.proofs.ReloadLemmas.{one_more}
 use Rattle.roam_book.proofs.reload.add_lanes.Goals as goal
 

@@ -1,6 +1,6 @@
 use Rattle.std.proofs.Common.{◌≤◌, length, vec_len, vec_capacity, ◌≡◌}
 use Rattle.roam_book.specs.RealmConfig.{link_count}
-use Rattle.roam_book.specs.Reload.{AreMoreLanes}
+use Rattle.roam_book.specs.MoreLanes.{AreMoreLanes}
 use Rattle.roam_book.proofs.reload.add_lanes.Given as goal
 
 abbrev pub invariant-loop-place : goal.invariant-loop-place

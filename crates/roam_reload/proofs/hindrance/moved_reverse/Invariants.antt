@@ -3,7 +3,7 @@ use Rattle.std.specs.List.{find}
 use Rattle.roam_conf.specs.Config.{RealmView}
 use Rattle.roam_conf.specs.Parts.{shown_realm}
 use Rattle.roam_conf.specs.Shown.{shown}
-use Rattle.roam_reload.specs.Differences.{is_moved}
+use Rattle.roam_reload.specs.Moves.{is_moved}
 use Rattle.roam_reload.specs.declared.kind.Kind.TheVariants as kind
 use Rattle.roam_reload.proofs.hindrance.moved_reverse.Given as goal
 
