@@ -5,11 +5,11 @@ ghost use Rattle.roam_history.specs.Books.{books_of, count_of};
 
 use roam_audit::{Seat, Tally, split};
 use roam_history::{Blanks, Opened};
-use test_allocator::Refusing;
 use roam_wire::NoMemory;
 use std::alloc::{Allocator, Global};
 use std::marker::Brand;
 use std::process::Abort;
+use test_allocator::Refusing;
 
 /// A shard with no call.
 const NO_CALLS: Tally = Tally {

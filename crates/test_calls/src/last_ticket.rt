@@ -7,11 +7,11 @@ use roam_book::Answer;
 use roam_conf::Config;
 use roam_conf_reader::read_config;
 use roam_sim::{print_packet, read_script};
-use test_allocator::Refusing;
 use std::alloc::{Allocator, Global};
 use std::io;
 use std::io::Write;
 use std::process::Abort;
+use test_allocator::Refusing;
 
 /// Events of a realm whose next ticket is 2^63 - 1, and behind each what it gives.
 pub(crate) const LAST_TICKET: &str = "

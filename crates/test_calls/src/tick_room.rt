@@ -4,9 +4,9 @@ use crate::configuration::TWO_SERVERS;
 use crate::realm::Realm;
 use roam_conf_reader::read_config;
 use roam_sim::read_script;
-use test_allocator::Refusing;
 use std::alloc::Global;
 use std::process::Abort;
+use test_allocator::Refusing;
 
 /// Two requests that were sent twice, one that was sent once, and one whose reply is held until 6000.
 const EVENTS: &str =

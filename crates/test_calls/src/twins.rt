@@ -8,12 +8,12 @@ use roam_conf::Config;
 use roam_conf_reader::read_config;
 use roam_core::Event;
 use roam_sim::read_script;
-use test_allocator::Refusing;
 use roam_wire::Refusal;
 use std::alloc::{Allocator, Global};
 use std::io;
 use std::io::Write;
 use std::process::Abort;
+use test_allocator::Refusing;
 
 /// The script with what is sent for each event, and with what is kept of it.
 #[derive(Drop)]

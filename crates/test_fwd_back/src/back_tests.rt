@@ -7,12 +7,12 @@ use crate::octets::octets;
 use crate::reply_tests::refusal;
 use roam_auth::has_one_message_authenticator;
 use roam_back::back;
-use test_allocator::Refusing;
 use roam_wire::attribute_type::MESSAGE_AUTHENTICATOR;
 use roam_wire::code::is_access_reply;
 use roam_wire::{Refusal, View};
 use std::alloc::Allocator;
 use std::test::Fail;
+use test_allocator::Refusing;
 
 /// Returns a reply of one link to the requester. The Authenticator and the secret of the link from
 /// which it came count in Access replies alone.

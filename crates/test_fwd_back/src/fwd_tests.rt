@@ -5,10 +5,10 @@
 use crate::exchanges::{ACCESS_SERVER, HOME_SERVER, SEALED, START};
 use crate::octets::octets;
 use roam_fwd::{can_be_forwarded, forward, forwarded_len};
-use test_allocator::Refusing;
 use roam_wire::{NoMemory, View, code};
 use std::alloc::Allocator;
 use std::test::Fail;
+use test_allocator::Refusing;
 
 /// An Authenticator that counts for no request but an Access-Request.
 const UNUSED: [u8; 16] = [0xff; 16];

@@ -3,10 +3,10 @@
 use crate::exchanges::{COA, HOME_SERVER};
 use crate::octets::octets;
 use roam_back::{nak, nak_len, nak_reserved};
-use test_allocator::Refusing;
 use roam_wire::code::{COA_REQUEST, DISCONNECT_REQUEST};
 use roam_wire::{Refusal, View};
 use std::alloc::Allocator;
+use test_allocator::Refusing;
 
 /// What a request shows, the request, the cause, and the NAK.
 type Nak = (&'static str, &'static str, u32, &'static str);

@@ -11,11 +11,11 @@ use roam_book::Start;
 use roam_conf::Config;
 use roam_hub::{Blanks, Hub, HubFault, Open, Opened, Receipt};
 use roam_shard::first_starts;
-use test_allocator::Refusing;
 use std::alloc::Global;
 use std::marker::Brand;
 use std::process::Abort;
 use std::sync::Wait;
+use test_allocator::Refusing;
 
 /// An allocator that refuses growths.
 type Over<'r> = &'r Refusing<Global>;

@@ -7,10 +7,10 @@ use roam_pending::{
     Done, Due, Entries, Entry, Key, Pending, Request, Requester, Standing, Waiting, send_again,
     set_standing,
 };
-use test_allocator::Refusing;
 use roam_wire::{NoMemory, Octets};
 use std::alloc::Allocator;
 use std::test::Fail;
+use test_allocator::Refusing;
 
 /// The key of a request of one access server.
 fn key(id: u8) -> Key {

@@ -5,9 +5,9 @@
 use crate::tape::{Answer, Tape};
 use roam_conf::{Endpoint, Place};
 use roam_port::{FAULTS_TO_GIVE_UP, Heard, listen};
-use test_allocator::Refusing;
 use std::alloc::{Allocator, Global};
 use std::test::Fail;
+use test_allocator::Refusing;
 
 const REQUEST: [u8; 43] = [
     4, 5, 0, 43, 64, 215, 181, 168, 137, 197, 95, 169, 3, 43, 165, 214, 190, 55, 143, 46, 1, 13,

@@ -6,11 +6,11 @@ use crate::requests::{
     STOP_01, STOP_02, STOP_EMPTY, STOP_THEN_START, THREE_OCTETS, TWO_IDS, apply, octets,
 };
 use roam_reverse::Sessions;
-use test_allocator::Refusing;
 use roam_wire::View;
 use std::alloc::{Allocator, Global};
 use std::process::Abort;
 use std::test::Fail;
+use test_allocator::Refusing;
 
 /// Which of these sessions are open, one bit each: of peer 0 no octets, `01`, `02` and `03`; of
 /// peer 1 `01` and `02`.

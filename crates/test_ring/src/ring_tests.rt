@@ -3,10 +3,10 @@
 use crate::callers::through;
 use crate::packets::{number, packet, taken_in_order};
 use roam_ring::{Outlet, ring};
-use test_allocator::Refusing;
 use roam_wire::NoMemory;
 use std::alloc::Allocator;
 use std::test::Fail;
+use test_allocator::Refusing;
 
 /// Puts the packets of the numbers below `count`: the first number that came back, if one did.
 fn fill<A: Allocator + Copy>(

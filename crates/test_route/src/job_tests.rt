@@ -4,11 +4,11 @@ use crate::arrivals::{ARRIVALS, Rows, START, config, octets, spelled};
 use crate::federation;
 use roam_conf::{Config, Endpoint, Place, decimal};
 use roam_route::{Datagram, Job, NasName, Out, Prepared, Side, nas_of, prepare, realm_of};
-use test_allocator::Refusing;
 use roam_wire::{Octets, Refusal, View};
 use std::alloc::{Allocator, Global};
 use std::process::Abort;
 use std::test::Fail;
+use test_allocator::Refusing;
 
 /// A packet, its realm, and the first NAS-IP-Address and NAS-Identifier in it.
 type Named = (

@@ -24,10 +24,10 @@ mod traces;
 
 use crate::brokers::Kept;
 use crate::player::Player;
-use test_allocator::Refusing;
 use std::process::ExitCode;
 use std::sync::Wait;
 use std::{fs, io};
+use test_allocator::Refusing;
 
 /// The names of the files in a folder, in order.
 fn names(rt: &HostRuntime, folder: &str) -> io::Result<Vec<String>> {

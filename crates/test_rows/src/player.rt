@@ -6,9 +6,9 @@ use crate::row::Step;
 use crate::tally::Tally;
 use roam_book::Answer;
 use roam_conf::Config;
-use test_allocator::Refusing;
 use std::alloc::Global;
 use std::io;
+use test_allocator::Refusing;
 
 /// The allocator over which brokers and events grow.
 pub(crate) type Over<'r> = &'r Refusing<Global>;

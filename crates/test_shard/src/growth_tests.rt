@@ -6,9 +6,9 @@ use crate::played::play;
 use crate::scripts::{GIVEN, LATER_STARTS};
 use crate::starts::{first_shard, later_shard, later_shards};
 use roam_conf::Config;
-use test_allocator::Refusing;
 use std::alloc::Global;
 use std::process::Abort;
+use test_allocator::Refusing;
 
 /// Whether a shard answers a script as the script says, both times.
 fn answers_twice(rt: &impl Abort, alloc: Global, script: &str) -> bool {

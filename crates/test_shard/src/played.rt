@@ -4,11 +4,11 @@ use crate::given::{Given, Meets};
 use roam_book::Answer;
 use roam_core::Event;
 use roam_sim::{print_packet, read_script};
-use test_allocator::Refusing;
 use std::alloc::{Allocator, Global};
 use std::io;
 use std::io::Write;
 use std::process::Abort;
+use test_allocator::Refusing;
 
 /// The script with what is sent for each event, and with what is kept of it.
 #[derive(Drop)]

@@ -7,13 +7,13 @@
 ghost use Rattle.std.specs.Prelude.{◌≡◌, [], ◌∷◌, ◌++◌, length, OnErr, OnOk};
 
 use indexmap::IndexMap;
-use test_allocator::Refusing;
 use slab::Slab;
 use std::alloc::{AllocError, Allocator, Global};
 use std::hash::{BuildHasherDefault, FoldHasher};
 use std::marker::Model;
 use std::process::Abort;
 use std::test::Fail;
+use test_allocator::Refusing;
 
 /// A copy of the octets in a block of its own.
 fn copied<A: Allocator + Copy>(alloc: A, octets: &[u8]) -> Result<Vec<u8, A>, AllocError> {

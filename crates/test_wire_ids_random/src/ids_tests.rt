@@ -2,8 +2,8 @@
 //! the first at or after the cursor, cyclic in 0..255, that isn't in use.
 
 use roam_ids::{Lane, LazyLane};
-use test_allocator::Refusing;
 use std::alloc::Allocator;
+use test_allocator::Refusing;
 
 /// Takes the next free Identifier and parks it with this ticket.
 fn admit(lane: &mut Lane, ticket: u64) -> Option<u8> {

@@ -1,9 +1,9 @@
 //! Packets as octets: the RFC's own, hostile ones, and packets that are built.
 
-use test_allocator::Refusing;
 use roam_wire::{Octets, PacketBuf, Refusal, View, attribute_type, code};
 use std::alloc::Allocator;
 use std::test::Fail;
+use test_allocator::Refusing;
 
 // The Access-Request of RFC 2865, section 7.1: User-Name "nemo", User-Password "arctangent" hidden
 // under the secret "xyzzy5461", NAS-IP-Address 192.168.1.16, NAS-Port 3.
