@@ -1,24 +1,21 @@
 -- A realm that is carried over is sound under its new settings.
-use Rattle.std.proofs.Common.{◌≡◌, ◌≢◌, inl, inr, ◌⊎◌, ℕ, zero, suc, ◌+◌, ◌-◌, ◌*◌, ◌<◌, ◌≤◌, ◌==◌, ◌&&◌, Bool, true, false, cond, List, [], ◌∷◌, ◌++◌, Option, Some, None, is_some, option_map, unwrap_or, slice_get, refl, ap, sym, subst, ◌∙◌, arith, get_or, length, map, take, replicate, add-one, append_assoc}
+use Rattle.std.proofs.Common.{◌≡◌, inl, inr, ◌⊎◌, ℕ, zero, suc, ◌+◌, ◌-◌, ◌*◌, ◌<◌, ◌≤◌, ◌==◌, ◌&&◌, Bool, true, false, List, [], ◌∷◌, ◌++◌, Option, option_map, unwrap_or, slice_get, refl, ap, sym, subst, ◌∙◌, arith, get_or, length, map, replicate, add-one, append_assoc}
 use Rattle.std.specs.List.{AllByRecursion}
-use Rattle.std.proofs.lemmas.Bool.{cases_Bool, cases_lt, false≢true, true≢false}
+use Rattle.std.proofs.lemmas.Bool.{cases_Bool, cases_lt}
 use Rattle.std.proofs.lemmas.List.{length-map, length-append, length_push, get_or-take, get_or-map, get_or_append_left, get_or_past, get_or_push, map_push, replicate_more, take-append-le}
-use Rattle.roam_conf.specs.Config.{ConfigView, PeerView, RealmView}
+use Rattle.roam_conf.specs.Config.{ConfigView, RealmView}
 use Rattle.roam_conf.specs.declared.place.Link.{Link}
 use Rattle.roam_conf.specs.declared.place.Link.TheVariants as link
-use Rattle.roam_ids.specs.LaneState.{LaneState, is_used, place_at, ticket_at}
-use Rattle.roam_ids.specs.Standing.{is_in_use, ticket_of}
-use Rattle.roam_ids.specs.declared.place.Place.{Place}
+use Rattle.roam_ids.specs.LaneState.{LaneState, place_at}
 use Rattle.roam_ids.specs.declared.place.Place.TheVariants.{Free}
 use Rattle.roam_pending.specs.declared.key.Requester.{Requester}
 use Rattle.roam_pending.specs.declared.key.Requester.TheVariants as requester
-use Rattle.roam_pending.specs.EntryList.{find_ticket}
-use Rattle.roam_pending.specs.PlainEntry.{PlainEntry, PlainRequest, PlainStanding, waiting, done, has_ticket, same_link, stands_at, waits_at}
-use Rattle.roam_reload.specs.Reload.{IsCarried, KeepsPeers, peer_part, realm_part}
+use Rattle.roam_pending.specs.PlainEntry.{PlainEntry, PlainRequest, PlainStanding, waiting, done, has_ticket, same_link, stands_at}
+use Rattle.roam_reload.specs.Reload.{IsCarried, peer_part, realm_part}
 use Rattle.roam_book.specs.RealmConfig.{RealmConfig, IsLink, IsRequester, link_count, link_place, no_realm, realm_config}
 use Rattle.roam_book.specs.MoreLanes.{AreMoreLanes}
 use Rattle.roam_book.specs.Reload.{Carries}
-use Rattle.roam_book.specs.Sound.{AreOwnLanes, IsEntry, IsRequest, IsSound, IsWaiting, LanesTell, Mark, StandsWell, TellsAt, cursors_of, lane_of, mark_of, marks_of, no_lane, own_tags, waits_there}
+use Rattle.roam_book.specs.Sound.{AreOwnLanes, IsEntry, IsSound, LanesTell, Mark, StandsWell, TellsAt, cursors_of, lane_of, mark_of, marks_of, no_lane, own_tags, waits_there}
 use Rattle.roam_book.specs.declared.numbers.Numbers.{Numbers}
 use Rattle.roam_book.proofs.SoundLemmas.{same_link-equal}
 
@@ -29,7 +26,7 @@ servers b c k = ap (λ (x : RealmView). length x.servers) k.table
 pub peers : (b c : RealmConfig) → Carries b c → length b.peers ≤ length c.peers
 peers b c k =
     let both : length (map peer_part c.peers) ≡ length (map peer_part b.peers) + length k.peers.more =
-        ap length k.peers.same ∙ length-append (map peer_part b.peers) k.peers.more in
+    ap length k.peers.same ∙ length-append (map peer_part b.peers) k.peers.more in
     omega (arith, both, length-map c.peers peer_part, length-map b.peers peer_part)
 
 -- so links and senders of requests stay what they are
@@ -60,9 +57,9 @@ new_or_not b c k (link.Coa p) is =
     elim (cases_lt p (length b.peers)) [
       | inl was ↦ inl was
       | inr past ↦ inr (
-          (λ was. let never : ⊥ = omega (arith, was, past) in never),
-          omega (arith, servers b c k, past),
-        )
+        (λ was. let never : ⊥ = omega (arith, was, past) in never),
+        omega (arith, servers b c k, past),
+      )
     ]
 
 -- entries stay well
@@ -122,7 +119,7 @@ lanes_tell b c k n es old new more count all tells l is id lt =
       | inl was ↦ (
           let here : link_place b l < length old = omega (arith, place_below b l was, count) in
           let same : lane_of c new l ≡ lane_of b old l =
-              ap (λ (p : ℕ). get_or new p no_lane) (place_stays b c k l) ∙ kept_lane c (link_count c) old new more (link_place b l) here in
+          ap (λ (p : ℕ). get_or new p no_lane) (place_stays b c k l) ∙ kept_lane c (link_count c) old new more (link_place b l) here in
           subst (λ (x : LaneState). TellsAt es l x id) (sym same) (tells l was id lt))
       | inr away ↦ tells_free es l (lane_of c new l) id (more.free (link_place c l) id (omega (arith, away.1, count)))
           (λ t. none_waits b n es l id t all away.0)
@@ -182,11 +179,11 @@ one_more c place old lanes lane longer tag cursor free more = record {
         elim (cases_lt p (length lanes)) [
           | inl before ↦ (ap (λ (l : LaneState). place_at l id) (get_or_append_left lanes (lane ∷ []) no_lane p before) ∙ more.free p id behind)
           | inr past ↦ (elim (cases_lt (length lanes) p) [
-              | inl beyond ↦ (ap (λ (l : LaneState). place_at l id)
-                  (get_or_past (lanes ++ lane ∷ []) p no_lane (omega (arith, beyond, length_push lanes lane))) ∙ refl)
-              | inr not_beyond ↦ (ap (λ (l : LaneState). place_at l id)
-                  (get_or_push lanes lane no_lane p (omega (arith, past, not_beyond))) ∙ free id)
-            ])
+            | inl beyond ↦ (ap (λ (l : LaneState). place_at l id)
+                (get_or_past (lanes ++ lane ∷ []) p no_lane (omega (arith, beyond, length_push lanes lane))) ∙ refl)
+            | inr not_beyond ↦ (ap (λ (l : LaneState). place_at l id)
+                (get_or_push lanes lane no_lane p (omega (arith, past, not_beyond))) ∙ free id)
+          ])
         ]
 
 module _ {A : Type 0} where

@@ -1,10 +1,10 @@
 -- What names a realm and its peers, and whether a peer's Access-Requests need a Message-Authenticator, a realm's
 -- written broker doesn't look at.
-use Rattle.std.proofs.Common.{◌≡◌, ℕ, zero, suc, ◌+◌, ◌-◌, ◌*◌, ◌%◌, ◌^◌, ◌==◌, nat_lt, nat_eq, Bool, true, false, not, cond, List, [], ◌∷◌, ◌++◌, length, map, Option, Some, None, option_map, unwrap_or, slice_get, slice_index, slice_index_or, slice_set, if◌then◌else◌, refl, ap, sym, ◌∙◌, arith, append-nil, append_assoc}
+use Rattle.std.proofs.Common.{◌≡◌, ℕ, zero, suc, ◌+◌, ◌-◌, ◌%◌, ◌^◌, ◌==◌, nat_lt, nat_eq, Bool, not, List, [], ◌∷◌, ◌++◌, length, map, Option, Some, None, unwrap_or, slice_get, slice_index, slice_index_or, slice_set, if◌then◌else◌, refl, ap, sym, ◌∙◌, arith, append-nil, append_assoc}
 use Rattle.std.proofs.lemmas.List.{length-append, length-map, nil_from_length}
 use Rattle.std.specs.Cmp.Lexicographic.{pointwise}
 use Rattle.std.specs.List.{filter, position_from}
-use Rattle.std.specs.Option.{option_map_or, option_or, option_and_then}
+use Rattle.std.specs.Option.{option_or, option_and_then}
 use Rattle.roam_wire.specs.Packet.{Attribute, Packet, packet_text}
 use Rattle.roam_wire.specs.Reading.{packet_of}
 use Rattle.roam_wire.specs.declared.packet_size.TheConstants.{MAX_PACKET_LENGTH}
@@ -12,10 +12,9 @@ use Rattle.roam_wire.specs.declared.refusal.Refusal.{Refusal}
 use Rattle.roam_wire.specs.declared.refusal.Refusal.TheVariants as refusal
 use Rattle.roam_back.specs.Nak.{nak}
 use Rattle.roam_back.specs.ReplyCheck.{reply_fault}
-use Rattle.roam_back.specs.Returned.{Returning, returned, returned_length}
-use Rattle.roam_conf.specs.Config.{PeerView, RealmView}
+use Rattle.roam_back.specs.Returned.{returned, returned_length}
+use Rattle.roam_conf.specs.Config.{PeerView}
 use Rattle.roam_conf.specs.Secrets as secrets
-use Rattle.roam_conf.specs.declared.endpoint.Endpoint.{Endpoint}
 use Rattle.roam_conf.specs.declared.place.Link.{Link}
 use Rattle.roam_conf.specs.declared.place.Link.TheVariants as link
 use Rattle.roam_conf.specs.declared.place.Place.TheVariants as place
@@ -28,7 +27,7 @@ use Rattle.roam_pending.specs.DueOrder.{due_list}
 use Rattle.roam_pending.specs.EntryList.{find_client, find_link, find_ticket, first_done, put, without, without_client}
 use Rattle.roam_pending.specs.PlainEntry.{PlainEntry, PlainRequest, PlainStanding, waiting, done}
 use Rattle.roam_pending.specs.Realms.{sent_again, with_standing}
-use Rattle.roam_reload.specs.Reload.{KeepsPeers, peer_part, realm_part}
+use Rattle.roam_reload.specs.Reload.{peer_part, realm_part}
 use Rattle.roam_reverse.specs.Causes.{cause, cause_at_target}
 use Rattle.roam_reverse.specs.Sessions.{Session}
 use Rattle.roam_reverse.specs.Target as reverse
@@ -37,12 +36,12 @@ use Rattle.roam_route.specs.Admission.{PlainOut}
 use Rattle.roam_route.specs.UserName.{nas_of}
 use Rattle.roam_book.specs.OneRealm.{RealmEvent, request_came, reply_came, tick_came, on_event, one_realm_run}
 use Rattle.roam_book.specs.OnReply.{counted, counted_peer, judge, on_reply, once_returned, return_reply, returned_octets, returning, to_entry, to_standing}
-use Rattle.roam_book.specs.OnRequest.{admit, at_target, coa_links, first_seen, forwarded_entry, forwarded_octets, forwarding, is_reverse, make_way, nak_octets, nak_or_new, new_request, of_key, on_request, once_forwarded, packet_to, position_after, drawn_at, packet_back, held_reply, reverse_cause, targets}
+use Rattle.roam_book.specs.OnRequest.{admit, at_target, coa_links, first_seen, forwarded_entry, forwarded_octets, is_reverse, make_way, nak_octets, nak_or_new, new_request, of_key, on_request, once_forwarded, packet_to, position_after, drawn_at, packet_back, held_reply, reverse_cause, targets}
 use Rattle.roam_book.specs.OnTick.{Progress, as_turn, due_each, due_entry, due_one, due_standing, fail_over, given_up, given_up_at, on_tick, once_refused, silent, without_entry}
-use Rattle.roam_book.specs.RealmConfig.{RealmConfig, later_targets, link_endpoint, link_place, link_secret, links_from, nowhere, peer_secret, requester_secret, seal_required, service_of}
+use Rattle.roam_book.specs.RealmConfig.{RealmConfig, later_targets, link_endpoint, link_place, link_secret, links_from, nowhere, requester_secret, seal_required, service_of}
 use Rattle.roam_book.specs.RealmState.{RealmState, Target, chosen_target, first_target, is_used_on, next_toward, ready_links, this_or, with_entries, with_next_ticket}
 use Rattle.roam_book.specs.Reload.{Carries}
-use Rattle.roam_book.specs.Rests.{after_choice, after_reply, after_silence, awake, is_resting, once_chosen, once_silent, rest_of, stands_back, with_rest}
+use Rattle.roam_book.specs.Rests.{after_choice, after_silence, awake, is_resting, once_chosen, once_silent, rest_of, stands_back, with_rest}
 use Rattle.roam_book.specs.Turn.{Turn, in_time, packets_of, refuses, sends, state_after}
 use Rattle.roam_book.specs.declared.rest.Rest.{Rest}
 
@@ -136,7 +135,7 @@ module _ (c : RealmConfig) where
   chosen_same : (now : ℕ) (rests : List Rest) (cursors : List ℕ) (entries : List PlainEntry) (links : List Link) → chosen_target (bare c) now rests cursors entries links ≡ chosen_target c now rests cursors entries links
   chosen_same now rests cursors entries links =
       let ready : first_target (bare c) cursors entries (ready_links (bare c) now rests links) ≡ first_target c cursors entries (ready_links c now rests links) =
-          ap (first_target (bare c) cursors entries) (ready_same now rests links) ∙ first_same cursors entries (ready_links c now rests links) in
+      ap (first_target (bare c) cursors entries) (ready_same now rests links) ∙ first_same cursors entries (ready_links c now rests links) in
       λ i. option_or (ready i) (first_same cursors entries links i)
 
   -- requests
@@ -172,7 +171,7 @@ module _ (c : RealmConfig) where
   admit_same : (now : ℕ) (s : RealmState) (entries : List PlainEntry) (q : PlainRequest) (target : Target) → admit (bare c) now s entries q target ≡ admit c now s entries q target
   admit_same now s entries q target =
       let octets : packet_to (bare c) target.link (forwarded_octets (bare c) q s.stream_position s.ticket target) ≡ packet_to c target.link (forwarded_octets c q s.stream_position s.ticket target) =
-          ap (packet_to (bare c) target.link) (octets_same q s.stream_position s.ticket target) ∙ to_same target.link (forwarded_octets c q s.stream_position s.ticket target) in
+      ap (packet_to (bare c) target.link) (octets_same q s.stream_position s.ticket target) ∙ to_same target.link (forwarded_octets c q s.stream_position s.ticket target) in
       λ i. sends (octets i ∷ []) (with_next_ticket (once_same now (with_entries s entries) q s.ticket target i))
 
   way_same : (now : ℕ) (s : RealmState) (entries : List PlainEntry) (q : PlainRequest) (target : Target) (t : Option ℕ) → make_way (bare c) now s entries q target t ≡ make_way c now s entries q target t
@@ -195,10 +194,10 @@ module _ (c : RealmConfig) where
   new_same : (now : ℕ) (s : RealmState) (entries : List PlainEntry) (q : PlainRequest) → new_request (bare c) now s entries q ≡ new_request c now s entries q
   new_same now s entries q =
       let chosen : chosen_target (bare c) now s.rests s.cursors entries (targets (bare c) q) ≡ chosen_target c now s.rests s.cursors entries (targets c q) =
-          ap (chosen_target (bare c) now s.rests s.cursors entries) (targets_same q) ∙ chosen_same now s.rests s.cursors entries (targets c q) in
+      ap (chosen_target (bare c) now s.rests s.cursors entries) (targets_same q) ∙ chosen_same now s.rests s.cursors entries (targets c q) in
       let there : at_target (bare c) now s entries q (chosen_target (bare c) now s.rests s.cursors entries (targets (bare c) q))
-          ≡ at_target c now s entries q (chosen_target c now s.rests s.cursors entries (targets c q)) =
-          ap (at_target (bare c) now s entries q) chosen ∙ at_target_same now s entries q (chosen_target c now s.rests s.cursors entries (targets c q)) in
+      ≡ at_target c now s entries q (chosen_target c now s.rests s.cursors entries (targets c q)) =
+      ap (at_target (bare c) now s entries q) chosen ∙ at_target_same now s entries q (chosen_target c now s.rests s.cursors entries (targets c q)) in
       λ i. if s.ticket == 2 ^ 63 then refuses refusal.Exhausted else there i
 
   nak_same : (q : PlainRequest) (why : ℕ) → nak_octets (bare c) q why ≡ nak_octets c q why
@@ -255,10 +254,10 @@ module _ (c : RealmConfig) where
   return_same : (now : ℕ) (s : RealmState) (e : PlainEntry) (l : Link) (p reply : Packet) → return_reply (bare c) now s e l p reply ≡ return_reply c now s e l p reply
   return_same now s e l p reply =
       let state : once_returned (bare c) now s e l reply (returned_octets (bare c) e.request l p reply) ≡ once_returned c now s e l reply (returned_octets c e.request l p reply) =
-          ap (once_returned (bare c) now s e l reply) (returned_same e.request l p reply) ∙ once_returned_same now s e l reply (returned_octets c e.request l p reply) in
+      ap (once_returned (bare c) now s e l reply) (returned_same e.request l p reply) ∙ once_returned_same now s e l reply (returned_octets c e.request l p reply) in
       λ i. if nat_lt MAX_PACKET_LENGTH (returned_length (returning_same e.request l p i) reply (packet_of e.request.octets))
-          then refuses refusal.ReplyTooLong
-          else sends (packet_back c e.request.key (returned_same e.request l p reply i) ∷ []) (state i)
+      then refuses refusal.ReplyTooLong
+      else sends (packet_back c e.request.key (returned_same e.request l p reply i) ∷ []) (state i)
 
   judge_same : (now : ℕ) (s : RealmState) (e : PlainEntry) (l : Link) (p reply : Packet) (why : Option Refusal) → judge (bare c) now s e l p reply why ≡ judge c now s e l p reply why
   judge_same now s e l p reply (Some why) = refl
@@ -267,7 +266,7 @@ module _ (c : RealmConfig) where
   standing_same : (now : ℕ) (s : RealmState) (e : PlainEntry) (reply : Packet) (x : PlainStanding) → to_standing (bare c) now s e reply x ≡ to_standing c now s e reply x
   standing_same now s e reply (waiting l id octets sends_left deadline) =
       let why : reply_fault (link_secret (bare c) l) (seal_required (bare c) l) reply (packet_of octets) ≡ reply_fault (link_secret c l) (seal_required c l) reply (packet_of octets) =
-          λ i. reply_fault (secret_of l i) (seal_same l i) reply (packet_of octets) in
+      λ i. reply_fault (secret_of l i) (seal_same l i) reply (packet_of octets) in
       ap (judge (bare c) now s e l (packet_of octets) reply) why
       ∙ judge_same now s e l (packet_of octets) reply (reply_fault (link_secret c l) (seal_required c l) reply (packet_of octets))
   standing_same now s e reply (done old deadline) = refl
@@ -284,17 +283,17 @@ module _ (c : RealmConfig) where
   given_up_same now s e =
       let octets = nak_same e.request OTHER_PROXY_PROCESSING_ERROR in
       λ i. if is_reverse e.request
-          then record {
-            packets = packet_back c e.request.key (octets i) ∷ [];
-            state = once_refused c now s e (octets i);
-          }
-          else silent s
+      then record {
+        packets = packet_back c e.request.key (octets i) ∷ [];
+        state = once_refused c now s e (octets i);
+      }
+      else silent s
 
   fail_over_same : (now : ℕ) (s : RealmState) (e : PlainEntry) (t : Option Target) → fail_over (bare c) now s e t ≡ fail_over c now s e t
   fail_over_same now s e None = given_up_same now s e
   fail_over_same now s e (Some t) =
       let packet : packet_to (bare c) t.link (forwarded_octets (bare c) e.request s.stream_position e.ticket t) ≡ packet_to c t.link (forwarded_octets c e.request s.stream_position e.ticket t) =
-          ap (packet_to (bare c) t.link) (octets_same e.request s.stream_position e.ticket t) ∙ to_same t.link (forwarded_octets c e.request s.stream_position e.ticket t) in
+      ap (packet_to (bare c) t.link) (octets_same e.request s.stream_position e.ticket t) ∙ to_same t.link (forwarded_octets c e.request s.stream_position e.ticket t) in
       λ i. record { packets = packet i ∷ []; state = once_same now s e.request e.ticket t i }
 
   given_up_at_same : (now : ℕ) (l : Link) (s : RealmState) (e : PlainEntry) → given_up_at (bare c) now l s e ≡ given_up_at c now l s e
@@ -305,19 +304,19 @@ module _ (c : RealmConfig) where
   due_standing_same now s e (waiting l id octets sends_left deadline) =
       let es = without e.ticket s.entries in
       let chosen : chosen_target (bare c) now (after_silence (bare c) now s.rests l) s.cursors es (later_targets (bare c) l)
-          ≡ chosen_target c now (after_silence c now s.rests l) s.cursors es (later_targets c l) =
-          (λ i. chosen_target (bare c) now (silence_same now s.rests l i) s.cursors es (later_same l i))
-          ∙ chosen_same now (after_silence c now s.rests l) s.cursors es (later_targets c l) in
+      ≡ chosen_target c now (after_silence c now s.rests l) s.cursors es (later_targets c l) =
+      (λ i. chosen_target (bare c) now (silence_same now s.rests l i) s.cursors es (later_same l i))
+      ∙ chosen_same now (after_silence c now s.rests l) s.cursors es (later_targets c l) in
       let over : fail_over (bare c) now (given_up_at (bare c) now l s e) e (chosen_target (bare c) now (after_silence (bare c) now s.rests l) s.cursors es (later_targets (bare c) l))
-          ≡ fail_over c now (given_up_at c now l s e) e (chosen_target c now (after_silence c now s.rests l) s.cursors es (later_targets c l)) =
-          (λ i. fail_over (bare c) now (given_up_at_same now l s e i) e (chosen i))
-          ∙ fail_over_same now (given_up_at c now l s e) e (chosen_target c now (after_silence c now s.rests l) s.cursors es (later_targets c l)) in
+      ≡ fail_over c now (given_up_at c now l s e) e (chosen_target c now (after_silence c now s.rests l) s.cursors es (later_targets c l)) =
+      (λ i. fail_over (bare c) now (given_up_at_same now l s e i) e (chosen i))
+      ∙ fail_over_same now (given_up_at c now l s e) e (chosen_target c now (after_silence c now s.rests l) s.cursors es (later_targets c l)) in
       λ i. if nat_lt 0 sends_left
-          then record {
-            packets = to_same l octets i ∷ [];
-            state = with_entries s (put (sent_again (now + c.realm.wait) e) s.entries);
-          }
-          else over i
+      then record {
+        packets = to_same l octets i ∷ [];
+        state = with_entries s (put (sent_again (now + c.realm.wait) e) s.entries);
+      }
+      else over i
 
   due_entry_same : (now : ℕ) (s : RealmState) (e : Option PlainEntry) → due_entry (bare c) now s e ≡ due_entry c now s e
   due_entry_same now s None = refl
@@ -363,7 +362,7 @@ bare_same b c k count = λ i. record {
     same : map peer_part c.peers ≡ map peer_part b.peers
     same =
         let both : length (map peer_part c.peers) ≡ length (map peer_part b.peers) + length k.peers.more =
-            ap length k.peers.same ∙ length-append (map peer_part b.peers) k.peers.more in
+        ap length k.peers.same ∙ length-append (map peer_part b.peers) k.peers.more in
         let none : length k.peers.more ≡ 0 = omega (arith, both, count, length-map c.peers peer_part, length-map b.peers peer_part) in
         k.peers.same
         ∙ ap (λ (xs : List PeerView). map peer_part b.peers ++ xs) (nil_from_length k.peers.more none)

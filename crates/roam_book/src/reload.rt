@@ -47,7 +47,9 @@ impl<A: Allocator + Copy> Numbers<A> {
     {
         let count = settings.link_count();
         if count > self.lanes.len() {
-            self.lanes.reserve(count - self.lanes.len()).map_err(|_| NoMemory)?;
+            self.lanes
+                .reserve(count - self.lanes.len())
+                .map_err(|_| NoMemory)?;
         }
         Ok(())
     }

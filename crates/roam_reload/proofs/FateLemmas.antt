@@ -1,10 +1,9 @@
 -- What becomes of a realm.
-use Rattle.std.proofs.Common.{◌≡◌, ◌≢◌, ℕ, zero, suc, ◌<◌, Bool, true, false, List, [], ◌∷◌, ◌++◌, Some, None, map, option_map, length, slice_get, get_or, refl, ap, sym, ◌∙◌, arith}
-use Rattle.std.proofs.lemmas.Bool.{false≢true}
-use Rattle.std.proofs.lemmas.List.{length-map, get_or_append_left}
-use Rattle.std.proofs.lemmas.Option.{none-some, same_Some, slice_get-get_or, slice_get_past, slice_get-map, slice_get_within}
-use Rattle.roam_conf.specs.Config.{ConfigView, PeerView, RealmView}
-use Rattle.roam_reload.specs.Differences.{IsAdded, IsFate, IsOtherPeer, IsOtherRealm, IsRemoved, RealmsDiffer}
+use Rattle.std.proofs.Common.{◌≡◌, ◌≢◌, ℕ, zero, suc, ◌<◌, List, [], ◌∷◌, ◌++◌, Some, None, map, option_map, length, slice_get, get_or, refl, ap, sym, ◌∙◌, arith}
+use Rattle.std.proofs.lemmas.List.{length-map}
+use Rattle.std.proofs.lemmas.Option.{none-some, same_Some, slice_get-get_or, slice_get_past}
+use Rattle.roam_conf.specs.Config.{ConfigView, RealmView}
+use Rattle.roam_reload.specs.Differences.{IsAdded, IsOtherPeer, IsOtherRealm, IsRemoved, RealmsDiffer}
 use Rattle.roam_reload.specs.Reload.{IsCarried, KeepsPeers, peer_part, realm_part}
 use Rattle.roam_reload.specs.declared.keys.RealmKey.{RealmKey}
 use Rattle.roam_reload.specs.declared.keys.RealmKey.TheVariants.{Out, Reverse, Tries, Wait, Hold, MaxPending, MaxSessions, Rest, RestAfter, Servers}
@@ -49,7 +48,7 @@ get_of_front (x ∷ xs) ys (suc i) lt = get_of_front xs ys i (omega (arith, lt))
 pub not_other_realm : (old new : ConfigView) (r : ℕ) (key : RealmKey) → IsOtherRealm old new r key → ¬ (IsCarried old new r)
 not_other_realm old new r key other = λ carried.
     let both : Some (realm_part other.after) ≡ Some (realm_part other.before) =
-        ap (option_map realm_part) (sym other.is_there) ∙ carried.table ∙ ap (option_map realm_part) other.was_there in
+    ap (option_map realm_part) (sym other.is_there) ∙ carried.table ∙ ap (option_map realm_part) other.was_there in
     other_part other.before other.after key other.differ (same_Some _ _ both)
 
 pub not_other_peer : (old new : ConfigView) (r p : ℕ) → IsOtherPeer old.peers new.peers p → ¬ (IsCarried old new r)
@@ -65,7 +64,7 @@ pub not_removed : (old new : ConfigView) (r : ℕ) → IsRemoved old new r → �
 not_removed old new r removed = λ carried.
     let away : slice_get new.realms r ≡ None = slice_get_past new.realms r removed.is_away in
     let never : None ≡ option_map realm_part (slice_get old.realms r) =
-        ap (option_map realm_part) (sym away) ∙ carried.table in
+    ap (option_map realm_part) (sym away) ∙ carried.table in
     let there : slice_get old.realms r ≡ Some (get_or old.realms r (no_realm)) = slice_get-get_or old.realms r no_realm removed.was_there in
     none-some _ (never ∙ ap (option_map realm_part) there)
 

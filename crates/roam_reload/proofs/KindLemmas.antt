@@ -1,5 +1,5 @@
 -- The kinds of the broker's own places in two configurations.
-use Rattle.std.proofs.Common.{◌≡◌, ◌≢◌, ℕ, Bool, true, false, ◌||◌, List, [], ◌∷◌, Option, Some, None, map, refl, ap, sym, subst, inl, inr, ◌∙◌}
+use Rattle.std.proofs.Common.{◌≡◌, ◌≢◌, Bool, true, false, ◌||◌, List, [], ◌∷◌, Some, None, refl, sym, subst, inl, inr, ◌∙◌}
 use Rattle.std.proofs.lemmas.Bool.{cases_Bool, true≢false, false≢true, or_cases, or_parts, or_left, or_right}
 use Rattle.std.proofs.lemmas.Option.{none-some, same_Some}
 use Rattle.std.specs.List.{find}
@@ -62,9 +62,9 @@ away3 : (config : ConfigView) (kind a b c : Kind) (e : Endpoint) → a ≢ kind 
 away3 config kind a b c e not_a not_b not_c some =
     elim (or_cases (is_among (endpoints_of config a) e || is_among (endpoints_of config b) e) (is_among (endpoints_of config c) e) some) [
       | inl most ↦ (elim (or_cases (is_among (endpoints_of config a) e) (is_among (endpoints_of config b) e) most) [
-          | inl first ↦ (record { after = a; there = first; differs = not_a })
-          | inr second ↦ (record { after = b; there = second; differs = not_b })
-        ])
+        | inl first ↦ (record { after = a; there = first; differs = not_a })
+        | inr second ↦ (record { after = b; there = second; differs = not_b })
+      ])
       | inr third ↦ (record { after = c; there = third; differs = not_c })
     ]
 
@@ -94,8 +94,7 @@ found test (x ∷ xs) e is =
     elim (cases_Bool (test x)) [
       | inl yes' ↦ (
           let same : Some x ≡ Some e = rw yes' at is in
-          let here : x ≡ e = same_Some x e same in
-          (
+          let here : x ≡ e = same_Some x e same in (
             or_left (same_endpoint e x) (is_among xs e) (subst (λ y. same_endpoint e y ≡ true) (sym here) (same_self e)),
             subst (λ y. test y ≡ true) here yes',
           ))

@@ -1,7 +1,7 @@
 -- Which of the old peers the new ones keep.
-use Rattle.std.proofs.Common.{◌≡◌, ◌≢◌, ℕ, ◌+◌, ◌<◌, ◌≤◌, Bool, true, false, List, [], ◌++◌, Option, Some, None, map, take, drop, length, slice_get, get_or, is_some, IfNone, IfSome, refl, ap, sym, inl, inr, ◌∙◌, arith}
+use Rattle.std.proofs.Common.{◌≡◌, ◌≢◌, ℕ, ◌+◌, ◌<◌, ◌≤◌, true, false, List, ◌++◌, Option, Some, None, map, take, drop, length, slice_get, get_or, is_some, IfNone, IfSome, ap, sym, inl, inr, ◌∙◌, arith}
 use Rattle.std.proofs.lemmas.Bool.{true≢false, false≢true}
-use Rattle.std.proofs.lemmas.List.{take-append-drop, take_all, take_more_same, length-map, get_or-map, get_or_default}
+use Rattle.std.proofs.lemmas.List.{take-append-drop, take_all, take_more_same, length-map, get_or-map}
 use Rattle.std.proofs.lemmas.Option.{none-some, same_Some, slice_get-get_or, slice_get_past, slice_get_cases}
 use Rattle.roam_conf.specs.Config.{PeerView}
 use Rattle.roam_conf.specs.Parts.{shown_peer}
@@ -85,6 +85,6 @@ other old new i o n in_old in_new is_old is_new differ =
       there = rw (length-map old shown_peer) in_old;
       differs = λ e.
           let same : Some (get_or (parts new) i d) ≡ Some (get_or (parts old) i d) =
-              sym (slice_get-get_or (parts new) i d here) ∙ e ∙ slice_get-get_or (parts old) i d there in
+          sym (slice_get-get_or (parts new) i d here) ∙ e ∙ slice_get-get_or (parts old) i d there in
           differ (sym (part_at new i n d in_new is_new) ∙ same_Some _ _ same ∙ part_at old i o d in_old is_old);
     }

@@ -1,5 +1,5 @@
 -- When a configuration may follow another while the broker serves, and which realms are carried over then. Ours.
-use Rattle.std.specs.Prelude.{◌≡◌, ℕ, ◌<◌, Bool, true, false, List, [], ◌∷◌, ◌++◌, map, option_map, length, slice_get}
+use Rattle.std.specs.Prelude.{◌≡◌, ℕ, ◌<◌, true, false, List, [], ◌∷◌, ◌++◌, map, option_map, length, slice_get}
 use Rattle.roam_conf.specs.Config.{ConfigView, PeerView, RealmView}
 use Rattle.roam_conf.specs.Duplicates.{is_among}
 use Rattle.roam_conf.specs.declared.endpoint.Endpoint.{Endpoint}

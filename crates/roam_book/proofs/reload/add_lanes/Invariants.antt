@@ -1,5 +1,4 @@
-use Rattle.std.proofs.Common.{◌≤◌, length, vec_len, vec_capacity, ◌≡◌}
-use Rattle.roam_book.specs.RealmConfig.{link_count}
+use Rattle.std.proofs.Common.{◌≤◌, vec_len, vec_capacity, ◌≡◌}
 use Rattle.roam_book.specs.MoreLanes.{AreMoreLanes}
 use Rattle.roam_book.proofs.reload.add_lanes.Given as goal
 

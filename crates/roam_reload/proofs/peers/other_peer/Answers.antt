@@ -1,5 +1,4 @@
-use Rattle.std.proofs.Common.{rules, ◌≡◌, refl, sym, ◌∙◌, arith}
-use Rattle.std.proofs.lemmas.List.{get_or_read}
+use Rattle.std.proofs.Common.{refl, sym, ◌∙◌, arith}
 use Rattle.roam_conf.specs.Parts.{shown_peer}
 use Rattle.roam_reload.proofs.PeerLemmas.{agrees, all_kept, differs, gone, one_more, other}
 use Rattle.roam_reload.proofs.peers.other_peer.Goals as goal
@@ -21,13 +20,12 @@ returns-then-i-new-clause-some c =
 pub loop-i-preserved : goal.loop-i-preserved
 loop-i-preserved c =
     let old = c.args.old.now in
-    let new = c.args.new.now in
-    (
+    let new = c.args.new.now in (
       refl,
       refl,
       one_more old new c.loop-i.i c.index-old-i.result c.index-new-i.result (omega arith) (omega arith) c.index-old-i.is c.index-new-i.is
-      (agrees (shown_peer c.index-old-i.result) (shown_peer c.index-new-i.result) c.peer_difference.result c.peer_difference.ensures.none (sym c.is_some.ensures ∙ c.if-is_some.false))
-      c.loop-i.invariant.2,
+          (agrees (shown_peer c.index-old-i.result) (shown_peer c.index-new-i.result) c.peer_difference.result c.peer_difference.ensures.none (sym c.is_some.ensures ∙ c.if-is_some.false))
+          c.loop-i.invariant.2,
     )
 
 -- all are

@@ -1,4 +1,4 @@
-use Rattle.std.proofs.Common.{◌≡◌, map, take, ◌≤◌, length}
+use Rattle.std.proofs.Common.{◌≡◌, map, take}
 use Rattle.roam_conf.specs.Parts.{shown_peer}
 use Rattle.roam_reload.specs.Reload.{peer_part}
 use Rattle.roam_reload.proofs.peers.other_peer.Given as goal

@@ -1,5 +1,5 @@
-use Rattle.std.proofs.Common.{◌≡◌, Bool, true, false, not, [], Option, Some, None, IfNone, List, map, refl, sym, ap, ◌∙◌, Global}
-use Rattle.std.proofs.lemmas.Bool.{true≢false, false≢true}
+use Rattle.std.proofs.Common.{◌≡◌, Bool, true, false, not, [], Option, Some, None, IfNone, List, map, refl, sym, ap, ◌∙◌}
+use Rattle.std.proofs.lemmas.Bool.{true≢false}
 use Rattle.std.specs.Cmp.Lexicographic.{pointwise}
 use Rattle.roam_conf.specs.Config.{RealmView}
 use Rattle.roam_conf.specs.Parts.{shown_realm, shown_server}
@@ -55,10 +55,10 @@ returns-else-ne-clause-none c =
     let old = c.args.old.now in
     let new = c.args.new.now in
     let out : new.out ≡ old.out =
-        sym ((endpoint_decides old.out new.out).0 (sym c.is_same_endpoint.ensures ∙ c.if-not-is_same_endpoint.false)) in
+    sym ((endpoint_decides old.out new.out).0 (sym c.is_same_endpoint.ensures ∙ c.if-not-is_same_endpoint.false)) in
     let reverse : new.reverse ≡ old.reverse =
-        sym ((endpoint_decides old.reverse new.reverse).0
-        (sym c.is_same_endpoint-else-not-is_same_endpoint.ensures ∙ c.if-not-is_same_endpoint-2.false)) in
+    sym ((endpoint_decides old.reverse new.reverse).0
+    (sym c.is_same_endpoint-else-not-is_same_endpoint.ensures ∙ c.if-not-is_same_endpoint-2.false)) in
     if_none c.limit_difference.result
     (same_part (shown_realm old) (shown_realm new) out reverse
     (sames old.servers.items new.servers.items c.ne.result c.ne.ensures c.if-ne.false))
