@@ -12,10 +12,12 @@ pub mod LinkLaneLemmas
 pub mod MemoryLemmas
 pub mod NakLemmas
 pub mod RealmLemmas
+pub mod ReloadLemmas
 pub mod ReplyLemmas
 pub mod RequestLemmas
 pub mod RestLemmas
 pub mod RoomLemmas
+pub mod SameBrokerLemmas
 pub mod SendingLemmas
 pub mod SoundLemmas
 pub mod TakenLaneLemmas

@@ -12,11 +12,13 @@ pub mod RestLaws
 -- What the contracts of public calls say beside that.
 pub mod BookView
 pub mod RealmTurn
+pub mod Reload
 pub mod Rooms
 pub mod Sound
 -- Words of private functions and of proofs alone.
 pub mod Fates
 pub mod Judged
 pub mod Memory
+pub mod MoreLanes
 pub mod NewEntry
 pub mod ReplyPlans

@@ -45,7 +45,7 @@ pub struct Numbers<A: Allocator> {
 }
 
 /// The tag of a lane: its realm's index, and the place of its link.
-fn tag_of(settings: &Settings<'_>, place: usize) -> u32
+pub(crate) fn tag_of(settings: &Settings<'_>, place: usize) -> u32
     requires { place < 1040 }
     ensures { result ≡ settings.now.index * 65536 + place }
 {
