@@ -168,13 +168,13 @@ unread-says : (words : List (List ℕ)) (configuration script : List ℕ) (path 
     Prevents words out out why
 unread-says words configuration script path out why named worded cases = elim cases [
   | inl memory ↦
-    let prevents : Prevents words out out fault.Memory =
-    (asks-for-it words configuration script worded, inl (Keeps-refl out)) in
-    subst (λ f. Prevents words out out f) (sym memory) prevents
+      let prevents : Prevents words out out fault.Memory =
+      (asks-for-it words configuration script worded, inl (Keeps-refl out)) in
+      subst (λ f. Prevents words out out f) (sym memory) prevents
   | inr there ↦
-    let prevents : Prevents words out out (fault.Unreadable path) =
-    ((to_simulate configuration script, worded, named), Keeps-refl out) in
-    subst (λ f. Prevents words out out f) (sym there) prevents
+      let prevents : Prevents words out out (fault.Unreadable path) =
+      ((to_simulate configuration script, worded, named), Keeps-refl out) in
+      subst (λ f. Prevents words out out f) (sym there) prevents
 ]
 
 -- one of the two files of a simulation isn't read
