@@ -1,0 +1,136 @@
+-- The kinds of the broker's own places in two configurations.
+use Rattle.std.proofs.Common.{◌≡◌, ◌≢◌, Bool, true, false, ◌||◌, List, [], ◌∷◌, Some, None, refl, sym, subst, inl, inr, ◌∙◌}
+use Rattle.std.proofs.lemmas.Bool.{cases_Bool, true≢false, false≢true, or_cases, or_parts, or_left, or_right}
+use Rattle.std.proofs.lemmas.Option.{none-some, same_Some}
+use Rattle.std.specs.List.{find}
+use Rattle.roam_conf.specs.Config.{ConfigView}
+use Rattle.roam_conf.specs.Duplicates.{is_among, same_endpoint}
+use Rattle.roam_conf.specs.declared.endpoint.Endpoint.{Endpoint}
+use Rattle.roam_conf.proofs.EqualLemmas.{endpoint_decides}
+use Rattle.roam_reload.specs.Differences.{HasMoved}
+use Rattle.roam_reload.specs.Moves.{is_moved}
+use Rattle.roam_reload.specs.Reload.{KeepsKinds, endpoints_of}
+use Rattle.roam_reload.specs.declared.kind.Kind.{Kind}
+use Rattle.roam_reload.specs.declared.kind.Kind.TheVariants.{Auth, Acct, Out, Reverse}
+
+-- an endpoint that isn't at a place of another kind is at none
+record AreFalse (a b c : Bool) : Type 0 where
+  first : a ≡ false
+  second : b ≡ false
+  third : c ≡ false
+
+kept3 : (a b c : Bool) → (a || b || c) ≡ false → AreFalse a b c
+kept3 a b c none =
+    let most = or_parts (a || b) c none in
+    let first = or_parts a b most.0 in
+    record { first = first.0; second = first.1; third = most.1 }
+
+clash : {P : Type 0} (a : Bool) → a ≡ true → a ≡ false → P
+clash a yes' no' = absurd (true≢false (sym yes' ∙ no'))
+
+-- whether an endpoint is at a place of a kind
+abbrev at : ConfigView → Kind → Endpoint → Bool
+at config kind e = is_among (endpoints_of config kind) e
+
+pub stays : (config : ConfigView) (kind after : Kind) (e : Endpoint) → is_moved config kind e ≡ false → is_among (endpoints_of config after) e ≡ true → after ≡ kind
+stays config Auth Auth e none there = refl
+stays config Auth Acct e none there = clash (at config Acct e) there (kept3 (at config Acct e) (at config Out e) (at config Reverse e) none).first
+stays config Auth Out e none there = clash (at config Out e) there (kept3 (at config Acct e) (at config Out e) (at config Reverse e) none).second
+stays config Auth Reverse e none there = clash (at config Reverse e) there (kept3 (at config Acct e) (at config Out e) (at config Reverse e) none).third
+stays config Acct Auth e none there = clash (at config Auth e) there (kept3 (at config Auth e) (at config Out e) (at config Reverse e) none).first
+stays config Acct Acct e none there = refl
+stays config Acct Out e none there = clash (at config Out e) there (kept3 (at config Auth e) (at config Out e) (at config Reverse e) none).second
+stays config Acct Reverse e none there = clash (at config Reverse e) there (kept3 (at config Auth e) (at config Out e) (at config Reverse e) none).third
+stays config Out Auth e none there = clash (at config Auth e) there (kept3 (at config Auth e) (at config Acct e) (at config Reverse e) none).first
+stays config Out Acct e none there = clash (at config Acct e) there (kept3 (at config Auth e) (at config Acct e) (at config Reverse e) none).second
+stays config Out Out e none there = refl
+stays config Out Reverse e none there = clash (at config Reverse e) there (kept3 (at config Auth e) (at config Acct e) (at config Reverse e) none).third
+stays config Reverse Auth e none there = clash (at config Auth e) there (kept3 (at config Auth e) (at config Acct e) (at config Out e) none).first
+stays config Reverse Acct e none there = clash (at config Acct e) there (kept3 (at config Auth e) (at config Acct e) (at config Out e) none).second
+stays config Reverse Out e none there = clash (at config Out e) there (kept3 (at config Auth e) (at config Acct e) (at config Out e) none).third
+stays config Reverse Reverse e none there = refl
+
+-- one that is at such a place
+record IsAway (config : ConfigView) (kind : Kind) (e : Endpoint) : Type 0 where
+  after : Kind
+  there : is_among (endpoints_of config after) e ≡ true
+  differs : after ≢ kind
+
+away3 : (config : ConfigView) (kind a b c : Kind) (e : Endpoint) → a ≢ kind → b ≢ kind → c ≢ kind
+    → (is_among (endpoints_of config a) e || is_among (endpoints_of config b) e || is_among (endpoints_of config c) e) ≡ true
+    → IsAway config kind e
+away3 config kind a b c e not_a not_b not_c some =
+    elim (or_cases (is_among (endpoints_of config a) e || is_among (endpoints_of config b) e) (is_among (endpoints_of config c) e) some) [
+      | inl most ↦ (elim (or_cases (is_among (endpoints_of config a) e) (is_among (endpoints_of config b) e) most) [
+        | inl first ↦ (record { after = a; there = first; differs = not_a })
+        | inr second ↦ (record { after = b; there = second; differs = not_b })
+      ])
+      | inr third ↦ (record { after = c; there = third; differs = not_c })
+    ]
+
+away : (config : ConfigView) (kind : Kind) (e : Endpoint) → is_moved config kind e ≡ true → IsAway config kind e
+away config Auth e moved = away3 config Auth Acct Out Reverse e (λ h. cc) (λ h. cc) (λ h. cc) moved
+away config Acct e moved = away3 config Acct Auth Out Reverse e (λ h. cc) (λ h. cc) (λ h. cc) moved
+away config Out e moved = away3 config Out Auth Acct Reverse e (λ h. cc) (λ h. cc) (λ h. cc) moved
+away config Reverse e moved = away3 config Reverse Auth Acct Out e (λ h. cc) (λ h. cc) (λ h. cc) moved
+
+-- an endpoint of this kind in the old configuration that is at a place of another kind in the new one
+pub moves : (old new : ConfigView) (kind : Kind) (e : Endpoint) → is_among (endpoints_of old kind) e ≡ true → is_moved new kind e ≡ true → HasMoved old new e
+moves old new kind e was moved =
+    let there = away new kind e moved in
+    record { before = kind; after = there.after; was_there = was; is_there = there.there; differ = there.differs }
+
+-- an endpoint is the same as itself
+same_self : (e : Endpoint) → same_endpoint e e ≡ true
+same_self e = (endpoint_decides e e).1 refl
+
+pub alone : (e : Endpoint) → is_among (e ∷ []) e ≡ true
+alone e = or_left (same_endpoint e e) false (same_self e)
+
+-- what is looked for and found is there, and passes
+pub found : (test : Endpoint → Bool) (es : List Endpoint) (e : Endpoint) → find test es ≡ Some e → (is_among es e ≡ true) × (test e ≡ true)
+found test [] e is = absurd (none-some e is)
+found test (x ∷ xs) e is =
+    elim (cases_Bool (test x)) [
+      | inl yes' ↦ (
+          let same : Some x ≡ Some e = rw yes' at is in
+          let here : x ≡ e = same_Some x e same in (
+            or_left (same_endpoint e x) (is_among xs e) (subst (λ y. same_endpoint e y ≡ true) (sym here) (same_self e)),
+            subst (λ y. test y ≡ true) here yes',
+          ))
+      | inr no' ↦ (
+          let rest : find test xs ≡ Some e = rw no' at is in
+          let later = found test xs e rest in
+          (or_right (same_endpoint e x) (is_among xs e) later.0, later.1))
+    ]
+
+-- where nothing is found, nothing that is there passes
+pub missed : (test : Endpoint → Bool) (es : List Endpoint) (e : Endpoint) → find test es ≡ None → is_among es e ≡ true → test e ≡ false
+missed test [] e is there = absurd (false≢true there)
+missed test (x ∷ xs) e is there =
+    elim (cases_Bool (test x)) [
+      | inl yes' ↦ (let some : Some x ≡ None = rw yes' at is in absurd (none-some x (sym some)))
+      | inr no' ↦ (
+          let rest : find test xs ≡ None = rw no' at is in
+          elim (or_cases (same_endpoint e x) (is_among xs e) there) [
+            | inl here ↦ (subst (λ y. test y ≡ false) (sym ((endpoint_decides e x).0 here)) no')
+            | inr later ↦ (missed test xs e rest later)
+          ])
+    ]
+
+-- the only one
+only : (test : Endpoint → Bool) (x e : Endpoint) → test x ≡ false → is_among (x ∷ []) e ≡ true → test e ≡ false
+only test x e none there =
+    elim (or_cases (same_endpoint e x) false there) [
+      | inl here ↦ (subst (λ y. test y ≡ false) (sym ((endpoint_decides e x).0 here)) none)
+      | inr never ↦ (absurd (false≢true never))
+    ]
+
+-- nothing has moved
+pub all_stay : (old new : ConfigView) → is_moved new Auth old.auth ≡ false → is_moved new Acct old.acct ≡ false
+    → find (is_moved new Out) (endpoints_of old Out) ≡ None → find (is_moved new Reverse) (endpoints_of old Reverse) ≡ None
+    → KeepsKinds old new
+all_stay old new auth acct out reverse Auth after e was is = stays new Auth after e (only (is_moved new Auth) old.auth e auth was) is
+all_stay old new auth acct out reverse Acct after e was is = stays new Acct after e (only (is_moved new Acct) old.acct e acct was) is
+all_stay old new auth acct out reverse Out after e was is = stays new Out after e (missed (is_moved new Out) (endpoints_of old Out) e out was) is
+all_stay old new auth acct out reverse Reverse after e was is = stays new Reverse after e (missed (is_moved new Reverse) (endpoints_of old Reverse) e reverse was) is

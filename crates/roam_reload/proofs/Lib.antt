@@ -1,0 +1,3 @@
+pub mod PeerLemmas
+pub mod KindLemmas
+pub mod FateLemmas

@@ -1,0 +1,79 @@
+-- Why a configuration may not follow another, and why a realm isn't carried over. Ours.
+use Rattle.std.specs.Prelude.{◌≡◌, ◌≢◌, ℕ, ◌<◌, ◌≤◌, true, List, map, Some, length, slice_get}
+use Rattle.roam_conf.specs.Config.{ConfigView, PeerView, RealmView}
+use Rattle.roam_conf.specs.Duplicates.{is_among}
+use Rattle.roam_conf.specs.declared.endpoint.Endpoint.{Endpoint}
+use Rattle.roam_reload.specs.Reload.{IsCarried, endpoints_of, peer_part}
+use Rattle.roam_reload.specs.declared.fate.Fate.{Fate}
+use Rattle.roam_reload.specs.declared.fate.Fate.TheVariants as fate
+use Rattle.roam_reload.specs.declared.hindrance.Hindrance.{Hindrance}
+use Rattle.roam_reload.specs.declared.hindrance.Hindrance.TheVariants as hindrance
+use Rattle.roam_reload.specs.declared.keys.PeerKey.{PeerKey}
+use Rattle.roam_reload.specs.declared.keys.PeerKey.TheVariants as peer_key
+use Rattle.roam_reload.specs.declared.keys.RealmKey.{RealmKey}
+use Rattle.roam_reload.specs.declared.keys.RealmKey.TheVariants as realm_key
+use Rattle.roam_reload.specs.declared.kind.Kind.{Kind}
+
+-- the two tables of a realm differ in a key; the two of a peer
+abbrev pub RealmsDiffer : RealmView → RealmView → RealmKey → Type 0
+RealmsDiffer old new realm_key.Out = new.out ≢ old.out
+RealmsDiffer old new realm_key.Reverse = new.reverse ≢ old.reverse
+RealmsDiffer old new realm_key.Tries = new.tries ≢ old.tries
+RealmsDiffer old new realm_key.Wait = new.wait ≢ old.wait
+RealmsDiffer old new realm_key.Hold = new.hold ≢ old.hold
+RealmsDiffer old new realm_key.MaxPending = new.max_pending ≢ old.max_pending
+RealmsDiffer old new realm_key.MaxSessions = new.max_sessions ≢ old.max_sessions
+RealmsDiffer old new realm_key.Rest = new.rest ≢ old.rest
+RealmsDiffer old new realm_key.RestAfter = new.rest_after ≢ old.rest_after
+RealmsDiffer old new realm_key.Servers = new.servers ≢ old.servers
+
+abbrev pub PeersDiffer : PeerView → PeerView → PeerKey → Type 0
+PeersDiffer old new peer_key.Ip = new.ip ≢ old.ip
+PeersDiffer old new peer_key.Secret = new.secret ≢ old.secret
+PeersDiffer old new peer_key.Coa = new.coa ≢ old.coa
+PeersDiffer old new peer_key.NasIp = new.nas_ip ≢ old.nas_ip
+PeersDiffer old new peer_key.NasId = new.nas_id ≢ old.nas_id
+
+-- the old peer of an index isn't the new one
+pub record IsOtherPeer (old new : List PeerView) (peer : ℕ) : Type 0 where
+  pub there : peer < length old
+  pub differs : slice_get (map peer_part new) peer ≢ slice_get (map peer_part old) peer
+
+-- both configurations have a realm of this index, and their tables differ in a key
+pub record IsOtherRealm (old new : ConfigView) (realm : ℕ) (key : RealmKey) : Type 0 where
+  pub before : RealmView
+  pub after : RealmView
+  pub was_there : slice_get old.realms realm ≡ Some before
+  pub is_there : slice_get new.realms realm ≡ Some after
+  pub differ : RealmsDiffer before after key
+
+-- the old configuration has no realm of this index; the new one has none
+pub record IsAdded (old : ConfigView) (realm : ℕ) : Type 0 where
+  pub was_away : length old.realms ≤ realm
+
+pub record IsRemoved (old new : ConfigView) (realm : ℕ) : Type 0 where
+  pub was_there : realm < length old.realms
+  pub is_away : length new.realms ≤ realm
+
+-- what becomes of the realm of an index, and why
+abbrev pub IsFate : ConfigView → ConfigView → ℕ → Fate → Type 0
+IsFate old new realm fate.CarriedOver = IsCarried old new realm
+IsFate old new realm (fate.OtherTable key) = IsOtherRealm old new realm key
+IsFate old new realm (fate.OtherPeer peer) = IsOtherPeer old.peers new.peers peer
+IsFate old new realm fate.Added = IsAdded old realm
+IsFate old new realm fate.Removed = IsRemoved old new realm
+
+-- an endpoint is at places of two kinds
+pub record HasMoved (old new : ConfigView) (endpoint : Endpoint) : Type 0 where
+  pub before : Kind
+  pub after : Kind
+  pub was_there : is_among (endpoints_of old before) endpoint ≡ true
+  pub is_there : is_among (endpoints_of new after) endpoint ≡ true
+  pub differ : after ≢ before
+
+-- why a configuration may not follow another
+abbrev pub Hinders : ConfigView → ConfigView → Hindrance → Type 0
+Hinders old new hindrance.Seed = new.seed ≢ old.seed
+Hinders old new hindrance.Shards = new.shards ≢ old.shards
+Hinders old new hindrance.Spread = new.spread ≢ old.spread
+Hinders old new (hindrance.Endpoint endpoint) = HasMoved old new endpoint

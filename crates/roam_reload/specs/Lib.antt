@@ -1,0 +1,5 @@
+pub mod Reload
+pub mod Differences
+-- Words of private functions alone.
+pub mod Moves
+pub mod SameLimits

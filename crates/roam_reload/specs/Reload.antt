@@ -1,0 +1,47 @@
+-- When a configuration may follow another while the broker serves, and which realms are carried over then. Ours.
+use Rattle.std.specs.Prelude.{◌≡◌, ℕ, ◌<◌, true, false, List, [], ◌∷◌, ◌++◌, map, option_map, length, slice_get}
+use Rattle.roam_conf.specs.Config.{ConfigView, PeerView, RealmView}
+use Rattle.roam_conf.specs.Duplicates.{is_among}
+use Rattle.roam_conf.specs.declared.endpoint.Endpoint.{Endpoint}
+use Rattle.roam_reload.specs.declared.kind.Kind.{Kind}
+use Rattle.roam_reload.specs.declared.kind.Kind.TheVariants.{Auth, Acct, Out, Reverse}
+
+-- what a realm's packets depend on in its table: all but what names it
+abbrev pub realm_part : RealmView → RealmView
+realm_part realm = record realm { name = []; also = [] }
+
+-- what they depend on in a peer's table: all but its name, and whether its Access-Requests need a
+-- Message-Authenticator
+abbrev pub peer_part : PeerView → PeerView
+peer_part peer = record peer { name = []; require_seal = false }
+
+-- the old peers are the first of the new ones, in this part of their tables
+pub record KeepsPeers (old new : List PeerView) : Type 0 where
+  pub more : List PeerView
+  pub same : map peer_part new ≡ map peer_part old ++ more
+
+-- a realm is carried over: it stands at the same index with an equal part of its table, and the old peers stay
+pub record IsCarried (old new : ConfigView) (realm : ℕ) : Type 0 where
+  pub there : realm < length old.realms
+  pub table : option_map realm_part (slice_get new.realms realm) ≡ option_map realm_part (slice_get old.realms realm)
+  pub peers : KeepsPeers old.peers new.peers
+
+-- the endpoints of the broker's own places of a kind
+abbrev pub endpoints_of : ConfigView → Kind → List Endpoint
+endpoints_of config Auth = config.auth ∷ []
+endpoints_of config Acct = config.acct ∷ []
+endpoints_of config Out = map (λ realm. realm.out) config.realms
+endpoints_of config Reverse = map (λ realm. realm.reverse) config.realms
+
+-- an endpoint that both have is at places of one kind
+abbrev pub KeepsKinds : ConfigView → ConfigView → Type 0
+KeepsKinds old new = (before after : Kind) (endpoint : Endpoint)
+    → is_among (endpoints_of old before) endpoint ≡ true → is_among (endpoints_of new after) endpoint ≡ true
+    → after ≡ before
+
+-- a configuration may follow another
+pub record MayFollow (old new : ConfigView) : Type 0 where
+  pub seed : new.seed ≡ old.seed
+  pub shards : new.shards ≡ old.shards
+  pub spread : new.spread ≡ old.spread
+  pub kinds : KeepsKinds old new

@@ -1,0 +1,58 @@
+//! The keys by which two tables of a realm or of a peer differ.
+
+/// A key of a realm's table; `name` and `also` aside.
+#[derive(Clone, Copy, Debug, PartialEq, Eq)]
+pub enum RealmKey {
+    Out,
+    Reverse,
+    Tries,
+    Wait,
+    Hold,
+    MaxPending,
+    MaxSessions,
+    Rest,
+    RestAfter,
+    /// The tables `server`: their number, or any of their keys.
+    Servers,
+}
+
+/// A key of a peer's table; `name` and `require_seal` aside.
+#[derive(Clone, Copy, Debug, PartialEq, Eq)]
+pub enum PeerKey {
+    Ip,
+    Secret,
+    Coa,
+    NasIp,
+    NasId,
+}
+
+impl RealmKey {
+    /// The key as it is written in a configuration.
+    pub fn name(self) -> &'static str {
+        match self {
+            RealmKey::Out => "out",
+            RealmKey::Reverse => "reverse",
+            RealmKey::Tries => "tries",
+            RealmKey::Wait => "wait",
+            RealmKey::Hold => "hold",
+            RealmKey::MaxPending => "max_pending",
+            RealmKey::MaxSessions => "max_sessions",
+            RealmKey::Rest => "rest",
+            RealmKey::RestAfter => "rest_after",
+            RealmKey::Servers => "server",
+        }
+    }
+}
+
+impl PeerKey {
+    /// The key as it is written in a configuration.
+    pub fn name(self) -> &'static str {
+        match self {
+            PeerKey::Ip => "ip",
+            PeerKey::Secret => "secret",
+            PeerKey::Coa => "coa",
+            PeerKey::NasIp => "nas_ip",
+            PeerKey::NasId => "nas_id",
+        }
+    }
+}

@@ -1,0 +1,73 @@
+//! The kinds of the broker's own places.
+
+ghost use Rattle.std.specs.Prelude.{◌≡◌, map};
+ghost use Rattle.std.specs.List.{list_any};
+ghost use Rattle.roam_conf.specs.Duplicates.{is_among};
+ghost use Rattle.roam_conf.specs.Parts.{shown_realm};
+ghost use Rattle.roam_conf.specs.Shown.{shown};
+ghost use Rattle.roam_reload.specs.Moves.{is_moved};
+ghost use Rattle.roam_reload.specs.Reload.{endpoints_of};
+
+use roam_conf::{Config, Endpoint, Realm, is_same_endpoint};
+
+/// A kind of the broker's own places: which packets come in there.
+#[derive(Clone, Copy, Debug, PartialEq, Eq)]
+pub enum Kind {
+    /// Access-Requests of access servers (RFC 2865).
+    Auth,
+    /// Accounting-Requests of access servers (RFC 2866).
+    Acct,
+    /// Replies of home servers and access servers to what was forwarded.
+    Out,
+    /// Disconnect- and CoA-Requests of home servers (RFC 5176).
+    Reverse,
+}
+
+/// Whether an endpoint is a realm's `out`.
+fn is_out(realms: &[Realm], endpoint: Endpoint) -> bool
+    ensures { result ≡ is_among (map (λ realm. realm.out) (map shown_realm realms.now)) endpoint }
+{
+    for realm in realms {
+        if is_same_endpoint(endpoint, realm.out) {
+            return true;
+        }
+    }
+    false
+}
+
+/// Whether an endpoint is a realm's `reverse`.
+fn is_reverse(realms: &[Realm], endpoint: Endpoint) -> bool
+    ensures { result ≡ is_among (map (λ realm. realm.reverse) (map shown_realm realms.now)) endpoint }
+{
+    for realm in realms {
+        if is_same_endpoint(endpoint, realm.reverse) {
+            return true;
+        }
+    }
+    false
+}
+
+/// Whether an endpoint is one of the broker's own places of a kind.
+fn is_at(config: &Config, kind: Kind, endpoint: Endpoint) -> bool
+    ensures { result ≡ is_among (endpoints_of (shown config.now) kind) endpoint }
+{
+    match kind {
+        Kind::Auth => is_same_endpoint(endpoint, config.auth),
+        Kind::Acct => is_same_endpoint(endpoint, config.acct),
+        Kind::Out => is_out(config.realms.as_slice(), endpoint),
+        Kind::Reverse => is_reverse(config.realms.as_slice(), endpoint),
+    }
+}
+
+/// Whether an endpoint is a place of another kind than this.
+pub(crate) fn is_moved(config: &Config, kind: Kind, endpoint: Endpoint) -> bool
+    ensures { result ≡ is_moved (shown config.now) kind endpoint }
+{
+    let [one, other, third] = match kind {
+        Kind::Auth => [Kind::Acct, Kind::Out, Kind::Reverse],
+        Kind::Acct => [Kind::Auth, Kind::Out, Kind::Reverse],
+        Kind::Out => [Kind::Auth, Kind::Acct, Kind::Reverse],
+        Kind::Reverse => [Kind::Auth, Kind::Acct, Kind::Out],
+    };
+    is_at(config, one, endpoint) || is_at(config, other, endpoint) || is_at(config, third, endpoint)
+}

@@ -1,0 +1,43 @@
+//! Which peer isn't the same in two configurations, and in which key.
+
+ghost use Rattle.std.specs.Prelude.{◌≡◌, IfNone, IfSome, map};
+ghost use Rattle.roam_conf.specs.Parts.{shown_peer};
+ghost use Rattle.roam_reload.specs.Differences.{IsOtherPeer, PeersDiffer};
+ghost use Rattle.roam_reload.specs.Reload.{KeepsPeers, peer_part};
+
+use crate::keys::PeerKey;
+use roam_conf::Peer;
+
+/// The first key in which two tables of a peer differ, its `name` and `require_seal` aside.
+pub fn peer_difference(old: &Peer, new: &Peer) -> Option<PeerKey>
+    ensures none { IfNone result (peer_part (shown_peer new.now) ≡ peer_part (shown_peer old.now)) }
+    ensures some { IfSome result (PeersDiffer (shown_peer old.now) (shown_peer new.now)) }
+{
+    if old.ip != new.ip {
+        Some(PeerKey::Ip)
+    } else if old.secret != new.secret {
+        Some(PeerKey::Secret)
+    } else if old.coa != new.coa {
+        Some(PeerKey::Coa)
+    } else if old.nas_ip != new.nas_ip {
+        Some(PeerKey::NasIp)
+    } else if old.nas_id != new.nas_id {
+        Some(PeerKey::NasId)
+    } else {
+        None
+    }
+}
+
+/// The first of the old peers that the new ones don't have at its index, or have there with another table, its
+/// `name` and `require_seal` aside.
+pub fn other_peer(old: &[Peer], new: &[Peer]) -> Option<usize>
+    ensures none { IfNone result (KeepsPeers (map shown_peer old.now) (map shown_peer new.now)) }
+    ensures some { IfSome result (IsOtherPeer (map shown_peer old.now) (map shown_peer new.now)) }
+{
+    for i in 0..old.len() {
+        if i >= new.len() || peer_difference(&old[i], &new[i]).is_some() {
+            return Some(i);
+        }
+    }
+    None
+}

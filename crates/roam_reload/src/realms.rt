@@ -1,0 +1,50 @@
+//! In which key two tables of a realm differ.
+
+ghost use Rattle.std.specs.Prelude.{◌≡◌, IfNone, IfSome};
+ghost use Rattle.roam_conf.specs.Parts.{shown_realm};
+ghost use Rattle.roam_reload.specs.Differences.{RealmsDiffer};
+ghost use Rattle.roam_reload.specs.Reload.{realm_part};
+ghost use Rattle.roam_reload.specs.SameLimits.{HaveSameLimits};
+
+use crate::keys::RealmKey;
+use roam_conf::{Realm, is_same_endpoint};
+
+/// The first key of a realm's times and limits in which two tables differ.
+fn limit_difference(old: &Realm, new: &Realm) -> Option<RealmKey>
+    ensures none { IfNone result (HaveSameLimits (shown_realm old.now) (shown_realm new.now)) }
+    ensures some { IfSome result (RealmsDiffer (shown_realm old.now) (shown_realm new.now)) }
+{
+    if old.tries != new.tries {
+        Some(RealmKey::Tries)
+    } else if old.wait != new.wait {
+        Some(RealmKey::Wait)
+    } else if old.hold != new.hold {
+        Some(RealmKey::Hold)
+    } else if old.max_pending != new.max_pending {
+        Some(RealmKey::MaxPending)
+    } else if old.max_sessions != new.max_sessions {
+        Some(RealmKey::MaxSessions)
+    } else if old.rest != new.rest {
+        Some(RealmKey::Rest)
+    } else if old.rest_after != new.rest_after {
+        Some(RealmKey::RestAfter)
+    } else {
+        None
+    }
+}
+
+/// The first key in which two tables of a realm differ, its `name` and `also` aside.
+pub fn realm_difference(old: &Realm, new: &Realm) -> Option<RealmKey>
+    ensures none { IfNone result (realm_part (shown_realm new.now) ≡ realm_part (shown_realm old.now)) }
+    ensures some { IfSome result (RealmsDiffer (shown_realm old.now) (shown_realm new.now)) }
+{
+    if !is_same_endpoint(old.out, new.out) {
+        Some(RealmKey::Out)
+    } else if !is_same_endpoint(old.reverse, new.reverse) {
+        Some(RealmKey::Reverse)
+    } else if old.servers != new.servers {
+        Some(RealmKey::Servers)
+    } else {
+        limit_difference(old, new)
+    }
+}
