@@ -5,11 +5,11 @@ use Rattle.std.proofs.KnownBytes.{Keeps-refl}
 use Rattle.std.specs.Borrow.{Bor}
 use Rattle.std.specs.Io.KnownBytes.{Keeps}
 use Rattle.roam_sim.specs.Simulation.{SimulatesInPart}
-use Rattle.roam.specs.CommandLine.{to_control, to_simulate, to_serve, to_serve_with_its_seed, Asks, AsksToServeIt, AsksToServe, AsksNothing}
+use Rattle.roam.specs.CommandLine.{Asked, to_compare, to_control, to_simulate, to_serve, to_serve_with_its_seed, Asks, AsksToServeIt, AsksToServe, AsksNothing, files_of}
 use Rattle.roam.specs.declared.text_file.TextFile.{TextFile}
 use Rattle.roam.specs.declared.report.Fault.{Fault}
 use Rattle.roam.specs.declared.report.Fault.TheVariants as fault
-use Rattle.roam.specs.Outcomes.{text_in, RunFails, ServeFails, NamesConfiguration, NamesFile, IsAnsweredInPart, Prevents}
+use Rattle.roam.specs.Outcomes.{text_in, CompareFails, IsRefused, RunFails, ServeFails, NamesConfiguration, NamesFile, IsAnsweredInPart, Prevents}
 use Rattle.roam.specs.Report.{status_of}
 
 -- some events were lost, or the output is as it was
@@ -37,7 +37,7 @@ run-prevents words configuration script old new (Err fault.Usage) worded fails =
 run-prevents words configuration script old new (Err (fault.Unreadable path)) worded fails = absurd fails
 run-prevents words configuration script old new (Err (fault.Unanswered path)) worded fails = absurd fails
 run-prevents words configuration script old new (Err (fault.Refused path why)) worded fails =
-    ((to_simulate configuration.path.now script.path.now, worded, ap Some (sym fails.0.named)), fails.1)
+    ((to_simulate configuration.path.now script.path.now, worded, sym fails.0.named), fails.1)
 run-prevents words configuration script old new (Err (fault.FaultyLine path number)) worded fails =
     ((configuration.path.now, rw fails.0.named worded), fails.2)
 run-prevents words configuration script old new (Err fault.Write) worded fails =
@@ -59,8 +59,8 @@ run-prevents words configuration script old new (Err fault.Audit) worded fails =
 names-it : (words : List (List ℕ)) (path given : List ℕ) (milliseconds : Option ℕ) → path ≡ given →
     AsksToServeIt words given milliseconds → NamesConfiguration words path
 names-it words path given milliseconds same asks = elim asks [
-  | inl drawn ↦ (to_serve given milliseconds, drawn, ap Some (sym same))
-  | inr its_own ↦ (to_serve_with_its_seed given milliseconds, its_own, ap Some (sym same))
+  | inl drawn ↦ (to_serve given milliseconds, drawn, sym same)
+  | inr its_own ↦ (to_serve_with_its_seed given milliseconds, its_own, sym same)
 ]
 
 -- and ask for something
@@ -152,52 +152,49 @@ first-of-two a b = Contains-append_left (a ∷ []) (b ∷ []) a (Contains-push [
 second-of-two : (a b : List ℕ) → Contains (a ∷ b ∷ []) b
 second-of-two a b = Contains-push (a ∷ []) b
 
--- the words of a simulation ask for something
-asks-for-it : (words : List (List ℕ)) (configuration script : List ℕ) →
-    Asks words (to_simulate configuration script) → ¬ (AsksNothing words)
-asks-for-it words configuration script worded nothing = nothing (to_simulate configuration script) worded
+-- words that ask for something don't ask for nothing
+asks-for-it : (words : List (List ℕ)) (asked : Asked) → Asks words asked → ¬ (AsksNothing words)
+asks-for-it words asked worded nothing = nothing asked worded
 
 -- what isn't an error is none
 not-both : {T E : Type 0} (x : T) (e : E) → Ok x ≡ Err e → ⊥
 not-both x e same = cc
 
 -- what a file that isn't read says to words that name it
-unread-says : (words : List (List ℕ)) (configuration script : List ℕ) (path : Bor (List ℕ)) (out : Option (List ℕ))
-    (why : Fault) → Contains (configuration ∷ script ∷ []) path.now →
-    Asks words (to_simulate configuration script) → (why ≡ fault.Memory) ⊎ (why ≡ fault.Unreadable path) →
-    Prevents words out out why
-unread-says words configuration script path out why named worded cases = elim cases [
+unread-says : (words : List (List ℕ)) (asked : Asked) (path : Bor (List ℕ)) (out : Option (List ℕ)) (why : Fault) →
+    Contains (files_of asked) path.now → Asks words asked →
+    (why ≡ fault.Memory) ⊎ (why ≡ fault.Unreadable path) → Prevents words out out why
+unread-says words asked path out why named worded cases = elim cases [
   | inl memory ↦
-      let prevents : Prevents words out out fault.Memory =
-      (asks-for-it words configuration script worded, inl (Keeps-refl out)) in
+      let prevents : Prevents words out out fault.Memory = (asks-for-it words asked worded, inl (Keeps-refl out)) in
       subst (λ f. Prevents words out out f) (sym memory) prevents
   | inr there ↦
-      let prevents : Prevents words out out (fault.Unreadable path) =
-      ((to_simulate configuration script, worded, named), Keeps-refl out) in
+      let prevents : Prevents words out out (fault.Unreadable path) = ((asked, worded, named), Keeps-refl out) in
       subst (λ f. Prevents words out out f) (sym there) prevents
 ]
 
--- one of the two files of a simulation isn't read
-unread-prevents : {T U : Type 0} (configuration script : List ℕ) (path : Bor (List ℕ)) (out : Option (List ℕ))
-    (why : Fault) (read : Result T Fault) (told : Result U Fault) →
-    Contains (configuration ∷ script ∷ []) path.now → read ≡ Err why → IsErrAnd told (λ given. given ≡ why) →
+-- one of the files isn't read
+unread-prevents : {T U : Type 0} (asked : Asked) (path : Bor (List ℕ)) (out : Option (List ℕ)) (why : Fault)
+    (read : Result T Fault) (told : Result U Fault) →
+    Contains (files_of asked) path.now → read ≡ Err why → IsErrAnd told (λ given. given ≡ why) →
     IfErr read (λ f. (f ≡ fault.Memory) ⊎ (f ≡ fault.Unreadable path)) →
-    IfErr told (λ f. (words : List (List ℕ)) → Asks words (to_simulate configuration script) → Prevents words out out f)
-unread-prevents configuration script path out why (Ok x) told named was same unread = absurd (not-both x why was)
-unread-prevents configuration script path out why (Err e) (Ok y) named was same unread = tt
-unread-prevents configuration script path out why (Err e) (Err given) named was same unread = λ words worded.
+    IfErr told (λ f. (words : List (List ℕ)) → Asks words asked → Prevents words out out f)
+unread-prevents asked path out why (Ok x) told named was same unread = absurd (not-both x why was)
+unread-prevents asked path out why (Err e) (Ok y) named was same unread = tt
+unread-prevents asked path out why (Err e) (Err given) named was same unread = λ words worded.
     let given-is : given ≡ why = same in
     let read-is : e ≡ why = cc in
     let cases = subst (λ f. (f ≡ fault.Memory) ⊎ (f ≡ fault.Unreadable path)) (read-is ∙ sym given-is) unread in
-    unread-says words configuration script path out given named worded cases
+    unread-says words asked path out given named worded cases
 
+-- the first of the two files of a simulation isn't read, and the second
 pub unread-configuration-prevents : {T U : Type 0} (configuration : Bor (List ℕ)) (script : List ℕ)
     (out : Option (List ℕ)) (why : Fault) (read : Result T Fault) (told : Result U Fault) →
     read ≡ Err why → IsErrAnd told (λ given. given ≡ why) →
     IfErr read (λ f. (f ≡ fault.Memory) ⊎ (f ≡ fault.Unreadable configuration)) →
     IfErr told (λ f. (words : List (List ℕ)) → Asks words (to_simulate configuration.now script) → Prevents words out out f)
 unread-configuration-prevents configuration script out why read told was same unread =
-    unread-prevents configuration.now script configuration out why read told
+    unread-prevents (to_simulate configuration.now script) configuration out why read told
     (first-of-two configuration.now script) was same unread
 
 pub unread-script-prevents : {T U : Type 0} (configuration : List ℕ) (script : Bor (List ℕ))
@@ -206,8 +203,27 @@ pub unread-script-prevents : {T U : Type 0} (configuration : List ℕ) (script :
     IfErr read (λ f. (f ≡ fault.Memory) ⊎ (f ≡ fault.Unreadable script)) →
     IfErr told (λ f. (words : List (List ℕ)) → Asks words (to_simulate configuration script.now) → Prevents words out out f)
 unread-script-prevents configuration script out why read told was same unread =
-    unread-prevents configuration script.now script out why read told
+    unread-prevents (to_simulate configuration script.now) script out why read told
     (second-of-two configuration script.now) was same unread
+
+-- the first of the two files of a comparison isn't read, and the second
+pub unread-old-prevents : {T U : Type 0} (configuration : Bor (List ℕ)) (next : List ℕ)
+    (out : Option (List ℕ)) (why : Fault) (read : Result T Fault) (told : Result U Fault) →
+    read ≡ Err why → IsErrAnd told (λ given. given ≡ why) →
+    IfErr read (λ f. (f ≡ fault.Memory) ⊎ (f ≡ fault.Unreadable configuration)) →
+    IfErr told (λ f. (words : List (List ℕ)) → Asks words (to_compare configuration.now next) → Prevents words out out f)
+unread-old-prevents configuration next out why read told was same unread =
+    unread-prevents (to_compare configuration.now next) configuration out why read told
+    (first-of-two configuration.now next) was same unread
+
+pub unread-next-prevents : {T U : Type 0} (configuration : List ℕ) (next : Bor (List ℕ))
+    (out : Option (List ℕ)) (why : Fault) (read : Result T Fault) (told : Result U Fault) →
+    read ≡ Err why → IsErrAnd told (λ given. given ≡ why) →
+    IfErr read (λ f. (f ≡ fault.Memory) ⊎ (f ≡ fault.Unreadable next)) →
+    IfErr told (λ f. (words : List (List ℕ)) → Asks words (to_compare configuration next.now) → Prevents words out out f)
+unread-next-prevents configuration next out why read told was same unread =
+    unread-prevents (to_compare configuration next.now) next out why read told
+    (second-of-two configuration next.now) was same unread
 
 -- the faults of a run, to all words that name its two files
 pub run-prevents-all : {T : Type 0} (configuration script : TextFile) (first second : Bor (List ℕ))
@@ -219,3 +235,44 @@ run-prevents-all {T} configuration script first second old new (Err why) named a
     let by-configuration = subst (λ p. Asks words (to_simulate p.now second.now)) (sym named) worded in
     let by-both = subst (λ p. Asks words (to_simulate configuration.path.now p.now)) (sym also) by-configuration in
     run-prevents {T = T} words configuration script old new (Err why) by-both fails
+
+-- the faults of a comparison, where the words name its two files
+compare_prevents : {T : Type 0} (words : List (List ℕ)) (configuration next : TextFile)
+    (old new : Option (List ℕ)) (r : Result T Fault) →
+    Asks words (to_compare configuration.path.now next.path.now) →
+    IfErr r (CompareFails configuration next old new) → IfErr r (Prevents words old new)
+compare_prevents words configuration next old new (Ok x) worded fails = tt
+compare_prevents words configuration next old new (Err fault.Usage) worded fails = absurd fails
+compare_prevents words configuration next old new (Err (fault.Unreadable path)) worded fails = absurd fails
+compare_prevents words configuration next old new (Err (fault.Unanswered path)) worded fails = absurd fails
+compare_prevents words configuration next old new (Err (fault.Refused path why)) worded fails =
+    elim fails.0 [
+      | inl first ↦ ((to_compare configuration.path.now next.path.now, worded, inl (sym first.named)), fails.1)
+      | inr second ↦ ((to_compare configuration.path.now next.path.now, worded, inr (sym second.named)), fails.1)
+    ]
+compare_prevents words configuration next old new (Err (fault.FaultyLine path number)) worded fails = absurd fails
+compare_prevents words configuration next old new (Err fault.Write) worded fails =
+    λ nothing. nothing (to_compare configuration.path.now next.path.now) worded
+compare_prevents words configuration next old new (Err fault.Memory) worded fails = (
+  (λ nothing. nothing (to_compare configuration.path.now next.path.now) worded),
+  inl fails,
+)
+compare_prevents words configuration next old new (Err fault.Clock) worded fails = absurd fails
+compare_prevents words configuration next old new (Err fault.Seed) worded fails = absurd fails
+compare_prevents words configuration next old new (Err (fault.Bind endpoint reason)) worded fails = absurd fails
+compare_prevents words configuration next old new (Err (fault.Descriptors wanted)) worded fails = absurd fails
+compare_prevents words configuration next old new (Err (fault.Wait reason)) worded fails = absurd fails
+compare_prevents words configuration next old new (Err fault.Thread) worded fails = absurd fails
+compare_prevents words configuration next old new (Err fault.Receive) worded fails = absurd fails
+compare_prevents words configuration next old new (Err fault.Audit) worded fails = absurd fails
+
+-- the same, to all words that name its two files
+pub compare-prevents-all : {T : Type 0} (configuration next : TextFile) (first second : Bor (List ℕ))
+    (old new : Option (List ℕ)) (r : Result T Fault) → configuration.path ≡ first → next.path ≡ second →
+    IfErr r (CompareFails configuration next old new) →
+    IfErr r (λ f. (words : List (List ℕ)) → Asks words (to_compare first.now second.now) → Prevents words old new f)
+compare-prevents-all {T} configuration next first second old new (Ok x) named also fails = tt
+compare-prevents-all {T} configuration next first second old new (Err why) named also fails = λ words worded.
+    let by-configuration = subst (λ p. Asks words (to_compare p.now second.now)) (sym named) worded in
+    let by-both = subst (λ p. Asks words (to_compare configuration.path.now p.now)) (sym also) by-configuration in
+    compare_prevents {T = T} words configuration next old new (Err why) by-both fails

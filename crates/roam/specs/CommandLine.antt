@@ -4,11 +4,12 @@ use Rattle.roam_conf.specs.Texts.{decimal_in}
 use Rattle.roam.specs.declared.command_line.Order.{Order}
 use Rattle.roam.specs.declared.command_line.Order.TheVariants as order
 
--- to say how much there is in a configuration; to run a script over one; to serve one, with a seed that is drawn or with
+-- to say how much there is in a configuration; to say what becomes of each realm when another one follows it; to run a script over one; to serve one, with a seed that is drawn or with
 -- its own, for so many milliseconds or without end; to ask a server something through its control socket; to print the
 -- usage; or to print which program this is. The files and the socket are given by their paths
 pub data Asked : Type 0 where
   to_check : List ℕ → Asked
+  to_compare : List ℕ → List ℕ → Asked
   to_simulate : List ℕ → List ℕ → Asked
   to_serve : List ℕ → Option ℕ → Asked
   to_serve_with_its_seed : List ℕ → Option ℕ → Asked
@@ -33,6 +34,7 @@ order_word order.Stop = codes "stop"
 -- the words ask for it. After `serve` the word `--seed-of-file` is never the configuration
 abbrev pub Asks : List (List ℕ) → Asked → Type 0
 Asks words (to_check configuration) = codes "check" ∷ configuration ∷ [] ≡ words
+Asks words (to_compare configuration next) = codes "check" ∷ configuration ∷ next ∷ [] ≡ words
 Asks words (to_simulate configuration script) = codes "sim" ∷ configuration ∷ script ∷ [] ≡ words
 Asks words (to_serve configuration None) =
     (codes "serve" ∷ configuration ∷ [] ≡ words) × ¬ (configuration ≡ seed_of_file)
@@ -67,19 +69,21 @@ abbrev pub AsksToServe : List (List ℕ) → Type 0
 AsksToServe words =
     (configuration : List ℕ) × (milliseconds : Option ℕ) × AsksToServeIt words configuration milliseconds
 
--- the path of the file with the configuration, where it is about one
-abbrev pub configuration_of : Asked → Option (List ℕ)
-configuration_of (to_check configuration) = Some configuration
-configuration_of (to_simulate configuration script) = Some configuration
-configuration_of (to_serve configuration milliseconds) = Some configuration
-configuration_of (to_serve_with_its_seed configuration milliseconds) = Some configuration
-configuration_of (to_control path order) = None
-configuration_of to_help = None
-configuration_of to_tell_version = None
+-- this is the path of a file with a configuration that it is about
+abbrev pub IsConfigurationOf : Asked → List ℕ → Type 0
+IsConfigurationOf (to_check configuration) path = configuration ≡ path
+IsConfigurationOf (to_compare configuration next) path = (configuration ≡ path) ⊎ (next ≡ path)
+IsConfigurationOf (to_simulate configuration script) path = configuration ≡ path
+IsConfigurationOf (to_serve configuration milliseconds) path = configuration ≡ path
+IsConfigurationOf (to_serve_with_its_seed configuration milliseconds) path = configuration ≡ path
+IsConfigurationOf (to_control other order) path = ⊥
+IsConfigurationOf to_help path = ⊥
+IsConfigurationOf to_tell_version path = ⊥
 
 -- the paths of all files that it is about; a socket is none
 abbrev pub files_of : Asked → List (List ℕ)
 files_of (to_check configuration) = configuration ∷ []
+files_of (to_compare configuration next) = configuration ∷ next ∷ []
 files_of (to_simulate configuration script) = configuration ∷ script ∷ []
 files_of (to_serve configuration milliseconds) = configuration ∷ []
 files_of (to_serve_with_its_seed configuration milliseconds) = configuration ∷ []

@@ -9,7 +9,7 @@ use Rattle.roam_conf_reader.specs.declared.fault.ConfFault.{ConfFault}
 use Rattle.roam_conf_reader.specs.Faults.{IsFirstFault}
 use Rattle.roam_sim.specs.Script.{script_states}
 use Rattle.roam_sim.specs.Simulation.{IsConfiguration, IsAccepted, Simulates, SimulatesInPart}
-use Rattle.roam.specs.CommandLine.{Asked, to_check, to_simulate, to_serve, to_serve_with_its_seed, to_control, to_help, to_tell_version, Asks, AsksToServe, AsksNothing, files_of, configuration_of}
+use Rattle.roam.specs.CommandLine.{Asked, to_check, to_compare, to_simulate, to_serve, to_serve_with_its_seed, to_control, to_help, to_tell_version, Asks, AsksToServe, AsksNothing, files_of, IsConfigurationOf}
 use Rattle.roam.specs.declared.command_line.Order.{Order}
 use Rattle.roam.specs.Report.{status_of, usage_text, version_text, Tells}
 use Rattle.roam.specs.declared.text_file.TextFile.{TextFile}
@@ -122,11 +122,22 @@ AskFails path old new fault.Write = Unit {0}
 AskFails path old new fault.Memory = Keeps old new
 AskFails path old new _ = ⊥
 
+-- the faults of a comparison: one of the two configurations is refused, a write was refused, or memory is wanting
+abbrev pub CompareFails : TextFile → TextFile → Option (List ℕ) → Option (List ℕ) → Fault → Type 0
+CompareFails configuration next old new (fault.Refused path why) =
+    (IsRefused configuration path.now why ⊎ IsRefused next path.now why) × Keeps old new
+CompareFails configuration next old new fault.Write = Unit {0}
+CompareFails configuration next old new fault.Memory = Keeps old new
+CompareFails configuration next old new _ = ⊥
+
 -- what is asked for was done, over texts in the files: which ones, nothing here can say. Of a server nothing more is
 -- said: it prints nothing, and what its sockets took and gave no contract can say; nor of what a server answers that is
--- asked through its control socket: it is printed
+-- asked through its control socket: it is printed. Nor of what is printed of two configurations: what becomes of each
+-- realm is said where that is decided (`fate_of` of `roam_reload`)
 abbrev pub IsDone : Asked → Option (List ℕ) → Option (List ℕ) → Type 0
 IsDone (to_check configuration) old new = (text : List ℕ) × Checks text old new
+IsDone (to_compare configuration next) old new =
+    (text : List ℕ) × (next_text : List ℕ) × IsAccepted text × IsAccepted next_text × IsPrinted old new
 IsDone (to_simulate configuration script) old new =
     (text : List ℕ) × (script_text : List ℕ) × Simulates text script_text old new
 IsDone (to_serve configuration milliseconds) old new = (text : List ℕ) × IsAccepted text × Keeps old new
@@ -150,7 +161,7 @@ abbrev pub NamesSocket : List (List ℕ) → List ℕ → Type 0
 NamesSocket words path = (order : Order) × Asks words (to_control path order)
 
 abbrev pub NamesConfiguration : List (List ℕ) → List ℕ → Type 0
-NamesConfiguration words path = (asked : Asked) × Asks words asked × (configuration_of asked ≡ Some path)
+NamesConfiguration words path = (asked : Asked) × Asks words asked × IsConfigurationOf asked path
 
 abbrev pub NamesScript : List (List ℕ) → List ℕ → Type 0
 NamesScript words path = (configuration : List ℕ) × Asks words (to_simulate configuration path)

@@ -29,6 +29,13 @@ pub enum Command<'a> {
         /// The path of the file with the configuration.
         configuration: &'a str,
     },
+    /// To say what becomes of each realm when a configuration follows another: `check OLD NEW`.
+    Compare {
+        /// The path of the file with the configuration that serves.
+        configuration: &'a str,
+        /// The path of the file with the one that is to follow it.
+        next: &'a str,
+    },
     /// To run a script over a configuration: `sim CONF SCRIPT`.
     Sim {
         /// The path of the file with the configuration.
@@ -141,6 +148,10 @@ fn of_three_words<'a>(word: &str, configuration: &'a str, last: &'a str) -> Opti
         (λ c. Asks (word.now ∷ configuration.now ∷ last.now ∷ []) (shown c)) }
 {
     match word {
+        "check" => Some(Command::Compare {
+            configuration,
+            next: last,
+        }),
         "sim" => Some(Command::Sim {
             configuration,
             script: last,

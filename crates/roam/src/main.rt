@@ -6,6 +6,7 @@
 
 mod check;
 mod command_line;
+mod compare;
 mod control;
 mod output;
 mod program;

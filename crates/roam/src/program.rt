@@ -7,6 +7,7 @@ ghost use Rattle.roam.specs.Outcomes.{IsAnswered, IsDone, IsPrevented, IsToldFau
 ghost use Rattle.roam.specs.Report.{Says};
 
 use crate::check::check;
+use crate::compare::compare_files;
 use crate::command_line::Command;
 use crate::control::ask;
 use crate::report::{Ending, Fault};
@@ -62,6 +63,12 @@ fn run<
             let configuration = TextFile::read(rt, configuration)?;
             check(rt.alloc(), &configuration, out, lines)
         }
+        Some(
+            Command::Compare {
+                configuration,
+                next,
+            },
+        ) => compare_files(rt, configuration, next, out, lines),
         Some(
             Command::Sim {
                 configuration,

@@ -17,6 +17,7 @@ use std::time::Clock;
 use std::{env, fs, io, process};
 
 const USAGE: &str = "usage: roam check CONF
+       roam check OLD NEW
        roam sim CONF SCRIPT
        roam serve [--seed-of-file] CONF [MS]
        roam ctl PATH status|metrics|stop
@@ -206,7 +207,7 @@ const NO_COMMANDS: &[&[&str]] = &[
     &[],
     &[""],
     &["check"],
-    &["check", "a", "b"],
+    &["check", "a", "b", "c"],
     &["Check", "a"],
     &["check ", "a"],
     &["sim"],
@@ -230,7 +231,7 @@ const NO_COMMANDS: &[&[&str]] = &[
     &["serve", "--seed-of-file", "a", "0"],
     &["serve", "--seed-of-file", "a", "5", "5"],
     &["serve", "--seed-of-files", "a"],
-    &["check", "--seed-of-file", "a"],
+    &["check", "--seed-of-file", "a", "b"],
     &["sim", "--seed-of-file", "a", "b"],
     &["ctl", "a"],
     &["ctl", "a", "trace"],
@@ -274,6 +275,42 @@ fn where_nobody_listens_there_is_no_answer(rt: HostRuntime) -> Result<(), Fail> 
         }
     }
     fs::remove_file(&rt, path.as_str())?;
+    Ok(())
+}
+
+/// One realm more.
+const FOURTH: &str = "
+[[realm]]
+name = \"d.example\"
+out = \"127.0.0.1:2003\"
+reverse = \"127.0.0.1:3003\"
+tries = 1
+wait = 1
+hold = 0
+max_pending = 1
+max_sessions = 0
+server = [{ auth = \"198.51.100.1:1812\", acct = \"198.51.100.1:1813\", secret = \"h\" }]
+";
+
+/// What a comparison of two texts prints.
+fn expect_comparison(rt: &HostRuntime, old: &str, new: &str, printed: &str) -> Result<(), Fail> {
+    let process = process::id(rt.process());
+    let old = file(rt, process, "old.conf", old.as_bytes())?;
+    let new = file(rt, process, "new.conf", new.as_bytes())?;
+    expect(rt, &["check", old.as_str(), new.as_str()], 0, printed, "");
+    fs::remove_file(rt, old.as_str())?;
+    fs::remove_file(rt, new.as_str())?;
+    Ok(())
+}
+
+#[test]
+fn two_configurations_are_compared(rt: HostRuntime) -> Result<(), Fail> {
+    let all = "realm a.example: carried over\nrealm b.example: carried over\nrealm c.example: carried over\n";
+    let more = format!(in rt.alloc(); "{LARGER}{FOURTH}")?;
+    let added = format!(in rt.alloc(); "may follow\n{all}realm d.example: added\n")?;
+    expect_comparison(&rt, LARGER, more.as_str(), added.as_str())?;
+    let removed = format!(in rt.alloc(); "may follow\n{all}realm d.example: removed\n")?;
+    expect_comparison(&rt, more.as_str(), LARGER, removed.as_str())?;
     Ok(())
 }
 
