@@ -17,7 +17,7 @@ returns-in_err-next-clause-err g c =
 -- Both are read, and compared.
 pub returns-clause-ok : goal.returns-clause-ok
 returns-clause-ok g c =
-    compared c.in_ok-configuration.configuration c.in_ok-next.next _ _ _ _ c.compare.result
+    compared c.in_ok-configuration.configuration c.in_ok-next.next c.args.configuration.now c.args.next.now _ _ c.compare.result
     c.compare.ensures.first c.compare.ensures.second c.compare.ensures.printed
 
 -- Both are read, and the comparison has a fault.
