@@ -28,7 +28,10 @@ fn print_hindrance<W: Write>(writer: &mut W, hindrance: Option<Hindrance>) -> io
         Some(Hindrance::Endpoint(endpoint)) => {
             let [a, b, c, d] = endpoint.ip;
             let port = endpoint.port;
-            writeln!(writer, "may not follow: {a}.{b}.{c}.{d}:{port} is a place of another kind")
+            writeln!(
+                writer,
+                "may not follow: {a}.{b}.{c}.{d}:{port} is a place of another kind"
+            )
         }
     }
 }
@@ -71,12 +74,7 @@ fn print_peer<W: Write>(
 }
 
 /// Prints what becomes of the realm of an index.
-fn print_fate<W: Write>(
-    writer: &mut W,
-    old: &Config,
-    new: &Config,
-    realm: u16,
-) -> io::Result<()>
+fn print_fate<W: Write>(writer: &mut W, old: &Config, new: &Config, realm: u16) -> io::Result<()>
     ensures { OnOk result (IsPrinted (W.contents writer.old) (W.contents writer.new)) }
 {
     let name = name_of(old, new, realm);

@@ -7,8 +7,8 @@ ghost use Rattle.roam.specs.Outcomes.{IsAnswered, IsDone, IsPrevented, IsToldFau
 ghost use Rattle.roam.specs.Report.{Says};
 
 use crate::check::check;
-use crate::compare::compare_files;
 use crate::command_line::Command;
+use crate::compare::compare_files;
 use crate::control::ask;
 use crate::report::{Ending, Fault};
 use crate::serving::serve_file;

@@ -305,7 +305,8 @@ fn expect_comparison(rt: &HostRuntime, old: &str, new: &str, printed: &str) -> R
 
 #[test]
 fn two_configurations_are_compared(rt: HostRuntime) -> Result<(), Fail> {
-    let all = "realm a.example: carried over\nrealm b.example: carried over\nrealm c.example: carried over\n";
+    let all =
+        "realm a.example: carried over\nrealm b.example: carried over\nrealm c.example: carried over\n";
     let more = format!(in rt.alloc(); "{LARGER}{FOURTH}")?;
     let added = format!(in rt.alloc(); "may follow\n{all}realm d.example: added\n")?;
     expect_comparison(&rt, LARGER, more.as_str(), added.as_str())?;
