@@ -293,8 +293,9 @@ server = [{ auth = \"198.51.100.1:1812\", acct = \"198.51.100.1:1813\", secret =
 ";
 
 /// What a comparison of two texts prints.
-fn expect_comparison(rt: &HostRuntime, old: &str, new: &str, printed: &str) -> Result<(), Fail> {
-    let process = process::id(rt.process());
+fn expect_comparison<
+    R: Files + Env + AllocGlobal + Threads + Wait + Clock + Net + RandomSource + Log + Sync + Abort,
+>(rt: &R, process: u32, old: &str, new: &str, printed: &str) -> Result<(), Fail> {
     let old = file(rt, process, "old.conf", old.as_bytes())?;
     let new = file(rt, process, "new.conf", new.as_bytes())?;
     expect(rt, &["check", old.as_str(), new.as_str()], 0, printed, "");
@@ -305,13 +306,14 @@ fn expect_comparison(rt: &HostRuntime, old: &str, new: &str, printed: &str) -> R
 
 #[test]
 fn two_configurations_are_compared(rt: HostRuntime) -> Result<(), Fail> {
+    let process = process::id(rt.process());
     let all =
         "realm a.example: carried over\nrealm b.example: carried over\nrealm c.example: carried over\n";
     let more = format!(in rt.alloc(); "{LARGER}{FOURTH}")?;
     let added = format!(in rt.alloc(); "may follow\n{all}realm d.example: added\n")?;
-    expect_comparison(&rt, LARGER, more.as_str(), added.as_str())?;
+    expect_comparison(&rt, process, LARGER, more.as_str(), added.as_str())?;
     let removed = format!(in rt.alloc(); "may follow\n{all}realm d.example: removed\n")?;
-    expect_comparison(&rt, more.as_str(), LARGER, removed.as_str())?;
+    expect_comparison(&rt, process, more.as_str(), LARGER, removed.as_str())?;
     Ok(())
 }
 
