@@ -4,9 +4,10 @@ use Rattle.roam_conf.specs.Texts.{decimal_in}
 use Rattle.roam.specs.declared.command_line.Order.{Order}
 use Rattle.roam.specs.declared.command_line.Order.TheVariants as order
 
--- to say how much there is in a configuration; to say what becomes of each realm when another one follows it; to run a script over one; to serve one, with a seed that is drawn or with
--- its own, for so many milliseconds or without end; to ask a server something through its control socket; to print the
--- usage; or to print which program this is. The files and the socket are given by their paths
+-- to say how much there is in a configuration; to say what becomes of each realm when another one follows it; to run a
+-- script over one; to serve one, with a seed that is drawn or with its own, for so many milliseconds or without end; to ask
+-- a server something through its control socket; to print the usage; or to print which program this is. The files and the
+-- socket are given by their paths
 pub data Asked : Type 0 where
   to_check : List ℕ → Asked
   to_compare : List ℕ → List ℕ → Asked

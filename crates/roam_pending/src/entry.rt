@@ -27,7 +27,7 @@ pub struct Request<A: Allocator> {
     pub requester: Requester,
     /// The octets up to Length.
     pub octets: Octets<A>,
-    /// When it came in, in milliseconds: for what is told of it alone. No rule reads it.
+    /// When it came in, in milliseconds. No rule reads it, and nothing tells it yet.
     pub came: u64,
 }
 
