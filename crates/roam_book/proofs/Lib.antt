@@ -9,6 +9,7 @@ pub mod LaneLemmas
 pub mod LeastLemmas
 pub mod LettingGoLemmas
 pub mod LinkLaneLemmas
+pub mod LookingLemmas
 pub mod MemoryLemmas
 pub mod NakLemmas
 pub mod RealmLemmas

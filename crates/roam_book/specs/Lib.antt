@@ -18,6 +18,7 @@ pub mod Sound
 -- Words of private functions and of proofs alone.
 pub mod Fates
 pub mod Judged
+pub mod Looking
 pub mod Memory
 pub mod MoreLanes
 pub mod NewEntry

@@ -29,7 +29,7 @@ use std::sync::Wait;
 /// from the hub's own opening, which they end.
 #[derive(Drop)]
 pub(crate) struct Kept<'c, A: Allocator, N: Opened> {
-    traced: Traced<'c, A>,
+    pub(crate) traced: Traced<'c, A>,
     /// All of the history: nobody writes into it but who holds the lock.
     front: Front<N>,
     head: Head<N>,

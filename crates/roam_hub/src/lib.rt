@@ -7,11 +7,14 @@
 
 mod answered;
 mod closing;
+mod ended;
 mod fault;
 mod gate;
 mod hub;
 mod kept;
 mod laws;
+mod look;
+mod notes;
 mod opening;
 
 pub use answered::{Answered, Refused};
@@ -19,6 +22,9 @@ pub use fault::HubFault;
 pub use gate::{Gate, Open};
 pub use hub::Hub;
 pub use laws::{provenance_in_histories, realms_in_histories};
+pub use notes::{Notes, Past, Stood};
 pub use roam_audit::{AuditFault, Audited, Receipt, Report, Seat, split};
+pub use roam_book::{Gauges, Rest, SERVER_LINKS};
 pub use roam_history::{Blanks, Front, Opened};
+pub use roam_pending::Requester;
 pub use roam_ring::{Intake, Outlet, ring};

@@ -1,5 +1,5 @@
 //! A lane whose memory is taken when it is first needed.
-ghost use Rattle.std.specs.Prelude.{◌≡◌, ℕ, ◌↔◌, true, false, IsOk, IsTrue, IfSome, IfNone, OnSome, OnOk, OnErr};
+ghost use Rattle.std.specs.Prelude.{◌≡◌, ℕ, ◌↔◌, true, false, None, IsOk, IsTrue, IfSome, IfNone, OnSome, OnOk, OnErr};
 ghost use Rattle.std.specs.Option.{option_map};
 ghost use Rattle.roam_ids.specs.NextIdentifier.{next_identifier, AllUsed};
 ghost use Rattle.roam_ids.specs.declared.place.Place.{Place};
@@ -122,6 +122,14 @@ impl<A: Allocator> LazyLane<A> {
         ensures { IsTrue result ↔ AllUsed (is_used self.now) }
     {
         !self.lane.is_empty() && self.lane[0].is_full()
+    }
+
+    /// Whether the lane isn't made: no Identifier is in use then.
+    pub fn is_unmade(&self) -> bool
+        ensures value { result ≡ true ↔ (self.now.made ≡ false) }
+        ensures unused { result ≡ true → (id : ℕ) → ticket_at self.now id ≡ None }
+    {
+        self.lane.is_empty()
     }
 
     /// Gives an Identifier back: it is free again.

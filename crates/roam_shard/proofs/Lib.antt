@@ -1,6 +1,7 @@
 pub mod ShardLemmas
 pub mod DueLemmas
 pub mod LettingGoLemmas
+pub mod LookLemmas
 pub mod OpeningLemmas
 pub mod RoomLemmas
 pub mod TickLemmas

@@ -5,6 +5,7 @@
 #![tactic(auto)]
 
 mod dues;
+mod look;
 mod numbers;
 mod opening;
 mod packets;

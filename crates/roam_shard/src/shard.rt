@@ -38,10 +38,10 @@ use std::marker::Model;
 #[derive(Drop)]
 pub struct Shard<'c, A: Allocator> {
     alloc: A,
-    opening: Opening<'c, A>,
-    entries: Tables<A>,
+    pub(crate) opening: Opening<'c, A>,
+    pub(crate) entries: Tables<A>,
     /// The numbers that each of the shard's own realms hands out, by the index of the realm.
-    numbers: Vec<Option<Numbers<A>>, A>,
+    pub(crate) numbers: Vec<Option<Numbers<A>>, A>,
 }
 
 impl<'c, A: Allocator> Model for Shard<'c, A> {

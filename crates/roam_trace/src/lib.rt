@@ -6,6 +6,7 @@
 mod came;
 mod event;
 mod fault;
+mod look;
 mod octets;
 mod same;
 mod sent;
@@ -14,5 +15,6 @@ mod traced;
 
 pub use event::{copy_of, job_event};
 pub use fault::TraceFault;
+pub use look::Happened;
 pub use step::Step;
 pub use traced::Traced;

@@ -18,7 +18,7 @@ use std::mem::size_of;
 /// and of the packet, which lie in a block each. Further packets take 40 octets each, in a list.
 #[derive(Drop)]
 pub struct Step<A: Allocator> {
-    came: Came<A>,
+    pub(crate) came: Came<A>,
     sent: Sent<A>,
 }
 

@@ -31,7 +31,7 @@ use std::mem;
 #[derive(Drop)]
 pub struct Traced<'c, A: Allocator> {
     alloc: A,
-    shard: Shard<'c, A>,
+    pub(crate) shard: Shard<'c, A>,
     /// How many steps were let go of.
     gone: u64,
     steps: Vec<Step<A>, A>,

@@ -1,0 +1,176 @@
+//! Calls of a hub that note which exchanges may end by them.
+
+ghost use Rattle.std.specs.Prelude.{◌≡◌, ◌≢◌, ◌<◌, ◌≤◌, ◌-◌, ◌%◌, ◌^◌, ◌↔◌, min, IfErr, IfOk, IsErrOf, OnErr};
+ghost use Rattle.roam_route.specs.Events.{IsEvent, arrival_of};
+ghost use Rattle.roam_route.specs.Shown.{shown_job};
+ghost use Rattle.roam_core.specs.Events.{arrives, ticks};
+ghost use Rattle.roam_trace.specs.Steps.{octets_in};
+ghost use Rattle.roam_history.specs.Entries.{stored_of};
+ghost use Rattle.roam_audit.specs.Seats.{front_of};
+ghost use Rattle.roam_hub.specs.Calls.{IsCall, IsFull, IsTick, Sees, answered_step};
+
+use crate::answered::{Answered, Refused};
+use crate::fault::HubFault;
+use crate::gate::Gate;
+use crate::hub::Hub;
+use crate::kept::Kept;
+use crate::notes::{Notes, Stood, standing_of};
+use roam_audit::Seat;
+use roam_history::Opened;
+use roam_pending::{Key, Standing};
+use roam_route::{Job, Side};
+use roam_shard::Shard;
+use std::alloc::Allocator;
+use std::sync::Wait;
+
+/// The Identifier of a packet (RFC 2865, section 3).
+fn id_of(octets: &[u8]) -> u8 {
+    match octets {
+        [_, id, ..] => *id,
+        _ => 0,
+    }
+}
+
+/// Notes the entry that a job is about: for a reply the one that waits where it came from, for a request the one of its
+/// key.
+fn note_job<A: Allocator + Copy>(shard: &Shard<'_, A>, job: &Job<A>, notes: &mut Notes<A>) {
+    let octets = job.octets.as_slice();
+    let id = id_of(octets);
+    match job.side {
+        Side::Link(link) => {
+            if let Some(entry) = shard.waiting_at(job.realm, link, id) {
+                notes.note(job.realm, entry, false);
+            }
+        }
+        Side::Peer(_) | Side::Home(_) => {
+            let key = Key {
+                place: job.place,
+                from: job.from,
+                id,
+            };
+            if let Some(entry) = shard.entry_of(job.realm, &key) {
+                let is_same = entry.request.octets.as_slice() == octets;
+                notes.note(job.realm, entry, is_same);
+            }
+        }
+    }
+}
+
+/// Notes of the entries of a realm that are due those that wait and aren't sent to their link again.
+fn note_last_sent<R: Wait, A: Allocator + Copy>(
+    rt: &R,
+    shard: &Shard<'_, A>,
+    realm: u16,
+    now: u64,
+    notes: &mut Notes<A>,
+) {
+    let mut last = None;
+    for _ in rt.forever() {
+        let Some(due) = shard.due_after(realm, now, last) else {
+            return;
+        };
+        if let Some(entry) = shard.entry_with(realm, due.ticket) {
+            if let Standing::Waiting(waiting) = &entry.standing {
+                if waiting.sends_left == 0 {
+                    notes.note(realm, entry, false);
+                }
+            }
+        }
+        last = Some(due);
+    }
+}
+
+/// Notes how the entries stand that are noted.
+fn note_after<A: Allocator + Copy>(shard: &Shard<'_, A>, notes: &mut Notes<A>) {
+    for past in notes.pasts_mut().iter_mut() {
+        past.stands = match shard.entry_with(past.realm, past.ticket) {
+            Some(entry) => standing_of(entry),
+            None => Stood::Gone,
+        };
+    }
+}
+
+impl<A: Allocator + Copy, N: Opened> Kept<'_, A, N> {
+    /// Notes of all entries that are due those that wait and aren't sent to their link again.
+    fn note_due<R: Wait>(&self, rt: &R, realms: u16, now: u64, notes: &mut Notes<A>) {
+        let shard = self.traced.shard();
+        if !self.traced.is_due(now) {
+            return;
+        }
+        for realm in 0..realms {
+            note_last_sent(rt, shard, realm, now, notes);
+        }
+    }
+}
+
+impl<'c, A: Allocator + Copy, N: Opened> Hub<'c, A, N> {
+    /// As `answer`; and before the call it notes the entry that the job is about: for a reply the one that waits where it
+    /// came from, for a request the one of its key. That takes no memory.
+    ///
+    /// # Errors
+    ///
+    /// As `answer`.
+    pub fn answer_noting<R: Wait, G: Gate>(
+        &self,
+        rt: &R,
+        seat: &mut Seat<A, N>,
+        now: u64,
+        job: Job<A>,
+        gate: &G,
+        notes: &mut Notes<A>,
+    ) -> Result<Answered<A>, Refused<A>>
+        requires { IsEvent N.opening.config (shown_job job) }
+        ensures call { IfOk result (λ a. IsCall N.opening a.shard seat.old seat.new a.number
+            (answered_step (arrives now (arrival_of (shown_job job))) a)) }
+        ensures shard { IfOk result (λ a. a.shard ≡ job.realm % N.opening.config.shards) }
+        ensures octets { IfOk result (λ a. a.octets
+            ≡ min (octets_in (stored_of (front_of seat.new a.shard))) (2 ^ 64 - 1)) }
+        ensures seen { Sees (job.realm % N.opening.config.shards) seat.old seat.new }
+        ensures err { OnErr result (seat.new.tallies ≡ seat.old.tallies) }
+        ensures back { IfErr result (λ e. shown_job e.job ≡ shown_job job) }
+        ensures full { IfErr result (λ e. e.fault ≡ HubFault.TraceFull
+            → IsFull N.opening (job.realm % N.opening.config.shards) seat.new) }
+        ensures no_shard { IfErr result (λ e. e.fault ≢ HubFault.NoShard) }
+    {
+        let shard = self.config.shard_of(job.realm);
+        let mut kept = self.locks[usize::from(shard)].lock(rt);
+        gate.inside(shard);
+        notes.clear();
+        note_job(kept.traced.shard(), &job, notes);
+        kept.take(rt, seat, shard, now, job)
+    }
+
+    /// As `tick_if_due`; and it notes of the entries that are due those that wait and aren't sent to their link again, and
+    /// how they stand after the tick. That takes no memory.
+    ///
+    /// # Errors
+    ///
+    /// As `tick_if_due`.
+    pub fn tick_noting<R: Wait, G: Gate>(
+        &self,
+        rt: &R,
+        seat: &mut Seat<A, N>,
+        now: u64,
+        shard: u16,
+        gate: &G,
+        notes: &mut Notes<A>,
+    ) -> Result<Option<Answered<A>>, HubFault>
+        ensures tick { IfOk result
+            (IsTick N.opening shard now (ticks now shard) seat.old seat.new) }
+        ensures seen { Sees shard seat.old seat.new }
+        ensures err { OnErr result (seat.new.tallies ≡ seat.old.tallies) }
+        ensures full { IsErrOf result HubFault.TraceFull → IsFull N.opening shard seat.new }
+        ensures no_shard { IsErrOf result HubFault.NoShard ↔ N.opening.config.shards ≤ shard }
+    {
+        if usize::from(shard) >= self.locks.len() {
+            return Err(HubFault::NoShard);
+        }
+        let mut kept = self.locks[usize::from(shard)].lock(rt);
+        gate.inside(shard);
+        notes.clear();
+        kept.note_due(rt, self.config.realms.len() as u16, now, notes);
+        let answered = kept.tick_if_due(rt, seat, shard, now)?;
+        note_after(kept.traced.shard(), notes);
+        Ok(answered)
+    }
+}
