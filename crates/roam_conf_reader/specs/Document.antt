@@ -5,7 +5,7 @@ use Rattle.std.specs.Str.{bytes_eq}
 use Rattle.toml.specs.Data.{Data, array, table, Items, no_items, item, Members, no_members, member, get_member}
 use Rattle.roam_conf_reader.specs.declared.values.Letters.TheVariants.{Any, PeerName, RealmName}
 use Rattle.roam_conf.specs.Config.{ServerView, PeerView, RealmView, ConfigView}
-use Rattle.roam_conf_reader.specs.Values.{number, letters_of, text, address, endpoint, seed, flag, number_or, patterns, array_of, value_at, optional_at, socket_path}
+use Rattle.roam_conf_reader.specs.Values.{number, letters_of, text, address, endpoint, seed, flag, flag_or_true, number_or, patterns, array_of, value_at, optional_at, socket_path}
 
 -- the required keys of the four tables
 abbrev pub server_required : List (List ℕ)
@@ -37,7 +37,7 @@ realm_optional = codes "also" ∷ codes "rest" ∷ codes "rest_after" ∷ []
 abbrev pub top_optional : List (List ℕ)
 top_optional =
     codes "max_hops" ∷ codes "status_server" ∷ codes "trace_octets" ∷ codes "spread" ∷ codes "metrics"
-    ∷ codes "control" ∷ []
+    ∷ codes "control" ∷ codes "log_exchanges" ∷ []
 
 -- the key is one of these
 abbrev pub is_one_of : List (List ℕ) → List ℕ → Bool
@@ -109,9 +109,10 @@ pub record StatesConfig (members : Members) (config : ConfigView) : Type 0 where
   pub spread : flag (get_member (codes "spread") members) ≡ Some config.spread
   pub peers : StatesTables StatesPeer (value_at (array_of 1024) (codes "peer") members) config.peers
   pub realms : StatesTables StatesRealm (value_at (array_of 1024) (codes "realm") members) config.realms
-  -- what serves isn't the broker's: here it only has to be an endpoint
+  -- what serves isn't the broker's: here it only has to be such a value
   pub metrics : is_some (optional_at endpoint (codes "metrics") members) ≡ true
   pub control : is_some (optional_at socket_path (codes "control") members) ≡ true
+  pub log_exchanges : is_some (flag_or_true (get_member (codes "log_exchanges") members)) ≡ true
   pub no_other_key : has_only top_required top_optional members ≡ true
 
 -- each of the keys stands in the table

@@ -60,6 +60,12 @@ flag None = Some false
 flag (Some (boolean b)) = Some b
 flag (Some _) = None
 
+-- a boolean that is true where the key is absent
+unfoldable pub flag_or_true : Option Data → Option Bool
+flag_or_true None = Some true
+flag_or_true (Some (boolean b)) = Some b
+flag_or_true (Some _) = None
+
 -- an integer from `least` to `most`, and this one where it is absent
 unfoldable pub number_or : ℕ → ℕ → ℕ → Option Data → Option ℕ
 number_or default least most None = Some default

@@ -132,6 +132,17 @@ pub(crate) fn optional_socket_path<'a>(table: &'a Table, key: &str) -> Option<Op
     }
 }
 
+/// A boolean, true where the key is absent.
+#[tactic(auto, unfolding(crate::specs::Values::flag_or_true))]
+pub(crate) fn flag_or_true(table: &Table, key: &str) -> Option<bool>
+    ensures { result ≡ spec.flag_or_true (get_member key.now (table_view table.now)) }
+{
+    match value(table, key) {
+        Some(value) => value.as_bool(),
+        None => Some(true),
+    }
+}
+
 /// A boolean, false where the key is absent.
 #[tactic(auto, unfolding(crate::specs::Values::flag))]
 pub(crate) fn flag(table: &Table, key: &str) -> Option<bool>

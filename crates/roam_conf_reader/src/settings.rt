@@ -17,6 +17,8 @@ pub struct Settings {
     /// The path of the UNIX socket through which the server is asked and stopped; none where the key `control` is
     /// absent.
     pub control: Option<String>,
+    /// Whether a line tells of each exchange that ends: not where the key `log_exchanges` is false.
+    pub log_exchanges: bool,
 }
 
 /// Reads the settings of a configuration from its text.
@@ -36,8 +38,12 @@ pub fn read_settings(alloc: Global, text: &str) -> Result<Settings, ConfFault>
     let Some(control) = keys::optional_socket_path(&table, "control") else {
         return Err(ConfFault::BadValue);
     };
+    let Some(log_exchanges) = keys::flag_or_true(&table, "log_exchanges") else {
+        return Err(ConfFault::BadValue);
+    };
     Ok(Settings {
         metrics,
         control: copied(alloc, control)?,
+        log_exchanges,
     })
 }

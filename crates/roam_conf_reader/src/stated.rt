@@ -46,6 +46,7 @@ fn top_text(table: &Table) -> Option<TopText<'_>>
     }
     let _metrics = keys::optional_endpoint(table, "metrics")?;
     let _control = keys::optional_socket_path(table, "control")?;
+    let _log_exchanges = keys::flag_or_true(table, "log_exchanges")?;
     Some(TopText {
         shards: keys::number(table, "shards", 1, 64)? as u16,
         seed: keys::seed(table, "seed")?,

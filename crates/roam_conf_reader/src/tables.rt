@@ -51,13 +51,14 @@ pub(crate) const TOP_KEYS: [&str; 7] = [
 ];
 
 /// The keys that the document itself may have besides.
-pub(crate) const TOP_OPTIONAL_KEYS: [&str; 6] = [
+pub(crate) const TOP_OPTIONAL_KEYS: [&str; 7] = [
     "max_hops",
     "status_server",
     "trace_octets",
     "spread",
     "metrics",
     "control",
+    "log_exchanges",
 ];
 
 fn is_one_of(keys: &[&str], key: &str) -> bool

@@ -5,6 +5,8 @@ use Rattle.roam_counters.specs.Events.{event_place}
 use Rattle.roam_counters.specs.Process.{process_place}
 use Rattle.roam_counters.specs.declared.kinds.RequestKind.TheVariants as request
 use Rattle.roam_counters.specs.declared.kinds.ReplyKind.TheVariants as reply
+use Rattle.roam_counters.specs.declared.kinds.NakCause.TheVariants as nak
+use Rattle.roam_counters.specs.declared.delay.Delay.TheVariants as delay
 use Rattle.roam_counters.specs.declared.event.Event.{Event}
 use Rattle.roam_counters.specs.declared.event.Event.TheVariants as event
 use Rattle.roam_counters.specs.declared.process.Process.{Process}
@@ -14,8 +16,8 @@ abbrev pub all_events : List Event
 all_events =
     event.Request request.Access ∷ event.Request request.Accounting ∷ event.Request request.Disconnect ∷
     event.Request request.Coa ∷ event.Forwarded request.Access ∷ event.Forwarded request.Accounting ∷
-    event.Forwarded request.Disconnect ∷ event.Forwarded request.Coa ∷ event.SentByTick request.Access ∷
-    event.SentByTick request.Accounting ∷ event.SentByTick request.Disconnect ∷ event.SentByTick request.Coa ∷
+    event.Forwarded request.Disconnect ∷ event.Forwarded request.Coa ∷ event.SentAgain request.Access ∷
+    event.SentAgain request.Accounting ∷ event.SentAgain request.Disconnect ∷ event.SentAgain request.Coa ∷
     event.Waiting ∷ event.Reply reply.AccessAccept ∷ event.Reply reply.AccessReject ∷
     event.Reply reply.AccessChallenge ∷ event.Reply reply.AccountingResponse ∷ event.Reply reply.DisconnectAck ∷
     event.Reply reply.DisconnectNak ∷ event.Reply reply.CoaAck ∷ event.Reply reply.CoaNak ∷
@@ -37,7 +39,18 @@ all_events =
     event.Refused refusal.WrongReply ∷ event.Refused refusal.BadReply ∷
     event.Refused refusal.BadReplyMessageAuthenticator ∷ event.Refused refusal.ReplyTooLong ∷
     event.Refused refusal.Moment ∷ event.Refused refusal.NoShard ∷ event.Refused refusal.NoMemory ∷
-    event.Refused refusal.TraceFull ∷ event.Refused refusal.Misplaced ∷ event.Refused refusal.TooManyHops ∷ []
+    event.Refused refusal.TraceFull ∷ event.Refused refusal.Misplaced ∷ event.Refused refusal.TooManyHops ∷
+    event.TakenOver request.Access ∷ event.TakenOver request.Accounting ∷
+    event.TakenOver request.Disconnect ∷ event.TakenOver request.Coa ∷
+    event.FailedOver ∷ event.GivenUp ∷
+    event.Replaced ∷ event.AnsweredAgain ∷
+    event.LocalReject ∷ event.Nak nak.UnsupportedAttribute ∷
+    event.Nak nak.RequestNotRoutable ∷ event.Nak nak.SessionNotFound ∷
+    event.Nak nak.OtherProxyProcessingError ∷ event.AnswerWithin delay.Within10 ∷
+    event.AnswerWithin delay.Within30 ∷ event.AnswerWithin delay.Within100 ∷
+    event.AnswerWithin delay.Within300 ∷ event.AnswerWithin delay.Within1000 ∷
+    event.AnswerWithin delay.Within3000 ∷ event.AnswerWithin delay.Within10000 ∷
+    event.AnswerWithin delay.Longer ∷ event.AnswerTime ∷ []
 
 -- each stands at its place
 pub event-at_place : (event : Event) → slice_get all_events (event_place event) ≡ Some event
@@ -49,10 +62,10 @@ event-at_place (event.Forwarded request.Access) = refl
 event-at_place (event.Forwarded request.Accounting) = refl
 event-at_place (event.Forwarded request.Disconnect) = refl
 event-at_place (event.Forwarded request.Coa) = refl
-event-at_place (event.SentByTick request.Access) = refl
-event-at_place (event.SentByTick request.Accounting) = refl
-event-at_place (event.SentByTick request.Disconnect) = refl
-event-at_place (event.SentByTick request.Coa) = refl
+event-at_place (event.SentAgain request.Access) = refl
+event-at_place (event.SentAgain request.Accounting) = refl
+event-at_place (event.SentAgain request.Disconnect) = refl
+event-at_place (event.SentAgain request.Coa) = refl
 event-at_place event.Waiting = refl
 event-at_place (event.Reply reply.AccessAccept) = refl
 event-at_place (event.Reply reply.AccessReject) = refl
@@ -110,12 +123,34 @@ event-at_place (event.Refused refusal.NoMemory) = refl
 event-at_place (event.Refused refusal.TraceFull) = refl
 event-at_place (event.Refused refusal.Misplaced) = refl
 event-at_place (event.Refused refusal.TooManyHops) = refl
+event-at_place (event.TakenOver request.Access) = refl
+event-at_place (event.TakenOver request.Accounting) = refl
+event-at_place (event.TakenOver request.Disconnect) = refl
+event-at_place (event.TakenOver request.Coa) = refl
+event-at_place event.FailedOver = refl
+event-at_place event.GivenUp = refl
+event-at_place event.Replaced = refl
+event-at_place event.AnsweredAgain = refl
+event-at_place event.LocalReject = refl
+event-at_place (event.Nak nak.UnsupportedAttribute) = refl
+event-at_place (event.Nak nak.RequestNotRoutable) = refl
+event-at_place (event.Nak nak.SessionNotFound) = refl
+event-at_place (event.Nak nak.OtherProxyProcessingError) = refl
+event-at_place (event.AnswerWithin delay.Within10) = refl
+event-at_place (event.AnswerWithin delay.Within30) = refl
+event-at_place (event.AnswerWithin delay.Within100) = refl
+event-at_place (event.AnswerWithin delay.Within300) = refl
+event-at_place (event.AnswerWithin delay.Within1000) = refl
+event-at_place (event.AnswerWithin delay.Within3000) = refl
+event-at_place (event.AnswerWithin delay.Within10000) = refl
+event-at_place (event.AnswerWithin delay.Longer) = refl
+event-at_place event.AnswerTime = refl
 
 abbrev pub all_processes : List Process
 all_processes =
     process.ReceivedAuth ∷ process.ReceivedAcct ∷ process.ReceivedOut ∷ process.ReceivedReverse ∷ process.Sent ∷
     process.LostFullRing ∷ process.LostUnreachable ∷ process.LostNotPermitted ∷ process.LostOther ∷ process.Step ∷
-    process.StepLetGo ∷ process.TimeLetGo ∷ []
+    process.StepLetGo ∷ process.TimeLetGo ∷ process.LineDropped ∷ process.NoteMissed ∷ []
 
 pub process-at_place : (process : Process) → slice_get all_processes (process_place process) ≡ Some process
 process-at_place process.ReceivedAuth = refl
@@ -130,3 +165,5 @@ process-at_place process.LostOther = refl
 process-at_place process.Step = refl
 process-at_place process.StepLetGo = refl
 process-at_place process.TimeLetGo = refl
+process-at_place process.LineDropped = refl
+process-at_place process.NoteMissed = refl

@@ -1,7 +1,8 @@
 -- What is counted of a realm, a home server or a peer. Ours.
 use Rattle.std.specs.Prelude.{ℕ, ◌+◌}
 use Rattle.roam_wire.specs.Refusal.{number_of}
-use Rattle.roam_counters.specs.Kinds.{request_place, reply_place}
+use Rattle.roam_counters.specs.Kinds.{cause_place, request_place, reply_place}
+use Rattle.roam_counters.specs.Delays.{delay_place}
 use Rattle.roam_counters.specs.declared.event.Event.{Event}
 use Rattle.roam_counters.specs.declared.event.Event.TheVariants as event
 
@@ -9,10 +10,19 @@ use Rattle.roam_counters.specs.declared.event.Event.TheVariants as event
 abbrev pub event_place : Event → ℕ
 event_place (event.Request kind) = request_place kind
 event_place (event.Forwarded kind) = 4 + request_place kind
-event_place (event.SentByTick kind) = 8 + request_place kind
+event_place (event.SentAgain kind) = 8 + request_place kind
 event_place event.Waiting = 12
 event_place (event.Reply kind) = 13 + reply_place kind
 event_place (event.Returned kind) = 21 + reply_place kind
 event_place (event.Answered kind) = 29 + reply_place kind
 event_place (event.AnsweredByTick kind) = 37 + reply_place kind
 event_place (event.Refused refusal) = 44 + number_of refusal
+event_place (event.TakenOver kind) = 69 + request_place kind
+event_place event.FailedOver = 73
+event_place event.GivenUp = 74
+event_place event.Replaced = 75
+event_place event.AnsweredAgain = 76
+event_place event.LocalReject = 77
+event_place (event.Nak cause) = 78 + cause_place cause
+event_place (event.AnswerWithin delay) = 82 + delay_place delay
+event_place event.AnswerTime = 90

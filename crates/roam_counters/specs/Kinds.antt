@@ -4,6 +4,8 @@ use Rattle.roam_counters.specs.declared.kinds.RequestKind.{RequestKind}
 use Rattle.roam_counters.specs.declared.kinds.RequestKind.TheVariants as request
 use Rattle.roam_counters.specs.declared.kinds.ReplyKind.{ReplyKind}
 use Rattle.roam_counters.specs.declared.kinds.ReplyKind.TheVariants as reply
+use Rattle.roam_counters.specs.declared.kinds.NakCause.{NakCause}
+use Rattle.roam_counters.specs.declared.kinds.NakCause.TheVariants as nak
 
 abbrev pub request_of : ℕ → Option RequestKind
 request_of code =
@@ -41,3 +43,18 @@ reply_place reply.DisconnectAck = 4
 reply_place reply.DisconnectNak = 5
 reply_place reply.CoaAck = 6
 reply_place reply.CoaNak = 7
+
+-- the broker's own NAKs, by their Error-Cause (RFC 5176, section 3.5), and their places
+abbrev pub cause_of : ℕ → Option NakCause
+cause_of cause =
+    if cause == 401 then Some nak.UnsupportedAttribute
+    else if cause == 502 then Some nak.RequestNotRoutable
+    else if cause == 503 then Some nak.SessionNotFound
+    else if cause == 505 then Some nak.OtherProxyProcessingError
+    else None
+
+abbrev pub cause_place : NakCause → ℕ
+cause_place nak.UnsupportedAttribute = 0
+cause_place nak.RequestNotRoutable = 1
+cause_place nak.SessionNotFound = 2
+cause_place nak.OtherProxyProcessingError = 3

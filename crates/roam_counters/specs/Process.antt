@@ -26,3 +26,5 @@ process_place process.LostOther = 8
 process_place process.Step = 9
 process_place process.StepLetGo = 10
 process_place process.TimeLetGo = 11
+process_place process.LineDropped = 12
+process_place process.NoteMissed = 13

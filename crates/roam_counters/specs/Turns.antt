@@ -51,7 +51,7 @@ outcome_event side request refusal None = silence_event side refusal
 
 -- what leaves in a tick from an `out` socket is a request, from elsewhere an answer
 abbrev pub tick_event : Place → ℕ → Option Event
-tick_event (place.Out realm) code = option_map event.SentByTick (request_of code)
+tick_event (place.Out realm) code = option_map event.SentAgain (request_of code)
 tick_event place.Auth code = option_map event.AnsweredByTick (reply_of code)
 tick_event place.Acct code = option_map event.AnsweredByTick (reply_of code)
 tick_event (place.Reverse realm) code = option_map event.AnsweredByTick (reply_of code)

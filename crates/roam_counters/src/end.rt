@@ -8,7 +8,7 @@ use crate::cell::Subject;
 use roam_conf::{Config, Endpoint, Link, Place};
 
 /// The subject of a link of a realm.
-pub(crate) fn subject_of(realm: u16, link: Link) -> Subject
+pub fn subject_of(realm: u16, link: Link) -> Subject
     ensures { result ≡ spec.subject_of realm link }
 {
     match link {

@@ -3,11 +3,12 @@
 ghost use Rattle.std.specs.Prelude.{◌≡◌, ◌<◌};
 ghost use Rattle.roam_counters.specs.Events as spec;
 
-use crate::kinds::{ReplyKind, RequestKind};
+use crate::delay::Delay;
+use crate::kinds::{NakCause, ReplyKind, RequestKind};
 use roam_wire::Refusal;
 
 /// How many events are told apart.
-pub const EVENTS: usize = 69;
+pub const EVENTS: usize = 91;
 
 /// What is counted of a realm, a home server or a peer.
 #[derive(Clone, Copy, Debug, PartialEq, Eq)]
@@ -16,8 +17,8 @@ pub enum Event {
     Request(RequestKind),
     /// A new request was forwarded.
     Forwarded(RequestKind),
-    /// A request was sent by a tick: again to the same server, or to the next one.
-    SentByTick(RequestKind),
+    /// A request was sent to the same server again, since no reply came.
+    SentAgain(RequestKind),
     /// A request came again that waits for its reply: nothing was sent.
     Waiting,
     /// A reply came that is for a realm.
@@ -31,24 +32,51 @@ pub enum Event {
     AnsweredByTick(ReplyKind),
     /// Something was refused.
     Refused(Refusal),
+    /// A request was sent here since another server kept silent.
+    TakenOver(RequestKind),
+    /// A server kept silent about a request, which was then sent to another one.
+    FailedOver,
+    /// A request was given up: no server was left for it.
+    GivenUp,
+    /// A request that waited made way for another one of the same source, port and Identifier.
+    Replaced,
+    /// A request that was answered came again: the reply that is held was sent once more.
+    AnsweredAgain,
+    /// The broker rejected a request by itself, before a realm was asked.
+    LocalReject,
+    /// The broker answered a reverse request by a NAK of its own.
+    Nak(NakCause),
+    /// A reply was taken that came within so long of its request's last sending.
+    AnswerWithin(Delay),
+    /// How long all these took together, in milliseconds.
+    AnswerTime,
 }
 
 impl Event {
     /// Its place among all events.
     pub fn place(self) -> usize
         ensures value { result ≡ spec.event_place self }
-        ensures below { result < 69 }
+        ensures below { result < 91 }
     {
         match self {
             Event::Request(kind) => kind.place(),
             Event::Forwarded(kind) => 4 + kind.place(),
-            Event::SentByTick(kind) => 8 + kind.place(),
+            Event::SentAgain(kind) => 8 + kind.place(),
             Event::Waiting => 12,
             Event::Reply(kind) => 13 + kind.place(),
             Event::Returned(kind) => 21 + kind.place(),
             Event::Answered(kind) => 29 + kind.place(),
             Event::AnsweredByTick(kind) => 37 + kind.place(),
             Event::Refused(refusal) => 44 + usize::from(refusal.number()),
+            Event::TakenOver(kind) => 69 + kind.place(),
+            Event::FailedOver => 73,
+            Event::GivenUp => 74,
+            Event::Replaced => 75,
+            Event::AnsweredAgain => 76,
+            Event::LocalReject => 77,
+            Event::Nak(cause) => 78 + cause.place(),
+            Event::AnswerWithin(delay) => 82 + delay.place(),
+            Event::AnswerTime => 90,
         }
     }
 }

@@ -27,6 +27,46 @@ pub enum ReplyKind {
     CoaNak,
 }
 
+/// Why the broker answers a reverse request by a NAK of its own, by its Error-Cause (RFC 5176, section 3.5).
+#[derive(Clone, Copy, Debug, PartialEq, Eq)]
+pub enum NakCause {
+    /// 401: the request holds what the broker can't carry.
+    UnsupportedAttribute,
+    /// 502: there is no access server for it, or it isn't of this realm.
+    RequestNotRoutable,
+    /// 503: the session that it names isn't open.
+    SessionNotFound,
+    /// 505: the access server didn't answer.
+    OtherProxyProcessingError,
+}
+
+impl NakCause {
+    /// That of an Error-Cause; none where the broker gives no such cause.
+    pub fn of(cause: u32) -> Option<NakCause>
+        ensures { result ≡ spec.cause_of cause }
+    {
+        match cause {
+            401 => Some(NakCause::UnsupportedAttribute),
+            502 => Some(NakCause::RequestNotRoutable),
+            503 => Some(NakCause::SessionNotFound),
+            505 => Some(NakCause::OtherProxyProcessingError),
+            _ => None,
+        }
+    }
+
+    /// Its place among the four.
+    pub fn place(self) -> usize
+        ensures { result ≡ spec.cause_place self }
+    {
+        match self {
+            NakCause::UnsupportedAttribute => 0,
+            NakCause::RequestNotRoutable => 1,
+            NakCause::SessionNotFound => 2,
+            NakCause::OtherProxyProcessingError => 3,
+        }
+    }
+}
+
 impl RequestKind {
     /// The request of a code; none where the code is no such request's.
     pub fn of(code: u8) -> Option<RequestKind>

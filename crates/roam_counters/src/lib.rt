@@ -4,6 +4,7 @@
 #![tactic(auto)]
 
 mod cell;
+mod delay;
 mod end;
 mod event;
 mod kinds;
@@ -12,8 +13,9 @@ mod process;
 mod turn;
 
 pub use cell::{Layout, Subject};
-pub use end::end_at;
+pub use delay::Delay;
+pub use end::{end_at, subject_of};
 pub use event::{EVENTS, Event};
-pub use kinds::{ReplyKind, RequestKind};
+pub use kinds::{NakCause, ReplyKind, RequestKind};
 pub use process::Process;
 pub use turn::{Turn, tick_event};

@@ -26,6 +26,11 @@ pub enum Process {
     StepLetGo,
     /// The stored steps of a shard were let go of.
     TimeLetGo,
+    /// A line of an exchange was dropped, since too many waited to be told.
+    LineDropped,
+    /// A tick found no room to note a request that it may have given up: no line tells of it, and it isn't counted
+    /// whether it went to another server or was given up.
+    NoteMissed,
 }
 
 impl Process {
@@ -44,7 +49,7 @@ impl Process {
     /// Its place among these counts.
     pub fn place(self) -> usize
         ensures value { result ≡ spec.process_place self }
-        ensures below { result < 12 }
+        ensures below { result < 14 }
     {
         match self {
             Process::ReceivedAuth => 0,
@@ -59,6 +64,8 @@ impl Process {
             Process::Step => 9,
             Process::StepLetGo => 10,
             Process::TimeLetGo => 11,
+            Process::LineDropped => 12,
+            Process::NoteMissed => 13,
         }
     }
 }

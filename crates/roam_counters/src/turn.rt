@@ -98,7 +98,7 @@ pub fn tick_event(from: Place, code: u8) -> Option<Event>
 {
     match from {
         Place::Out(_) => match RequestKind::of(code) {
-            Some(kind) => Some(Event::SentByTick(kind)),
+            Some(kind) => Some(Event::SentAgain(kind)),
             None => None,
         },
         _ => match ReplyKind::of(code) {

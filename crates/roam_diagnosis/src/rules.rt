@@ -7,7 +7,7 @@ use crate::place::Kind;
 #[derive(Clone, Copy)]
 pub(crate) struct Rule(pub &'static str, pub bool, pub Form);
 
-const TOP: [Rule; 13] = [
+const TOP: [Rule; 14] = [
     Rule("shards", true, Form::Number(1, 64)),
     Rule("seed", true, Form::Seed),
     Rule("auth", true, Form::Endpoint),
@@ -19,6 +19,7 @@ const TOP: [Rule; 13] = [
     Rule("spread", false, Form::Flag),
     Rule("metrics", false, Form::Endpoint),
     Rule("control", false, Form::SocketPath),
+    Rule("log_exchanges", false, Form::Flag),
     Rule("peer", true, Form::Tables(1024)),
     Rule("realm", true, Form::Tables(1024)),
 ];

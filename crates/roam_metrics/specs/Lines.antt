@@ -1,7 +1,9 @@
 -- The lines of a page in Prometheus' text format, version 0.0.4.
-use Rattle.std.specs.Prelude.{ℕ, codes, ◌==◌, List, [], ◌∷◌, ◌++◌, if◌then◌else◌}
+use Rattle.std.specs.Prelude.{ℕ, codes, ◌+◌, ◌/◌, ◌%◌, ◌==◌, List, [], ◌∷◌, ◌++◌, if◌then◌else◌}
 use Rattle.std.specs.Fmt.{decimal}
 use Rattle.std.specs.List.{flat_map}
+use Rattle.roam_metrics.specs.declared.samples.Kind.{Kind}
+use Rattle.roam_metrics.specs.declared.samples.Kind.TheVariants as kind
 use Rattle.roam_metrics.specs.declared.samples.Label.{Label}
 
 -- an octet of a label's value: a quotation mark (34), a reverse solidus (92) and a line feed (10) have a reverse solidus
@@ -27,7 +29,19 @@ labels_text labels = flat_map label_text labels
 abbrev pub sample_text : List ℕ → List Label → ℕ → List ℕ
 sample_text name labels value = name ++ codes "{" ++ labels_text labels ++ codes "} " ++ decimal value ++ codes "\n"
 
--- what stands before the samples of a counter
-abbrev pub header_text : List ℕ → List ℕ → List ℕ
-header_text name help =
-    codes "# HELP " ++ name ++ codes " " ++ help ++ codes "\n# TYPE " ++ name ++ codes " counter\n"
+-- a sample in seconds, of so many milliseconds: 48 is the digit 0
+abbrev pub seconds_text : List ℕ → List Label → ℕ → List ℕ
+seconds_text name labels milliseconds =
+    name ++ codes "{" ++ labels_text labels ++ codes "} " ++ decimal (milliseconds / 1000) ++
+    (46 ∷ (48 + milliseconds / 100 % 10) ∷ (48 + milliseconds / 10 % 10) ∷ (48 + milliseconds % 10) ∷ []) ++ codes "\n"
+
+-- what a metric is
+abbrev pub kind_word : Kind → List ℕ
+kind_word kind.Counter = codes " counter\n"
+kind_word kind.Gauge = codes " gauge\n"
+kind_word kind.Histogram = codes " histogram\n"
+
+-- what stands before the samples of a metric
+abbrev pub header_text : List ℕ → List ℕ → Kind → List ℕ
+header_text name help kind =
+    codes "# HELP " ++ name ++ codes " " ++ help ++ codes "\n# TYPE " ++ name ++ kind_word kind

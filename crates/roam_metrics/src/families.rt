@@ -19,14 +19,16 @@ pub(crate) const SCOPES: [Scope; 3] = [Scope::Realm, Scope::Server, Scope::Peer]
 pub(crate) enum OfRequests {
     Came,
     Forwarded,
-    SentByTick,
+    SentAgain,
+    TakenOver,
 }
 
 /// All of it.
-pub(crate) const OF_REQUESTS: [OfRequests; 3] = [
+pub(crate) const OF_REQUESTS: [OfRequests; 4] = [
     OfRequests::Came,
     OfRequests::Forwarded,
-    OfRequests::SentByTick,
+    OfRequests::SentAgain,
+    OfRequests::TakenOver,
 ];
 
 /// What is counted by the kind of a reply.
@@ -80,13 +82,16 @@ impl OfRequests {
         match (scope, self) {
             (Scope::Realm, OfRequests::Came) => "roam_realm_requests_total",
             (Scope::Realm, OfRequests::Forwarded) => "roam_realm_forwarded_total",
-            (Scope::Realm, OfRequests::SentByTick) => "roam_realm_sent_by_tick_total",
+            (Scope::Realm, OfRequests::SentAgain) => "roam_realm_sent_again_total",
+            (Scope::Realm, OfRequests::TakenOver) => "roam_realm_taken_over_total",
             (Scope::Server, OfRequests::Came) => "roam_server_requests_total",
             (Scope::Server, OfRequests::Forwarded) => "roam_server_forwarded_total",
-            (Scope::Server, OfRequests::SentByTick) => "roam_server_sent_by_tick_total",
+            (Scope::Server, OfRequests::SentAgain) => "roam_server_sent_again_total",
+            (Scope::Server, OfRequests::TakenOver) => "roam_server_taken_over_total",
             (Scope::Peer, OfRequests::Came) => "roam_peer_requests_total",
             (Scope::Peer, OfRequests::Forwarded) => "roam_peer_forwarded_total",
-            (Scope::Peer, OfRequests::SentByTick) => "roam_peer_sent_by_tick_total",
+            (Scope::Peer, OfRequests::SentAgain) => "roam_peer_sent_again_total",
+            (Scope::Peer, OfRequests::TakenOver) => "roam_peer_taken_over_total",
         }
     }
 
@@ -95,8 +100,11 @@ impl OfRequests {
         match self {
             OfRequests::Came => "Requests that passed the checks of their arrival.",
             OfRequests::Forwarded => "New requests that were forwarded.",
-            OfRequests::SentByTick => {
-                "Requests that were sent again, or to the next server, since no reply came."
+            OfRequests::SentAgain => {
+                "Requests that were sent to the same server again, since no reply came."
+            }
+            OfRequests::TakenOver => {
+                "Requests that were sent to a server since another one kept silent."
             }
         }
     }
@@ -106,7 +114,8 @@ impl OfRequests {
         match self {
             OfRequests::Came => Event::Request(kind),
             OfRequests::Forwarded => Event::Forwarded(kind),
-            OfRequests::SentByTick => Event::SentByTick(kind),
+            OfRequests::SentAgain => Event::SentAgain(kind),
+            OfRequests::TakenOver => Event::TakenOver(kind),
         }
     }
 }
@@ -153,6 +162,83 @@ impl OfReplies {
     }
 }
 
+/// What is counted of a subject alone.
+#[derive(Clone, Copy, PartialEq, Eq)]
+pub(crate) enum Single {
+    Waiting,
+    AnsweredAgain,
+    FailedOver,
+    GivenUp,
+    Replaced,
+    LocalReject,
+}
+
+/// All of it.
+pub(crate) const SINGLES: [Single; 6] = [
+    Single::Waiting,
+    Single::AnsweredAgain,
+    Single::FailedOver,
+    Single::GivenUp,
+    Single::Replaced,
+    Single::LocalReject,
+];
+
+impl Single {
+    /// The name of its metric.
+    pub(crate) fn name(self, scope: Scope) -> &'static str {
+        match (scope, self) {
+            (Scope::Realm, Single::Waiting) => "roam_realm_waiting_duplicates_total",
+            (Scope::Server, Single::Waiting) => "roam_server_waiting_duplicates_total",
+            (Scope::Peer, Single::Waiting) => "roam_peer_waiting_duplicates_total",
+            (Scope::Realm, Single::AnsweredAgain) => "roam_realm_answered_duplicates_total",
+            (Scope::Server, Single::AnsweredAgain) => "roam_server_answered_duplicates_total",
+            (Scope::Peer, Single::AnsweredAgain) => "roam_peer_answered_duplicates_total",
+            (Scope::Realm, Single::FailedOver) => "roam_realm_failed_over_total",
+            (Scope::Server, Single::FailedOver) => "roam_server_failed_over_total",
+            (Scope::Peer, Single::FailedOver) => "roam_peer_failed_over_total",
+            (Scope::Realm, Single::GivenUp) => "roam_realm_given_up_total",
+            (Scope::Server, Single::GivenUp) => "roam_server_given_up_total",
+            (Scope::Peer, Single::GivenUp) => "roam_peer_given_up_total",
+            (Scope::Realm, Single::Replaced) => "roam_realm_replaced_total",
+            (Scope::Server, Single::Replaced) => "roam_server_replaced_total",
+            (Scope::Peer, Single::Replaced) => "roam_peer_replaced_total",
+            (Scope::Realm, Single::LocalReject) => "roam_realm_local_rejects_total",
+            (Scope::Server, Single::LocalReject) => "roam_server_local_rejects_total",
+            (Scope::Peer, Single::LocalReject) => "roam_peer_local_rejects_total",
+        }
+    }
+
+    /// What it means.
+    pub(crate) fn help(self) -> &'static str {
+        match self {
+            Single::Waiting =>
+                "Requests that came again while the first one waited: nothing was sent.",
+            Single::AnsweredAgain =>
+                "Requests that came again: the reply that is held was sent once more.",
+            Single::FailedOver =>
+                "Requests that a server left without an answer, and that went to another one.",
+            Single::GivenUp => "Requests that no server answered in time.",
+            Single::Replaced => {
+                "Requests that waited, and made way for another of the same source, port and Identifier."
+            }
+            Single::LocalReject =>
+                "Access-Requests that the broker rejected before a realm was asked.",
+        }
+    }
+
+    /// The event.
+    pub(crate) fn event(self) -> Event {
+        match self {
+            Single::Waiting => Event::Waiting,
+            Single::AnsweredAgain => Event::AnsweredAgain,
+            Single::FailedOver => Event::FailedOver,
+            Single::GivenUp => Event::GivenUp,
+            Single::Replaced => Event::Replaced,
+            Single::LocalReject => Event::LocalReject,
+        }
+    }
+}
+
 impl Scope {
     /// The name of the metric of refusals.
     pub(crate) fn refusals(self) -> &'static str {
@@ -163,12 +249,12 @@ impl Scope {
         }
     }
 
-    /// The name of the metric of duplicates for which nothing was sent.
-    pub(crate) fn waiting(self) -> &'static str {
+    /// The name of the metric of NAKs.
+    pub(crate) fn naks(self) -> &'static str {
         match self {
-            Scope::Realm => "roam_realm_waiting_duplicates_total",
-            Scope::Server => "roam_server_waiting_duplicates_total",
-            Scope::Peer => "roam_peer_waiting_duplicates_total",
+            Scope::Realm => "roam_realm_naks_total",
+            Scope::Server => "roam_server_naks_total",
+            Scope::Peer => "roam_peer_naks_total",
         }
     }
 }

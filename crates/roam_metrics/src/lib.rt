@@ -4,12 +4,14 @@
 #![tactic(auto)]
 
 mod families;
+mod gauges;
 pub mod laws;
 mod pages;
 mod samples;
 mod standing;
 mod words;
 
+pub use gauges::Gauge;
 pub use pages::{Counts, page};
-pub use samples::{Label, push_header, push_sample};
+pub use samples::{Kind, Label, push_header, push_sample, push_seconds};
 pub use standing::{Form, status};

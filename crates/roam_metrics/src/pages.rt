@@ -3,9 +3,14 @@
 ghost use Rattle.std.specs.Prelude.{OnOk, IfOk};
 ghost use Rattle.roam_metrics.specs.Pages.{AreLines, MoreLines};
 
-use crate::families::{OF_REPLIES, OF_REQUESTS, OfReplies, OfRequests, REFUSALS, SCOPES, Scope};
-use crate::samples::{Label, push_header, push_sample};
-use crate::words::{REPLIES, REQUESTS, reply_word, request_word};
+use crate::families::{
+    OF_REPLIES, OF_REQUESTS, OfReplies, OfRequests, REFUSALS, SCOPES, SINGLES, Scope, Single,
+};
+use crate::gauges::{Gauge, OF_GAUGES, OfGauges};
+use crate::samples::{Kind, Label, push_header, push_sample, push_seconds};
+use crate::words::{
+    BOUNDS, NAKS, REPLIES, REQUESTS, bound_word, nak_word, reply_word, request_word,
+};
 use itoa::Buffer;
 use roam_conf::Config;
 use roam_counters::{Event, Process, Subject};
@@ -19,6 +24,9 @@ pub trait Counts {
 
     /// How often this was counted of the whole server.
     fn process(&self, process: Process) -> u64;
+
+    /// How this stands at the moment; none where that isn't known.
+    fn gauge(&self, gauge: Gauge) -> Option<u64>;
 }
 
 /// A subject with its name: that of the realm or the peer; of a home server the realm's, and its own endpoint.
@@ -63,7 +71,43 @@ fn all_named(alloc: Global, config: &Config) -> Result<Vec<Named<'_>>, AllocErro
     Ok(all)
 }
 
-/// Adds the sample of a count, where it isn't 0: with the names of its subject, and a label more.
+/// The labels of a subject.
+fn labels_of<'n>(named: &'n Named<'_>) -> (Label<'n>, Option<Label<'n>>) {
+    let whose = Label {
+        name: if named.scope == Scope::Peer {
+            "peer"
+        } else {
+            "realm"
+        },
+        value: named.name,
+    };
+    let server = match &named.server {
+        Some(server) => Some(Label {
+            name: "server",
+            value: server.as_str(),
+        }),
+        None => None,
+    };
+    (whose, server)
+}
+
+/// Adds the sample of a count, with the names of its subject and a label more.
+fn push_labelled(
+    page: &mut Vec<u8>,
+    name: &str,
+    named: &Named<'_>,
+    more: Label<'_>,
+    value: u64,
+) -> Result<(), AllocError>
+    ensures { OnOk result (MoreLines page.old.items page.new.items) }
+{
+    match labels_of(named) {
+        (whose, Some(server)) => push_sample(page, name, &[whose, server, more], value),
+        (whose, None) => push_sample(page, name, &[whose, more], value),
+    }
+}
+
+/// The same, where it isn't 0.
 fn push_count(
     page: &mut Vec<u8>,
     name: &str,
@@ -76,23 +120,24 @@ fn push_count(
     if value == 0 {
         return Ok(());
     }
-    let whose = Label {
-        name: if named.scope == Scope::Peer {
-            "peer"
-        } else {
-            "realm"
-        },
-        value: named.name,
-    };
-    match &named.server {
-        Some(server) => {
-            let server = Label {
-                name: "server",
-                value: server.as_str(),
-            };
-            push_sample(page, name, &[whose, server, more], value)
-        }
-        None => push_sample(page, name, &[whose, more], value),
+    push_labelled(page, name, named, more, value)
+}
+
+/// Adds the sample of a count, where it isn't 0: with the names of its subject.
+fn push_named(
+    page: &mut Vec<u8>,
+    name: &str,
+    named: &Named<'_>,
+    value: u64,
+) -> Result<(), AllocError>
+    ensures { OnOk result (MoreLines page.old.items page.new.items) }
+{
+    if value == 0 {
+        return Ok(());
+    }
+    match labels_of(named) {
+        (whose, Some(server)) => push_sample(page, name, &[whose, server], value),
+        (whose, None) => push_sample(page, name, &[whose], value),
     }
 }
 
@@ -126,7 +171,7 @@ fn push_requests<C: Counts>(
 ) -> Result<(), AllocError>
     ensures { OnOk result (MoreLines page.old.items page.new.items) }
 {
-    push_header(page, family.name(scope), family.help())?;
+    push_header(page, family.name(scope), family.help(), Kind::Counter)?;
     for named in all {
         if named.scope == scope {
             push_requests_of(page, counts, named, family)?;
@@ -165,7 +210,7 @@ fn push_replies<C: Counts>(
 ) -> Result<(), AllocError>
     ensures { OnOk result (MoreLines page.old.items page.new.items) }
 {
-    push_header(page, family.name(scope), family.help())?;
+    push_header(page, family.name(scope), family.help(), Kind::Counter)?;
     for named in all {
         if named.scope == scope {
             push_replies_of(page, counts, named, family)?;
@@ -204,7 +249,7 @@ fn push_refusals<C: Counts>(
     ensures { OnOk result (MoreLines page.old.items page.new.items) }
 {
     let help = "Arrivals that were refused, by the number of the refusal.";
-    push_header(page, scope.refusals(), help)?;
+    push_header(page, scope.refusals(), help, Kind::Counter)?;
     for named in all {
         if named.scope == scope {
             push_refusals_of(page, counts, named)?;
@@ -213,8 +258,47 @@ fn push_refusals<C: Counts>(
     Ok(())
 }
 
-/// Adds the metric of duplicates for which nothing was sent.
-fn push_waiting<C: Counts>(
+/// Adds a metric that has one count of each subject.
+fn push_single<C: Counts>(
+    page: &mut Vec<u8>,
+    counts: &C,
+    all: &[Named<'_>],
+    scope: Scope,
+    family: Single,
+) -> Result<(), AllocError>
+    ensures { OnOk result (MoreLines page.old.items page.new.items) }
+{
+    push_header(page, family.name(scope), family.help(), Kind::Counter)?;
+    for named in all {
+        if named.scope == scope {
+            let value = counts.event(named.subject, family.event());
+            push_named(page, family.name(scope), named, value)?;
+        }
+    }
+    Ok(())
+}
+
+/// Adds the NAKs of a subject.
+fn push_naks_of<C: Counts>(
+    page: &mut Vec<u8>,
+    counts: &C,
+    named: &Named<'_>,
+) -> Result<(), AllocError>
+    ensures { OnOk result (MoreLines page.old.items page.new.items) }
+{
+    for cause in &NAKS {
+        let value = counts.event(named.subject, Event::Nak(*cause));
+        let label = Label {
+            name: "error_cause",
+            value: nak_word(*cause),
+        };
+        push_count(page, named.scope.naks(), named, label, value)?;
+    }
+    Ok(())
+}
+
+/// Adds the metric of NAKs.
+fn push_naks<C: Counts>(
     page: &mut Vec<u8>,
     counts: &C,
     all: &[Named<'_>],
@@ -222,17 +306,11 @@ fn push_waiting<C: Counts>(
 ) -> Result<(), AllocError>
     ensures { OnOk result (MoreLines page.old.items page.new.items) }
 {
-    let name = scope.waiting();
-    let help = "Requests that came again while the first one waited: nothing was sent.";
-    push_header(page, name, help)?;
+    let help = "Disconnect- and CoA-Requests that the broker answered by a NAK of its own.";
+    push_header(page, scope.naks(), help, Kind::Counter)?;
     for named in all {
         if named.scope == scope {
-            let value = counts.event(named.subject, Event::Waiting);
-            let label = Label {
-                name: "outcome",
-                value: "waiting",
-            };
-            push_count(page, name, named, label, value)?;
+            push_naks_of(page, counts, named)?;
         }
     }
     Ok(())
@@ -250,10 +328,13 @@ fn push_scope<C: Counts>(
     for family in &OF_REQUESTS {
         push_requests(page, counts, all, scope, *family)?;
     }
-    push_waiting(page, counts, all, scope)?;
+    for family in &SINGLES {
+        push_single(page, counts, all, scope, *family)?;
+    }
     for family in &OF_REPLIES {
         push_replies(page, counts, all, scope, *family)?;
     }
+    push_naks(page, counts, all, scope)?;
     push_refusals(page, counts, all, scope)
 }
 
@@ -268,7 +349,7 @@ fn push_process<C: Counts>(
 ) -> Result<(), AllocError>
     ensures { OnOk result (MoreLines page.old.items page.new.items) }
 {
-    push_header(page, name, help)?;
+    push_header(page, name, help, Kind::Counter)?;
     for (value, process) in samples {
         let label = Label {
             name: label,
@@ -329,6 +410,18 @@ fn push_server<C: Counts>(page: &mut Vec<u8>, counts: &C) -> Result<(), AllocErr
         "outcome",
         &steps,
     )?;
+    let lines = [
+        ("dropped", Process::LineDropped),
+        ("not_noted", Process::NoteMissed),
+    ];
+    push_process(
+        page,
+        counts,
+        "roam_exchange_lines_lost_total",
+        "Exchanges that ended without a line in the log.",
+        "cause",
+        &lines,
+    )?;
     let times = [("let_go", Process::TimeLetGo)];
     push_process(
         page,
@@ -349,6 +442,7 @@ fn push_all_refusals<C: Counts>(page: &mut Vec<u8>, counts: &C) -> Result<(), Al
         page,
         name,
         "Arrivals and ticks that were refused, by the number of the refusal.",
+        Kind::Counter,
     )?;
     for refusal in &REFUSALS {
         let mut number = Buffer::new();
@@ -366,6 +460,164 @@ fn push_all_refusals<C: Counts>(page: &mut Vec<u8>, counts: &C) -> Result<(), Al
     Ok(())
 }
 
+/// Adds how long so many answers of a home server took together, in milliseconds; nothing where there were none.
+fn push_time(
+    page: &mut Vec<u8>,
+    named: &Named<'_>,
+    answers: u64,
+    time: u64,
+) -> Result<(), AllocError>
+    ensures { OnOk result (MoreLines page.old.items page.new.items) }
+{
+    if answers == 0 {
+        return Ok(());
+    }
+    match labels_of(named) {
+        (whose, Some(server)) => push_seconds(
+            page,
+            "roam_server_answer_seconds_sum",
+            &[whose, server],
+            time,
+        ),
+        (_, None) => Ok(()),
+    }
+}
+
+/// Adds how long a home server took to answer: how many of its answers keep each bound, and how long all took together.
+fn push_times_of<C: Counts>(
+    page: &mut Vec<u8>,
+    counts: &C,
+    named: &Named<'_>,
+) -> Result<(), AllocError>
+    ensures { OnOk result (MoreLines page.old.items page.new.items) }
+{
+    let mut sum = 0u64;
+    for bound in &BOUNDS {
+        sum = sum.wrapping_add(counts.event(named.subject, Event::AnswerWithin(*bound)));
+        let label = Label {
+            name: "le",
+            value: bound_word(*bound),
+        };
+        push_count(page, "roam_server_answer_seconds_bucket", named, label, sum)?;
+    }
+    push_named(page, "roam_server_answer_seconds_count", named, sum)?;
+    let time = counts.event(named.subject, Event::AnswerTime);
+    push_time(page, named, sum, time)
+}
+
+/// Adds how long home servers took to answer.
+fn push_times<C: Counts>(
+    page: &mut Vec<u8>,
+    counts: &C,
+    all: &[Named<'_>],
+) -> Result<(), AllocError>
+    ensures { OnOk result (MoreLines page.old.items page.new.items) }
+{
+    push_header(
+        page,
+        "roam_server_answer_seconds",
+        "From the last sending of a request to its reply.",
+        Kind::Histogram,
+    )?;
+    for named in all {
+        if named.scope == Scope::Server {
+            push_times_of(page, counts, named)?;
+        }
+    }
+    Ok(())
+}
+
+/// The endpoints of a home server, as a label names them.
+const SERVICES: [&str; 2] = ["auth", "acct"];
+
+/// Adds the sample of how something stands: of a home server with the endpoint that it is of.
+fn push_standing(
+    page: &mut Vec<u8>,
+    name: &str,
+    named: &Named<'_>,
+    service: Label<'_>,
+    value: u64,
+) -> Result<(), AllocError>
+    ensures { OnOk result (MoreLines page.old.items page.new.items) }
+{
+    match labels_of(named) {
+        (whose, Some(server)) => push_sample(page, name, &[whose, server, service], value),
+        (whose, None) => push_sample(page, name, &[whose], value),
+    }
+}
+
+/// Adds how something stands of a subject.
+fn push_gauge_of<C: Counts>(
+    page: &mut Vec<u8>,
+    counts: &C,
+    named: &Named<'_>,
+    family: OfGauges,
+) -> Result<(), AllocError>
+    ensures { OnOk result (MoreLines page.old.items page.new.items) }
+{
+    for (gauge, service) in family.gauges(named.subject).iter().zip(SERVICES.iter()) {
+        let Some(gauge) = *gauge else {
+            continue;
+        };
+        let Some(value) = counts.gauge(gauge) else {
+            continue;
+        };
+        let label = Label {
+            name: "service",
+            value: *service,
+        };
+        push_standing(page, family.name(), named, label, value)?;
+    }
+    Ok(())
+}
+
+/// Adds a metric of how something stands.
+fn push_gauge<C: Counts>(
+    page: &mut Vec<u8>,
+    counts: &C,
+    all: &[Named<'_>],
+    family: OfGauges,
+) -> Result<(), AllocError>
+    ensures { OnOk result (MoreLines page.old.items page.new.items) }
+{
+    push_header(page, family.name(), family.help(), Kind::Gauge)?;
+    for named in all {
+        push_gauge_of(page, counts, named, family)?;
+    }
+    Ok(())
+}
+
+/// Adds how all stands.
+fn push_gauges<C: Counts>(
+    page: &mut Vec<u8>,
+    counts: &C,
+    all: &[Named<'_>],
+) -> Result<(), AllocError>
+    ensures { OnOk result (MoreLines page.old.items page.new.items) }
+{
+    for family in &OF_GAUGES {
+        push_gauge(page, counts, all, *family)?;
+    }
+    push_history(page, counts)
+}
+
+/// Adds how many octets the stored steps have, where that is known.
+fn push_history<C: Counts>(page: &mut Vec<u8>, counts: &C) -> Result<(), AllocError>
+    ensures { OnOk result (MoreLines page.old.items page.new.items) }
+{
+    let Some(octets) = counts.gauge(Gauge::HistoryOctets) else {
+        return Ok(());
+    };
+    let name = "roam_history_octets";
+    push_header(
+        page,
+        name,
+        "Octets of the datagrams and packets of all stored steps.",
+        Kind::Gauge,
+    )?;
+    push_sample(page, name, &[], octets)
+}
+
 /// A page of all counts of a server with this configuration. A realm's, home server's or peer's count that is 0 has no
 /// line.
 pub fn page<C: Counts>(alloc: Global, config: &Config, counts: &C) -> Result<Vec<u8>, AllocError>
@@ -378,5 +630,7 @@ pub fn page<C: Counts>(alloc: Global, config: &Config, counts: &C) -> Result<Vec
     for scope in &SCOPES {
         push_scope(&mut page, counts, all.as_slice(), *scope)?;
     }
+    push_times(&mut page, counts, all.as_slice())?;
+    push_gauges(&mut page, counts, all.as_slice())?;
     Ok(page)
 }

@@ -1,6 +1,6 @@
 //! The lines of a page.
 
-ghost use Rattle.std.specs.Prelude.{◌≡◌, ◌++◌, OnOk};
+ghost use Rattle.std.specs.Prelude.{◌≡◌, ◌++◌, ◌+◌, ◌<◌, OnOk};
 ghost use Rattle.roam_metrics.specs.Lines as spec;
 ghost use Rattle.roam_metrics.specs.Pages.{MoreLines};
 
@@ -84,9 +84,62 @@ fn write_sample(
     push(page, b"\n")
 }
 
-/// Writes the two lines that stand before the samples of a counter.
-fn write_header(page: &mut Vec<u8>, name: &str, help: &str) -> Result<(), AllocError>
-    ensures { OnOk result (page.new.items ≡ page.old.items ++ spec.header_text name.now help.now) }
+/// A decimal digit.
+fn digit(number: u64) -> u8
+    requires { number < 10 }
+    ensures { result ≡ 48 + number }
+{
+    b'0' + number as u8
+}
+
+/// Writes a sample whose value is so many thousandths.
+fn write_seconds(
+    page: &mut Vec<u8>,
+    name: &str,
+    labels: &[Label<'_>],
+    milliseconds: u64,
+) -> Result<(), AllocError>
+    ensures { OnOk result (page.new.items
+        ≡ page.old.items ++ spec.seconds_text name.now labels.now milliseconds) }
+{
+    push(page, name.as_bytes())?;
+    push(page, b"{")?;
+    push_labels(page, labels)?;
+    push(page, b"} ")?;
+    let mut buffer = Buffer::new();
+    push(page, buffer.format(milliseconds / 1000).as_bytes())?;
+    let hundreds = digit(milliseconds / 100 % 10);
+    let tens = digit(milliseconds / 10 % 10);
+    let ones = digit(milliseconds % 10);
+    push(page, &[b'.', hundreds, tens, ones])?;
+    push(page, b"\n")
+}
+
+/// What a metric is.
+#[derive(Clone, Copy, Debug, PartialEq, Eq)]
+pub enum Kind {
+    /// It grows, or begins again at 0.
+    Counter,
+    /// It rises and falls.
+    Gauge,
+    /// Counters of what keeps each of some bounds.
+    Histogram,
+}
+
+/// The word of a kind, behind a blank, and the end of its line.
+fn kind_word(kind: Kind) -> &'static str
+    ensures { result.now ≡ spec.kind_word kind }
+{
+    match kind {
+        Kind::Counter => " counter\n",
+        Kind::Gauge => " gauge\n",
+        Kind::Histogram => " histogram\n",
+    }
+}
+
+/// Writes the two lines that stand before the samples of a metric.
+fn write_header(page: &mut Vec<u8>, name: &str, help: &str, kind: Kind) -> Result<(), AllocError>
+    ensures { OnOk result (page.new.items ≡ page.old.items ++ spec.header_text name.now help.now kind) }
 {
     push(page, b"# HELP ")?;
     push(page, name.as_bytes())?;
@@ -94,7 +147,7 @@ fn write_header(page: &mut Vec<u8>, name: &str, help: &str) -> Result<(), AllocE
     push(page, help.as_bytes())?;
     push(page, b"\n# TYPE ")?;
     push(page, name.as_bytes())?;
-    push(page, b" counter\n")
+    push(page, kind_word(kind).as_bytes())
 }
 
 /// Adds a sample to a page: its name, its labels and its value, on a line.
@@ -110,10 +163,24 @@ pub fn push_sample(
     write_sample(page, name, labels, value)
 }
 
-/// Adds the two lines that stand before the samples of a counter: what it means, and that it is one.
-pub fn push_header(page: &mut Vec<u8>, name: &str, help: &str) -> Result<(), AllocError>
-    ensures text { OnOk result (page.new.items ≡ page.old.items ++ spec.header_text name.now help.now) }
+/// Adds a sample to a page whose value is in seconds: of so many milliseconds.
+pub fn push_seconds(
+    page: &mut Vec<u8>,
+    name: &str,
+    labels: &[Label<'_>],
+    milliseconds: u64,
+) -> Result<(), AllocError>
+    ensures text { OnOk result (page.new.items
+        ≡ page.old.items ++ spec.seconds_text name.now labels.now milliseconds) }
     ensures lines { OnOk result (MoreLines page.old.items page.new.items) }
 {
-    write_header(page, name, help)
+    write_seconds(page, name, labels, milliseconds)
+}
+
+/// Adds the two lines that stand before the samples of a metric: what it means, and of which kind it is.
+pub fn push_header(page: &mut Vec<u8>, name: &str, help: &str, kind: Kind) -> Result<(), AllocError>
+    ensures text { OnOk result (page.new.items ≡ page.old.items ++ spec.header_text name.now help.now kind) }
+    ensures lines { OnOk result (MoreLines page.old.items page.new.items) }
+{
+    write_header(page, name, help, kind)
 }

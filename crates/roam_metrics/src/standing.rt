@@ -2,6 +2,7 @@
 //! and as JSON (RFC 8259).
 
 use crate::families::{OF_REPLIES, OF_REQUESTS, OfReplies, OfRequests, REFUSALS};
+use crate::gauges::Gauge;
 use crate::pages::Counts;
 use crate::words::{REPLIES, REQUESTS};
 use roam_conf::{Config, Realm};
@@ -23,7 +24,10 @@ pub enum Form {
 struct Totals {
     requests: u64,
     forwarded: u64,
-    sent_by_tick: u64,
+    sent_again: u64,
+    failed_over: u64,
+    given_up: u64,
+    duplicates: u64,
     replies: u64,
     returned: u64,
     refused: u64,
@@ -61,7 +65,12 @@ impl Totals {
         Totals {
             requests: of_requests(counts, subject, OfRequests::Came),
             forwarded: of_requests(counts, subject, OfRequests::Forwarded),
-            sent_by_tick: of_requests(counts, subject, OfRequests::SentByTick),
+            sent_again: of_requests(counts, subject, OfRequests::SentAgain),
+            failed_over: counts.event(subject, Event::FailedOver),
+            given_up: counts.event(subject, Event::GivenUp),
+            duplicates: counts
+                .event(subject, Event::Waiting)
+                .wrapping_add(counts.event(subject, Event::AnsweredAgain)),
             replies: of_replies(counts, subject, OfReplies::Came),
             returned: of_replies(counts, subject, OfReplies::Returned),
             refused: of_refusals(counts, subject),
@@ -78,15 +87,19 @@ impl TotalsText {
         let Totals {
             requests,
             forwarded,
-            sent_by_tick,
+            sent_again,
+            failed_over,
+            given_up,
+            duplicates,
             replies,
             returned,
             refused,
         } = totals;
         write!(
             f,
-            "requests {requests} forwarded {forwarded} sent again {sent_by_tick}"
+            "requests {requests} forwarded {forwarded} sent again {sent_again} failed over {failed_over}"
         )?;
+        write!(f, " given up {given_up} duplicates {duplicates}")?;
         write!(
             f,
             " replies {replies} returned {returned} refused {refused}"
@@ -97,14 +110,21 @@ impl TotalsText {
         let Totals {
             requests,
             forwarded,
-            sent_by_tick,
+            sent_again,
+            failed_over,
+            given_up,
+            duplicates,
             replies,
             returned,
             refused,
         } = totals;
         write!(
             f,
-            "\"requests\":{requests},\"forwarded\":{forwarded},\"sent_again\":{sent_by_tick}"
+            "\"requests\":{requests},\"forwarded\":{forwarded},\"sent_again\":{sent_again}"
+        )?;
+        write!(
+            f,
+            ",\"failed_over\":{failed_over},\"given_up\":{given_up},\"duplicates\":{duplicates}"
         )?;
         write!(
             f,
@@ -120,6 +140,43 @@ impl Display for TotalsText {
             Form::Json => TotalsText::write_json(self.0, f),
         }
     }
+}
+
+/// How something stands, with a word before it; nothing where that isn't known.
+#[derive(Clone, Copy)]
+struct GaugeText {
+    word: &'static str,
+    value: Option<u64>,
+    form: Form,
+}
+
+impl Display for GaugeText {
+    fn fmt<W: Write>(&self, f: &mut Formatter<W>) -> fmt::Result {
+        let word = self.word;
+        match (self.value, self.form) {
+            (Some(value), Form::Text) => write!(f, " {word} {value}"),
+            (Some(value), Form::Json) => write!(f, ",\"{word}\":{value}"),
+            (None, _) => Ok(()),
+        }
+    }
+}
+
+/// Adds how something stands.
+fn write_gauges<C: Counts>(
+    out: &mut String,
+    counts: &C,
+    words: &[(&'static str, Gauge)],
+    form: Form,
+) -> Result<(), AllocError> {
+    for (word, gauge) in words {
+        let text = GaugeText {
+            word: *word,
+            value: counts.gauge(*gauge),
+            form,
+        };
+        write!(out, "{text}")?;
+    }
+    Ok(())
 }
 
 /// What stands before an item of a JSON array.
@@ -140,12 +197,20 @@ fn write_servers<C: Counts>(
         let totals = TotalsText(Totals::of(counts, Subject::Server(number, place)), form);
         let endpoint = EndpointText(server.auth);
         match form {
-            Form::Text => writeln!(out, "  server {endpoint}: {totals}")?,
+            Form::Text => write!(out, "  server {endpoint}: {totals}")?,
             Form::Json => {
                 let comma = comma(at);
-                write!(out, "{comma}{{\"endpoint\":\"{endpoint}\",{totals}}}")?;
+                write!(out, "{comma}{{\"endpoint\":\"{endpoint}\",{totals}")?;
             }
         }
+        let gauges = [
+            ("auth_in_use", Gauge::AuthInUse(number, place)),
+            ("acct_in_use", Gauge::AcctInUse(number, place)),
+            ("auth_rests", Gauge::AuthRests(number, place)),
+            ("acct_rests", Gauge::AcctRests(number, place)),
+        ];
+        write_gauges(out, counts, &gauges, form)?;
+        out.push_str(if form == Form::Json { "}" } else { "\n" })?;
     }
     Ok(())
 }
@@ -162,12 +227,23 @@ fn write_realms<C: Counts>(
         let totals = TotalsText(Totals::of(counts, Subject::Realm(number)), form);
         let name = realm.name.as_str();
         match form {
-            Form::Text => writeln!(out, "realm {name}: {totals}")?,
+            Form::Text => write!(out, "realm {name}: {totals}")?,
             Form::Json => {
                 let comma = comma(at);
-                write!(out, "{comma}{{\"name\":\"{name}\",{totals},\"servers\":[")?;
+                write!(out, "{comma}{{\"name\":\"{name}\",{totals}")?;
             }
         }
+        let gauges = [
+            ("waiting", Gauge::Waiting(number)),
+            ("held", Gauge::Held(number)),
+            ("sessions", Gauge::Sessions(number)),
+        ];
+        write_gauges(out, counts, &gauges, form)?;
+        out.push_str(if form == Form::Json {
+            ",\"servers\":["
+        } else {
+            "\n"
+        })?;
         write_servers(out, counts, number, realm, form)?;
         if form == Form::Json {
             out.push_str("]}")?;

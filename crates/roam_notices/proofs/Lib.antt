@@ -1,1 +1,5 @@
+pub mod LineLemmas
+pub mod PrintableLemmas
+pub mod QuotedLemmas
 pub mod RowLemmas
+pub mod ValueLemmas

@@ -1,5 +1,5 @@
 -- The tallies of all rows, in the order in which they are told.
-use Rattle.std.proofs.Common.{arith, ◌≡◌, ◌∙◌, ℕ, zero, suc, ◌+◌, ◌<◌, List, [], ◌∷◌, ◌++◌, length, drop, slice_set, slice_index_or, ap, refl, sym, Option, Some, None, MatchOption, IfSome, IfNone}
+use Rattle.std.proofs.Common.{arith, ◌≡◌, ◌∙◌, ℕ, zero, suc, ◌<◌, List, [], ◌∷◌, ◌++◌, length, drop, slice_set, slice_index_or, ap, refl, sym, Option, Some, None, MatchOption, IfSome, IfNone}
 use Rattle.roam_notices.specs.declared.tally.Tally.{Tally}
 use Rattle.roam_notices.specs.Repeats.{AreEmptyBelow, IsFirstRow, all_tallies, row_at}
 

@@ -4,6 +4,9 @@
 //! Nothing here writes a line, reads a clock or starts a thread.
 #![tactic(auto)]
 
+mod exchange;
+mod exchange_line;
+pub mod laws;
 mod origin;
 mod repeats;
 mod row;
@@ -12,6 +15,8 @@ mod tally;
 mod tests;
 mod text;
 
+pub use exchange::{Asked, Exchange, Outcome, Value};
+pub use exchange_line::push_exchange;
 pub use origin::{Kind, Origin};
 pub use repeats::Repeats;
 pub use row::{KINDS, Row};

@@ -1,6 +1,6 @@
 //! The ledger of a realm's open sessions.
 
-ghost use Rattle.std.specs.Prelude.{◌≡◌, ◌<◌, ◌≤◌, [], IfOk, IsOk, OnOk, OnErr};
+ghost use Rattle.std.specs.Prelude.{◌≡◌, ◌<◌, ◌≤◌, [], IfOk, IsOk, OnOk, OnErr, length};
 ghost use Rattle.roam_reverse.specs.Sessions.{IsLedger, applied, change_by_request, changed, closes_all, has_session, with_session, without_session, without_peer};
 ghost use Rattle.roam_reverse.specs.Shown.{HasRoomFor, shown_session};
 
@@ -48,6 +48,13 @@ impl<A: Allocator + Copy> Sessions<A> {
             limit,
             chain: Chain::new(alloc),
         }
+    }
+
+    /// How many sessions are open. Takes no memory.
+    pub fn len(&self) -> usize
+        ensures { result ≡ length self.now.sessions }
+    {
+        self.chain.len()
     }
 
     /// Whether the session of a peer and an id is open. Takes no memory.

@@ -7,3 +7,6 @@ invariant-loop-family g l = MoreLines l.initial.page.items l.page.items
 
 abbrev pub invariant-loop-family-2 : goal.invariant-loop-family-2
 invariant-loop-family-2 g l = MoreLines l.initial.page.items l.page.items
+
+abbrev pub invariant-loop-family-3 : goal.invariant-loop-family-3
+invariant-loop-family-3 g l = MoreLines l.initial.page.items l.page.items

@@ -1,0 +1,6 @@
+use Rattle.roam_metrics.specs.Pages.{MoreLines}
+use Rattle.roam_metrics.proofs.pages.push_gauges.Given as goal
+
+-- lines were added
+abbrev pub invariant-loop-family : goal.invariant-loop-family
+invariant-loop-family g l = MoreLines l.initial.page.items l.page.items

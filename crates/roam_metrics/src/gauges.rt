@@ -1,0 +1,102 @@
+//! The metrics of how something stands at a moment.
+
+use roam_counters::Subject;
+
+/// What stands at a moment.
+#[derive(Clone, Copy, Debug, PartialEq, Eq)]
+pub enum Gauge {
+    /// How many requests of this realm wait for a reply: as many Identifiers are in use.
+    Waiting(u16),
+    /// How many replies of this realm are held for duplicates.
+    Held(u16),
+    /// How many sessions are open in this realm's ledger.
+    Sessions(u16),
+    /// How many Identifiers are in use toward the `auth` endpoint of a home server, by the realm's index and its own.
+    AuthInUse(u16, u8),
+    /// The same of its `acct` endpoint.
+    AcctInUse(u16, u8),
+    /// Whether its `auth` endpoint rests since it kept silent: 1, or 0.
+    AuthRests(u16, u8),
+    /// The same of its `acct` endpoint.
+    AcctRests(u16, u8),
+    /// How many octets the datagrams and packets of all stored steps have.
+    HistoryOctets,
+}
+
+/// The metrics of such.
+#[derive(Clone, Copy, PartialEq, Eq)]
+pub(crate) enum OfGauges {
+    Waiting,
+    Held,
+    Sessions,
+    InUse,
+    Rests,
+}
+
+/// All of them.
+pub(crate) const OF_GAUGES: [OfGauges; 5] = [
+    OfGauges::Waiting,
+    OfGauges::Held,
+    OfGauges::Sessions,
+    OfGauges::InUse,
+    OfGauges::Rests,
+];
+
+impl OfGauges {
+    /// The name of the metric.
+    pub(crate) fn name(self) -> &'static str {
+        match self {
+            OfGauges::Waiting => "roam_realm_waiting_requests",
+            OfGauges::Held => "roam_realm_held_replies",
+            OfGauges::Sessions => "roam_realm_sessions",
+            OfGauges::InUse => "roam_server_identifiers_in_use",
+            OfGauges::Rests => "roam_server_rests",
+        }
+    }
+
+    /// What it means.
+    pub(crate) fn help(self) -> &'static str {
+        match self {
+            OfGauges::Waiting => "Requests that wait for a reply: as many Identifiers are in use.",
+            OfGauges::Held => "Replies that are held for duplicates of their requests.",
+            OfGauges::Sessions => "Sessions that are open in the ledger.",
+            OfGauges::InUse =>
+                "Identifiers that are in use toward a home server's endpoint, of 256.",
+            OfGauges::Rests => "Whether a home server's endpoint rests since it kept silent.",
+        }
+    }
+
+    /// What is told of a realm.
+    fn of_realm(self, realm: u16) -> Option<Gauge> {
+        match self {
+            OfGauges::Waiting => Some(Gauge::Waiting(realm)),
+            OfGauges::Held => Some(Gauge::Held(realm)),
+            OfGauges::Sessions => Some(Gauge::Sessions(realm)),
+            OfGauges::InUse | OfGauges::Rests => None,
+        }
+    }
+
+    /// What is told of a home server: of its `auth` and of its `acct` endpoint.
+    fn of_server(self, realm: u16, server: u8) -> [Option<Gauge>; 2] {
+        match self {
+            OfGauges::InUse => [
+                Some(Gauge::AuthInUse(realm, server)),
+                Some(Gauge::AcctInUse(realm, server)),
+            ],
+            OfGauges::Rests => [
+                Some(Gauge::AuthRests(realm, server)),
+                Some(Gauge::AcctRests(realm, server)),
+            ],
+            OfGauges::Waiting | OfGauges::Held | OfGauges::Sessions => [None, None],
+        }
+    }
+
+    /// What is told of a subject: of a realm one thing, of a home server one for each of its endpoints.
+    pub(crate) fn gauges(self, subject: Subject) -> [Option<Gauge>; 2] {
+        match subject {
+            Subject::Realm(realm) => [self.of_realm(realm), None],
+            Subject::Server(realm, server) => self.of_server(realm, server),
+            Subject::All | Subject::Peer(_) => [None, None],
+        }
+    }
+}

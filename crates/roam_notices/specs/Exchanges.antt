@@ -1,0 +1,127 @@
+-- The line of an exchange that ended. Ours.
+use Rattle.std.specs.Prelude.{ℕ, ◌+◌, ◌==◌, ◌&&◌, ◌/◌, ◌%◌, Bool, not, nat_le, nat_lt, min, take, List, [], ◌∷◌, ◌++◌, Option, Some, None, option_map, if◌then◌else◌, codes, slice_get, slice_index}
+use Rattle.std.specs.Borrow.{Bor}
+use Rattle.std.specs.Fmt.{decimal}
+use Rattle.std.specs.List.{flat_map}
+use Rattle.roam_conf.specs.Config.{ConfigView, PeerView, RealmView}
+use Rattle.roam_conf.specs.declared.endpoint.Endpoint.{Endpoint}
+use Rattle.roam_notices.specs.declared.exchange.Asked.{Asked}
+use Rattle.roam_notices.specs.declared.exchange.Asked.TheVariants as asked
+use Rattle.roam_notices.specs.declared.exchange.Exchange.{Exchange}
+use Rattle.roam_notices.specs.declared.exchange.Outcome.{Outcome}
+use Rattle.roam_notices.specs.declared.exchange.Outcome.TheVariants as outcome
+use Rattle.roam_notices.specs.declared.exchange.Value.{Value}
+
+-- how an exchange ended, by the code of the reply that was returned
+abbrev pub outcome_of : ℕ → Option Outcome
+outcome_of code =
+    if code == 2 then Some outcome.Accept
+    else if code == 3 then Some outcome.Reject
+    else if code == 11 then Some outcome.Challenge
+    else if code == 5 then Some outcome.Response
+    else if code == 41 then Some outcome.Ack
+    else if code == 44 then Some outcome.Ack
+    else if code == 42 then Some outcome.Nak
+    else if code == 45 then Some outcome.Nak
+    else None
+
+-- what was asked, by the request's code
+abbrev pub asked_of : ℕ → Asked
+asked_of code =
+    if code == 1 then asked.Access
+    else if code == 4 then asked.Accounting
+    else if code == 40 then asked.Disconnect
+    else if code == 43 then asked.Coa
+    else asked.Other
+
+-- the octets of a value
+abbrev pub octets_of : Value → List ℕ
+octets_of value = take (min value.len 253) value.octets
+
+abbrev pub octets_if : Option Value → Option (List ℕ)
+octets_if value = option_map octets_of value
+
+abbrev pub shown_octets : Bor (List ℕ) → List ℕ
+shown_octets octets = octets.now
+
+abbrev pub shown_value : Option (Bor (List ℕ)) → Option (List ℕ)
+shown_value value = option_map shown_octets value
+
+-- a hexadecimal digit, in lower case: 48 is `0`, and 97 is `a`
+abbrev pub digit : ℕ → ℕ
+digit number = if nat_lt number 10 then 48 + number else 87 + number
+
+-- printable in ASCII, but neither the quotation mark (34) nor the reverse solidus (92)
+abbrev pub is_plain : ℕ → Bool
+is_plain octet = nat_le 32 octet && nat_le octet 126 && not (octet == 34) && not (octet == 92)
+
+-- an octet of a value: any other is a reverse solidus, an `x` (120) and two digits
+abbrev pub quoted_octet : ℕ → List ℕ
+quoted_octet octet =
+    if is_plain octet then octet ∷ []
+    else 92 ∷ 120 ∷ digit (octet / 16) ∷ digit (octet % 16) ∷ []
+
+abbrev pub quoted_octets : List ℕ → List ℕ
+quoted_octets value = flat_map quoted_octet value
+
+-- a key, and a value between quotation marks, or a hyphen
+abbrev pub value_text : List ℕ → Option (List ℕ) → List ℕ
+value_text key None = key ++ codes "-"
+value_text key (Some value) = key ++ codes "\"" ++ quoted_octets value ++ codes "\""
+
+abbrev pub address_text : List ℕ → List ℕ
+address_text ip =
+    decimal (slice_index ip 0) ++ codes "." ++ decimal (slice_index ip 1) ++ codes "." ++
+    decimal (slice_index ip 2) ++ codes "." ++ decimal (slice_index ip 3)
+
+abbrev pub server_text : Option Endpoint → List ℕ
+server_text None = codes " server=" ++ codes "-"
+server_text (Some e) = codes " server=" ++ address_text e.ip ++ codes ":" ++ decimal e.port
+
+abbrev pub outcome_word : Outcome → List ℕ
+outcome_word outcome.Accept = codes "accept"
+outcome_word outcome.Reject = codes "reject"
+outcome_word outcome.Challenge = codes "challenge"
+outcome_word outcome.Response = codes "response"
+outcome_word outcome.Ack = codes "ack"
+outcome_word outcome.Nak = codes "nak"
+outcome_word outcome.GivenUp = codes "given_up"
+outcome_word outcome.Replaced = codes "replaced"
+outcome_word outcome.LocalReject = codes "local_reject"
+
+abbrev pub asked_word : Asked → List ℕ
+asked_word asked.Access = codes "access"
+asked_word asked.Accounting = codes "accounting"
+asked_word asked.Disconnect = codes "disconnect"
+asked_word asked.Coa = codes "coa"
+asked_word asked.Other = codes "other"
+
+-- the names of a realm and of a peer, where there is one of this index
+abbrev pub realm_name : List RealmView → Option ℕ → Option (List ℕ)
+realm_name realms None = None
+realm_name realms (Some n) = option_map (λ (r : RealmView). r.name) (slice_get realms n)
+
+abbrev pub peer_name : List PeerView → Option ℕ → Option (List ℕ)
+peer_name peers None = None
+peer_name peers (Some n) = option_map (λ (p : PeerView). p.name) (slice_get peers n)
+
+-- who asked for what, and how that ended
+abbrev pub who_text : ConfigView → Exchange → List ℕ
+who_text config exchange =
+    codes "exchange result=" ++ outcome_word exchange.outcome ++
+    codes " request=" ++ asked_word exchange.asked ++
+    value_text (codes " realm=") (realm_name config.realms exchange.realm) ++
+    value_text (codes " peer=") (peer_name config.peers exchange.peer)
+
+-- for whom it was, where it went, and how long it took
+abbrev pub rest_text : Exchange → List ℕ
+rest_text exchange =
+    value_text (codes " user=") (octets_if exchange.user) ++
+    value_text (codes " station=") (octets_if exchange.station) ++
+    server_text exchange.server ++
+    codes " ms=" ++ decimal exchange.milliseconds ++
+    codes " tries=" ++ decimal exchange.tries
+
+-- the line
+abbrev pub exchange_text : ConfigView → Exchange → List ℕ
+exchange_text config exchange = who_text config exchange ++ rest_text exchange

@@ -1,0 +1,120 @@
+//! What is told of an exchange that ended.
+
+ghost use Rattle.std.specs.Prelude.{◌≡◌, take};
+ghost use Rattle.roam_notices.specs.Exchanges as spec;
+
+use roam_conf::Endpoint;
+use roam_wire::code;
+
+/// How many octets an attribute's value has at most (RFC 2865, section 5).
+const MOST: usize = 253;
+
+/// How an exchange ended.
+#[derive(Clone, Copy, Debug, PartialEq, Eq)]
+pub enum Outcome {
+    /// A reply of these codes was returned (RFC 2865 section 4, RFC 2866 section 4.2, RFC 5176 section 3).
+    Accept,
+    Reject,
+    Challenge,
+    Response,
+    Ack,
+    Nak,
+    /// No server was left for the request.
+    GivenUp,
+    /// Another request of the same source, port and Identifier took its place.
+    Replaced,
+    /// The broker rejected it by itself.
+    LocalReject,
+}
+
+/// A request's code, as a line names it.
+#[derive(Clone, Copy, Debug, PartialEq, Eq)]
+pub enum Asked {
+    Access,
+    Accounting,
+    Disconnect,
+    Coa,
+    Other,
+}
+
+/// The value of an attribute: at most 253 octets, and of a longer one the first of them.
+#[derive(Clone, Copy)]
+pub struct Value {
+    octets: [u8; MOST],
+    len: u8,
+}
+
+/// An exchange that ended.
+#[derive(Clone, Copy)]
+pub struct Exchange {
+    pub outcome: Outcome,
+    pub asked: Asked,
+    /// The index of its realm; none where the broker rejected it before a realm was asked.
+    pub realm: Option<u16>,
+    /// The index of the peer that asked, or that a reverse request was sent to.
+    pub peer: Option<u16>,
+    /// The home server to which it was sent last, or that sent a reverse request: its endpoint there.
+    pub server: Option<Endpoint>,
+    /// The User-Name and the Calling-Station-Id of the request.
+    pub user: Option<Value>,
+    pub station: Option<Value>,
+    /// From the request to its end.
+    pub milliseconds: u64,
+    /// How often it was sent to that server or peer.
+    pub tries: u8,
+}
+
+impl Outcome {
+    /// That of a reply's code; none where the code is no such reply's.
+    pub fn of(code: u8) -> Option<Outcome>
+        ensures { result ≡ spec.outcome_of code }
+    {
+        match code {
+            code::ACCESS_ACCEPT => Some(Outcome::Accept),
+            code::ACCESS_REJECT => Some(Outcome::Reject),
+            code::ACCESS_CHALLENGE => Some(Outcome::Challenge),
+            code::ACCOUNTING_RESPONSE => Some(Outcome::Response),
+            code::DISCONNECT_ACK | code::COA_ACK => Some(Outcome::Ack),
+            code::DISCONNECT_NAK | code::COA_NAK => Some(Outcome::Nak),
+            _ => None,
+        }
+    }
+}
+
+impl Asked {
+    /// That of a request's code.
+    pub fn of(code: u8) -> Asked
+        ensures { result ≡ spec.asked_of code }
+    {
+        match code {
+            code::ACCESS_REQUEST => Asked::Access,
+            code::ACCOUNTING_REQUEST => Asked::Accounting,
+            code::DISCONNECT_REQUEST => Asked::Disconnect,
+            code::COA_REQUEST => Asked::Coa,
+            _ => Asked::Other,
+        }
+    }
+}
+
+impl Value {
+    /// These octets; of more than 253 the first ones.
+    pub fn new(octets: &[u8]) -> Value
+        ensures { spec.octets_of result ≡ take 253 octets.now }
+    {
+        let len = octets.len().min(MOST);
+        let mut kept = [0; MOST];
+        kept[..len].copy_from_slice(&octets[..len]);
+        Value {
+            octets: kept,
+            len: len as u8,
+        }
+    }
+
+    /// The octets.
+    pub fn octets(&self) -> &[u8]
+        ensures { result.now ≡ spec.octets_of self.now }
+    {
+        let len = usize::from(self.len).min(MOST);
+        &self.octets[..len]
+    }
+}

@@ -1,0 +1,206 @@
+//! The line of an exchange that ended.
+
+ghost use Rattle.std.specs.Prelude.{◌≡◌, ◌++◌, ◌<◌, OnOk};
+ghost use Rattle.std.specs.Fmt.{decimal};
+ghost use Rattle.roam_conf.specs.Shown.{shown};
+ghost use Rattle.roam_notices.specs.Exchanges as spec;
+
+use crate::exchange::{Asked, Exchange, Outcome, Value};
+use itoa::Buffer;
+use roam_conf::{Config, Endpoint};
+use std::alloc::AllocError;
+
+/// Adds octets to a line.
+fn push(line: &mut Vec<u8>, octets: &[u8]) -> Result<(), AllocError>
+    ensures { OnOk result (line.new.items ≡ line.old.items ++ octets.now) }
+{
+    line.extend_from_slice(octets)
+}
+
+/// A hexadecimal digit, in lower case.
+fn digit(number: u8) -> u8
+    requires { number < 16 }
+    ensures { result ≡ spec.digit number }
+{
+    if number < 10 {
+        b'0' + number
+    } else {
+        b'a' + (number - 10)
+    }
+}
+
+/// Whether an octet stands as itself between quotation marks: it is printable in ASCII, and neither a quotation mark nor a
+/// reverse solidus.
+fn is_plain(octet: u8) -> bool
+    ensures { result ≡ spec.is_plain octet }
+{
+    octet >= 32 && octet <= 126 && octet != b'"' && octet != b'\\'
+}
+
+/// Adds an octet of a value.
+fn push_octet(line: &mut Vec<u8>, octet: u8) -> Result<(), AllocError>
+    ensures { OnOk result (line.new.items ≡ line.old.items ++ spec.quoted_octet octet) }
+{
+    if is_plain(octet) {
+        push(line, &[octet])
+    } else {
+        push(line, &[b'\\', b'x', digit(octet / 16), digit(octet % 16)])
+    }
+}
+
+/// Adds a value's octets.
+fn push_octets(line: &mut Vec<u8>, value: &[u8]) -> Result<(), AllocError>
+    ensures { OnOk result (line.new.items ≡ line.old.items ++ spec.quoted_octets value.now) }
+{
+    for octet in value {
+        push_octet(line, *octet)?;
+    }
+    Ok(())
+}
+
+/// Adds a key, and a value between quotation marks, or a hyphen where there is none.
+fn push_value(line: &mut Vec<u8>, key: &str, value: Option<&[u8]>) -> Result<(), AllocError>
+    ensures { OnOk result (line.new.items ≡ line.old.items ++ spec.value_text key.now (spec.shown_value value.entry)) }
+{
+    push(line, key.as_bytes())?;
+    let Some(value) = value else {
+        return push(line, b"-");
+    };
+    push(line, b"\"")?;
+    push_octets(line, value)?;
+    push(line, b"\"")
+}
+
+/// Adds a key and a number.
+fn push_number(line: &mut Vec<u8>, key: &str, number: u64) -> Result<(), AllocError>
+    ensures { OnOk result (line.new.items ≡ line.old.items ++ key.now ++ decimal number) }
+{
+    push(line, key.as_bytes())?;
+    let mut buffer = Buffer::new();
+    push(line, buffer.format(number).as_bytes())
+}
+
+/// Adds an address, in four decimal numbers.
+fn push_address(line: &mut Vec<u8>, ip: [u8; 4]) -> Result<(), AllocError>
+    ensures { OnOk result (line.new.items ≡ line.old.items ++ spec.address_text ip) }
+{
+    let [a, b, c, d] = ip;
+    push_number(line, "", u64::from(a))?;
+    push_number(line, ".", u64::from(b))?;
+    push_number(line, ".", u64::from(c))?;
+    push_number(line, ".", u64::from(d))
+}
+
+/// Adds the endpoint of a server, or a hyphen where there is none.
+fn push_server(line: &mut Vec<u8>, server: Option<Endpoint>) -> Result<(), AllocError>
+    ensures { OnOk result (line.new.items ≡ line.old.items ++ spec.server_text server) }
+{
+    push(line, b" server=")?;
+    let Some(endpoint) = server else {
+        return push(line, b"-");
+    };
+    push_address(line, endpoint.ip)?;
+    push_number(line, ":", u64::from(endpoint.port))
+}
+
+/// The word of an outcome.
+fn outcome_word(outcome: Outcome) -> &'static str
+    ensures { result.now ≡ spec.outcome_word outcome }
+{
+    match outcome {
+        Outcome::Accept => "accept",
+        Outcome::Reject => "reject",
+        Outcome::Challenge => "challenge",
+        Outcome::Response => "response",
+        Outcome::Ack => "ack",
+        Outcome::Nak => "nak",
+        Outcome::GivenUp => "given_up",
+        Outcome::Replaced => "replaced",
+        Outcome::LocalReject => "local_reject",
+    }
+}
+
+/// The word of a request.
+fn asked_word(asked: Asked) -> &'static str
+    ensures { result.now ≡ spec.asked_word asked }
+{
+    match asked {
+        Asked::Access => "access",
+        Asked::Accounting => "accounting",
+        Asked::Disconnect => "disconnect",
+        Asked::Coa => "coa",
+        Asked::Other => "other",
+    }
+}
+
+/// The name of the realm of this index; none where there is none.
+fn realm_name(config: &Config, realm: Option<u16>) -> Option<&[u8]>
+    ensures { spec.shown_value result ≡ spec.realm_name (shown config.now).realms realm }
+{
+    match config.realms.get(usize::from(realm?)) {
+        Some(realm) => Some(realm.name.as_str().as_bytes()),
+        None => None,
+    }
+}
+
+/// The name of the peer of this index; none where there is none.
+fn peer_name(config: &Config, peer: Option<u16>) -> Option<&[u8]>
+    ensures { spec.shown_value result ≡ spec.peer_name (shown config.now).peers peer }
+{
+    match config.peers.get(usize::from(peer?)) {
+        Some(peer) => Some(peer.name.as_str().as_bytes()),
+        None => None,
+    }
+}
+
+/// The octets of a value, if there is one.
+fn octets_of(value: &Option<Value>) -> Option<&[u8]>
+    ensures { spec.shown_value result ≡ spec.octets_if value.now }
+{
+    match value {
+        Some(value) => Some(value.octets()),
+        None => None,
+    }
+}
+
+/// Adds who asked for what, and how that ended.
+fn push_who(line: &mut Vec<u8>, config: &Config, exchange: &Exchange) -> Result<(), AllocError>
+    ensures { OnOk result (line.new.items
+        ≡ line.old.items ++ spec.who_text (shown config.now) exchange.now) }
+{
+    push(line, b"exchange result=")?;
+    push(line, outcome_word(exchange.outcome).as_bytes())?;
+    push(line, b" request=")?;
+    push(line, asked_word(exchange.asked).as_bytes())?;
+    push_value(line, " realm=", realm_name(config, exchange.realm))?;
+    push_value(line, " peer=", peer_name(config, exchange.peer))
+}
+
+/// Adds for whom it was, where it went and how long it took.
+fn push_rest(line: &mut Vec<u8>, exchange: &Exchange) -> Result<(), AllocError>
+    ensures { OnOk result (line.new.items ≡ line.old.items ++ spec.rest_text exchange.now) }
+{
+    push_value(line, " user=", octets_of(&exchange.user))?;
+    push_value(line, " station=", octets_of(&exchange.station))?;
+    push_server(line, exchange.server)?;
+    push_number(line, " ms=", exchange.milliseconds)?;
+    push_number(line, " tries=", u64::from(exchange.tries))
+}
+
+/// Adds the line of an exchange: no octet stands in it that isn't printable in ASCII, and each value that isn't the
+/// configuration's reads back.
+///
+/// # Errors
+///
+/// Where a growth was refused.
+pub fn push_exchange(
+    line: &mut Vec<u8>,
+    config: &Config,
+    exchange: &Exchange,
+) -> Result<(), AllocError>
+    ensures { OnOk result (line.new.items
+        ≡ line.old.items ++ spec.exchange_text (shown config.now) exchange.now) }
+{
+    push_who(line, config, exchange)?;
+    push_rest(line, exchange)
+}
