@@ -26,11 +26,15 @@ seed_of_file = codes "--seed-of-file"
 abbrev pub IsTime : List ℕ → ℕ → Type 0
 IsTime word milliseconds = decimal_in 1 86400000 word ≡ Some milliseconds
 
--- the word that asks a server for it
-abbrev pub order_word : Order → List ℕ
-order_word order.Status = codes "status"
-order_word order.Metrics = codes "metrics"
-order_word order.Stop = codes "stop"
+-- the words ask a server for it through the control socket of this path: for the trace of a shard by its number, a
+-- decimal one without leading zeros
+abbrev pub AsksOrder : List (List ℕ) → List ℕ → Order → Type 0
+AsksOrder words path order.Status = codes "ctl" ∷ path ∷ codes "status" ∷ [] ≡ words
+AsksOrder words path order.Metrics = codes "ctl" ∷ path ∷ codes "metrics" ∷ [] ≡ words
+AsksOrder words path order.Stop = codes "ctl" ∷ path ∷ codes "stop" ∷ [] ≡ words
+AsksOrder words path (order.Trace shard) =
+    (word : List ℕ) × (codes "ctl" ∷ path ∷ codes "trace" ∷ word ∷ [] ≡ words)
+    × (decimal_in 0 65535 word ≡ Some shard)
 
 -- the words ask for it. After `serve` the word `--seed-of-file` is never the configuration
 abbrev pub Asks : List (List ℕ) → Asked → Type 0
@@ -46,7 +50,7 @@ Asks words (to_serve_with_its_seed configuration None) =
     codes "serve" ∷ seed_of_file ∷ configuration ∷ [] ≡ words
 Asks words (to_serve_with_its_seed configuration (Some milliseconds)) =
     (word : List ℕ) × (codes "serve" ∷ seed_of_file ∷ configuration ∷ word ∷ [] ≡ words) × IsTime word milliseconds
-Asks words (to_control path order) = codes "ctl" ∷ path ∷ order_word order ∷ [] ≡ words
+Asks words (to_control path order) = AsksOrder words path order
 Asks words to_help =
     (codes "help" ∷ [] ≡ words) ⊎ (codes "--help" ∷ [] ≡ words) ⊎ (codes "-h" ∷ [] ≡ words)
 Asks words to_tell_version =

@@ -16,11 +16,11 @@ use Rattle.roam.specs.declared.report.Fault.TheVariants as fault
 -- the usage: a line for each command
 abbrev pub usage_text : List ℕ
 usage_text =
-    codes "usage: roam check CONF\n       roam check OLD NEW\n       roam sim CONF SCRIPT\n       roam serve [--seed-of-file] CONF [MS]\n       roam ctl PATH status|metrics|stop\n       roam help\n       roam version\n"
+    codes "usage: roam check CONF\n       roam check OLD NEW\n       roam sim CONF SCRIPT\n       roam serve [--seed-of-file] CONF [MS]\n       roam ctl PATH status|metrics|stop|trace N\n       roam help\n       roam version\n"
 
 -- which program this is, and the line of the toolchain that proved it
 abbrev pub version_text : List ℕ
-version_text = codes "roam 1.0.0\nrattle-kit-13f logic dac8208d650f15bf\n"
+version_text = codes "roam 1.0.0\nrattle-kit-13b logic dac8208d650f15bf\n"
 
 -- what the system says of the errors that bind, socket, epoll and eventfd give, by their numbers (Linux)
 abbrev pub words_of : ℕ → Option (List ℕ)

@@ -19,6 +19,8 @@ pub enum Order {
     Metrics,
     /// To stop.
     Stop,
+    /// The stored steps of a shard, as a script.
+    Trace(u16),
 }
 
 /// What the program is asked to do.
@@ -61,7 +63,7 @@ pub enum Command<'a> {
     Control {
         /// The path of the socket.
         path: &'a str,
-        /// What it is asked for: `status`, `metrics` or `stop`.
+        /// What it is asked for: `status`, `metrics`, `stop` or `trace N`.
         order: Order,
     },
     /// To print the usage: `help`, `--help` or `-h`.
@@ -177,10 +179,40 @@ fn of_serve_with_its_seed<'a>(configuration: &'a str, last: &str) -> Option<Comm
     }
 }
 
+/// What `ctl` and three words ask for.
+fn of_trace<'a>(path: &'a str, word: &str, last: &str) -> Option<Command<'a>>
+    ensures { MatchOption result
+        (AsksNothing (codes "ctl" ∷ path.now ∷ word.now ∷ last.now ∷ []))
+        (λ c. Asks (codes "ctl" ∷ path.now ∷ word.now ∷ last.now ∷ []) (shown c)) }
+{
+    match word {
+        "trace" => match decimal(last, 0, 65535) {
+            Some(shard) => Some(Command::Control {
+                path,
+                order: Order::Trace(shard as u16),
+            }),
+            None => None,
+        },
+        _ => None,
+    }
+}
+
+/// What `serve` and three words ask for.
+fn of_serve_words<'a>(option: &str, configuration: &'a str, last: &str) -> Option<Command<'a>>
+    ensures { MatchOption result
+        (AsksNothing (codes "serve" ∷ option.now ∷ configuration.now ∷ last.now ∷ []))
+        (λ c. Asks (codes "serve" ∷ option.now ∷ configuration.now ∷ last.now ∷ []) (shown c)) }
+{
+    match option {
+        "--seed-of-file" => of_serve_with_its_seed(configuration, last),
+        _ => None,
+    }
+}
+
 /// What four words ask for.
 fn of_four_words<'a>(
     word: &str,
-    option: &str,
+    option: &'a str,
     configuration: &'a str,
     last: &str,
 ) -> Option<Command<'a>>
@@ -188,8 +220,9 @@ fn of_four_words<'a>(
         (AsksNothing (word.now ∷ option.now ∷ configuration.now ∷ last.now ∷ []))
         (λ c. Asks (word.now ∷ option.now ∷ configuration.now ∷ last.now ∷ []) (shown c)) }
 {
-    match (word, option) {
-        ("serve", "--seed-of-file") => of_serve_with_its_seed(configuration, last),
+    match word {
+        "serve" => of_serve_words(option, configuration, last),
+        "ctl" => of_trace(option, configuration, last),
         _ => None,
     }
 }

@@ -21,9 +21,18 @@ const LOOKS: u32 = 450;
 
 const BETWEEN_LOOKS: u64 = 100;
 
-/// What is sent.
+/// Asks for the stored steps of a shard.
+fn ask_for_trace<W: Write>(stream: &mut W, shard: u16) -> io::Result<()> {
+    write!(
+        stream,
+        "GET /trace?shard={shard} HTTP/1.1\r\nHost: roam\r\nConnection: close\r\n\r\n"
+    )
+}
+
+/// What is sent, where it is always the same.
 fn question(order: Order) -> &'static [u8] {
     match order {
+        Order::Trace(_) => b"",
         Order::Status => b"GET /status HTTP/1.1\r\nHost: roam\r\nConnection: close\r\n\r\n",
         Order::Metrics => b"GET /metrics HTTP/1.1\r\nHost: roam\r\nConnection: close\r\n\r\n",
         Order::Stop => {
@@ -37,7 +46,10 @@ fn answer<R: AllocGlobal + Net>(rt: &R, path: &str, order: Order) -> io::Result<
     let mut stream = UnixStream::connect(rt, path)?;
     stream.set_read_timeout(Some(Duration::from_secs(PATIENCE)))?;
     stream.set_write_timeout(Some(Duration::from_secs(PATIENCE)))?;
-    stream.write_all(question(order))?;
+    match order {
+        Order::Trace(shard) => ask_for_trace(&mut stream, shard)?,
+        _ => stream.write_all(question(order))?,
+    }
     let mut answer = Vec::new(rt.alloc());
     stream.read_to_end(&mut answer)?;
     Ok(answer)

@@ -112,7 +112,7 @@ pub fn print_usage<W: Write>(writer: &mut W) -> io::Result<()>
         (Appends (W.contents writer.old) (W.contents writer.new) spec.usage_text) }
 {
     writer.write_all(
-        b"usage: roam check CONF\n       roam check OLD NEW\n       roam sim CONF SCRIPT\n       roam serve [--seed-of-file] CONF [MS]\n       roam ctl PATH status|metrics|stop\n       roam help\n       roam version\n",
+        b"usage: roam check CONF\n       roam check OLD NEW\n       roam sim CONF SCRIPT\n       roam serve [--seed-of-file] CONF [MS]\n       roam ctl PATH status|metrics|stop|trace N\n       roam help\n       roam version\n",
     )
 }
 
@@ -125,7 +125,7 @@ pub fn print_version<W: Write>(writer: &mut W) -> io::Result<()>
     ensures { OnOk result
         (Appends (W.contents writer.old) (W.contents writer.new) spec.version_text) }
 {
-    writer.write_all(b"roam 1.0.0\nrattle-kit-13f logic dac8208d650f15bf\n")
+    writer.write_all(b"roam 1.0.0\nrattle-kit-13b logic dac8208d650f15bf\n")
 }
 
 /// Prints to which endpoint a socket can't be bound.

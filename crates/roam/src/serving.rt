@@ -52,8 +52,9 @@ fn serve_watched<R: Files + AllocGlobal + Threads + Wait + Clock + Net + RandomS
 ) -> Result<(), ServeFault>
     ensures { IfErr result (IsFaultOf (shown config.now)) }
 {
+    let are_told = settings.log_exchanges;
     if settings.metrics.is_none() && settings.control.is_none() {
-        return serve(rt, rt.alloc(), config, None, milliseconds, &Open);
+        return serve(rt, rt.alloc(), config, None, are_told, milliseconds, &Open);
     }
     let counters = Counters::new(rt.alloc(), config)?;
     let socket = control_socket(rt, settings);
@@ -62,7 +63,15 @@ fn serve_watched<R: Files + AllocGlobal + Threads + Wait + Clock + Net + RandomS
         metrics: settings.metrics,
         control: socket.as_ref(),
     };
-    let ended = serve(rt, rt.alloc(), config, Some(watch), milliseconds, &Open);
+    let ended = serve(
+        rt,
+        rt.alloc(),
+        config,
+        Some(watch),
+        are_told,
+        milliseconds,
+        &Open,
+    );
     if socket.is_some() {
         remove(rt, settings);
     }

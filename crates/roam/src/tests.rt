@@ -20,13 +20,13 @@ const USAGE: &str = "usage: roam check CONF
        roam check OLD NEW
        roam sim CONF SCRIPT
        roam serve [--seed-of-file] CONF [MS]
-       roam ctl PATH status|metrics|stop
+       roam ctl PATH status|metrics|stop|trace N
        roam help
        roam version
 ";
 
 const VERSION: &str = "roam 1.0.0
-rattle-kit-13f logic dac8208d650f15bf
+rattle-kit-13b logic dac8208d650f15bf
 ";
 
 const CONFIGURATION: &str = "shards = 1
@@ -235,6 +235,8 @@ const NO_COMMANDS: &[&[&str]] = &[
     &["sim", "--seed-of-file", "a", "b"],
     &["ctl", "a"],
     &["ctl", "a", "trace"],
+    &["ctl", "a", "trace", "x"],
+    &["ctl", "a", "trace", "65536"],
     &["ctl", "status", "a"],
     &["ctl", "a", "stop", "0"],
     &["Ctl", "a", "stop"],

@@ -8,5 +8,6 @@ pub mod old_history;
 pub mod prepared;
 pub mod rest;
 pub mod shared;
+pub mod standing;
 pub mod start;
 pub mod stopping;

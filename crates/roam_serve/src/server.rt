@@ -45,6 +45,7 @@ struct ServerParts<'s, G> {
     gate: &'s G,
     losses: &'s SharedLosses,
     watch: Option<Watch<'s>>,
+    are_exchanges_told: bool,
     listener: Option<&'s TcpListener>,
     old_history: &'s OldHistory,
     start: Instant,
@@ -135,6 +136,7 @@ fn run<
             Some(watch) => Some(watch.counters),
             None => None,
         },
+        are_exchanges_told: parts.are_exchanges_told,
         listener: parts.listener,
         control: match parts.watch {
             Some(watch) => watch.control,
@@ -236,7 +238,7 @@ fn serve_hub<
 }
 
 /// Serves a configuration for so many milliseconds, or without end. What its threads do is counted where somebody
-/// watches it.
+/// watches it. A line tells of each exchange that ends, where that is wanted.
 ///
 /// # Errors
 ///
@@ -247,6 +249,7 @@ pub fn serve<R: Threads + Wait + Clock + Net + RandomSource + Log + Sync, G: Gat
     alloc: Global,
     config: &Config,
     watch: Option<Watch<'_>>,
+    are_exchanges_told: bool,
     milliseconds: Option<u64>,
     gate: &G,
 ) -> Result<(), ServeFault>
@@ -265,6 +268,7 @@ pub fn serve<R: Threads + Wait + Clock + Net + RandomSource + Log + Sync, G: Gat
         gate,
         losses: &losses,
         watch,
+        are_exchanges_told,
         listener: listener.as_ref(),
         old_history: &old_history,
         start,

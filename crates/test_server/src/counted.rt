@@ -92,9 +92,9 @@ fn crowd(counters: &Counters) -> Verdict {
     let mut sent = 0u64;
     for realm in 0..5 {
         let forwarded = counters.event(Subject::Realm(realm), Event::Forwarded(kind));
-        let again = counters.event(Subject::Realm(realm), Event::SentByTick(kind));
+        let again = counters.event(Subject::Realm(realm), Event::SentAgain(kind));
         if forwarded != 256
-            || again != counters.event(Subject::Server(realm, 0), Event::SentByTick(kind))
+            || again != counters.event(Subject::Server(realm, 0), Event::SentAgain(kind))
         {
             return Err("what is sent again isn't counted as it is");
         }

@@ -49,12 +49,14 @@ fn main(rt: HostRuntime) -> io::Result<()> {
                 };
                 let (acted, served) = thread::scope(thread::scope_env(), &rt, |scope| {
                     let server = scope.spawn(move || {
-                        let served = serve(stage, alloc, config, watch, time, gate);
+                        let served = serve(stage, alloc, config, watch, true, time, gate);
                         stage.note_end();
                         served
                     });
                     let mut acted = row.act(stage, &ends, alloc);
-                    if row.has_second() && serve(stage, alloc, config, watch, time, gate) != TAKEN {
+                    if row.has_second()
+                        && serve(stage, alloc, config, watch, true, time, gate) != TAKEN
+                    {
                         acted = Err("a second server has the ports too");
                     }
                     if row.ends_early() {

@@ -5,7 +5,7 @@ ghost use Rattle.std.specs.Prelude.{◌≡◌, IfOk, vec_len};
 use crate::system::control_socket::ControlSocket;
 use roam_conf::{Config, Endpoint};
 use roam_counters::{Event, Layout, Process, Subject};
-use roam_metrics::Counts;
+use roam_metrics::{Counts, Gauge};
 use std::alloc::{AllocError, Global};
 use std::sync::atomic::{AtomicU64, Ordering};
 
@@ -14,6 +14,8 @@ use std::sync::atomic::{AtomicU64, Ordering};
 pub struct Counters {
     layout: Layout,
     threads: Vec<Vec<AtomicU64>>,
+    /// How many octets the stored steps of each shard have.
+    history: Vec<AtomicU64>,
 }
 
 /// So many counts that stand at 0.
@@ -33,7 +35,11 @@ impl Counters {
         for _ in 0..config.shards + 1 {
             threads.push(zeros(alloc, layout.cells())?)?;
         }
-        Ok(Counters { layout, threads })
+        Ok(Counters {
+            layout,
+            threads,
+            history: zeros(alloc, usize::from(config.shards))?,
+        })
     }
 
     /// What the threads counted together at a place; it begins again at 0 after 2^64 - 1.
@@ -47,6 +53,15 @@ impl Counters {
         sum
     }
 
+    /// How many octets the datagrams and packets of all stored steps have.
+    pub(crate) fn history_octets(&self) -> u64 {
+        let mut sum = 0u64;
+        for octets in &self.history {
+            sum = sum.saturating_add(octets.load(Ordering::SeqCst));
+        }
+        sum
+    }
+
     /// The counts of one thread.
     pub(crate) fn of_thread(&self, number: usize) -> Option<ThreadCounts<'_>> {
         let layout = self.layout;
@@ -54,6 +69,7 @@ impl Counters {
             Some(cells) => Some(ThreadCounts {
                 layout,
                 cells: cells.as_slice(),
+                history: self.history.as_slice(),
             }),
             None => None,
         }
@@ -67,6 +83,10 @@ impl Counts for Counters {
 
     fn process(&self, process: Process) -> u64 {
         self.sum(process.cell())
+    }
+
+    fn gauge(&self, _gauge: Gauge) -> Option<u64> {
+        None
     }
 }
 
@@ -85,6 +105,7 @@ pub struct Watch<'w> {
 pub struct ThreadCounts<'t> {
     layout: Layout,
     cells: &'t [AtomicU64],
+    history: &'t [AtomicU64],
 }
 
 impl ThreadCounts<'_> {
@@ -98,6 +119,18 @@ impl ThreadCounts<'_> {
     /// One more of this of a subject.
     pub fn event(&self, subject: Subject, event: Event) {
         self.add(self.layout.cell(subject, event), 1);
+    }
+
+    /// So many more of this of a subject.
+    pub fn more(&self, subject: Subject, event: Event, more: u64) {
+        self.add(self.layout.cell(subject, event), more);
+    }
+
+    /// The stored steps of a shard have so many octets.
+    pub fn history_is(&self, shard: u16, octets: u64) {
+        if let Some(history) = self.history.get(usize::from(shard)) {
+            history.store(octets, Ordering::SeqCst);
+        }
     }
 
     /// So many more of this of the whole server.

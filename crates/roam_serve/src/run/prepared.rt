@@ -10,14 +10,17 @@ use crate::system::polls::Polls;
 use crate::system::socket::Socket;
 use crate::threads::context::WorkerContext;
 use crate::threads::counting::Counting;
+use crate::threads::exchanges::{Exchanges, notes_of_timer, notes_of_worker, queue_of_lines};
+use crate::threads::logger::Lines;
 use crate::threads::notice::{Notice, Notices, queue_of_notices};
 use crate::threads::outgoing::{Outgoing, ROOM_EVENTS};
 use crate::threads::receiver::Receiver;
+use crate::threads::rests::Rests;
 use crate::threads::timer::Timer;
 use crate::threads::worker::{RECEIVED, Worker};
 use mio::unix::SourceFd;
 use mio::{Events, Interest, Poll, Token};
-use roam_hub::{Opened, Seat, split};
+use roam_hub::{Notes, Opened, Seat, split};
 use roam_port::Outbox;
 use rtrb::Consumer;
 use std::alloc::Global;
@@ -28,6 +31,9 @@ pub struct Prepared<'s, 'c, G, N: Opened> {
     pub workers: Vec<Worker<'s, 'c, G, N>>,
     pub timer: Timer<'s, 'c, G, N>,
     pub queues: Vec<Consumer<Notice>>,
+    pub lines: Lines<'s>,
+    /// The seat of the thread that answers through the control socket.
+    pub seat: Seat<Global, N>,
 }
 
 /// What a worker or the timer is made of.
@@ -37,6 +43,7 @@ struct Parts<N: Opened> {
     seat: Seat<Global, N>,
     room: Poll,
     notices: Notices,
+    exchanges: Exchanges,
 }
 
 /// The sockets that one worker receives from.
@@ -90,6 +97,22 @@ fn ports(
     Ok(ports)
 }
 
+/// A thread's end of its queue of lines of exchanges, whose other end goes to the logger.
+fn exchanges<G, N: Opened>(
+    alloc: Global,
+    shared: &Shared<'_, '_, G, N>,
+    lines: &mut Lines<'_>,
+    notes: Notes<Global>,
+) -> Result<Exchanges, ServeFault>
+    ensures { IfErr result IsAfterBinding }
+{
+    let (exchanges, queue) = queue_of_lines(alloc, notes, shared.are_exchanges_told)?;
+    if let Some(queue) = queue {
+        lines.queues.push(queue)?;
+    }
+    Ok(exchanges)
+}
+
 /// What a worker or the timer has.
 fn context<'s, 'c, G, N: Opened>(
     alloc: Global,
@@ -104,6 +127,7 @@ fn context<'s, 'c, G, N: Opened>(
         seat,
         room,
         notices,
+        exchanges,
     } = parts;
     let workers = usize::from(shared.config.shards);
     let counting = Counting {
@@ -127,6 +151,7 @@ fn context<'s, 'c, G, N: Opened>(
         seat,
         outgoing,
         notices,
+        exchanges,
         counting,
         now: 0,
     })
@@ -172,6 +197,14 @@ pub fn prepare_threads<'s, 'c, G, N: Opened>(
     let shards = usize::from(shared.config.shards);
     let mut workers = Vec::new(alloc);
     let mut queues = Vec::new(alloc);
+    let mut lines = Lines {
+        queues: Vec::new(alloc),
+        counts: match shared.counters {
+            Some(counters) => counters.of_thread(shards),
+            None => None,
+        },
+        dropped: 0,
+    };
     let mut rest = seat;
     let mut polls = polls;
     for number in 0..shards {
@@ -181,11 +214,13 @@ pub fn prepare_threads<'s, 'c, G, N: Opened>(
         rest = first;
         let (notices, queue) = queue_of_notices(alloc)?;
         queues.push(queue)?;
+        let exchanges = exchanges(alloc, shared, &mut lines, notes_of_worker(alloc)?)?;
         let parts = Parts {
             number,
             seat,
             room,
             notices,
+            exchanges,
         };
         let context = context(alloc, sockets, shared, parts)?;
         workers.push(worker(alloc, sockets, context, arrivals, number)?)?;
@@ -195,11 +230,17 @@ pub fn prepare_threads<'s, 'c, G, N: Opened>(
     };
     let (notices, queue) = queue_of_notices(alloc)?;
     queues.push(queue)?;
+    let Ok((rest, seat)) = split(rest) else {
+        return Err(ServeFault::Memory);
+    };
+    let notes = notes_of_timer(alloc, shared.config)?;
+    let exchanges = exchanges(alloc, shared, &mut lines, notes)?;
     let parts = Parts {
         number: shards,
         seat: rest,
         room,
         notices,
+        exchanges,
     };
     let timer = Timer {
         context: context(alloc, sockets, shared, parts)?,
@@ -207,10 +248,14 @@ pub fn prepare_threads<'s, 'c, G, N: Opened>(
         events: Events::with_capacity(alloc, 2)?,
         told: [None; 4],
         is_stop_told: false,
+        rests: Rests::new(alloc, shared.config)?,
+        quiet_since: None,
     };
     Ok(Prepared {
         workers,
         timer,
         queues,
+        lines,
+        seat,
     })
 }

@@ -32,6 +32,8 @@ pub struct Shared<'s, 'c, G, N: Opened> {
     pub losses: &'s SharedLosses,
     /// What is counted, where somebody reads it.
     pub counters: Option<&'s Counters>,
+    /// Whether a line tells of each exchange that ends.
+    pub are_exchanges_told: bool,
     /// Where it is asked for.
     pub listener: Option<&'s TcpListener>,
     /// Through which it is asked for, and the server is stopped.

@@ -9,13 +9,13 @@ use crate::run::prepared::Prepared;
 use crate::run::shared::Shared;
 use crate::threads::connections::answer_on;
 use crate::threads::control::Control;
-use crate::threads::logger::{log_notices, tell_or_drop};
+use crate::threads::logger::{Lines, log_notices, tell_or_drop};
 use crate::threads::metrics::Page;
 use crate::threads::notice::{Notice, serving};
 use crate::threads::timer::tick_on;
 use crate::threads::worker::{Worker, receive_on};
 use log::Log;
-use roam_hub::{Gate, Opened};
+use roam_hub::{Gate, Opened, Seat};
 use rtrb::Consumer;
 use std::alloc::Global;
 use std::random::RandomSource;
@@ -24,12 +24,16 @@ use std::thread;
 use std::thread::{JoinHandle, Scope, Threads};
 use std::time::Clock;
 
+/// For how many octets of a line room is made at the start.
+const LINE: usize = 4096;
+
 /// Starts the threads behind the workers: the one that logs notices, and the one that frees stored steps.
 /// Answers whether both have started.
 fn start_behind<
     's,
     'w: 's,
     'c: 's,
+    'l: 's,
     E,
     R: Wait + Clock + RandomSource + Log + Sync,
     G: Gate + Sync,
@@ -39,9 +43,11 @@ fn start_behind<
     rt: &'s R,
     shared: &'s Shared<'w, 'c, G, N>,
     queues: Vec<Consumer<Notice>>,
+    lines: Lines<'l>,
+    line: Vec<u8>,
 ) -> bool {
     let logs = scope
-        .spawn(move || log_notices(rt, shared.config, shared.logger, queues))
+        .spawn(move || log_notices(rt, shared.config, shared.logger, queues, lines, line))
         .is_ok();
     let frees = scope
         .spawn(move || shared.old_history.free_on(rt, shared.stop))
@@ -63,9 +69,12 @@ fn start_metrics<
         return true;
     };
     let page = Page {
+        rt,
         alloc,
         config: shared.config,
         counters,
+        hub: shared.hub,
+        now: 0,
     };
     scope
         .spawn(move || answer_on(rt, alloc, page, listener, shared.start, shared.stop))
@@ -81,19 +90,30 @@ fn start_control<
     R: Wait + Clock + RandomSource + Sync,
     G: Gate + Sync,
     N: Opened + Send + Sync,
->(scope: &Scope<'s, E>, rt: &'s R, alloc: Global, shared: &'s Shared<'w, 'c, G, N>) -> bool {
+>(
+    scope: &Scope<'s, E>,
+    rt: &'s R,
+    alloc: Global,
+    shared: &'s Shared<'w, 'c, G, N>,
+    seat: Seat<Global, N>,
+) -> bool {
     let (Some(socket), Some(counters)) = (shared.control, shared.counters) else {
         return true;
     };
     let control = Control {
         page: Page {
+            rt,
             alloc,
             config: shared.config,
             counters,
+            hub: shared.hub,
+            now: 0,
         },
         stopping: shared.stopping,
         rest: shared.rest,
-        now: 0,
+        seat,
+        old_history: shared.old_history,
+        counts: counters.of_thread(usize::from(shared.config.shards)),
     };
     let listener = &socket.listener;
     scope
@@ -150,14 +170,17 @@ pub fn run_threads<
         workers,
         timer,
         queues,
+        lines,
+        seat,
     } = prepared;
+    let line = Vec::with_capacity(alloc, LINE)?;
     let count = workers.len().saturating_add(1);
     let mut handles: Vec<JoinHandle<WorkerEnd<N>>> = Vec::with_capacity(alloc, count)?;
     let mut ends = Vec::with_capacity(alloc, count)?;
     let have_started = thread::scope(thread::scope_env(), rt, |scope| {
-        let mut have_started = start_behind(scope, rt, shared, queues);
+        let mut have_started = start_behind(scope, rt, shared, queues, lines, line);
         have_started = start_metrics(scope, rt, alloc, shared) && have_started;
-        have_started = start_control(scope, rt, alloc, shared) && have_started;
+        have_started = start_control(scope, rt, alloc, shared, seat) && have_started;
         have_started = start_workers(scope, rt, alloc, workers, &mut handles) && have_started;
         match scope.spawn(move || tick_on(rt, timer)) {
             Ok(handle) => have_started = handles.push(handle).is_ok() && have_started,

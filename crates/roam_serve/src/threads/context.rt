@@ -11,14 +11,19 @@ use crate::run::ending::{Ending, WorkerEnd};
 use crate::run::shared::Shared;
 use crate::system::clock::now;
 use crate::threads::counting::{Counting, turn_of};
+use crate::threads::ended::{End, cause_of, end_of, exchange_of, local_reject_of, nak_of};
+use crate::threads::exchanges::Exchanges;
 use crate::threads::notice::Notices;
 use crate::threads::outgoing::Outgoing;
-use roam_hub::{Answered, Gate, HubFault, Opened, Refused, Seat};
-use roam_notices::Origin;
+use roam_book::Answer;
+use roam_counters::{Event, Process, Turn};
+use roam_hub::{Answered, Gate, HubFault, Opened, Past, Refused, Seat, Stood};
+use roam_notices::{Exchange, Origin, Outcome};
 use roam_route::{Datagram, Job, Prepared, prepare};
 use roam_wire::Refusal;
 use roam_wire::code::{
-    ACCESS_REQUEST, ACCOUNTING_REQUEST, COA_REQUEST, DISCONNECT_REQUEST, STATUS_SERVER,
+    ACCESS_REJECT, ACCESS_REQUEST, ACCOUNTING_REQUEST, COA_REQUEST, DISCONNECT_REQUEST,
+    STATUS_SERVER,
 };
 use std::alloc::Global;
 use std::sync::Wait;
@@ -31,6 +36,7 @@ pub struct WorkerContext<'s, 'c, G, N: Opened> {
     pub seat: Seat<Global, N>,
     pub outgoing: Outgoing<'s>,
     pub notices: Notices,
+    pub exchanges: Exchanges,
     pub counting: Counting<'s>,
     /// The last moment, in milliseconds since the server's start.
     pub now: u64,
@@ -102,9 +108,10 @@ impl<G: Gate, N: Opened> WorkerContext<'_, '_, G, N> {
             return;
         }
         match prepare(alloc, self.shared.config, datagram) {
-            Ok(Prepared::Job(job)) => self.take(rt, job, origin),
+            Ok(Prepared::Job(job)) => self.take(rt, job, datagram),
             Ok(Prepared::Reject(out)) => {
                 self.counting.answered(&out);
+                self.tell_local(datagram, out.bytes.as_slice());
                 self.outgoing.put(out);
             }
             Err(refusal) => {
@@ -115,15 +122,17 @@ impl<G: Gate, N: Opened> WorkerContext<'_, '_, G, N> {
     }
 
     /// Gives a job to the hub: hands its packets to the sockets, or tells why it is refused.
-    fn take<R: Wait>(&mut self, rt: &R, job: Job<Global>, origin: Origin)
+    fn take<R: Wait>(&mut self, rt: &R, job: Job<Global>, datagram: &Datagram<Global>)
         requires { IsEvent N.opening.config (shown_job job) }
     {
+        let origin = Origin::Datagram(datagram.at, datagram.from);
         let turn = turn_of(&job);
         self.counting.came(turn);
         match self.answer(rt, job) {
             Ok(answered) => {
                 self.shared.rest.wake();
                 self.counting.gave(turn, &answered.answer);
+                self.end_by(turn, datagram, &answered.answer);
                 self.finish(rt, answered, origin);
             }
             Err(refusal) => {
@@ -143,9 +152,10 @@ impl<G: Gate, N: Opened> WorkerContext<'_, '_, G, N> {
         let mut job = job;
         let mut is_second = false;
         for _ in rt.forever() {
+            let notes = &mut self.exchanges.notes;
             match shared
                 .hub
-                .answer(rt, &mut self.seat, self.now, job, shared.gate)
+                .answer_noting(rt, &mut self.seat, self.now, job, shared.gate, notes)
             {
                 Ok(answered) => return Ok(answered),
                 Err(Refused { fault, job: same }) => {
@@ -165,12 +175,13 @@ impl<G: Gate, N: Opened> WorkerContext<'_, '_, G, N> {
         let shared = self.shared;
         let mut is_second = false;
         for _ in rt.forever() {
+            let notes = &mut self.exchanges.notes;
             match shared
                 .hub
-                .tick_if_due(rt, &mut self.seat, self.now, shard, shared.gate)
+                .tick_noting(rt, &mut self.seat, self.now, shard, shared.gate, notes)
             {
                 Ok(Some(answered)) => {
-                    self.counting.ticked(&answered.answer);
+                    self.end_by_tick(&answered.answer);
                     return self.finish(rt, answered, Origin::Tick(shard));
                 }
                 Ok(None) => return,
@@ -181,6 +192,96 @@ impl<G: Gate, N: Opened> WorkerContext<'_, '_, G, N> {
                     }
                     is_second = true;
                 }
+            }
+        }
+    }
+
+    /// Has an exchange be told, and counts it where it can't be.
+    fn tell(&mut self, exchange: Option<Exchange>) {
+        let is_dropped = match exchange {
+            Some(exchange) => self.exchanges.tell(exchange),
+            None => self.exchanges.are_told(),
+        };
+        if is_dropped {
+            self.counting.process(Process::LineDropped);
+        }
+    }
+
+    /// Tells and counts a request that the broker rejected by itself.
+    fn tell_local(&mut self, datagram: &Datagram<Global>, octets: &[u8]) {
+        if octets.first() == Some(&ACCESS_REJECT) {
+            self.counting.rejected(datagram.at, datagram.from);
+            let exchange = local_reject_of(self.shared.config, datagram);
+            self.tell(Some(exchange));
+        }
+    }
+
+    /// Tells and counts what ends by an arrival that gave this answer.
+    fn end_by(&mut self, turn: Turn, datagram: &Datagram<Global>, answer: &Answer<Global>) {
+        let past = match self.exchanges.notes.pasts() {
+            [past] => Some(*past),
+            _ => None,
+        };
+        match end_of(turn.side, past, answer) {
+            End::Replied(past) => self.end_by_reply(past, answer),
+            End::Replaced(past) => {
+                self.counting.ended(past, Event::Replaced);
+                self.tell_past(past, Outcome::Replaced);
+            }
+            End::AnsweredAgain => self.counting.answered_again(turn),
+            End::Nak => {
+                self.counting.denied(turn, answer);
+                self.tell(Some(nak_of(datagram, turn.realm)));
+            }
+            End::Nothing => {}
+        }
+    }
+
+    /// Tells a request that was noted.
+    fn tell_past(&mut self, past: Past, outcome: Outcome) {
+        let config = self.shared.config;
+        let exchange = exchange_of(config, &self.exchanges.notes, past, outcome, self.now);
+        self.tell(exchange);
+    }
+
+    /// Tells and counts a request whose reply is returned.
+    fn end_by_reply(&mut self, past: Past, answer: &Answer<Global>) {
+        self.counting.replied(past, self.now);
+        let code = match answer.outs.first() {
+            Some(out) => out.bytes.as_slice().first(),
+            None => None,
+        };
+        if let Some(code) = code {
+            if let Some(outcome) = Outcome::of(*code) {
+                self.tell_past(past, outcome);
+            }
+        }
+    }
+
+    /// Tells and counts what ends by a tick that gave this answer, and what goes to other servers by it.
+    fn end_by_tick(&mut self, answer: &Answer<Global>) {
+        self.counting.ticked(answer, self.exchanges.notes.pasts());
+        if answer.refusal.is_some() {
+            return;
+        }
+        self.counting.missed(self.exchanges.notes.missed);
+        for at in 0..self.exchanges.notes.pasts().len() {
+            let past = match self.exchanges.notes.pasts().get(at) {
+                Some(past) => *past,
+                None => return,
+            };
+            self.end_or_go_on(past);
+        }
+    }
+
+    /// Tells and counts a request of which no send was left: it is given up, or another server is asked.
+    fn end_or_go_on(&mut self, past: Past) {
+        match past.stands {
+            Stood::Waiting { .. } => self.counting.ended(past, Event::FailedOver),
+            Stood::Held | Stood::Gone => {
+                self.counting.ended(past, Event::GivenUp);
+                self.counting.unanswered(past);
+                self.tell_past(past, Outcome::GivenUp);
             }
         }
     }
@@ -213,7 +314,7 @@ impl<G: Gate, N: Opened> WorkerContext<'_, '_, G, N> {
         let shared = self.shared;
         match shared.hub.let_go(rt, &mut self.seat, shard) {
             Ok(steps) => {
-                self.counting.let_go(steps.len());
+                self.counting.let_go(shard, steps.len());
                 shared.old_history.hand_over(rt, steps);
                 true
             }
@@ -225,7 +326,7 @@ impl<G: Gate, N: Opened> WorkerContext<'_, '_, G, N> {
     fn free_history<R: Wait>(&mut self, rt: &R, shard: u16) -> bool {
         match self.shared.hub.let_go(rt, &mut self.seat, shard) {
             Ok(steps) => {
-                self.counting.let_go(steps.len());
+                self.counting.let_go(shard, steps.len());
                 self.shared.old_history.count();
                 drop(steps);
                 true
@@ -237,7 +338,7 @@ impl<G: Gate, N: Opened> WorkerContext<'_, '_, G, N> {
     /// Hands the packets of an answer on, tells a refusal, and lets go of the shard's steps where their octets are
     /// more than are to be stored.
     fn finish<R: Wait>(&mut self, rt: &R, answered: Answered<Global>, origin: Origin) {
-        self.counting.stored();
+        self.counting.stored(answered.shard, answered.octets);
         if let Some(refusal) = answered.answer.refusal {
             self.refuse(refusal, origin);
         }
@@ -255,7 +356,15 @@ impl<G: Gate, N: Opened> WorkerContext<'_, '_, G, N> {
     /// Hands what was refused to the logger, once a second, and wakes it where there is something for it.
     pub fn wake_logger(&mut self) {
         self.notices.tell_due(self.now);
-        if self.notices.take_waiting() {
+        if self.exchanges.dropped() > 0
+            && self
+                .notices
+                .lines_dropped(self.exchanges.dropped(), self.now)
+        {
+            self.exchanges.forget_dropped();
+        }
+        let have_lines = self.exchanges.take_waiting();
+        if self.notices.take_waiting() || have_lines {
             self.shared.logger.unpark();
         }
     }
@@ -265,7 +374,8 @@ impl<G: Gate, N: Opened> WorkerContext<'_, '_, G, N> {
         ensures ending { result.ending ≡ ending }
     {
         self.outgoing.send();
-        self.notices.end();
+        let dropped = self.exchanges.dropped();
+        self.notices.end(dropped);
         let shared = self.shared;
         let end = WorkerEnd {
             ending,

@@ -1,26 +1,35 @@
 //! What is answered to who asks through the control socket.
 
-ghost use Rattle.std.specs.Prelude.{◌≤◌};
+ghost use Rattle.std.specs.Prelude.{◌≡◌, ◌≤◌, OnErr};
 
+use crate::run::counters::ThreadCounts;
+use crate::run::old_history::OldHistory;
 use crate::run::rest::TimerRest;
 use crate::run::stopping::{LONGEST, Stopping};
 use crate::threads::connections::Answers;
 use crate::threads::metrics::Page;
+use crate::threads::script::script_of;
 use bytes::{BufMut, Bytes};
 use http::{HeaderValue, Method, Request, StatusCode, header};
 use http_server::{Response, Service};
-use roam_conf::Config;
+use roam_conf::{Config, decimal};
+use roam_counters::Process;
+use roam_hub::{HubFault, Opened, Seat};
 use roam_metrics::{Form, status};
-use std::alloc::AllocError;
+use std::alloc::{AllocError, Global};
+use std::sync::Wait;
 
 /// What is answered, and from what.
-#[derive(Clone, Copy)]
-pub struct Control<'p> {
-    pub page: Page<'p>,
+#[derive(Drop)]
+pub struct Control<'p, 'c, R, N: Opened> {
+    pub page: Page<'p, 'c, R, N>,
     pub stopping: &'p Stopping,
     pub rest: &'p TimerRest<'p>,
-    /// In milliseconds since the server's start.
-    pub now: u64,
+    /// Through which the stored steps of a shard are let go of.
+    pub seat: Seat<Global, N>,
+    pub old_history: &'p OldHistory,
+    /// Where it is counted that they are.
+    pub counts: Option<ThreadCounts<'p>>,
 }
 
 /// What can be asked for.
@@ -29,6 +38,7 @@ enum Asked {
     Metrics,
     Status(Form),
     Stop,
+    Trace,
 }
 
 /// What a path asks for.
@@ -38,6 +48,7 @@ fn asked_by(path: &str) -> Option<Asked> {
         "/status" => Some(Asked::Status(Form::Text)),
         "/status.json" => Some(Asked::Status(Form::Json)),
         "/stop" => Some(Asked::Stop),
+        "/trace" => Some(Asked::Trace),
         _ => None,
     }
 }
@@ -54,7 +65,59 @@ fn grace(config: &Config) -> u64
     longest.min(LONGEST)
 }
 
-impl Control<'_> {
+/// The shard that a query names: `shard=N`.
+fn shard_of(query: Option<&str>) -> Option<u16> {
+    let number = decimal(query?.strip_prefix("shard=")?, 0, 65535)?;
+    u16::try_from(number).ok()
+}
+
+impl<R: Wait, N: Opened> Control<'_, '_, R, N> {
+    /// The stored steps of a shard as a script, or the status that says why there is none. They are let go of by that.
+    fn take_script(&mut self, shard: u16) -> Result<Vec<u8>, StatusCode> {
+        match self.page.hub.let_go(self.page.rt, &mut self.seat, shard) {
+            Ok(steps) => {
+                if let Some(counts) = &self.counts {
+                    counts.history_is(shard, 0);
+                    counts.process(Process::TimeLetGo, 1);
+                    counts.process(Process::StepLetGo, steps.len() as u64);
+                }
+                let script = script_of(self.page.alloc, steps.as_slice());
+                self.old_history.hand_over(self.page.rt, steps);
+                match script {
+                    Ok(script) => Ok(script),
+                    Err(_) => Err(StatusCode::SERVICE_UNAVAILABLE),
+                }
+            }
+            Err(HubFault::NoShard) => Err(StatusCode::NOT_FOUND),
+            Err(_) => Err(StatusCode::SERVICE_UNAVAILABLE),
+        }
+    }
+
+    /// The stored steps of a shard, as a body.
+    fn answer_trace(
+        &mut self,
+        shard: Option<u16>,
+        response: &mut Response,
+    ) -> Result<(), AllocError>
+        ensures err { OnErr result (self.new ≡ self.old) }
+    {
+        let kind = HeaderValue::from_static("text/plain");
+        response.add_header(header::CONTENT_TYPE, kind)?;
+        let script = match shard {
+            Some(shard) => self.take_script(shard),
+            None => Err(StatusCode::NOT_FOUND),
+        };
+        match script {
+            Ok(script) => {
+                if response.body.put_slice(script.as_slice()).is_err() {
+                    response.status = StatusCode::SERVICE_UNAVAILABLE;
+                }
+            }
+            Err(status) => response.status = status,
+        }
+        Ok(())
+    }
+
     /// How the server stands, as a body.
     fn answer_status(&self, form: Form, response: &mut Response) -> Result<(), AllocError> {
         let kind = HeaderValue::from_static(match form {
@@ -63,8 +126,8 @@ impl Control<'_> {
         });
         response.add_header(header::CONTENT_TYPE, kind)?;
         let page = &self.page;
-        let seconds = self.now / 1000;
-        let text = status(page.alloc, page.config, page.counters, seconds, form)?;
+        let seconds = page.now / 1000;
+        let text = status(page.alloc, page.config, &page.look()?, seconds, form)?;
         response.body.put_slice(text.as_str().as_bytes())
     }
 
@@ -76,7 +139,7 @@ impl Control<'_> {
     }
 }
 
-impl Service for Control<'_> {
+impl<R: Wait, N: Opened> Service for Control<'_, '_, R, N> {
     ghost answers = { λ old request response new. Unit {0} };
 
     fn call(
@@ -103,13 +166,14 @@ impl Service for Control<'_> {
             Asked::Metrics => self.page.answer(response),
             Asked::Status(form) => self.answer_status(form, response),
             Asked::Stop => self.stop(response),
+            Asked::Trace => self.answer_trace(shard_of(request.uri().query()), response),
         }
     }
 }
 
-impl Answers for Control<'_> {
+impl<R: Wait, N: Opened> Answers for Control<'_, '_, R, N> {
     fn attend(&mut self, now: u64) {
-        self.now = now;
+        self.page.now = now;
         if self.stopping.is_asked()
             && self
                 .stopping

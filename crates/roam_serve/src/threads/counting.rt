@@ -4,9 +4,14 @@ ghost use Rattle.std.specs.Prelude.{◌≡◌};
 ghost use Rattle.roam_serve.specs.Packets as spec;
 
 use crate::run::counters::ThreadCounts;
+use crate::threads::ended::cause_of;
 use roam_book::Answer;
-use roam_conf::{Config, Endpoint, Place};
-use roam_counters::{Event, Process, ReplyKind, Subject, Turn, end_at, tick_event};
+use roam_conf::{Config, Endpoint, Link, Place};
+use roam_counters::{
+    Delay, Event, NakCause, Process, ReplyKind, RequestKind, Subject, Turn, end_at, subject_of,
+    tick_event,
+};
+use roam_hub::{Past, Requester, Stood};
 use roam_port::Losses;
 use roam_route::{Job, Out};
 use roam_wire::Refusal;
@@ -39,6 +44,47 @@ pub fn turn_of(job: &Job<Global>) -> Turn
         realm: job.realm,
         side: job.side,
         code: code_of(job.octets.as_slice()),
+    }
+}
+
+/// Who sent a request that was noted.
+fn requester_of(past: Past) -> Subject {
+    match past.requester {
+        Requester::Peer(peer) => Subject::Peer(peer),
+        Requester::Home(server) => Subject::Server(past.realm, server),
+    }
+}
+
+/// From this place on, that of the first request that another server is asked.
+fn next_failed_over(pasts: &[Past], from: usize) -> usize {
+    for at in from..pasts.len() {
+        if let Stood::Waiting { .. } = pasts[at].stands {
+            return at;
+        }
+    }
+    pasts.len()
+}
+
+/// Whether a packet is that of a request that another server is asked.
+fn is_taken_over(config: &Config, out: &Out<Global>, past: Option<&Past>) -> bool {
+    let Some(past) = past else {
+        return false;
+    };
+    match past.stands {
+        Stood::Waiting { link, id, .. } => {
+            out.from == Place::Out(past.realm)
+                && out.bytes.as_slice().get(1) == Some(&id)
+                && config.link_of(past.realm, out.to) == Some(link)
+        }
+        Stood::Held | Stood::Gone => false,
+    }
+}
+
+/// That a request of this code was sent to another server.
+fn taken_over(code: u8) -> Option<Event> {
+    match RequestKind::of(code) {
+        Some(kind) => Some(Event::TakenOver(kind)),
+        None => None,
     }
 }
 
@@ -142,35 +188,137 @@ impl Counting<'_> {
         }
     }
 
-    /// A tick sent packets.
-    pub fn ticked(&self, answer: &Answer<Global>) {
+    /// A tick sent packets: each again to its server, but for those of requests of which another server is asked, which
+    /// stand in the same order among those that were noted.
+    pub fn ticked(&self, answer: &Answer<Global>, pasts: &[Past]) {
         let Some(counts) = &self.counts else {
             return;
         };
+        let mut at = next_failed_over(pasts, 0);
         for out in &answer.outs {
             let realm = match out.realm {
                 Some(realm) => Some(Subject::Realm(realm)),
                 None => None,
             };
             let other = end_at(self.config, out.from, out.to);
-            let event = tick_event(out.from, code_of(out.bytes.as_slice()));
-            counts.event_of(&[realm, other], event);
+            let code = code_of(out.bytes.as_slice());
+            if is_taken_over(self.config, out, pasts.get(at)) {
+                at = next_failed_over(pasts, at.saturating_add(1));
+                counts.event_of(&[realm, other], taken_over(code));
+            } else {
+                counts.event_of(&[realm, other], tick_event(out.from, code));
+            }
         }
         if let Some(refusal) = answer.refusal {
             counts.event(Subject::All, Event::Refused(refusal));
         }
     }
 
-    /// A step was stored.
-    pub fn stored(&self) {
-        if let Some(counts) = &self.counts {
-            counts.process(Process::Step, 1);
+    /// Something became of a request that waited: it is counted of its realm, of where it waited and of who sent it.
+    pub fn ended(&self, past: Past, event: Event) {
+        let Some(counts) = &self.counts else {
+            return;
+        };
+        let Stood::Waiting { link, .. } = past.stood else {
+            return;
+        };
+        let subjects = [
+            Some(Subject::Realm(past.realm)),
+            Some(subject_of(past.realm, link)),
+            Some(requester_of(past)),
+        ];
+        counts.event_of(&subjects, Some(event));
+    }
+
+    /// A reverse request that no access server answered was answered by a NAK.
+    pub fn unanswered(&self, past: Past) {
+        let Some(counts) = &self.counts else {
+            return;
+        };
+        if let Requester::Home(_) = past.requester {
+            let subjects = [Some(Subject::Realm(past.realm)), Some(requester_of(past))];
+            let event = Event::Nak(NakCause::OtherProxyProcessingError);
+            counts.event_of(&subjects, Some(event));
         }
     }
 
-    /// So many stored steps were let go of together.
-    pub fn let_go(&self, steps: usize) {
+    /// A request that waited was answered at this moment.
+    pub fn replied(&self, past: Past, now: u64) {
+        let Some(counts) = &self.counts else {
+            return;
+        };
+        let Stood::Waiting { link, deadline, .. } = past.stood else {
+            return;
+        };
+        let Some(realm) = self.config.realms.get(usize::from(past.realm)) else {
+            return;
+        };
+        if let Link::Auth(_) | Link::Acct(_) = link {
+            let sent = deadline.saturating_sub(u64::from(realm.wait));
+            let time = now.saturating_sub(sent);
+            let server = subject_of(past.realm, link);
+            counts.event(server, Event::AnswerWithin(Delay::of(time)));
+            counts.more(server, Event::AnswerTime, time);
+        }
+    }
+
+    /// A request that was answered came again, and its reply was sent once more.
+    pub fn answered_again(&self, turn: Turn) {
         if let Some(counts) = &self.counts {
+            let subjects = [Some(Subject::Realm(turn.realm)), Some(turn.sender())];
+            counts.event_of(&subjects, Some(Event::AnsweredAgain));
+        }
+    }
+
+    /// A reverse request was answered by a NAK at once.
+    pub fn denied(&self, turn: Turn, answer: &Answer<Global>) {
+        let Some(counts) = &self.counts else {
+            return;
+        };
+        let cause = match answer.outs.first() {
+            Some(out) => cause_of(out.bytes.as_slice()),
+            None => None,
+        };
+        if let Some(cause) = cause {
+            let subjects = [Some(Subject::Realm(turn.realm)), Some(turn.sender())];
+            counts.event_of(&subjects, Some(Event::Nak(cause)));
+        }
+    }
+
+    /// The broker rejected a request by itself that came from here.
+    pub fn rejected(&self, place: Place, from: Endpoint) {
+        if let Some(counts) = &self.counts {
+            let sender = end_at(self.config, place, from);
+            counts.event_of(&[sender], Some(Event::LocalReject));
+        }
+    }
+
+    /// One more of this of the whole server.
+    pub fn process(&self, process: Process) {
+        if let Some(counts) = &self.counts {
+            counts.process(process, 1);
+        }
+    }
+
+    /// So many requests found no room to be noted.
+    pub fn missed(&self, count: u64) {
+        if let Some(counts) = &self.counts {
+            counts.process(Process::NoteMissed, count);
+        }
+    }
+
+    /// A step of a shard was stored, whose stored steps have so many octets now.
+    pub fn stored(&self, shard: u16, octets: u64) {
+        if let Some(counts) = &self.counts {
+            counts.process(Process::Step, 1);
+            counts.history_is(shard, octets);
+        }
+    }
+
+    /// So many stored steps of a shard were let go of together.
+    pub fn let_go(&self, shard: u16, steps: usize) {
+        if let Some(counts) = &self.counts {
+            counts.history_is(shard, 0);
             counts.process(Process::TimeLetGo, 1);
             counts.process(Process::StepLetGo, steps as u64);
         }

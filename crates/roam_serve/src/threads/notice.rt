@@ -9,7 +9,7 @@ ghost use Rattle.roam_serve.specs.Notices.{notices_in, notices_among};
 
 use crate::fault::Reason;
 use log::{Log, info, warn};
-use roam_conf::{Config, Endpoint};
+use roam_conf::{Config, Endpoint, Link, Realm};
 use roam_notices::{EndpointText, Origin, RefusedText, Repeats, Tally};
 use roam_port::LossCause;
 use roam_wire::Refusal;
@@ -37,6 +37,12 @@ pub enum Notice {
     Narrow(Endpoint, u32),
     /// The endpoint for metrics can't be had, for this reason: the server goes on without.
     NoMetrics(Endpoint, Reason),
+    /// So many lines of exchanges were dropped.
+    LinesDropped(u64),
+    /// A home server of this realm keeps silent: this link to it rests.
+    Silent(u16, Link),
+    /// It answers again.
+    Answers(u16, Link),
     /// The server is asked to stop.
     Stopping,
     /// A configuration of so many realms, peers and shards is served.
@@ -56,6 +62,41 @@ fn words_of(cause: LossCause) -> &'static str {
     }
 }
 
+/// A home server's endpoint, and the name of its realm.
+struct LinkText<'c> {
+    at: Endpoint,
+    realm: &'c str,
+}
+
+/// What isn't configured.
+const NOWHERE: Endpoint = Endpoint {
+    ip: [0; 4],
+    port: 0,
+};
+
+/// The endpoint of a link of a realm, and the realm's name.
+fn link_text(config: &Config, realm: u16, link: Link) -> LinkText<'_> {
+    match config.realms.get(usize::from(realm)) {
+        Some(realm) => LinkText {
+            at: server_endpoint(realm, link).unwrap_or(NOWHERE),
+            realm: realm.name.as_str(),
+        },
+        None => LinkText {
+            at: NOWHERE,
+            realm: "",
+        },
+    }
+}
+
+/// The endpoint of a home server's link; none where the link is a peer's.
+pub fn server_endpoint(realm: &Realm, link: Link) -> Option<Endpoint> {
+    match link {
+        Link::Auth(server) => Some(realm.servers.get(usize::from(server))?.auth),
+        Link::Acct(server) => Some(realm.servers.get(usize::from(server))?.acct),
+        Link::Coa(_) => None,
+    }
+}
+
 /// Tells a notice. Waits where standard error has no room.
 pub fn tell<R: Log>(rt: &R, config: &Config, notice: Notice) {
     match notice {
@@ -67,6 +108,15 @@ pub fn tell<R: Log>(rt: &R, config: &Config, notice: Notice) {
         }
         Notice::NoMetrics(at, Reason(number)) => {
             warn!(rt; "no metrics at {} (errno {})", EndpointText(at), number)
+        }
+        Notice::LinesDropped(count) => warn!(rt; "{} lines of exchanges dropped", count),
+        Notice::Silent(realm, link) => {
+            let LinkText { at, realm } = link_text(config, realm, link);
+            warn!(rt; "home server {} of {} keeps silent: it rests", EndpointText(at), realm)
+        }
+        Notice::Answers(realm, link) => {
+            let LinkText { at, realm } = link_text(config, realm, link);
+            info!(rt; "home server {} of {} answers again", EndpointText(at), realm)
         }
         Notice::Stopping => info!(rt; "asked to stop: no request is taken any more"),
         Notice::Serving(realms, peers, shards) => {
@@ -103,6 +153,8 @@ pub struct Notices {
     due: Option<u64>,
     dropped: u64,
     is_waiting: bool,
+    /// From when on it may be said again that lines of exchanges were dropped.
+    next_dropped: u64,
 }
 
 /// A queue of notices: the end of the thread that has them, and that of the one who tells them.
@@ -114,6 +166,7 @@ pub fn queue_of_notices(alloc: Global) -> Result<(Notices, Consumer<Notice>), Al
         due: None,
         dropped: 0,
         is_waiting: false,
+        next_dropped: 0,
     };
     Ok((notices, told))
 }
@@ -137,6 +190,25 @@ impl Notices {
     /// Says that packets were lost. Never waits. Answers whether it will be told.
     pub fn lost(&mut self, cause: LossCause, count: u64) -> bool {
         self.put(Notice::Lost(cause, count))
+    }
+
+    /// Says that so many lines of exchanges were dropped, once a second at most. Never waits. Answers whether it will be
+    /// told.
+    pub fn lines_dropped(&mut self, count: u64, now: u64) -> bool {
+        if now < self.next_dropped {
+            return false;
+        }
+        self.next_dropped = now.saturating_add(SECOND);
+        self.put(Notice::LinesDropped(count))
+    }
+
+    /// Says that a home server keeps silent, or answers again. Never waits. Answers whether it will be told.
+    pub fn rests(&mut self, realm: u16, link: Link, is_silent: bool) -> bool {
+        if is_silent {
+            self.put(Notice::Silent(realm, link))
+        } else {
+            self.put(Notice::Answers(realm, link))
+        }
     }
 
     /// Says that the server is asked to stop. Never waits. Answers whether it will be told.
@@ -226,9 +298,12 @@ impl Notices {
         is_waiting
     }
 
-    /// Has all be told that was refused, and how many notices were dropped of which that isn't said yet.
-    pub fn end(&mut self) {
+    /// Has all be told that was refused, and how many notices and lines were dropped of which that isn't said yet.
+    pub fn end(&mut self, lines: u64) {
         self.tell_refused();
+        if lines > 0 {
+            let _is_told = self.put(Notice::LinesDropped(lines));
+        }
         if self.dropped > 0 && self.put(Notice::Dropped(self.dropped)) {
             self.dropped = 0;
         }

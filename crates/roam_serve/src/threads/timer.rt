@@ -5,6 +5,7 @@ ghost use Rattle.std.specs.Prelude.{◌≡◌, ◌↔◌, ◌≤◌, ◌+◌, �
 use crate::run::ending::{Ending, WorkerEnd};
 use crate::run::losses::CAUSES;
 use crate::threads::context::WorkerContext;
+use crate::threads::rests::{Rests, does_any_wait, tell_rests};
 use mio::{Events, Poll};
 use roam_hub::{Gate, Opened};
 use std::alloc::Global;
@@ -17,6 +18,10 @@ pub const TICK: u64 = 10;
 
 /// The same, where nothing is due so long in any shard, and no job was given to one.
 pub const REST: u64 = 1000;
+
+/// A server that is asked to stop ends when no request waited for so long, in milliseconds: a worker that had taken one
+/// before has given it to its shard by then.
+pub const QUIET: u64 = 200;
 
 /// Lost packets of one cause are told once in so many milliseconds.
 pub const BETWEEN_LOSSES: u64 = 60_000;
@@ -32,6 +37,10 @@ pub struct Timer<'s, 'c, G, N: Opened> {
     pub told: [Option<u64>; 4],
     /// Whether it was told that the server is asked to stop.
     pub is_stop_told: bool,
+    /// Which home servers kept silent when that was looked at last.
+    pub rests: Rests,
+    /// Since when no request waits, where the server is asked to stop.
+    pub quiet_since: Option<u64>,
 }
 
 /// Whether the server's time is over.
@@ -84,6 +93,18 @@ fn tell_stop<G, N: Opened>(timer: &mut Timer<'_, '_, G, N>) {
     }
 }
 
+/// Whether all is done where the server is asked to stop: no request waits, nor did so a while ago.
+fn has_done_all<R: Wait, G: Gate, N: Opened>(rt: &R, timer: &mut Timer<'_, '_, G, N>) -> bool {
+    if !timer.context.shared.stopping.is_asked() || does_any_wait(rt, timer) {
+        timer.quiet_since = None;
+        return false;
+    }
+    let now = timer.context.now;
+    let since = timer.quiet_since.unwrap_or(now);
+    timer.quiet_since = Some(since);
+    now.saturating_sub(since) >= QUIET
+}
+
 /// One round of ticks: why the timer ends with it, if it does.
 fn round<R: Wait + Clock, G: Gate, N: Opened>(
     rt: &R,
@@ -103,7 +124,11 @@ fn round<R: Wait + Clock, G: Gate, N: Opened>(
         timer.context.outgoing.send();
     }
     tell_losses(timer);
+    tell_rests(rt, timer);
     timer.context.wake_logger();
+    if has_done_all(rt, timer) {
+        return Some(Ending::TimeOver);
+    }
     None
 }
 
@@ -129,7 +154,7 @@ fn wait<R: Clock, G, N: Opened>(rt: &R, timer: &mut Timer<'_, '_, G, N>, millise
 /// Waits until the next round. Before it rests it says so, and looks at the shards once more: a job that one was
 /// given before that look is seen there, and who gives one a job after it wakes the timer.
 fn rest<R: Wait + Clock, G: Gate, N: Opened>(rt: &R, timer: &mut Timer<'_, '_, G, N>) {
-    if !timer.context.can_rest(rt, REST) {
+    if timer.context.shared.stopping.is_asked() || !timer.context.can_rest(rt, REST) {
         return wait(rt, timer, TICK);
     }
     let shared = timer.context.shared;

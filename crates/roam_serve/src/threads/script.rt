@@ -1,0 +1,66 @@
+//! Stored steps as a script, which `roam sim` plays.
+
+use roam_conf::{Endpoint, Place};
+use roam_trace::{Happened, Step};
+use std::alloc::{AllocError, Global};
+use std::fmt::Write;
+
+/// The hexadecimal digits.
+const DIGITS: [u8; 16] = *b"0123456789abcdef";
+
+/// Adds octets in hexadecimal digits; a hyphen where there are none.
+fn push_hex(script: &mut Vec<u8>, octets: &[u8]) -> Result<(), AllocError> {
+    if octets.is_empty() {
+        return script.extend_from_slice(b"-");
+    }
+    for octet in octets {
+        let high = DIGITS[usize::from(*octet / 16)];
+        let low = DIGITS[usize::from(*octet % 16)];
+        script.extend_from_slice(&[high, low])?;
+    }
+    Ok(())
+}
+
+/// Adds the line of an arrival.
+fn push_arrival(
+    alloc: Global,
+    script: &mut Vec<u8>,
+    now: u64,
+    at: Place,
+    from: Endpoint,
+    octets: &[u8],
+) -> Result<(), AllocError> {
+    let [a, b, c, d] = from.ip;
+    let port = from.port;
+    let head = match at {
+        Place::Auth => format!(in alloc; "A {now} auth {a}.{b}.{c}.{d}:{port} ")?,
+        Place::Acct => format!(in alloc; "A {now} acct {a}.{b}.{c}.{d}:{port} ")?,
+        Place::Out(realm) => format!(in alloc; "A {now} out:{realm} {a}.{b}.{c}.{d}:{port} ")?,
+        Place::Reverse(realm) => {
+            format!(in alloc; "A {now} reverse:{realm} {a}.{b}.{c}.{d}:{port} ")?
+        }
+    };
+    script.extend_from_slice(head.as_str().as_bytes())?;
+    push_hex(script, octets)?;
+    script.extend_from_slice(b"\n")
+}
+
+/// The events of steps, a line each, in their order.
+pub fn script_of(alloc: Global, steps: &[Step<Global>]) -> Result<Vec<u8>, AllocError> {
+    let mut script = Vec::new(alloc);
+    for step in steps {
+        match step.happened() {
+            Happened::Arrived {
+                now,
+                at,
+                from,
+                octets,
+            } => push_arrival(alloc, &mut script, now, at, from, octets)?,
+            Happened::Ticked { now, shard } => {
+                let line = format!(in alloc; "T {now} {shard}\n")?;
+                script.extend_from_slice(line.as_str().as_bytes())?;
+            }
+        }
+    }
+    Ok(script)
+}
