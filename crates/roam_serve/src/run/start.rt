@@ -121,6 +121,43 @@ fn start_control<
         .is_ok()
 }
 
+/// What the threads beside the workers take with them.
+#[derive(Drop)]
+struct Beside<'l, N: Opened> {
+    queues: Vec<Consumer<Notice>>,
+    lines: Lines<'l>,
+    line: Vec<u8>,
+    seat: Seat<Global, N>,
+}
+
+/// Starts the threads beside the workers. Answers whether all have started.
+fn start_beside<
+    's,
+    'w: 's,
+    'c: 's,
+    'l: 's,
+    E,
+    R: Wait + Clock + RandomSource + Log + Sync,
+    G: Gate + Sync,
+    N: Opened + Send + Sync,
+>(
+    scope: &Scope<'s, E>,
+    rt: &'s R,
+    alloc: Global,
+    shared: &'s Shared<'w, 'c, G, N>,
+    beside: Beside<'l, N>,
+) -> bool {
+    let Beside {
+        queues,
+        lines,
+        line,
+        seat,
+    } = beside;
+    let are_behind = start_behind(scope, rt, shared, queues, lines, line);
+    let are_counts_told = start_metrics(scope, rt, alloc, shared);
+    start_control(scope, rt, alloc, shared, seat) && are_counts_told && are_behind
+}
+
 /// Starts a thread for each worker. Answers whether all have started.
 fn start_workers<
     's,
@@ -173,14 +210,17 @@ pub fn run_threads<
         lines,
         seat,
     } = prepared;
-    let line = Vec::with_capacity(alloc, LINE)?;
+    let beside = Beside {
+        queues,
+        lines,
+        line: Vec::with_capacity(alloc, LINE)?,
+        seat,
+    };
     let count = workers.len().saturating_add(1);
     let mut handles: Vec<JoinHandle<WorkerEnd<N>>> = Vec::with_capacity(alloc, count)?;
     let mut ends = Vec::with_capacity(alloc, count)?;
     let have_started = thread::scope(thread::scope_env(), rt, |scope| {
-        let mut have_started = start_behind(scope, rt, shared, queues, lines, line);
-        have_started = start_metrics(scope, rt, alloc, shared) && have_started;
-        have_started = start_control(scope, rt, alloc, shared, seat) && have_started;
+        let mut have_started = start_beside(scope, rt, alloc, shared, beside);
         have_started = start_workers(scope, rt, alloc, workers, &mut handles) && have_started;
         match scope.spawn(move || tick_on(rt, timer)) {
             Ok(handle) => have_started = handles.push(handle).is_ok() && have_started,
