@@ -25,6 +25,7 @@ fn print_hindrance<W: Write>(writer: &mut W, hindrance: Option<Hindrance>) -> io
         Some(Hindrance::Seed) => writer.write_all(b"may not follow: seed\n"),
         Some(Hindrance::Shards) => writer.write_all(b"may not follow: shards\n"),
         Some(Hindrance::Spread) => writer.write_all(b"may not follow: spread\n"),
+        Some(Hindrance::Realms) => writer.write_all(b"may not follow: fewer realms\n"),
         Some(Hindrance::Endpoint(endpoint)) => {
             let [a, b, c, d] = endpoint.ip;
             let port = endpoint.port;

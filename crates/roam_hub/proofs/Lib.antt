@@ -1,2 +1,3 @@
 pub mod HubLemmas
 pub mod KeptLemmas
+pub mod ChangeLemmas

@@ -17,7 +17,8 @@ all_steps fronts = map all_in fronts
 
 -- a shard that was cut from its steps: it stands where they end
 pub record IsClosed (o : HubOpening) (number : ℕ) (s : ShardView) (steps : List PlainStep) : Type 0 where
-  pub opening : s.opening ≡ opening_at o number
+  pub shard : s.opening.shard ≡ number
+  pub config : s.opening.config ≡ o.config
   pub states : s.states ≡ end_of (opening_at o number) steps
   pub history : IsHistory (opening_at o number) steps
 

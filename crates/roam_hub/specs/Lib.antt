@@ -4,5 +4,7 @@ pub mod Calls
 pub mod Keeping
 pub mod Looks
 pub mod Closing
+pub mod Pausing
+pub mod Changes
 pub mod Faults
 pub mod Texts

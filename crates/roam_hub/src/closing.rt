@@ -41,7 +41,7 @@ fn append<T: Drop, A: Allocator>(list: &mut Vec<T, A>, value: T) -> Result<(), N
 }
 
 /// Takes the locks apart, one at a time.
-fn taken_apart<'c, A: Allocator + Copy, N: Opened>(
+pub(crate) fn taken_apart<'c, A: Allocator + Copy, N: Opened>(
     alloc: A,
     locks: Vec<Mutex<Kept<'c, A, N>>, A>,
 ) -> Result<Closed<'c, A, N>, HubFault>
@@ -73,7 +73,7 @@ fn taken_apart<'c, A: Allocator + Copy, N: Opened>(
 }
 
 /// Where the realms stand at the end, by index.
-fn starts_of<'c, A: Allocator + Copy, N: Opened>(
+pub(crate) fn starts_of<'c, A: Allocator + Copy, N: Opened>(
     alloc: A,
     config: &'c Config,
     closed: &Closed<'c, A, N>,

@@ -16,13 +16,17 @@ mod laws;
 mod look;
 mod notes;
 mod opening;
+mod pausing;
 
 pub use answered::{Answered, Refused};
 pub use fault::HubFault;
 pub use gate::{Gate, Open};
 pub use hub::Hub;
-pub use laws::{provenance_in_histories, realms_in_histories};
+pub use laws::{
+    provenance_in_histories, realms_from_any_states, realms_in_histories, realms_over_changes,
+};
 pub use notes::{Notes, Past, Stood};
+pub use pausing::PausedHub;
 pub use roam_audit::{AuditFault, Audited, Receipt, Report, Seat, split};
 pub use roam_book::{Gauges, Rest, SERVER_LINKS};
 pub use roam_history::{Blanks, Front, Opened};

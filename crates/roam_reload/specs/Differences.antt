@@ -76,4 +76,5 @@ abbrev pub Hinders : ConfigView → ConfigView → Hindrance → Type 0
 Hinders old new hindrance.Seed = new.seed ≢ old.seed
 Hinders old new hindrance.Shards = new.shards ≢ old.shards
 Hinders old new hindrance.Spread = new.spread ≢ old.spread
+Hinders old new hindrance.Realms = length new.realms < length old.realms
 Hinders old new (hindrance.Endpoint endpoint) = HasMoved old new endpoint

@@ -1,5 +1,5 @@
 -- When a configuration may follow another while the broker serves, and which realms are carried over then. Ours.
-use Rattle.std.specs.Prelude.{◌≡◌, ℕ, ◌<◌, true, false, List, [], ◌∷◌, ◌++◌, map, option_map, length, slice_get}
+use Rattle.std.specs.Prelude.{◌≡◌, ℕ, ◌<◌, ◌≤◌, true, false, List, [], ◌∷◌, ◌++◌, map, option_map, length, slice_get}
 use Rattle.roam_conf.specs.Config.{ConfigView, PeerView, RealmView}
 use Rattle.roam_conf.specs.Duplicates.{is_among}
 use Rattle.roam_conf.specs.declared.endpoint.Endpoint.{Endpoint}
@@ -39,9 +39,11 @@ KeepsKinds old new = (before after : Kind) (endpoint : Endpoint)
     → is_among (endpoints_of old before) endpoint ≡ true → is_among (endpoints_of new after) endpoint ≡ true
     → after ≡ before
 
--- a configuration may follow another
+-- a configuration may follow another. It has as many realms or more: the index of one that went could be given to
+-- another later, whose random words and tickets would then begin again
 pub record MayFollow (old new : ConfigView) : Type 0 where
   pub seed : new.seed ≡ old.seed
   pub shards : new.shards ≡ old.shards
   pub spread : new.spread ≡ old.spread
+  pub realms : length old.realms ≤ length new.realms
   pub kinds : KeepsKinds old new

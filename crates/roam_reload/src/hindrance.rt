@@ -21,6 +21,9 @@ pub enum Hindrance {
     Shards,
     /// One spreads its requests over sockets of each worker, and the other doesn't.
     Spread,
+    /// It has fewer realms. A realm that was added later at the index of one that went would begin its random words and
+    /// its tickets again.
+    Realms,
     /// This endpoint is one of the broker's own places in both, and of another kind.
     Endpoint(Endpoint),
 }
@@ -81,6 +84,9 @@ pub fn hindrance_of(old: &Config, new: &Config) -> Option<Hindrance>
     }
     if new.spread != old.spread {
         return Some(Hindrance::Spread);
+    }
+    if new.realms.len() < old.realms.len() {
+        return Some(Hindrance::Realms);
     }
     match moved_endpoint(old, new) {
         Some(endpoint) => Some(Hindrance::Endpoint(endpoint)),

@@ -35,7 +35,7 @@ loop-lock-preserved g c =
     ap (λ (l : List (List Entry)). map stored_of l) entries ∙ map-append stored_of (entries_of fronts) (front.entries ∷ []) in
     record {
       closed = rw (c.in_ok-append.ensures.items, more) (one_more_closed g.N.Opened.opening c.loop-lock.number c.loop-lock.shards.items (all_steps fronts)
-          c.in_ok-shard.shard (all_in front) inv.closed (record { opening = one.opening; states = one.states; history = one.history }));
+          c.in_ok-shard.shard (all_in front) inv.closed (record { shard = one.its_shard; config = one.config; states = one.states; history = one.history }));
       stored =
           stored
           ∙ ((λ j. inv.stored j ++ one.steps j ∷ [])
