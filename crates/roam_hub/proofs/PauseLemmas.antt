@@ -36,8 +36,8 @@ module _ {A : Type 0} where
   pub none_paused : (shards : List ShardView) → ArePausedSoFar shards shards []
   none_paused shards = record {
     each = λ k s p at also. absurd (let bad : None ≡ Some p = also in cc);
-    behind = λ k. refl;
-    count = refl;
+    behind = λ k. (let e : k ≡ 0 + k = omega arith in ap (slice_get shards) e);
+    count = omega arith;
   }
 
   pub one_more_paused : (shards left : List ShardView) (paused : List (Paused A)) (s : ShardView) (ss : List ShardView) (p : Paused A)
@@ -215,4 +215,16 @@ module _ {A : Type 0} where
     follow = λ k p q at also. (
         let lt = slice_get_within shards k q also in let number = are.number in
         (are.done k p q (omega (arith, lt, number, all)) at also).1);
+  }
+
+  -- and so they do from where they stood before memory was taken
+  pub followed_from : (old new : ConfigView) (first before shards : List (Paused A)) → ArePaused old first → StandAsBefore old first before
+      → HaveFollowed old new before shards → HaveFollowed old new first shards
+  followed_from old new first before shards paused still followed = record {
+    paused = followed.paused;
+    follow = λ k p q at also. (
+        let lt = slice_get_within first k p at in
+        let m = slice_index_or before k p in
+        let there : slice_get before k ≡ Some m = slice_get-get_or before k p (omega (arith, lt, paused.count, still.paused.count)) in
+        subst (λ (s : List RealmState). AllFollow old new k s (states_under new q)) (still.states k p m at there) (followed.follow k m q there also));
   }
