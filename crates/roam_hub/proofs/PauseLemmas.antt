@@ -189,17 +189,17 @@ module _ {A : Type 0} where
     rest = λ r le. get-set_other shards k r q (λ is. absurd (omega (arith, is, le))) ∙ are.rest r (omega (arith, le));
     done = λ r x y below first there. elim (cases_eq r k)
         as (λ _. IsPaused new r y × AllFollow old new r (states_under old x) (states_under new y)) [
-      | inl is ↦ (
-          let within : k < length shards = (let number = are.number in omega (arith, lt, number)) in
-          let here : Some q ≡ Some y = sym (get-set_same shards k q within) ∙ ap (slice_get (set shards k q)) (sym is) ∙ there in
-          let same : q ≡ y = cc in
-          let stood : Some p ≡ Some x = sym at ∙ are.rest k (omega arith) ∙ ap (slice_get before) (sym is) ∙ first in
-          let was : p ≡ x = cc in
-          subst (λ (n : ℕ). IsPaused new n y × AllFollow old new n (states_under old x) (states_under new y)) (sym is)
-          (subst (λ (z : Paused A). IsPaused new k z × AllFollow old new k (states_under old x) (states_under new z)) same
-          (one, subst (λ (z : Paused A). AllFollow old new k (states_under old z) (states_under new q)) was follow)))
-      | inr ne ↦ are.done r x y (omega (arith, ne, below)) first (sym (get-set_other shards k r q ne) ∙ there)
-    ];
+          | inl is ↦ (
+              let within : k < length shards = (let number = are.number in omega (arith, lt, number)) in
+              let here : Some q ≡ Some y = sym (get-set_same shards k q within) ∙ ap (slice_get (set shards k q)) (sym is) ∙ there in
+              let same : q ≡ y = cc in
+              let stood : Some p ≡ Some x = sym at ∙ are.rest k (omega arith) ∙ ap (slice_get before) (sym is) ∙ first in
+              let was : p ≡ x = cc in
+              subst (λ (n : ℕ). IsPaused new n y × AllFollow old new n (states_under old x) (states_under new y)) (sym is)
+              (subst (λ (z : Paused A). IsPaused new k z × AllFollow old new k (states_under old x) (states_under new z)) same
+              (one, subst (λ (z : Paused A). AllFollow old new k (states_under old z) (states_under new q)) was follow)))
+          | inr ne ↦ are.done r x y (omega (arith, ne, below)) first (sym (get-set_other shards k r q ne) ∙ there)
+        ];
   }
 
   pub all_followed : (old new : ConfigView) (before shards : List (Paused A)) (count : ℕ) → HaveFollowedSoFar old new before shards count
