@@ -1,21 +1,20 @@
 -- Realms over changes of the configuration.
-use Rattle.std.proofs.Common.{◌≡◌, ℕ, ◌==◌, ◌%◌, ◌<◌, ◌≤◌, true, List, [], ◌∷◌, ◌++◌, length, refl, ap, sym, subst, ◌∙◌, arith}
+use Rattle.std.proofs.Common.{◌≡◌, ℕ, true, List, [], ◌∷◌, ◌++◌, refl, ap, subst, ◌∙◌}
 use Rattle.roam_conf.specs.Config.{ConfigView}
-use Rattle.roam_reload.specs.Reload.{IsCarried}
 use Rattle.roam_route.specs.Admission.{PlainOut}
 use Rattle.roam_book.specs.RealmConfig.{realm_config}
 use Rattle.roam_book.specs.RealmState.{RealmState}
 use Rattle.roam_book.specs.Reload.{carried}
 use Rattle.roam_book.specs.OneRealm.{one_realm_run}
-use Rattle.roam_core.specs.Events.{events_of_realm, is_in_shard}
+use Rattle.roam_core.specs.Events.{is_in_shard}
 use Rattle.roam_core.specs.Isolation.{packets_for}
-use Rattle.roam_core.specs.ManyRealms.{answer_to, answers_to, state_at}
+use Rattle.roam_core.specs.ManyRealms.{answers_to, state_at}
 use Rattle.roam_core.proofs.IsolationLemmas.{isolated, stands_alone}
 use Rattle.roam_core.proofs.PacketLemmas.{packets_for-append}
-use Rattle.roam_trace.specs.History.{Beginning, IsHistory, end_of, states_next, states_then}
+use Rattle.roam_trace.specs.History.{states_next, states_then}
 use Rattle.roam_trace.specs.Steps.{PlainStep}
 use Rattle.roam_hub.specs.InHistories.{events_in, packets_in}
-use Rattle.roam_hub.specs.Changes.{AreSpans, CarriedOverChanges, EachGoesAlone, FollowsOn, GoesAlone, IsThere, OthersBeginAnew, Span, StaysThere, own_events, run_over, sent_over, state_into}
+use Rattle.roam_hub.specs.Changes.{AreSpans, CarriedOverChanges, EachGoesAlone, FollowsOn, IsThere, OthersBeginAnew, Span, StaysThere, own_events, run_over, sent_over}
 use Rattle.roam_hub.proofs.HubLemmas.{sent_in}
 
 -- where some steps end is where the written answers to their events do

@@ -1,22 +1,20 @@
 -- Histories of a hub's shards.
-use Rattle.std.proofs.Common.{◌≡◌, ◌⊎◌, ℕ, zero, suc, ◌+◌, ◌<◌, ◌≤◌, ◌%◌, List, [], ◌∷◌, ◌++◌, length, map, Some, None, refl, ap, sym, subst, inl, inr, ◌∙◌, arith}
+use Rattle.std.proofs.Common.{◌≡◌, ◌⊎◌, ℕ, zero, suc, ◌+◌, ◌<◌, ◌%◌, List, [], ◌∷◌, ◌++◌, length, Some, None, refl, ap, sym, subst, inl, inr, ◌∙◌, arith}
 use Rattle.std.specs.Prelude.{slice_get, slice_index_or}
 use Rattle.std.specs.List.{AllByRecursion}
 use Rattle.std.proofs.lemmas.List.{length-append}
 use Rattle.std.proofs.lemmas.Option.{slice_get-get_or}
 use Rattle.roam_conf.specs.Config.{ConfigView}
 use Rattle.roam_route.specs.Admission.{PlainOut}
-use Rattle.roam_book.specs.RealmConfig.{realm_config}
 use Rattle.roam_book.specs.RealmState.{RealmState}
 use Rattle.roam_book.specs.declared.start.Start.{Start}
-use Rattle.roam_core.specs.Events.{PlainEvent, events_of_realm}
 use Rattle.roam_core.specs.Isolation.{packets_for}
-use Rattle.roam_core.specs.ManyRealms.{AllRealms, answer_to, answers_to, packets_in_turn, state_at}
-use Rattle.roam_core.specs.Openings.{one_realm_packets, openings, start_of}
+use Rattle.roam_core.specs.ManyRealms.{answer_to, answers_to, packets_in_turn, state_at}
+use Rattle.roam_core.specs.Openings.{openings}
 use Rattle.roam_core.proofs.IsolationLemmas.{isolated_from_start}
 use Rattle.roam_core.proofs.ProvenanceLemmas.{has_provenance}
-use Rattle.roam_shard.specs.ShardView.{AreStarts, IsStart, OpeningView, ShardView}
-use Rattle.roam_trace.specs.History.{AreSteps, IsHistory, end_of, states_next}
+use Rattle.roam_shard.specs.ShardView.{AreStarts, IsStart, ShardView}
+use Rattle.roam_trace.specs.History.{AreSteps, end_of, states_next}
 use Rattle.roam_trace.specs.Steps.{PlainAnswer, PlainStep}
 use Rattle.roam_audit.specs.Audit.{steps_of}
 use Rattle.roam_hub.specs.Closing.{AreClosed, IsClosed}

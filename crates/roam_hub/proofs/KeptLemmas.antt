@@ -1,5 +1,5 @@
 -- What lies under a lock, one call later.
-use Rattle.std.proofs.Common.{◌≡◌, ◌↔◌, Bool, false, ℕ, zero, suc, ◌+◌, ◌<◌, ◌≤◌, List, [], ◌∷◌, ◌++◌, length, Some, None, slice_get, slice_index_or, slice_set, refl, ap, sym, subst, ◌∙◌, arith}
+use Rattle.std.proofs.Common.{◌≡◌, ◌↔◌, Bool, false, ℕ, ◌+◌, ◌<◌, List, [], ◌∷◌, ◌++◌, length, Some, None, slice_get, slice_index_or, slice_set, refl, ap, sym, subst, ◌∙◌, arith}
 use Rattle.std.proofs.lemmas.List.{length-append, get_or-set_same, get_or-set_other}
 use mathlib.Core.List.{IsPrefix}
 use Rattle.roam_trace.specs.History.{Beginning, Ends, GoesOn, IsHistory, begun, TraceView, end_of, with_step, without_steps}
@@ -8,7 +8,7 @@ use Rattle.roam_trace.specs.Steps.{PlainStep}
 use Rattle.roam_history.specs.Entries.{Entry, gone_of, last_of, steps_in, stored_of}
 use Rattle.roam_history.specs.Fronts.{FrontView}
 use Rattle.roam_history.specs.HubOpening.{HubOpening, opening_at}
-use Rattle.roam_history.proofs.EntryLemmas.{all-gone, all-steps, last-push, none-stored, one-step, one-stored, same-gone, same-steps, steps-append}
+use Rattle.roam_history.proofs.EntryLemmas.{all-gone, all-steps, last-push, none-stored, one-step, one-stored, same-gone, same-steps}
 use Rattle.roam_history.proofs.Prefixes.{prefix_length, prefix_self, prefix_trans}
 use Rattle.roam_audit.specs.Seats.{SeatView, after_call, front_of, having_seen}
 use Rattle.roam_audit.proofs.PrefixLemmas.{steps_begin}

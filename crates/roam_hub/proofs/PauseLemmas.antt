@@ -1,5 +1,5 @@
 -- Shards that are taken from their configuration, and follow another one.
-use Rattle.std.proofs.Common.{◌≡◌, ◌≢◌, ◌⊎◌, ℕ, zero, suc, ◌+◌, ◌<◌, ◌≤◌, List, [], ◌∷◌, ◌++◌, length, set, Some, None, refl, ap, sym, subst, inl, inr, ◌∙◌, arith}
+use Rattle.std.proofs.Common.{◌≡◌, ◌≢◌, ℕ, suc, ◌+◌, ◌<◌, ◌≤◌, List, [], ◌∷◌, ◌++◌, length, set, Some, None, refl, ap, sym, subst, inl, inr, ◌∙◌, arith}
 use Rattle.std.specs.Prelude.{slice_get, slice_index_or}
 use Rattle.std.specs.declared.vec.Vec.{Vec}
 use Rattle.std.proofs.Math.ListN.{length-set}

@@ -1,7 +1,7 @@
 -- What lies under a shard's lock: words of private functions alone (ours).
-use Rattle.std.specs.Prelude.{◌≡◌, ℕ, List, length}
+use Rattle.std.specs.Prelude.{◌≡◌, length}
 use Rattle.roam_trace.specs.History.{Ends, TraceView}
-use Rattle.roam_history.specs.Entries.{Entry, gone_of, stored_of}
+use Rattle.roam_history.specs.Entries.{gone_of, stored_of}
 use Rattle.roam_history.specs.Fronts.{FrontView}
 use Rattle.roam_history.specs.HubOpening.{HubOpening}
 

@@ -1,6 +1,5 @@
 use Rattle.std.proofs.Common.{◌≡◌, ◌++◌, ◌∷◌, [], List, length, map, refl, ap, sym, ◌∙◌, arith}
 use Rattle.std.proofs.lemmas.List.{map-append}
-use Rattle.roam_trace.specs.Steps.{PlainStep}
 use Rattle.roam_history.specs.Entries.{Entry, stored_of}
 use Rattle.roam_history.specs.Fronts.{FrontView, entries_of}
 use Rattle.roam_audit.specs.Shown.{all_in, items_of}

@@ -1,6 +1,5 @@
 -- Memory is taken for one shard after the other.
-use Rattle.std.proofs.Common.{◌≡◌, ◌<◌, ◌≤◌, ◌∙◌, length, refl, sym, subst, ap, Some, arith}
-use Rattle.std.specs.Prelude.{slice_get}
+use Rattle.std.proofs.Common.{◌<◌, length, refl, arith}
 use Rattle.roam_conf.specs.Shown.{shown}
 use Rattle.roam_tables.proofs.RealmLemmas.{get-read}
 use Rattle.roam_hub.proofs.PauseLemmas.{all_ready, none_ready, one_more_ready, still_one}

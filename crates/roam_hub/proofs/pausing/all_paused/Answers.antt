@@ -1,5 +1,5 @@
 -- One shard is taken after the other.
-use Rattle.std.proofs.Common.{◌≡◌, ◌≤◌, [], List, length, refl, ap, sym, subst, ◌∙◌, arith}
+use Rattle.std.proofs.Common.{[], List, length, ap, sym, subst, ◌∙◌, arith}
 use Rattle.std.specs.Vec.Iter.{into_iter_items}
 use Rattle.roam_shard.specs.ShardView.{ShardView}
 use Rattle.roam_hub.proofs.PauseLemmas.{ArePausedSoFar, all_paused, none_paused, one_more_paused}

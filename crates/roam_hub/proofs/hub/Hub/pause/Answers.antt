@@ -1,5 +1,5 @@
 -- Each shard stands where its history ends, also where it was taken from its configuration.
-use Rattle.std.proofs.Common.{◌≡◌, ◌∙◌, length, vec_len, sym, ap, arith}
+use Rattle.std.proofs.Common.{◌∙◌, length, ap, arith}
 use Rattle.std.proofs.lemmas.List.{length-map}
 use Rattle.roam_conf.specs.Config.{ConfigView}
 use Rattle.roam_conf.specs.Parts.{shown_realm}

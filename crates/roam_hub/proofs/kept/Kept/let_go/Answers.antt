@@ -1,11 +1,10 @@
 -- The stored steps are let go of, and the history says so.
-use Rattle.std.proofs.Common.{◌≡◌, ℕ, ◌++◌, ◌∷◌, [], List, None, ap, refl, sym, subst, ◌∙◌}
+use Rattle.std.proofs.Common.{◌≡◌, ℕ, ◌++◌, ◌∷◌, [], None, ap, sym, subst, ◌∙◌}
 use mathlib.Core.List.{IsPrefix}
 use Rattle.roam_trace.specs.History.{Ends, TraceView, without_steps}
-use Rattle.roam_trace.specs.Steps.{PlainStep}
-use Rattle.roam_history.specs.Entries.{Entry, gone_of}
+use Rattle.roam_history.specs.Entries.{gone_of}
 use Rattle.roam_history.specs.Fronts.{FrontView}
-use Rattle.roam_audit.specs.Seats.{SeatView, front_of, having_seen}
+use Rattle.roam_audit.specs.Seats.{front_of, having_seen}
 use Rattle.roam_hub.specs.Calls.{AreGone, Sees}
 use Rattle.roam_hub.specs.Keeping.{IsKept, KeptView}
 use Rattle.roam_hub.proofs.KeptLemmas.{gone_of_shard, kept_gone}
