@@ -1,11 +1,10 @@
 -- The stored steps are let go of, and the history says so.
-use Rattle.std.proofs.Common.{◌≡◌, ℕ, ◌++◌, ◌∷◌, [], List, None, ap, refl, sym, subst, ◌∙◌}
+use Rattle.std.proofs.Common.{◌≡◌, ℕ, ◌++◌, ◌∷◌, [], None, ap, sym, subst, ◌∙◌}
 use mathlib.Core.List.{IsPrefix}
 use Rattle.roam_trace.specs.History.{Ends, TraceView, without_steps}
-use Rattle.roam_trace.specs.Steps.{PlainStep}
-use Rattle.roam_history.specs.Entries.{Entry, gone_of}
+use Rattle.roam_history.specs.Entries.{gone_of}
 use Rattle.roam_history.specs.Fronts.{FrontView}
-use Rattle.roam_audit.specs.Seats.{SeatView, front_of, having_seen}
+use Rattle.roam_audit.specs.Seats.{front_of, having_seen}
 use Rattle.roam_hub.specs.Calls.{AreGone, Sees}
 use Rattle.roam_hub.specs.Keeping.{IsKept, KeptView}
 use Rattle.roam_hub.proofs.KeptLemmas.{gone_of_shard, kept_gone}
@@ -35,8 +34,9 @@ invariant_of-self g c =
     let es = i.front.entries in
     let after : FrontView = record { shard = i.front.shard; entries = es ++ None ∷ [] } in
     let gone : c.let_go-steps.new.self ≡ without_steps i.traced = c.let_go-steps.ensures.gone in
-    let ends : Ends (without_steps i.traced) (gone_of es ++ i.traced.steps) =
-    subst (λ (v : TraceView). Ends v (gone_of es ++ i.traced.steps)) gone (c.let_go-steps.ensures.history (gone_of es) c.self.invariant.0.ends) in
+    let first = o.states i.front.shard in
+    let ends : Ends (without_steps i.traced) first (gone_of es ++ i.traced.steps) =
+    subst (λ (v : TraceView). Ends v first (gone_of es ++ i.traced.steps)) gone (c.let_go-steps.ensures.history first (gone_of es) c.self.invariant.0.ends) in
     let one : IsKept o (record { trace = without_steps i.traced; front = after }) = kept_gone o k c.self.invariant.0 ends in
     let two : IsKept o (record { trace = c.let_go-steps.new.self; front = after }) =
     subst (λ (v : TraceView). IsKept o (record { trace = v; front = after })) (sym gone) one in (

@@ -1,17 +1,17 @@
 -- The call is the last step of the shard's one history.
-use Rattle.std.proofs.Common.{◌≡◌, ℕ, ◌-◌, ◌^◌, List, length, min, ap, refl, sym, subst, ◌∙◌}
+use Rattle.std.proofs.Common.{◌≡◌, ℕ, ◌-◌, ◌^◌, List, min, ap, sym, subst, ◌∙◌}
 use mathlib.Core.List.{IsPrefix}
-use Rattle.roam_route.specs.Events.{IsEvent, arrival_of}
+use Rattle.roam_route.specs.Events.{arrival_of}
 use Rattle.roam_route.specs.Shown.{shown_job}
-use Rattle.roam_core.specs.Events.{arrives, is_in_shard, ticks}
+use Rattle.roam_core.specs.Events.{arrives}
 use Rattle.roam_trace.specs.History.{TraceView, with_step}
 use Rattle.roam_trace.specs.Steps.{PlainStep, octets_in, shown_answer}
 use Rattle.roam_history.specs.Entries.{Entry, last_of, stored_of}
 use Rattle.roam_history.proofs.EntryLemmas.{last-push}
 use Rattle.roam_history.specs.Fronts.{FrontView}
-use Rattle.roam_audit.specs.Seats.{SeatView, after_call, front_of, having_seen}
+use Rattle.roam_audit.specs.Seats.{after_call, front_of}
 use Rattle.roam_hub.specs.Keeping.{KeptView}
-use Rattle.roam_hub.proofs.KeptLemmas.{Recorded, full, recorded, sees_same, sees_whole}
+use Rattle.roam_hub.proofs.KeptLemmas.{Recorded, recorded}
 use Rattle.roam_hub.proofs.kept.Kept.take.Given.{Over}
 use Rattle.roam_hub.proofs.kept.Kept.take.Goals as goal
 

@@ -4,7 +4,7 @@ use Rattle.roam_shard.specs.Twins.{NothingDue}
 use mathlib.Core.List.{IsPrefix}
 use Rattle.roam_history.specs.Entries.{steps_in}
 use Rattle.roam_history.specs.Fronts.{FrontView}
-use Rattle.roam_audit.specs.Seats.{SeatView, front_of, having_seen}
+use Rattle.roam_audit.specs.Seats.{front_of, having_seen}
 use Rattle.roam_hub.specs.Keeping.{KeptView}
 use Rattle.roam_core.specs.Events.{ticks}
 use Rattle.roam_hub.specs.Calls.{answered_step}
