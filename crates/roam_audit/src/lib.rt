@@ -18,5 +18,5 @@ pub use audit_fault::AuditFault;
 pub use audited::Audited;
 pub use receipt::Receipt;
 pub use report::Report;
-pub use seat::{Seat, split};
+pub use seat::{Seat, no_tallies, split};
 pub use tally::Tally;

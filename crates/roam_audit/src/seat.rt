@@ -102,7 +102,7 @@ fn count<A: Allocator>(tallies: &mut Vec<Tally, A>, shard: u16, number: u64)
 }
 
 /// Tallies that count no call, for so many shards.
-fn no_tallies<A: Allocator>(alloc: A, shards: usize) -> Result<Vec<Tally, A>, NoMemory>
+pub fn no_tallies<A: Allocator>(alloc: A, shards: usize) -> Result<Vec<Tally, A>, NoMemory>
     ensures { IfOk result (λ v. v.items ≡ no_tallies shards) }
 {
     let no_calls = Tally {
@@ -140,6 +140,19 @@ impl<A: Allocator, N: Opened> Seat<A, N> {
     {
         let tallies = no_tallies(alloc, fronts.len())?;
         Ok(Seat { tallies, fronts })
+    }
+
+    /// The same, over tallies that count no call. Takes no memory.
+    pub fn over(tallies: Vec<Tally, A>, fronts: Vec<Front<N>, A>) -> Seat<A, N>
+        requires tallies { tallies.items ≡ no_tallies N.opening.config.shards }
+        requires count { vec_len fronts ≡ N.opening.config.shards }
+        requires shards { AreOfShards fronts.items }
+        ensures { result ≡ record {
+          tallies = no_tallies N.opening.config.shards;
+          fronts = entries_of fronts.items;
+        } }
+    {
+        Seat { tallies, fronts }
     }
 }
 

@@ -3,12 +3,18 @@ use Rattle.std.specs.Prelude.{ℕ, List, [], None, false}
 use Rattle.roam_conf.specs.Config.{ConfigView}
 use Rattle.roam_book.specs.RealmConfig.{nowhere}
 use Rattle.roam_book.specs.declared.start.Start.{Start}
-use Rattle.roam_shard.specs.ShardView.{OpeningView}
+use Rattle.roam_book.specs.RealmState.{RealmState}
+use Rattle.roam_core.specs.Openings.{openings}
+use Rattle.roam_trace.specs.History.{Beginning}
 
--- the configuration, and where each realm began
+-- the configuration, and in each shard the states in which its history begins
 pub record HubOpening : Type 0 where
   pub config : ConfigView
-  pub starts : List Start
+  pub states : ℕ → List RealmState
+
+-- of a hub with no request pending: each realm begins at its start
+abbrev pub fresh_opening : ConfigView → List Start → HubOpening
+fresh_opening config starts = record { config = config; states = λ shard. openings config starts }
 
 -- what stands for the opening of a hub that isn't there
 abbrev pub no_opening : HubOpening
@@ -26,9 +32,9 @@ no_opening = record {
     peers = [];
     realms = [];
   };
-  starts = [];
+  states = λ shard. [];
 }
 
--- how a shard of it began
-abbrev pub opening_at : HubOpening → ℕ → OpeningView
-opening_at o shard = record { shard = shard; config = o.config; starts = o.starts }
+-- where the history of a shard of it begins
+abbrev pub opening_at : HubOpening → ℕ → Beginning
+opening_at o shard = record { shard = shard; config = o.config; states = o.states shard }

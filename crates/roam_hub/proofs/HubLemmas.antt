@@ -26,7 +26,7 @@ use Rattle.roam_hub.specs.Histories.{AreHistories, start_at_end, starts_at_end, 
 use Rattle.roam_hub.specs.InHistories.{ProvenanceInHistories, RealmsInHistories, events_in, packets_in}
 
 -- what was sent in some steps is what the written broker answers to their events
-sent_in : (config : ConfigView) (shard : ℕ) (states : List RealmState) (steps : List PlainStep) → AreSteps config shard states steps → packets_in steps ≡ (answers_to config states (events_in steps)).packets
+pub sent_in : (config : ConfigView) (shard : ℕ) (states : List RealmState) (steps : List PlainStep) → AreSteps config shard states steps → packets_in steps ≡ (answers_to config states (events_in steps)).packets
 sent_in config shard states [] are = refl
 sent_in config shard states (s ∷ ss) are =
     let here : s.answer.packets ≡ packets_in_turn (answer_to config states s.event) = ap (λ (a : PlainAnswer). a.packets) are.0.answer in
@@ -43,7 +43,7 @@ provenance_in_histories o steps some history =
     has_provenance o.config o.starts (events_in steps) (packets_in steps) (λ realm within. realms_in_histories o steps realm some within history)
 
 -- one shard more that was taken apart
-get-push : {X : Type 0} (xs : List X) (x y : X) (k : ℕ) → slice_get (xs ++ x ∷ []) k ≡ Some y → ((k ≡ length xs) × (x ≡ y)) ⊎ ((k < length xs) × (slice_get xs k ≡ Some y))
+pub get-push : {X : Type 0} (xs : List X) (x y : X) (k : ℕ) → slice_get (xs ++ x ∷ []) k ≡ Some y → ((k ≡ length xs) × (x ≡ y)) ⊎ ((k < length xs) × (slice_get xs k ≡ Some y))
 get-push [] x y zero at = (let some : Some x ≡ Some y = at in let is : x ≡ y = cc in inl (refl, is))
 get-push [] x y (suc k) at = absurd (let bad : None ≡ Some y = at in cc)
 get-push (z ∷ zs) x y zero at = inr (omega arith, at)
@@ -96,7 +96,7 @@ closed_histories o count shards steps are all = record {
 }
   where
     nobody : HubOpening → ShardView
-    nobody o = record { opening = opening_at o 0; states = [] }
+    nobody o = record { opening = record { shard = 0; config = o.config; starts = [] }; states = [] }
 
 -- where a realm stands is where its shard stands
 pub start_closed : (o : HubOpening) (count : ℕ) (shards : List ShardView) (steps : List (List PlainStep)) (k realm : ℕ) (s : ShardView) (start : Start)

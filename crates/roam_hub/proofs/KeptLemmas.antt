@@ -2,8 +2,7 @@
 use Rattle.std.proofs.Common.{◌≡◌, ◌↔◌, Bool, false, ℕ, zero, suc, ◌+◌, ◌<◌, ◌≤◌, List, [], ◌∷◌, ◌++◌, length, Some, None, slice_get, slice_index_or, slice_set, refl, ap, sym, subst, ◌∙◌, arith}
 use Rattle.std.proofs.lemmas.List.{length-append, get_or-set_same, get_or-set_other}
 use mathlib.Core.List.{IsPrefix}
-use Rattle.roam_shard.specs.ShardView.{OpeningView, opened}
-use Rattle.roam_trace.specs.History.{Ends, GoesOn, IsHistory, TraceView, end_of, with_step, without_steps}
+use Rattle.roam_trace.specs.History.{Beginning, Ends, GoesOn, IsHistory, begun, TraceView, end_of, with_step, without_steps}
 use Rattle.roam_shard.specs.Twins.{NothingDue}
 use Rattle.roam_trace.specs.Steps.{PlainStep}
 use Rattle.roam_history.specs.Entries.{Entry, gone_of, last_of, steps_in, stored_of}
@@ -39,37 +38,38 @@ sees_whole shard old new es is lt pre =
       sees_set shard old new es fronts lt pre,
     )
 
+-- where its trace begins
+begins : (o : HubOpening) (k : KeptView) → IsKept o k → begun k.trace (o.states k.front.shard) ≡ opening_at o k.front.shard
+begins o k kept = λ j. record { shard = kept.shard j; config = kept.config j; states = o.states k.front.shard }
+
 -- the whole history of a shard is one from the hub's opening, and where it ends the shard stands
 pub whole_history : (o : HubOpening) (k : KeptView) → IsKept o k → IsHistory (opening_at o k.front.shard) (steps_in k.front.entries)
 whole_history o k kept =
     let all : gone_of k.front.entries ++ k.trace.steps ≡ steps_in k.front.entries =
     ap (λ (l : List PlainStep). gone_of k.front.entries ++ l) kept.stored ∙ all-steps k.front.entries in
     subst (λ (l : List PlainStep). IsHistory (opening_at o k.front.shard) l) all
-    (subst (λ (p : OpeningView). IsHistory p (gone_of k.front.entries ++ k.trace.steps)) kept.opening kept.ends.history)
+    (subst (λ (p : Beginning). IsHistory p (gone_of k.front.entries ++ k.trace.steps)) (begins o k kept) kept.ends.history)
 
 pub whole_end : (o : HubOpening) (k : KeptView) → IsKept o k → k.trace.states ≡ end_of (opening_at o k.front.shard) (steps_in k.front.entries)
 whole_end o k kept =
     let all : gone_of k.front.entries ++ k.trace.steps ≡ steps_in k.front.entries =
     ap (λ (l : List PlainStep). gone_of k.front.entries ++ l) kept.stored ∙ all-steps k.front.entries in
     kept.ends.stands
-    ∙ (ap (λ (p : OpeningView). end_of p (gone_of k.front.entries ++ k.trace.steps)) kept.opening
+    ∙ (ap (λ (p : Beginning). end_of p (gone_of k.front.entries ++ k.trace.steps)) (begins o k kept)
     ∙ ap (λ (l : List PlainStep). end_of (opening_at o k.front.shard) l) all)
 
--- a shard at its opening
+-- a shard with no steps yet
 pub kept_new : (o : HubOpening) (t : TraceView) (f : FrontView)
-    → t ≡ record { opening = opening_at o f.shard; states = opened (opening_at o f.shard); gone = 0; steps = []; limit = o.config.trace_limit }
+    → t.opening.shard ≡ f.shard → t.opening.config ≡ o.config → t.states ≡ o.states f.shard → t.gone ≡ 0 → t.steps ≡ [] → t.limit ≡ o.config.trace_limit
     → f.entries ≡ [] → IsKept o (record { trace = t; front = f })
-kept_new o t f is none =
-    let here : IsKept o (record { trace = record { opening = opening_at o f.shard; states = opened (opening_at o f.shard); gone = 0; steps = []; limit = o.config.trace_limit }; front = record { shard = f.shard; entries = [] } }) =
-    record {
-      opening = refl;
-      limit = refl;
-      ends = record { history = tt; stands = refl };
-      stored = refl;
-      gone = refl;
-    } in
-    subst (λ (v : TraceView). IsKept o (record { trace = v; front = f })) (sym is)
-    (subst (λ (es : List Entry). IsKept o (record { trace = record { opening = opening_at o f.shard; states = opened (opening_at o f.shard); gone = 0; steps = []; limit = o.config.trace_limit }; front = record { shard = f.shard; entries = es } })) (sym none) here)
+kept_new o t f shard config stands gone steps limit none = record {
+  shard = shard;
+  config = config;
+  limit = limit;
+  ends = rw (steps, none) (record { history = tt; stands = stands });
+  stored = rw none steps;
+  gone = rw none gone;
+}
 
 -- with one step more
 kept_step : (o : HubOpening) (k : KeptView) (s : PlainStep) → IsKept o k → GoesOn k.trace (with_step k.trace s)
@@ -78,24 +78,26 @@ kept_step o k s kept more =
     let es = k.front.entries in
     let gone : gone_of (es ++ Some s ∷ []) ≡ gone_of es = same-gone es s in
     record {
-      opening = kept.opening;
+      shard = kept.shard;
+      config = kept.config;
       limit = kept.limit;
-      ends = subst (λ (l : List PlainStep). Ends (with_step k.trace s) l) (sym gone) (more (gone_of es) kept.ends);
+      ends = subst (λ (l : List PlainStep). Ends (with_step k.trace s) (o.states k.front.shard) l) (sym gone) (more (o.states k.front.shard) (gone_of es) kept.ends);
       stored = ap (λ (l : List PlainStep). l ++ s ∷ []) kept.stored ∙ sym (one-stored es s);
       gone = kept.gone ∙ ap length (sym gone);
     }
 
 -- where the stored steps were let go of
-pub kept_gone : (o : HubOpening) (k : KeptView) → IsKept o k → Ends (without_steps k.trace) (gone_of k.front.entries ++ k.trace.steps)
+pub kept_gone : (o : HubOpening) (k : KeptView) → IsKept o k → Ends (without_steps k.trace) (o.states k.front.shard) (gone_of k.front.entries ++ k.trace.steps)
     → IsKept o (record { trace = without_steps k.trace; front = record { shard = k.front.shard; entries = k.front.entries ++ None ∷ [] } })
 kept_gone o k kept ends =
     let es = k.front.entries in
     let gone : gone_of es ++ k.trace.steps ≡ gone_of (es ++ None ∷ []) =
     ap (λ (l : List PlainStep). gone_of es ++ l) kept.stored ∙ sym (all-gone es) in
     record {
-      opening = kept.opening;
+      shard = kept.shard;
+      config = kept.config;
       limit = kept.limit;
-      ends = subst (λ (l : List PlainStep). Ends (without_steps k.trace) l) gone ends;
+      ends = subst (λ (l : List PlainStep). Ends (without_steps k.trace) (o.states k.front.shard) l) gone ends;
       stored = sym (none-stored es);
       gone =
           ap (λ (n : ℕ). n + length k.trace.steps) kept.gone

@@ -9,7 +9,7 @@ use Rattle.roam_core.specs.Isolation.{packets_for}
 use Rattle.roam_core.specs.Openings.{one_realm_packets, start_of}
 use Rattle.roam_core.specs.Provenance.{HasProvenance}
 use Rattle.roam_shard.specs.ShardView.{OpeningView}
-use Rattle.roam_trace.specs.History.{IsHistory}
+use Rattle.roam_trace.specs.History.{IsHistory, at_opening}
 use Rattle.roam_trace.specs.Steps.{PlainStep}
 
 -- the events of some steps, and all that was sent in them
@@ -23,7 +23,7 @@ packets_in (s ∷ ss) = s.answer.packets ++ packets_in ss
 abbrev pub RealmsInHistories : Type 0
 RealmsInHistories =
     (o : OpeningView) (steps : List PlainStep) (realm : ℕ)
-    → 1 ≤ o.config.shards → realm < length o.starts → IsHistory o steps
+    → 1 ≤ o.config.shards → realm < length o.starts → IsHistory (at_opening o) steps
     → packets_for realm (packets_in steps)
     ≡ one_realm_packets (realm_config o.config realm) (start_of o.starts realm)
     (events_of_realm o.config realm (events_in steps))
@@ -33,5 +33,5 @@ RealmsInHistories =
 abbrev pub ProvenanceInHistories : Type 0
 ProvenanceInHistories =
     (o : OpeningView) (steps : List PlainStep)
-    → 1 ≤ o.config.shards → IsHistory o steps
+    → 1 ≤ o.config.shards → IsHistory (at_opening o) steps
     → HasProvenance o.config o.starts (events_in steps) (packets_in steps)

@@ -3,7 +3,7 @@ use Rattle.std.specs.Prelude.{◌≡◌, ℕ, List, length}
 use Rattle.roam_trace.specs.History.{Ends, TraceView}
 use Rattle.roam_history.specs.Entries.{Entry, gone_of, stored_of}
 use Rattle.roam_history.specs.Fronts.{FrontView}
-use Rattle.roam_history.specs.HubOpening.{HubOpening, opening_at}
+use Rattle.roam_history.specs.HubOpening.{HubOpening}
 
 -- a trace, and the whole history of its shard
 pub record KeptView : Type 0 where
@@ -12,8 +12,9 @@ pub record KeptView : Type 0 where
 
 -- the trace is one of the hub, and ends the whole history
 pub record IsKept (o : HubOpening) (k : KeptView) : Type 0 where
-  pub opening : k.trace.opening ≡ opening_at o k.front.shard
+  pub shard : k.trace.opening.shard ≡ k.front.shard
+  pub config : k.trace.opening.config ≡ o.config
   pub limit : k.trace.limit ≡ o.config.trace_limit
-  pub ends : Ends k.trace (gone_of k.front.entries)
+  pub ends : Ends k.trace (o.states k.front.shard) (gone_of k.front.entries)
   pub stored : k.trace.steps ≡ stored_of k.front.entries
   pub gone : k.trace.gone ≡ length (gone_of k.front.entries)

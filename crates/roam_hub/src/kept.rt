@@ -5,7 +5,6 @@ ghost use mathlib.Core.List.{IsPrefix};
 ghost use Rattle.roam_route.specs.Events.{IsEvent, arrival_of};
 ghost use Rattle.roam_route.specs.Shown.{shown_job};
 ghost use Rattle.roam_core.specs.Events.{arrives, is_in_shard, ticks};
-ghost use Rattle.roam_shard.specs.ShardView.{opened};
 ghost use Rattle.roam_trace.specs.History.{IsHistory, end_of};
 ghost use Rattle.roam_trace.specs.Steps.{PlainStep, octets_in};
 ghost use Rattle.roam_history.specs.Entries.{last_of, steps_in, stored_of};
@@ -127,16 +126,14 @@ fn recorded<R: Wait, A: Allocator + Copy, N: Opened>(
 }
 
 impl<'c, A: Allocator + Copy, N: Opened> Kept<'c, A, N> {
-    /// A shard of the hub at its opening, with a history that is empty, to lie under a lock. Takes no
-    /// memory.
+    /// A shard of the hub where its history begins, which is empty yet, to lie under a lock. Takes no memory.
     pub(crate) fn new(traced: Traced<'c, A>, front: Front<N>, head: Head<N>) -> Kept<'c, A, N>
-        requires trace { traced ≡ record {
-          opening = opening_at N.opening front.shard;
-          states = opened (opening_at N.opening front.shard);
-          gone = 0;
-          steps = [];
-          limit = N.opening.config.trace_limit;
-        } }
+        requires shard { traced.opening.shard ≡ front.shard }
+        requires config { traced.opening.config ≡ N.opening.config }
+        requires states { traced.states ≡ N.opening.states front.shard }
+        requires gone { traced.gone ≡ 0 }
+        requires steps { traced.steps ≡ [] }
+        requires limit { traced.limit ≡ N.opening.config.trace_limit }
         requires empty { front.entries ≡ [] }
         requires head { head.shard ≡ front.shard }
         ensures { result.front ≡ front }
@@ -319,7 +316,8 @@ impl<'c, A: Allocator + Copy, N: Opened> Kept<'c, A, N> {
         self,
         shard: u16,
     ) -> Result<(Shard<'c, A>, Vec<Step<A>, A>, Front<N>), HubFault>
-        ensures opening { IfOk result (λ r. r.0.opening ≡ opening_at N.opening shard) }
+        ensures its_shard { IfOk result (λ r. r.0.opening.shard ≡ shard) }
+        ensures config { IfOk result (λ r. r.0.opening.config ≡ N.opening.config) }
         ensures states { IfOk result (λ r. r.0.states
             ≡ end_of (opening_at N.opening shard) (steps_in r.2.entries)) }
         ensures history { IfOk result (λ r. IsHistory (opening_at N.opening shard)

@@ -4,6 +4,7 @@ ghost use Rattle.std.specs.Prelude.{◌≡◌, ◌≢◌, ◌<◌, [], IfOk};
 ghost use Rattle.roam_conf.specs.Shown.{shown};
 ghost use Rattle.roam_shard.specs.ShardView.{AreStarts};
 ghost use Rattle.roam_history.specs.Books.{books_of, count_of};
+ghost use Rattle.roam_history.specs.HubOpening.{fresh_opening};
 ghost use Rattle.roam_audit.specs.Seats.{new_seat};
 
 use crate::hub::Hub;
@@ -27,7 +28,7 @@ fn kept_at<'c, A: Allocator + Copy, N: Opened>(
     starts: &[Start],
     blank: Blank,
 ) -> Result<(Kept<'c, A, N>, Front<N>), NoMemory>
-    requires opening { N.opening ≡ record { config = shown config.now; starts = starts.now } }
+    requires opening { N.opening ≡ fresh_opening (shown config.now) starts.now }
     requires shard { shard < config.now.shards }
     requires starts { AreStarts (shown config.now) starts.now }
     requires book { blank.seen.book ≡ N.books shard }
@@ -50,7 +51,7 @@ impl<'c, A: Allocator + Copy, N: Opened> Hub<'c, A, N> {
         starts: &[Start],
         blanks: Blanks<A>,
     ) -> Result<(Hub<'c, A, N>, Seat<A, N>), NoMemory>
-        requires opening { N.opening ≡ record { config = shown config.now; starts = starts.now } }
+        requires opening { N.opening ≡ fresh_opening (shown config.now) starts.now }
         requires books { N.books ≡ books_of blanks }
         requires blanks { count_of blanks ≡ config.now.shards }
         requires starts { AreStarts (shown config.now) starts.now }

@@ -2,6 +2,7 @@
 
 ghost use Rattle.std.specs.Prelude.{◌≡◌, ◌↔◌, IsOk, IsTrue, IfOk, IfErr, Contains};
 ghost use Rattle.roam_conf.specs.Shown.{shown};
+ghost use Rattle.roam_history.specs.HubOpening.{fresh_opening};
 ghost use Rattle.roam_history.specs.Books.{books_of, count_of};
 ghost use Rattle.roam_shard.specs.ShardView.{AreStarts};
 ghost use Rattle.roam_serve.specs.Endings.{endings_of};
@@ -199,7 +200,7 @@ fn run_hub<
     starts: &[Start],
     blanks: Blanks<Global>,
 ) -> Result<Audited<Global, N>, ServeFault>
-    requires opening { N.opening ≡ record { config = shown config.now; starts = starts.now } }
+    requires opening { N.opening ≡ fresh_opening (shown config.now) starts.now }
     requires books { N.books ≡ books_of blanks }
     requires blanks { count_of blanks ≡ config.now.shards }
     requires starts { AreStarts (shown config.now) starts.now }
@@ -226,7 +227,7 @@ fn serve_hub<
     starts: &[Start],
     blanks: Blanks<Global>,
 ) -> Result<(), ServeFault>
-    requires opening { N.opening ≡ record { config = shown config.now; starts = starts.now } }
+    requires opening { N.opening ≡ fresh_opening (shown config.now) starts.now }
     requires books { N.books ≡ books_of blanks }
     requires blanks { count_of blanks ≡ config.now.shards }
     requires starts { AreStarts (shown config.now) starts.now }

@@ -3,6 +3,7 @@ pub mod DueLemmas
 pub mod LettingGoLemmas
 pub mod LookLemmas
 pub mod OpeningLemmas
+pub mod FollowLemmas
 pub mod RoomLemmas
 pub mod TickLemmas
 pub mod AcrossLemmas

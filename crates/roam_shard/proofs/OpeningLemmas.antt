@@ -70,7 +70,7 @@ module _ {A : Type 0} where
         ];
   }
 
-  sound_fresh : (c : RealmConfig) (start : Start) (es : List PlainEntry) (n : Numbers A)
+  pub sound_fresh : (c : RealmConfig) (start : Start) (es : List PlainEntry) (n : Numbers A)
       → IsStart start → es ≡ [] → IsFresh c start n → IsSound c es n
   sound_fresh c start es n can none one = rw none (record {
     each = tt;
@@ -82,7 +82,7 @@ module _ {A : Type 0} where
     ledger = one.ledger;
   })
 
-  state_fresh : (c : RealmConfig) (start : Start) (es : List PlainEntry) (n : Numbers A) → es ≡ []
+  pub state_fresh : (c : RealmConfig) (start : Start) (es : List PlainEntry) (n : Numbers A) → es ≡ []
       → IsFresh c start n → state_of es n ≡ opening c start
   state_fresh c start es n none one =
       λ j. record {
@@ -147,7 +147,7 @@ module _ {A : Type 0} where
         (are.each r (Some n) at).fresh);
     lists = λ r. subst IsEntryList (sym (none r)) (record { in_order = tt; distinct_keys = tt });
     count = are.number ∙ all ∙ starts.count;
-    kept = kept;
+    kept = omega (arith, kept);
     there = there;
   }
     where

@@ -273,7 +273,7 @@ module _ {A : Type 0} where
           | inr ne ↦ subst IsEntryList (sym (own_others r ne)) (are.lists r)
         ];
         count = length-set ns k (Some n2) ∙ are.count;
-        kept = as_many tables tables2 keeps ∙ are.kept;
+        kept = (let len = as_many tables tables2 keeps in omega (arith, len, are.kept));
         there = are.there;
       }
 

@@ -73,5 +73,5 @@ module _ {A : Type 0} where
         → IsSound (realm_config o.config r) (entries_in tables r) n
     pub lists : (r : ℕ) → IsEntryList (entries_in tables r)
     pub count : length numbers ≡ length o.config.realms
-    pub kept : length tables ≡ length o.config.realms
+    pub kept : length o.config.realms ≤ length tables
     pub there : o.shard < o.config.shards

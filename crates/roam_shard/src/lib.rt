@@ -5,16 +5,20 @@
 #![tactic(auto)]
 
 mod dues;
+mod following;
 mod look;
 mod numbers;
 mod opening;
 mod packets;
+mod paused;
 mod rooms;
 mod shard;
 mod shards;
 mod ticking;
 mod turns;
 
+pub use following::FreshNumbers;
 pub use opening::{Opening, first_starts};
+pub use paused::Paused;
 pub use shard::Shard;
 pub use shards::Shards;

@@ -14,7 +14,7 @@ use roam_wire::NoMemory;
 use std::alloc::Allocator;
 
 /// The numbers of a realm at its start, where it is one of the shard's own.
-fn numbers_at<A: Allocator + Copy>(
+pub(crate) fn opened_at<A: Allocator + Copy>(
     alloc: A,
     config: &Config,
     shard: u16,
@@ -48,7 +48,7 @@ pub(crate) fn opened_numbers<A: Allocator + Copy>(
     let mut numbers = Vec::with_capacity(alloc, starts.len())?;
     for realm in 0..starts.len() {
         let start = starts[realm];
-        numbers.push(numbers_at(alloc, config, shard, realm as u16, start)?)?;
+        numbers.push(opened_at(alloc, config, shard, realm as u16, start)?)?;
     }
     Ok(numbers)
 }

@@ -37,7 +37,7 @@ use std::marker::Model;
 /// order of their indexes; a realm of another shard stays as it began.
 #[derive(Drop)]
 pub struct Shard<'c, A: Allocator> {
-    alloc: A,
+    pub(crate) alloc: A,
     pub(crate) opening: Opening<'c, A>,
     pub(crate) entries: Tables<A>,
     /// The numbers that each of the shard's own realms hands out, by the index of the realm.

@@ -15,3 +15,4 @@ pub mod TablesLemmas
 pub mod UpdateLemmas
 pub mod GrowthLemmas
 pub mod OpeningLemmas
+pub mod MoreLemmas

@@ -167,12 +167,14 @@ module _ {A : Type 0} (S : ℕ → Option Stored) (T : TicketKey → Option ℕ)
           (ap (λ (z : ClientKey). z.key) p.2)
 
   -- a realm that isn't kept has no entries
-  pub none_past : (r : ℕ) → length rs ≤ r → entries_at S T r ≡ []
-  none_past r past =
-      listed_nobody (entry_at S T r) 0 tickets_end (λ t. by t (entry_at S T r t) refl)
+  pub nobody_past : (r : ℕ) → length rs ≤ r → (t : ℕ) → entry_at S T r t ≡ None
+  nobody_past r past t = by t (entry_at S T r t) refl
     where
       by : (t : ℕ) (o : Option PlainEntry) → entry_at S T r t ≡ o → entry_at S T r t ≡ None
       by t None h = h
       by t (Some e) h =
           absurd (let l = lies_at r t e h in let lt = sound.within l.slot l.stored l.at in let own =
           l.realm in omega arith)
+
+  pub none_past : (r : ℕ) → length rs ≤ r → entries_at S T r ≡ []
+  none_past r past = listed_nobody (entry_at S T r) 0 tickets_end (nobody_past r past)

@@ -32,7 +32,7 @@ tells_nothing cmp part f xs none empty = rw empty (record {
   only = λ x held. absurd held;
 })
 
-runs_of_nothing : {A : Type 0} (f : ℕ → Option PlainEntry) (q : Runs A) → ((t : ℕ) → f t ≡ None)
+pub runs_of_nothing : {A : Type 0} (f : ℕ → Option PlainEntry) (q : Runs A) → ((t : ℕ) → f t ≡ None)
     → AreEmpty q → IsRunsOf f q
 runs_of_nothing f q none empty = record {
   waits = tells_nothing due_cmp waits_part f q.waits.items none empty.waits;

@@ -1,11 +1,13 @@
 -- What the tables stand for (ours).
-use Rattle.std.specs.Prelude.{◌≡◌, ◌≢◌, ℕ, zero, suc, [], ◌∷◌, slice_index_or, ◌+◌, ◌-◌, ◌<◌, Bool, nat_lt, List, length, Option, Some, None, option_map, slice_get, min}
+use Rattle.std.specs.Prelude.{◌≡◌, ◌≢◌, ℕ, zero, suc, [], ◌∷◌, slice_index_or, ◌+◌, ◌++◌, ◌-◌, ◌<◌, Bool, nat_lt, List, length, Option, Some, None, option_map, slice_get, min}
+use Rattle.std.specs.List.{AllByRecursion}
 use Rattle.std.specs.VecDeque.{deque_capacity}
 use Rattle.slab.specs.Slab as slab
 use Rattle.slab.specs.Slab.{Slab, slab_len}
 use Rattle.indexmap.specs.IndexMap as map
 use Rattle.indexmap.specs.IndexMap.{IndexMap, spare}
 use Rattle.roam_pending.specs.PlainEntry.{PlainEntry}
+use Rattle.roam_pending.specs.EntryList.{find_ticket}
 use Rattle.roam_pending.specs.Shown.{shown}
 use Rattle.roam_tables.specs.declared.slots.Slot.{Slot}
 use Rattle.roam_tables.specs.declared.index.TicketKey.{TicketKey}
@@ -89,6 +91,12 @@ pub record AtRealm {X : Type 0} (Becomes : X → X → Type 0) (old new : List X
   pub becomes : Becomes before after
   pub others : (q : ℕ) → q ≢ r → slice_get new q ≡ slice_get old q
 
+-- further ones came in behind, each of them such a one
+pub record AreMore {X : Type 0} (Each : X → Type 0) (old new : List X) : Type 0 where
+  pub more : List X
+  pub behind : new ≡ old ++ more
+  pub each : AllByRecursion Each more
+
 -- for how many entries more of a realm there is room without memory
 abbrev pub room_at : {A H : Type 0} → Slab (Slot A) → IndexMap TicketKey ℕ H → IndexMap ClientKey ℕ H → List (Runs A) → ℕ → ℕ
 room_at s t c rs r = least_room (slab_room s) (spare t) (spare c) (runs_room (slice_get rs r))
@@ -116,6 +124,11 @@ entries_in v r = (realm_in v r).entries
 
 abbrev pub room_in : List RealmView → ℕ → ℕ
 room_in v r = (realm_in v r).room
+
+-- one of these entries has this ticket
+pub record HasTicket (es : List PlainEntry) (ticket : ℕ) : Type 0 where
+  pub entry : PlainEntry
+  pub found : find_ticket ticket es ≡ Some entry
 
 -- whether the realm of an index is kept here
 abbrev pub keeps_in : List RealmView → ℕ → Bool

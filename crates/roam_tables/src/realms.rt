@@ -1,9 +1,9 @@
 //! The runs of each realm.
 
-ghost use Rattle.std.specs.Prelude.{◌≡◌, ◌<◌, Some, IfOk, OnOk, IsOk, length, option_copied, slice_get};
+ghost use Rattle.std.specs.Prelude.{◌≡◌, ◌<◌, ◌≤◌, Some, IfOk, OnErr, OnOk, IsOk, length, option_copied, slice_get};
 ghost use Rattle.std.specs.List.{AllByRecursion};
 ghost use Rattle.roam_tables.specs.Marks.{AreEmpty, CanEnter, CanLeave, Changes, Enters, Leaves, SameRuns};
-ghost use Rattle.roam_tables.specs.Stands.{AtRealm, runs_room};
+ghost use Rattle.roam_tables.specs.Stands.{AreMore, AtRealm, runs_room};
 
 use crate::mark::Mark;
 use crate::runs::Runs;
@@ -23,6 +23,28 @@ pub(crate) fn no_entries<A: Allocator + Copy>(
         realms.push_reserved(Runs::new(alloc));
     }
     Ok(realms)
+}
+
+/// Adds runs without entries, until there are those of so many realms. Where a growth was refused there are as many as
+/// before.
+pub(crate) fn add_empty<A: Allocator + Copy>(
+    alloc: A,
+    realms: &mut Vec<Runs<A>, A>,
+    count: usize,
+) -> Result<(), NoMemory>
+    ensures ok { OnOk result (count ≤ length realms.new.items) }
+    ensures err { OnErr result (realms.new.items ≡ realms.old.items) }
+    ensures more { AreMore AreEmpty realms.old.items realms.new.items }
+{
+    let len = realms.len();
+    if count <= len {
+        return Ok(());
+    }
+    realms.reserve(count - len).map_err(|_| NoMemory)?;
+    for _ in len..count {
+        realms.push_reserved(Runs::new(alloc));
+    }
+    Ok(())
 }
 
 /// The runs of a realm, if it is kept here.

@@ -1,12 +1,12 @@
 //! The entries of all realms of a shard in one slab, with indexes and runs beside it.
 
-ghost use Rattle.std.specs.Prelude.{◌≡◌, ℕ, ◌<◌, ◌≤◌, ◌+◌, [], Some, OnErr, OnOk, IsOk, IfOk, length};
+ghost use Rattle.std.specs.Prelude.{◌≡◌, ℕ, ◌<◌, ◌≤◌, ◌+◌, [], Some, OnErr, OnOk, IsOk, IfNone, IfOk, IfSome, length};
 ghost use Rattle.indexmap.specs.IndexMap.{spare};
 ghost use Rattle.roam_pending.specs.DueOrder.{due_after};
 ghost use Rattle.roam_pending.specs.EntryList.{HasPlaceOf, IsEntryList, IsNew, besides, find_client, find_ticket, first_done, put, without};
 ghost use Rattle.roam_pending.specs.Realms.{RealmBecomes};
 ghost use Rattle.roam_pending.specs.Shown.{seen, shown, taken};
-ghost use Rattle.roam_tables.specs.Stands.{AtRealm, client_at, entries_in, place, room_in, runs_room, slab_room, ticket_at};
+ghost use Rattle.roam_tables.specs.Stands.{AtRealm, HasTicket, client_at, entries_in, place, room_in, runs_room, slab_room, ticket_at};
 
 use crate::growth::grow;
 use crate::index::{
@@ -14,7 +14,7 @@ use crate::index::{
     note_ticket, ticket_slot,
 };
 use crate::mark::mark_of;
-use crate::realms::{add_at, change_at, no_entries, runs_of, take_at};
+use crate::realms::{add_at, add_empty, change_at, no_entries, runs_of, take_at};
 use crate::runs::Runs;
 use crate::slots::{Slot, entry_in, exchange, put, take};
 use indexmap::IndexMap;
@@ -189,6 +189,44 @@ impl<A: Allocator + Copy> Tables<A> {
                 forget_client(&mut self.by_client, client);
                 take_at(&mut self.realms, realm, mark_of(&slot.entry));
                 Some(slot.entry)
+            }
+        }
+    }
+
+    /// Keeps so many realms at least: the further ones have no entries. What was kept stays as it was, refused or not.
+    pub fn add_realms(&mut self, alloc: A, realms: usize) -> Result<(), NoMemory>
+        ensures ok { OnOk result (realms ≤ length self.new) }
+        ensures entries { entries_in self.new ≡ entries_in self.old }
+        ensures realms { length self.old ≤ length self.new }
+    {
+        add_empty(alloc, &mut self.realms, realms)
+    }
+
+    /// The ticket of one of a realm's entries.
+    fn any_ticket(&self, realm: u16) -> Option<u64>
+        ensures none { IfNone result (entries_in self.now realm ≡ []) }
+        ensures some { IfSome result (HasTicket (entries_in self.now realm)) }
+        ensures list { IsEntryList (entries_in self.now realm) }
+    {
+        match runs_of(&self.realms, realm) {
+            None => None,
+            Some(runs) => {
+                match runs.next(None) {
+                    None => None,
+                    Some(due) => Some(due.ticket),
+                }
+            }
+        }
+    }
+
+    /// Takes out all entries of a realm. Takes no memory.
+    pub fn clear(&mut self, realm: u16)
+        ensures entries { RealmBecomes realm [] (entries_in self.old) (entries_in self.new) }
+        ensures realms { length self.new ≡ length self.old }
+    {
+        for _ in 0..self.len(realm) {
+            if let Some(ticket) = self.any_ticket(realm) {
+                self.remove(realm, ticket);
             }
         }
     }

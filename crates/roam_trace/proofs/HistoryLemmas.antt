@@ -10,7 +10,7 @@ use Rattle.roam_book.specs.declared.answer.Twin.{Twin}
 use Rattle.roam_core.specs.Events.{PlainEvent, arrives, is_in_shard}
 use Rattle.roam_core.specs.ManyRealms.{BrokerTurn, answer_to, to_arrival}
 use Rattle.roam_core.specs.Steps.{IsAnswer}
-use Rattle.roam_shard.specs.ShardView.{OpeningView, opened}
+use Rattle.roam_shard.specs.ShardView.{OpeningView}
 use Rattle.roam_trace.specs.History.{AreSteps, Ends, GoesOn, IsOfShard, IsStep, IsTrace, TraceView, answer_in, states_next, states_then, with_step, without_steps}
 use Rattle.roam_trace.specs.Steps.{PlainStep, shown_answer}
 
@@ -36,19 +36,19 @@ same_shown twin old new turn one two = shows_turn twin.copy old new turn two ∙
 pub goes_on : {A : Type 0} → (answer : Answer A) (t : TraceView) (event : PlainEvent) (new : List RealmState)
     → IsOfShard t.opening.config t.opening.shard event → IsAnswer answer t.states new (answer_to t.opening.config t.states event)
     → GoesOn t (with_step t (record { event = event; answer = shown_answer answer }))
-goes_on answer t event new own told before ends =
+goes_on answer t event new own told first before ends =
     let o = t.opening in
     let s : PlainStep = record { event = event; answer = shown_answer answer } in
     let all : (before ++ t.steps) ++ s ∷ [] ≡ before ++ (t.steps ++ s ∷ []) = append_assoc before t.steps (s ∷ []) in
-    let one : IsStep o.config o.shard (states_then o.config (opened o) (before ++ t.steps)) s = record {
+    let one : IsStep o.config o.shard (states_then o.config first (before ++ t.steps)) s = record {
       event = own;
       answer = shows_turn answer t.states new (answer_to o.config t.states event) told ∙ ap (λ (l : List RealmState). answer_in (answer_to o.config l event)) ends.stands;
     } in
     record {
-      history = subst (λ (l : List PlainStep). AreSteps o.config o.shard (opened o) l) all (steps-append o.config o.shard (opened o) (before ++ t.steps) s ends.history one);
+      history = subst (λ (l : List PlainStep). AreSteps o.config o.shard first l) all (steps-append o.config o.shard first (before ++ t.steps) s ends.history one);
       stands =
           ap (λ (l : List RealmState). states_next o.config l event) ends.stands
-          ∙ (sym (then-append o.config (opened o) (before ++ t.steps) s) ∙ ap (λ (l : List PlainStep). states_then o.config (opened o) l) all);
+          ∙ (sym (then-append o.config first (before ++ t.steps) s) ∙ ap (λ (l : List PlainStep). states_then o.config first l) all);
     }
 
 -- what a trace has become by one step: it has that step more, and goes on
@@ -72,40 +72,43 @@ stepped answer t o new steps items event s opening old are is own told =
 -- and then is a trace again
 pub is_trace : (t : TraceView) (s : PlainStep) → IsTrace t → GoesOn t (with_step t s) → length t.steps < t.limit → t.gone + length t.steps < 2 ^ 64 - 1 → IsTrace (with_step t s)
 is_trace t s is more room number = record {
+  first = is.first;
   before = is.before;
   count = is.count;
-  ends = more is.before is.ends;
+  ends = more is.first is.before is.ends;
   fits = (let len = length-append t.steps (s ∷ []) in omega (arith, len, room));
   size = is.size;
   all = (let len = length-append t.steps (s ∷ []) in omega (arith, len, number));
 }
 
 -- a shard at its opening, with no steps
-pub new_trace : (o : OpeningView) (states : List RealmState) (steps : List PlainStep) (limit : ℕ) → states ≡ opened o → steps ≡ [] → limit < 2 ^ 64
+pub new_trace : (o : OpeningView) (states : List RealmState) (steps : List PlainStep) (limit : ℕ) → steps ≡ [] → limit < 2 ^ 64
     → IsTrace (record { opening = o; states = states; gone = 0; steps = steps; limit = limit })
-new_trace o states steps limit stands none size = rw none (record {
+new_trace o states steps limit none size = rw none (record {
+  first = states;
   before = [];
   count = refl;
-  ends = record { history = tt; stands = stands };
+  ends = record { history = tt; stands = refl };
   fits = omega arith;
   size = size;
   all = omega arith;
 })
 
 -- the stored steps are let go of
-pub gone_on : (t : TraceView) (before : List PlainStep) → Ends t before → Ends (without_steps t) (before ++ t.steps)
-gone_on t before ends =
+pub gone_on : (t : TraceView) (first : List RealmState) (before : List PlainStep) → Ends t first before → Ends (without_steps t) first (before ++ t.steps)
+gone_on t first before ends =
     let all : before ++ t.steps ≡ (before ++ t.steps) ++ [] = sym (append-nil (before ++ t.steps)) in
     record {
-      history = subst (λ (l : List PlainStep). AreSteps t.opening.config t.opening.shard (opened t.opening) l) all ends.history;
-      stands = ends.stands ∙ ap (λ (l : List PlainStep). states_then t.opening.config (opened t.opening) l) all;
+      history = subst (λ (l : List PlainStep). AreSteps t.opening.config t.opening.shard first l) all ends.history;
+      stands = ends.stands ∙ ap (λ (l : List PlainStep). states_then t.opening.config first l) all;
     }
 
 pub still_trace : (t : TraceView) → IsTrace t → IsTrace (without_steps t)
 still_trace t is = record {
+  first = is.first;
   before = is.before ++ t.steps;
   count = length-append is.before t.steps ∙ ap (λ n. n + length t.steps) is.count;
-  ends = gone_on t is.before is.ends;
+  ends = gone_on t is.first is.before is.ends;
   fits = omega arith;
   size = is.size;
   all = (let all = is.all in omega (arith, all));

@@ -42,13 +42,24 @@ AreSteps config shard states [] = Unit {0}
 AreSteps config shard states (s ∷ ss) =
     IsStep config shard states s × AreSteps config shard (states_next config states s.event) ss
 
--- a history of a shard from its opening
-abbrev pub IsHistory : OpeningView → List PlainStep → Type 0
-IsHistory o steps = AreSteps o.config o.shard (opened o) steps
+-- where a history begins: of which shard, of which configuration, and the states of all realms. A realm of another
+-- shard stays as it is there
+pub record Beginning : Type 0 where
+  pub shard : ℕ
+  pub config : ConfigView
+  pub states : List RealmState
+
+-- at a shard's opening
+abbrev pub at_opening : OpeningView → Beginning
+at_opening o = record { shard = o.shard; config = o.config; states = opened o }
+
+-- a history of a shard from a beginning
+abbrev pub IsHistory : Beginning → List PlainStep → Type 0
+IsHistory b steps = AreSteps b.config b.shard b.states steps
 
 -- where it ends
-abbrev pub end_of : OpeningView → List PlainStep → List RealmState
-end_of o steps = states_then o.config (opened o) steps
+abbrev pub end_of : Beginning → List PlainStep → List RealmState
+end_of b steps = states_then b.config b.states steps
 
 -- a trace: how its shard began and stands, how many of its steps were let go of, the stored ones, and
 -- how many of these it can hold
@@ -70,23 +81,29 @@ with_step t s = record t {
 abbrev pub without_steps : TraceView → TraceView
 without_steps t = record t { gone = t.gone + length t.steps; steps = [] }
 
--- these steps, and then the stored ones, are a history of a trace's shard, from its opening; and where
--- it ends the shard stands
-pub record Ends (t : TraceView) (before : List PlainStep) : Type 0 where
-  pub history : IsHistory t.opening (before ++ t.steps)
-  pub stands : t.states ≡ end_of t.opening (before ++ t.steps)
+-- where a trace's shard began, if its realms had these states there
+abbrev pub begun : TraceView → List RealmState → Beginning
+begun t states = record { shard = t.opening.shard; config = t.opening.config; states = states }
 
--- what a trace keeps: there are steps, as many as were let go of, such that these and then the stored
--- ones are a history of its shard, and where it ends the shard stands. At most as many as the limit are
--- stored
+-- these steps, and then the stored ones, are a history of a trace's shard, from these states; and where
+-- it ends the shard stands
+pub record Ends (t : TraceView) (states : List RealmState) (before : List PlainStep) : Type 0 where
+  pub history : IsHistory (begun t states) (before ++ t.steps)
+  pub stands : t.states ≡ end_of (begun t states) (before ++ t.steps)
+
+-- what a trace keeps: there are states in which it began, and steps, as many as were let go of, such that these and
+-- then the stored ones are a history of its shard from there, and where it ends the shard stands. At most as many as
+-- the limit are stored
 pub record IsTrace (t : TraceView) : Type 0 where
+  pub first : List RealmState
   pub before : List PlainStep
   pub count : length before ≡ t.gone
-  pub ends : Ends t before
+  pub ends : Ends t first before
   pub fits : length t.steps ≤ t.limit
   pub size : t.limit < 2 ^ 64
   pub all : t.gone + length t.steps < 2 ^ 64
 
 -- whatever history a trace ends, it then ends that history with these steps more
 abbrev pub GoesOn : TraceView → TraceView → Type 0
-GoesOn old new = (before : List PlainStep) → Ends old before → Ends new before
+GoesOn old new =
+    (states : List RealmState) (before : List PlainStep) → Ends old states before → Ends new states before

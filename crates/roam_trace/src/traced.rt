@@ -6,7 +6,8 @@ ghost use Rattle.roam_route.specs.Events.{IsEvent, arrival_of};
 ghost use Rattle.roam_route.specs.Shown.{shown_job};
 ghost use Rattle.roam_core.specs.Events.{arrives, is_in_shard, ticks};
 ghost use Rattle.roam_core.specs.Shown.{shown_event};
-ghost use Rattle.roam_shard.specs.ShardView.{opened, shown_opening};
+ghost use Rattle.roam_book.specs.RealmState.{RealmState};
+ghost use Rattle.roam_shard.specs.ShardView.{shown_opening};
 ghost use Rattle.roam_shard.specs.Twins.{NothingDue};
 ghost use Rattle.roam_trace.specs.History.{Ends, GoesOn, IsHistory, TraceView, with_step, without_steps};
 ghost use Rattle.roam_trace.specs.Steps.{PlainStep, octets_in, octets_of, shown_answer};
@@ -25,9 +26,10 @@ use std::marker::Model;
 use std::mem;
 
 /// A shard with its history, of which the last steps are stored: those before were let go of. Contracts
-/// see how it began and how its realms stand, how many steps were let go of, the stored ones, and how many
-/// of these it can hold. There are steps, as many as were let go of, which together with the stored ones,
-/// in this order, are a history of the shard from its opening; where it ends the shard stands.
+/// see how it was opened and how its realms stand, how many steps were let go of, the stored ones, and how
+/// many of these it can hold. There are states in which its realms began, and steps, as many as were let go
+/// of, which together with the stored ones, in this order, are a history of the shard from there; where it
+/// ends the shard stands.
 #[derive(Drop)]
 pub struct Traced<'c, A: Allocator> {
     alloc: A,
@@ -109,9 +111,8 @@ fn store<A: Allocator>(
 }
 
 impl<'c, A: Allocator + Copy> Traced<'c, A> {
-    /// A shard that stands at its opening, with no steps yet. Takes no memory.
+    /// A shard with no steps yet: its history begins where it stands. Takes no memory.
     pub fn new(alloc: A, shard: Shard<'c, A>, limit: usize) -> Traced<'c, A>
-        requires { shard.states ≡ opened shard.opening }
         ensures { result ≡ record {
           opening = shard.entry.opening;
           states = shard.entry.states;
@@ -270,8 +271,8 @@ impl<'c, A: Allocator + Copy> Traced<'c, A> {
     pub fn let_go(&mut self) -> Vec<Step<A>, A>
         ensures steps { result.items ≡ self.old.steps }
         ensures gone { self.new ≡ without_steps self.old }
-        ensures history { (before : List PlainStep) → Ends self.old before
-            → Ends self.new (before ++ self.old.steps) }
+        ensures history { (states : List RealmState) (before : List PlainStep)
+            → Ends self.old states before → Ends self.new states (before ++ self.old.steps) }
     {
         self.gone = self.len();
         self.octets = 0;
@@ -283,8 +284,8 @@ impl<'c, A: Allocator + Copy> Traced<'c, A> {
         ensures opening { result.0.opening ≡ self.entry.opening }
         ensures states { result.0.states ≡ self.entry.states }
         ensures steps { result.1.items ≡ self.entry.steps }
-        ensures history { (before : List PlainStep) × Ends self.entry before
-            × (length before ≡ self.entry.gone) }
+        ensures history { (states : List RealmState) × ((before : List PlainStep)
+            × Ends self.entry states before × (length before ≡ self.entry.gone)) }
     {
         let Traced { shard, steps, .. } = self;
         (shard, steps)

@@ -4,6 +4,7 @@
 ghost use Rattle.std.specs.Prelude.{◌≡◌};
 ghost use Rattle.roam_conf.specs.Shown.{shown};
 ghost use Rattle.roam_shard.specs.ShardView.{AreStarts};
+ghost use Rattle.roam_history.specs.HubOpening.{fresh_opening};
 ghost use Rattle.roam_history.specs.Books.{books_of, count_of};
 
 use crate::caller::{Caller, OTHER_REQUEST_7, REQUEST_7};
@@ -151,7 +152,7 @@ pub(crate) fn called_at_once<N: Opened + Send + Sync, R: Abort + Threads + Wait 
     realm: u16,
     turns: u64,
 ) -> Ended<N>
-    requires opening { N.opening ≡ record { config = shown config.now; starts = starts.now } }
+    requires opening { N.opening ≡ fresh_opening (shown config.now) starts.now }
     requires books { N.books ≡ books_of blanks }
     requires blanks { count_of blanks ≡ config.now.shards }
     requires starts { AreStarts (shown config.now) starts.now }

@@ -4,6 +4,7 @@
 ghost use Rattle.std.specs.Prelude.{◌≡◌};
 ghost use Rattle.roam_conf.specs.Shown.{shown};
 ghost use Rattle.roam_shard.specs.ShardView.{AreStarts};
+ghost use Rattle.roam_history.specs.HubOpening.{fresh_opening};
 ghost use Rattle.roam_history.specs.Books.{books_of, count_of};
 
 use crate::at_once::{Ended, called_at_once};
@@ -91,7 +92,7 @@ fn audits<N: Opened + Send + Sync, R: Abort + Threads + Wait + Clock + Sync>(
     starts: &[Start],
     blanks: Blanks<Global>,
 ) -> Found
-    requires opening { N.opening ≡ record { config = shown config.now; starts = starts.now } }
+    requires opening { N.opening ≡ fresh_opening (shown config.now) starts.now }
     requires books { N.books ≡ books_of blanks }
     requires blanks { count_of blanks ≡ config.now.shards }
     requires starts { AreStarts (shown config.now) starts.now }

@@ -4,6 +4,7 @@
 ghost use Rattle.std.specs.Prelude.{◌≡◌};
 ghost use Rattle.roam_conf.specs.Shown.{shown};
 ghost use Rattle.roam_shard.specs.ShardView.{AreStarts};
+ghost use Rattle.roam_history.specs.HubOpening.{fresh_opening};
 ghost use Rattle.roam_history.specs.Books.{books_of, count_of};
 
 use crate::caller::{Caller, REQUEST_7, REQUEST_8, SECOND, sends};
@@ -26,7 +27,7 @@ fn called_twice<N: Opened + Send + Sync, R: Abort + Wait>(
     starts: &[Start],
     blanks: Blanks<Global>,
 ) -> (Option<HubFault>, Option<usize>, Vec<Start>)
-    requires opening { N.opening ≡ record { config = shown config.now; starts = starts.now } }
+    requires opening { N.opening ≡ fresh_opening (shown config.now) starts.now }
     requires books { N.books ≡ books_of blanks }
     requires blanks { count_of blanks ≡ config.now.shards }
     requires starts { AreStarts (shown config.now) starts.now }
@@ -50,7 +51,7 @@ fn goes_on<N: Opened + Send + Sync, R: Abort + Wait>(
     starts: &[Start],
     blanks: Blanks<Global>,
 ) -> bool
-    requires opening { N.opening ≡ record { config = shown config.now; starts = starts.now } }
+    requires opening { N.opening ≡ fresh_opening (shown config.now) starts.now }
     requires books { N.books ≡ books_of blanks }
     requires blanks { count_of blanks ≡ config.now.shards }
     requires starts { AreStarts (shown config.now) starts.now }

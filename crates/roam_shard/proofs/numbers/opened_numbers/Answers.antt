@@ -13,4 +13,4 @@ loop-realm-preserved g c =
     rw c.in_ok-push.ensures.items
     (one_more_opened (shown c.args.config.now) c.args.shard c.args.starts.now c.loop-realm.realm
     c.loop-realm.numbers.items _ _
-    c.loop-realm.invariant refl c.in_ok-numbers_at.ensures)
+    c.loop-realm.invariant refl c.in_ok-opened_at.ensures)

@@ -6,6 +6,6 @@ use Rattle.test_audit.proofs.seat_tests.are_noted.Given as goal
 -- a hub of two shards
 abbrev pub ghosts-noted : goal.ghosts-noted
 ghosts-noted g a = record {
-  opening = record { config = record no_opening.config { shards = 2 }; starts = [] };
+  opening = record { config = record no_opening.config { shards = 2 }; states = λ _. [] };
   books = books_of a.blanks;
 }

@@ -1,5 +1,6 @@
 -- The shard stands where its whole history ends.
 use Rattle.std.proofs.Common.{◌≡◌, ℕ, ap, subst, sym, ◌∙◌}
+use Rattle.roam_shard.specs.ShardView.{OpeningView}
 use Rattle.roam_trace.specs.History.{IsHistory, end_of}
 use Rattle.roam_history.specs.Entries.{steps_in}
 use Rattle.roam_history.specs.HubOpening.{opening_at}
@@ -7,11 +8,13 @@ use Rattle.roam_hub.specs.Keeping.{KeptView}
 use Rattle.roam_hub.proofs.KeptLemmas.{whole_end, whole_history}
 use Rattle.roam_hub.proofs.kept.Kept.cut.Goals as goal
 
-pub returns-clause-opening : goal.returns-clause-opening
-returns-clause-opening g c =
-    let o = g.N.Opened.opening in
+pub returns-clause-its_shard : goal.returns-clause-its_shard
+returns-clause-its_shard g c =
     let here : c.self.inside.front.shard ≡ c.args.shard = sym c.shard.ensures ∙ c.if-shard.false in
-    c.cut-shard.ensures.opening ∙ (c.self.invariant.0.opening ∙ ap (λ (n : ℕ). opening_at o n) here)
+    ap (λ (o : OpeningView). o.shard) c.cut-shard.ensures.opening ∙ (c.self.invariant.0.shard ∙ here)
+
+pub returns-clause-config : goal.returns-clause-config
+returns-clause-config g c = ap (λ (o : OpeningView). o.config) c.cut-shard.ensures.opening ∙ c.self.invariant.0.config
 
 pub returns-clause-states : goal.returns-clause-states
 returns-clause-states g c =

@@ -1,4 +1,4 @@
--- A shard at its opening stands at the end of a history of no steps.
+-- A shard stands at the end of a history of no steps.
 use Rattle.std.proofs.Common.{◌≡◌, ◌-◌, ◌<◌, ◌^◌, min, refl, arith}
 use Rattle.roam_trace.specs.Steps.{octets_in}
 use Rattle.roam_trace.proofs.HistoryLemmas.{new_trace}
@@ -8,6 +8,6 @@ pub invariant_of-result : goal.invariant_of-result
 invariant_of-result g c =
     let none = c.new.ensures.items in
     let size : c.args.limit < 2 ^ 64 = omega (arith, c.ranges.limit.fits) in (
-      new_trace c.args.shard.opening c.args.shard.states c.new.result.items c.args.limit c.requires none size,
+      new_trace c.args.shard.opening c.args.shard.states c.new.result.items c.args.limit none size,
       rw none refl,
     )

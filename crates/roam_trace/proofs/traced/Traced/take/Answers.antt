@@ -34,7 +34,7 @@ invariant_of-self-2 g c =
     )
 
 pub returns-clause-history : goal.returns-clause-history
-returns-clause-history g c = λ before ends. (
+returns-clause-history g c = λ first before ends. (
     let i = c.self.inside in
     let t : TraceView = record { opening = i.shard.opening; states = i.shard.states; gone = i.gone; steps = i.steps.items; limit = i.limit } in
     let job = shown_job c.args.job in
@@ -46,4 +46,4 @@ returns-clause-history g c = λ before ends. (
     let all = stepped twin.copy t c.step.new.self.opening c.step.new.self.states c.reserve_one.new.steps.items c.store.new.steps.items (arrives c.args.now (arrival_of job)) s
     c.step.ensures.opening c.reserve_one.ensures.items c.store.ensures.items is (job_of_shard t.opening.config t.opening.shard c.args.now job event own)
     (job_answer twin.copy t.opening.config t.states c.step.new.self.states c.args.now job event c.in-Ok.ensures.turn.1) in
-    subst (λ (v : TraceView). Ends v before) (sym all.same) (all.more before (subst (λ (v : TraceView). Ends v before) (sym c.self.view_is) ends)))
+    subst (λ (v : TraceView). Ends v first before) (sym all.same) (all.more first before (subst (λ (v : TraceView). Ends v first before) (sym c.self.view_is) ends)))

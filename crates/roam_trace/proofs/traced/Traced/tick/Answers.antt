@@ -31,7 +31,7 @@ invariant_of-self-2 g c =
     )
 
 pub returns-clause-history : goal.returns-clause-history
-returns-clause-history g c = λ before ends. (
+returns-clause-history g c = λ first before ends. (
     let i = c.self.inside in
     let t : TraceView = record { opening = i.shard.opening; states = i.shard.states; gone = i.gone; steps = i.steps.items; limit = i.limit } in
     let twin = c.in_ok-twin.twin in
@@ -40,4 +40,4 @@ returns-clause-history g c = λ before ends. (
     let is : s ≡ record { event = ticks c.args.now t.opening.shard; answer = shown_answer twin.copy } = ap (λ (n : ℕ). record { event = ticks c.args.now n; answer = shown_answer twin.copy }) shard in
     let all = stepped twin.copy t c.tick.new.self.opening c.tick.new.self.states c.reserve_one.new.steps.items c.store.new.steps.items (ticks c.args.now t.opening.shard) s
     c.tick.ensures.opening c.reserve_one.ensures.items c.store.ensures.items is refl c.in_ok-twin.ensures.turn.1 in
-    subst (λ (v : TraceView). Ends v before) (sym all.same) (all.more before (subst (λ (v : TraceView). Ends v before) (sym c.self.view_is) ends)))
+    subst (λ (v : TraceView). Ends v first before) (sym all.same) (all.more first before (subst (λ (v : TraceView). Ends v first before) (sym c.self.view_is) ends)))

@@ -3,7 +3,7 @@ use Rattle.std.proofs.lemmas.Bool.Decides.{nat_tests}
 use Rattle.roam_conf.specs.Shown.{shown}
 use Rattle.roam_book.specs.RealmConfig.{RealmConfig}
 use Rattle.roam_shard.specs.NumbersView.{IsFresh}
-use Rattle.roam_shard.proofs.numbers.numbers_at.Goals as goal
+use Rattle.roam_shard.proofs.numbers.opened_at.Goals as goal
 
 pub returns : goal.returns
 returns g c =

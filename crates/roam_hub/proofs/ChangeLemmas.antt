@@ -1,0 +1,63 @@
+-- Realms over changes of the configuration.
+use Rattle.std.proofs.Common.{◌≡◌, ℕ, ◌==◌, ◌%◌, ◌<◌, ◌≤◌, true, List, [], ◌∷◌, ◌++◌, length, refl, ap, sym, subst, ◌∙◌, arith}
+use Rattle.roam_conf.specs.Config.{ConfigView}
+use Rattle.roam_reload.specs.Reload.{IsCarried}
+use Rattle.roam_route.specs.Admission.{PlainOut}
+use Rattle.roam_book.specs.RealmConfig.{realm_config}
+use Rattle.roam_book.specs.RealmState.{RealmState}
+use Rattle.roam_book.specs.Reload.{carried}
+use Rattle.roam_book.specs.OneRealm.{one_realm_run}
+use Rattle.roam_core.specs.Events.{events_of_realm, is_in_shard}
+use Rattle.roam_core.specs.Isolation.{packets_for}
+use Rattle.roam_core.specs.ManyRealms.{answer_to, answers_to, state_at}
+use Rattle.roam_core.proofs.IsolationLemmas.{isolated, stands_alone}
+use Rattle.roam_core.proofs.PacketLemmas.{packets_for-append}
+use Rattle.roam_trace.specs.History.{Beginning, IsHistory, end_of, states_next, states_then}
+use Rattle.roam_trace.specs.Steps.{PlainStep}
+use Rattle.roam_hub.specs.InHistories.{events_in, packets_in}
+use Rattle.roam_hub.specs.Changes.{AreSpans, CarriedOverChanges, EachGoesAlone, FollowsOn, GoesAlone, IsThere, OthersBeginAnew, Span, StaysThere, own_events, run_over, sent_over, state_into}
+use Rattle.roam_hub.proofs.HubLemmas.{sent_in}
+
+-- where some steps end is where the written answers to their events do
+then_answers : (config : ConfigView) (states : List RealmState) (steps : List PlainStep) → states_then config states steps ≡ (answers_to config states (events_in steps)).states
+then_answers config states [] = refl
+then_answers config states (s ∷ ss) = then_answers config (states_next config states s.event) ss
+
+pub each_goes_alone : EachGoesAlone
+each_goes_alone b steps realm some within history = record {
+  packets =
+      ap (λ (l : List PlainOut). packets_for realm l) (sent_in b.config b.shard b.states steps history)
+      ∙ isolated b.config b.states (events_in steps) some realm within;
+  state =
+      ap (λ (l : List RealmState). state_at l realm) (then_answers b.config b.states steps)
+      ∙ stands_alone b.config b.states (events_in steps) realm some within;
+}
+
+pub others_begin_anew : OthersBeginAnew
+others_begin_anew s t realm on there away =
+    let own = subst (λ (n : ℕ). is_in_shard t.begins.config n realm ≡ true) on.shard there.own in
+    (on.states.each realm there.configured own).begins_anew away
+
+-- the spans from one on
+spans : (realm : ℕ) (s : Span) (ss : List Span) (state : RealmState) → AreSpans (s ∷ ss) → StaysThere realm (s ∷ ss)
+    → state_at s.begins.states realm ≡ state → packets_for realm (sent_over (s ∷ ss)) ≡ (run_over realm state (s ∷ ss)).packets
+spans realm s [] state are stays is =
+    let alone = each_goes_alone s.begins s.steps realm are.0.some_shard stays.0.within are.0.history in
+    packets_for-append realm (packets_in s.steps) []
+    ∙ ap (λ (l : List PlainOut). l ++ []) (alone.packets
+    ∙ ap (λ (x : RealmState). (one_realm_run (realm_config s.begins.config realm) x (own_events realm s)).packets) is)
+spans realm s (t ∷ ts) state are stays is =
+    let alone = each_goes_alone s.begins s.steps realm are.0.some_shard stays.0.within are.0.history in
+    let run = λ (x : RealmState). one_realm_run (realm_config s.begins.config realm) x (own_events realm s) in
+    let on : FollowsOn s t = are.1.0 in
+    let there : IsThere realm t = stays.1.1.0 in
+    let own = subst (λ (n : ℕ). is_in_shard t.begins.config n realm ≡ true) on.shard there.own in
+    let over : state_at t.begins.states realm ≡ carried (realm_config t.begins.config realm) (run state).state =
+    (on.states.each realm there.configured own).goes_on stays.1.0
+    ∙ ap (carried (realm_config t.begins.config realm)) (alone.state ∙ ap (λ (x : RealmState). (run x).state) is) in
+    let rest = spans realm t ts (carried (realm_config t.begins.config realm) (run state).state) are.1.1 stays.1.1 over in
+    let here = alone.packets ∙ ap (λ (x : RealmState). (run x).packets) is in
+    packets_for-append realm (packets_in s.steps) (sent_over (t ∷ ts)) ∙ λ j. here j ++ rest j
+
+pub carried_over_changes : CarriedOverChanges
+carried_over_changes realm s ss are stays = spans realm s ss (state_at s.begins.states realm) are stays refl

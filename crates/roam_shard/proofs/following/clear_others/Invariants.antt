@@ -1,0 +1,11 @@
+use Rattle.std.proofs.Common.{◌≡◌, length}
+use Rattle.roam_conf.specs.Shown.{shown}
+use Rattle.roam_tables.specs.Stands.{entries_in}
+use Rattle.roam_shard.proofs.FollowLemmas.{Cleared}
+use Rattle.roam_shard.proofs.following.clear_others.Given as goal
+
+abbrev pub invariant-loop-realm : goal.invariant-loop-realm
+invariant-loop-realm g l = record {
+  cleared : Cleared (shown l.old) (shown l.new) l.shard (entries_in l.fn.entries) (entries_in l.entries) l.realm;
+  realms : length l.entries ≡ length l.fn.entries;
+}

@@ -1,0 +1,94 @@
+-- A shard that was taken from its configuration, and the memory with which it follows another (ours).
+use Rattle.std.specs.Prelude.{◌≡◌, ◌≢◌, ◌⊎◌, ℕ, ◌≤◌, true, List, Option, Some, None, length, slice_get, vec_capacity}
+use Rattle.roam_conf.specs.Config.{ConfigView}
+use Rattle.roam_reload.specs.Reload.{IsCarried}
+use Rattle.roam_pending.specs.PlainEntry.{PlainEntry}
+use Rattle.roam_book.specs.RealmConfig.{RealmConfig, link_count, realm_config}
+use Rattle.roam_book.specs.RealmState.{RealmState}
+use Rattle.roam_book.specs.Reload.{Carries, carried}
+use Rattle.roam_book.specs.Sound.{IsSound, state_of}
+use Rattle.roam_book.specs.declared.numbers.Numbers.{Numbers}
+use Rattle.roam_book.specs.declared.start.Start.{Start}
+use Rattle.roam_core.specs.Events.{is_in_shard}
+use Rattle.roam_core.specs.Openings.{first_start}
+use Rattle.roam_shard.specs.ShardView.{IsShard, OpeningView, states_in}
+use Rattle.roam_shard.specs.NumbersView.{IsOpened}
+use Rattle.roam_shard.specs.declared.paused.Paused.{Paused}
+use Rattle.roam_shard.specs.declared.following.FreshNumbers.{FreshNumbers}
+
+-- a realm is one of the shard's, and is carried over
+pub record GoesOn (old new : ConfigView) (shard realm : ℕ) : Type 0 where
+  pub own : is_in_shard new shard realm ≡ true
+  pub carried : IsCarried old new realm
+
+module _ {A : Type 0} where
+  -- how it was opened, as a shard of this configuration
+  abbrev pub opening_under : ConfigView → Paused A → OpeningView
+  opening_under config p = record { shard = p.shard; config = config; starts = p.starts.items }
+
+  -- it stands under this configuration; the states of its realms there
+  abbrev pub StandsUnder : ConfigView → Paused A → Type 0
+  StandsUnder config p = IsShard (opening_under config p) p.entries p.numbers.items
+
+  abbrev pub states_under : ConfigView → Paused A → List RealmState
+  states_under config p = states_in (opening_under config p) p.entries p.numbers.items
+
+  -- it stands as before
+  pub record StandsStill (config : ConfigView) (old new : Paused A) : Type 0 where
+    pub stands : StandsUnder config new
+    pub states : states_under config new ≡ states_under config old
+    pub shard : new.shard ≡ old.shard
+
+  -- the numbers of other realms are as they were, and the entries
+  pub record KeepsOthers (realm : ℕ) (old new : Paused A) : Type 0 where
+    pub others : (r : ℕ) → r ≢ realm → slice_get new.numbers.items r ≡ slice_get old.numbers.items r
+    pub entries : new.entries ≡ old.entries
+
+  -- where a realm begins anew: where its numbers stand, or where there are none, at the first start
+  abbrev pub start_in : Option (Option (Numbers A)) → Start
+  start_in None = first_start
+  start_in (Some None) = first_start
+  start_in (Some (Some n)) = record { place = n.stream_position; ticket = n.ticket }
+
+  abbrev pub begin_at : List (Option (Numbers A)) → ℕ → Start
+  begin_at numbers realm = start_in (slice_get numbers realm)
+
+  -- the memory of a realm is there: of further lanes where it goes on; else of numbers that nothing uses, where it is one
+  -- of the shard's
+  pub record IsReadyAt (old new : ConfigView) (shard realm : ℕ) (numbers : List (Option (Numbers A)))
+      (fresh : Option (Numbers A)) : Type 0 where
+    pub lanes : GoesOn old new shard realm → (n : Numbers A) → slice_get numbers realm ≡ Some (Some n)
+        → link_count (realm_config new realm) ≤ vec_capacity n.lanes
+    pub opened : ¬ GoesOn old new shard realm → IsOpened (realm_config new realm) (begin_at numbers realm)
+        (is_in_shard new shard realm) fresh
+
+  -- of each realm of the new configuration
+  pub record IsReady (old new : ConfigView) (p : Paused A) (fresh : FreshNumbers A) : Type 0 where
+    pub count : length fresh.numbers.items ≡ length new.realms
+    pub kept : length new.realms ≤ length p.entries
+    pub each : (realm : ℕ) (n : Option (Numbers A)) → slice_get fresh.numbers.items realm ≡ Some n
+        → IsReadyAt old new p.shard realm p.numbers.items n
+
+  -- numbers go on under other settings
+  pub record CarriesOn (c : RealmConfig) (before after : Numbers A) : Type 0 where
+    pub state : (es : List PlainEntry) → state_of es after ≡ carried c (state_of es before)
+    pub sound : (b : RealmConfig) (es : List PlainEntry) → Carries b c → IsSound b es before → IsSound c es after
+
+  -- and then stand there
+  pub record HasGoneOver (c : RealmConfig) (before : Numbers A) (there : Option (Option (Numbers A))) : Type 0 where
+    pub after : Numbers A
+    pub is : there ≡ Some (Some after)
+    pub carries : CarriesOn c before after
+
+  -- there is room for their lanes
+  pub record CanGoOver (c : RealmConfig) (n : Numbers A) : Type 0 where
+    pub few : length n.lanes.items ≤ link_count c
+    pub room : link_count c ≤ vec_capacity n.lanes
+
+  -- a realm's numbers went over, where it goes on; else what was made for it stays
+  abbrev pub IsMoved : ConfigView → ConfigView → ℕ → ℕ → List (Option (Numbers A)) → List (Option (Numbers A))
+      → List (Option (Numbers A)) → Type 0
+  IsMoved old new shard realm before prepared after =
+      (GoesOn old new shard realm × ((n : Numbers A) → slice_get before realm ≡ Some (Some n)
+      → HasGoneOver (realm_config new realm) n (slice_get after realm)))
+      ⊎ ((¬ GoesOn old new shard realm) × (slice_get after realm ≡ slice_get prepared realm))
