@@ -38,6 +38,9 @@ fn question(order: Order) -> &'static [u8] {
         Order::Stop => {
             b"POST /stop HTTP/1.1\r\nHost: roam\r\nContent-Length: 0\r\nConnection: close\r\n\r\n"
         }
+        Order::Reload => {
+            b"POST /reload HTTP/1.1\r\nHost: roam\r\nContent-Length: 0\r\nConnection: close\r\n\r\n"
+        }
     }
 }
 

@@ -1,3 +1,4 @@
+pub mod Changing
 pub mod Descriptors
 pub mod Endings
 pub mod Faults
