@@ -2,20 +2,25 @@
 """try-reload.py PROGRAM [RATE]
 
 Serves eight realms with a control socket on loopback, and has `roam ctl .. reload` read a changed file again and again
-under load: RATE requests a second (1,600) over all realms, each realm by a process of its own with a home server in
-another one. It fails unless: a realm that a change doesn't touch loses no request and is sent none again, while a realm is
-added, a peer is added, one realm gets another home server and secret, and one is retired; the realms that are changed or
-added serve at once; a session that was opened before is disconnected after; counts of what stays go on; a file with a fault
-changes nothing and gets the text of `roam check`; and fifty changes, half of them with faults (syntax, a port that is taken,
-a name twice, another number of shards), leave memory and descriptors as they were. It prints how long nobody served.
+under load: RATE exchanges a second (10,000) over all realms. Two processes ask, each in four realms, and two others are
+the home servers. It fails unless
+
+1. a realm that a change doesn't touch loses no request and is sent none again, while a realm is added, a peer is added,
+   one realm gets another home server and secret, and one is retired by a name that nobody uses;
+2. what is added or changed serves at once, a session that was opened before is disconnected after, counts of what stays
+   go on, and a file with a fault changes nothing and is told of as `roam check` tells of it;
+3. fifty changes, half of them with faults (syntax, a port that is taken, an endpoint twice, another number of shards),
+   leave memory and descriptors as they were;
+4. the server stops after all that, audited.
+
+It prints the times of answers with and without changes, and how long a request waited at most around each change.
 """
+import array
 import collections
 import hashlib
-import hmac
 import multiprocessing
 import os
 import select
-import signal
 import socket
 import struct
 import subprocess
@@ -33,6 +38,7 @@ seed = "{seed}"
 auth = "127.0.0.1:{auth}"
 acct = "127.0.0.1:{acct}"
 trace_limit = 100000
+spread = true
 log_exchanges = false
 control = "{control}"
 '''
@@ -49,7 +55,7 @@ out = "127.0.0.1:{out}"
 reverse = "127.0.0.1:{reverse}"
 tries = 2
 wait = {wait}
-hold = 5000
+hold = 2000
 max_pending = 4096
 max_sessions = 100
 
@@ -88,88 +94,140 @@ def attribute(kind, value):
     return bytes([kind, len(value) + 2]) + value
 
 
-class HomeServer(multiprocessing.Process):
-    """Accepts each Access-Request, 10 ms after it came, and answers accounting. `told` says how many came, and how many of
-    them twice."""
+def bound(port):
+    one = socket.socket(socket.AF_INET, socket.SOCK_DGRAM)
+    one.setsockopt(socket.SOL_SOCKET, socket.SO_RCVBUF, 1 << 22)
+    one.setblocking(False)
+    one.bind((HERE, port))
+    return one
 
-    def __init__(self, port, secret=SECRET):
+
+def all_of(one):
+    """What lies in a socket's buffer, 64 datagrams at most."""
+    for _ in range(64):
+        try:
+            yield one.recvfrom(4096)
+        except (BlockingIOError, ConnectionRefusedError):
+            return
+
+
+class HomeServers(multiprocessing.Process):
+    """Accepts each Access-Request, in every second realm 10 ms after it came, and answers accounting. `told` says how many
+    came in each realm, and how many of them again."""
+
+    def __init__(self, realms):
         super().__init__(daemon=True)
-        self.secret = secret
         self.near, self.far = multiprocessing.Pipe()
-        self.sockets = [self.bind(port), self.bind(port + 100)]
-
-    @staticmethod
-    def bind(port):
-        one = socket.socket(socket.AF_INET, socket.SOCK_DGRAM)
-        one.setsockopt(socket.SOL_SOCKET, socket.SO_RCVBUF, 1 << 22)
-        one.bind((HERE, port))
-        return one
+        self.homes = {}
+        for realm, secret in realms:
+            for port in HOME + realm, HOME + 100 + realm:
+                one = bound(port)
+                self.homes[one.fileno()] = one, realm, secret, 0 if realm % 2 else .01
 
     def told(self):
         self.near.send(None)
         return self.near.recv()
 
     def run(self):
-        waiting, seen, again = collections.deque(), set(), 0
+        waiting, seen, again = collections.deque(), collections.defaultdict(set), collections.Counter()
+        poll = select.epoll()
+        for at in [*self.homes, self.far.fileno()]:
+            poll.register(at, select.EPOLLIN)
         while True:
-            pause = max(0, waiting[0][0] - time.monotonic()) if waiting else 1
-            for one in select.select([*self.sockets, self.far], [], [], pause)[0]:
-                if one is self.far:
+            for at, _ in poll.poll(max(0, waiting[0][0] - time.monotonic()) if waiting else 1):
+                if at == self.far.fileno():
                     self.far.recv()
-                    self.far.send((len(seen), again))
+                    self.far.send(({realm: len(all) for realm, all in seen.items()}, again))
                     continue
-                packet, source = one.recvfrom(4096)
-                key = bytes(packet[4:20])
-                again += key in seen
-                seen.add(key)
-                waiting.append((time.monotonic() + .01, one, packet, source))
+                one, realm, secret, delay = self.homes[at]
+                for packet, source in all_of(one):
+                    key = packet[1:20] + source[1].to_bytes(2, 'big')
+                    again[realm] += key in seen[realm]
+                    seen[realm].add(key)
+                    if delay:
+                        waiting.append((time.monotonic() + delay, one, answer(packet[0] + 1, packet, secret), source))
+                    else:
+                        one.sendto(answer(packet[0] + 1, packet, secret), source)
             while waiting and waiting[0][0] <= time.monotonic():
                 _, one, packet, source = waiting.popleft()
-                one.sendto(answer(packet[0] + 1, packet, self.secret), source)
+                one.sendto(packet, source)
 
 
 class Requests:
-    """Sends Access-Requests of one realm, each of a user of its own, and counts the replies."""
+    """Sends Access-Requests of one realm, each of a user of its own, from so many sockets, and counts the replies."""
 
-    def __init__(self, realm, source=HERE):
-        self.realm, self.source, self.users, self.answered = realm, source, 0, 0
-        self.sockets, self.poll, self.sent, self.times = {}, select.epoll(), {}, []
+    def __init__(self, realm, source=HERE, sockets=1):
+        self.realm, self.sent, self.answered, self.overtaken = realm, 0, 0, 0
+        self.sockets, self.waiting = [], {}
+        self.when, self.took = array.array('d'), array.array('d')
+        for _ in range(sockets):
+            one = bound(0) if source == HERE else socket.socket(socket.AF_INET, socket.SOCK_DGRAM)
+            if source != HERE:
+                one.bind((source, 0))
+                one.setblocking(False)
+            one.connect((HERE, PORT))
+            self.sockets.append(one)
+        self.by_fd = {one.fileno(): at for at, one in enumerate(self.sockets)}
 
     def send(self):
-        number = self.users % 256
-        if number == 0:
-            self.last = socket.socket(socket.AF_INET, socket.SOCK_DGRAM)
-            self.last.setsockopt(socket.SOL_SOCKET, socket.SO_RCVBUF, 1 << 20)
-            self.last.bind((self.source, 0))
-            self.last.connect((HERE, PORT))
-            self.sockets[self.last.fileno()] = self.last
-            self.poll.register(self.last, select.EPOLLIN)
-        body = attribute(1, b'u%d@%s' % (self.users, self.realm)) + attribute(4, bytes([192, 0, 2, 1]))
-        packet = struct.pack('!BBH', 1, number, 20 + len(body)) + os.urandom(16) + body
-        self.sent[self.last.fileno(), number] = time.monotonic()
-        self.last.send(packet)
-        self.users += 1
+        at, number = self.sent % len(self.sockets), self.sent // len(self.sockets) % 256
+        body = attribute(1, b'u%d@%s' % (self.sent, self.realm)) + attribute(4, bytes([192, 0, 2, 1]))
+        packet = struct.pack('!BBHQ', 1, number, 20 + len(body), self.sent) + self.realm[:8].ljust(8) + body
+        self.overtaken += (at, number) in self.waiting
+        self.waiting[at, number] = time.monotonic()
+        self.sockets[at].send(packet)
+        self.sent += 1
 
-    def take(self, seconds):
-        before = self.answered
-        for at, _ in self.poll.poll(max(0, seconds)):
-            reply = self.sockets[at].recv(4096)
-            if len(reply) >= 20 and reply[0] == 2:
+    def take(self, fd):
+        at = self.by_fd[fd]
+        for packet, _ in all_of(self.sockets[at]):
+            begin = self.waiting.pop((at, packet[1]), None)
+            if packet[0] == 2 and begin is not None:
                 self.answered += 1
-                self.times.append(time.monotonic() - self.sent[at, reply[1]])
-        return self.answered > before
+                self.when.append(begin)
+                self.took.append(time.monotonic() - begin)
+
+    def wait(self, seconds):
+        """Whether what is waited for has come in so many seconds."""
+        end = time.monotonic() + seconds
+        while self.waiting and time.monotonic() < end:
+            for fd in select.select(self.sockets, [], [], .05)[0]:
+                self.take(fd.fileno())
+        return self.answered == self.sent
 
 
-def load(realm, rate, stop, told):
-    """Asks until it is told to stop, and then says how many were sent, how many answered, and the longest time."""
-    asks, begin = Requests(realm), time.monotonic()
-    while not stop.is_set():
-        while asks.users < (time.monotonic() - begin) * rate:
-            asks.send()
-        asks.take(.001)
-    while asks.take(3):
-        pass
-    told.send((asks.users, asks.answered, max(asks.times)))
+class Load(multiprocessing.Process):
+    """Asks in some realms, so often a second in each, until it is told to stop."""
+
+    def __init__(self, realms, rate):
+        super().__init__(daemon=True)
+        self.realms, self.rate = realms, rate
+        self.near, self.far = multiprocessing.Pipe()
+        self.is_over = multiprocessing.Value('b', 0, lock=False)
+
+    def told(self):
+        """What became of the requests of each realm."""
+        self.is_over.value = 1
+        return self.near.recv()
+
+    def run(self):
+        asks = [Requests(b'%c.example' % (97 + realm), sockets=12) for realm in self.realms]
+        poll, by_fd = select.epoll(), {fd: one for one in asks for fd in one.by_fd}
+        for fd in by_fd:
+            poll.register(fd, select.EPOLLIN)
+        begin = time.monotonic()
+        while not self.is_over.value:
+            due = (time.monotonic() - begin) * self.rate
+            for one in asks:
+                for _ in range(min(32, int(due) - one.sent)):
+                    one.send()
+            for fd, _ in poll.poll(.0005):
+                by_fd[fd].take(fd)
+        took = time.monotonic() - begin
+        for one in asks:
+            one.wait(5)
+        self.far.send({realm: (one.sent, one.answered, one.overtaken, one.when, one.took, took)
+                       for realm, one in zip(self.realms, asks)})
 
 
 def want(holds, what):
@@ -235,10 +293,10 @@ class Server:
 
 
 def asks_once(realm, source=HERE):
-    """Whether a request of a realm is answered."""
+    """Whether a request of a realm is accepted."""
     one = Requests(realm, source)
     one.send()
-    return one.take(2)
+    return one.wait(2)
 
 
 def open_session():
@@ -253,14 +311,15 @@ def open_session():
 
 
 def disconnect():
-    """A Disconnect-Request by session of realm a's home server: whether the access server gets it."""
+    """A Disconnect-Request of realm a's home server that names a session and no user: whether the access server gets it, and
+    its answer comes back."""
     access = socket.socket(socket.AF_INET, socket.SOCK_DGRAM)
     access.bind((HERE, PORT + 400))
     access.settimeout(5)
     home = socket.socket(socket.AF_INET, socket.SOCK_DGRAM)
     home.bind((HERE, 0))
     home.settimeout(5)
-    body = attribute(44, b'session-1') + attribute(1, b'user@a.example')
+    body = attribute(4, bytes([192, 0, 2, 1])) + attribute(44, b'session-1')
     home.sendto(signed(40, 7, body, SECRET), (HERE, PORT + 300))
     try:
         packet, source = access.recvfrom(4096)
@@ -277,11 +336,17 @@ def says(result, *lines):
     return result.returncode == 0 and all(line in result.stdout.splitlines() for line in lines)
 
 
-def try_changes(server, homes, loads):
+COUNT = 'roam_realm_requests_total{realm="a.example",code="access_request",}'
+
+
+def says(result, *lines):
+    return result.returncode == 0 and all(line in result.stdout.splitlines() for line in lines)
+
+
+def try_changes(server):
     """One change after the other, under load."""
     want(open_session(), 'a session is opened')
-    before = server.count('roam_realm_requests_total{realm="a.example",code="access_request",}')
-    time.sleep(1)
+    before = server.count(COUNT)
     server.realms.append(Realm(8))
     want(says(server.reload(), 'realm a.example: carried over', 'realm h.example: carried over', 'realm i.example: added'),
          'a realm is added')
@@ -293,10 +358,10 @@ def try_changes(server, homes, loads):
     want(says(server.reload(), 'realm a.example: carried over', 'realm h.example: begins anew: server'),
          'a realm gets another home server and secret')
     want(asks_once(b'h.example'), 'and asks it at once')
-    server.realms.pop()
-    want(says(server.reload(), 'realm a.example: carried over', 'realm i.example: removed'), 'the last realm is retired')
+    server.realms[8] = Realm(8, name='retired.invalid')
+    want(says(server.reload(), 'realm a.example: carried over', 'realm retired.invalid: carried over'), 'a realm is retired')
     want(not asks_once(b'i.example'), 'and asks its home server no more')
-    after = server.count('roam_realm_requests_total{realm="a.example",code="access_request",}')
+    after = server.count(COUNT)
     want(after > before > 0, f'the counts of a realm go on ({before}, {after})')
     want(disconnect(), 'a session of before is disconnected after')
 
@@ -306,14 +371,13 @@ def faults(server):
     good = server.text()
     return [(good.replace('shards', 'shard', 1), 'Missing'),
             (good + 'this is no toml', 'roam.conf'),
-            (good + str(Realm(8, out=PORT + 500)), 'cannot bind'),
-            (good + str(Realm(0, out=PORT + 600, reverse=PORT + 601)), 'Duplicate'),
+            (good + str(Realm(9, out=PORT + 500)), 'cannot bind'),
+            (good + str(Realm(9, out=PORT + 200)), 'Duplicate'),
             (good.replace('shards = 2', 'shards = 3'), 'may not follow: shards')]
 
 
 def try_fifty(server):
-    taken = socket.socket(socket.AF_INET, socket.SOCK_DGRAM)
-    taken.bind((HERE, PORT + 500))
+    taken = bound(PORT + 500)
     sizes, slowest = [], 0
     for number in range(50):
         if number % 2:
@@ -322,13 +386,15 @@ def try_fifty(server):
             if result.returncode != 1 or word not in result.stdout:
                 want(False, f'{word}: {result}')
         else:
-            server.realms[6] = Realm(6, wait=4000 - number)
+            server.realms[6] = Realm(6, wait=3900 - number)
             begin = time.monotonic()
             result = server.reload()
             slowest = max(slowest, time.monotonic() - begin)
             if not says(result, 'realm a.example: carried over', 'realm g.example: begins anew: wait'):
                 want(False, f'change {number}: {result}')
+        time.sleep(.1)
         sizes.append(server.size())
+    taken.close()
     print(f'     the slowest change took {1000 * slowest:.1f} ms; {sizes[9]} and {sizes[-1]} (KiB, descriptors)')
     want(all(one[1] == sizes[0][1] for one in sizes), f'{sizes[0][1]} descriptors after each of fifty')
     want(sizes[-1][0] < sizes[9][0] * 1.1 + 2048, 'and the same memory')
@@ -339,73 +405,90 @@ def try_check(server):
     text, _ = faults(server)[0]
     result = server.reload(text)
     checked = subprocess.run([server.program, 'check', server.conf], capture_output=True, text=True)
+    if result.stdout != checked.stderr:
+        print(repr(result), repr(checked))
     want(result.returncode == 1 and result.stdout == checked.stderr, 'a fault is told as `roam check` tells it')
     want(server.reload().returncode == 0, 'and a good file follows')
 
 
-def pause(server, work):
-    """How long nobody serves: from the last datagram before to the first one after, as a stream of requests sees it."""
-    asks, begin, late = Requests(b'b.example'), time.monotonic(), []
-    done = begin + 4
-    process = None
-    for number in range(10_000):
-        now = time.monotonic()
-        if now > done:
-            break
-        if number % 400 == 200:
-            process = subprocess.Popen([server.program, 'ctl', server.path, 'reload'], stdout=subprocess.DEVNULL)
-        asks.send()
-        while asks.take(0):
-            pass
-        time.sleep(.0005)
-    while asks.take(1):
-        pass
-    late = sorted(asks.times)
-    process.wait()
-    print(f'     {asks.users} requests: median {1000 * late[len(late) // 2]:.1f} ms, longest {1000 * late[-1]:.1f} ms: '
-          f'nobody served for {1000 * (late[-1] - late[len(late) // 2]):.1f} ms at most')
-    want(asks.answered == asks.users, 'all are answered')
+def part(times, share):
+    return 1000 * sorted(times)[min(len(times) - 1, int(len(times) * share))]
+
+
+def tell_times(what, answered, begin, end):
+    """The times of the answers that were asked for in a window."""
+    times = [took for when, took in answered if begin <= when < end]
+    print(f'     {what}: {len(times) / (end - begin):.0f} a second answered; median {part(times, .5):.2f} ms, '
+          f'p99 {part(times, .99):.2f}, p99.9 {part(times, .999):.2f}, longest {part(times, 1):.2f}')
+
+
+def tell_pauses(answered, changes):
+    """How long a request waited at most around each change: the longest time of those that waited at some moment of it."""
+    longest = []
+    for begin, end in changes:
+        longest.append(max((took for when, took in answered if when < end and when + took > begin), default=0))
+    print(f'     the longest wait around each of {len(longest)} changes: median {part(longest, .5):.2f} ms, '
+          f'least {part(longest, 0):.2f}, most {part(longest, 1):.2f}')
+
+
+def change_often(server, seconds):
+    """Changes without a difference, four a second."""
+    changes, end = [], time.monotonic() + seconds
+    while time.monotonic() < end:
+        begin = time.monotonic()
+        want_done = server.reload().returncode == 0
+        changes.append((begin, time.monotonic()))
+        if not want_done:
+            want(False, 'a file without a difference follows')
+        time.sleep(.25)
+    return changes
+
+
+def try_all(server, homes, rate):
+    loads = [Load(realms, rate / 8) for realms in (range(4), range(4, 8))]
+    for one in loads:
+        one.start()
+    time.sleep(1)
+    quiet = time.monotonic(), time.sleep(5), time.monotonic()
+    try_changes(server)
+    try_check(server)
+    try_fifty(server)
+    often = time.monotonic()
+    changes = change_often(server, 5)
+    done = time.monotonic()
+    told = {realm: what for one in loads for realm, what in one.told().items()}
+    again = sum((home.told()[1] for home in homes), collections.Counter())
+    same = [told[realm] for realm in range(6)]
+    sent, answered, overtaken = (sum(one[at] for one in same) for at in range(3))
+    every = sum(one[1] for one in told.values()) / told[0][5]
+    print(f'     six realms that no change touched: {sent} requests, {answered} answered, '
+          f'{sum(again[realm] for realm in range(6))} sent again; over all eight {every:.0f} answered a second')
+    at_once = [one for realm in (1, 3, 5) for one in zip(told[realm][3], told[realm][4])]
+    tell_times('without changes', at_once, quiet[0], quiet[2])
+    tell_times('with four a second', at_once, often, done)
+    tell_pauses(at_once, changes)
+    want(sent == answered > 0 and not overtaken, 'none of theirs is lost')
+    want(not any(again[realm] for realm in range(6)), 'and none is sent again')
+    print(f'     the two that were changed: {told[6][0] + told[7][0]} requests, {told[6][1] + told[7][1]} answered')
+    result = server.ctl('stop')
+    want(result.returncode == 0 and server.process.wait(timeout=40) == 0 and 'audited' in server.said(),
+         'it stops after all that, audited')
 
 
 def main():
     if not 2 <= len(sys.argv) <= 3 or not os.access(sys.argv[1], os.X_OK):
         sys.exit('usage: try-reload.py PROGRAM [RATE]')
-    program, rate = os.path.realpath(sys.argv[1]), int(sys.argv[2]) if len(sys.argv) > 2 else 1600
+    program, rate = os.path.realpath(sys.argv[1]), int(sys.argv[2]) if len(sys.argv) > 2 else 10000
     with tempfile.TemporaryDirectory() as work:
-        homes = [HomeServer(HOME + realm) for realm in range(9)] + [HomeServer(HOME + 9, NEW_SECRET)]
+        homes = [HomeServers([(realm, SECRET) for realm in range(0, 5)]),
+                 HomeServers([(realm, SECRET) for realm in range(5, 9)] + [(9, NEW_SECRET)])]
         for home in homes:
             home.start()
         server = Server(program, work, [Realm(realm) for realm in range(8)])
         try:
-            try_all(server, work, homes, rate)
+            try_all(server, homes, rate)
         finally:
             server.process.kill()
-
-
-def try_all(server, work, homes, rate):
-    stop, loads = multiprocessing.Event(), []
-    for realm in range(8):
-        near, far = multiprocessing.Pipe()
-        words = (b'%c.example' % (97 + realm), rate / 8, stop, far)
-        loads.append((near, multiprocessing.Process(target=load, args=words, daemon=True)))
-    for _, process in loads:
-        process.start()
-    try_changes(server, homes, loads)
-    try_check(server)
-    try_fifty(server)
-    stop.set()
-    told = [near.recv() for near, _ in loads]
-    sent = [sum(one[0] for one in told[:6]), sum(one[1] for one in told[:6])]
-    again = sum(home.told()[1] for home in homes[:6])
-    print(f'     six realms that no change touched: {sent[0]} requests, {sent[1]} answered, {again} sent again, '
-          f'the longest took {1000 * max(one[2] for one in told[:6]):.0f} ms')
-    want(sent[0] == sent[1] > 0, 'none of theirs is lost')
-    want(again == 0, 'and none is sent again')
-    print(f'     the two that were changed: {told[6][0] + told[7][0]} requests, {told[6][1] + told[7][1]} answered')
-    pause(server, work)
-    result = server.ctl('stop')
-    want(result.returncode == 0 and server.process.wait(timeout=40) == 0 and 'audited' in server.said(),
-         'it stops after all that, audited')
 
 
 if __name__ == '__main__':

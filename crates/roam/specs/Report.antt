@@ -60,6 +60,7 @@ abbrev pub text_of : Fault → List ℕ
 text_of fault.Usage = usage_text
 text_of (fault.Unreadable path) = codes "roam: " ++ path.now ++ codes ": unreadable\n"
 text_of (fault.Unanswered path) = codes "roam: " ++ path.now ++ codes ": no answer\n"
+text_of (fault.Declined path) = codes "roam: " ++ path.now ++ codes ": declined\n"
 text_of (fault.Refused path why) = codes "roam: " ++ path.now ++ codes ": " ++ name_of why ++ codes "\n"
 text_of (fault.FaultyLine path number) =
     codes "roam: " ++ path.now ++ codes ": line " ++ decimal number ++ codes "\n"
@@ -80,6 +81,7 @@ abbrev pub status_of : Fault → ℕ
 status_of fault.Usage = 2
 status_of (fault.Unreadable path) = 1
 status_of (fault.Unanswered path) = 1
+status_of (fault.Declined path) = 1
 status_of (fault.Refused path why) = 1
 status_of (fault.FaultyLine path number) = 1
 status_of fault.Write = 1

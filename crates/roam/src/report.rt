@@ -26,6 +26,11 @@ pub enum Fault<'a> {
         /// The path of the socket.
         path: &'a str,
     },
+    /// A server did not do what it was asked for through its control socket. Its answer says why, and is printed.
+    Declined {
+        /// The path of the socket.
+        path: &'a str,
+    },
     /// A configuration is refused.
     Refused {
         /// The path of its file.
@@ -258,6 +263,7 @@ impl<'a> Fault<'a> {
             Fault::Usage => print_usage(writer),
             Fault::Unreadable { path } => writeln!(writer, "roam: {path}: unreadable"),
             Fault::Unanswered { path } => writeln!(writer, "roam: {path}: no answer"),
+            Fault::Declined { path } => writeln!(writer, "roam: {path}: declined"),
             Fault::Refused { path, fault } => print_refused(writer, path, fault),
             Fault::FaultyLine { path, number } => print_line(writer, path, number),
             Fault::Write => writer.write_all(b"roam: write failed\n"),
