@@ -1,5 +1,5 @@
 -- The shards of a hub that is closed: words of private functions alone (ours).
-use Rattle.std.specs.Prelude.{◌≡◌, ℕ, List, Some, length, map, slice_get}
+use Rattle.std.specs.Prelude.{◌≡◌, ℕ, ◌≤◌, List, [], Some, length, map, slice_get, vec_capacity}
 use Rattle.std.specs.declared.vec.Vec.{Vec}
 use Rattle.roam_shard.specs.ShardView.{ShardView}
 use Rattle.roam_trace.specs.History.{IsHistory, end_of}
@@ -7,6 +7,11 @@ use Rattle.roam_trace.specs.Steps.{PlainStep}
 use Rattle.roam_history.specs.Fronts.{FrontView}
 use Rattle.roam_history.specs.HubOpening.{HubOpening, opening_at}
 use Rattle.roam_audit.specs.Shown.{all_in, items_of}
+
+-- an empty list, with room for so many
+pub record HasRoom {X A : Type 0} (count : ℕ) (v : Vec X A) : Type 0 where
+  pub empty : v.items ≡ []
+  pub room : count ≤ vec_capacity v
 
 -- the steps of each shard that are still stored, and all of them
 abbrev pub stored_steps : {A : Type 0} → List (Vec PlainStep A) → List (List PlainStep)

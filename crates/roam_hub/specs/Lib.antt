@@ -5,6 +5,7 @@ pub mod Keeping
 pub mod Looks
 pub mod Closing
 pub mod Pausing
+pub mod Following
 pub mod Changes
 pub mod Faults
 pub mod Texts

@@ -2,23 +2,23 @@
 
 ghost use Rattle.std.specs.Prelude.{◌≡◌, ◌⊎◌, ◌+◌, ◌<◌, ◌≤◌, ◌^◌, ◌++◌, [], ◌∷◌, length, map, vec_len, IfErr, IfOk};
 ghost use Rattle.roam_conf.specs.Shown.{shown};
-ghost use Rattle.roam_shard.specs.ShardView.{AreStarts, IsStart};
+ghost use Rattle.roam_shard.specs.ShardView.{AreStarts};
 ghost use Rattle.roam_history.specs.Entries.{stored_of};
 ghost use Rattle.roam_history.specs.Fronts.{AreOfShards, entries_of};
 ghost use Rattle.roam_audit.specs.Shown.{recorded, stored};
-ghost use Rattle.roam_hub.specs.Closing.{AreClosed, all_steps, stored_steps};
+ghost use Rattle.roam_hub.specs.Closing.{AreClosed, HasRoom, all_steps, stored_steps};
 ghost use Rattle.roam_hub.specs.Histories.{AreHistories, starts_at_end};
 
 use crate::fault::HubFault;
 use crate::hub::Hub;
 use crate::kept::Kept;
+use crate::pausing::PausedHub;
 use roam_audit::Report;
 use roam_book::Start;
 use roam_conf::Config;
 use roam_history::{Front, Opened};
 use roam_shard::Shard;
 use roam_trace::Step;
-use roam_wire::NoMemory;
 use std::alloc::Allocator;
 use std::sync::Mutex;
 
@@ -31,38 +31,31 @@ pub(crate) struct Closed<'c, A: Allocator, N: Opened> {
     pub fronts: Vec<Front<N>, A>,
 }
 
-/// Appends a value to a list.
-fn append<T: Drop, A: Allocator>(list: &mut Vec<T, A>, value: T) -> Result<(), NoMemory>
-    ensures items { IfOk result (λ _. list.new.items ≡ list.old.items ++ value ∷ []) }
-    ensures len { IfOk result (λ _. vec_len list.new ≡ vec_len list.old + 1) }
-{
-    list.push(value)?;
-    Ok(())
-}
-
-/// Takes the locks apart, one at a time.
+/// Takes the locks apart, one at a time, into lists with room. Takes no memory.
 pub(crate) fn taken_apart<'c, A: Allocator + Copy, N: Opened>(
-    alloc: A,
     locks: Vec<Mutex<Kept<'c, A, N>>, A>,
+    mut shards: Vec<Shard<'c, A>, A>,
+    mut steps: Vec<Vec<Step<A>, A>, A>,
+    mut fronts: Vec<Front<N>, A>,
 ) -> Result<Closed<'c, A, N>, HubFault>
-    requires { vec_len locks < 2 ^ 16 }
+    requires few { vec_len locks < 2 ^ 16 }
+    requires shards { HasRoom (vec_len locks) shards }
+    requires steps { HasRoom (vec_len locks) steps }
+    requires fronts { HasRoom (vec_len locks) fronts }
     ensures closed { IfOk result (λ c.
         AreClosed N.opening (vec_len locks.entry) c.shards.items (all_steps c.fronts.items)) }
     ensures stored { IfOk result (λ c. stored_steps c.steps.items
         ≡ map stored_of (entries_of c.fronts.items)) }
     ensures of_shards { IfOk result (λ c. AreOfShards c.fronts.items) }
     ensures few { IfOk result (λ c. vec_len c.fronts ≡ vec_len locks.entry) }
-    ensures causes { IfErr result (λ f. (f ≡ HubFault.Misplaced) ⊎ (f ≡ HubFault.NoMemory)) }
+    ensures causes { IfErr result (λ f. f ≡ HubFault.Misplaced) }
 {
-    let mut shards = Vec::new(alloc);
-    let mut steps = Vec::new(alloc);
-    let mut fronts = Vec::new(alloc);
     let mut number: u16 = 0;
     for lock in locks {
         let (shard, its_steps, front) = lock.into_inner().cut(number)?;
-        append(&mut shards, shard)?;
-        append(&mut steps, its_steps)?;
-        append(&mut fronts, front)?;
+        shards.push_reserved(shard);
+        steps.push_reserved(its_steps);
+        fronts.push_reserved(front);
         number += 1;
     }
     Ok(Closed {
@@ -72,26 +65,25 @@ pub(crate) fn taken_apart<'c, A: Allocator + Copy, N: Opened>(
     })
 }
 
-/// Where the realms stand at the end, by index.
+/// Where the realms stand at the end, by index, into a list with room. Takes no memory.
 pub(crate) fn starts_of<'c, A: Allocator + Copy, N: Opened>(
-    alloc: A,
     config: &'c Config,
     closed: &Closed<'c, A, N>,
-) -> Result<Vec<Start, A>, NoMemory>
+    mut starts: Vec<Start, A>,
+) -> Vec<Start, A>
     requires config { shown config.now ≡ N.opening.config }
     requires closed { AreClosed N.opening config.now.shards closed.now.shards.items
         (all_steps closed.now.fronts.items) }
-    ensures starts { IfOk result (λ starts. starts.items
-        ≡ starts_at_end N.opening (all_steps closed.now.fronts.items)) }
-    ensures good { IfOk result (λ starts. AreStarts N.opening.config starts.items) }
+    requires room { HasRoom (vec_len config.now.realms) starts }
+    ensures starts { result.items ≡ starts_at_end N.opening (all_steps closed.now.fronts.items) }
+    ensures good { AreStarts N.opening.config result.items }
 {
-    let mut starts = Vec::with_capacity(alloc, config.realms.len())?;
     for realm in 0..config.realms.len() {
         let index = realm as u16;
         let shard = config.shard_of(index);
-        starts.push(closed.shards[usize::from(shard)].start(index))?;
+        starts.push_reserved(closed.shards[usize::from(shard)].start(index));
     }
-    Ok(starts)
+    starts
 }
 
 impl<'c, A: Allocator + Copy, N: Opened> Hub<'c, A, N> {
@@ -109,18 +101,8 @@ impl<'c, A: Allocator + Copy, N: Opened> Hub<'c, A, N> {
         ensures good { IfOk result (λ r. AreStarts N.opening.config r.starts.items) }
         ensures causes { IfErr result (λ f. (f ≡ HubFault.Misplaced) ⊎ (f ≡ HubFault.NoMemory)) }
     {
-        let Hub {
-            alloc,
-            config,
-            locks,
-        } = self;
-        let closed = taken_apart(alloc, locks)?;
-        let starts = starts_of::<A, N>(alloc, config, &closed)?;
-        let Closed { steps, fronts, .. } = closed;
-        Ok(Report {
-            steps,
-            starts,
-            fronts,
-        })
+        let room = self.pause_room()?;
+        let PausedHub { report, .. } = self.pause(room)?;
+        Ok(report)
     }
 }

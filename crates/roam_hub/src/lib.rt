@@ -9,6 +9,7 @@ mod answered;
 mod closing;
 mod ended;
 mod fault;
+mod following;
 mod gate;
 mod hub;
 mod kept;
@@ -16,19 +17,23 @@ mod laws;
 mod look;
 mod notes;
 mod opening;
+mod pause_room;
 mod pausing;
 
 pub use answered::{Answered, Refused};
 pub use fault::HubFault;
+pub use following::follow;
 pub use gate::{Gate, Open};
 pub use hub::Hub;
 pub use laws::{
     provenance_in_histories, realms_from_any_states, realms_in_histories, realms_over_changes,
 };
 pub use notes::{Notes, Past, Stood};
+pub use pause_room::PauseRoom;
 pub use pausing::PausedHub;
 pub use roam_audit::{AuditFault, Audited, Receipt, Report, Seat, split};
 pub use roam_book::{Gauges, Rest, SERVER_LINKS};
 pub use roam_history::{Blanks, Front, Opened};
 pub use roam_pending::Requester;
 pub use roam_ring::{Intake, Outlet, ring};
+pub use roam_shard::Paused;

@@ -1,14 +1,14 @@
 //! A hub that is closed so that its shards go on in another one.
 
-ghost use Rattle.std.specs.Prelude.{◌≡◌, ◌≢◌, ◌⊎◌, ◌+◌, ◌<◌, ◌≤◌, [], Some, length, map, slice_get, vec_len, IfErr, IfOk};
+ghost use Rattle.std.specs.Prelude.{◌≡◌, [], map, vec_len, IfErr, IfOk};
 ghost use Rattle.roam_conf.specs.Shown.{shown};
-ghost use Rattle.roam_shard.specs.ShardView.{AreStarts, ShardView};
+ghost use Rattle.roam_shard.specs.ShardView.{AreStarts};
 ghost use Rattle.roam_history.specs.Books.{books_of, count_of};
 ghost use Rattle.roam_history.specs.Entries.{stored_of};
 ghost use Rattle.roam_history.specs.Fronts.{entries_of};
 ghost use Rattle.roam_audit.specs.Seats.{new_seat};
 ghost use Rattle.roam_audit.specs.Shown.{recorded, stored};
-ghost use Rattle.roam_hub.specs.Closing.{AreClosed};
+ghost use Rattle.roam_hub.specs.Closing.{HasRoom};
 ghost use Rattle.roam_hub.specs.Histories.{AreHistories, starts_at_end};
 ghost use Rattle.roam_hub.specs.Pausing.{ArePaused, ArePausedShards, IsPaused, StandAtEnd, opening_over};
 ghost use Rattle.roam_shard.specs.Pausing.{states_under};
@@ -17,12 +17,12 @@ use crate::closing::{Closed, starts_of, taken_apart};
 use crate::fault::HubFault;
 use crate::hub::Hub;
 use crate::kept::Kept;
+use crate::pause_room::PauseRoom;
 use roam_audit::{Report, Seat, no_tallies};
 use roam_conf::Config;
 use roam_history::{Blank, Blanks, Front, Opened};
 use roam_shard::{Paused, Shard};
 use roam_trace::Traced;
-use roam_wire::NoMemory;
 use std::alloc::Allocator;
 use std::sync::Mutex;
 
@@ -33,18 +33,18 @@ pub struct PausedHub<A: Allocator, N: Opened> {
     pub shards: Vec<Paused<A>, A>,
 }
 
-/// The shards, taken from their configuration.
-fn paused<A: Allocator + Copy>(
-    alloc: A,
+/// The shards, taken from their configuration, in a list with room. Takes no memory.
+fn all_paused<A: Allocator + Copy>(
     shards: Vec<Shard<'_, A>, A>,
-) -> Result<Vec<Paused<A>, A>, NoMemory>
-    ensures { IfOk result (λ v. ArePausedShards shards.items v.items) }
+    mut paused: Vec<Paused<A>, A>,
+) -> Vec<Paused<A>, A>
+    requires { HasRoom (vec_len shards) paused }
+    ensures { ArePausedShards shards.entry.items result.items }
 {
-    let mut paused = Vec::with_capacity(alloc, shards.len())?;
     for shard in shards {
-        paused.push(shard.pause())?;
+        paused.push_reserved(shard.pause());
     }
-    Ok(paused)
+    paused
 }
 
 /// A shard that goes on, with no steps yet, to lie under its lock, and what is seen of its history: nothing.
@@ -70,11 +70,12 @@ fn kept_over<'c, A: Allocator + Copy, N: Opened>(
 
 impl<'c, A: Allocator + Copy, N: Opened> Hub<'c, A, N> {
     /// Ends the hub, once nobody calls any more, as `close` does, and gives its shards too, which go on where they stand.
+    /// Takes no memory.
     ///
     /// # Errors
     ///
-    /// As `close`: the hub is gone then too.
-    pub fn pause(self) -> Result<PausedHub<A, N>, HubFault>
+    /// `Misplaced` where a lock holds another shard's trace, and no other. The hub is gone then too.
+    pub fn pause(self, room: PauseRoom<'c, A, N>) -> Result<PausedHub<A, N>, HubFault>
         ensures histories { IfOk result (λ p. AreHistories N.opening (recorded p.report)) }
         ensures stored { IfOk result (λ p.
             stored p.report ≡ map stored_of (entries_of p.report.fronts.items)) }
@@ -84,21 +85,24 @@ impl<'c, A: Allocator + Copy, N: Opened> Hub<'c, A, N> {
         ensures paused { IfOk result (λ p. ArePaused N.opening.config p.shards.items) }
         ensures stand { IfOk result (λ p.
             StandAtEnd N.opening (recorded p.report) p.shards.items) }
-        ensures causes { IfErr result (λ f. (f ≡ HubFault.Misplaced) ⊎ (f ≡ HubFault.NoMemory)) }
+        ensures causes { IfErr result (λ f. f ≡ HubFault.Misplaced) }
     {
-        let Hub {
-            alloc,
-            config,
-            locks,
-        } = self;
-        let closed = taken_apart(alloc, locks)?;
-        let starts = starts_of::<A, N>(alloc, config, &closed)?;
+        let Hub { config, locks, .. } = self;
+        let PauseRoom {
+            shards,
+            steps,
+            fronts,
+            starts,
+            paused,
+        } = room;
+        let closed = taken_apart(locks, shards, steps, fronts)?;
+        let starts = starts_of::<A, N>(config, &closed, starts);
         let Closed {
             shards,
             steps,
             fronts,
         } = closed;
-        let shards = paused(alloc, shards)?;
+        let shards = all_paused(shards, paused);
         let report = Report {
             steps,
             starts,

@@ -1,6 +1,6 @@
 //! What of a shard is looked at, beside its events. Nothing changes by it, and nothing takes memory.
 
-ghost use Rattle.std.specs.Prelude.{◌≡◌, Some, slice_get, IfNone, IfSome};
+ghost use Rattle.std.specs.Prelude.{◌≡◌, Some, slice_get, IfNone, IfSome, IsSome};
 ghost use Rattle.roam_pending.specs.DueOrder.{due_after};
 ghost use Rattle.roam_pending.specs.EntryList.{find_client, find_link, find_ticket};
 ghost use Rattle.roam_pending.specs.Shown.{seen};
@@ -76,7 +76,8 @@ impl<A: Allocator + Copy> Shard<'_, A> {
 
     /// How a realm stands; none where it isn't one of the shard's own.
     pub fn gauges(&self, realm: u16) -> Option<Gauges>
-        ensures { IfSome result (StandsAs (state_at self.now.states realm)) }
+        ensures stands { IfSome result (StandsAs (state_at self.now.states realm)) }
+        ensures there { IsOwn self.now.opening realm → IsSome result }
     {
         let Some(numbers) = numbers_at(&self.numbers, realm) else {
             return None;

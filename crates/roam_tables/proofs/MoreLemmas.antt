@@ -1,14 +1,14 @@
 -- Tables that keep further realms, and a realm whose entries are taken out.
-use Rattle.std.proofs.Common.{◌≡◌, ◌≢◌, ◌⊎◌, ℕ, zero, suc, ◌+◌, ◌-◌, ◌<◌, ◌≤◌, Bool, true, false, List, [], ◌∷◌, ◌++◌, length, Option, Some, None, refl, ap, sym, ◌∙◌, subst, inl, inr, arith}
-use Rattle.std.specs.Prelude.{slice_get, nat_le, if◌then◌else◌}
+use Rattle.std.proofs.Common.{◌≡◌, ◌≢◌, ◌⊎◌, ℕ, zero, suc, ◌+◌, ◌<◌, ◌≤◌, Bool, true, false, List, [], ◌∷◌, ◌++◌, length, Some, None, refl, ap, sym, ◌∙◌, subst, inl, inr, arith}
+use Rattle.std.specs.Prelude.{slice_get}
 use Rattle.std.specs.List.{AllByRecursion, find}
-use Rattle.std.proofs.lemmas.Bool.{cases_lt, cases_Bool}
+use Rattle.std.proofs.lemmas.Bool.{cases_lt}
 use Rattle.std.proofs.lemmas.Bool.Decides.{nat_tests}
 use Rattle.std.proofs.lemmas.List.{append-nil, length-append}
 use Rattle.slab.specs.Slab.{Slab}
 use Rattle.indexmap.specs.IndexMap.{IndexMap}
 use Rattle.roam_pending.specs.declared.due.Due.{Due}
-use Rattle.roam_pending.specs.DueOrder.{due_after, due_at, due_list, in_order, into, is_after, is_before, is_due}
+use Rattle.roam_pending.specs.DueOrder.{due_after, due_at, due_list, into, is_after, is_before, is_due}
 use Rattle.roam_pending.specs.EntryList.{IsEntryList, IsInOrder, find_ticket, without}
 use Rattle.roam_pending.specs.ListLaws.{IsIn}
 use Rattle.roam_pending.specs.PlainEntry.{PlainEntry, deadline_of}
@@ -21,11 +21,9 @@ use Rattle.roam_tables.specs.declared.index.TicketKey.{TicketKey}
 use Rattle.roam_tables.specs.declared.index.ClientKey.{ClientKey}
 use Rattle.roam_tables.specs.declared.runs.Runs.{Runs}
 use Rattle.roam_tables.specs.Marks.{AreEmpty, IsRunsOf}
-use Rattle.roam_tables.specs.Rising.{AmongBoth, IsNext, NoneNext}
-use Rattle.roam_tables.specs.Stands.{AreMore, HasTicket, RealmView, Sound, Stored, client_at, entries_at, entries_in, entry_at, place, tables_view, ticket_at}
+use Rattle.roam_tables.specs.Stands.{AreMore, HasTicket, RealmView, Sound, client_at, entries_in, entry_at, place, tables_view, ticket_at}
 use Rattle.roam_tables.proofs.LookLemmas.{nobody_past}
 use Rattle.roam_tables.proofs.OpeningLemmas.{runs_of_nothing}
-use Rattle.roam_tables.proofs.TablesLemmas.{tables_due, tables_none_due}
 use Rattle.roam_tables.proofs.ViewLemmas.{seen_entries, seen_length}
 
 -- Further realms

@@ -12,7 +12,16 @@ use Rattle.roam_hub.proofs.HubLemmas.{all_starts, good_starts, no_starts, one_st
 use Rattle.roam_hub.proofs.closing.starts_of.Goals as goal
 
 pub loop-realm-init : goal.loop-realm-init
-loop-realm-init g c = rw (c.in_ok-starts.ensures.items) (no_starts g.N.Opened.opening (all_steps c.args.closed.now.fronts.items))
+loop-realm-init g c = record {
+  first = rw c.requires.room.empty (no_starts g.N.Opened.opening (all_steps c.args.closed.now.fronts.items));
+  count = c.args.starts.ok.0 ∙ ap length c.requires.room.empty;
+  room = c.requires.room.room;
+}
+
+pub push_reserved-requires : goal.push_reserved-requires
+push_reserved-requires g c =
+    let inv = c.loop-realm.invariant in
+    omega (arith, inv.count, inv.room, c.loop-realm-test.true, c.len-realm-end.ensures)
 
 -- the shard has the hub's configuration
 pub start-requires-clause-configured : goal.start-requires-clause-configured
@@ -49,15 +58,20 @@ loop-realm-preserved g c =
     let is : k ≡ c.loop-realm.realm % g.N.Opened.opening.config.shards = c.from.ensures ∙ c.shard_of-shard.ensures.value ∙ shards in
     let start = start_closed g.N.Opened.opening c.args.config.now.shards c.args.closed.now.shards.items all k c.loop-realm.realm c.index.result.now c.start.result
     c.requires.closed at (omega (arith, lt, c.requires.closed.shard_count)) is c.start.ensures.place c.start.ensures.ticket in
-    rw c.in_ok-push.ensures.items
-    (one_start_more g.N.Opened.opening all c.loop-realm.realm c.loop-realm.starts.items c.start.result c.loop-realm.invariant start c.start.ensures.start)
+    let inv = c.loop-realm.invariant in
+    record {
+      first = rw c.push_reserved.ensures.items
+          (one_start_more g.N.Opened.opening all c.loop-realm.realm c.loop-realm.starts.items c.start.result inv.first start c.start.ensures.start);
+      count = (let len = c.push_reserved.ensures.len in omega (arith, len, inv.count));
+      room = (let same = c.push_reserved.ensures.capacity in omega (arith, same, inv.room));
+    }
 
 pub returns-clause-starts : goal.returns-clause-starts
 returns-clause-starts g c =
     let config = c.args.config.now in
     let all = all_steps c.args.closed.now.fronts.items in
     let same = ap (λ (x : ConfigView). length x.realms) c.requires.config in
-    all_starts g.N.Opened.opening all c.loop-realm.realm c.loop-realm.starts.items c.loop-realm.invariant
+    all_starts g.N.Opened.opening all c.loop-realm.realm c.loop-realm.starts.items c.loop-realm.invariant.first
     (omega (arith, same, length-map config.realms.items shown_realm, config.realms.ok.0, c.loop-realm-test.false, c.loop-realm.auto.realm-end, c.len-realm-end.ensures))
 
 pub returns-clause-good : goal.returns-clause-good
@@ -65,5 +79,5 @@ returns-clause-good g c =
     let config = c.args.config.now in
     let all = all_steps c.args.closed.now.fronts.items in
     let same = ap (λ (x : ConfigView). length x.realms) c.requires.config in
-    good_starts g.N.Opened.opening all c.loop-realm.realm c.loop-realm.starts.items c.loop-realm.invariant
+    good_starts g.N.Opened.opening all c.loop-realm.realm c.loop-realm.starts.items c.loop-realm.invariant.first
     (omega (arith, same, length-map config.realms.items shown_realm, config.realms.ok.0, c.loop-realm-test.false, c.loop-realm.auto.realm-end, c.len-realm-end.ensures))

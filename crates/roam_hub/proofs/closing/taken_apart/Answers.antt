@@ -12,13 +12,36 @@ pub loop-lock-init : goal.loop-lock-init
 loop-lock-init g c =
     let iter = c.into_iter-lock-iterator.ensures.into_iter_gives in
     record {
-      closed = rw (c.new-shards.ensures.items, c.new-fronts.ensures.items) (none_closed g.N.Opened.opening);
-      stored = rw (c.new-steps.ensures.items, c.new-fronts.ensures.items) refl;
-      of_shards = rw c.new-fronts.ensures.items no_shards;
-      few = c.new-fronts.ensures.len;
+      closed = rw (c.requires.shards.empty, c.requires.fronts.empty) (none_closed g.N.Opened.opening);
+      stored = rw (c.requires.steps.empty, c.requires.fronts.empty) refl;
+      of_shards = rw c.requires.fronts.empty no_shards;
+      few = c.args.fronts.ok.0 ∙ ap length c.requires.fronts.empty;
+      shard_count = c.args.shards.ok.0 ∙ ap length c.requires.shards.empty;
+      step_count = c.args.steps.ok.0 ∙ ap length c.requires.steps.empty;
+      shard_room = c.requires.shards.room;
+      step_room = c.requires.steps.room;
+      front_room = c.requires.fronts.room;
       left = iter.1 ∙ c.args.locks.ok.0 ∙ ap length (sym iter.0);
       count = (let n = ap length iter.0 in omega (arith, n, c.args.locks.ok.0));
     }
+
+pub push_reserved-requires : goal.push_reserved-requires
+push_reserved-requires g c =
+    let inv = c.loop-lock.invariant in
+    let short = ap length c.in-Some.ensures.steps.0 in
+    omega (arith, short, inv.count, inv.shard_count, inv.shard_room)
+
+pub push_reserved-2-requires : goal.push_reserved-2-requires
+push_reserved-2-requires g c =
+    let inv = c.loop-lock.invariant in
+    let short = ap length c.in-Some.ensures.steps.0 in
+    omega (arith, short, inv.count, inv.step_count, inv.step_room)
+
+pub push_reserved-3-requires : goal.push_reserved-3-requires
+push_reserved-3-requires g c =
+    let inv = c.loop-lock.invariant in
+    let short = ap length c.in-Some.ensures.steps.0 in
+    omega (arith, short, inv.count, inv.few, inv.front_room)
 
 pub loop-lock-preserved : goal.loop-lock-preserved
 loop-lock-preserved g c =
@@ -28,20 +51,25 @@ loop-lock-preserved g c =
     let one = c.in_ok-shard.ensures in
     let front : FrontView = c.in_ok-shard.front in
     let fronts = c.loop-lock.fronts.items in
-    let more = ap (λ l. all_steps l) c.in_ok-append-3.ensures.items ∙ map-append all_in fronts (front ∷ []) in
-    let stored = ap (λ l. stored_steps l) c.in_ok-append-2.ensures.items ∙ map-append items_of c.loop-lock.steps.items (c.in_ok-shard.its_steps ∷ []) in
+    let more = ap (λ l. all_steps l) c.push_reserved-3.ensures.items ∙ map-append all_in fronts (front ∷ []) in
+    let stored = ap (λ l. stored_steps l) c.push_reserved-2.ensures.items ∙ map-append items_of c.loop-lock.steps.items (c.in_ok-shard.its_steps ∷ []) in
     let entries : entries_of (fronts ++ front ∷ []) ≡ entries_of fronts ++ front.entries ∷ [] = map-append (λ (f : FrontView). f.entries) fronts (front ∷ []) in
     let all : map stored_of (entries_of (fronts ++ front ∷ [])) ≡ map stored_of (entries_of fronts) ++ stored_of front.entries ∷ [] =
     ap (λ (l : List (List Entry)). map stored_of l) entries ∙ map-append stored_of (entries_of fronts) (front.entries ∷ []) in
     record {
-      closed = rw (c.in_ok-append.ensures.items, more) (one_more_closed g.N.Opened.opening c.loop-lock.number c.loop-lock.shards.items (all_steps fronts)
+      closed = rw (c.push_reserved.ensures.items, more) (one_more_closed g.N.Opened.opening c.loop-lock.number c.loop-lock.shards.items (all_steps fronts)
           c.in_ok-shard.shard (all_in front) inv.closed (record { shard = one.its_shard; config = one.config; states = one.states; history = one.history }));
       stored =
           stored
           ∙ ((λ j. inv.stored j ++ one.steps j ∷ [])
-          ∙ (sym all ∙ ap (λ (l : List FrontView). map stored_of (entries_of l)) (sym c.in_ok-append-3.ensures.items)));
-      of_shards = rw c.in_ok-append-3.ensures.items (push_shards fronts front inv.of_shards (let n = c.loop-lock.fronts.ok.0 in omega (arith, n, one.shard, inv.few)));
-      few = (let len = c.in_ok-append-3.ensures.len in omega (arith, len, inv.few));
+          ∙ (sym all ∙ ap (λ (l : List FrontView). map stored_of (entries_of l)) (sym c.push_reserved-3.ensures.items)));
+      of_shards = rw c.push_reserved-3.ensures.items (push_shards fronts front inv.of_shards (let n = c.loop-lock.fronts.ok.0 in omega (arith, n, one.shard, inv.few)));
+      few = (let len = c.push_reserved-3.ensures.len in omega (arith, len, inv.few));
+      shard_count = (let len = c.push_reserved.ensures.len in omega (arith, len, inv.shard_count));
+      step_count = (let len = c.push_reserved-2.ensures.len in omega (arith, len, inv.step_count));
+      shard_room = (let same = c.push_reserved.ensures.capacity in omega (arith, same, inv.shard_room));
+      step_room = (let same = c.push_reserved-2.ensures.capacity in omega (arith, same, inv.step_room));
+      front_room = (let same = c.push_reserved-3.ensures.capacity in omega (arith, same, inv.front_room));
       left = omega (arith, short, steps.1, inv.left);
       count = omega (arith, short, inv.count);
     }

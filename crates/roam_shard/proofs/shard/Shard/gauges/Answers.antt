@@ -2,11 +2,18 @@ use Rattle.std.proofs.Common.{◌≡◌, ◌∙◌, List, length, ap}
 use Rattle.roam_pending.specs.PlainEntry.{PlainEntry}
 use Rattle.roam_reverse.specs.Sessions.{Session}
 use Rattle.roam_shard.specs.ShardView.{shown_opening}
-use Rattle.roam_shard.proofs.LookLemmas.{entries-seen, sessions-seen}
+use Rattle.roam_shard.proofs.LookLemmas.{entries-seen, not_own, sessions-seen}
 use Rattle.roam_shard.proofs.shard.Shard.gauges.Goals as goal
 
-pub returns : goal.returns
-returns g c =
+-- the realm isn't one of the shard's
+pub returns-in_default-clause-there : goal.returns-in_default-clause-there
+returns-in_default-clause-there g c = λ own.
+    let i = c.self.inside in
+    absurd (not_own (shown_opening i.opening) i.entries i.numbers.items c.args.self.now c.self.view_is
+    c.deref.result.now c.deref.ensures.value c.self.invariant c.args.realm c.in_default.ensures.none own)
+
+pub returns-clause-stands : goal.returns-clause-stands
+returns-clause-stands g c =
     let i = c.self.inside in
     let entries = entries-seen (shown_opening i.opening) i.entries i.numbers.items c.args.self.now c.self.view_is
     c.deref.result.now c.deref.ensures.value c.args.realm c.in-Some.numbers.now c.in-Some.ensures.some in
