@@ -1,4 +1,3 @@
-pub mod Changing
 pub mod Descriptors
 pub mod Endings
 pub mod Faults

@@ -14,9 +14,9 @@ use crate::fault::{ServeFault, reason_of};
 use crate::run::audit::close_and_audit;
 use crate::run::behind::{Behind, start_behind};
 use crate::run::changing::{follow_all, go_on_counting};
-use crate::run::configured::Configured;
+use crate::run::configured::{Configured, Handover};
 use crate::run::counters::{Counters, Watch};
-use crate::run::desk::{Office, Reply, done};
+use crate::run::desk::{Office, done};
 use crate::run::ending::{Ended, WorkerEnd, has_given_up_after};
 use crate::run::kits::{Kits, make_kits, make_outboxes};
 use crate::run::losses::{CAUSES, SharedLosses};
@@ -76,8 +76,7 @@ impl<'s, G> ServerParts<'s, G> {
 struct Means {
     kits: Kits,
     outboxes: Vec<Outbox<Global>>,
-    /// What is answered to who asked for the configuration.
-    reply: Option<Reply>,
+    handover: Handover,
 }
 
 /// The socket at which the counts are asked for, where there is one. Tells where it can't be had.
@@ -100,15 +99,17 @@ fn listener<R: Log>(rt: &R, config: &Config, watch: Option<Watch<'_>>) -> Option
     }
 }
 
-/// What the workers gave back.
-fn gather<N: Opened>(alloc: Global, ends: Vec<WorkerEnd<N>>) -> Result<Ended<N>, ServeFault>
+/// What the workers gave back, in lists in which there is room for it.
+fn gather<N: Opened>(
+    ends: Vec<WorkerEnd<N>>,
+    mut seats: Vec<Seat<Global, N>>,
+    mut outboxes: Vec<Outbox<Global>>,
+) -> Result<Ended<N>, ServeFault>
     ensures gave_up { IfOk result (λ e. IsTrue e.has_given_up
         ↔ Contains (endings_of ends.items) ending.GaveUp) }
     ensures err { IfErr result IsAfterBinding }
 {
     let mut has_given_up = false;
-    let mut seats = Vec::new(alloc);
-    let mut outboxes = Vec::new(alloc);
     for end in ends {
         has_given_up = has_given_up_after(has_given_up, end.ending);
         seats.push(end.seat)?;
@@ -144,8 +145,11 @@ fn run<
     let Means {
         kits,
         outboxes,
-        reply,
+        handover,
     } = means;
+    let count = outboxes.len();
+    let seats = Vec::with_capacity(alloc, count)?;
+    let outbox_room = Vec::with_capacity(alloc, count)?;
     let Kits {
         wakers,
         timer,
@@ -173,8 +177,9 @@ fn run<
         end: parts.end,
     };
     let prepared = prepare_threads(alloc, sockets, &shared, seat, workers, timer, outboxes)?;
-    let Turn { ends, next } = run_threads(rt, alloc, sockets, &shared, prepared, reply, source)?;
-    Ok((gather(alloc, ends)?, next))
+    let Turn { ends, next } =
+        run_threads(rt, alloc, sockets, &shared, prepared, handover, source)?;
+    Ok((gather(ends, seats, outbox_room)?, next))
 }
 
 /// Tells what wasn't told of the packets that were lost.
@@ -229,6 +234,7 @@ fn run_hub<
     ensures ok { IfOk result (λ left. ArePaused (shown configured.now.config) left.shards.items) }
     ensures err { IfErr result IsAfterBinding }
 {
+    let room = hub.pause_room()?;
     let (ended, next) = run(rt, alloc, parts, configured, &hub, seat, means, source)?;
     let Ended {
         has_given_up,
@@ -238,7 +244,7 @@ fn run_hub<
     if has_given_up {
         return Err(ServeFault::Receive);
     }
-    let (audited, shards) = close_and_audit(hub, seats)?;
+    let (audited, shards) = close_and_audit(hub, room, seats)?;
     Ok(Left {
         next,
         outboxes,
@@ -322,19 +328,26 @@ fn change<G>(
         configured: after,
         report,
         kits,
+        spare,
     } = next;
-    let reply = match follow_all(alloc, shards, &configured.config, &after.config) {
+    drop(spare);
+    let handover = match follow_all(alloc, shards, &configured.config, &after.config) {
         Ok(()) => {
             go_on_counting(configured, &after, parts.counters());
-            *configured = after;
-            done(report)
+            Handover {
+                reply: Some(done(report)),
+                before: Some(std::mem::replace(configured, after)),
+            }
         }
-        Err(_) => out_of_memory(alloc),
+        Err(_) => Handover {
+            reply: Some(out_of_memory(alloc)),
+            before: Some(after),
+        },
     };
     Means {
         kits,
         outboxes,
-        reply: Some(reply),
+        handover,
     }
 }
 
@@ -493,7 +506,10 @@ pub fn serve<
     let means = Means {
         kits: make_kits(rt, alloc, &config, are_exchanges_told)?,
         outboxes: make_outboxes(alloc, config.shards)?,
-        reply: None,
+        handover: Handover {
+            reply: None,
+            before: None,
+        },
     };
     let configured = Configured {
         config,

@@ -1,6 +1,7 @@
 //! A configuration that is served, with what belongs to it alone.
 
 use crate::run::counters::Counters;
+use crate::run::desk::Reply;
 use crate::system::bind::BoundSocket;
 use roam_conf::Config;
 
@@ -23,4 +24,13 @@ impl Configured {
             None => others,
         }
     }
+}
+
+/// What is left of a change for when the threads run again: it holds nobody up then.
+#[derive(Drop)]
+pub struct Handover {
+    /// What is answered to who asked for the configuration.
+    pub reply: Option<Reply>,
+    /// The configuration that isn't served any more, with its descriptors.
+    pub before: Option<Configured>,
 }

@@ -25,7 +25,14 @@ pub struct Next {
     /// What is answered to who asked for it.
     pub report: Vec<u8>,
     pub kits: Kits,
+    /// Memory that is given back before the threads start again, for what they are made of then.
+    pub spare: Vec<u8>,
 }
+
+/// How many octets are spare, and how many more for each socket.
+const SPARE: usize = 1 << 20;
+
+const SPARE_OF_A_SOCKET: usize = 64;
 
 /// Gives sockets that are new room for what arrives, and tells where the system gives less.
 pub fn widen_all<R: Log>(rt: &R, config: &Config, sockets: &[BoundSocket]) {
@@ -84,6 +91,7 @@ fn make_next<R: Net + Log, G, N: Opened>(
         Some(_) => Some(Counters::new(alloc, &config)?),
         None => None,
     };
+    let spare = sockets.len().saturating_mul(SPARE_OF_A_SOCKET).saturating_add(SPARE);
     Ok(Next {
         configured: Configured {
             config,
@@ -93,6 +101,7 @@ fn make_next<R: Net + Log, G, N: Opened>(
         },
         report,
         kits,
+        spare: vec![in alloc; 0u8; spare]?,
     })
 }
 

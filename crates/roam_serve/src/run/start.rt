@@ -5,7 +5,7 @@ ghost use Rattle.roam_serve.specs.Faults.{IsAfterBinding};
 
 use crate::fault::ServeFault;
 use crate::run::attending::Attendant;
-use crate::run::desk::Reply;
+use crate::run::configured::Handover;
 use crate::run::ending::WorkerEnd;
 use crate::run::next::Next;
 use crate::run::prepared::Prepared;
@@ -79,13 +79,15 @@ fn start_workers<
     have_started
 }
 
-/// Tells that a configuration is served, and answers who asked for it.
+/// Tells that a configuration is served, answers who asked for it, and closes what the one of before had.
 fn tell_start<R: Wait + Log, G, N: Opened>(
     rt: &R,
     shared: &Shared<'_, '_, G, N>,
-    reply: Option<Reply>,
+    handover: Handover,
 ) {
+    let Handover { reply, before } = handover;
     tell_or_drop(rt, shared.config, serving(shared.config));
+    drop(before);
     if let Some(reply) = reply {
         shared.office.control.answer(rt, reply);
     }
@@ -99,8 +101,8 @@ pub struct Turn<N: Opened> {
     pub next: Option<Next>,
 }
 
-/// Runs the threads until they have ended, or until a configuration comes that is to follow. That it serves is told once all run, and
-/// `reply` is answered to who asked for it. Until the end this thread answers who asks for something.
+/// Runs the threads until they have ended, or until a configuration comes that is to follow. Once all run it is told that
+/// this one is served, also to who asked for it. Until the end this thread answers who asks for something.
 ///
 /// # Errors
 ///
@@ -118,7 +120,7 @@ pub fn run_threads<
     sockets: &'s [BoundSocket],
     shared: &'s Shared<'s, 'c, G, N>,
     prepared: Prepared<'s, 'c, G, N>,
-    reply: Option<Reply>,
+    handover: Handover,
     source: &mut S,
 ) -> Result<Turn<N>, ServeFault>
     ensures { IfErr result IsAfterBinding }
@@ -151,7 +153,7 @@ pub fn run_threads<
             Err(_) => have_started = false,
         }
         if have_started {
-            tell_start(rt, shared, reply);
+            tell_start(rt, shared, handover);
             next = attendant.attend(source);
         }
         shared.end_all();
