@@ -29,10 +29,21 @@ pub struct Next {
     pub spare: Vec<u8>,
 }
 
-/// How many octets are spare, and how many more for each socket.
-const SPARE: usize = 1 << 20;
-
+/// How many octets are spare: for each socket, for the stack of each thread, and beside them.
 const SPARE_OF_A_SOCKET: usize = 64;
+
+const SPARE_OF_A_THREAD: usize = 9 << 20;
+
+const SPARE_BESIDE: usize = 1 << 20;
+
+/// How many octets the lists and the stacks of the threads may take that start then. They aren't touched.
+fn spare_for(shards: u16, sockets: usize) -> usize {
+    let threads = usize::from(shards) + 2;
+    sockets
+        .saturating_mul(SPARE_OF_A_SOCKET)
+        .saturating_add(threads * SPARE_OF_A_THREAD)
+        .saturating_add(SPARE_BESIDE)
+}
 
 /// Gives sockets that are new room for what arrives, and tells where the system gives less.
 pub fn widen_all<R: Log>(rt: &R, config: &Config, sockets: &[BoundSocket]) {
@@ -91,7 +102,7 @@ fn make_next<R: Net + Log, G, N: Opened>(
         Some(_) => Some(Counters::new(alloc, &config)?),
         None => None,
     };
-    let spare = sockets.len().saturating_mul(SPARE_OF_A_SOCKET).saturating_add(SPARE);
+    let spare = Vec::with_capacity(alloc, spare_for(config.shards, sockets.len()))?;
     Ok(Next {
         configured: Configured {
             config,
@@ -101,7 +112,7 @@ fn make_next<R: Net + Log, G, N: Opened>(
         },
         report,
         kits,
-        spare: vec![in alloc; 0u8; spare]?,
+        spare,
     })
 }
 
