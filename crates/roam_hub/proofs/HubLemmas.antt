@@ -43,7 +43,7 @@ provenance_in_histories o steps some history =
     has_provenance o.config o.starts (events_in steps) (packets_in steps) (λ realm within. realms_in_histories o steps realm some within history)
 
 -- one shard more that was taken apart
-get-push : {X : Type 0} (xs : List X) (x y : X) (k : ℕ) → slice_get (xs ++ x ∷ []) k ≡ Some y → ((k ≡ length xs) × (x ≡ y)) ⊎ ((k < length xs) × (slice_get xs k ≡ Some y))
+pub get-push : {X : Type 0} (xs : List X) (x y : X) (k : ℕ) → slice_get (xs ++ x ∷ []) k ≡ Some y → ((k ≡ length xs) × (x ≡ y)) ⊎ ((k < length xs) × (slice_get xs k ≡ Some y))
 get-push [] x y zero at = (let some : Some x ≡ Some y = at in let is : x ≡ y = cc in inl (refl, is))
 get-push [] x y (suc k) at = absurd (let bad : None ≡ Some y = at in cc)
 get-push (z ∷ zs) x y zero at = inr (omega arith, at)

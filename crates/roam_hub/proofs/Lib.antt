@@ -1,3 +1,4 @@
 pub mod HubLemmas
 pub mod KeptLemmas
 pub mod ChangeLemmas
+pub mod PauseLemmas

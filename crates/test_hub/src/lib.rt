@@ -9,6 +9,10 @@ mod audit_tests;
 #[cfg(test)]
 mod caller;
 #[cfg(test)]
+mod change_growth_tests;
+#[cfg(test)]
+mod change_tests;
+#[cfg(test)]
 mod configuration;
 #[cfg(test)]
 mod due_tests;
