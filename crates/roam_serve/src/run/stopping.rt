@@ -1,6 +1,6 @@
 //! That the server is asked to stop: it takes no request any more, and ends when what waits had time to be answered.
 
-ghost use Rattle.std.specs.Prelude.{◌≡◌, ◌≤◌, Some, IfSome, MatchOption, min};
+ghost use Rattle.std.specs.Prelude.{◌≡◌, ◌≤◌, ◌==◌, ◌^◌, ◌-◌, None, Some, MatchOption, if◌then◌else◌, min};
 
 use roam_conf::Config;
 use std::sync::atomic::{AtomicBool, AtomicU64, Ordering};
@@ -30,7 +30,7 @@ pub fn grace(config: &Config) -> u64
 
 /// The earlier of two ends, where there is one.
 fn earlier(end: Option<u64>, other: u64) -> Option<u64>
-    ensures { MatchOption end (IfSome result (λ moment. moment ≡ other))
+    ensures { MatchOption end (result ≡ (if other == 2 ^ 64 - 1 then None else Some other))
         (λ moment. result ≡ Some (min moment other)) }
 {
     match end {

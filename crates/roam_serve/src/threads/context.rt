@@ -237,8 +237,11 @@ impl<G: Gate, N: Opened> WorkerContext<'_, '_, G, N> {
         }
     }
 
-    /// Tells a request that was noted.
+    /// Tells a request that was noted, where requests are told.
     fn tell_past(&mut self, past: Past, outcome: Outcome) {
+        if !self.exchanges.are_told() {
+            return;
+        }
         let config = self.shared.config;
         let exchange = exchange_of(config, &self.exchanges.notes, past, outcome, self.now);
         self.tell(exchange);
@@ -353,8 +356,9 @@ impl<G: Gate, N: Opened> WorkerContext<'_, '_, G, N> {
         self.notices.refused(refusal, origin, self.now);
     }
 
-    /// Hands what was refused to the logger, once a second, and wakes it where there is something for it.
-    pub fn wake_logger(&mut self) {
+    /// Hands what was refused to the logger, once a second, and wakes it where there is something for it: for lines of
+    /// exchanges so many milliseconds after the first of them.
+    pub fn wake_logger(&mut self, within: u64) {
         self.notices.tell_due(self.now);
         if self.exchanges.dropped() > 0
             && self
@@ -363,7 +367,7 @@ impl<G: Gate, N: Opened> WorkerContext<'_, '_, G, N> {
         {
             self.exchanges.forget_dropped();
         }
-        let have_lines = self.exchanges.take_waiting();
+        let have_lines = self.exchanges.take_due(self.now, within);
         if self.notices.take_waiting() || have_lines {
             self.shared.logger.unpark();
         }

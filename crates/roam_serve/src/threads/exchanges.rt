@@ -28,7 +28,10 @@ pub struct Exchanges {
     /// None where no lines are told.
     queue: Option<Producer<Exchange>>,
     dropped: u64,
+    /// Whether a line was put since the logger was woken.
     is_waiting: bool,
+    /// Since when that is known, in milliseconds.
+    waits_since: Option<u64>,
 }
 
 /// How many requests may wait in all realms together, up to `MOST_AT_ONCE`.
@@ -67,6 +70,7 @@ pub fn queue_of_lines(
         queue,
         dropped: 0,
         is_waiting: false,
+        waits_since: None,
     };
     Ok((exchanges, told))
 }
@@ -90,11 +94,25 @@ impl Exchanges {
         !is_put
     }
 
-    /// Whether a line was put since this was asked last.
-    pub fn take_waiting(&mut self) -> bool {
-        let is_waiting = self.is_waiting;
-        self.is_waiting = false;
-        is_waiting
+    /// Whether the logger is to be woken at this moment: a line was put, and it was known so many milliseconds ago.
+    pub fn take_due(&mut self, now: u64, within: u64) -> bool {
+        if !self.is_waiting {
+            return false;
+        }
+        let since = self.waits_since.unwrap_or(now);
+        let is_due = now.saturating_sub(since) >= within;
+        self.waits_since = if is_due { None } else { Some(since) };
+        self.is_waiting = !is_due;
+        is_due
+    }
+
+    /// In how many milliseconds the logger is to be woken that is woken so long after a line was put; 2^64 - 1 where no line
+    /// waits for that.
+    pub fn time_left(&self, now: u64, within: u64) -> u64 {
+        match self.waits_since {
+            Some(since) => since.saturating_add(within).saturating_sub(now),
+            None => u64::MAX,
+        }
     }
 
     /// How many lines were dropped of which that isn't said yet.

@@ -4,17 +4,25 @@ use crate::run::counters::ThreadCounts;
 use crate::threads::notice::{Notice, notices_in, tell};
 use libc::net::{POLLOUT, poll};
 use libc::types::pollfd;
-use log::{Log, info};
+use log::{Level, Line, Log, Metadata, Record, info, target_or};
 use roam_conf::Config;
 use roam_counters::Process;
 use roam_notices::{Exchange, push_exchange};
 use rtrb::Consumer;
+use std::io::Write;
 use std::str;
 use std::sync::Wait;
 use std::thread::Parker;
 
 /// The descriptor of standard error.
 const STANDARD_ERROR: i32 = 2;
+
+/// How many octets of lines are written at once: a pipe that has room has it for 4,096 (pipe(7), `PIPE_BUF`), and before the
+/// first line stands its module's name.
+const OCTETS_AT_ONCE: usize = 4000;
+
+/// How many lines are written at once.
+const LINES_AT_ONCE: u32 = 64;
 
 /// Whether standard error has room for a line, after at most so many milliseconds.
 fn has_room(milliseconds: i32) -> bool {
@@ -48,13 +56,63 @@ fn empty<R: Wait + Log>(rt: &R, config: &Config, queue: &mut Consumer<Notice>) -
     unreachable!()
 }
 
-/// Writes the line of an exchange where standard error has room for it. Answers whether it has.
-fn tell_line<R: Log>(rt: &R, line: &mut Vec<u8>, config: &Config, exchange: &Exchange) -> bool {
-    line.clear();
-    if !has_room(0) || push_exchange(line, config, exchange).is_err() {
+/// Adds the line of an exchange. Before it, where another one stands there, a line break and what the logger writes before
+/// each line. Answers whether there was memory for it.
+fn push_line<R: Log>(rt: &R, text: &mut Vec<u8>, config: &Config, exchange: &Exchange) -> bool {
+    if !text.is_empty() {
+        let metadata = Metadata::new(Level::Info, target_or(rt, module_path!()));
+        let head = Record::new(metadata, "", (), ());
+        if write!(text, "\n{}", Line::new(&head)).is_err() {
+            return false;
+        }
+    }
+    push_exchange(text, config, exchange).is_ok()
+}
+
+/// Lines of exchanges that are written at once.
+#[derive(Clone, Copy)]
+struct Batch {
+    lines: u64,
+    /// For how many more there was no memory.
+    lost: u64,
+}
+
+/// Takes lines from a queue: as many as are written at once, and one at least where there is one.
+fn take_lines<R: Log>(
+    rt: &R,
+    config: &Config,
+    text: &mut Vec<u8>,
+    queue: &mut Consumer<Exchange>,
+) -> Batch {
+    let mut batch = Batch { lines: 0, lost: 0 };
+    text.clear();
+    for _ in 0..LINES_AT_ONCE {
+        let before = text.len();
+        let Ok(exchange) = queue.peek() else {
+            return batch;
+        };
+        let has_memory = push_line(rt, text, config, exchange);
+        if before > 0 && text.len() > OCTETS_AT_ONCE {
+            text.truncate(before);
+            return batch;
+        }
+        if has_memory {
+            batch.lines = batch.lines.saturating_add(1);
+        } else {
+            text.truncate(before);
+            batch.lost = batch.lost.saturating_add(1);
+        }
+        let _is_taken = queue.pop().is_ok();
+    }
+    batch
+}
+
+/// Writes lines where standard error has room for them. Answers whether it has.
+fn write_lines<R: Log>(rt: &R, text: &[u8]) -> bool {
+    if !has_room(0) {
         return false;
     }
-    match str::from_utf8(line.as_slice()) {
+    match str::from_utf8(text) {
         Ok(text) => {
             info!(rt; "{}", text);
             true
@@ -67,15 +125,18 @@ fn tell_line<R: Log>(rt: &R, line: &mut Vec<u8>, config: &Config, exchange: &Exc
 fn empty_lines<R: Wait + Log>(
     rt: &R,
     config: &Config,
-    line: &mut Vec<u8>,
+    text: &mut Vec<u8>,
     queue: &mut Consumer<Exchange>,
 ) -> u64 {
     let mut dropped = 0u64;
     for _ in rt.forever() {
-        match queue.pop() {
-            Ok(exchange) if tell_line(rt, line, config, &exchange) => {}
-            Ok(_) => dropped = dropped.saturating_add(1),
-            Err(_) => return dropped,
+        let batch = take_lines(rt, config, text, queue);
+        dropped = dropped.saturating_add(batch.lost);
+        if batch.lines == 0 && batch.lost == 0 {
+            return dropped;
+        }
+        if batch.lines > 0 && !write_lines(rt, text.as_slice()) {
+            dropped = dropped.saturating_add(batch.lines);
         }
     }
     unreachable!()

@@ -179,6 +179,7 @@ impl Notices {
         ensures dropped { self.new.dropped ≡ self.old.dropped }
         ensures repeats { self.new.repeats ≡ self.old.repeats }
         ensures due { self.new.due ≡ self.old.due }
+        ensures next { self.new.next_dropped ≡ self.old.next_dropped }
         ensures woken { IsTrue result → IsTrue self.new.is_waiting }
         ensures waiting { IsFalse result → self.new.is_waiting ≡ self.old.is_waiting }
     {
@@ -188,13 +189,23 @@ impl Notices {
     }
 
     /// Says that packets were lost. Never waits. Answers whether it will be told.
-    pub fn lost(&mut self, cause: LossCause, count: u64) -> bool {
+    pub fn lost(&mut self, cause: LossCause, count: u64) -> bool
+        ensures put { IsTrue result → sent self.new.queue ≡ sent self.old.queue ++ Notice.Lost cause count ∷ [] }
+        ensures full { IsFalse result → sent self.new.queue ≡ sent self.old.queue }
+    {
         self.put(Notice::Lost(cause, count))
     }
 
     /// Says that so many lines of exchanges were dropped, once a second at most. Never waits. Answers whether it will be
     /// told.
-    pub fn lines_dropped(&mut self, count: u64, now: u64) -> bool {
+    pub fn lines_dropped(&mut self, count: u64, now: u64) -> bool
+        ensures put { IsTrue result → sent self.new.queue ≡ sent self.old.queue ++ Notice.LinesDropped count ∷ [] }
+        ensures full { IsFalse result → sent self.new.queue ≡ sent self.old.queue }
+        ensures early { now < self.old.next_dropped → IsFalse result }
+        ensures stays { now < self.old.next_dropped → self.new.next_dropped ≡ self.old.next_dropped }
+        ensures next { self.old.next_dropped ≤ now
+            → self.new.next_dropped ≡ min (2 ^ 64 - 1) (now + 1000) }
+    {
         if now < self.next_dropped {
             return false;
         }
@@ -203,7 +214,13 @@ impl Notices {
     }
 
     /// Says that a home server keeps silent, or answers again. Never waits. Answers whether it will be told.
-    pub fn rests(&mut self, realm: u16, link: Link, is_silent: bool) -> bool {
+    pub fn rests(&mut self, realm: u16, link: Link, is_silent: bool) -> bool
+        ensures silent { IsTrue result → IsTrue is_silent
+            → sent self.new.queue ≡ sent self.old.queue ++ Notice.Silent realm link ∷ [] }
+        ensures answers { IsTrue result → IsFalse is_silent
+            → sent self.new.queue ≡ sent self.old.queue ++ Notice.Answers realm link ∷ [] }
+        ensures full { IsFalse result → sent self.new.queue ≡ sent self.old.queue }
+    {
         if is_silent {
             self.put(Notice::Silent(realm, link))
         } else {
@@ -212,7 +229,10 @@ impl Notices {
     }
 
     /// Says that the server is asked to stop. Never waits. Answers whether it will be told.
-    pub fn stopping(&mut self) -> bool {
+    pub fn stopping(&mut self) -> bool
+        ensures put { IsTrue result → sent self.new.queue ≡ sent self.old.queue ++ Notice.Stopping ∷ [] }
+        ensures full { IsFalse result → sent self.new.queue ≡ sent self.old.queue }
+    {
         self.put(Notice::Stopping)
     }
 

@@ -125,7 +125,7 @@ fn round<R: Wait + Clock, G: Gate, N: Opened>(
     }
     tell_losses(timer);
     tell_rests(rt, timer);
-    timer.context.wake_logger();
+    timer.context.wake_logger(0);
     if has_done_all(rt, timer) {
         return Some(Ending::TimeOver);
     }

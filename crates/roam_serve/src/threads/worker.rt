@@ -16,6 +16,9 @@ use std::time::{Clock, Duration};
 /// How long a worker waits for a datagram, in milliseconds, where none comes and nobody wakes it.
 pub const WAIT: u64 = 1000;
 
+/// How long a worker gathers lines of exchanges before it wakes the logger, in milliseconds.
+pub const LINES_WITHIN: u64 = 10;
+
 /// How many datagrams a worker takes of one socket in a round.
 pub const IN_A_ROUND: u32 = 32;
 
@@ -86,6 +89,7 @@ fn wait<R: Clock, G, N: Opened>(rt: &R, worker: &mut Worker<'_, '_, G, N>) {
     let now = worker.context.now;
     let wait = wait_before(receivers, worker.ready.as_slice(), now);
     let wait = wait.min(worker.context.notices.time_left(now));
+    let wait = wait.min(worker.context.exchanges.time_left(now, LINES_WITHIN));
     let timeout = Some(Duration::from_millis(wait));
     if worker.poll.poll(&mut worker.events, timeout).is_ok() {
         mark_ready(
@@ -173,7 +177,7 @@ fn round<R: Wait + Clock, G: Gate, N: Opened>(
     worker.context.look_at_clock(rt);
     let ending = receive_all(rt, alloc, worker);
     keep_ready(worker.receivers.as_slice(), &mut worker.ready);
-    worker.context.wake_logger();
+    worker.context.wake_logger(LINES_WITHIN);
     ending
 }
 
