@@ -351,6 +351,30 @@ fn change<G>(
     }
 }
 
+/// Has the server go on with the configuration that is to follow, until the hub that is opened for it is closed.
+fn serve_next<
+    R: Threads + Wait + Clock + Net + RandomSource + Log + Sync,
+    G: Gate + Sync,
+    S: Source,
+>(
+    rt: &R,
+    alloc: Global,
+    parts: &ServerParts<'_, G>,
+    configured: &mut Configured,
+    mut shards: Vec<Paused<Global>>,
+    next: Next,
+    outboxes: Vec<Outbox<Global>>,
+    source: &mut S,
+) -> Result<Left, ServeFault>
+    requires { ArePaused (shown configured.old.config) shards.items }
+    ensures ok { IfOk result (λ left. ArePaused (shown configured.new.config) left.shards.items) }
+    ensures err { IfErr result IsAfterBinding }
+{
+    let means = change(alloc, parts, configured, &mut shards, next, outboxes);
+    let blanks = Blanks::new(alloc, configured.config.shards)?;
+    serve_over::<Brand, R, G, S>(rt, alloc, parts, configured, shards, blanks, means, source)
+}
+
 /// Serves a configuration, and each one that follows, until the server ends: how many steps were recorded.
 fn serve_all<
     R: Threads + Wait + Clock + Net + RandomSource + Log + Sync,
@@ -376,25 +400,14 @@ fn serve_all<
         let Left {
             next,
             outboxes,
-            shards: mut standing,
+            shards,
             steps: more,
         } = left;
         steps = steps.saturating_add(more);
         let Some(next) = next else {
             return Ok(steps);
         };
-        let means = change(alloc, parts, configured, &mut standing, next, outboxes);
-        let blanks = Blanks::new(alloc, configured.config.shards)?;
-        left = serve_over::<Brand, R, G, S>(
-            rt,
-            alloc,
-            parts,
-            configured,
-            standing,
-            blanks,
-            means,
-            source,
-        )?;
+        left = serve_next(rt, alloc, parts, configured, shards, next, outboxes, source)?;
     }
     unreachable!()
 }
@@ -448,16 +461,22 @@ fn serve_with<
         },
         start: parts.start,
     };
-    thread::scope(thread::scope_env(), rt, |scope| {
-        let served = if start_behind(scope, rt, alloc, behind) {
-            serve_to_end(rt, alloc, parts, configured, means, source)
-        } else {
-            Err(ServeFault::Thread)
-        };
-        parts.office.close();
-        parts.old_history.wake();
-        served
-    })
+    thread::scope(
+        thread::scope_env(),
+        rt,
+        |scope| -> Result<(), ServeFault>
+            ensures { IfErr result IsAfterBinding }
+        {
+            let served = if start_behind(scope, rt, alloc, behind) {
+                serve_to_end(rt, alloc, parts, configured, means, source)
+            } else {
+                Err(ServeFault::Thread)
+            };
+            parts.office.close();
+            parts.old_history.wake();
+            served
+        },
+    )
 }
 
 /// Serves a configuration, and each one that follows by `source`, for so many milliseconds, or without end. What its threads

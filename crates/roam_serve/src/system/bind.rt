@@ -4,7 +4,7 @@ ghost use Rattle.std.specs.Prelude.{◌≡◌, Contains, IfErr, pos};
 ghost use Rattle.roam_conf.specs.Shown.{shown};
 ghost use Rattle.roam_port.specs.Sockets.{socket_endpoints};
 ghost use Rattle.libc.specs.Net.{SockOption};
-ghost use Rattle.roam_serve.specs.Faults.{IsAfterBinding, IsFaultOf};
+ghost use Rattle.roam_serve.specs.Faults.{IsFaultOf};
 ghost use Rattle.roam_serve.specs.Descriptors as spec;
 
 use crate::fault::{ServeFault, reason_of};
@@ -185,7 +185,7 @@ impl Sockets {
 
 /// The fault of a socket of which the system gives no second descriptor.
 fn fault_of_copy(config: &Config, error: &io::Error) -> ServeFault
-    ensures { IsAfterBinding result }
+    ensures { IsFaultOf (shown config.now) result }
 {
     let reason = reason_of(error);
     if reason.is_want_of_descriptors() {
