@@ -74,10 +74,7 @@ fn begin_at<A: Allocator + Copy>(numbers: &[Option<Numbers<A>>], realm: u16) -> 
 }
 
 /// The numbers of a realm that goes on, with further lanes. Takes no memory.
-fn carried<A: Allocator + Copy>(
-    settings: &Settings<'_>,
-    mut numbers: Numbers<A>,
-) -> Numbers<A>
+fn carried<A: Allocator + Copy>(settings: &Settings<'_>, mut numbers: Numbers<A>) -> Numbers<A>
     requires { CanGoOver settings.now numbers }
     ensures { CarriesOn settings.now numbers result }
 {
@@ -144,6 +141,34 @@ fn go_over<A: Allocator + Copy>(
     if let Some(numbers) = before[realm].take() {
         after[realm] = Some(carried(&settings, numbers));
     }
+}
+
+/// The numbers of all realms that go on are put in their places among the new ones. Takes no memory.
+fn all_over<A: Allocator + Copy>(
+    old: &Config,
+    new: &Config,
+    are_peers_kept: bool,
+    shard: u16,
+    before: &mut Vec<Option<Numbers<A>>, A>,
+    mut after: Vec<Option<Numbers<A>>, A>,
+) -> Vec<Option<Numbers<A>>, A>
+    requires peers { ArePeersKept (shown old.now) (shown new.now) are_peers_kept }
+    requires count { length after.items ≡ vec_len new.now.realms }
+    requires within { (r : ℕ) → GoesOn (shown old.now) (shown new.now) shard r
+        → r < length before.old.items }
+    requires can { (r : ℕ) → r < vec_len new.now.realms
+        → GoesOn (shown old.now) (shown new.now) shard r → (n : Numbers A)
+        → slice_get before.old.items r ≡ Some (Some n)
+        → CanGoOver (realm_config (shown new.now) r) n }
+    ensures moved { (r : ℕ) → r < vec_len new.now.realms
+        → IsMoved (shown old.now) (shown new.now) shard r before.old.items after.items
+        result.items }
+    ensures count { length result.items ≡ length after.items }
+{
+    for realm in 0..new.realms.len() {
+        go_over(old, new, are_peers_kept, shard, realm, before, &mut after);
+    }
+    after
 }
 
 impl<A: Allocator + Copy> Paused<A> {
@@ -221,13 +246,16 @@ impl<A: Allocator + Copy> Paused<A> {
             (states_under (shown old.now) self.old) (states_under (shown new.now) self.new) }
         ensures shard { self.new.shard ≡ self.old.shard }
     {
-        let FreshNumbers { mut numbers } = fresh;
+        let FreshNumbers { numbers } = fresh;
         let are_peers_kept = are_peers_kept(old, new);
         clear_others(&mut self.entries, old, new, are_peers_kept, self.shard);
-        let before = &mut self.numbers;
-        for realm in 0..numbers.len() {
-            go_over(old, new, are_peers_kept, self.shard, realm, before, &mut numbers);
-        }
-        self.numbers = numbers;
+        self.numbers = all_over(
+            old,
+            new,
+            are_peers_kept,
+            self.shard,
+            &mut self.numbers,
+            numbers,
+        );
     }
 }

@@ -14,7 +14,10 @@ use roam_pending::{Due, Entry, Key};
 use std::alloc::Allocator;
 
 /// The numbers of a realm, where it is one of the shard's own.
-pub(crate) fn numbers_at<A: Allocator>(numbers: &[Option<Numbers<A>>], realm: u16) -> Option<&Numbers<A>>
+pub(crate) fn numbers_at<A: Allocator>(
+    numbers: &[Option<Numbers<A>>],
+    realm: u16,
+) -> Option<&Numbers<A>>
     ensures some { IfSome result (λ n. slice_get numbers.now realm ≡ Some (Some n.now)) }
     ensures none { IfNone result (NoneThere numbers.now realm) }
 {

@@ -1,4 +1,4 @@
-use Rattle.std.proofs.Common.{◌≡◌, ◌≤◌, length}
+use Rattle.std.proofs.Common.{◌≡◌, length}
 use Rattle.roam_conf.specs.Shown.{shown}
 use Rattle.roam_tables.specs.Stands.{entries_in}
 use Rattle.roam_shard.proofs.FollowLemmas.{Cleared}

@@ -35,8 +35,9 @@ invariant_of-self g c =
     let es = i.front.entries in
     let after : FrontView = record { shard = i.front.shard; entries = es ++ None ∷ [] } in
     let gone : c.let_go-steps.new.self ≡ without_steps i.traced = c.let_go-steps.ensures.gone in
-    let ends : Ends (without_steps i.traced) (gone_of es ++ i.traced.steps) =
-    subst (λ (v : TraceView). Ends v (gone_of es ++ i.traced.steps)) gone (c.let_go-steps.ensures.history (gone_of es) c.self.invariant.0.ends) in
+    let first = o.states i.front.shard in
+    let ends : Ends (without_steps i.traced) first (gone_of es ++ i.traced.steps) =
+    subst (λ (v : TraceView). Ends v first (gone_of es ++ i.traced.steps)) gone (c.let_go-steps.ensures.history first (gone_of es) c.self.invariant.0.ends) in
     let one : IsKept o (record { trace = without_steps i.traced; front = after }) = kept_gone o k c.self.invariant.0 ends in
     let two : IsKept o (record { trace = c.let_go-steps.new.self; front = after }) =
     subst (λ (v : TraceView). IsKept o (record { trace = v; front = after })) (sym gone) one in (

@@ -7,8 +7,6 @@ use Rattle.roam_core.specs.Events.{arrives, is_in_shard, ticks}
 use Rattle.roam_trace.specs.History.{TraceView, with_step}
 use Rattle.roam_trace.specs.Steps.{PlainStep, octets_in, shown_answer}
 use Rattle.roam_history.specs.Entries.{Entry, last_of, steps_in, stored_of}
-use Rattle.roam_history.specs.HubOpening.{HubOpening, opening_at}
-use Rattle.roam_shard.specs.ShardView.{OpeningView}
 use Rattle.roam_history.proofs.EntryLemmas.{last-push, one-step}
 use Rattle.roam_history.specs.Fronts.{FrontView}
 use Rattle.roam_audit.specs.Seats.{SeatView, after_call, front_of, having_seen}
@@ -26,7 +24,7 @@ all g c =
     let s : PlainStep = record { event = ticks c.args.now c.args.shard; answer = shown_answer c.recorded.result.answer } in
     let told = ap (λ a. shown_answer a) (sym c.recorded.ensures.answer) in
     let here : i.front.shard ≡ c.args.shard = ap (λ (v : KeptView). v.front.shard) c.self.view_is ∙ c.in_ok-check.ensures.shard in
-    let opened : i.traced.opening.shard ≡ c.args.shard = ap (λ (p : OpeningView). p.shard) c.self.invariant.0.opening ∙ here in
+    let opened : i.traced.opening.shard ≡ c.args.shard = c.self.invariant.0.shard ∙ here in
     let trace : c.tick.new.self ≡ with_step i.traced s = c.in-Ok.ensures.ok ∙ (λ j. with_step i.traced (record { event = ticks c.args.now (opened j); answer = told j })) in
     let begins : IsPrefix (front_of c.args.seat.now c.args.shard) i.front.entries =
     subst (λ (v : KeptView). IsPrefix (front_of c.args.seat.now c.args.shard) v.front.entries) (sym c.self.view_is) c.in_ok-check.ensures.begins in

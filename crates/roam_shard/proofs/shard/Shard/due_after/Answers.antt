@@ -1,4 +1,4 @@
-use Rattle.std.proofs.Common.{◌≡◌, ◌∙◌, List, ap}
+use Rattle.std.proofs.Common.{◌∙◌, List, ap}
 use Rattle.roam_pending.specs.DueOrder.{due_after}
 use Rattle.roam_pending.specs.PlainEntry.{PlainEntry}
 use Rattle.roam_shard.specs.ShardView.{shown_opening}

@@ -1,5 +1,5 @@
 -- Each realm has its part in its turn.
-use Rattle.std.proofs.Common.{◌≡◌, ◌<◌, ◌∙◌, [], ap, arith, length, refl, subst, sym}
+use Rattle.std.proofs.Common.{◌≡◌, ◌<◌, ◌∙◌, [], ap, arith, length, refl, subst}
 use Rattle.std.proofs.Math.ListN.{length-set}
 use Rattle.roam_book.specs.Turn.{sends}
 use Rattle.roam_core.specs.ManyRealms.{state_at, tick_of}

@@ -1,16 +1,12 @@
 -- One realm's part of a tick that lets done entries go.
-use Rattle.std.proofs.Common.{◌≡◌, ◌<◌, ◌∙◌, List, [], None, Some, true, false, is_some, length, ap, sym, subst, arith, refl}
-use Rattle.std.specs.Prelude.{if◌then◌else◌}
+use Rattle.std.proofs.Common.{◌≡◌, ◌<◌, ◌∙◌, List, Some, true, length, ap, sym, subst, arith, refl}
 use Rattle.std.proofs.lemmas.List.{length-map, set-get_or}
 use Rattle.roam_conf.specs.Parts.{shown_realm}
 use Rattle.roam_pending.specs.PlainEntry.{PlainEntry}
 use Rattle.roam_tables.proofs.RealmLemmas.{get-read}
-use Rattle.roam_book.specs.OnTick.{on_tick}
-use Rattle.roam_book.specs.RealmConfig.{realm_config}
 use Rattle.roam_book.specs.Rooms.{only_done_due}
-use Rattle.roam_book.specs.Turn.{Turn, sends}
 use Rattle.roam_core.specs.Events.{is_in_shard}
-use Rattle.roam_core.specs.ManyRealms.{no_state, state_at}
+use Rattle.roam_core.specs.ManyRealms.{no_state}
 use Rattle.roam_shard.specs.ShardView.{ShardView, shown_opening}
 use Rattle.roam_shard.proofs.LettingGoLemmas.{other_ticks, own_ticks}
 use Rattle.roam_shard.proofs.ShardLemmas.{goes_seen, numbers_there, realm_entries, realm_kept, realm_list, realm_sound, shard_count, shard_written}

@@ -1,0 +1,6 @@
+use Rattle.roam_conf.specs.Shown.{shown}
+use Rattle.roam_shard.proofs.FollowLemmas.{AreMoved}
+use Rattle.roam_shard.proofs.following.all_over.Given as goal
+
+abbrev pub invariant-loop-realm : goal.invariant-loop-realm
+invariant-loop-realm g l = AreMoved (shown l.old) (shown l.new) l.shard l.fn.before.items l.fn.after.items l.before.items l.after.items l.realm
