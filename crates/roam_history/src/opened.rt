@@ -2,8 +2,8 @@
 
 use std::marker::Brand;
 
-/// How a hub opened: its configuration, the states in which each shard's history begins, and which histories its shards have. It
-/// exists in proofs alone, and so costs nothing: each call of a program that opens a hub picks it, by
+/// How a hub opened: its configuration, the states in which each shard's history begins, and which histories its
+/// shards have. It exists in proofs alone, and so costs nothing: each call of a program that opens a hub picks it, by
 /// passing [`Brand`].
 pub trait Opened {
     ghost use Rattle.std.specs.Prelude.{ℕ};

@@ -1,6 +1,7 @@
 -- Shards that are taken from their configuration, and follow another one.
 use Rattle.std.proofs.Common.{◌≡◌, ◌≢◌, ◌⊎◌, ℕ, zero, suc, ◌+◌, ◌<◌, ◌≤◌, List, [], ◌∷◌, ◌++◌, length, set, Some, None, refl, ap, sym, subst, inl, inr, ◌∙◌, arith}
 use Rattle.std.specs.Prelude.{slice_get, slice_index_or}
+use Rattle.std.specs.declared.vec.Vec.{Vec}
 use Rattle.std.proofs.Math.ListN.{length-set}
 use Rattle.std.proofs.lemmas.Bool.{cases_eq}
 use Rattle.std.proofs.lemmas.List.{length-append}
@@ -16,10 +17,13 @@ use Rattle.roam_shard.specs.declared.following.FreshNumbers.{FreshNumbers}
 use Rattle.roam_trace.specs.Steps.{PlainStep}
 use Rattle.roam_history.specs.HubOpening.{HubOpening}
 use Rattle.roam_audit.specs.Audit.{steps_of}
-use Rattle.roam_hub.specs.Closing.{AreClosed}
+use Rattle.roam_hub.specs.Closing.{AreClosed, HasRoom}
 use Rattle.roam_hub.specs.Following.{AreReady, HaveFollowed, StandAsBefore}
 use Rattle.roam_hub.specs.Pausing.{ArePaused, ArePausedShards, IsPaused, IsPausedShard, StandAtEnd}
 use Rattle.roam_hub.proofs.HubLemmas.{get-push, steps-there}
+
+pub has_room : {X A : Type 0} (n m : ℕ) (v : Vec X A) → m ≡ n → HasRoom n v → HasRoom m v
+has_room n m v same has = record { empty = has.empty; room = (let room = has.room in omega (arith, same, room)) }
 
 module _ {A : Type 0} where
   -- the first shards were taken from their configuration, and these are left

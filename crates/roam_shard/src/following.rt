@@ -90,7 +90,7 @@ fn clear_others<A: Allocator + Copy>(
     are_peers_kept: bool,
     shard: u16,
 )
-    requires { ArePeersKept (shown old.now) (shown new.now) are_peers_kept }
+    requires peers { ArePeersKept (shown old.now) (shown new.now) are_peers_kept }
     ensures stay { (r : ℕ) → GoesOn (shown old.now) (shown new.now) shard r
         → entries_in entries.new r ≡ entries_in entries.old r }
     ensures gone { (r : ℕ) → r < vec_len new.now.realms
@@ -249,13 +249,7 @@ impl<A: Allocator + Copy> Paused<A> {
         let FreshNumbers { numbers } = fresh;
         let are_peers_kept = are_peers_kept(old, new);
         clear_others(&mut self.entries, old, new, are_peers_kept, self.shard);
-        self.numbers = all_over(
-            old,
-            new,
-            are_peers_kept,
-            self.shard,
-            &mut self.numbers,
-            numbers,
-        );
+        let before = &mut self.numbers;
+        self.numbers = all_over(old, new, are_peers_kept, self.shard, before, numbers);
     }
 }

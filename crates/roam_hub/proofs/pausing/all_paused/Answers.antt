@@ -38,4 +38,5 @@ loop-shard-preserved g c =
 pub returns : goal.returns
 returns g c =
     let inv = c.loop-shard.invariant in
-    all_paused c.args.shards.items (into_iter_items c.loop-shard.shard-iterator) c.loop-shard.paused.items inv.paused ?
+    all_paused c.args.shards.items (into_iter_items c.loop-shard.shard-iterator) c.loop-shard.paused.items inv.paused
+    (sym inv.left ∙ c.in-None.ensures.steps.0)
