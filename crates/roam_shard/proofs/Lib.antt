@@ -1,4 +1,3 @@
-pub mod CarriedLemmas
 pub mod ShardLemmas
 pub mod DueLemmas
 pub mod LettingGoLemmas
