@@ -49,13 +49,13 @@ spans realm s [] state are stays is =
 spans realm s (t ∷ ts) state are stays is =
     let alone = each_goes_alone s.begins s.steps realm are.0.some_shard stays.0.within are.0.history in
     let run = λ (x : RealmState). one_realm_run (realm_config s.begins.config realm) x (own_events realm s) in
-    let on : FollowsOn s t = are.1.0 in
-    let there : IsThere realm t = stays.1.1.0 in
+    let on : FollowsOn s t = are.1 in
+    let there : IsThere realm t = stays.2.0 in
     let own = subst (λ (n : ℕ). is_in_shard t.begins.config n realm ≡ true) on.shard there.own in
     let over : state_at t.begins.states realm ≡ carried (realm_config t.begins.config realm) (run state).state =
-    (on.states.each realm there.configured own).goes_on stays.1.0
+    (on.states.each realm there.configured own).goes_on stays.1
     ∙ ap (carried (realm_config t.begins.config realm)) (alone.state ∙ ap (λ (x : RealmState). (run x).state) is) in
-    let rest = spans realm t ts (carried (realm_config t.begins.config realm) (run state).state) are.1.1 stays.1.1 over in
+    let rest = spans realm t ts (carried (realm_config t.begins.config realm) (run state).state) are.2 stays.2 over in
     let here = alone.packets ∙ ap (λ (x : RealmState). (run x).packets) is in
     packets_for-append realm (packets_in s.steps) (sent_over (t ∷ ts)) ∙ λ j. here j ++ rest j
 

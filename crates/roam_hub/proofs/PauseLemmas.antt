@@ -36,8 +36,8 @@ module _ {A : Type 0} where
   pub none_paused : (shards : List ShardView) → ArePausedSoFar shards shards []
   none_paused shards = record {
     each = λ k s p at also. absurd (let bad : None ≡ Some p = also in cc);
-    behind = λ k. refl;
-    count = refl;
+    behind = λ k. (let e : k ≡ 0 + k = omega arith in ap (slice_get shards) e);
+    count = omega arith;
   }
 
   pub one_more_paused : (shards left : List ShardView) (paused : List (Paused A)) (s : ShardView) (ss : List ShardView) (p : Paused A)
@@ -189,17 +189,17 @@ module _ {A : Type 0} where
     rest = λ r le. get-set_other shards k r q (λ is. absurd (omega (arith, is, le))) ∙ are.rest r (omega (arith, le));
     done = λ r x y below first there. elim (cases_eq r k)
         as (λ _. IsPaused new r y × AllFollow old new r (states_under old x) (states_under new y)) [
-      | inl is ↦ (
-          let within : k < length shards = (let number = are.number in omega (arith, lt, number)) in
-          let here : Some q ≡ Some y = sym (get-set_same shards k q within) ∙ ap (slice_get (set shards k q)) (sym is) ∙ there in
-          let same : q ≡ y = cc in
-          let stood : Some p ≡ Some x = sym at ∙ are.rest k (omega arith) ∙ ap (slice_get before) (sym is) ∙ first in
-          let was : p ≡ x = cc in
-          subst (λ (n : ℕ). IsPaused new n y × AllFollow old new n (states_under old x) (states_under new y)) (sym is)
-          (subst (λ (z : Paused A). IsPaused new k z × AllFollow old new k (states_under old x) (states_under new z)) same
-          (one, subst (λ (z : Paused A). AllFollow old new k (states_under old z) (states_under new q)) was follow)))
-      | inr ne ↦ are.done r x y (omega (arith, ne, below)) first (sym (get-set_other shards k r q ne) ∙ there)
-    ];
+          | inl is ↦ (
+              let within : k < length shards = (let number = are.number in omega (arith, lt, number)) in
+              let here : Some q ≡ Some y = sym (get-set_same shards k q within) ∙ ap (slice_get (set shards k q)) (sym is) ∙ there in
+              let same : q ≡ y = cc in
+              let stood : Some p ≡ Some x = sym at ∙ are.rest k (omega arith) ∙ ap (slice_get before) (sym is) ∙ first in
+              let was : p ≡ x = cc in
+              subst (λ (n : ℕ). IsPaused new n y × AllFollow old new n (states_under old x) (states_under new y)) (sym is)
+              (subst (λ (z : Paused A). IsPaused new k z × AllFollow old new k (states_under old x) (states_under new z)) same
+              (one, subst (λ (z : Paused A). AllFollow old new k (states_under old z) (states_under new q)) was follow)))
+          | inr ne ↦ are.done r x y (omega (arith, ne, below)) first (sym (get-set_other shards k r q ne) ∙ there)
+        ];
   }
 
   pub all_followed : (old new : ConfigView) (before shards : List (Paused A)) (count : ℕ) → HaveFollowedSoFar old new before shards count
@@ -215,4 +215,16 @@ module _ {A : Type 0} where
     follow = λ k p q at also. (
         let lt = slice_get_within shards k q also in let number = are.number in
         (are.done k p q (omega (arith, lt, number, all)) at also).1);
+  }
+
+  -- and so they do from where they stood before memory was taken
+  pub followed_from : (old new : ConfigView) (first before shards : List (Paused A)) → ArePaused old first → StandAsBefore old first before
+      → HaveFollowed old new before shards → HaveFollowed old new first shards
+  followed_from old new first before shards paused still followed = record {
+    paused = followed.paused;
+    follow = λ k p q at also. (
+        let lt = slice_get_within first k p at in
+        let m = slice_index_or before k p in
+        let there : slice_get before k ≡ Some m = slice_get-get_or before k p (omega (arith, lt, paused.count, still.paused.count)) in
+        subst (λ (s : List RealmState). AllFollow old new k s (states_under new q)) (still.states k p m at there) (followed.follow k m q there also));
   }

@@ -31,14 +31,14 @@ push_reserved-requires g c =
     let short = ap length c.in-Some.ensures.steps.0 in
     omega (arith, short, inv.count, inv.shard_count, inv.shard_room)
 
-pub push_reserved-2-requires : goal.push_reserved-2-requires
-push_reserved-2-requires g c =
+pub push_reserved-requires-in-loop-lock : goal.push_reserved-requires-in-loop-lock
+push_reserved-requires-in-loop-lock g c =
     let inv = c.loop-lock.invariant in
     let short = ap length c.in-Some.ensures.steps.0 in
     omega (arith, short, inv.count, inv.step_count, inv.step_room)
 
-pub push_reserved-3-requires : goal.push_reserved-3-requires
-push_reserved-3-requires g c =
+pub push_reserved-requires-in-loop-lock-2 : goal.push_reserved-requires-in-loop-lock-2
+push_reserved-requires-in-loop-lock-2 g c =
     let inv = c.loop-lock.invariant in
     let short = ap length c.in-Some.ensures.steps.0 in
     omega (arith, short, inv.count, inv.few, inv.front_room)
@@ -51,8 +51,8 @@ loop-lock-preserved g c =
     let one = c.in_ok-shard.ensures in
     let front : FrontView = c.in_ok-shard.front in
     let fronts = c.loop-lock.fronts.items in
-    let more = ap (λ l. all_steps l) c.push_reserved-3.ensures.items ∙ map-append all_in fronts (front ∷ []) in
-    let stored = ap (λ l. stored_steps l) c.push_reserved-2.ensures.items ∙ map-append items_of c.loop-lock.steps.items (c.in_ok-shard.its_steps ∷ []) in
+    let more = ap (λ l. all_steps l) c.push_reserved-in-loop-lock-2.ensures.items ∙ map-append all_in fronts (front ∷ []) in
+    let stored = ap (λ l. stored_steps l) c.push_reserved-in-loop-lock.ensures.items ∙ map-append items_of c.loop-lock.steps.items (c.in_ok-shard.its_steps ∷ []) in
     let entries : entries_of (fronts ++ front ∷ []) ≡ entries_of fronts ++ front.entries ∷ [] = map-append (λ (f : FrontView). f.entries) fronts (front ∷ []) in
     let all : map stored_of (entries_of (fronts ++ front ∷ [])) ≡ map stored_of (entries_of fronts) ++ stored_of front.entries ∷ [] =
     ap (λ (l : List (List Entry)). map stored_of l) entries ∙ map-append stored_of (entries_of fronts) (front.entries ∷ []) in
@@ -62,14 +62,14 @@ loop-lock-preserved g c =
       stored =
           stored
           ∙ ((λ j. inv.stored j ++ one.steps j ∷ [])
-          ∙ (sym all ∙ ap (λ (l : List FrontView). map stored_of (entries_of l)) (sym c.push_reserved-3.ensures.items)));
-      of_shards = rw c.push_reserved-3.ensures.items (push_shards fronts front inv.of_shards (let n = c.loop-lock.fronts.ok.0 in omega (arith, n, one.shard, inv.few)));
-      few = (let len = c.push_reserved-3.ensures.len in omega (arith, len, inv.few));
+          ∙ (sym all ∙ ap (λ (l : List FrontView). map stored_of (entries_of l)) (sym c.push_reserved-in-loop-lock-2.ensures.items)));
+      of_shards = rw c.push_reserved-in-loop-lock-2.ensures.items (push_shards fronts front inv.of_shards (let n = c.loop-lock.fronts.ok.0 in omega (arith, n, one.shard, inv.few)));
+      few = (let len = c.push_reserved-in-loop-lock-2.ensures.len in omega (arith, len, inv.few));
       shard_count = (let len = c.push_reserved.ensures.len in omega (arith, len, inv.shard_count));
-      step_count = (let len = c.push_reserved-2.ensures.len in omega (arith, len, inv.step_count));
+      step_count = (let len = c.push_reserved-in-loop-lock.ensures.len in omega (arith, len, inv.step_count));
       shard_room = (let same = c.push_reserved.ensures.capacity in omega (arith, same, inv.shard_room));
-      step_room = (let same = c.push_reserved-2.ensures.capacity in omega (arith, same, inv.step_room));
-      front_room = (let same = c.push_reserved-3.ensures.capacity in omega (arith, same, inv.front_room));
+      step_room = (let same = c.push_reserved-in-loop-lock.ensures.capacity in omega (arith, same, inv.step_room));
+      front_room = (let same = c.push_reserved-in-loop-lock-2.ensures.capacity in omega (arith, same, inv.front_room));
       left = omega (arith, short, steps.1, inv.left);
       count = omega (arith, short, inv.count);
     }

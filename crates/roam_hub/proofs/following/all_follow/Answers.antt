@@ -14,9 +14,9 @@ loop-numbers-init g c =
     let iter = c.into_iter-numbers-iterator.ensures.into_iter_gives in
     record {
       followed = none_followed (shown c.args.old.now) (shown c.args.new.now) c.args.shards.now.items;
-      behind = λ k. ap (λ (l : List _). slice_get l k) iter.0;
+      behind = λ k. (let e : k ≡ 0 + k = omega arith in ap (λ (l : List _). slice_get l k) iter.0 ∙ ap (slice_get c.args.fresh.items) e);
       left = iter.1 ∙ c.args.fresh.ok.0 ∙ ap length (sym iter.0);
-      count = ap length iter.0;
+      count = (let n = ap length iter.0 in omega (arith, n));
     }
 
 pub index_mut-requires : goal.index_mut-requires

@@ -17,14 +17,14 @@ taken_apart-requires-clause-steps g c = has_room g.N.Opened.opening.config.shard
 pub taken_apart-requires-clause-fronts : goal.taken_apart-requires-clause-fronts
 taken_apart-requires-clause-fronts g c = has_room g.N.Opened.opening.config.shards _ _ c.args.self.count c.args.room.front_room
 
-pub starts_of-requires-clause-room : goal.starts_of-requires-clause-room
-starts_of-requires-clause-room g c =
+pub starts_of-starts-requires-clause-room : goal.starts_of-starts-requires-clause-room
+starts_of-starts-requires-clause-room g c =
     let realms = c.args.self.config.now.realms in
     let same = ap (λ (x : ConfigView). length x.realms) c.args.self.config_is in
     has_room (length g.N.Opened.opening.config.realms) _ _ (omega (arith, same, length-map realms.items shown_realm, realms.ok.0)) c.args.room.start_room
 
-pub all_paused-requires : goal.all_paused-requires
-all_paused-requires g c =
+pub all_paused-shards-requires : goal.all_paused-shards-requires
+all_paused-shards-requires g c =
     let closed = c.in_ok-closed.ensures.closed in
     has_room g.N.Opened.opening.config.shards _ _ (c.in_ok-closed.closed.shards.ok.0 ∙ closed.shard_count ∙ c.args.self.count) c.args.room.paused_room
 
@@ -44,3 +44,14 @@ returns-clause-stand g c =
     let closed = c.in_ok-closed.closed in
     stand_at_end g.N.Opened.opening _ closed.shards.items (all_steps closed.fronts.items) c.all_paused-shards.result.items c.in_ok-closed.ensures.closed
     c.all_paused-shards.ensures
+
+pub invariant_of-report : goal.invariant_of-report
+invariant_of-report g c =
+    let few = c.in_ok-closed.ensures.few in
+    let hub = c.args.self in
+    let shards = ap (λ (x : ConfigView). x.shards) hub.config_is in
+    record {
+      few_shards = omega (arith, few, hub.count, shards, hub.config.now.shards_range.1);
+      all_shards = few ∙ hub.count;
+      of_shards = c.in_ok-closed.ensures.of_shards;
+    }
