@@ -25,17 +25,25 @@ pub struct Reread<'a, R> {
     pub settings: &'a Settings,
 }
 
+/// Prints a line where it is wanted.
+fn print_if<W: Write>(writer: &mut W, is_wanted: bool, line: &[u8]) -> io::Result<()>
+    ensures { OnOk result (IsPrinted (W.contents writer.old) (W.contents writer.new)) }
+{
+    if is_wanted {
+        writer.write_all(line)
+    } else {
+        Ok(())
+    }
+}
+
 /// Prints which keys of the whole server have another value in the file, and stay as they are until a restart.
 fn print_kept<W: Write>(writer: &mut W, old: &Settings, new: &Settings) -> io::Result<()>
     ensures { OnOk result (IsPrinted (W.contents writer.old) (W.contents writer.new)) }
 {
-    if new.metrics != old.metrics {
-        writer.write_all(b"metrics: as before until a restart\n")?;
-    }
-    if new.control != old.control {
-        writer.write_all(b"control: as before until a restart\n")?;
-    }
-    Ok(())
+    let has_other_metrics = new.metrics != old.metrics;
+    let has_other_control = new.control != old.control;
+    print_if(writer, has_other_metrics, b"metrics: as before until a restart\n")?;
+    print_if(writer, has_other_control, b"control: as before until a restart\n")
 }
 
 /// Prints what becomes of each realm, and which keys wait for a restart.
