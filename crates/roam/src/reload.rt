@@ -42,8 +42,16 @@ fn print_kept<W: Write>(writer: &mut W, old: &Settings, new: &Settings) -> io::R
 {
     let has_other_metrics = new.metrics != old.metrics;
     let has_other_control = new.control != old.control;
-    print_if(writer, has_other_metrics, b"metrics: as before until a restart\n")?;
-    print_if(writer, has_other_control, b"control: as before until a restart\n")
+    print_if(
+        writer,
+        has_other_metrics,
+        b"metrics: as before until a restart\n",
+    )?;
+    print_if(
+        writer,
+        has_other_control,
+        b"control: as before until a restart\n",
+    )
 }
 
 /// Prints what becomes of each realm, and which keys wait for a restart.
@@ -68,11 +76,7 @@ fn text_of(alloc: Global, fault: Fault<'_>, lines: &Lines) -> Vec<u8> {
 }
 
 /// The configuration of a text, with the seed of the one that is served, and its settings.
-fn read(
-    alloc: Global,
-    file: &TextFile<'_>,
-    old: &Config,
-) -> Result<(Config, Settings), Vec<u8>> {
+fn read(alloc: Global, file: &TextFile<'_>, old: &Config) -> Result<(Config, Settings), Vec<u8>> {
     let text = file.text.as_str();
     match (read_config(alloc, text), read_settings(alloc, text)) {
         (Ok(config), Ok(settings)) => {

@@ -156,7 +156,13 @@ pub fn serve_file<
 {
     let text = configuration.text.as_str();
     match read_config(rt.alloc(), text) {
-        Ok(config) => match serve_stated(rt, configuration, config, has_seed_of_file, milliseconds) {
+        Ok(config) => match serve_stated(
+            rt,
+            configuration,
+            config,
+            has_seed_of_file,
+            milliseconds,
+        ) {
             Ok(()) => Ok(()),
             Err(fault) => Err(Fault::of_server(fault)),
         },

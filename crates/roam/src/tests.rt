@@ -316,7 +316,9 @@ fn two_configurations_are_compared(rt: HostRuntime) -> Result<(), Fail> {
     let more = format!(in rt.alloc(); "{LARGER}{FOURTH}")?;
     let added = format!(in rt.alloc(); "may follow\n{all}realm d.example: added\n")?;
     expect_comparison(&rt, process, LARGER, more.as_str(), added.as_str())?;
-    let removed = format!(in rt.alloc(); "may not follow: fewer realms\n{all}realm d.example: removed\n")?;
+    let removed = format!(in rt.alloc();
+        "may not follow: fewer realms\n{all}realm d.example: removed\n"
+    )?;
     expect_comparison(&rt, process, more.as_str(), LARGER, removed.as_str())?;
     Ok(())
 }

@@ -16,7 +16,7 @@ use crate::run::behind::{Behind, start_behind};
 use crate::run::changing::{follow_all, go_on_counting};
 use crate::run::configured::{Configured, Handover};
 use crate::run::counters::{Counters, Watch};
-use crate::run::desk::{Office, done};
+use crate::run::desk::{Office, Reply, done};
 use crate::run::ending::{Ended, WorkerEnd, has_given_up_after};
 use crate::run::kits::{Kits, make_kits, make_outboxes};
 use crate::run::losses::{CAUSES, SharedLosses};
@@ -177,8 +177,7 @@ fn run<
         end: parts.end,
     };
     let prepared = prepare_threads(alloc, sockets, &shared, seat, workers, timer, outboxes)?;
-    let Turn { ends, next } =
-        run_threads(rt, alloc, sockets, &shared, prepared, handover, source)?;
+    let Turn { ends, next } = run_threads(rt, alloc, sockets, &shared, prepared, handover, source)?;
     Ok((gather(ends, seats, outbox_room)?, next))
 }
 
@@ -311,6 +310,18 @@ fn serve_over<
     run_hub(rt, alloc, parts, configured, hub, seat, means, source)
 }
 
+/// What the threads are made of after a change, with what is answered, and the configuration that isn't served.
+fn means_for(kits: Kits, outboxes: Vec<Outbox<Global>>, reply: Reply, before: Configured) -> Means {
+    Means {
+        kits,
+        outboxes,
+        handover: Handover {
+            reply: Some(reply),
+            before: Some(before),
+        },
+    }
+}
+
 /// Has the server go on with the configuration that is to follow, or where memory is wanting with the one of before. Answers
 /// what its threads are made of.
 fn change<G>(
@@ -331,23 +342,13 @@ fn change<G>(
         spare,
     } = next;
     drop(spare);
-    let handover = match follow_all(alloc, shards, &configured.config, &after.config) {
+    match follow_all(alloc, shards, &configured.config, &after.config) {
         Ok(()) => {
             go_on_counting(configured, &after, parts.counters());
-            Handover {
-                reply: Some(done(report)),
-                before: Some(std::mem::replace(configured, after)),
-            }
+            let before = std::mem::replace(configured, after);
+            means_for(kits, outboxes, done(report), before)
         }
-        Err(_) => Handover {
-            reply: Some(out_of_memory(alloc)),
-            before: Some(after),
-        },
-    };
-    Means {
-        kits,
-        outboxes,
-        handover,
+        Err(_) => means_for(kits, outboxes, out_of_memory(alloc), after),
     }
 }
 
@@ -393,8 +394,9 @@ fn serve_all<
     let starts = first_starts(alloc, &configured.config)?;
     let blanks = Blanks::new(alloc, configured.config.shards)?;
     let starts = starts.as_slice();
-    let mut left =
-        serve_first::<Brand, R, G, S>(rt, alloc, parts, configured, starts, blanks, means, source)?;
+    let mut left = serve_first::<Brand, R, G, S>(
+        rt, alloc, parts, configured, starts, blanks, means, source,
+    )?;
     let mut steps = 0u64;
     for _ in rt.forever() {
         let Left {
@@ -536,5 +538,13 @@ pub fn serve<
         are_exchanges_told,
         counters: None,
     };
-    serve_with(rt, alloc, &parts, listener.as_ref(), configured, means, source)
+    serve_with(
+        rt,
+        alloc,
+        &parts,
+        listener.as_ref(),
+        configured,
+        means,
+        source,
+    )
 }

@@ -47,7 +47,16 @@ fn second<R: Files + RandomSource + Threads + Wait + Clock + Net + Log + Sync>(
     };
     let time = Some(row.milliseconds());
     let none = &mut NoSource { alloc };
-    serve(stage, alloc, config, None, true, time, &stage.turnstile, none)
+    serve(
+        stage,
+        alloc,
+        config,
+        None,
+        true,
+        time,
+        &stage.turnstile,
+        none,
+    )
 }
 
 fn main(rt: HostRuntime) -> io::Result<()> {

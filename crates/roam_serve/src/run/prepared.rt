@@ -308,7 +308,16 @@ pub fn prepare_threads<'s, 'c, G, N: Opened>(
         };
         rest = first;
         let number = made.len();
-        let worker = worker_of_kit(alloc, sockets, shared, number, seat, outbox, kit, &mut queues)?;
+        let worker = worker_of_kit(
+            alloc,
+            sockets,
+            shared,
+            number,
+            seat,
+            outbox,
+            kit,
+            &mut queues,
+        )?;
         made.push(worker)?;
     }
     let (Ok((rest, seat)), Some(outbox)) = (split(rest), outboxes.next()) else {

@@ -14,7 +14,7 @@ use crate::run::source::Source;
 use crate::system::bind::BoundSocket;
 use crate::threads::logger::{Lines, log_notices, tell_or_drop};
 use crate::threads::notice::{Notice, serving};
-use crate::threads::timer::tick_on;
+use crate::threads::timer::{Timer, tick_on};
 use crate::threads::worker::{Worker, receive_on};
 use log::Log;
 use roam_hub::{Gate, Opened};
@@ -79,6 +79,49 @@ fn start_workers<
     have_started
 }
 
+/// What the threads take with them.
+#[derive(Drop)]
+struct Starting<'w, 'c, 'l, G, N: Opened> {
+    workers: Vec<Worker<'w, 'c, G, N>>,
+    timer: Timer<'w, 'c, G, N>,
+    queues: Vec<Consumer<Notice>>,
+    lines: Lines<'l>,
+    line: Vec<u8>,
+}
+
+/// Starts the logger, the workers and the timer. Answers whether all have started.
+fn start_all<
+    's,
+    'w: 's,
+    'c: 's,
+    'l: 's,
+    E,
+    R: Wait + Clock + Log + Sync,
+    G: Gate + Sync,
+    N: Opened + Send + Sync,
+>(
+    scope: &Scope<'s, E>,
+    rt: &'s R,
+    alloc: Global,
+    shared: &'s Shared<'w, 'c, G, N>,
+    starting: Starting<'w, 'c, 'l, G, N>,
+    handles: &mut Vec<JoinHandle<WorkerEnd<N>>>,
+) -> bool {
+    let Starting {
+        workers,
+        timer,
+        queues,
+        lines,
+        line,
+    } = starting;
+    let logs = start_logger(scope, rt, shared, queues, lines, line);
+    let work = start_workers(scope, rt, alloc, workers, handles);
+    match scope.spawn(move || tick_on(rt, timer)) {
+        Ok(handle) => handles.push(handle).is_ok() && work && logs,
+        Err(_) => false,
+    }
+}
+
 /// Tells that a configuration is served, answers who asked for it, and closes what the one of before had.
 fn tell_start<R: Wait + Log, G, N: Opened>(
     rt: &R,
@@ -132,8 +175,14 @@ pub fn run_threads<
         lines,
         seat,
     } = prepared;
-    let line = Vec::with_capacity(alloc, LINE)?;
-    let count = workers.len().saturating_add(1);
+    let starting = Starting {
+        workers,
+        timer,
+        queues,
+        lines,
+        line: Vec::with_capacity(alloc, LINE)?,
+    };
+    let count = starting.workers.len().saturating_add(1);
     let mut handles: Vec<JoinHandle<WorkerEnd<N>>> = Vec::with_capacity(alloc, count)?;
     let mut ends = Vec::with_capacity(alloc, count)?;
     let mut next = None;
@@ -146,12 +195,7 @@ pub fn run_threads<
         now: 0,
     };
     let have_started = thread::scope(thread::scope_env(), rt, |scope| {
-        let mut have_started = start_logger(scope, rt, shared, queues, lines, line);
-        have_started = start_workers(scope, rt, alloc, workers, &mut handles) && have_started;
-        match scope.spawn(move || tick_on(rt, timer)) {
-            Ok(handle) => have_started = handles.push(handle).is_ok() && have_started,
-            Err(_) => have_started = false,
-        }
+        let mut have_started = start_all(scope, rt, alloc, shared, starting, &mut handles);
         if have_started {
             tell_start(rt, shared, handover);
             next = attendant.attend(source);

@@ -11,7 +11,7 @@ returns-in-None-clause-none c =
     let before = c.args.old.now.realms.items in
     let after = c.args.new.now.realms.items in
     let enough : length before ≤ length after =
-        grind (arith, nat_tests, common_steps, c.len.ensures, c.len-2.ensures, c.if-len.false) in
+    grind (arith, nat_tests, common_steps, c.len.ensures, c.len-2.ensures, c.if-len.false) in
     record {
       seed = search rules;
       shards = search rules;
