@@ -136,6 +136,21 @@ fn tell_start<R: Wait + Log, G, N: Opened>(
     }
 }
 
+/// Where all threads have started, tells that the configuration is served, and answers who asks for something until they end
+/// or another one is to follow.
+fn attend<R: Wait + Clock + Net + Log, G, N: Opened, S: Source>(
+    have_started: bool,
+    attendant: Attendant<'_, '_, R, G, N>,
+    handover: Handover,
+    source: &mut S,
+) -> Option<Next> {
+    if !have_started {
+        return None;
+    }
+    tell_start(attendant.rt, attendant.shared, handover);
+    attendant.attend(source)
+}
+
 /// What the threads gave back that served one configuration, and the one that follows it.
 #[derive(Drop)]
 pub struct Turn<N: Opened> {
@@ -196,10 +211,7 @@ pub fn run_threads<
     };
     let have_started = thread::scope(thread::scope_env(), rt, |scope| {
         let mut have_started = start_all(scope, rt, alloc, shared, starting, &mut handles);
-        if have_started {
-            tell_start(rt, shared, handover);
-            next = attendant.attend(source);
-        }
+        next = attend(have_started, attendant, handover, source);
         shared.end_all();
         for handle in handles {
             have_started = ends.push(handle.join(rt)).is_ok() && have_started;
