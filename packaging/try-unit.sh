@@ -6,8 +6,9 @@
 # configuration, whose sockets must be on 127.0.0.1 (examples/two-realms.conf without it).
 #
 # It fails unless the unit starts as a user of its own with no capability, with a copy of the configuration that it alone
-# can read; stays through a SIGHUP; is started again after a crash and after a SIGTERM; is gone after a stop; and says in
-# words that there is no configuration, or one that others can read.
+# can read; stays through a SIGHUP; serves a changed file after a reload, and after one that is refused what it served, with
+# the reason in the journal; is started again after a crash and after a SIGTERM; is gone after a stop; and says in words that
+# there is no configuration, or one that others can read.
 set -euo pipefail
 
 if [ $# -lt 1 ] || [ $# -gt 2 ] || [ ! -x "$1" ]; then
@@ -55,7 +56,7 @@ cat > "$root/usr/local/bin/inside" <<'END'
 exec > /var/told 2>&1
 of() { systemctl show -p "$1" --value roam; }
 status() { grep "^$1:" "/proc/$(of MainPID)/status" | tr -s '[:blank:]' ' '; }
-copy=/run/credentials/roam.service
+copy=/run/roam
 must() { if "${@:2}"; then echo "yes: $1"; else echo "NO: $1"; failed=yes; fi; }
 serves() { [ "$(of ActiveState)" = active ] && [ -n "$(ss -H -u -l -n | grep ':1812 ')" ]; }
 # Waits for the command after the seconds, so many at most.
@@ -77,6 +78,33 @@ must "system calls are filtered" [ "$(status Seccomp)" = "Seccomp: 2" ]
 must "it has a copy of the configuration" cmp -s /etc/roam/roam.conf $copy/roam.conf
 must "which others can't read" eval "! strangers_read $copy/roam.conf 2> /dev/null"
 must "a SIGHUP changes nothing" stays HUP
+cp -p /etc/roam/roam.conf /etc/roam/last.conf
+first=$(of MainPID)
+cat >> /etc/roam/roam.conf <<'CONF'
+
+[[realm]]
+name = "more.example"
+out = "127.0.0.1:2999"
+reverse = "127.0.0.1:3999"
+tries = 1
+wait = 1000
+hold = 0
+max_pending = 1
+max_sessions = 0
+server = [{ auth = "198.51.100.1:1812", acct = "198.51.100.1:1813", secret = "h" }]
+CONF
+must "a changed file is served after a reload" systemctl reload roam
+must "by the same process" [ "$(of MainPID)" = "$first" ]
+must "which has a copy of it" cmp -s /etc/roam/roam.conf $copy/roam.conf
+must "and others can't read that one" eval "! strangers_read $copy/roam.conf 2> /dev/null"
+must "the journal says what became of each realm" within 5 said '^realm more.example: added'
+sed -i 's/^shards.*/shards = 0/' /etc/roam/roam.conf
+must "a file that is refused isn't followed" eval "! systemctl reload roam 2> /dev/null"
+must "the journal says why" within 5 said 'line 8: shards: 0 is not in'
+must "and it serves on" eval "serves && [ $(of MainPID) = $first ]"
+mv /etc/roam/last.conf /etc/roam/roam.conf
+must "one with fewer realms isn't followed either" eval "! systemctl reload roam 2> /dev/null"
+must "and the journal says so" within 5 said 'may not follow: fewer realms'
 must "another serves after a crash" again SEGV
 must "and after a SIGTERM from elsewhere" again TERM
 systemctl stop roam

@@ -36,6 +36,7 @@ run-prevents words configuration script old new (Ok x) worded fails = tt
 run-prevents words configuration script old new (Err fault.Usage) worded fails = absurd fails
 run-prevents words configuration script old new (Err (fault.Unreadable path)) worded fails = absurd fails
 run-prevents words configuration script old new (Err (fault.Unanswered path)) worded fails = absurd fails
+run-prevents words configuration script old new (Err (fault.Declined path)) worded fails = absurd fails
 run-prevents words configuration script old new (Err (fault.Refused path why)) worded fails =
     ((to_simulate configuration.path.now script.path.now, worded, sym fails.0.named), fails.1)
 run-prevents words configuration script old new (Err (fault.FaultyLine path number)) worded fails =
@@ -80,6 +81,7 @@ serve-prevents words file milliseconds out (Ok x) asks kept fails = tt
 serve-prevents words file milliseconds out (Err fault.Usage) asks kept fails = absurd fails
 serve-prevents words file milliseconds out (Err (fault.Unreadable path)) asks kept fails = absurd fails
 serve-prevents words file milliseconds out (Err (fault.Unanswered path)) asks kept fails = absurd fails
+serve-prevents words file milliseconds out (Err (fault.Declined path)) asks kept fails = absurd fails
 serve-prevents words file milliseconds out (Err (fault.Refused path why)) asks kept fails =
     (names-it words path.now file.path.now milliseconds fails.named asks, kept)
 serve-prevents words file milliseconds out (Err (fault.FaultyLine path number)) asks kept fails = absurd fails
@@ -119,6 +121,8 @@ usage-status words old new fault.Usage status is prevents = (λ two. prevents.0,
 usage-status words old new (fault.Unreadable path) status is prevents =
     (λ two. absurd (omega arith), λ nothing. absurd (nothing prevents.0.0 prevents.0.1))
 usage-status words old new (fault.Unanswered path) status is prevents =
+    (λ two. absurd (omega arith), λ nothing. absurd (nothing (to_control path.now prevents.0.0) prevents.0.1))
+usage-status words old new (fault.Declined path) status is prevents =
     (λ two. absurd (omega arith), λ nothing. absurd (nothing (to_control path.now prevents.0.0) prevents.0.1))
 usage-status words old new (fault.Refused path why) status is prevents =
     (λ two. absurd (omega arith), λ nothing. absurd (nothing prevents.0.0 prevents.0.1))
@@ -245,6 +249,7 @@ compare_prevents words configuration next old new (Ok x) worded fails = tt
 compare_prevents words configuration next old new (Err fault.Usage) worded fails = absurd fails
 compare_prevents words configuration next old new (Err (fault.Unreadable path)) worded fails = absurd fails
 compare_prevents words configuration next old new (Err (fault.Unanswered path)) worded fails = absurd fails
+compare_prevents words configuration next old new (Err (fault.Declined path)) worded fails = absurd fails
 compare_prevents words configuration next old new (Err (fault.Refused path why)) worded fails =
     elim fails.0 [
       | inl first ↦ ((to_compare configuration.path.now next.path.now, worded, inl (sym first.named)), fails.1)

@@ -30,6 +30,7 @@ pub first_fails : (a b : TextFile) (out : Option (List ℕ)) (f : Fault) → Che
 first_fails a b out fault.Usage fails = absurd fails
 first_fails a b out (fault.Unreadable path) fails = absurd fails
 first_fails a b out (fault.Unanswered path) fails = absurd fails
+first_fails a b out (fault.Declined path) fails = absurd fails
 first_fails a b out (fault.Refused path why) fails = (inl fails.0, fails.1)
 first_fails a b out (fault.FaultyLine path number) fails = absurd fails
 first_fails a b out fault.Write fails = tt
@@ -47,6 +48,7 @@ pub second_fails : (a b : TextFile) (out : Option (List ℕ)) (f : Fault) → Ch
 second_fails a b out fault.Usage fails = absurd fails
 second_fails a b out (fault.Unreadable path) fails = absurd fails
 second_fails a b out (fault.Unanswered path) fails = absurd fails
+second_fails a b out (fault.Declined path) fails = absurd fails
 second_fails a b out (fault.Refused path why) fails = (inr fails.0, fails.1)
 second_fails a b out (fault.FaultyLine path number) fails = absurd fails
 second_fails a b out fault.Write fails = tt

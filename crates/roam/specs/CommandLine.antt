@@ -32,6 +32,7 @@ abbrev pub AsksOrder : List (List ℕ) → List ℕ → Order → Type 0
 AsksOrder words path order.Status = codes "ctl" ∷ path ∷ codes "status" ∷ [] ≡ words
 AsksOrder words path order.Metrics = codes "ctl" ∷ path ∷ codes "metrics" ∷ [] ≡ words
 AsksOrder words path order.Stop = codes "ctl" ∷ path ∷ codes "stop" ∷ [] ≡ words
+AsksOrder words path order.Reload = codes "ctl" ∷ path ∷ codes "reload" ∷ [] ≡ words
 AsksOrder words path (order.Trace shard) =
     (word : List ℕ) × (codes "ctl" ∷ path ∷ codes "trace" ∷ word ∷ [] ≡ words)
     × (decimal_in 0 65535 word ≡ Some shard)

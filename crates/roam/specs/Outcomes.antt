@@ -48,6 +48,7 @@ abbrev pub CheckFails : TextFile → Option (List ℕ) → Option (List ℕ) →
 CheckFails file old new fault.Usage = ⊥
 CheckFails file old new (fault.Unreadable path) = ⊥
 CheckFails file old new (fault.Unanswered path) = ⊥
+CheckFails file old new (fault.Declined path) = ⊥
 CheckFails file old new (fault.Refused path why) = IsRefused file path.now why × Keeps old new
 CheckFails file old new (fault.FaultyLine path number) = ⊥
 CheckFails file old new fault.Write = IsAccepted (text_in file)
@@ -73,6 +74,7 @@ abbrev pub RunFails : TextFile → TextFile → Option (List ℕ) → Option (Li
 RunFails configuration script old new fault.Usage = ⊥
 RunFails configuration script old new (fault.Unreadable path) = ⊥
 RunFails configuration script old new (fault.Unanswered path) = ⊥
+RunFails configuration script old new (fault.Declined path) = ⊥
 RunFails configuration script old new (fault.Refused path why) =
     IsRefused configuration path.now why × Keeps old new
 RunFails configuration script old new (fault.FaultyLine path number) =
@@ -96,6 +98,7 @@ abbrev pub ServeFails : TextFile → Fault → Type 0
 ServeFails file fault.Usage = ⊥
 ServeFails file (fault.Unreadable path) = ⊥
 ServeFails file (fault.Unanswered path) = ⊥
+ServeFails file (fault.Declined path) = ⊥
 ServeFails file (fault.Refused path why) = IsRefused file path.now why
 ServeFails file (fault.FaultyLine path number) = ⊥
 ServeFails file fault.Write = ⊥
@@ -114,10 +117,11 @@ ServeFails file fault.Audit = IsAccepted (text_in file)
 abbrev pub IsPrinted : Option (List ℕ) → Option (List ℕ) → Type 0
 IsPrinted old new = (text : List ℕ) × Appends old new text
 
--- the faults of a question to a server: no answer came through the socket of this path, a write was refused, or memory
--- is wanting
+-- the faults of a question to a server: no answer came through the socket of this path; or it was declined, and why is
+-- printed; a write was refused, or memory is wanting
 abbrev pub AskFails : List ℕ → Option (List ℕ) → Option (List ℕ) → Fault → Type 0
 AskFails path old new (fault.Unanswered named) = (named.now ≡ path) × Keeps old new
+AskFails path old new (fault.Declined named) = (named.now ≡ path) × IsPrinted old new
 AskFails path old new fault.Write = Unit {0}
 AskFails path old new fault.Memory = Keeps old new
 AskFails path old new _ = ⊥
@@ -177,11 +181,13 @@ pub record IsAnsweredInPart (words : List (List ℕ)) (old new : Option (List �
   pub done : SimulatesInPart configuration_text script_text old new
 
 -- why the words aren't answered, and what of the output that leaves. It is as it was; but where events were lost
--- for want of memory it has the lines of the others; and of a refused write nothing is said of what went out
+-- for want of memory it has the lines of the others; where a server declined what it was asked for, its answer; and of a
+-- refused write nothing is said of what went out
 abbrev pub Prevents : List (List ℕ) → Option (List ℕ) → Option (List ℕ) → Fault → Type 0
 Prevents words old new fault.Usage = AsksNothing words × Keeps old new
 Prevents words old new (fault.Unreadable path) = NamesFile words path.now × Keeps old new
 Prevents words old new (fault.Unanswered path) = NamesSocket words path.now × Keeps old new
+Prevents words old new (fault.Declined path) = NamesSocket words path.now × IsPrinted old new
 Prevents words old new (fault.Refused path why) = NamesConfiguration words path.now × Keeps old new
 Prevents words old new (fault.FaultyLine path number) = NamesScript words path.now × Keeps old new
 Prevents words old new fault.Write = ¬ (AsksNothing words)

@@ -16,11 +16,11 @@ use Rattle.roam.specs.declared.report.Fault.TheVariants as fault
 -- the usage: a line for each command
 abbrev pub usage_text : List ℕ
 usage_text =
-    codes "usage: roam check CONF\n       roam check OLD NEW\n       roam sim CONF SCRIPT\n       roam serve [--seed-of-file] CONF [MS]\n       roam ctl PATH status|metrics|stop|trace N\n       roam help\n       roam version\n"
+    codes "usage: roam check CONF\n       roam check OLD NEW\n       roam sim CONF SCRIPT\n       roam serve [--seed-of-file] CONF [MS]\n       roam ctl PATH status|metrics|stop|reload|trace N\n       roam help\n       roam version\n"
 
 -- which program this is, and the line of the toolchain that proved it
 abbrev pub version_text : List ℕ
-version_text = codes "roam 1.0.0\nrattle-kit-13b logic dac8208d650f15bf\n"
+version_text = codes "roam 1.0.0\nrattle-kit-13f logic dac8208d650f15bf\n"
 
 -- what the system says of the errors that bind, socket, epoll and eventfd give, by their numbers (Linux)
 abbrev pub words_of : ℕ → Option (List ℕ)
@@ -60,6 +60,7 @@ abbrev pub text_of : Fault → List ℕ
 text_of fault.Usage = usage_text
 text_of (fault.Unreadable path) = codes "roam: " ++ path.now ++ codes ": unreadable\n"
 text_of (fault.Unanswered path) = codes "roam: " ++ path.now ++ codes ": no answer\n"
+text_of (fault.Declined path) = codes "roam: " ++ path.now ++ codes ": declined\n"
 text_of (fault.Refused path why) = codes "roam: " ++ path.now ++ codes ": " ++ name_of why ++ codes "\n"
 text_of (fault.FaultyLine path number) =
     codes "roam: " ++ path.now ++ codes ": line " ++ decimal number ++ codes "\n"
@@ -80,6 +81,7 @@ abbrev pub status_of : Fault → ℕ
 status_of fault.Usage = 2
 status_of (fault.Unreadable path) = 1
 status_of (fault.Unanswered path) = 1
+status_of (fault.Declined path) = 1
 status_of (fault.Refused path why) = 1
 status_of (fault.FaultyLine path number) = 1
 status_of fault.Write = 1

@@ -19,6 +19,8 @@ pub enum Order {
     Metrics,
     /// To stop.
     Stop,
+    /// To read its configuration again, and to serve that one.
+    Reload,
     /// The stored steps of a shard, as a script.
     Trace(u16),
 }
@@ -63,7 +65,7 @@ pub enum Command<'a> {
     Control {
         /// The path of the socket.
         path: &'a str,
-        /// What it is asked for: `status`, `metrics`, `stop` or `trace N`.
+        /// What it is asked for: `status`, `metrics`, `stop`, `reload` or `trace N`.
         order: Order,
     },
     /// To print the usage: `help`, `--help` or `-h`.
@@ -139,6 +141,7 @@ fn of_control<'a>(path: &'a str, order: &str) -> Option<Command<'a>>
         "status" => Order::Status,
         "metrics" => Order::Metrics,
         "stop" => Order::Stop,
+        "reload" => Order::Reload,
         _ => return None,
     };
     Some(Command::Control { path, order })

@@ -17,7 +17,7 @@ use std::io::Write;
 use std::rt::Files;
 
 /// Prints whether a configuration may follow another, and if not, why.
-fn print_hindrance<W: Write>(writer: &mut W, hindrance: Option<Hindrance>) -> io::Result<()>
+pub fn print_hindrance<W: Write>(writer: &mut W, hindrance: Option<Hindrance>) -> io::Result<()>
     ensures { OnOk result (IsPrinted (W.contents writer.old) (W.contents writer.new)) }
 {
     match hindrance {
@@ -92,7 +92,7 @@ fn print_fate<W: Write>(writer: &mut W, old: &Config, new: &Config, realm: u16) 
 }
 
 /// Prints what becomes of each realm, by its index.
-fn print_fates<W: Write>(writer: &mut W, old: &Config, new: &Config) -> io::Result<()>
+pub fn print_fates<W: Write>(writer: &mut W, old: &Config, new: &Config) -> io::Result<()>
     ensures { OnOk result (IsPrinted (W.contents writer.old) (W.contents writer.new)) }
 {
     let mut count = new.realms.len();

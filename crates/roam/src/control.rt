@@ -38,6 +38,9 @@ fn question(order: Order) -> &'static [u8] {
         Order::Stop => {
             b"POST /stop HTTP/1.1\r\nHost: roam\r\nContent-Length: 0\r\nConnection: close\r\n\r\n"
         }
+        Order::Reload => {
+            b"POST /reload HTTP/1.1\r\nHost: roam\r\nContent-Length: 0\r\nConnection: close\r\n\r\n"
+        }
     }
 }
 
@@ -55,11 +58,18 @@ fn answer<R: AllocGlobal + Net>(rt: &R, path: &str, order: Order) -> io::Result<
     Ok(answer)
 }
 
-/// The body of an answer that tells success (RFC 9112, sections 4 and 6).
+/// Whether an answer tells success (RFC 9110, section 15.3).
+fn is_done(answer: &[u8]) -> bool {
+    answer.starts_with(b"HTTP/1.1 2")
+}
+
+/// Whether an answer says why what was asked for was not done (RFC 9110, section 15.5.10).
+fn is_declined(answer: &[u8]) -> bool {
+    answer.starts_with(b"HTTP/1.1 409")
+}
+
+/// The body of an answer (RFC 9112, sections 4 and 6).
 fn body(answer: &[u8]) -> Option<&[u8]> {
-    if !answer.starts_with(b"HTTP/1.1 2") {
-        return None;
-    }
     let end = answer
         .windows(4)
         .position(|four| four == b"\r\n\r\n".as_slice())?;
@@ -73,6 +83,16 @@ fn print<'a, W: Write>(body: &[u8], out: &mut W) -> Result<(), Fault<'a>>
 {
     out.write_all(body).map_err(|_| Fault::Write)?;
     finish(out)
+}
+
+/// Prints why a server did not do what it was asked for.
+fn print_declined<'a, W: Write>(path: &'a str, body: &[u8], out: &mut W) -> Fault<'a>
+    ensures { AskFails path.now (W.contents out.old) (W.contents out.new) result }
+{
+    match print(body, out) {
+        Ok(()) => Fault::Declined { path },
+        Err(_) => Fault::Write,
+    }
 }
 
 /// Waits until nobody listens at the path any more, but not for ever. Answers whether that is so.
@@ -91,7 +111,8 @@ fn has_ended<R: Net + Clock>(rt: &R, path: &str) -> bool {
 ///
 /// # Errors
 ///
-/// `Unanswered`, where no answer comes that tells success, or a server that is asked to stop doesn't end; `Memory`; `Write`.
+/// `Unanswered`, where no answer comes, or none that tells success, or a server that is asked to stop doesn't end;
+/// `Declined`, where the answer says why it was not done, and is printed; `Memory`; `Write`.
 pub fn ask<'a, R: AllocGlobal + Net + Clock, W: Write>(
     rt: &R,
     path: &'a str,
@@ -101,11 +122,16 @@ pub fn ask<'a, R: AllocGlobal + Net + Clock, W: Write>(
     ensures ok { OnOk result (IsPrinted (W.contents out.old) (W.contents out.new)) }
     ensures err { IfErr result (AskFails path.now (W.contents out.old) (W.contents out.new)) }
 {
-    match answer(rt, path, order) {
-        Ok(answer) => match body(answer.as_slice()) {
-            Some(body) if order != Order::Stop || has_ended(rt, path) => print(body, out),
-            _ => Err(Fault::Unanswered { path }),
-        },
-        Err(error) => Err(Fault::Unanswered { path }.unless_memory(&error)),
+    let answer = match answer(rt, path, order) {
+        Ok(answer) => answer,
+        Err(error) => return Err(Fault::Unanswered { path }.unless_memory(&error)),
+    };
+    let answer = answer.as_slice();
+    match body(answer) {
+        Some(body) if is_declined(answer) => Err(print_declined(path, body, out)),
+        Some(body) if is_done(answer) && (order != Order::Stop || has_ended(rt, path)) => {
+            print(body, out)
+        }
+        _ => Err(Fault::Unanswered { path }),
     }
 }

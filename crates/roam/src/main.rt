@@ -10,6 +10,7 @@ mod compare;
 mod control;
 mod output;
 mod program;
+mod reload;
 mod report;
 mod serving;
 mod simulation;

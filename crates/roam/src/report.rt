@@ -26,6 +26,11 @@ pub enum Fault<'a> {
         /// The path of the socket.
         path: &'a str,
     },
+    /// A server did not do what it was asked for through its control socket. Its answer says why, and is printed.
+    Declined {
+        /// The path of the socket.
+        path: &'a str,
+    },
     /// A configuration is refused.
     Refused {
         /// The path of its file.
@@ -112,7 +117,7 @@ pub fn print_usage<W: Write>(writer: &mut W) -> io::Result<()>
         (Appends (W.contents writer.old) (W.contents writer.new) spec.usage_text) }
 {
     writer.write_all(
-        b"usage: roam check CONF\n       roam check OLD NEW\n       roam sim CONF SCRIPT\n       roam serve [--seed-of-file] CONF [MS]\n       roam ctl PATH status|metrics|stop|trace N\n       roam help\n       roam version\n",
+        b"usage: roam check CONF\n       roam check OLD NEW\n       roam sim CONF SCRIPT\n       roam serve [--seed-of-file] CONF [MS]\n       roam ctl PATH status|metrics|stop|reload|trace N\n       roam help\n       roam version\n",
     )
 }
 
@@ -125,7 +130,7 @@ pub fn print_version<W: Write>(writer: &mut W) -> io::Result<()>
     ensures { OnOk result
         (Appends (W.contents writer.old) (W.contents writer.new) spec.version_text) }
 {
-    writer.write_all(b"roam 1.0.0\nrattle-kit-13b logic dac8208d650f15bf\n")
+    writer.write_all(b"roam 1.0.0\nrattle-kit-13f logic dac8208d650f15bf\n")
 }
 
 /// Prints to which endpoint a socket can't be bound.
@@ -258,6 +263,7 @@ impl<'a> Fault<'a> {
             Fault::Usage => print_usage(writer),
             Fault::Unreadable { path } => writeln!(writer, "roam: {path}: unreadable"),
             Fault::Unanswered { path } => writeln!(writer, "roam: {path}: no answer"),
+            Fault::Declined { path } => writeln!(writer, "roam: {path}: declined"),
             Fault::Refused { path, fault } => print_refused(writer, path, fault),
             Fault::FaultyLine { path, number } => print_line(writer, path, number),
             Fault::Write => writer.write_all(b"roam: write failed\n"),

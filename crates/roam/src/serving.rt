@@ -6,6 +6,7 @@ ghost use Rattle.roam_serve.specs.Faults.{IsFaultOf};
 ghost use Rattle.roam_sim.specs.Simulation.{IsAccepted};
 ghost use Rattle.roam.specs.Outcomes.{text_in, ServeFails};
 
+use crate::reload::Reread;
 use crate::report::Fault;
 use crate::text_file::TextFile;
 use log::{Log, warn};
@@ -46,17 +47,28 @@ fn remove<R: Files>(rt: &R, settings: &Settings) {
 /// Serves a configuration. What the server does is counted where somebody may ask for the counts.
 fn serve_watched<R: Files + AllocGlobal + Threads + Wait + Clock + Net + RandomSource + Log + Sync>(
     rt: &R,
-    config: &Config,
+    path: &str,
+    config: Config,
     settings: &Settings,
     milliseconds: Option<u64>,
 ) -> Result<(), ServeFault>
-    ensures { IfErr result (IsFaultOf (shown config.now)) }
+    ensures { IfErr result (IsFaultOf (shown config)) }
 {
     let are_told = settings.log_exchanges;
+    let mut source = Reread { rt, path, settings };
     if settings.metrics.is_none() && settings.control.is_none() {
-        return serve(rt, rt.alloc(), config, None, are_told, milliseconds, &Open);
+        return serve(
+            rt,
+            rt.alloc(),
+            config,
+            None,
+            are_told,
+            milliseconds,
+            &Open,
+            &mut source,
+        );
     }
-    let counters = Counters::new(rt.alloc(), config)?;
+    let counters = Counters::new(rt.alloc(), &config)?;
     let socket = control_socket(rt, settings);
     let watch = Watch {
         counters: &counters,
@@ -71,6 +83,7 @@ fn serve_watched<R: Files + AllocGlobal + Threads + Wait + Clock + Net + RandomS
         are_told,
         milliseconds,
         &Open,
+        &mut source,
     );
     if socket.is_some() {
         remove(rt, settings);
@@ -81,6 +94,7 @@ fn serve_watched<R: Files + AllocGlobal + Threads + Wait + Clock + Net + RandomS
 /// Serves a configuration, with its own seed or with one that is drawn.
 fn serve_config<R: Files + AllocGlobal + Threads + Wait + Clock + Net + RandomSource + Log + Sync>(
     rt: &R,
+    path: &str,
     config: Config,
     has_seed_of_file: bool,
     settings: &Settings,
@@ -93,13 +107,13 @@ fn serve_config<R: Files + AllocGlobal + Threads + Wait + Clock + Net + RandomSo
     } else {
         with_drawn_seed(rt, config)?
     };
-    serve_watched(rt, &config, settings, milliseconds)
+    serve_watched(rt, path, config, settings, milliseconds)
 }
 
 /// Serves a configuration as its text states that it is served.
 fn serve_stated<R: Files + AllocGlobal + Threads + Wait + Clock + Net + RandomSource + Log + Sync>(
     rt: &R,
-    text: &str,
+    file: &TextFile<'_>,
     config: Config,
     has_seed_of_file: bool,
     milliseconds: Option<u64>,
@@ -107,8 +121,15 @@ fn serve_stated<R: Files + AllocGlobal + Threads + Wait + Clock + Net + RandomSo
     ensures { IfErr result (IsFaultOf (shown config)) }
 {
     // Where there is a configuration there are settings too, unless memory is wanting.
-    match read_settings(rt.alloc(), text) {
-        Ok(settings) => serve_config(rt, config, has_seed_of_file, &settings, milliseconds),
+    match read_settings(rt.alloc(), file.text.as_str()) {
+        Ok(settings) => serve_config(
+            rt,
+            file.path,
+            config,
+            has_seed_of_file,
+            &settings,
+            milliseconds,
+        ),
         Err(_) => Err(ServeFault::Memory),
     }
 }
@@ -135,7 +156,13 @@ pub fn serve_file<
 {
     let text = configuration.text.as_str();
     match read_config(rt.alloc(), text) {
-        Ok(config) => match serve_stated(rt, text, config, has_seed_of_file, milliseconds) {
+        Ok(config) => match serve_stated(
+            rt,
+            configuration,
+            config,
+            has_seed_of_file,
+            milliseconds,
+        ) {
             Ok(()) => Ok(()),
             Err(fault) => Err(Fault::of_server(fault)),
         },

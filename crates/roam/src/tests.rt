@@ -20,13 +20,13 @@ const USAGE: &str = "usage: roam check CONF
        roam check OLD NEW
        roam sim CONF SCRIPT
        roam serve [--seed-of-file] CONF [MS]
-       roam ctl PATH status|metrics|stop|trace N
+       roam ctl PATH status|metrics|stop|reload|trace N
        roam help
        roam version
 ";
 
 const VERSION: &str = "roam 1.0.0
-rattle-kit-13b logic dac8208d650f15bf
+rattle-kit-13f logic dac8208d650f15bf
 ";
 
 const CONFIGURATION: &str = "shards = 1
@@ -239,6 +239,8 @@ const NO_COMMANDS: &[&[&str]] = &[
     &["ctl", "a", "trace", "65536"],
     &["ctl", "status", "a"],
     &["ctl", "a", "stop", "0"],
+    &["ctl", "a", "reload", "0"],
+    &["ctl", "reload", "a"],
     &["Ctl", "a", "stop"],
     &["help", "a"],
     &["Help"],
@@ -272,7 +274,7 @@ fn where_nobody_listens_there_is_no_answer(rt: HostRuntime) -> Result<(), Fail> 
     let path = file(&rt, process, "no-socket", b"")?;
     for path in ["/nowhere/control", path.as_str()] {
         let told = format!(in rt.alloc(); "roam: {path}: no answer\n")?;
-        for order in ["status", "metrics", "stop"] {
+        for order in ["status", "metrics", "stop", "reload"] {
             expect(&rt, &["ctl", path, order], 1, "", told.as_str());
         }
     }

@@ -17,6 +17,7 @@ mod threads;
 
 pub use fault::{Reason, ServeFault};
 pub use run::counters::{Counters, Watch};
+pub use run::source::{Following, NoSource, Source};
 pub use server::serve;
 pub use system::control_socket::ControlSocket;
 pub use system::seed::with_drawn_seed;

@@ -1,66 +1,82 @@
-//! The server, from its start to its end.
+//! The server, from its start to its end: one configuration after the other.
 
 ghost use Rattle.std.specs.Prelude.{◌≡◌, ◌↔◌, IsOk, IsTrue, IfOk, IfErr, Contains};
 ghost use Rattle.roam_conf.specs.Shown.{shown};
 ghost use Rattle.roam_history.specs.HubOpening.{fresh_opening};
 ghost use Rattle.roam_history.specs.Books.{books_of, count_of};
 ghost use Rattle.roam_shard.specs.ShardView.{AreStarts};
+ghost use Rattle.roam_hub.specs.Pausing.{ArePaused, opening_over};
 ghost use Rattle.roam_serve.specs.Endings.{endings_of};
 ghost use Rattle.roam_serve.specs.declared.run.ending.Ending.TheVariants as ending;
 ghost use Rattle.roam_serve.specs.Faults.{IsAfterBinding, IsFaultOf};
 
 use crate::fault::{ServeFault, reason_of};
 use crate::run::audit::close_and_audit;
-use crate::run::counters::Watch;
+use crate::run::behind::{Behind, start_behind};
+use crate::run::changing::{follow_all, go_on_counting};
+use crate::run::configured::{Configured, Handover};
+use crate::run::counters::{Counters, Watch};
+use crate::run::desk::{Office, Reply, done};
 use crate::run::ending::{Ended, WorkerEnd, has_given_up_after};
+use crate::run::kits::{Kits, make_kits, make_outboxes};
 use crate::run::losses::{CAUSES, SharedLosses};
+use crate::run::next::{Next, out_of_memory, widen_all};
 use crate::run::old_history::OldHistory;
 use crate::run::prepared::prepare_threads;
 use crate::run::rest::TimerRest;
 use crate::run::shared::Shared;
-use crate::run::start::run_threads;
+use crate::run::source::Source;
+use crate::run::start::{Turn, run_threads};
 use crate::run::stopping::Stopping;
-use crate::system::bind::{BoundSocket, RECEIVE_BUFFER, bind_all, descriptors_wanted, widen};
+use crate::system::bind::bind_all;
 use crate::system::listener::listen_at;
-use crate::system::polls::{make_polls, make_wakers};
 use crate::threads::logger::tell_or_drop;
 use crate::threads::notice::Notice;
 use log::Log;
 use roam_book::Start;
 use roam_conf::Config;
 use roam_hub::{Audited, Blanks, Gate, Hub, Opened, Seat};
-use roam_shard::first_starts;
+use roam_port::Outbox;
+use roam_shard::{Paused, first_starts};
 use std::alloc::Global;
 use std::marker::Brand;
 use std::net::{Net, TcpListener};
 use std::random::RandomSource;
 use std::sync::Wait;
 use std::sync::atomic::AtomicBool;
+use std::thread;
 use std::thread::{Parker, Threads};
 use std::time::{Clock, Instant};
 
-/// What a server has besides its hub.
+/// What outlasts each configuration that a server serves.
 #[derive(Drop)]
 struct ServerParts<'s, G> {
-    sockets: &'s [BoundSocket],
     gate: &'s G,
     losses: &'s SharedLosses,
     watch: Option<Watch<'s>>,
-    are_exchanges_told: bool,
-    listener: Option<&'s TcpListener>,
     old_history: &'s OldHistory,
+    office: &'s Office,
+    stopping: &'s Stopping,
     start: Instant,
     end: Option<u64>,
 }
 
-/// Gives the sockets room for what arrives, and tells where the system gives less.
-fn widen_all<R: Log>(rt: &R, config: &Config, sockets: &[BoundSocket]) {
-    for bound in sockets {
-        let room = widen(&bound.socket);
-        if room < RECEIVE_BUFFER {
-            tell_or_drop(rt, config, Notice::Narrow(bound.endpoint, room));
+impl<'s, G> ServerParts<'s, G> {
+    /// The counts of whoever watches the server.
+    fn counters(&self) -> Option<&'s Counters> {
+        match self.watch {
+            Some(watch) => Some(watch.counters),
+            None => None,
         }
     }
+}
+
+/// What the threads of a configuration are made of, and what is handed on to them.
+#[derive(Drop)]
+struct Means {
+    kits: Kits,
+    outboxes: Vec<Outbox<Global>>,
+    handover: Handover,
 }
 
 /// The socket at which the counts are asked for, where there is one. Tells where it can't be had.
@@ -83,75 +99,86 @@ fn listener<R: Log>(rt: &R, config: &Config, watch: Option<Watch<'_>>) -> Option
     }
 }
 
-/// What the workers gave back.
-fn gather<N: Opened>(alloc: Global, ends: Vec<WorkerEnd<N>>) -> Result<Ended<N>, ServeFault>
+/// What the workers gave back, in lists in which there is room for it.
+fn gather<N: Opened>(
+    ends: Vec<WorkerEnd<N>>,
+    mut seats: Vec<Seat<Global, N>>,
+    mut outboxes: Vec<Outbox<Global>>,
+) -> Result<Ended<N>, ServeFault>
     ensures gave_up { IfOk result (λ e. IsTrue e.has_given_up
         ↔ Contains (endings_of ends.items) ending.GaveUp) }
     ensures err { IfErr result IsAfterBinding }
 {
     let mut has_given_up = false;
-    let mut seats = Vec::new(alloc);
     for end in ends {
         has_given_up = has_given_up_after(has_given_up, end.ending);
         seats.push(end.seat)?;
+        outboxes.push(end.outbox)?;
     }
     Ok(Ended {
         has_given_up,
         seats,
+        outboxes,
     })
 }
 
-/// The threads, from their start to their end.
+/// The threads of one configuration, from their start to their end, and the configuration that is to follow, where one is.
 fn run<
     'c,
     R: Threads + Wait + Clock + Net + RandomSource + Log + Sync,
     G: Gate + Sync,
     N: Opened + Send + Sync,
+    S: Source,
 >(
     rt: &R,
     alloc: Global,
     parts: &ServerParts<'_, G>,
-    config: &'c Config,
+    configured: &'c Configured,
     hub: &Hub<'c, Global, N>,
     seat: Seat<Global, N>,
-) -> Result<Ended<N>, ServeFault>
-    requires { shown config.now ≡ N.opening.config }
+    means: Means,
+    source: &mut S,
+) -> Result<(Ended<N>, Option<Next>), ServeFault>
+    requires { shown configured.now.config ≡ N.opening.config }
     ensures { IfErr result IsAfterBinding }
 {
-    let wanted = descriptors_wanted(config);
-    let polls = make_polls(rt, alloc, config.shards.saturating_add(1), wanted)?;
-    let wakers = make_wakers(alloc, polls.as_slice(), wanted)?;
+    let Means {
+        kits,
+        outboxes,
+        handover,
+    } = means;
+    let count = outboxes.len();
+    let seats = Vec::with_capacity(alloc, count)?;
+    let outbox_room = Vec::with_capacity(alloc, count)?;
+    let Kits {
+        wakers,
+        timer,
+        workers,
+    } = kits;
+    let sockets = configured.sockets.as_slice();
     let logger = Parker::new();
     let stop = AtomicBool::new(false);
     let rest = TimerRest::new(wakers.as_slice().first());
-    let stopping = Stopping::new();
     let shared = Shared {
-        config,
+        config: &configured.config,
         hub,
         gate: parts.gate,
         logger: &logger,
         wakers: wakers.as_slice(),
         rest: &rest,
         losses: parts.losses,
-        counters: match parts.watch {
-            Some(watch) => Some(watch.counters),
-            None => None,
-        },
-        are_exchanges_told: parts.are_exchanges_told,
-        listener: parts.listener,
-        control: match parts.watch {
-            Some(watch) => watch.control,
-            None => None,
-        },
-        stopping: &stopping,
+        counters: configured.counters(parts.counters()),
+        are_exchanges_told: configured.are_exchanges_told,
+        office: parts.office,
+        stopping: parts.stopping,
         old_history: parts.old_history,
         stop: &stop,
         start: parts.start,
         end: parts.end,
     };
-    let prepared = prepare_threads(alloc, parts.sockets, &shared, seat, polls)?;
-    let ends = run_threads(rt, alloc, &shared, prepared)?;
-    gather(alloc, ends)
+    let prepared = prepare_threads(alloc, sockets, &shared, seat, workers, timer, outboxes)?;
+    let Turn { ends, next } = run_threads(rt, alloc, sockets, &shared, prepared, handover, source)?;
+    Ok((gather(ends, seats, outbox_room)?, next))
 }
 
 /// Tells what wasn't told of the packets that were lost.
@@ -173,109 +200,351 @@ fn count_steps<N: Opened>(audited: &Audited<Global, N>) -> u64 {
     count
 }
 
-/// How a server ends whose history passed the audit.
-fn end<R: Log, N: Opened>(
+/// What is left of a hub that was closed.
+#[derive(Drop)]
+struct Left {
+    /// The configuration that is to follow; none where the server ends.
+    next: Option<Next>,
+    /// The packets that still wait for room at a socket.
+    outboxes: Vec<Outbox<Global>>,
+    shards: Vec<Paused<Global>>,
+    /// How many steps were recorded.
+    steps: u64,
+}
+
+/// A hub that is open, until it is closed and audited.
+fn run_hub<
+    'c,
+    N: Opened + Send + Sync,
+    R: Threads + Wait + Clock + Net + RandomSource + Log + Sync,
+    G: Gate + Sync,
+    S: Source,
+>(
     rt: &R,
-    config: &Config,
-    audited: Audited<Global, N>,
-    old_history: &OldHistory,
-) -> Result<(), ServeFault>
-    ensures { IsOk result }
+    alloc: Global,
+    parts: &ServerParts<'_, G>,
+    configured: &'c Configured,
+    hub: Hub<'c, Global, N>,
+    seat: Seat<Global, N>,
+    means: Means,
+    source: &mut S,
+) -> Result<Left, ServeFault>
+    requires { shown configured.now.config ≡ N.opening.config }
+    ensures ok { IfOk result (λ left. ArePaused (shown configured.now.config) left.shards.items) }
+    ensures err { IfErr result IsAfterBinding }
 {
-    let steps = count_steps(&audited);
-    tell_or_drop(rt, config, Notice::Ended(steps, old_history.times()));
+    let room = hub.pause_room()?;
+    let (ended, next) = run(rt, alloc, parts, configured, &hub, seat, means, source)?;
+    let Ended {
+        has_given_up,
+        seats,
+        outboxes,
+    } = ended;
+    if has_given_up {
+        return Err(ServeFault::Receive);
+    }
+    let (audited, shards) = close_and_audit(hub, room, seats)?;
+    Ok(Left {
+        next,
+        outboxes,
+        shards,
+        steps: count_steps(&audited),
+    })
+}
+
+/// Serves the first configuration, whose realms begin, until its hub is closed.
+fn serve_first<
+    N: Opened + Send + Sync,
+    R: Threads + Wait + Clock + Net + RandomSource + Log + Sync,
+    G: Gate + Sync,
+    S: Source,
+>(
+    rt: &R,
+    alloc: Global,
+    parts: &ServerParts<'_, G>,
+    configured: &Configured,
+    starts: &[Start],
+    blanks: Blanks<Global>,
+    means: Means,
+    source: &mut S,
+) -> Result<Left, ServeFault>
+    requires opening { N.opening ≡ fresh_opening (shown configured.now.config) starts.now }
+    requires books { N.books ≡ books_of blanks }
+    requires blanks { count_of blanks ≡ configured.now.config.shards }
+    requires starts { AreStarts (shown configured.now.config) starts.now }
+    ensures ok { IfOk result (λ left. ArePaused (shown configured.now.config) left.shards.items) }
+    ensures err { IfErr result IsAfterBinding }
+{
+    let config = &configured.config;
+    let (hub, seat) = Hub::<'_, Global, N>::open(alloc, config, starts, blanks)?;
+    run_hub(rt, alloc, parts, configured, hub, seat, means, source)
+}
+
+/// Serves a configuration over shards that stand under it, until its hub is closed.
+fn serve_over<
+    N: Opened + Send + Sync,
+    R: Threads + Wait + Clock + Net + RandomSource + Log + Sync,
+    G: Gate + Sync,
+    S: Source,
+>(
+    rt: &R,
+    alloc: Global,
+    parts: &ServerParts<'_, G>,
+    configured: &Configured,
+    shards: Vec<Paused<Global>>,
+    blanks: Blanks<Global>,
+    means: Means,
+    source: &mut S,
+) -> Result<Left, ServeFault>
+    requires opening { N.opening ≡ opening_over (shown configured.now.config) shards.items }
+    requires books { N.books ≡ books_of blanks }
+    requires blanks { count_of blanks ≡ configured.now.config.shards }
+    requires paused { ArePaused (shown configured.now.config) shards.items }
+    ensures ok { IfOk result (λ left. ArePaused (shown configured.now.config) left.shards.items) }
+    ensures err { IfErr result IsAfterBinding }
+{
+    let config = &configured.config;
+    let Ok((hub, seat)) = Hub::<'_, Global, N>::open_over(alloc, config, shards, blanks) else {
+        return Err(ServeFault::Memory);
+    };
+    run_hub(rt, alloc, parts, configured, hub, seat, means, source)
+}
+
+/// What the threads are made of after a change, with what is answered, and the configuration that isn't served.
+fn means_for(kits: Kits, outboxes: Vec<Outbox<Global>>, reply: Reply, before: Configured) -> Means {
+    Means {
+        kits,
+        outboxes,
+        handover: Handover {
+            reply: Some(reply),
+            before: Some(before),
+        },
+    }
+}
+
+/// Has the server go on with the configuration that is to follow, or where memory is wanting with the one of before. Answers
+/// what its threads are made of.
+fn change<G>(
+    alloc: Global,
+    parts: &ServerParts<'_, G>,
+    configured: &mut Configured,
+    shards: &mut Vec<Paused<Global>>,
+    next: Next,
+    outboxes: Vec<Outbox<Global>>,
+) -> Means
+    requires { ArePaused (shown configured.old.config) shards.old.items }
+    ensures { ArePaused (shown configured.new.config) shards.new.items }
+{
+    let Next {
+        configured: after,
+        report,
+        kits,
+        spare,
+    } = next;
+    drop(spare);
+    match follow_all(alloc, shards, &configured.config, &after.config) {
+        Ok(()) => {
+            go_on_counting(configured, &after, parts.counters());
+            let before = std::mem::replace(configured, after);
+            means_for(kits, outboxes, done(report), before)
+        }
+        Err(_) => means_for(kits, outboxes, out_of_memory(alloc), after),
+    }
+}
+
+/// Has the server go on with the configuration that is to follow, until the hub that is opened for it is closed.
+fn serve_next<
+    R: Threads + Wait + Clock + Net + RandomSource + Log + Sync,
+    G: Gate + Sync,
+    S: Source,
+>(
+    rt: &R,
+    alloc: Global,
+    parts: &ServerParts<'_, G>,
+    configured: &mut Configured,
+    mut shards: Vec<Paused<Global>>,
+    next: Next,
+    outboxes: Vec<Outbox<Global>>,
+    source: &mut S,
+) -> Result<Left, ServeFault>
+    requires { ArePaused (shown configured.old.config) shards.items }
+    ensures ok { IfOk result (λ left. ArePaused (shown configured.new.config) left.shards.items) }
+    ensures err { IfErr result IsAfterBinding }
+{
+    let means = change(alloc, parts, configured, &mut shards, next, outboxes);
+    let blanks = Blanks::new(alloc, configured.config.shards)?;
+    serve_over::<Brand, R, G, S>(rt, alloc, parts, configured, shards, blanks, means, source)
+}
+
+/// Serves a configuration, and each one that follows, until the server ends: how many steps were recorded.
+fn serve_all<
+    R: Threads + Wait + Clock + Net + RandomSource + Log + Sync,
+    G: Gate + Sync,
+    S: Source,
+>(
+    rt: &R,
+    alloc: Global,
+    parts: &ServerParts<'_, G>,
+    configured: &mut Configured,
+    means: Means,
+    source: &mut S,
+) -> Result<u64, ServeFault>
+    ensures { IfErr result IsAfterBinding }
+{
+    let starts = first_starts(alloc, &configured.config)?;
+    let blanks = Blanks::new(alloc, configured.config.shards)?;
+    let starts = starts.as_slice();
+    let mut left = serve_first::<Brand, R, G, S>(
+        rt, alloc, parts, configured, starts, blanks, means, source,
+    )?;
+    let mut steps = 0u64;
+    for _ in rt.forever() {
+        let Left {
+            next,
+            outboxes,
+            shards,
+            steps: more,
+        } = left;
+        steps = steps.saturating_add(more);
+        let Some(next) = next else {
+            return Ok(steps);
+        };
+        left = serve_next(rt, alloc, parts, configured, shards, next, outboxes, source)?;
+    }
+    unreachable!()
+}
+
+/// Serves a configuration, and each one that follows, until the server ends, and tells what wasn't told.
+fn serve_to_end<
+    R: Threads + Wait + Clock + Net + RandomSource + Log + Sync,
+    G: Gate + Sync,
+    S: Source,
+>(
+    rt: &R,
+    alloc: Global,
+    parts: &ServerParts<'_, G>,
+    mut configured: Configured,
+    means: Means,
+    source: &mut S,
+) -> Result<(), ServeFault>
+    ensures { IfErr result IsAfterBinding }
+{
+    let served = serve_all(rt, alloc, parts, &mut configured, means, source);
+    tell_losses(rt, &configured.config, parts.losses);
+    let steps = served?;
+    let ended = Notice::Ended(steps, parts.old_history.times());
+    tell_or_drop(rt, &configured.config, ended);
     Ok(())
 }
 
-/// One hub, from its opening to its audit.
-fn run_hub<
-    N: Opened + Send + Sync,
+/// Serves a configuration, and each one that follows, with the threads that outlast them.
+fn serve_with<
     R: Threads + Wait + Clock + Net + RandomSource + Log + Sync,
     G: Gate + Sync,
+    S: Source,
 >(
     rt: &R,
     alloc: Global,
     parts: &ServerParts<'_, G>,
-    config: &Config,
-    starts: &[Start],
-    blanks: Blanks<Global>,
-) -> Result<Audited<Global, N>, ServeFault>
-    requires opening { N.opening ≡ fresh_opening (shown config.now) starts.now }
-    requires books { N.books ≡ books_of blanks }
-    requires blanks { count_of blanks ≡ config.now.shards }
-    requires starts { AreStarts (shown config.now) starts.now }
-    ensures { IfErr result IsAfterBinding }
-{
-    let (hub, seat) = Hub::<'_, Global, N>::open(alloc, config, starts, blanks)?;
-    let ended = run(rt, alloc, parts, config, &hub, seat)?;
-    if ended.has_given_up {
-        return Err(ServeFault::Receive);
-    }
-    close_and_audit(hub, ended.seats)
-}
-
-/// One hub, from its opening to its audit, and how the server ends then.
-fn serve_hub<
-    N: Opened + Send + Sync,
-    R: Threads + Wait + Clock + Net + RandomSource + Log + Sync,
-    G: Gate + Sync,
->(
-    rt: &R,
-    alloc: Global,
-    parts: &ServerParts<'_, G>,
-    config: &Config,
-    starts: &[Start],
-    blanks: Blanks<Global>,
+    listener: Option<&TcpListener>,
+    configured: Configured,
+    means: Means,
+    source: &mut S,
 ) -> Result<(), ServeFault>
-    requires opening { N.opening ≡ fresh_opening (shown config.now) starts.now }
-    requires books { N.books ≡ books_of blanks }
-    requires blanks { count_of blanks ≡ config.now.shards }
-    requires starts { AreStarts (shown config.now) starts.now }
     ensures { IfErr result IsAfterBinding }
 {
-    let audited = run_hub::<N, R, G>(rt, alloc, parts, config, starts, blanks);
-    tell_losses(rt, config, parts.losses);
-    end(rt, config, audited?, parts.old_history)
+    let behind = Behind {
+        office: parts.office,
+        old_history: parts.old_history,
+        listener,
+        control: match parts.watch {
+            Some(watch) => watch.control,
+            None => None,
+        },
+        start: parts.start,
+    };
+    thread::scope(
+        thread::scope_env(),
+        rt,
+        |scope| -> Result<(), ServeFault>
+            ensures { IfErr result IsAfterBinding }
+        {
+            let served = if start_behind(scope, rt, alloc, behind) {
+                serve_to_end(rt, alloc, parts, configured, means, source)
+            } else {
+                Err(ServeFault::Thread)
+            };
+            parts.office.close();
+            parts.old_history.wake();
+            served
+        },
+    )
 }
 
-/// Serves a configuration for so many milliseconds, or without end. What its threads do is counted where somebody
-/// watches it. A line tells of each exchange that ends, where that is wanted.
+/// Serves a configuration, and each one that follows by `source`, for so many milliseconds, or without end. What its threads
+/// do is counted where somebody watches it. A line tells of each exchange that ends, where that is wanted.
 ///
 /// # Errors
 ///
 /// The first of `Clock`, `Bind`, `Descriptors`, `Memory`, `Wait`, `Thread`, `Receive` and `Audit` that comes up.
 /// `Bind` names an endpoint of the configuration. `Ok` comes of an audit alone.
-pub fn serve<R: Threads + Wait + Clock + Net + RandomSource + Log + Sync, G: Gate + Sync>(
+pub fn serve<
+    R: Threads + Wait + Clock + Net + RandomSource + Log + Sync,
+    G: Gate + Sync,
+    S: Source,
+>(
     rt: &R,
     alloc: Global,
-    config: &Config,
+    config: Config,
     watch: Option<Watch<'_>>,
     are_exchanges_told: bool,
     milliseconds: Option<u64>,
     gate: &G,
+    source: &mut S,
 ) -> Result<(), ServeFault>
-    ensures { IfErr result (IsFaultOf (shown config.now)) }
+    ensures { IfErr result (IsFaultOf (shown config)) }
 {
     let Ok(start) = Instant::now(rt) else {
         return Err(ServeFault::Clock);
     };
-    let sockets = bind_all(rt, alloc, config)?;
-    widen_all(rt, config, sockets.as_slice());
-    let listener = listener(rt, config, watch);
+    let sockets = bind_all(rt, alloc, &config)?;
+    widen_all(rt, &config, sockets.as_slice());
+    let listener = listener(rt, &config, watch);
     let losses = SharedLosses::new();
     let old_history = OldHistory::new(alloc, config.shards)?;
+    let office = Office::new();
+    let stopping = Stopping::new();
     let parts = ServerParts {
-        sockets: sockets.as_slice(),
         gate,
         losses: &losses,
         watch,
-        are_exchanges_told,
-        listener: listener.as_ref(),
         old_history: &old_history,
+        office: &office,
+        stopping: &stopping,
         start,
         end: milliseconds,
     };
-    let starts = first_starts(alloc, config)?;
-    let blanks = Blanks::new(alloc, config.shards)?;
-    serve_hub::<Brand, R, G>(rt, alloc, &parts, config, starts.as_slice(), blanks)
+    let means = Means {
+        kits: make_kits(rt, alloc, &config, are_exchanges_told)?,
+        outboxes: make_outboxes(alloc, config.shards)?,
+        handover: Handover {
+            reply: None,
+            before: None,
+        },
+    };
+    let configured = Configured {
+        config,
+        sockets,
+        are_exchanges_told,
+        counters: None,
+    };
+    serve_with(
+        rt,
+        alloc,
+        &parts,
+        listener.as_ref(),
+        configured,
+        means,
+        source,
+    )
 }

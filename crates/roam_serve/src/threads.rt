@@ -1,13 +1,12 @@
 //! The threads of a server, each as it runs, and what they have.
 
+pub mod asker;
 pub mod connections;
 pub mod context;
-pub mod control;
 pub mod counting;
 pub mod ended;
 pub mod exchanges;
 pub mod logger;
-pub mod metrics;
 pub mod notice;
 pub mod outgoing;
 pub mod receiver;

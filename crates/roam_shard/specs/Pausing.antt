@@ -1,7 +1,7 @@
 -- A shard that was taken from its configuration, and the memory with which it follows another (ours).
-use Rattle.std.specs.Prelude.{◌≡◌, ◌≢◌, ◌⊎◌, ℕ, ◌≤◌, true, List, Option, Some, None, length, slice_get, vec_capacity}
+use Rattle.std.specs.Prelude.{◌≡◌, ◌≢◌, ◌⊎◌, ◌↔◌, ℕ, ◌<◌, ◌≤◌, Bool, IsTrue, true, List, Option, Some, None, length, option_map, slice_get, vec_capacity}
 use Rattle.roam_conf.specs.Config.{ConfigView}
-use Rattle.roam_reload.specs.Reload.{IsCarried}
+use Rattle.roam_reload.specs.Reload.{IsCarried, KeepsPeers, realm_part}
 use Rattle.roam_pending.specs.PlainEntry.{PlainEntry}
 use Rattle.roam_book.specs.RealmConfig.{RealmConfig, link_count, realm_config}
 use Rattle.roam_book.specs.RealmState.{RealmState}
@@ -15,6 +15,15 @@ use Rattle.roam_shard.specs.ShardView.{IsShard, OpeningView, states_in}
 use Rattle.roam_shard.specs.NumbersView.{IsOpened}
 use Rattle.roam_shard.specs.declared.paused.Paused.{Paused}
 use Rattle.roam_shard.specs.declared.following.FreshNumbers.{FreshNumbers}
+
+-- it is known whether the old peers are the first of the new ones, what names them aside
+abbrev pub ArePeersKept : ConfigView → ConfigView → Bool → Type 0
+ArePeersKept old new known = IsTrue known ↔ KeepsPeers old.peers new.peers
+
+-- a realm's table stays, what names it aside
+pub record IsTableKept (old new : ConfigView) (realm : ℕ) : Type 0 where
+  pub there : realm < length old.realms
+  pub table : option_map realm_part (slice_get new.realms realm) ≡ option_map realm_part (slice_get old.realms realm)
 
 -- a realm is one of the shard's, and is carried over
 pub record GoesOn (old new : ConfigView) (shard realm : ℕ) : Type 0 where

@@ -7,14 +7,14 @@ ghost use Rattle.roam_tables.specs.Stands.{entries_in};
 ghost use Rattle.roam_book.specs.RealmConfig.{realm_config};
 ghost use Rattle.roam_book.specs.declared.numbers.Numbers.{Numbers};
 ghost use Rattle.roam_shard.specs.Follow.{AllFollow};
-ghost use Rattle.roam_shard.specs.Pausing.{CanGoOver, CarriesOn, GoesOn, IsMoved, IsReady, IsReadyAt, KeepsOthers, StandsStill, StandsUnder, begin_at, states_under};
+ghost use Rattle.roam_shard.specs.Pausing.{ArePeersKept, CanGoOver, CarriesOn, GoesOn, IsMoved, IsReady, IsReadyAt, IsTableKept, KeepsOthers, StandsStill, StandsUnder, begin_at, states_under};
 
 use crate::look::numbers_at;
 use crate::numbers::opened_at;
 use crate::paused::Paused;
 use roam_book::{Numbers, Settings, Start};
 use roam_conf::Config;
-use roam_reload::is_carried;
+use roam_reload::{other_peer, realm_difference};
 use roam_tables::Tables;
 use roam_wire::NoMemory;
 use std::alloc::Allocator;
@@ -25,11 +25,38 @@ pub struct FreshNumbers<A: Allocator> {
     numbers: Vec<Option<Numbers<A>>, A>,
 }
 
+/// Whether the old peers are the first of the new ones, what names them aside. It is looked at once for all realms.
+fn are_peers_kept(old: &Config, new: &Config) -> bool
+    ensures { ArePeersKept (shown old.now) (shown new.now) result }
+{
+    match other_peer(old.peers.as_slice(), new.peers.as_slice()) {
+        None => true,
+        Some(_) => false,
+    }
+}
+
+/// Whether a realm's table stays, what names it aside.
+fn is_table_kept(old: &Config, new: &Config, realm: u16) -> bool
+    ensures { IsTrue result ↔ IsTableKept (shown old.now) (shown new.now) realm }
+{
+    let Some(before) = old.realms.get(usize::from(realm)) else {
+        return false;
+    };
+    let Some(after) = new.realms.get(usize::from(realm)) else {
+        return false;
+    };
+    match realm_difference(before, after) {
+        None => true,
+        Some(_) => false,
+    }
+}
+
 /// Whether a realm is one of the shard's, and goes on as it stands when `new` follows `old`.
-fn goes_on(old: &Config, new: &Config, shard: u16, realm: u16) -> bool
+fn goes_on(old: &Config, new: &Config, are_peers_kept: bool, shard: u16, realm: u16) -> bool
+    requires { ArePeersKept (shown old.now) (shown new.now) are_peers_kept }
     ensures { IsTrue result ↔ GoesOn (shown old.now) (shown new.now) shard realm }
 {
-    new.shard_of(realm) == shard && is_carried(old, new, realm)
+    new.shard_of(realm) == shard && are_peers_kept && is_table_kept(old, new, realm)
 }
 
 /// Where a realm begins anew: where its numbers stand, or where there are none, at place 0 of its random words and
@@ -60,8 +87,10 @@ fn clear_others<A: Allocator + Copy>(
     entries: &mut Tables<A>,
     old: &Config,
     new: &Config,
+    are_peers_kept: bool,
     shard: u16,
 )
+    requires peers { ArePeersKept (shown old.now) (shown new.now) are_peers_kept }
     ensures stay { (r : ℕ) → GoesOn (shown old.now) (shown new.now) shard r
         → entries_in entries.new r ≡ entries_in entries.old r }
     ensures gone { (r : ℕ) → r < vec_len new.now.realms
@@ -72,7 +101,7 @@ fn clear_others<A: Allocator + Copy>(
 {
     let most = old.realms.len().max(new.realms.len());
     for realm in 0..most {
-        if !goes_on(old, new, shard, realm as u16) {
+        if !goes_on(old, new, are_peers_kept, shard, realm as u16) {
             entries.clear(realm as u16);
         }
     }
@@ -82,11 +111,13 @@ fn clear_others<A: Allocator + Copy>(
 fn go_over<A: Allocator + Copy>(
     old: &Config,
     new: &Config,
+    are_peers_kept: bool,
     shard: u16,
     realm: usize,
     before: &mut Vec<Option<Numbers<A>>, A>,
     after: &mut Vec<Option<Numbers<A>>, A>,
 )
+    requires peers { ArePeersKept (shown old.now) (shown new.now) are_peers_kept }
     requires configured { realm < vec_len new.now.realms }
     requires there { realm < length after.old.items }
     requires within { GoesOn (shown old.now) (shown new.now) shard realm
@@ -103,7 +134,7 @@ fn go_over<A: Allocator + Copy>(
     ensures count { length after.new.items ≡ length after.old.items }
     ensures before_count { length before.new.items ≡ length before.old.items }
 {
-    if !goes_on(old, new, shard, realm as u16) {
+    if !goes_on(old, new, are_peers_kept, shard, realm as u16) {
         return;
     }
     let settings = Settings::new(new, realm as u16);
@@ -116,10 +147,12 @@ fn go_over<A: Allocator + Copy>(
 fn all_over<A: Allocator + Copy>(
     old: &Config,
     new: &Config,
+    are_peers_kept: bool,
     shard: u16,
     before: &mut Vec<Option<Numbers<A>>, A>,
     mut after: Vec<Option<Numbers<A>>, A>,
 ) -> Vec<Option<Numbers<A>>, A>
+    requires peers { ArePeersKept (shown old.now) (shown new.now) are_peers_kept }
     requires count { length after.items ≡ vec_len new.now.realms }
     requires within { (r : ℕ) → GoesOn (shown old.now) (shown new.now) shard r
         → r < length before.old.items }
@@ -133,7 +166,7 @@ fn all_over<A: Allocator + Copy>(
     ensures count { length result.items ≡ length after.items }
 {
     for realm in 0..new.realms.len() {
-        go_over(old, new, shard, realm, before, &mut after);
+        go_over(old, new, are_peers_kept, shard, realm, before, &mut after);
     }
     after
 }
@@ -163,8 +196,10 @@ impl<A: Allocator + Copy> Paused<A> {
         &mut self,
         old: &Config,
         new: &Config,
+        are_peers_kept: bool,
         realm: u16,
     ) -> Result<Option<Numbers<A>>, NoMemory>
+        requires peers { ArePeersKept (shown old.now) (shown new.now) are_peers_kept }
         requires configured { realm < vec_len new.now.realms }
         requires stands { StandsUnder (shown old.now) self.old }
         requires shards { new.now.shards ≡ old.now.shards }
@@ -173,7 +208,7 @@ impl<A: Allocator + Copy> Paused<A> {
         ensures ready { IfOk result (IsReadyAt (shown old.now) (shown new.now) self.new.shard realm
             self.new.numbers.items) }
     {
-        if goes_on(old, new, self.shard, realm) {
+        if goes_on(old, new, are_peers_kept, self.shard, realm) {
             self.reserve_lanes(old, new, realm)?;
             return Ok(None);
         }
@@ -191,8 +226,9 @@ impl<A: Allocator + Copy> Paused<A> {
     {
         self.entries.add_realms(self.alloc, new.realms.len())?;
         let mut numbers = Vec::with_capacity(self.alloc, new.realms.len())?;
+        let are_peers_kept = are_peers_kept(old, new);
         for realm in 0..new.realms.len() {
-            let fresh = self.reserve_one(old, new, realm as u16)?;
+            let fresh = self.reserve_one(old, new, are_peers_kept, realm as u16)?;
             numbers.push_reserved(fresh);
         }
         Ok(FreshNumbers { numbers })
@@ -211,7 +247,9 @@ impl<A: Allocator + Copy> Paused<A> {
         ensures shard { self.new.shard ≡ self.old.shard }
     {
         let FreshNumbers { numbers } = fresh;
-        clear_others(&mut self.entries, old, new, self.shard);
-        self.numbers = all_over(old, new, self.shard, &mut self.numbers, numbers);
+        let are_peers_kept = are_peers_kept(old, new);
+        clear_others(&mut self.entries, old, new, are_peers_kept, self.shard);
+        let before = &mut self.numbers;
+        self.numbers = all_over(old, new, are_peers_kept, self.shard, before, numbers);
     }
 }

@@ -21,11 +21,43 @@ mod row;
 mod stage;
 
 use crate::ends::Ends;
-use crate::row::{ROWS, TAKEN};
+use crate::row::{ROWS, Row, TAKEN};
 use crate::stage::Stage;
-use roam_serve::{ServeFault, Watch, serve};
+use log::Log;
+use roam_serve::{NoSource, ServeFault, Watch, serve};
+use std::alloc::Global;
+use std::net::Net;
+use std::random::RandomSource;
+use std::rt::Files;
+use std::sync::Wait;
 use std::sync::atomic::AtomicU64;
+use std::thread::Threads;
+use std::time::Clock;
 use std::{io, thread};
+
+/// How a second server of a row ends.
+fn second<R: Files + RandomSource + Threads + Wait + Clock + Net + Log + Sync>(
+    stage: &Stage<'_, R>,
+    rt: &R,
+    alloc: Global,
+    row: Row,
+) -> Result<(), ServeFault> {
+    let Some(Ok(config)) = row.config(stage, rt, alloc) else {
+        return Err(ServeFault::Memory);
+    };
+    let time = Some(row.milliseconds());
+    let none = &mut NoSource { alloc };
+    serve(
+        stage,
+        alloc,
+        config,
+        None,
+        true,
+        time,
+        &stage.turnstile,
+        none,
+    )
+}
 
 fn main(rt: HostRuntime) -> io::Result<()> {
     let alloc = rt.alloc();
@@ -36,8 +68,7 @@ fn main(rt: HostRuntime) -> io::Result<()> {
         let time = Some(row.milliseconds());
         let verdict = match (row.config(stage, &rt, alloc), Ends::bind(&rt, row)) {
             (Some(Ok(config)), Ok(ends)) => {
-                let config = &config;
-                let counted = row.counters(alloc, config);
+                let counted = row.counters(alloc, &config);
                 let counters = counted.as_ref();
                 let watch = match counters {
                     Some(counters) => Some(Watch {
@@ -49,14 +80,13 @@ fn main(rt: HostRuntime) -> io::Result<()> {
                 };
                 let (acted, served) = thread::scope(thread::scope_env(), &rt, |scope| {
                     let server = scope.spawn(move || {
-                        let served = serve(stage, alloc, config, watch, true, time, gate);
+                        let none = &mut NoSource { alloc };
+                        let served = serve(stage, alloc, config, watch, true, time, gate, none);
                         stage.note_end();
                         served
                     });
                     let mut acted = row.act(stage, &ends, alloc);
-                    if row.has_second()
-                        && serve(stage, alloc, config, watch, true, time, gate) != TAKEN
-                    {
+                    if row.has_second() && second(stage, &rt, alloc, row) != TAKEN {
                         acted = Err("a second server has the ports too");
                     }
                     if row.ends_early() {

@@ -3,8 +3,8 @@
 ghost use Rattle.std.specs.Prelude.{◌≡◌, IfOk, vec_len};
 
 use crate::system::control_socket::ControlSocket;
-use roam_conf::{Config, Endpoint};
-use roam_counters::{Event, Layout, Process, Subject};
+use roam_conf::{Config, Endpoint, Realm};
+use roam_counters::{EVENTS, Event, Layout, Process, RequestKind, Subject};
 use roam_metrics::{Counts, Gauge};
 use std::alloc::{AllocError, Global};
 use std::sync::atomic::{AtomicU64, Ordering};
@@ -25,6 +25,11 @@ fn zeros(alloc: Global, count: usize) -> Result<Vec<AtomicU64>, AllocError> {
         zeros.push(AtomicU64::new(0))?;
     }
     Ok(zeros)
+}
+
+/// Where the counts of a subject begin.
+fn first_cell(layout: Layout, subject: Subject) -> usize {
+    layout.cell(subject, Event::Request(RequestKind::Access))
 }
 
 impl Counters {
@@ -60,6 +65,62 @@ impl Counters {
             sum = sum.saturating_add(octets.load(Ordering::SeqCst));
         }
         sum
+    }
+
+    /// Adds to the counts of the first thread from this place on those that stand so many places from another one on in
+    /// others.
+    fn add_row(&self, to: usize, others: &Counters, from: usize, count: usize) {
+        let Some(cells) = self.threads.first() else {
+            return;
+        };
+        for place in 0..count {
+            if let Some(cell) = cells.get(to.saturating_add(place)) {
+                let more = others.sum(from.saturating_add(place));
+                if more > 0 {
+                    cell.fetch_add(more, Ordering::SeqCst);
+                }
+            }
+        }
+    }
+
+    /// Adds what others counted of one subject to what is counted here of one.
+    fn add_subject(&self, to: Subject, others: &Counters, from: Subject) {
+        let to = first_cell(self.layout, to);
+        self.add_row(to, others, first_cell(others.layout, from), EVENTS);
+    }
+
+    /// Goes on with what others counted under the configuration of before: of the whole server, and of each realm, home
+    /// server and peer that is still called so at its index.
+    pub(crate) fn go_on_from(&self, others: &Counters, before: &Config, after: &Config) {
+        self.add_row(0, others, 0, first_cell(others.layout, Subject::All));
+        self.add_subject(Subject::All, others, Subject::All);
+        for (number, realm) in after.realms.iter().enumerate() {
+            if let Some(old) = before.realms.get(number) {
+                if realm.name.as_str() == old.name.as_str() {
+                    self.add_realm(others, number as u16, old, realm);
+                }
+            }
+        }
+        for (number, peer) in after.peers.iter().enumerate() {
+            if let Some(old) = before.peers.get(number) {
+                if peer.name.as_str() == old.name.as_str() {
+                    let peer = Subject::Peer(number as u16);
+                    self.add_subject(peer, others, peer);
+                }
+            }
+        }
+    }
+
+    /// The same of a realm, and of each of its home servers whose `auth` is still the same.
+    fn add_realm(&self, others: &Counters, number: u16, before: &Realm, after: &Realm) {
+        let realm = Subject::Realm(number);
+        self.add_subject(realm, others, realm);
+        for (server, (old, new)) in before.servers.iter().zip(after.servers.iter()).enumerate() {
+            if old.auth == new.auth {
+                let server = Subject::Server(number, server as u8);
+                self.add_subject(server, others, server);
+            }
+        }
     }
 
     /// The counts of one thread.

@@ -3,6 +3,7 @@
 ghost use Rattle.std.specs.Prelude.{◌≡◌, ◌⊎◌, ◌↔◌, IsTrue};
 
 use roam_hub::{Opened, Seat};
+use roam_port::Outbox;
 use std::alloc::Global;
 
 /// Why a worker ended.
@@ -21,6 +22,8 @@ pub enum Ending {
 pub struct WorkerEnd<N: Opened> {
     pub ending: Ending,
     pub seat: Seat<Global, N>,
+    /// The packets that still wait for room at a socket.
+    pub outbox: Outbox<Global>,
 }
 
 /// What all workers gave back.
@@ -29,6 +32,8 @@ pub struct Ended<N: Opened> {
     /// Whether one of them gave up a socket.
     pub has_given_up: bool,
     pub seats: Vec<Seat<Global, N>>,
+    /// The packets of each that still wait, in the order of the workers; the timer's last.
+    pub outboxes: Vec<Outbox<Global>>,
 }
 
 /// Whether a worker gave up a socket, after one more has ended.

@@ -4,23 +4,24 @@ ghost use Rattle.std.specs.Prelude.{◌≡◌, ◌≤◌, IfErr};
 ghost use Rattle.roam_serve.specs.Faults.{IsAfterBinding};
 
 use crate::fault::{ServeFault, reason_of};
+use crate::run::kits::Kit;
 use crate::run::shared::Shared;
 use crate::system::bind::BoundSocket;
-use crate::system::polls::Polls;
 use crate::system::socket::Socket;
 use crate::threads::context::WorkerContext;
 use crate::threads::counting::Counting;
-use crate::threads::exchanges::{Exchanges, notes_of_timer, notes_of_worker, queue_of_lines};
+use crate::threads::exchanges::Exchanges;
 use crate::threads::logger::Lines;
-use crate::threads::notice::{Notice, Notices, queue_of_notices};
-use crate::threads::outgoing::{Outgoing, ROOM_EVENTS};
+use crate::threads::notice::{Notice, Notices};
+use crate::threads::outgoing::Outgoing;
 use crate::threads::receiver::Receiver;
 use crate::threads::rests::Rests;
 use crate::threads::timer::Timer;
-use crate::threads::worker::{RECEIVED, Worker};
+use crate::threads::worker::Worker;
 use mio::unix::SourceFd;
 use mio::{Events, Interest, Poll, Token};
-use roam_hub::{Notes, Opened, Seat, split};
+use roam_hub::{Opened, Seat, split};
+use roam_notices::Exchange;
 use roam_port::Outbox;
 use rtrb::Consumer;
 use std::alloc::Global;
@@ -32,16 +33,18 @@ pub struct Prepared<'s, 'c, G, N: Opened> {
     pub timer: Timer<'s, 'c, G, N>,
     pub queues: Vec<Consumer<Notice>>,
     pub lines: Lines<'s>,
-    /// The seat of the thread that answers through the control socket.
+    /// The seat of the server's own thread.
     pub seat: Seat<Global, N>,
 }
 
-/// What a worker or the timer is made of.
+/// What a worker or the timer has that it owns.
 #[derive(Drop)]
 struct Parts<N: Opened> {
     number: usize,
     seat: Seat<Global, N>,
+    outbox: Outbox<Global>,
     room: Poll,
+    events: Events<Global>,
     notices: Notices,
     exchanges: Exchanges,
 }
@@ -97,23 +100,7 @@ fn ports(
     Ok(ports)
 }
 
-/// A thread's end of its queue of lines of exchanges, whose other end goes to the logger.
-fn exchanges<G, N: Opened>(
-    alloc: Global,
-    shared: &Shared<'_, '_, G, N>,
-    lines: &mut Lines<'_>,
-    notes: Notes<Global>,
-) -> Result<Exchanges, ServeFault>
-    ensures { IfErr result IsAfterBinding }
-{
-    let (exchanges, queue) = queue_of_lines(alloc, notes, shared.are_exchanges_told)?;
-    if let Some(queue) = queue {
-        lines.queues.push(queue)?;
-    }
-    Ok(exchanges)
-}
-
-/// What a worker or the timer has.
+/// What a worker or the timer has. The packets that still wait in its outbox are sent, where there is room for them now.
 fn context<'s, 'c, G, N: Opened>(
     alloc: Global,
     sockets: &'s [BoundSocket],
@@ -125,7 +112,9 @@ fn context<'s, 'c, G, N: Opened>(
     let Parts {
         number,
         seat,
+        outbox,
         room,
+        events,
         notices,
         exchanges,
     } = parts;
@@ -137,15 +126,16 @@ fn context<'s, 'c, G, N: Opened>(
             None => None,
         },
     };
-    let outgoing = Outgoing {
-        outbox: Outbox::new(alloc)?,
+    let mut outgoing = Outgoing {
+        outbox,
         ports: ports(alloc, sockets, number, workers)?,
         losses: shared.losses,
         counting,
         room,
-        events: Events::with_capacity(alloc, ROOM_EVENTS)?,
+        events,
         is_blocked: false,
     };
+    outgoing.send();
     Ok(WorkerContext {
         shared,
         seat,
@@ -164,6 +154,7 @@ fn worker<'s, 'c, G, N: Opened>(
     sockets: &'s [BoundSocket],
     context: WorkerContext<'s, 'c, G, N>,
     poll: Poll,
+    buffer: Vec<u8>,
     number: usize,
 ) -> Result<Worker<'s, 'c, G, N>, ServeFault>
     ensures { IfErr result IsAfterBinding }
@@ -172,7 +163,6 @@ fn worker<'s, 'c, G, N: Opened>(
     register(&poll, receivers.as_slice())?;
     let events = Events::with_capacity(alloc, receivers.len().saturating_add(2))?;
     let ready = Vec::with_capacity(alloc, receivers.len())?;
-    let buffer = vec![in alloc; 0u8; RECEIVED]?;
     Ok(Worker {
         context,
         receivers,
@@ -183,79 +173,162 @@ fn worker<'s, 'c, G, N: Opened>(
     })
 }
 
-/// All threads that take part in the hub: a worker for each shard, and the timer. Each waits with one of the
-/// polls, and has a seat that is split off this one.
-pub fn prepare_threads<'s, 'c, G, N: Opened>(
+/// The logger's ends of all queues.
+#[derive(Drop)]
+struct Queues<'s> {
+    notices: Vec<Consumer<Notice>>,
+    lines: Lines<'s>,
+}
+
+impl Queues<'_> {
+    /// Takes the logger's ends of one thread's queues.
+    fn take(
+        &mut self,
+        notices: Consumer<Notice>,
+        lines: Option<Consumer<Exchange>>,
+    ) -> Result<(), ServeFault>
+        ensures { IfErr result IsAfterBinding }
+    {
+        self.notices.push(notices)?;
+        if let Some(lines) = lines {
+            self.lines.queues.push(lines)?;
+        }
+        Ok(())
+    }
+}
+
+/// A worker of this number, made of its kit.
+fn worker_of_kit<'s, 'c, G, N: Opened>(
+    alloc: Global,
+    sockets: &'s [BoundSocket],
+    shared: &'s Shared<'s, 'c, G, N>,
+    number: usize,
+    seat: Seat<Global, N>,
+    outbox: Outbox<Global>,
+    kit: Kit,
+    queues: &mut Queues<'_>,
+) -> Result<Worker<'s, 'c, G, N>, ServeFault>
+    ensures { IfErr result IsAfterBinding }
+{
+    let Kit {
+        polls,
+        notices,
+        queue,
+        exchanges,
+        lines,
+        room_events,
+        buffer,
+    } = kit;
+    queues.take(queue, lines)?;
+    let parts = Parts {
+        number,
+        seat,
+        outbox,
+        room: polls.room,
+        events: room_events,
+        notices,
+        exchanges,
+    };
+    let context = context(alloc, sockets, shared, parts)?;
+    worker(alloc, sockets, context, polls.arrivals, buffer, number)
+}
+
+/// The timer, made of its kit.
+fn timer_of_kit<'s, 'c, G, N: Opened>(
     alloc: Global,
     sockets: &'s [BoundSocket],
     shared: &'s Shared<'s, 'c, G, N>,
     seat: Seat<Global, N>,
-    polls: Vec<Polls>,
-) -> Result<Prepared<'s, 'c, G, N>, ServeFault>
+    outbox: Outbox<Global>,
+    kit: Kit,
+    queues: &mut Queues<'_>,
+) -> Result<Timer<'s, 'c, G, N>, ServeFault>
     ensures { IfErr result IsAfterBinding }
 {
-    let shards = usize::from(shared.config.shards);
-    let mut workers = Vec::new(alloc);
-    let mut queues = Vec::new(alloc);
-    let mut lines = Lines {
-        queues: Vec::new(alloc),
-        counts: match shared.counters {
-            Some(counters) => counters.of_thread(shards),
-            None => None,
-        },
-        dropped: 0,
-    };
-    let mut rest = seat;
-    let mut polls = polls;
-    for number in 0..shards {
-        let (Ok((first, seat)), Some(Polls { arrivals, room })) = (split(rest), polls.pop()) else {
-            return Err(ServeFault::Memory);
-        };
-        rest = first;
-        let (notices, queue) = queue_of_notices(alloc)?;
-        queues.push(queue)?;
-        let exchanges = exchanges(alloc, shared, &mut lines, notes_of_worker(alloc)?)?;
-        let parts = Parts {
-            number,
-            seat,
-            room,
-            notices,
-            exchanges,
-        };
-        let context = context(alloc, sockets, shared, parts)?;
-        workers.push(worker(alloc, sockets, context, arrivals, number)?)?;
-    }
-    let Some(Polls { arrivals, room }) = polls.pop() else {
-        return Err(ServeFault::Memory);
-    };
-    let (notices, queue) = queue_of_notices(alloc)?;
-    queues.push(queue)?;
-    let Ok((rest, seat)) = split(rest) else {
-        return Err(ServeFault::Memory);
-    };
-    let notes = notes_of_timer(alloc, shared.config)?;
-    let exchanges = exchanges(alloc, shared, &mut lines, notes)?;
+    let Kit {
+        polls,
+        notices,
+        queue,
+        exchanges,
+        lines,
+        room_events,
+        ..
+    } = kit;
+    queues.take(queue, lines)?;
     let parts = Parts {
-        number: shards,
-        seat: rest,
-        room,
+        number: usize::from(shared.config.shards),
+        seat,
+        outbox,
+        room: polls.room,
+        events: room_events,
         notices,
         exchanges,
     };
-    let timer = Timer {
+    Ok(Timer {
         context: context(alloc, sockets, shared, parts)?,
-        poll: arrivals,
+        poll: polls.arrivals,
         events: Events::with_capacity(alloc, 2)?,
         told: [None; 4],
         is_stop_told: false,
         rests: Rests::new(alloc, shared.config)?,
         quiet_since: None,
+    })
+}
+
+/// All threads that take part in the hub: a worker for each shard, and the timer. Each has its kit, an outbox, in which packets
+/// may wait that others left there, and a seat that is split off this one.
+pub fn prepare_threads<'s, 'c, G, N: Opened>(
+    alloc: Global,
+    sockets: &'s [BoundSocket],
+    shared: &'s Shared<'s, 'c, G, N>,
+    seat: Seat<Global, N>,
+    workers: Vec<Kit>,
+    timer: Kit,
+    outboxes: Vec<Outbox<Global>>,
+) -> Result<Prepared<'s, 'c, G, N>, ServeFault>
+    ensures { IfErr result IsAfterBinding }
+{
+    let mut queues = Queues {
+        notices: Vec::new(alloc),
+        lines: Lines {
+            queues: Vec::new(alloc),
+            counts: match shared.counters {
+                Some(counters) => counters.of_thread(usize::from(shared.config.shards)),
+                None => None,
+            },
+            dropped: 0,
+        },
     };
+    let mut made = Vec::with_capacity(alloc, workers.len())?;
+    let mut rest = seat;
+    let mut outboxes = outboxes.into_iter();
+    for kit in workers {
+        let (Ok((first, seat)), Some(outbox)) = (split(rest), outboxes.next()) else {
+            return Err(ServeFault::Memory);
+        };
+        rest = first;
+        let number = made.len();
+        let worker = worker_of_kit(
+            alloc,
+            sockets,
+            shared,
+            number,
+            seat,
+            outbox,
+            kit,
+            &mut queues,
+        )?;
+        made.push(worker)?;
+    }
+    let (Ok((rest, seat)), Some(outbox)) = (split(rest), outboxes.next()) else {
+        return Err(ServeFault::Memory);
+    };
+    let timer = timer_of_kit(alloc, sockets, shared, rest, outbox, timer, &mut queues)?;
     Ok(Prepared {
-        workers,
+        workers: made,
         timer,
-        queues,
-        lines,
+        queues: queues.notices,
+        lines: queues.lines,
         seat,
     })
 }

@@ -1,24 +1,23 @@
-//! What the threads of a server share.
+//! What the threads share that serve one configuration.
 
 ghost use Rattle.std.specs.Prelude.{◌≡◌};
 ghost use Rattle.roam_conf.specs.Shown.{shown};
 
 use crate::run::counters::Counters;
+use crate::run::desk::Office;
 use crate::run::losses::SharedLosses;
 use crate::run::old_history::OldHistory;
 use crate::run::rest::TimerRest;
 use crate::run::stopping::Stopping;
-use crate::system::control_socket::ControlSocket;
 use mio::Waker;
 use roam_conf::Config;
 use roam_hub::{Hub, Opened};
 use std::alloc::Global;
-use std::net::TcpListener;
 use std::sync::atomic::{AtomicBool, Ordering};
 use std::thread::Parker;
 use std::time::Instant;
 
-/// What the threads of a server share.
+/// What the threads share that serve one configuration.
 #[derive(Drop)]
 pub struct Shared<'s, 'c, G, N: Opened> {
     pub config: &'c Config,
@@ -34,10 +33,8 @@ pub struct Shared<'s, 'c, G, N: Opened> {
     pub counters: Option<&'s Counters>,
     /// Whether a line tells of each exchange that ends.
     pub are_exchanges_told: bool,
-    /// Where it is asked for.
-    pub listener: Option<&'s TcpListener>,
-    /// Through which it is asked for, and the server is stopped.
-    pub control: Option<&'s ControlSocket>,
+    /// Where the server's own thread is asked for something.
+    pub office: &'s Office,
     pub stopping: &'s Stopping,
     pub old_history: &'s OldHistory,
     /// Whether all are to end.
@@ -62,11 +59,6 @@ impl<G, N: Opened> Shared<'_, '_, G, N> {
         for waker in self.wakers {
             let _is_woken = waker.wake().is_ok();
         }
-    }
-
-    /// Wakes the threads behind the workers, which end when all workers have.
-    pub fn wake_for_the_end(&self) {
-        self.logger.unpark();
-        self.old_history.wake();
+        self.office.attendant.unpark();
     }
 }

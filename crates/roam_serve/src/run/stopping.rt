@@ -1,11 +1,12 @@
 //! That the server is asked to stop: it takes no request any more, and ends when what waits had time to be answered.
 
-ghost use Rattle.std.specs.Prelude.{◌≡◌, ◌==◌, ◌^◌, ◌-◌, None, Some, MatchOption, if◌then◌else◌, min};
+ghost use Rattle.std.specs.Prelude.{◌≡◌, ◌≤◌, ◌==◌, ◌^◌, ◌-◌, None, Some, MatchOption, if◌then◌else◌, min};
 
+use roam_conf::Config;
 use std::sync::atomic::{AtomicBool, AtomicU64, Ordering};
 
 /// The longest time from the moment at which it is asked to stop to its end, in milliseconds.
-pub const LONGEST: u64 = 30_000;
+const LONGEST: u64 = 30_000;
 
 /// Whether the server is asked to stop, and when it ends then.
 #[derive(Drop)]
@@ -13,6 +14,18 @@ pub struct Stopping {
     is_asked: AtomicBool,
     /// In milliseconds since the server's start; 2^64 - 1 where it isn't asked to.
     end: AtomicU64,
+}
+
+/// How long a server has to end that is asked to stop, in milliseconds: the longest time that a reply of a home server
+/// is waited for, 30 seconds at most.
+pub fn grace(config: &Config) -> u64
+    ensures { result ≤ 30000 }
+{
+    let mut longest = 0;
+    for realm in &config.realms {
+        longest = u64::from(realm.wait).max(longest);
+    }
+    longest.min(LONGEST)
 }
 
 /// The earlier of two ends, where there is one.

@@ -10,7 +10,7 @@ ghost use Rattle.roam_serve.specs.Descriptors as spec;
 use crate::fault::{ServeFault, reason_of};
 use crate::system::socket::socket_address;
 use os::FromRawFd;
-use roam_conf::{Config, Endpoint, Place};
+use roam_conf::{Config, Endpoint, Place, is_same_endpoint};
 use roam_port::{endpoint_of, place_of, socket_count, worker_of};
 use std::alloc::Global;
 use std::io;
@@ -32,6 +32,8 @@ pub struct BoundSocket {
     pub worker: usize,
     /// Whether other workers have one of the same endpoint.
     pub is_spread: bool,
+    /// Whether it was open before for another configuration.
+    pub was_open: bool,
     pub socket: UdpSocket,
 }
 
@@ -141,6 +143,7 @@ impl Sockets {
                     endpoint,
                     worker,
                     is_spread: false,
+                    was_open: false,
                     socket,
                 })?;
                 Ok(())
@@ -170,6 +173,7 @@ impl Sockets {
                     endpoint,
                     worker,
                     is_spread: true,
+                    was_open: false,
                     socket,
                 })?,
                 Err(error) => return Err(fault_at(config, endpoint, &error)),
@@ -177,6 +181,104 @@ impl Sockets {
         }
         Ok(())
     }
+}
+
+/// The fault of a socket of which the system gives no second descriptor.
+fn fault_of_copy(config: &Config, error: &io::Error) -> ServeFault
+    ensures { IsFaultOf (shown config.now) result }
+{
+    let reason = reason_of(error);
+    if reason.is_want_of_descriptors() {
+        ServeFault::Descriptors(descriptors_wanted(config))
+    } else {
+        ServeFault::Wait(reason)
+    }
+}
+
+impl Sockets {
+    /// Takes the sockets of an endpoint that are open, by a second descriptor each: what lies in their buffers stays there.
+    /// Answers whether there are any.
+    fn take_open(
+        &mut self,
+        config: &Config,
+        place: Place,
+        endpoint: Endpoint,
+        open: &[BoundSocket],
+    ) -> Result<bool, ServeFault>
+        ensures { IfErr result (IsFaultOf (shown config.now)) }
+    {
+        let mut are_open = false;
+        for bound in open {
+            if is_same_endpoint(bound.endpoint, endpoint) {
+                are_open = true;
+                let worker = if bound.is_spread {
+                    bound.worker
+                } else {
+                    worker_of(place, usize::from(config.shards), config.spread)
+                };
+                match bound.socket.try_clone() {
+                    Ok(socket) => self.bound.push(BoundSocket {
+                        place,
+                        endpoint,
+                        worker,
+                        is_spread: bound.is_spread,
+                        was_open: true,
+                        socket,
+                    })?,
+                    Err(error) => return Err(fault_of_copy(config, &error)),
+                }
+            }
+        }
+        Ok(are_open)
+    }
+
+    /// Binds the sockets of a place.
+    fn bind_place<R: Net>(
+        &mut self,
+        rt: &R,
+        config: &Config,
+        place: Place,
+        endpoint: Endpoint,
+    ) -> Result<(), ServeFault>
+        requires { Contains (socket_endpoints (shown config.now)) endpoint }
+        ensures { IfErr result (IsFaultOf (shown config.now)) }
+    {
+        match place {
+            Place::Auth | Place::Acct if config.spread => {
+                self.bind_spread(rt, config, place, endpoint)
+            }
+            _ => self.bind_one(rt, config, place, endpoint),
+        }
+    }
+}
+
+/// The sockets of a configuration that follows another one, in order of their numbers. Those of endpoints that both have are
+/// the same; the others are bound.
+///
+/// # Errors
+///
+/// `Bind` with the first endpoint that can't be bound; `Descriptors`; `Wait` where the system gives no second descriptor
+/// for another reason; `Memory`.
+pub fn bind_following<R: Net>(
+    rt: &R,
+    alloc: Global,
+    config: &Config,
+    open: &[BoundSocket],
+) -> Result<Vec<BoundSocket>, ServeFault>
+    ensures { IfErr result (IsFaultOf (shown config.now)) }
+{
+    let mut sockets = Sockets {
+        bound: Vec::new(alloc),
+    };
+    for number in 0..socket_count(config) {
+        let place = place_of(number);
+        if let Some(endpoint) = endpoint_of(config, place) {
+            if !sockets.take_open(config, place, endpoint, open)? {
+                sockets.bind_place(rt, config, place, endpoint)?;
+            }
+        }
+    }
+    Ok(sockets.bound)
 }
 
 /// Binds all sockets of a configuration, in order of their numbers.
@@ -191,20 +293,7 @@ pub fn bind_all<R: Net>(
 ) -> Result<Vec<BoundSocket>, ServeFault>
     ensures { IfErr result (IsFaultOf (shown config.now)) }
 {
-    let mut sockets = Sockets {
-        bound: Vec::new(alloc),
-    };
-    for number in 0..socket_count(config) {
-        let place = place_of(number);
-        if let Some(endpoint) = endpoint_of(config, place) {
-            if config.spread && number < 2 {
-                sockets.bind_spread(rt, config, place, endpoint)?;
-            } else {
-                sockets.bind_one(rt, config, place, endpoint)?;
-            }
-        }
-    }
-    Ok(sockets.bound)
+    bind_following(rt, alloc, config, &[])
 }
 
 /// Asks for room for what arrives and what leaves, and answers how many octets that arrived the system gives

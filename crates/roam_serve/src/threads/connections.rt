@@ -158,14 +158,8 @@ fn wait<R: Clock, L: Listener>(rt: &R, listener: &L, open: &[Open<L::Stream>]) {
     }
 }
 
-/// What is answered.
-pub trait Answers: Service {
-    /// Does what a request asked for, in milliseconds since the server's start.
-    fn attend(&mut self, now: u64);
-}
-
 /// Answers who asks, until the server ends.
-pub fn answer_on<R: Wait + Clock + RandomSource, L: Listener, S: Answers + Drop>(
+pub fn answer_on<R: Wait + Clock + RandomSource, L: Listener, S: Service + Drop>(
     rt: &R,
     alloc: Global,
     service: S,
@@ -183,7 +177,6 @@ pub fn answer_on<R: Wait + Clock + RandomSource, L: Listener, S: Answers + Drop>
         moment = now(rt, start, moment);
         accept_all(rt, alloc, listener, &mut open, moment);
         step_all(&mut open, &mut service, moment);
-        service.attend(moment);
         wait(rt, listener, open.as_slice());
     }
 }

@@ -373,7 +373,7 @@ impl<G: Gate, N: Opened> WorkerContext<'_, '_, G, N> {
         }
     }
 
-    /// Sends what can be sent, gives back the seat, and has all workers end.
+    /// Sends what can be sent, gives back the seat and the packets that wait on, and has all workers end.
     pub fn leave(mut self, ending: Ending) -> WorkerEnd<N>
         ensures ending { result.ending ≡ ending }
     {
@@ -384,6 +384,7 @@ impl<G: Gate, N: Opened> WorkerContext<'_, '_, G, N> {
         let end = WorkerEnd {
             ending,
             seat: self.seat,
+            outbox: self.outgoing.outbox,
         };
         shared.end_all();
         end

@@ -3,12 +3,8 @@ use Rattle.std.proofs.Common.{rules}
 use Rattle.roam_conf.specs.Shown.{shown}
 use Rattle.roam_port.specs.Sockets.{socket_endpoints, socket_number}
 use Rattle.roam_serve.proofs.BindLemmas.{contains-at}
-use Rattle.roam_serve.proofs.system.bind.bind_all.Goals as goal
+use Rattle.roam_serve.proofs.system.bind.bind_following.Goals as goal
 
-pub bind_one-requires : goal.bind_one-requires
-bind_one-requires g c =
-    contains-at (socket_endpoints (shown c.args.config.now)) (socket_number c.place_of-place.result) c.in-Some.endpoint (search rules)
-
-pub bind_spread-requires : goal.bind_spread-requires
-bind_spread-requires g c =
+pub bind_place-requires : goal.bind_place-requires
+bind_place-requires g c =
     contains-at (socket_endpoints (shown c.args.config.now)) (socket_number c.place_of-place.result) c.in-Some.endpoint (search rules)

@@ -1,0 +1,16 @@
+use Rattle.roam_conf.specs.Shown.{shown}
+use Rattle.roam_history.specs.Books.{books_of}
+use Rattle.roam_history.specs.HubOpening.{fresh_opening}
+use Rattle.roam_hub.specs.Pausing.{ArePaused}
+use Rattle.roam_serve.proofs.server.serve_all.Given as goal
+
+-- how its first hub opens, and which histories its shards have
+abbrev pub ghosts-serve_first : goal.ghosts-serve_first
+ghosts-serve_first g a = record {
+  opening = fresh_opening (shown a.configured.now.config) a.starts.now;
+  books = books_of a.blanks;
+}
+
+-- what is left of the last hub stands under the configuration
+abbrev pub invariant-loop : goal.invariant-loop
+invariant-loop g l = ArePaused (shown l.configured.config) l.left.shards.items

@@ -1,0 +1,109 @@
+//! What the threads are made of that names no hub: all of it is there before a configuration is served, or follows
+//! another.
+
+ghost use Rattle.std.specs.Prelude.{◌≡◌, IfErr};
+ghost use Rattle.roam_serve.specs.Faults.{IsAfterBinding};
+
+use crate::fault::ServeFault;
+use crate::system::bind::descriptors_wanted;
+use crate::system::polls::{Polls, make_polls, make_wakers};
+use crate::threads::exchanges::{Exchanges, notes_of_timer, notes_of_worker, queue_of_lines};
+use crate::threads::notice::{Notice, Notices, queue_of_notices};
+use crate::threads::outgoing::ROOM_EVENTS;
+use crate::threads::worker::RECEIVED;
+use mio::{Events, Waker};
+use roam_conf::Config;
+use roam_hub::Notes;
+use roam_notices::Exchange;
+use roam_port::Outbox;
+use rtrb::Consumer;
+use std::alloc::Global;
+use std::net::Net;
+
+/// What a worker or the timer is made of.
+#[derive(Drop)]
+pub struct Kit {
+    pub polls: Polls,
+    pub notices: Notices,
+    /// The logger's end of its queue of notices.
+    pub queue: Consumer<Notice>,
+    pub exchanges: Exchanges,
+    /// The logger's end of its queue of lines, where lines are told.
+    pub lines: Option<Consumer<Exchange>>,
+    /// For the sockets that have room again.
+    pub room_events: Events<Global>,
+    /// Room for a datagram; none for the timer.
+    pub buffer: Vec<u8>,
+}
+
+/// What all threads are made of.
+#[derive(Drop)]
+pub struct Kits {
+    /// What ends the wait of the timer, the first, and of each worker.
+    pub wakers: Vec<Waker>,
+    pub timer: Kit,
+    pub workers: Vec<Kit>,
+}
+
+/// What one thread is made of.
+fn make_kit(
+    alloc: Global,
+    polls: Polls,
+    notes: Notes<Global>,
+    are_told: bool,
+    room: usize,
+) -> Result<Kit, ServeFault>
+    ensures { IfErr result IsAfterBinding }
+{
+    let (notices, queue) = queue_of_notices(alloc)?;
+    let (exchanges, lines) = queue_of_lines(alloc, notes, are_told)?;
+    Ok(Kit {
+        polls,
+        notices,
+        queue,
+        exchanges,
+        lines,
+        room_events: Events::with_capacity(alloc, ROOM_EVENTS)?,
+        buffer: vec![in alloc; 0u8; room]?,
+    })
+}
+
+/// What the threads of a configuration are made of: a worker for each shard, and the timer.
+pub fn make_kits<R: Net>(
+    rt: &R,
+    alloc: Global,
+    config: &Config,
+    are_told: bool,
+) -> Result<Kits, ServeFault>
+    ensures { IfErr result IsAfterBinding }
+{
+    let wanted = descriptors_wanted(config);
+    let mut polls = make_polls(rt, alloc, config.shards.saturating_add(1), wanted)?;
+    let wakers = make_wakers(alloc, polls.as_slice(), wanted)?;
+    let mut workers = Vec::with_capacity(alloc, usize::from(config.shards))?;
+    for _ in 0..config.shards {
+        let Some(one) = polls.pop() else {
+            return Err(ServeFault::Memory);
+        };
+        workers.push(make_kit(alloc, one, notes_of_worker(alloc)?, are_told, RECEIVED)?)?;
+    }
+    let Some(one) = polls.pop() else {
+        return Err(ServeFault::Memory);
+    };
+    Ok(Kits {
+        wakers,
+        timer: make_kit(alloc, one, notes_of_timer(alloc, config)?, are_told, 0)?,
+        workers,
+    })
+}
+
+/// An outbox for each worker and for the timer, in which nothing waits.
+pub fn make_outboxes(alloc: Global, shards: u16) -> Result<Vec<Outbox<Global>>, ServeFault>
+    ensures { IfErr result IsAfterBinding }
+{
+    let mut outboxes = Vec::new(alloc);
+    for _ in 0..=shards {
+        outboxes.push(Outbox::new(alloc)?)?;
+    }
+    Ok(outboxes)
+}

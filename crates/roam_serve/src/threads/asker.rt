@@ -1,0 +1,179 @@
+//! What is answered to who asks over HTTP: each order is put on a desk, and the server's own thread answers it.
+
+use crate::run::desk::{Course, Desk, Office, Order, Reply};
+use bytes::{BufMut, Bytes};
+use http::{HeaderValue, Method, Request, StatusCode, header};
+use http_server::{Response, Service};
+use roam_conf::decimal;
+use roam_metrics::Form;
+use std::alloc::AllocError;
+use std::sync::Wait;
+
+/// Where somebody asks.
+#[derive(Clone, Copy, PartialEq, Eq)]
+pub enum Door {
+    /// The endpoint of metrics, which has nothing else.
+    Metrics,
+    /// The control socket.
+    Control,
+}
+
+/// What is answered at a door, and by whom.
+#[derive(Drop)]
+pub struct Asker<'d, R> {
+    pub rt: &'d R,
+    pub office: &'d Office,
+    pub door: Door,
+}
+
+/// What a path asks for.
+#[derive(Clone, Copy, PartialEq, Eq)]
+enum Asked {
+    Metrics,
+    Status(Form),
+    Trace,
+    Stop,
+    Reload,
+}
+
+/// What a path asks for at the control socket.
+fn asked_by(path: &str) -> Option<Asked> {
+    match path {
+        "/metrics" => Some(Asked::Metrics),
+        "/status" => Some(Asked::Status(Form::Text)),
+        "/status.json" => Some(Asked::Status(Form::Json)),
+        "/stop" => Some(Asked::Stop),
+        "/reload" => Some(Asked::Reload),
+        "/trace" => Some(Asked::Trace),
+        _ => None,
+    }
+}
+
+/// What a path asks for at a door.
+fn asked_at(door: Door, path: &str) -> Option<Asked> {
+    match door {
+        Door::Control => asked_by(path),
+        Door::Metrics if path == "/metrics" => Some(Asked::Metrics),
+        Door::Metrics => None,
+    }
+}
+
+/// The methods by which it can be asked for.
+fn methods(door: Door, asked: Asked) -> HeaderValue {
+    match (door, asked) {
+        (_, Asked::Stop | Asked::Reload) => HeaderValue::from_static("POST"),
+        (Door::Metrics, _) => HeaderValue::from_static("GET, HEAD"),
+        (Door::Control, _) => HeaderValue::from_static("GET"),
+    }
+}
+
+/// Whether a method is the right one.
+fn is_right(door: Door, asked: Asked, method: &Method) -> bool {
+    match (door, asked) {
+        (_, Asked::Stop | Asked::Reload) => *method == Method::POST,
+        (Door::Metrics, _) => *method == Method::GET || *method == Method::HEAD,
+        (Door::Control, _) => *method == Method::GET,
+    }
+}
+
+/// The shard that a query names: `shard=N`.
+fn shard_of(query: Option<&str>) -> Option<u16> {
+    let number = decimal(query?.strip_prefix("shard=")?, 0, 65535)?;
+    u16::try_from(number).ok()
+}
+
+/// The order that a path and its query give.
+fn order_of(asked: Asked, query: Option<&str>) -> Option<Order> {
+    match asked {
+        Asked::Metrics => Some(Order::Metrics),
+        Asked::Status(form) => Some(Order::Status(form)),
+        Asked::Stop => Some(Order::Stop),
+        Asked::Reload => Some(Order::Reload),
+        Asked::Trace => match shard_of(query) {
+            Some(shard) => Some(Order::Trace(shard)),
+            None => None,
+        },
+    }
+}
+
+/// In which form the body of an answer is.
+fn kind_of(asked: Asked) -> HeaderValue {
+    match asked {
+        Asked::Metrics => HeaderValue::from_static("text/plain; version=0.0.4"),
+        Asked::Status(Form::Json) => HeaderValue::from_static("application/json"),
+        _ => HeaderValue::from_static("text/plain; charset=utf-8"),
+    }
+}
+
+/// The status of an answer (RFC 9110, section 15).
+fn status_of(course: Course) -> StatusCode {
+    match course {
+        Course::Done => StatusCode::OK,
+        Course::Begun => StatusCode::ACCEPTED,
+        Course::Unknown => StatusCode::NOT_FOUND,
+        Course::Declined => StatusCode::CONFLICT,
+        Course::Unavailable => StatusCode::SERVICE_UNAVAILABLE,
+    }
+}
+
+/// Writes an answer.
+fn write_reply(response: &mut Response, asked: Asked, reply: &Reply) -> Result<(), AllocError> {
+    response.status = status_of(reply.course);
+    response.add_header(header::CONTENT_TYPE, kind_of(asked))?;
+    response.body.put_slice(reply.body.as_slice())
+}
+
+impl<R: Wait> Asker<'_, R> {
+    /// The desk of its door.
+    fn desk(&self) -> &Desk {
+        match self.door {
+            Door::Metrics => &self.office.metrics,
+            Door::Control => &self.office.control,
+        }
+    }
+
+    /// Has an order be answered.
+    fn answer(
+        &self,
+        asked: Asked,
+        query: Option<&str>,
+        response: &mut Response,
+    ) -> Result<(), AllocError> {
+        let Some(order) = order_of(asked, query) else {
+            response.status = StatusCode::NOT_FOUND;
+            return Ok(());
+        };
+        let office = self.office;
+        match self
+            .desk()
+            .ask(self.rt, &office.attendant, &office.is_over, order)
+        {
+            Some(reply) => write_reply(response, asked, &reply),
+            None => {
+                response.status = StatusCode::SERVICE_UNAVAILABLE;
+                Ok(())
+            }
+        }
+    }
+}
+
+impl<R: Wait> Service for Asker<'_, R> {
+    ghost answers = { λ old request response new. Unit {0} };
+
+    fn call(
+        &mut self,
+        request: &Request<Bytes>,
+        response: &mut Response,
+    ) -> Result<(), AllocError> {
+        response.add_header(header::CONNECTION, HeaderValue::from_static("close"))?;
+        let Some(asked) = asked_at(self.door, request.uri().path()) else {
+            response.status = StatusCode::NOT_FOUND;
+            return Ok(());
+        };
+        if !is_right(self.door, asked, request.method()) {
+            response.status = StatusCode::METHOD_NOT_ALLOWED;
+            return response.add_header(header::ALLOW, methods(self.door, asked));
+        }
+        self.answer(asked, request.uri().query(), response)
+    }
+}

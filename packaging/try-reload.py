@@ -1,0 +1,522 @@
+#!/usr/bin/env python3
+"""try-reload.py PROGRAM [RATE]
+
+Serves eight realms with a control socket on loopback, and has `roam ctl .. reload` read a changed file again and again
+under load: RATE exchanges a second (10,000) over all realms. Two processes ask, each in four realms, and two others are
+the home servers. It fails unless
+
+1. a realm that a change doesn't touch loses no request and is sent none again, while a realm is added, a peer is added,
+   one realm gets another home server and secret, and one is retired by a name that nobody uses;
+2. what is added or changed serves at once, a session that was opened before is disconnected after, counts of what stays
+   go on, and a file with a fault changes nothing and is told of as `roam check` tells of it;
+3. fifty changes, half of them with faults (syntax, a port that is taken, an endpoint twice, another number of shards),
+   leave memory and descriptors as they were;
+4. under 60 limits of memory, from less than it has to more than it wants, a change is made or declined for want of
+   memory, and it serves on;
+5. the server stops after all that, audited.
+
+It prints the times of answers with and without changes, and how long a request waited at most around each change. What a
+busy machine drops since a buffer is full counts as lost too, and is said: net.core.rmem_max is to be 4194304.
+"""
+import array
+import collections
+import hashlib
+import multiprocessing
+import os
+import resource
+import select
+import socket
+import struct
+import subprocess
+import sys
+import tempfile
+import time
+
+SECRET = b'a-secret-of-home'
+NEW_SECRET = b'another-secret-of-home'
+NAS_SECRET = b'a-secret-of-nas1'
+PORT, HOME = 17120, 27120
+HERE = '127.0.0.1'
+HEAD = '''shards = {shards}
+seed = "{seed}"
+auth = "127.0.0.1:{auth}"
+acct = "127.0.0.1:{acct}"
+trace_limit = 100000
+spread = true
+log_exchanges = false
+control = "{control}"
+'''
+PEER = '''
+[[peer]]
+name = "{name}"
+ip = "{ip}"
+secret = "{secret}"
+{more}'''
+REALM = '''
+[[realm]]
+name = "{name}"
+out = "127.0.0.1:{out}"
+reverse = "127.0.0.1:{reverse}"
+tries = 2
+wait = {wait}
+hold = 2000
+max_pending = 4096
+max_sessions = 100
+
+[[realm.server]]
+auth = "127.0.0.1:{home}"
+acct = "127.0.0.1:{acct}"
+secret = "{secret}"
+'''
+
+
+def attributes(packet):
+    at = 20
+    while at + 2 <= len(packet):
+        yield packet[at], packet[at + 2:at + packet[at + 1]]
+        at += packet[at + 1]
+
+
+def value_of(packet, kind):
+    return next((value for one, value in attributes(packet) if one == kind), None)
+
+
+def answer(code, request, secret):
+    """RFC 2865, section 3: the Response Authenticator, over the Proxy-States of the request."""
+    states = b''.join(bytes([33, len(v) + 2]) + v for k, v in attributes(request) if k == 33)
+    head = struct.pack('!BBH', code, request[1], 20 + len(states))
+    return head + hashlib.md5(head + request[4:20] + states + secret).digest() + states
+
+
+def signed(code, number, body, secret):
+    """RFC 2866, section 3, and RFC 5176, section 2.3: the Request Authenticator."""
+    head = struct.pack('!BBH', code, number, 20 + len(body))
+    return head + hashlib.md5(head + bytes(16) + body + secret).digest() + body
+
+
+def attribute(kind, value):
+    return bytes([kind, len(value) + 2]) + value
+
+
+def bound(port):
+    one = socket.socket(socket.AF_INET, socket.SOCK_DGRAM)
+    one.setsockopt(socket.SOL_SOCKET, socket.SO_RCVBUF, 1 << 22)
+    one.setblocking(False)
+    one.bind((HERE, port))
+    return one
+
+
+def dropped():
+    """How many datagrams the system dropped, since there was no room for them in the buffer of a socket."""
+    with open('/proc/net/snmp') as file:
+        names, values = [line.split() for line in file if line.startswith('Udp:')]
+    return int(values[names.index('RcvbufErrors')])
+
+
+def all_of(one):
+    """What lies in a socket's buffer, 64 datagrams at most."""
+    for _ in range(64):
+        try:
+            yield one.recvfrom(4096)
+        except (BlockingIOError, ConnectionRefusedError):
+            return
+
+
+class HomeServers(multiprocessing.Process):
+    """Accepts each Access-Request, in every second realm 10 ms after it came, and answers accounting. `told` says how many
+    came in each realm, and how many of them again."""
+
+    def __init__(self, realms):
+        super().__init__(daemon=True)
+        self.near, self.far = multiprocessing.Pipe()
+        self.homes = {}
+        for realm, secret in realms:
+            for port in HOME + realm, HOME + 100 + realm:
+                one = bound(port)
+                self.homes[one.fileno()] = one, realm, secret, 0 if realm % 2 else .01
+
+    def told(self):
+        self.near.send(None)
+        return self.near.recv()
+
+    def run(self):
+        waiting, seen, again = collections.deque(), collections.defaultdict(set), collections.Counter()
+        poll = select.epoll()
+        for at in [*self.homes, self.far.fileno()]:
+            poll.register(at, select.EPOLLIN)
+        while True:
+            for at, _ in poll.poll(max(0, waiting[0][0] - time.monotonic()) if waiting else 1):
+                if at == self.far.fileno():
+                    self.far.recv()
+                    self.far.send(({realm: len(all) for realm, all in seen.items()}, again))
+                    continue
+                one, realm, secret, delay = self.homes[at]
+                for packet, source in all_of(one):
+                    key = packet[1:20] + source[1].to_bytes(2, 'big')
+                    again[realm] += key in seen[realm]
+                    seen[realm].add(key)
+                    if delay:
+                        waiting.append((time.monotonic() + delay, one, answer(packet[0] + 1, packet, secret), source))
+                    else:
+                        one.sendto(answer(packet[0] + 1, packet, secret), source)
+            while waiting and waiting[0][0] <= time.monotonic():
+                _, one, packet, source = waiting.popleft()
+                one.sendto(packet, source)
+
+
+class Requests:
+    """Sends Access-Requests of one realm, each of a user of its own, from so many sockets, and counts the replies."""
+
+    def __init__(self, realm, source=HERE, sockets=1):
+        self.realm, self.sent, self.answered, self.overtaken = realm, 0, 0, 0
+        self.sockets, self.waiting = [], {}
+        self.when, self.took = array.array('d'), array.array('d')
+        for _ in range(sockets):
+            one = bound(0) if source == HERE else socket.socket(socket.AF_INET, socket.SOCK_DGRAM)
+            if source != HERE:
+                one.bind((source, 0))
+                one.setblocking(False)
+            one.connect((HERE, PORT))
+            self.sockets.append(one)
+        self.by_fd = {one.fileno(): at for at, one in enumerate(self.sockets)}
+
+    def send(self):
+        at, number = self.sent % len(self.sockets), self.sent // len(self.sockets) % 256
+        body = attribute(1, b'u%d@%s' % (self.sent, self.realm)) + attribute(4, bytes([192, 0, 2, 1]))
+        packet = struct.pack('!BBHQ', 1, number, 20 + len(body), self.sent) + self.realm[:8].ljust(8) + body
+        self.overtaken += (at, number) in self.waiting
+        self.waiting[at, number] = time.monotonic()
+        self.sockets[at].send(packet)
+        self.sent += 1
+
+    def take(self, fd):
+        at = self.by_fd[fd]
+        for packet, _ in all_of(self.sockets[at]):
+            begin = self.waiting.pop((at, packet[1]), None)
+            if packet[0] == 2 and begin is not None:
+                self.answered += 1
+                self.when.append(begin)
+                self.took.append(time.monotonic() - begin)
+
+    def wait(self, seconds):
+        """Whether what is waited for has come in so many seconds."""
+        end = time.monotonic() + seconds
+        while self.waiting and time.monotonic() < end:
+            for fd in select.select(self.sockets, [], [], .05)[0]:
+                self.take(fd.fileno())
+        return self.answered == self.sent
+
+
+class Load(multiprocessing.Process):
+    """Asks in some realms, so often a second in each, until it is told to stop."""
+
+    def __init__(self, realms, rate):
+        super().__init__(daemon=True)
+        self.realms, self.rate = realms, rate
+        self.near, self.far = multiprocessing.Pipe()
+        self.is_over = multiprocessing.Value('b', 0, lock=False)
+
+    def told(self):
+        """What became of the requests of each realm."""
+        self.is_over.value = 1
+        return self.near.recv()
+
+    def run(self):
+        asks = [Requests(b'%c.example' % (97 + realm), sockets=12) for realm in self.realms]
+        poll, by_fd = select.epoll(), {fd: one for one in asks for fd in one.by_fd}
+        for fd in by_fd:
+            poll.register(fd, select.EPOLLIN)
+        begin = time.monotonic()
+        while not self.is_over.value:
+            due = (time.monotonic() - begin) * self.rate
+            for one in asks:
+                for _ in range(min(32, int(due) - one.sent)):
+                    one.send()
+            for fd, _ in poll.poll(.0005):
+                by_fd[fd].take(fd)
+        took = time.monotonic() - begin
+        for one in asks:
+            one.wait(5)
+        self.far.send({realm: (one.sent, one.answered, one.overtaken, one.when, one.took, took)
+                       for realm, one in zip(self.realms, asks)})
+
+
+def want(holds, what):
+    print('ok  ' if holds else 'FAIL', what)
+    if not holds:
+        sys.exit(1)
+
+
+class Realm:
+    def __init__(self, number, **more):
+        self.words = {'name': '%c.example' % (97 + number), 'out': PORT + 200 + number, 'reverse': PORT + 300 + number,
+                      'wait': 4000, 'home': HOME + number, 'acct': HOME + 100 + number, 'secret': SECRET.decode()}
+        self.words.update(more)
+
+    def __str__(self):
+        return REALM.format(**self.words)
+
+
+class Server:
+    def __init__(self, program, work, realms):
+        self.program, self.work = program, work
+        self.path, self.conf = os.path.join(work, 'control'), os.path.join(work, 'roam.conf')
+        self.peers = [('nas1', HERE, NAS_SECRET.decode(), f'coa = "127.0.0.1:{PORT + 400}"\nnas_ip = "192.0.2.1"\n')]
+        self.realms, self.shards = realms, 2
+        self.write()
+        self.log = open(os.path.join(work, 'log'), 'w+')
+        self.process = subprocess.Popen([program, 'serve', self.conf], stdout=subprocess.DEVNULL, stderr=self.log)
+        for _ in range(100):
+            if 'serving' in self.said():
+                return
+            time.sleep(.05)
+        sys.exit('it does not serve: ' + self.said())
+
+    def said(self):
+        with open(self.log.name) as file:
+            return file.read()
+
+    def text(self):
+        return (HEAD.format(shards=self.shards, seed='0' * 64, auth=PORT, acct=PORT + 1, control=self.path)
+                + ''.join(PEER.format(name=n, ip=i, secret=s, more=m) for n, i, s, m in self.peers)
+                + ''.join(map(str, self.realms)))
+
+    def write(self, text=None):
+        with open(self.conf + '.new', 'w') as file:
+            file.write(self.text() if text is None else text)
+        os.replace(self.conf + '.new', self.conf)
+
+    def ctl(self, order):
+        return subprocess.run([self.program, 'ctl', self.path, order], capture_output=True, text=True, timeout=60)
+
+    def reload(self, text=None):
+        self.write(text)
+        return self.ctl('reload')
+
+    def count(self, line):
+        told = [int(one.split()[-1]) for one in self.ctl('metrics').stdout.splitlines() if one.startswith(line)]
+        return told[0] if told else 0
+
+    def size(self):
+        """Pages in memory, and open descriptors."""
+        with open(f'/proc/{self.process.pid}/statm') as file:
+            return int(file.read().split()[1]) * 4, len(os.listdir(f'/proc/{self.process.pid}/fd'))
+
+
+def asks_once(realm, source=HERE):
+    """Whether a request of a realm is accepted."""
+    one = Requests(realm, source)
+    one.send()
+    return one.wait(2)
+
+
+def open_session():
+    """An Accounting-Request Start at realm a, whose reply says that the ledger has the session."""
+    body = (attribute(1, b'user@a.example') + attribute(40, struct.pack('!I', 1)) + attribute(44, b'session-1')
+            + attribute(4, bytes([192, 0, 2, 1])))
+    access = socket.socket(socket.AF_INET, socket.SOCK_DGRAM)
+    access.connect((HERE, PORT + 1))
+    access.settimeout(5)
+    access.send(signed(4, 1, body, NAS_SECRET))
+    return access.recv(4096)[0] == 5
+
+
+def disconnect():
+    """A Disconnect-Request of realm a's home server that names a session and no user: whether the access server gets it, and
+    its answer comes back."""
+    access = socket.socket(socket.AF_INET, socket.SOCK_DGRAM)
+    access.bind((HERE, PORT + 400))
+    access.settimeout(5)
+    home = socket.socket(socket.AF_INET, socket.SOCK_DGRAM)
+    home.bind((HERE, 0))
+    home.settimeout(5)
+    body = attribute(4, bytes([192, 0, 2, 1])) + attribute(44, b'session-1')
+    home.sendto(signed(40, 7, body, SECRET), (HERE, PORT + 300))
+    try:
+        packet, source = access.recvfrom(4096)
+        access.sendto(answer(41, packet, NAS_SECRET), source)
+        return home.recv(4096)[0] == 41
+    except TimeoutError:
+        return False
+    finally:
+        access.close()
+        home.close()
+
+
+def says(result, *lines):
+    return result.returncode == 0 and all(line in result.stdout.splitlines() for line in lines)
+
+
+COUNT = 'roam_realm_requests_total{realm="a.example",code="access_request",}'
+
+
+def says(result, *lines):
+    return result.returncode == 0 and all(line in result.stdout.splitlines() for line in lines)
+
+
+def try_changes(server):
+    """One change after the other, under load."""
+    want(open_session(), 'a session is opened')
+    before = server.count(COUNT)
+    server.realms.append(Realm(8))
+    want(says(server.reload(), 'realm a.example: carried over', 'realm h.example: carried over', 'realm i.example: added'),
+         'a realm is added')
+    want(asks_once(b'i.example'), 'and serves at once')
+    server.peers.append(('nas2', '127.0.0.2', NAS_SECRET.decode(), ''))
+    want(says(server.reload(), 'realm a.example: carried over', 'realm i.example: carried over'), 'a peer is added')
+    want(asks_once(b'a.example', '127.0.0.2'), 'and is served at once')
+    server.realms[7] = Realm(7, home=HOME + 9, acct=HOME + 109, secret=NEW_SECRET.decode())
+    want(says(server.reload(), 'realm a.example: carried over', 'realm h.example: begins anew: server'),
+         'a realm gets another home server and secret')
+    want(asks_once(b'h.example'), 'and asks it at once')
+    server.realms[8] = Realm(8, name='retired.invalid')
+    want(says(server.reload(), 'realm a.example: carried over', 'realm retired.invalid: carried over'), 'a realm is retired')
+    want(not asks_once(b'i.example'), 'and asks its home server no more')
+    after = server.count(COUNT)
+    want(after > before > 0, f'the counts of a realm go on ({before}, {after})')
+    want(disconnect(), 'a session of before is disconnected after')
+
+
+def faults(server):
+    """Texts that may not follow, each with a word of what is said of it."""
+    good = server.text()
+    return [(good.replace('shards', 'shard', 1), 'Missing'),
+            (good + 'this is no toml', 'roam.conf'),
+            (good + str(Realm(9, out=PORT + 500)), 'cannot bind'),
+            (good + str(Realm(9, out=PORT + 200)), 'Duplicate'),
+            (good.replace('shards = 2', 'shards = 3'), 'may not follow: shards')]
+
+
+def try_fifty(server):
+    taken = bound(PORT + 500)
+    sizes, slowest = [], 0
+    for number in range(50):
+        if number % 2:
+            text, word = faults(server)[number // 2 % 5]
+            result = server.reload(text)
+            if result.returncode != 1 or word not in result.stdout:
+                want(False, f'{word}: {result}')
+        else:
+            server.realms[6] = Realm(6, wait=3900 - number)
+            begin = time.monotonic()
+            result = server.reload()
+            slowest = max(slowest, time.monotonic() - begin)
+            if not says(result, 'realm a.example: carried over', 'realm g.example: begins anew: wait'):
+                want(False, f'change {number}: {result}')
+        time.sleep(.1)
+        sizes.append(server.size())
+    taken.close()
+    print(f'     the slowest change took {1000 * slowest:.1f} ms; {sizes[9]} and {sizes[-1]} (KiB, descriptors)')
+    want(all(one[1] == sizes[0][1] for one in sizes), f'{sizes[0][1]} descriptors after each of fifty')
+    want(sizes[-1][0] < sizes[9][0] * 1.1 + 2048, 'and the same memory')
+
+
+def try_check(server):
+    """The text of a fault is that of `roam check`."""
+    text, _ = faults(server)[0]
+    result = server.reload(text)
+    checked = subprocess.run([server.program, 'check', server.conf], capture_output=True, text=True)
+    want(result.returncode == 1 and result.stdout == checked.stderr, 'a fault is told as `roam check` tells it')
+    want(server.reload().returncode == 0, 'and a good file follows')
+
+
+def try_refused(server):
+    """Changes for which memory is refused, at another growth each time."""
+    none = resource.RLIM_INFINITY
+    declined = 0
+    with open(f'/proc/{server.process.pid}/status') as file:
+        base = next(int(line.split()[1]) for line in file if line.startswith('VmData')) * 1024
+    for number in range(60):
+        resource.prlimit(server.process.pid, resource.RLIMIT_DATA, (base + (number - 4) * (1 << 20), none))
+        result = server.ctl('reload')
+        resource.prlimit(server.process.pid, resource.RLIMIT_DATA, (none, none))
+        declined += result.stdout == 'roam: out of memory\n'
+        if not (result.returncode == 0 or result.stdout == 'roam: out of memory\n') or not asks_once(b'a.example'):
+            want(False, f'under limit {number}: {result} {server.said()[-200:]}')
+    want(0 < declined < 60, f'of 60 changes {declined} are declined for want of memory, and it serves on after each')
+
+
+def part(times, share):
+    return 1000 * sorted(times)[min(len(times) - 1, int(len(times) * share))]
+
+
+def tell_times(what, answered, begin, end):
+    """The times of the answers that were asked for in a window."""
+    times = [took for when, took in answered if begin <= when < end]
+    print(f'     {what}: {len(times) / (end - begin):.0f} a second answered; median {part(times, .5):.2f} ms, '
+          f'p99 {part(times, .99):.2f}, p99.9 {part(times, .999):.2f}, longest {part(times, 1):.2f}')
+
+
+def tell_pauses(answered, changes):
+    """How long a request waited at most around each change: the longest time of those that waited at some moment of it."""
+    longest = []
+    for begin, end in changes:
+        longest.append(max((took for when, took in answered if when < end and when + took > begin), default=0))
+    print(f'     the longest wait around each of {len(longest)} changes: median {part(longest, .5):.2f} ms, '
+          f'least {part(longest, 0):.2f}, most {part(longest, 1):.2f}')
+
+
+def change_often(server, seconds):
+    """Changes without a difference, four a second."""
+    changes, end = [], time.monotonic() + seconds
+    while time.monotonic() < end:
+        begin = time.monotonic()
+        want_done = server.reload().returncode == 0
+        changes.append((begin, time.monotonic()))
+        if not want_done:
+            want(False, 'a file without a difference follows')
+        time.sleep(.25)
+    return changes
+
+
+def try_all(server, homes, rate):
+    loads = [Load(realms, rate / 8) for realms in (range(4), range(4, 8))]
+    for one in loads:
+        one.start()
+    time.sleep(1)
+    quiet = time.monotonic(), time.sleep(5), time.monotonic()
+    try_changes(server)
+    try_check(server)
+    try_fifty(server)
+    often = time.monotonic()
+    changes = change_often(server, 5)
+    done = time.monotonic()
+    told = {realm: what for one in loads for realm, what in one.told().items()}
+    again = sum((home.told()[1] for home in homes), collections.Counter())
+    print(f'     the system dropped {dropped()} datagrams, for which a buffer had no room')
+    same = [told[realm] for realm in range(6)]
+    sent, answered, overtaken = (sum(one[at] for one in same) for at in range(3))
+    every = sum(one[1] for one in told.values()) / told[0][5]
+    print(f'     six realms that no change touched: {sent} requests, {answered} answered, '
+          f'{sum(again[realm] for realm in range(6))} sent again; over all eight {every:.0f} answered a second')
+    at_once = [one for realm in (1, 3, 5) for one in zip(told[realm][3], told[realm][4])]
+    tell_times('without changes', at_once, quiet[0], quiet[2])
+    tell_times('with four a second', at_once, often, done)
+    tell_pauses(at_once, changes)
+    want(sent == answered > 0 and not overtaken, 'none of theirs is lost')
+    want(not any(again[realm] for realm in range(6)), 'and none is sent again')
+    print(f'     the two that were changed: {told[6][0] + told[7][0]} requests, {told[6][1] + told[7][1]} answered')
+    try_refused(server)
+    result = server.ctl('stop')
+    want(result.returncode == 0 and server.process.wait(timeout=40) == 0 and 'audited' in server.said(),
+         'it stops after all that, audited')
+
+
+def main():
+    if not 2 <= len(sys.argv) <= 3 or not os.access(sys.argv[1], os.X_OK):
+        sys.exit('usage: try-reload.py PROGRAM [RATE]')
+    program, rate = os.path.realpath(sys.argv[1]), int(sys.argv[2]) if len(sys.argv) > 2 else 10000
+    with tempfile.TemporaryDirectory() as work:
+        homes = [HomeServers([(realm, SECRET) for realm in range(0, 5)]),
+                 HomeServers([(realm, SECRET) for realm in range(5, 9)] + [(9, NEW_SECRET)])]
+        for home in homes:
+            home.start()
+        server = Server(program, work, [Realm(realm) for realm in range(8)])
+        try:
+            try_all(server, homes, rate)
+        finally:
+            server.process.kill()
+
+
+if __name__ == '__main__':
+    main()
