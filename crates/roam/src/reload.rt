@@ -81,7 +81,8 @@ fn read(alloc: Global, file: &TextFile<'_>, old: &Config) -> Result<(Config, Set
     match (read_config(alloc, text), read_settings(alloc, text)) {
         (Ok(config), Ok(settings)) => {
             let mut config = config;
-            config.seed = old.seed;
+            let seed = old.seed;
+            config.seed = seed;
             Ok((config, settings))
         }
         (Err(fault), _) | (_, Err(fault)) => {

@@ -14,7 +14,9 @@ use roam_conf::Config;
 use roam_conf_reader::{Settings, read_config, read_settings};
 use roam_diagnosis::{Lines, diagnose};
 use roam_hub::Open;
-use roam_serve::{ControlSocket, Counters, ServeFault, Watch, serve, with_drawn_seed};
+use roam_serve::{
+    ControlSocket, Counters, ServeFault, ServeOptions, Watch, serve, with_drawn_seed,
+};
 use std::fs;
 use std::net::Net;
 use std::random::RandomSource;
@@ -44,6 +46,20 @@ fn remove<R: Files>(rt: &R, settings: &Settings) {
     }
 }
 
+/// How a configuration is served.
+fn options<'s>(
+    watch: Option<Watch<'s>>,
+    settings: &Settings,
+    milliseconds: Option<u64>,
+) -> ServeOptions<'s, Open> {
+    ServeOptions {
+        watch,
+        are_exchanges_told: settings.log_exchanges,
+        milliseconds,
+        gate: &Open,
+    }
+}
+
 /// Serves a configuration. What the server does is counted where somebody may ask for the counts.
 fn serve_watched<R: Files + AllocGlobal + Threads + Wait + Clock + Net + RandomSource + Log + Sync>(
     rt: &R,
@@ -54,19 +70,10 @@ fn serve_watched<R: Files + AllocGlobal + Threads + Wait + Clock + Net + RandomS
 ) -> Result<(), ServeFault>
     ensures { IfErr result (IsFaultOf (shown config)) }
 {
-    let are_told = settings.log_exchanges;
     let mut source = Reread { rt, path, settings };
     if settings.metrics.is_none() && settings.control.is_none() {
-        return serve(
-            rt,
-            rt.alloc(),
-            config,
-            None,
-            are_told,
-            milliseconds,
-            &Open,
-            &mut source,
-        );
+        let options = options(None, settings, milliseconds);
+        return serve(rt, rt.alloc(), config, options, &mut source);
     }
     let counters = Counters::new(rt.alloc(), &config)?;
     let socket = control_socket(rt, settings);
@@ -75,42 +82,15 @@ fn serve_watched<R: Files + AllocGlobal + Threads + Wait + Clock + Net + RandomS
         metrics: settings.metrics,
         control: socket.as_ref(),
     };
-    let ended = serve(
-        rt,
-        rt.alloc(),
-        config,
-        Some(watch),
-        are_told,
-        milliseconds,
-        &Open,
-        &mut source,
-    );
+    let options = options(Some(watch), settings, milliseconds);
+    let ended = serve(rt, rt.alloc(), config, options, &mut source);
     if socket.is_some() {
         remove(rt, settings);
     }
     ended
 }
 
-/// Serves a configuration, with its own seed or with one that is drawn.
-fn serve_config<R: Files + AllocGlobal + Threads + Wait + Clock + Net + RandomSource + Log + Sync>(
-    rt: &R,
-    path: &str,
-    config: Config,
-    has_seed_of_file: bool,
-    settings: &Settings,
-    milliseconds: Option<u64>,
-) -> Result<(), ServeFault>
-    ensures { IfErr result (IsFaultOf (shown config)) }
-{
-    let config = if has_seed_of_file {
-        config
-    } else {
-        with_drawn_seed(rt, config)?
-    };
-    serve_watched(rt, path, config, settings, milliseconds)
-}
-
-/// Serves a configuration as its text states that it is served.
+/// Serves a configuration as its text states that it is served, with its own seed or with one that is drawn.
 fn serve_stated<R: Files + AllocGlobal + Threads + Wait + Clock + Net + RandomSource + Log + Sync>(
     rt: &R,
     file: &TextFile<'_>,
@@ -121,17 +101,15 @@ fn serve_stated<R: Files + AllocGlobal + Threads + Wait + Clock + Net + RandomSo
     ensures { IfErr result (IsFaultOf (shown config)) }
 {
     // Where there is a configuration there are settings too, unless memory is wanting.
-    match read_settings(rt.alloc(), file.text.as_str()) {
-        Ok(settings) => serve_config(
-            rt,
-            file.path,
-            config,
-            has_seed_of_file,
-            &settings,
-            milliseconds,
-        ),
-        Err(_) => Err(ServeFault::Memory),
-    }
+    let Ok(settings) = read_settings(rt.alloc(), file.text.as_str()) else {
+        return Err(ServeFault::Memory);
+    };
+    let config = if has_seed_of_file {
+        config
+    } else {
+        with_drawn_seed(rt, config)?
+    };
+    serve_watched(rt, file.path, config, &settings, milliseconds)
 }
 
 /// Reads a configuration, and serves it for so many milliseconds, or without end. Where it is refused, `lines` are where

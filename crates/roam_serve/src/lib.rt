@@ -4,7 +4,8 @@
 //! sends what that answers; a timer does the same with what is due. Each has a ring of its own, whose both ends it
 //! holds. Refused arrivals are told on standard error, by a thread of its own. When a shard's stored steps are as
 //! many as they may be, they are let go of, and a thread frees them beside: nothing stops, and nothing of a realm
-//! changes. There is one hub from the start to the end, when it is closed and audited.
+//! changes. There is one hub for each configuration that is served: it is closed and audited at that one's end, and the
+//! hub of the next one goes on with its shards.
 //!
 //! What is decided here stands in small functions; the loops round them are the threads.
 #![tactic(auto)]
@@ -18,6 +19,6 @@ mod threads;
 pub use fault::{Reason, ServeFault};
 pub use run::counters::{Counters, Watch};
 pub use run::source::{Following, NoSource, Source};
-pub use server::serve;
+pub use server::{ServeOptions, serve};
 pub use system::control_socket::ControlSocket;
 pub use system::seed::with_drawn_seed;

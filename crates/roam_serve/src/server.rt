@@ -11,6 +11,7 @@ ghost use Rattle.roam_serve.specs.declared.run.ending.Ending.TheVariants as endi
 ghost use Rattle.roam_serve.specs.Faults.{IsAfterBinding, IsFaultOf};
 
 use crate::fault::{ServeFault, reason_of};
+use crate::run::attending::Attendant;
 use crate::run::audit::close_and_audit;
 use crate::run::behind::{Behind, start_behind};
 use crate::run::changing::{follow_all, go_on_counting};
@@ -48,9 +49,24 @@ use std::thread;
 use std::thread::{Parker, Threads};
 use std::time::{Clock, Instant};
 
+/// How a server serves.
+#[derive(Drop)]
+pub struct ServeOptions<'s, G> {
+    /// Where what its threads do is counted, and who may ask for that; none where nobody watches it.
+    pub watch: Option<Watch<'s>>,
+    /// Whether a line tells of each exchange that ends.
+    pub are_exchanges_told: bool,
+    /// For how long it serves; none where that has no end.
+    pub milliseconds: Option<u64>,
+    /// Called while a lock is held.
+    pub gate: &'s G,
+}
+
 /// What outlasts each configuration that a server serves.
 #[derive(Drop)]
-struct ServerParts<'s, G> {
+struct ServerParts<'s, R, G, S> {
+    rt: &'s R,
+    alloc: Global,
     gate: &'s G,
     losses: &'s SharedLosses,
     watch: Option<Watch<'s>>,
@@ -59,15 +75,15 @@ struct ServerParts<'s, G> {
     stopping: &'s Stopping,
     start: Instant,
     end: Option<u64>,
+    /// Where the configuration comes from that follows.
+    source: &'s mut S,
 }
 
-impl<'s, G> ServerParts<'s, G> {
-    /// The counts of whoever watches the server.
-    fn counters(&self) -> Option<&'s Counters> {
-        match self.watch {
-            Some(watch) => Some(watch.counters),
-            None => None,
-        }
+/// The counts of whoever watches a server.
+fn counters_of(watch: Option<Watch<'_>>) -> Option<&Counters> {
+    match watch {
+        Some(watch) => Some(watch.counters),
+        None => None,
     }
 }
 
@@ -130,14 +146,11 @@ fn run<
     N: Opened + Send + Sync,
     S: Source,
 >(
-    rt: &R,
-    alloc: Global,
-    parts: &ServerParts<'_, G>,
+    parts: &mut ServerParts<'_, R, G, S>,
     configured: &'c Configured,
     hub: &Hub<'c, Global, N>,
     seat: Seat<Global, N>,
     means: Means,
-    source: &mut S,
 ) -> Result<(Ended<N>, Option<Next>), ServeFault>
     requires { shown configured.now.config ≡ N.opening.config }
     ensures { IfErr result IsAfterBinding }
@@ -147,19 +160,17 @@ fn run<
         outboxes,
         handover,
     } = means;
+    let alloc = parts.alloc;
     let count = outboxes.len();
     let seats = Vec::with_capacity(alloc, count)?;
     let outbox_room = Vec::with_capacity(alloc, count)?;
-    let Kits {
-        wakers,
-        timer,
-        workers,
-    } = kits;
+    let Kits { wakers, threads } = kits;
     let sockets = configured.sockets.as_slice();
     let logger = Parker::new();
     let stop = AtomicBool::new(false);
     let rest = TimerRest::new(wakers.as_slice().first());
     let shared = Shared {
+        alloc,
         config: &configured.config,
         hub,
         gate: parts.gate,
@@ -167,7 +178,7 @@ fn run<
         wakers: wakers.as_slice(),
         rest: &rest,
         losses: parts.losses,
-        counters: configured.counters(parts.counters()),
+        counters: configured.counters(counters_of(parts.watch)),
         are_exchanges_told: configured.are_exchanges_told,
         office: parts.office,
         stopping: parts.stopping,
@@ -176,8 +187,15 @@ fn run<
         start: parts.start,
         end: parts.end,
     };
-    let prepared = prepare_threads(alloc, sockets, &shared, seat, workers, timer, outboxes)?;
-    let Turn { ends, next } = run_threads(rt, alloc, sockets, &shared, prepared, handover, source)?;
+    let (prepared, seat) = prepare_threads(sockets, &shared, seat, threads, outboxes)?;
+    let attendant = Attendant {
+        rt: parts.rt,
+        shared: &shared,
+        sockets,
+        seat,
+        now: 0,
+    };
+    let Turn { ends, next } = run_threads(attendant, prepared, handover, parts.source)?;
     Ok((gather(ends, seats, outbox_room)?, next))
 }
 
@@ -220,21 +238,18 @@ fn run_hub<
     G: Gate + Sync,
     S: Source,
 >(
-    rt: &R,
-    alloc: Global,
-    parts: &ServerParts<'_, G>,
+    parts: &mut ServerParts<'_, R, G, S>,
     configured: &'c Configured,
     hub: Hub<'c, Global, N>,
     seat: Seat<Global, N>,
     means: Means,
-    source: &mut S,
 ) -> Result<Left, ServeFault>
     requires { shown configured.now.config ≡ N.opening.config }
     ensures ok { IfOk result (λ left. ArePaused (shown configured.now.config) left.shards.items) }
     ensures err { IfErr result IsAfterBinding }
 {
     let room = hub.pause_room()?;
-    let (ended, next) = run(rt, alloc, parts, configured, &hub, seat, means, source)?;
+    let (ended, next) = run(parts, configured, &hub, seat, means)?;
     let Ended {
         has_given_up,
         seats,
@@ -259,14 +274,11 @@ fn serve_first<
     G: Gate + Sync,
     S: Source,
 >(
-    rt: &R,
-    alloc: Global,
-    parts: &ServerParts<'_, G>,
+    parts: &mut ServerParts<'_, R, G, S>,
     configured: &Configured,
     starts: &[Start],
     blanks: Blanks<Global>,
     means: Means,
-    source: &mut S,
 ) -> Result<Left, ServeFault>
     requires opening { N.opening ≡ fresh_opening (shown configured.now.config) starts.now }
     requires books { N.books ≡ books_of blanks }
@@ -276,8 +288,8 @@ fn serve_first<
     ensures err { IfErr result IsAfterBinding }
 {
     let config = &configured.config;
-    let (hub, seat) = Hub::<'_, Global, N>::open(alloc, config, starts, blanks)?;
-    run_hub(rt, alloc, parts, configured, hub, seat, means, source)
+    let (hub, seat) = Hub::<'_, Global, N>::open(parts.alloc, config, starts, blanks)?;
+    run_hub(parts, configured, hub, seat, means)
 }
 
 /// Serves a configuration over shards that stand under it, until its hub is closed.
@@ -287,14 +299,11 @@ fn serve_over<
     G: Gate + Sync,
     S: Source,
 >(
-    rt: &R,
-    alloc: Global,
-    parts: &ServerParts<'_, G>,
+    parts: &mut ServerParts<'_, R, G, S>,
     configured: &Configured,
     shards: Vec<Paused<Global>>,
     blanks: Blanks<Global>,
     means: Means,
-    source: &mut S,
 ) -> Result<Left, ServeFault>
     requires opening { N.opening ≡ opening_over (shown configured.now.config) shards.items }
     requires books { N.books ≡ books_of blanks }
@@ -304,10 +313,11 @@ fn serve_over<
     ensures err { IfErr result IsAfterBinding }
 {
     let config = &configured.config;
-    let Ok((hub, seat)) = Hub::<'_, Global, N>::open_over(alloc, config, shards, blanks) else {
+    let Ok((hub, seat)) = Hub::<'_, Global, N>::open_over(parts.alloc, config, shards, blanks)
+    else {
         return Err(ServeFault::Memory);
     };
-    run_hub(rt, alloc, parts, configured, hub, seat, means, source)
+    run_hub(parts, configured, hub, seat, means)
 }
 
 /// What the threads are made of after a change, with what is answered, and the configuration that isn't served.
@@ -324,9 +334,8 @@ fn means_for(kits: Kits, outboxes: Vec<Outbox<Global>>, reply: Reply, before: Co
 
 /// Has the server go on with the configuration that is to follow, or where memory is wanting with the one of before. Answers
 /// what its threads are made of.
-fn change<G>(
-    alloc: Global,
-    parts: &ServerParts<'_, G>,
+fn change<R, G, S>(
+    parts: &ServerParts<'_, R, G, S>,
     configured: &mut Configured,
     shards: &mut Vec<Paused<Global>>,
     next: Next,
@@ -342,9 +351,10 @@ fn change<G>(
         spare,
     } = next;
     drop(spare);
+    let alloc = parts.alloc;
     match follow_all(alloc, shards, &configured.config, &after.config) {
         Ok(()) => {
-            go_on_counting(configured, &after, parts.counters());
+            go_on_counting(configured, &after, counters_of(parts.watch));
             let before = std::mem::replace(configured, after);
             means_for(kits, outboxes, done(report), before)
         }
@@ -358,22 +368,19 @@ fn serve_next<
     G: Gate + Sync,
     S: Source,
 >(
-    rt: &R,
-    alloc: Global,
-    parts: &ServerParts<'_, G>,
+    parts: &mut ServerParts<'_, R, G, S>,
     configured: &mut Configured,
     mut shards: Vec<Paused<Global>>,
     next: Next,
     outboxes: Vec<Outbox<Global>>,
-    source: &mut S,
 ) -> Result<Left, ServeFault>
     requires { ArePaused (shown configured.old.config) shards.items }
     ensures ok { IfOk result (λ left. ArePaused (shown configured.new.config) left.shards.items) }
     ensures err { IfErr result IsAfterBinding }
 {
-    let means = change(alloc, parts, configured, &mut shards, next, outboxes);
-    let blanks = Blanks::new(alloc, configured.config.shards)?;
-    serve_over::<Brand, R, G, S>(rt, alloc, parts, configured, shards, blanks, means, source)
+    let means = change(parts, configured, &mut shards, next, outboxes);
+    let blanks = Blanks::new(parts.alloc, configured.config.shards)?;
+    serve_over::<Brand, R, G, S>(parts, configured, shards, blanks, means)
 }
 
 /// Serves a configuration, and each one that follows, until the server ends: how many steps were recorded.
@@ -382,22 +389,18 @@ fn serve_all<
     G: Gate + Sync,
     S: Source,
 >(
-    rt: &R,
-    alloc: Global,
-    parts: &ServerParts<'_, G>,
+    parts: &mut ServerParts<'_, R, G, S>,
     configured: &mut Configured,
     means: Means,
-    source: &mut S,
 ) -> Result<u64, ServeFault>
     ensures { IfErr result IsAfterBinding }
 {
-    let starts = first_starts(alloc, &configured.config)?;
-    let blanks = Blanks::new(alloc, configured.config.shards)?;
+    let starts = first_starts(parts.alloc, &configured.config)?;
+    let blanks = Blanks::new(parts.alloc, configured.config.shards)?;
     let starts = starts.as_slice();
-    let mut left = serve_first::<Brand, R, G, S>(
-        rt, alloc, parts, configured, starts, blanks, means, source,
-    )?;
+    let mut left = serve_first::<Brand, R, G, S>(parts, configured, starts, blanks, means)?;
     let mut steps = 0u64;
+    let rt = parts.rt;
     for _ in rt.forever() {
         let Left {
             next,
@@ -409,7 +412,7 @@ fn serve_all<
         let Some(next) = next else {
             return Ok(steps);
         };
-        left = serve_next(rt, alloc, parts, configured, shards, next, outboxes, source)?;
+        left = serve_next(parts, configured, shards, next, outboxes)?;
     }
     unreachable!()
 }
@@ -420,20 +423,17 @@ fn serve_to_end<
     G: Gate + Sync,
     S: Source,
 >(
-    rt: &R,
-    alloc: Global,
-    parts: &ServerParts<'_, G>,
+    parts: &mut ServerParts<'_, R, G, S>,
     mut configured: Configured,
     means: Means,
-    source: &mut S,
 ) -> Result<(), ServeFault>
     ensures { IfErr result IsAfterBinding }
 {
-    let served = serve_all(rt, alloc, parts, &mut configured, means, source);
-    tell_losses(rt, &configured.config, parts.losses);
+    let served = serve_all(parts, &mut configured, means);
+    tell_losses(parts.rt, &configured.config, parts.losses);
     let steps = served?;
     let ended = Notice::Ended(steps, parts.old_history.times());
-    tell_or_drop(rt, &configured.config, ended);
+    tell_or_drop(parts.rt, &configured.config, ended);
     Ok(())
 }
 
@@ -443,25 +443,25 @@ fn serve_with<
     G: Gate + Sync,
     S: Source,
 >(
-    rt: &R,
-    alloc: Global,
-    parts: &ServerParts<'_, G>,
+    parts: &mut ServerParts<'_, R, G, S>,
     listener: Option<&TcpListener>,
     configured: Configured,
     means: Means,
-    source: &mut S,
 ) -> Result<(), ServeFault>
     ensures { IfErr result IsAfterBinding }
 {
+    let rt = parts.rt;
+    let alloc = parts.alloc;
+    let office = parts.office;
+    let old_history = parts.old_history;
     let behind = Behind {
-        office: parts.office,
-        old_history: parts.old_history,
+        office,
+        old_history,
         listener,
         control: match parts.watch {
             Some(watch) => watch.control,
             None => None,
         },
-        start: parts.start,
     };
     thread::scope(
         thread::scope_env(),
@@ -470,19 +470,18 @@ fn serve_with<
             ensures { IfErr result IsAfterBinding }
         {
             let served = if start_behind(scope, rt, alloc, behind) {
-                serve_to_end(rt, alloc, parts, configured, means, source)
+                serve_to_end(parts, configured, means)
             } else {
                 Err(ServeFault::Thread)
             };
-            parts.office.close();
-            parts.old_history.wake();
+            office.close();
+            old_history.wake();
             served
         },
     )
 }
 
-/// Serves a configuration, and each one that follows by `source`, for so many milliseconds, or without end. What its threads
-/// do is counted where somebody watches it. A line tells of each exchange that ends, where that is wanted.
+/// Serves a configuration, and each one that follows by `source`.
 ///
 /// # Errors
 ///
@@ -496,14 +495,17 @@ pub fn serve<
     rt: &R,
     alloc: Global,
     config: Config,
-    watch: Option<Watch<'_>>,
-    are_exchanges_told: bool,
-    milliseconds: Option<u64>,
-    gate: &G,
+    options: ServeOptions<'_, G>,
     source: &mut S,
 ) -> Result<(), ServeFault>
     ensures { IfErr result (IsFaultOf (shown config)) }
 {
+    let ServeOptions {
+        watch,
+        are_exchanges_told,
+        milliseconds,
+        gate,
+    } = options;
     let Ok(start) = Instant::now(rt) else {
         return Err(ServeFault::Clock);
     };
@@ -512,18 +514,8 @@ pub fn serve<
     let listener = listener(rt, &config, watch);
     let losses = SharedLosses::new();
     let old_history = OldHistory::new(alloc, config.shards)?;
-    let office = Office::new();
+    let office = Office::new(start);
     let stopping = Stopping::new();
-    let parts = ServerParts {
-        gate,
-        losses: &losses,
-        watch,
-        old_history: &old_history,
-        office: &office,
-        stopping: &stopping,
-        start,
-        end: milliseconds,
-    };
     let means = Means {
         kits: make_kits(rt, alloc, &config, are_exchanges_told)?,
         outboxes: make_outboxes(alloc, config.shards)?,
@@ -538,13 +530,18 @@ pub fn serve<
         are_exchanges_told,
         counters: None,
     };
-    serve_with(
+    let mut parts = ServerParts {
         rt,
         alloc,
-        &parts,
-        listener.as_ref(),
-        configured,
-        means,
+        gate,
+        losses: &losses,
+        watch,
+        old_history: &old_history,
+        office: &office,
+        stopping: &stopping,
+        start,
+        end: milliseconds,
         source,
-    )
+    };
+    serve_with(&mut parts, listener.as_ref(), configured, means)
 }

@@ -24,7 +24,7 @@ use crate::ends::Ends;
 use crate::row::{ROWS, Row, TAKEN};
 use crate::stage::Stage;
 use log::Log;
-use roam_serve::{NoSource, ServeFault, Watch, serve};
+use roam_serve::{NoSource, ServeFault, ServeOptions, Watch, serve};
 use std::alloc::Global;
 use std::net::Net;
 use std::random::RandomSource;
@@ -45,18 +45,13 @@ fn second<R: Files + RandomSource + Threads + Wait + Clock + Net + Log + Sync>(
     let Some(Ok(config)) = row.config(stage, rt, alloc) else {
         return Err(ServeFault::Memory);
     };
-    let time = Some(row.milliseconds());
-    let none = &mut NoSource { alloc };
-    serve(
-        stage,
-        alloc,
-        config,
-        None,
-        true,
-        time,
-        &stage.turnstile,
-        none,
-    )
+    let options = ServeOptions {
+        watch: None,
+        are_exchanges_told: true,
+        milliseconds: Some(row.milliseconds()),
+        gate: &stage.turnstile,
+    };
+    serve(stage, alloc, config, options, &mut NoSource { alloc })
 }
 
 fn main(rt: HostRuntime) -> io::Result<()> {
@@ -81,7 +76,13 @@ fn main(rt: HostRuntime) -> io::Result<()> {
                 let (acted, served) = thread::scope(thread::scope_env(), &rt, |scope| {
                     let server = scope.spawn(move || {
                         let none = &mut NoSource { alloc };
-                        let served = serve(stage, alloc, config, watch, true, time, gate, none);
+                        let options = ServeOptions {
+                            watch,
+                            are_exchanges_told: true,
+                            milliseconds: time,
+                            gate,
+                        };
+                        let served = serve(stage, alloc, config, options, none);
                         stage.note_end();
                         served
                     });

@@ -23,7 +23,6 @@ use std::time::Clock;
 #[derive(Drop)]
 pub struct Attendant<'s, 'c, R, G, N: Opened> {
     pub rt: &'s R,
-    pub alloc: Global,
     pub shared: &'s Shared<'s, 'c, G, N>,
     pub sockets: &'s [BoundSocket],
     /// Through which the stored steps of a shard are let go of.
@@ -55,7 +54,7 @@ impl<R: Wait + Clock + Net + Log, G, N: Opened> Attendant<'_, '_, R, G, N> {
         match shared.counters {
             Some(counters) => Ok(Some(Standing::look(
                 self.rt,
-                self.alloc,
+                self.shared.alloc,
                 shared.hub,
                 shared.config,
                 counters,
@@ -69,21 +68,21 @@ impl<R: Wait + Clock + Net + Log, G, N: Opened> Attendant<'_, '_, R, G, N> {
     fn metrics(&self) -> Result<Reply, AllocError> {
         match self.look()? {
             Some(standing) => {
-                let page = page(self.alloc, self.shared.config, &standing)?;
+                let page = page(self.shared.alloc, self.shared.config, &standing)?;
                 Ok(done(page))
             }
-            None => Ok(bare(self.alloc, Course::Unknown)),
+            None => Ok(bare(self.shared.alloc, Course::Unknown)),
         }
     }
 
     /// How the server stands.
     fn status(&self, form: Form) -> Result<Reply, AllocError> {
         let Some(standing) = self.look()? else {
-            return Ok(bare(self.alloc, Course::Unknown));
+            return Ok(bare(self.shared.alloc, Course::Unknown));
         };
         let seconds = self.now / 1000;
-        let text = status(self.alloc, self.shared.config, &standing, seconds, form)?;
-        let mut body = Vec::new(self.alloc);
+        let text = status(self.shared.alloc, self.shared.config, &standing, seconds, form)?;
+        let mut body = Vec::new(self.shared.alloc);
         body.extend_from_slice(text.as_str().as_bytes())?;
         Ok(done(body))
     }
@@ -96,7 +95,7 @@ impl<R: Wait + Clock + Net + Log, G, N: Opened> Attendant<'_, '_, R, G, N> {
         if shared.stopping.end_at(end) {
             shared.rest.wake();
         }
-        let mut body = Vec::new(self.alloc);
+        let mut body = Vec::new(self.shared.alloc);
         body.extend_from_slice(b"stopping\n")?;
         Ok(Reply {
             course: Course::Begun,
@@ -118,12 +117,12 @@ impl<R: Wait + Clock + Net + Log, G, N: Opened> Attendant<'_, '_, R, G, N> {
         match self.shared.hub.let_go(self.rt, &mut self.seat, shard) {
             Ok(steps) => {
                 self.count_gone(shard, steps.len());
-                let script = script_of(self.alloc, steps.as_slice());
+                let script = script_of(self.shared.alloc, steps.as_slice());
                 self.shared.old_history.hand_over(self.rt, steps);
                 Ok(done(script?))
             }
-            Err(HubFault::NoShard) => Ok(bare(self.alloc, Course::Unknown)),
-            Err(_) => Ok(bare(self.alloc, Course::Unavailable)),
+            Err(HubFault::NoShard) => Ok(bare(self.shared.alloc, Course::Unknown)),
+            Err(_) => Ok(bare(self.shared.alloc, Course::Unavailable)),
         }
     }
 
@@ -148,7 +147,7 @@ impl<R: Wait + Clock + Net + Log, G, N: Opened> Attendant<'_, '_, R, G, N> {
             Order::Stop => self.stop(),
             Order::Trace(shard) => self.trace(shard),
             Order::Reload => {
-                match prepare_next(self.rt, self.alloc, self.shared, self.sockets, source) {
+                match prepare_next(self.rt, self.shared, self.sockets, source) {
                     Ok(next) => {
                         self.let_go_all();
                         return Some(next);
@@ -157,7 +156,7 @@ impl<R: Wait + Clock + Net + Log, G, N: Opened> Attendant<'_, '_, R, G, N> {
                 }
             }
         };
-        let reply = reply.unwrap_or(bare(self.alloc, Course::Unavailable));
+        let reply = reply.unwrap_or(bare(self.shared.alloc, Course::Unavailable));
         desk.answer(self.rt, reply);
         None
     }

@@ -10,7 +10,7 @@ use std::net::TcpListener;
 use std::random::RandomSource;
 use std::sync::Wait;
 use std::thread::{Scope, Threads};
-use std::time::{Clock, Instant};
+use std::time::Clock;
 
 /// What the threads that outlast each configuration share.
 #[derive(Clone, Copy)]
@@ -21,7 +21,6 @@ pub struct Behind<'s> {
     pub listener: Option<&'s TcpListener>,
     /// Through which the server is asked for more, if through any.
     pub control: Option<&'s ControlSocket>,
-    pub start: Instant,
 }
 
 /// Starts the thread that answers who asks for the counts, where somebody may. Answers whether it has started.
@@ -40,9 +39,8 @@ fn start_metrics<'s, E, R: Wait + Clock + RandomSource + Sync>(
         office,
         door: Door::Metrics,
     };
-    let start = behind.start;
     scope
-        .spawn(move || answer_on(rt, alloc, asker, listener, start, &office.is_over))
+        .spawn(move || answer_on(rt, alloc, asker, listener, office))
         .is_ok()
 }
 
@@ -63,9 +61,8 @@ fn start_control<'s, E, R: Wait + Clock + RandomSource + Sync>(
         door: Door::Control,
     };
     let listener = &socket.listener;
-    let start = behind.start;
     scope
-        .spawn(move || answer_on(rt, alloc, asker, listener, start, &office.is_over))
+        .spawn(move || answer_on(rt, alloc, asker, listener, office))
         .is_ok()
 }
 

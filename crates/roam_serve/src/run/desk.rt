@@ -7,6 +7,7 @@ use roam_metrics::Form;
 use std::sync::atomic::{AtomicBool, Ordering};
 use std::sync::{Mutex, Wait};
 use std::thread::Parker;
+use std::time::Instant;
 
 /// What the server's own thread is asked for.
 #[derive(Clone, Copy)]
@@ -153,17 +154,20 @@ pub struct Office {
     pub metrics: Desk,
     pub control: Desk,
     pub attendant: Parker,
+    /// When the server started.
+    pub start: Instant,
     /// Whether the server ends: nothing is answered any more.
     pub is_over: AtomicBool,
 }
 
 impl Office {
     /// Nobody asks yet.
-    pub fn new() -> Office {
+    pub fn new(start: Instant) -> Office {
         Office {
             metrics: Desk::new(),
             control: Desk::new(),
             attendant: Parker::new(),
+            start,
             is_over: AtomicBool::new(false),
         }
     }

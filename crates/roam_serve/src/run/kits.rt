@@ -36,13 +36,19 @@ pub struct Kit {
     pub buffer: Vec<u8>,
 }
 
+/// What the timer and the workers are made of.
+#[derive(Drop)]
+pub struct ThreadKits {
+    pub timer: Kit,
+    pub workers: Vec<Kit>,
+}
+
 /// What all threads are made of.
 #[derive(Drop)]
 pub struct Kits {
     /// What ends the wait of the timer, the first, and of each worker.
     pub wakers: Vec<Waker>,
-    pub timer: Kit,
-    pub workers: Vec<Kit>,
+    pub threads: ThreadKits,
 }
 
 /// What one thread is made of.
@@ -90,10 +96,10 @@ pub fn make_kits<R: Net>(
     let Some(one) = polls.pop() else {
         return Err(ServeFault::Memory);
     };
+    let timer = make_kit(alloc, one, notes_of_timer(alloc, config)?, are_told, 0)?;
     Ok(Kits {
         wakers,
-        timer: make_kit(alloc, one, notes_of_timer(alloc, config)?, are_told, 0)?,
-        workers,
+        threads: ThreadKits { timer, workers },
     })
 }
 

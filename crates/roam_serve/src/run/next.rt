@@ -85,7 +85,6 @@ fn is_stopping(alloc: Global) -> Reply {
 /// All that the server needs for a configuration that follows the one that is served. Sockets that both want are the same.
 fn make_next<R: Net + Log, G, N: Opened>(
     rt: &R,
-    alloc: Global,
     shared: &Shared<'_, '_, G, N>,
     sockets: &[BoundSocket],
     following: Following,
@@ -95,6 +94,7 @@ fn make_next<R: Net + Log, G, N: Opened>(
         are_exchanges_told,
         report,
     } = following;
+    let alloc = shared.alloc;
     let sockets = bind_following(rt, alloc, &config, sockets)?;
     widen_all(rt, &config, sockets.as_slice());
     let kits = make_kits(rt, alloc, &config, are_exchanges_told)?;
@@ -124,19 +124,18 @@ fn make_next<R: Net + Log, G, N: Opened>(
 /// What is answered where none follows.
 pub fn prepare_next<R: Net + Log, G, N: Opened, S: Source>(
     rt: &R,
-    alloc: Global,
     shared: &Shared<'_, '_, G, N>,
     sockets: &[BoundSocket],
     source: &mut S,
 ) -> Result<Next, Reply> {
     if shared.stopping.is_asked() {
-        return Err(is_stopping(alloc));
+        return Err(is_stopping(shared.alloc));
     }
     let following = match source.following(shared.config) {
         Ok(following) => following,
         Err(body) => return Err(declined(body)),
     };
-    match make_next(rt, alloc, shared, sockets, following) {
+    match make_next(rt, shared, sockets, following) {
         Ok(next) => Ok(next),
         Err(fault) => Err(declined(source.words_of(fault))),
     }

@@ -4,14 +4,14 @@ ghost use Rattle.std.specs.Prelude.{◌≡◌, ◌≤◌, IfErr};
 ghost use Rattle.roam_serve.specs.Faults.{IsAfterBinding};
 
 use crate::fault::{ServeFault, reason_of};
-use crate::run::kits::Kit;
+use crate::run::kits::{Kit, ThreadKits};
 use crate::run::shared::Shared;
 use crate::system::bind::BoundSocket;
 use crate::system::socket::Socket;
 use crate::threads::context::WorkerContext;
 use crate::threads::counting::Counting;
 use crate::threads::exchanges::Exchanges;
-use crate::threads::logger::Lines;
+use crate::threads::logger::{Lines, Logger};
 use crate::threads::notice::{Notice, Notices};
 use crate::threads::outgoing::Outgoing;
 use crate::threads::receiver::Receiver;
@@ -26,15 +26,15 @@ use roam_port::Outbox;
 use rtrb::Consumer;
 use std::alloc::Global;
 
-/// All threads that take part in the hub, before they start, and the queues of their notices.
+/// For how many octets of a line room is made at the start.
+const LINE: usize = 4096;
+
+/// The threads of a configuration, before they start: those that take part in the hub, and the logger.
 #[derive(Drop)]
 pub struct Prepared<'s, 'c, G, N: Opened> {
     pub workers: Vec<Worker<'s, 'c, G, N>>,
     pub timer: Timer<'s, 'c, G, N>,
-    pub queues: Vec<Consumer<Notice>>,
-    pub lines: Lines<'s>,
-    /// The seat of the server's own thread.
-    pub seat: Seat<Global, N>,
+    pub logger: Logger<'s>,
 }
 
 /// What a worker or the timer has that it owns.
@@ -100,79 +100,6 @@ fn ports(
     Ok(ports)
 }
 
-/// What a worker or the timer has. The packets that still wait in its outbox are sent, where there is room for them now.
-fn context<'s, 'c, G, N: Opened>(
-    alloc: Global,
-    sockets: &'s [BoundSocket],
-    shared: &'s Shared<'s, 'c, G, N>,
-    parts: Parts<N>,
-) -> Result<WorkerContext<'s, 'c, G, N>, ServeFault>
-    ensures { IfErr result IsAfterBinding }
-{
-    let Parts {
-        number,
-        seat,
-        outbox,
-        room,
-        events,
-        notices,
-        exchanges,
-    } = parts;
-    let workers = usize::from(shared.config.shards);
-    let counting = Counting {
-        config: shared.config,
-        counts: match shared.counters {
-            Some(counters) => counters.of_thread(number),
-            None => None,
-        },
-    };
-    let mut outgoing = Outgoing {
-        outbox,
-        ports: ports(alloc, sockets, number, workers)?,
-        losses: shared.losses,
-        counting,
-        room,
-        events,
-        is_blocked: false,
-    };
-    outgoing.send();
-    Ok(WorkerContext {
-        shared,
-        seat,
-        outgoing,
-        notices,
-        exchanges,
-        counting,
-        now: 0,
-    })
-}
-
-/// A worker that receives from its sockets. Two events more than it has sockets may come: that it is woken, and
-/// that sockets have room again.
-fn worker<'s, 'c, G, N: Opened>(
-    alloc: Global,
-    sockets: &'s [BoundSocket],
-    context: WorkerContext<'s, 'c, G, N>,
-    poll: Poll,
-    buffer: Vec<u8>,
-    number: usize,
-) -> Result<Worker<'s, 'c, G, N>, ServeFault>
-    ensures { IfErr result IsAfterBinding }
-{
-    let receivers = receivers(alloc, sockets, number)?;
-    register(&poll, receivers.as_slice())?;
-    let events = Events::with_capacity(alloc, receivers.len().saturating_add(2))?;
-    let ready = Vec::with_capacity(alloc, receivers.len())?;
-    Ok(Worker {
-        context,
-        receivers,
-        ready,
-        poll,
-        events,
-        buffer,
-    })
-}
-
 /// The logger's ends of all queues.
 #[derive(Drop)]
 struct Queues<'s> {
@@ -197,138 +124,205 @@ impl Queues<'_> {
     }
 }
 
-/// A worker of this number, made of its kit.
-fn worker_of_kit<'s, 'c, G, N: Opened>(
-    alloc: Global,
+/// Makes the threads of a configuration.
+#[derive(Drop)]
+struct Builder<'s, 'c, G, N: Opened> {
     sockets: &'s [BoundSocket],
     shared: &'s Shared<'s, 'c, G, N>,
-    number: usize,
-    seat: Seat<Global, N>,
-    outbox: Outbox<Global>,
-    kit: Kit,
-    queues: &mut Queues<'_>,
-) -> Result<Worker<'s, 'c, G, N>, ServeFault>
-    ensures { IfErr result IsAfterBinding }
-{
-    let Kit {
-        polls,
-        notices,
-        queue,
-        exchanges,
-        lines,
-        room_events,
-        buffer,
-    } = kit;
-    queues.take(queue, lines)?;
-    let parts = Parts {
-        number,
-        seat,
-        outbox,
-        room: polls.room,
-        events: room_events,
-        notices,
-        exchanges,
-    };
-    let context = context(alloc, sockets, shared, parts)?;
-    worker(alloc, sockets, context, polls.arrivals, buffer, number)
+    queues: Queues<'s>,
 }
 
-/// The timer, made of its kit.
-fn timer_of_kit<'s, 'c, G, N: Opened>(
-    alloc: Global,
-    sockets: &'s [BoundSocket],
-    shared: &'s Shared<'s, 'c, G, N>,
-    seat: Seat<Global, N>,
-    outbox: Outbox<Global>,
-    kit: Kit,
-    queues: &mut Queues<'_>,
-) -> Result<Timer<'s, 'c, G, N>, ServeFault>
-    ensures { IfErr result IsAfterBinding }
-{
-    let Kit {
-        polls,
-        notices,
-        queue,
-        exchanges,
-        lines,
-        room_events,
-        ..
-    } = kit;
-    queues.take(queue, lines)?;
-    let parts = Parts {
-        number: usize::from(shared.config.shards),
-        seat,
-        outbox,
-        room: polls.room,
-        events: room_events,
-        notices,
-        exchanges,
-    };
-    Ok(Timer {
-        context: context(alloc, sockets, shared, parts)?,
-        poll: polls.arrivals,
-        events: Events::with_capacity(alloc, 2)?,
-        told: [None; 4],
-        is_stop_told: false,
-        rests: Rests::new(alloc, shared.config)?,
-        quiet_since: None,
-    })
-}
+impl<'s, 'c, G, N: Opened> Builder<'s, 'c, G, N> {
+    /// Has made no thread yet.
+    fn new(sockets: &'s [BoundSocket], shared: &'s Shared<'s, 'c, G, N>) -> Builder<'s, 'c, G, N> {
+        let alloc = shared.alloc;
+        Builder {
+            sockets,
+            shared,
+            queues: Queues {
+                notices: Vec::new(alloc),
+                lines: Lines {
+                    queues: Vec::new(alloc),
+                    counts: match shared.counters {
+                        Some(counters) => counters.of_thread(usize::from(shared.config.shards)),
+                        None => None,
+                    },
+                    dropped: 0,
+                },
+            },
+        }
+    }
 
-/// All threads that take part in the hub: a worker for each shard, and the timer. Each has its kit, an outbox, in which packets
-/// may wait that others left there, and a seat that is split off this one.
-pub fn prepare_threads<'s, 'c, G, N: Opened>(
-    alloc: Global,
-    sockets: &'s [BoundSocket],
-    shared: &'s Shared<'s, 'c, G, N>,
-    seat: Seat<Global, N>,
-    workers: Vec<Kit>,
-    timer: Kit,
-    outboxes: Vec<Outbox<Global>>,
-) -> Result<Prepared<'s, 'c, G, N>, ServeFault>
-    ensures { IfErr result IsAfterBinding }
-{
-    let mut queues = Queues {
-        notices: Vec::new(alloc),
-        lines: Lines {
-            queues: Vec::new(alloc),
+    /// What a worker or the timer has. The packets that still wait in its outbox are sent, where there is room for them now.
+    fn context(&self, parts: Parts<N>) -> Result<WorkerContext<'s, 'c, G, N>, ServeFault>
+        ensures { IfErr result IsAfterBinding }
+    {
+        let shared = self.shared;
+        let Parts {
+            number,
+            seat,
+            outbox,
+            room,
+            events,
+            notices,
+            exchanges,
+        } = parts;
+        let workers = usize::from(shared.config.shards);
+        let counting = Counting {
+            config: shared.config,
             counts: match shared.counters {
-                Some(counters) => counters.of_thread(usize::from(shared.config.shards)),
+                Some(counters) => counters.of_thread(number),
                 None => None,
             },
-            dropped: 0,
-        },
-    };
-    let mut made = Vec::with_capacity(alloc, workers.len())?;
+        };
+        let mut outgoing = Outgoing {
+            outbox,
+            ports: ports(shared.alloc, self.sockets, number, workers)?,
+            losses: shared.losses,
+            counting,
+            room,
+            events,
+            is_blocked: false,
+        };
+        outgoing.send();
+        Ok(WorkerContext {
+            shared,
+            seat,
+            outgoing,
+            notices,
+            exchanges,
+            counting,
+            now: 0,
+        })
+    }
+
+    /// A worker of this number, made of its kit. Two events more than it has sockets may come: that it is woken, and
+    /// that sockets have room again.
+    fn worker(
+        &mut self,
+        number: usize,
+        seat: Seat<Global, N>,
+        outbox: Outbox<Global>,
+        kit: Kit,
+    ) -> Result<Worker<'s, 'c, G, N>, ServeFault>
+        ensures { IfErr result IsAfterBinding }
+    {
+        let Kit {
+            polls,
+            notices,
+            queue,
+            exchanges,
+            lines,
+            room_events,
+            buffer,
+        } = kit;
+        self.queues.take(queue, lines)?;
+        let context = self.context(Parts {
+            number,
+            seat,
+            outbox,
+            room: polls.room,
+            events: room_events,
+            notices,
+            exchanges,
+        })?;
+        let alloc = self.shared.alloc;
+        let receivers = receivers(alloc, self.sockets, number)?;
+        register(&polls.arrivals, receivers.as_slice())?;
+        let events = Events::with_capacity(alloc, receivers.len().saturating_add(2))?;
+        let ready = Vec::with_capacity(alloc, receivers.len())?;
+        Ok(Worker {
+            context,
+            receivers,
+            ready,
+            poll: polls.arrivals,
+            events,
+            buffer,
+        })
+    }
+
+    /// The timer, made of its kit.
+    fn timer(
+        &mut self,
+        seat: Seat<Global, N>,
+        outbox: Outbox<Global>,
+        kit: Kit,
+    ) -> Result<Timer<'s, 'c, G, N>, ServeFault>
+        ensures { IfErr result IsAfterBinding }
+    {
+        let Kit {
+            polls,
+            notices,
+            queue,
+            exchanges,
+            lines,
+            room_events,
+            ..
+        } = kit;
+        self.queues.take(queue, lines)?;
+        let shared = self.shared;
+        let context = self.context(Parts {
+            number: usize::from(shared.config.shards),
+            seat,
+            outbox,
+            room: polls.room,
+            events: room_events,
+            notices,
+            exchanges,
+        })?;
+        Ok(Timer {
+            context,
+            poll: polls.arrivals,
+            events: Events::with_capacity(shared.alloc, 2)?,
+            told: [None; 4],
+            is_stop_told: false,
+            rests: Rests::new(shared.alloc, shared.config)?,
+            quiet_since: None,
+        })
+    }
+}
+
+/// The threads of a configuration: a worker for each shard, the timer and the logger; and the seat of the server's own thread.
+/// Each that takes part in the hub has its kit, an outbox, in which packets may wait that others left there, and a seat that is
+/// split off this one.
+pub fn prepare_threads<'s, 'c, G, N: Opened>(
+    sockets: &'s [BoundSocket],
+    shared: &'s Shared<'s, 'c, G, N>,
+    seat: Seat<Global, N>,
+    kits: ThreadKits,
+    outboxes: Vec<Outbox<Global>>,
+) -> Result<(Prepared<'s, 'c, G, N>, Seat<Global, N>), ServeFault>
+    ensures { IfErr result IsAfterBinding }
+{
+    let alloc = shared.alloc;
+    let mut builder = Builder::new(sockets, shared);
+    let mut workers = Vec::with_capacity(alloc, kits.workers.len())?;
     let mut rest = seat;
     let mut outboxes = outboxes.into_iter();
-    for kit in workers {
+    for kit in kits.workers {
         let (Ok((first, seat)), Some(outbox)) = (split(rest), outboxes.next()) else {
             return Err(ServeFault::Memory);
         };
         rest = first;
-        let number = made.len();
-        let worker = worker_of_kit(
-            alloc,
-            sockets,
-            shared,
-            number,
-            seat,
-            outbox,
-            kit,
-            &mut queues,
-        )?;
-        made.push(worker)?;
+        let worker = builder.worker(workers.len(), seat, outbox, kit)?;
+        workers.push(worker)?;
     }
     let (Ok((rest, seat)), Some(outbox)) = (split(rest), outboxes.next()) else {
         return Err(ServeFault::Memory);
     };
-    let timer = timer_of_kit(alloc, sockets, shared, rest, outbox, timer, &mut queues)?;
-    Ok(Prepared {
-        workers: made,
-        timer,
-        queues: queues.notices,
-        lines: queues.lines,
+    let timer = builder.timer(rest, outbox, kits.timer)?;
+    let Queues { notices, lines } = builder.queues;
+    let logger = Logger {
+        queues: notices,
+        lines,
+        line: Vec::with_capacity(alloc, LINE)?,
+    };
+    Ok((
+        Prepared {
+            workers,
+            timer,
+            logger,
+        },
         seat,
-    })
+    ))
 }

@@ -20,6 +20,7 @@ use std::time::Instant;
 /// What the threads share that serve one configuration.
 #[derive(Drop)]
 pub struct Shared<'s, 'c, G, N: Opened> {
+    pub alloc: Global,
     pub config: &'c Config,
     pub hub: &'s Hub<'c, Global, N>,
     pub gate: &'s G,

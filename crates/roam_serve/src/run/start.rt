@@ -11,47 +11,19 @@ use crate::run::next::Next;
 use crate::run::prepared::Prepared;
 use crate::run::shared::Shared;
 use crate::run::source::Source;
-use crate::system::bind::BoundSocket;
-use crate::threads::logger::{Lines, log_notices, tell_or_drop};
-use crate::threads::notice::{Notice, serving};
-use crate::threads::timer::{Timer, tick_on};
+use crate::threads::logger::{log_notices, tell_or_drop};
+use crate::threads::notice::serving;
+use crate::threads::timer::tick_on;
 use crate::threads::worker::{Worker, receive_on};
 use log::Log;
 use roam_hub::{Gate, Opened};
-use rtrb::Consumer;
-use std::alloc::Global;
+use std::alloc::{AllocError, Global};
 use std::net::Net;
 use std::random::RandomSource;
 use std::sync::Wait;
 use std::thread;
 use std::thread::{JoinHandle, Scope, Threads};
 use std::time::Clock;
-
-/// For how many octets of a line room is made at the start.
-const LINE: usize = 4096;
-
-/// Starts the thread that logs notices. Answers whether it has started.
-fn start_logger<
-    's,
-    'w: 's,
-    'c: 's,
-    'l: 's,
-    E,
-    R: Wait + Log + Sync,
-    G: Gate + Sync,
-    N: Opened + Send + Sync,
->(
-    scope: &Scope<'s, E>,
-    rt: &'s R,
-    shared: &'s Shared<'w, 'c, G, N>,
-    queues: Vec<Consumer<Notice>>,
-    lines: Lines<'l>,
-    line: Vec<u8>,
-) -> bool {
-    scope
-        .spawn(move || log_notices(rt, shared.config, shared.logger, queues, lines, line))
-        .is_ok()
-}
 
 /// Starts a thread for each worker. Answers whether all have started.
 fn start_workers<
@@ -79,22 +51,11 @@ fn start_workers<
     have_started
 }
 
-/// What the threads take with them.
-#[derive(Drop)]
-struct Starting<'w, 'c, 'l, G, N: Opened> {
-    workers: Vec<Worker<'w, 'c, G, N>>,
-    timer: Timer<'w, 'c, G, N>,
-    queues: Vec<Consumer<Notice>>,
-    lines: Lines<'l>,
-    line: Vec<u8>,
-}
-
 /// Starts the logger, the workers and the timer. Answers whether all have started.
 fn start_all<
     's,
     'w: 's,
     'c: 's,
-    'l: 's,
     E,
     R: Wait + Clock + Log + Sync,
     G: Gate + Sync,
@@ -102,20 +63,19 @@ fn start_all<
 >(
     scope: &Scope<'s, E>,
     rt: &'s R,
-    alloc: Global,
     shared: &'s Shared<'w, 'c, G, N>,
-    starting: Starting<'w, 'c, 'l, G, N>,
+    prepared: Prepared<'w, 'c, G, N>,
     handles: &mut Vec<JoinHandle<WorkerEnd<N>>>,
 ) -> bool {
-    let Starting {
+    let Prepared {
         workers,
         timer,
-        queues,
-        lines,
-        line,
-    } = starting;
-    let logs = start_logger(scope, rt, shared, queues, lines, line);
-    let work = start_workers(scope, rt, alloc, workers, handles);
+        logger,
+    } = prepared;
+    let logs = scope
+        .spawn(move || log_notices(rt, shared.config, shared.logger, logger))
+        .is_ok();
+    let work = start_workers(scope, rt, shared.alloc, workers, handles);
     match scope.spawn(move || tick_on(rt, timer)) {
         Ok(handle) => handles.push(handle).is_ok() && work && logs,
         Err(_) => false,
@@ -159,6 +119,21 @@ pub struct Turn<N: Opened> {
     pub next: Option<Next>,
 }
 
+/// Room for what the workers and the timer give back.
+#[derive(Drop)]
+struct Room<N: Opened> {
+    handles: Vec<JoinHandle<WorkerEnd<N>>>,
+    ends: Vec<WorkerEnd<N>>,
+}
+
+/// Room for so many.
+fn room_for<N: Opened>(alloc: Global, count: usize) -> Result<Room<N>, AllocError> {
+    Ok(Room {
+        handles: Vec::with_capacity(alloc, count)?,
+        ends: Vec::with_capacity(alloc, count)?,
+    })
+}
+
 /// Runs the threads until they have ended, or until a configuration comes that is to follow. Once all run it is told that
 /// this one is served, also to who asked for it. Until the end this thread answers who asks for something.
 ///
@@ -173,44 +148,26 @@ pub fn run_threads<
     N: Opened + Send + Sync,
     S: Source,
 >(
-    rt: &'s R,
-    alloc: Global,
-    sockets: &'s [BoundSocket],
-    shared: &'s Shared<'s, 'c, G, N>,
+    attendant: Attendant<'s, 'c, R, G, N>,
     prepared: Prepared<'s, 'c, G, N>,
     handover: Handover,
     source: &mut S,
 ) -> Result<Turn<N>, ServeFault>
     ensures { IfErr result IsAfterBinding }
 {
-    let Prepared {
-        workers,
-        timer,
-        queues,
-        lines,
-        seat,
-    } = prepared;
-    let starting = Starting {
-        workers,
-        timer,
-        queues,
-        lines,
-        line: Vec::with_capacity(alloc, LINE)?,
+    let rt = attendant.rt;
+    let shared = attendant.shared;
+    let count = prepared.workers.len().saturating_add(1);
+    let Ok(room) = room_for(shared.alloc, count) else {
+        return Err(ServeFault::Memory);
     };
-    let count = starting.workers.len().saturating_add(1);
-    let mut handles: Vec<JoinHandle<WorkerEnd<N>>> = Vec::with_capacity(alloc, count)?;
-    let mut ends = Vec::with_capacity(alloc, count)?;
+    let Room {
+        mut handles,
+        mut ends,
+    } = room;
     let mut next = None;
-    let attendant = Attendant {
-        rt,
-        alloc,
-        shared,
-        sockets,
-        seat,
-        now: 0,
-    };
     let have_started = thread::scope(thread::scope_env(), rt, |scope| {
-        let mut have_started = start_all(scope, rt, alloc, shared, starting, &mut handles);
+        let mut have_started = start_all(scope, rt, shared, prepared, &mut handles);
         next = attend(have_started, attendant, handover, source);
         shared.end_all();
         for handle in handles {

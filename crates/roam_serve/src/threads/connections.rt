@@ -3,6 +3,7 @@
 //! It never waits for one connection: each has a time and a bound on what it may ask, and where there are too many the
 //! oldest is closed. No other thread waits for it.
 
+use crate::run::desk::Office;
 use crate::system::clock::now;
 use http_server::{Config as Limits, Connection, Service};
 use libc::net::{POLLIN, POLLOUT, poll};
@@ -15,8 +16,8 @@ use std::net::{TcpListener, TcpStream};
 use std::os::fd::AsRawFd;
 use std::random::RandomSource;
 use std::sync::Wait;
-use std::sync::atomic::{AtomicBool, Ordering};
-use std::time::{Clock, Duration, Instant};
+use std::sync::atomic::Ordering;
+use std::time::{Clock, Duration};
 use std::{io, thread};
 
 /// How many connections are open at once. One more closes the oldest.
@@ -164,17 +165,16 @@ pub fn answer_on<R: Wait + Clock + RandomSource, L: Listener, S: Service + Drop>
     alloc: Global,
     service: S,
     listener: &L,
-    start: Instant,
-    stop: &AtomicBool,
+    office: &Office,
 ) {
     let mut service = service;
     let mut open = Vec::new(alloc);
     let mut moment = 0;
     for _ in rt.forever() {
-        if stop.load(Ordering::SeqCst) {
+        if office.is_over.load(Ordering::SeqCst) {
             return;
         }
-        moment = now(rt, start, moment);
+        moment = now(rt, office.start, moment);
         accept_all(rt, alloc, listener, &mut open, moment);
         step_all(&mut open, &mut service, moment);
         wait(rt, listener, open.as_slice());

@@ -180,15 +180,22 @@ fn are_abandoned(queues: &mut [Consumer<Notice>]) -> bool {
     all
 }
 
-/// Tells what lies in the queues until their workers have ended. Lines of exchanges are built in `line`.
-pub fn log_notices<R: Wait + Log>(
-    rt: &R,
-    config: &Config,
-    wake: &Parker,
-    mut queues: Vec<Consumer<Notice>>,
-    mut lines: Lines<'_>,
-    mut line: Vec<u8>,
-) {
+/// What the logger takes with it.
+#[derive(Drop)]
+pub struct Logger<'s> {
+    pub queues: Vec<Consumer<Notice>>,
+    pub lines: Lines<'s>,
+    /// Lines of exchanges are built in it.
+    pub line: Vec<u8>,
+}
+
+/// Tells what lies in the queues until their workers have ended.
+pub fn log_notices<R: Wait + Log>(rt: &R, config: &Config, wake: &Parker, logger: Logger<'_>) {
+    let Logger {
+        mut queues,
+        mut lines,
+        mut line,
+    } = logger;
     let mut dropped = 0u64;
     for _ in rt.forever() {
         let have_ended = are_abandoned(queues.as_mut_slice());

@@ -21,26 +21,23 @@ fn push_hex(script: &mut Vec<u8>, octets: &[u8]) -> Result<(), AllocError> {
     Ok(())
 }
 
-/// Adds the line of an arrival.
-fn push_arrival(
-    alloc: Global,
-    script: &mut Vec<u8>,
-    now: u64,
-    at: Place,
-    from: Endpoint,
-    octets: &[u8],
-) -> Result<(), AllocError> {
+/// The words of an arrival's line before its octets: when, at which place, and from where.
+fn words_of(alloc: Global, now: u64, at: Place, from: Endpoint) -> Result<String, AllocError> {
     let [a, b, c, d] = from.ip;
     let port = from.port;
-    let head = match at {
-        Place::Auth => format!(in alloc; "A {now} auth {a}.{b}.{c}.{d}:{port} ")?,
-        Place::Acct => format!(in alloc; "A {now} acct {a}.{b}.{c}.{d}:{port} ")?,
-        Place::Out(realm) => format!(in alloc; "A {now} out:{realm} {a}.{b}.{c}.{d}:{port} ")?,
+    match at {
+        Place::Auth => format!(in alloc; "A {now} auth {a}.{b}.{c}.{d}:{port} "),
+        Place::Acct => format!(in alloc; "A {now} acct {a}.{b}.{c}.{d}:{port} "),
+        Place::Out(realm) => format!(in alloc; "A {now} out:{realm} {a}.{b}.{c}.{d}:{port} "),
         Place::Reverse(realm) => {
-            format!(in alloc; "A {now} reverse:{realm} {a}.{b}.{c}.{d}:{port} ")?
+            format!(in alloc; "A {now} reverse:{realm} {a}.{b}.{c}.{d}:{port} ")
         }
-    };
-    script.extend_from_slice(head.as_str().as_bytes())?;
+    }
+}
+
+/// Adds the line of an arrival.
+fn push_arrival(script: &mut Vec<u8>, words: String, octets: &[u8]) -> Result<(), AllocError> {
+    script.extend_from_slice(words.as_str().as_bytes())?;
     push_hex(script, octets)?;
     script.extend_from_slice(b"\n")
 }
@@ -55,7 +52,7 @@ pub fn script_of(alloc: Global, steps: &[Step<Global>]) -> Result<Vec<u8>, Alloc
                 at,
                 from,
                 octets,
-            } => push_arrival(alloc, &mut script, now, at, from, octets)?,
+            } => push_arrival(&mut script, words_of(alloc, now, at, from)?, octets)?,
             Happened::Ticked { now, shard } => {
                 let line = format!(in alloc; "T {now} {shard}\n")?;
                 script.extend_from_slice(line.as_str().as_bytes())?;
