@@ -76,8 +76,7 @@ fn append_seal<A: Allocator>(out: &mut Vec<u8, A>, access: bool)
 
 /// Appends the attributes of a reply that are returned.
 fn append_carried<A: Allocator>(out: &mut Vec<u8, A>, reply: &View<'_>, access: bool)
-    requires { vec_len out.old
-        + length (attributes_text (filter (is_carried access) reply.now.attributes))
+    requires { vec_len out.old + length (attributes_text (filter (is_carried access) reply.now.attributes))
         ≤ vec_capacity out.old }
     ensures items { out.new.items
         ≡ out.old.items ++ attributes_text (filter (is_carried access) reply.now.attributes) }

@@ -20,8 +20,7 @@ use std::alloc::Allocator;
 /// Hides the salted strings of an Access-Accept anew, in place.
 fn rehide_accept(octets: &mut [u8], reply: &View<'_>, request: &View<'_>, returning: &Returning<'_>)
     requires plain { IsPlainText reply.now request.now octets.old }
-    ensures { octets.new
-        ≡ packet_text (unsealed_return (shown returning.now) reply.now request.now) }
+    ensures { octets.new ≡ packet_text (unsealed_return (shown returning.now) reply.now request.now) }
 {
     if reply.code() == ACCESS_ACCEPT {
         let from = HidingKey {
@@ -89,22 +88,19 @@ pub fn back<A: Allocator>(
     requires home_secret { IsSecret home_secret.now }
     requires client_secret { IsSecret client_secret.now }
     ensures ok { OnOk result (out.new.items ≡ out.old.items ++ packet_text (returned
-        (returning forwarded_authenticator home_secret.now client_secret.now)
-        reply.now request.now)) }
+        (returning forwarded_authenticator home_secret.now client_secret.now) reply.now request.now)) }
     ensures err { OnErr result (out.new.items ≡ out.old.items) }
     ensures capacity { OnErr result (vec_capacity out.new ≡ vec_capacity out.old) }
 
     // The size is looked at before memory is asked for.
     ensures reply_too_long { IsErrOf result Refusal.ReplyTooLong ↔ (4096 < returned_length
-        (returning forwarded_authenticator home_secret.now client_secret.now)
-        reply.now request.now) }
+        (returning forwarded_authenticator home_secret.now client_secret.now) reply.now request.now) }
     ensures causes { IfErr result (λ e. (e ≡ Refusal.ReplyTooLong) ⊎ (e ≡ Refusal.NoMemory)) }
 
     // Memory is wanting only where there was no room for the packet.
     ensures full { IsErrOf result Refusal.NoMemory
         → vec_capacity out.old < vec_len out.old + returned_length
-        (returning forwarded_authenticator home_secret.now client_secret.now)
-        reply.now request.now }
+        (returning forwarded_authenticator home_secret.now client_secret.now) reply.now request.now }
 {
     let size = returned_len(reply, request);
     if size > MAX_PACKET_LENGTH {
