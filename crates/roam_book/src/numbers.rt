@@ -1,6 +1,8 @@
 //! What a realm keeps besides its entries: the numbers that it hands out, and the ledger of sessions.
 
-ghost use Rattle.std.specs.Prelude.{◌≡◌, ℕ, ◌<◌, ◌≤◌, ◌+◌, ◌^◌, ◌*◌, ◌%◌, List, [], ◌∷◌, true, Some, None, length, replicate, drop, slice_set, IfSome, IfNone, IfOk, IsOk, OnOk, is_some};
+ghost use Rattle.std.specs.Prelude.{◌≡◌, ℕ, ◌<◌, ◌≤◌, ◌+◌, ◌^◌, ◌*◌, ◌%◌, List, []};
+ghost use Rattle.std.specs.Prelude.{◌∷◌, true, Some, None, length, replicate, drop, slice_set, IfSome, IfNone};
+ghost use Rattle.std.specs.Prelude.{IfOk, IsOk, OnOk, is_some};
 ghost use Rattle.std.specs.List.{find};
 ghost use Rattle.roam_ids.specs.LaneState.{place_at, ticket_at};
 ghost use Rattle.roam_ids.specs.declared.place.Place.TheVariants.{Free};
@@ -12,7 +14,8 @@ ghost use Rattle.roam_book.specs.ReplyPlans.{IsPrepared};
 ghost use Rattle.roam_book.specs.RealmConfig.{IsLink, link_place, link_count, server_links};
 ghost use Rattle.roam_book.specs.RealmState.{next_toward};
 ghost use Rattle.roam_book.specs.Rests.{after_choice, after_reply, after_silence, all_awake, rest_of, with_rest};
-ghost use Rattle.roam_book.specs.Sound.{AreOwnLanes, LanesTell, lane_of, cursors_of, has_free, is_freed, is_open, marks_of, WaitsJustAt, chosen_link, is_ready, stands_back_at};
+ghost use Rattle.roam_book.specs.Sound.{AreOwnLanes, LanesTell, lane_of, cursors_of, has_free, is_freed, is_open};
+ghost use Rattle.roam_book.specs.Sound.{marks_of, WaitsJustAt, chosen_link, is_ready, stands_back_at};
 
 use crate::rest::Rest;
 use crate::service::Service;
