@@ -6,3 +6,4 @@ pub mod StandardFacts
 pub mod SealingLemmas
 pub mod DecidingLemmas
 pub mod DifferenceLemmas
+pub mod SignedLemmas

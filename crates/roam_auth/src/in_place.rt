@@ -1,10 +1,15 @@
 //! Filling in the Message-Authenticator and the Authenticator of a packet that is built, in place.
 
-ghost use Rattle.std.specs.Prelude.{◌≡◌, ◌+◌, ◌≤◌, ◌++◌, length, take, drop, MatchOption, IfNone, IfSome};
+ghost use Rattle.std.specs.Prelude.{◌≡◌, ◌+◌, ◌≤◌, ◌++◌, length, take, drop, MatchOption, IfNone};
+ghost use Rattle.std.specs.Prelude.{IfSome};
 ghost use Rattle.roam_wire.specs.Packet.{packet_text};
 ghost use Rattle.roam_wire.specs.Reading.{IsPacketText, packet_of};
-ghost use Rattle.roam_auth.specs.Authenticators.{with_authenticator, request_authenticator, response_authenticator};
-ghost use Rattle.roam_auth.specs.MessageAuthenticator.{HasNoMessageAuthenticator, HasOneMessageAuthenticator, HasAtMostOneMessageAuthenticator, message_authenticator, with_message_authenticator};
+ghost use Rattle.roam_wire.specs.Secret.{IsSecret};
+ghost use Rattle.roam_auth.specs.Authenticators.{request_authenticator, response_authenticator, with_authenticator};
+ghost use Rattle.roam_auth.specs.Authenticators.{signed_reply};
+ghost use Rattle.roam_auth.specs.MessageAuthenticator.{HasNoMessageAuthenticator, HasOneMessageAuthenticator};
+ghost use Rattle.roam_auth.specs.MessageAuthenticator.{HasAtMostOneMessageAuthenticator, message_authenticator};
+ghost use Rattle.roam_auth.specs.MessageAuthenticator.{with_message_authenticator};
 ghost use Rattle.roam_auth.specs.Sealing.{IsValuePlace};
 
 use crate::message::message_auth;
@@ -40,8 +45,7 @@ fn place_in(octets: &[u8]) -> Option<usize>
 /// The Message-Authenticator of the packet of these octets, if it has one.
 fn digest_of(octets: &[u8], secret: &[u8], authenticator: [u8; 16]) -> Option<[u8; 16]>
     requires packet { IsPacketText octets.now }
-    requires at_least_one_octet { 1 ≤ length secret.now }
-    requires at_most_64_octets { length secret.now ≤ 64 }
+    requires secret { IsSecret secret.now }
     ensures none { IfNone result (¬ HasOneMessageAuthenticator (packet_of octets.now)) }
     ensures some { IfSome result (λ digest. digest
         ≡ message_authenticator secret.now authenticator (packet_of octets.now)) }
@@ -62,8 +66,7 @@ fn put_sixteen(octets: &mut [u8], at: usize, sixteen: &[u8; 16])
 pub fn seal(octets: &mut [u8], secret: &[u8], authenticator: [u8; 16])
     requires packet { IsPacketText octets.old }
     requires at_most_one { HasAtMostOneMessageAuthenticator (packet_of octets.old) }
-    requires at_least_one_octet { 1 ≤ length secret.now }
-    requires at_most_64_octets { length secret.now ≤ 64 }
+    requires secret { IsSecret secret.now }
     ensures { octets.new
         ≡ packet_text (with_message_authenticator secret.now authenticator (packet_of octets.old)) }
 {
@@ -79,8 +82,7 @@ pub fn seal(octets: &mut [u8], secret: &[u8], authenticator: [u8; 16])
 /// section 2.3), in its octets.
 pub fn sign_request(octets: &mut [u8], secret: &[u8])
     requires packet { IsPacketText octets.old }
-    requires at_least_one_octet { 1 ≤ length secret.now }
-    requires at_most_64_octets { length secret.now ≤ 64 }
+    requires secret { IsSecret secret.now }
     ensures { octets.new ≡ packet_text (with_authenticator
         (request_authenticator secret.now (packet_of octets.old)) (packet_of octets.old)) }
 {
@@ -90,14 +92,26 @@ pub fn sign_request(octets: &mut [u8], secret: &[u8])
 
 /// Fills in the Authenticator of a reply to a request of this Authenticator (RFC 2865, section 3), in
 /// its octets.
-pub fn sign_reply(octets: &mut [u8], request_authenticator: [u8; 16], secret: &[u8])
+pub fn sign_reply(octets: &mut [u8], secret: &[u8], request_authenticator: [u8; 16])
     requires packet { IsPacketText octets.old }
-    requires at_least_one_octet { 1 ≤ length secret.now }
-    requires at_most_64_octets { length secret.now ≤ 64 }
+    requires secret { IsSecret secret.now }
     ensures { octets.new ≡ packet_text (with_authenticator
         (response_authenticator secret.now request_authenticator (packet_of octets.old))
         (packet_of octets.old)) }
 {
     let digest = response_auth(&View::of_packet(octets), request_authenticator, secret);
     put_sixteen(octets, 4, &digest);
+}
+
+/// Seals and signs a reply to a request of this Authenticator (RFC 3579, section 3.2; RFC 2865, section
+/// 3), in its octets.
+pub fn seal_and_sign(octets: &mut [u8], secret: &[u8], request_authenticator: [u8; 16])
+    requires packet { IsPacketText octets.old }
+    requires at_most_one { HasAtMostOneMessageAuthenticator (packet_of octets.old) }
+    requires secret { IsSecret secret.now }
+    ensures { octets.new ≡ packet_text (signed_reply secret.now request_authenticator
+        (with_message_authenticator secret.now request_authenticator (packet_of octets.old))) }
+{
+    seal(octets, secret, request_authenticator);
+    sign_reply(octets, secret, request_authenticator);
 }

@@ -1,7 +1,12 @@
 //! Laws of sealing and signing. These functions do nothing: their contracts hold of all packets.
 
 ghost use Rattle.roam_auth.specs.DecidingLaws.{SignedReplyIsDecided, SignedRequestIsDecided, WellSealedIsDecided};
-ghost use Rattle.roam_auth.specs.Laws.{SealedIsWellSealed, SealingKeepsLength, SealingKeepsPacket, UnsealedStays, WellSealedForEither, ZeroedAgain, ValueDoesNotCount, FieldDoesNotCount, CountsStay, OthersStay, ValueStandsInPlace, SignedReplyIsSigned, SignedRequestIsSigned, SigningKeepsSeal, OtherFieldKeepsPacket, ResponseAuthenticatorIsSixteen, RequestAuthenticatorIsSixteen, MessageAuthenticatorIsSixteen, SignedReplyIsPacket, SignedRequestIsPacket};
+ghost use Rattle.roam_auth.specs.Laws.{SealedIsWellSealed, SealingKeepsLength, SealingKeepsPacket, UnsealedStays};
+ghost use Rattle.roam_auth.specs.Laws.{WellSealedForEither, ZeroedAgain, ValueDoesNotCount, FieldDoesNotCount};
+ghost use Rattle.roam_auth.specs.Laws.{CountsStay, OthersStay, ValueStandsInPlace, SignedReplyIsSigned};
+ghost use Rattle.roam_auth.specs.Laws.{SignedRequestIsSigned, SigningKeepsSeal, OtherFieldKeepsPacket};
+ghost use Rattle.roam_auth.specs.Laws.{ResponseAuthenticatorIsSixteen, RequestAuthenticatorIsSixteen};
+ghost use Rattle.roam_auth.specs.Laws.{MessageAuthenticatorIsSixteen, SignedReplyIsPacket, SignedRequestIsPacket};
 
 /// What a packet with its Message-Authenticator in its place is.
 pub fn sealing()

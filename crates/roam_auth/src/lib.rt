@@ -17,7 +17,7 @@ mod request;
 mod response;
 
 pub use hmac::hmac_md5;
-pub use in_place::{seal, sign_reply, sign_request, value_place};
+pub use in_place::{seal, seal_and_sign, sign_reply, sign_request, value_place};
 pub use laws::{deciding, digests, sealing, signing, zeroing};
 pub use message::{has_one_message_authenticator, message_auth, message_ok};
 pub use pieces::ZERO_OCTETS;

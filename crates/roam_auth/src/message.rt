@@ -1,12 +1,15 @@
 //! The Message-Authenticator (RFC 3579, section 3.2).
 
-ghost use Rattle.std.specs.Prelude.{◌≡◌, ◌↔◌, ◌≤◌, ℕ, List, [], ◌∷◌, ◌++◌, IsTrue, IsSome, IfSome, length};
+ghost use Rattle.std.specs.Prelude.{◌≡◌, ◌↔◌, ◌≤◌, ℕ, List, [], ◌∷◌, ◌++◌, IsTrue};
+ghost use Rattle.std.specs.Prelude.{IsSome, IfSome, length};
 ghost use Rattle.std.specs.List.{AllByRecursion};
 ghost use Rattle.md5.specs.Md5.{Holds};
 ghost use Rattle.roam_wire.specs.Packet.{IsAttribute, attribute_text};
 ghost use Rattle.roam_wire.specs.Shown.{shown};
+ghost use Rattle.roam_wire.specs.Secret.{IsSecret};
 ghost use Rattle.roam_auth.specs.Authenticators.{zero_octets};
-ghost use Rattle.roam_auth.specs.MessageAuthenticator.{HasOneMessageAuthenticator, IsWellSealed, attribute_with_value, zeroed_text, message_authenticator};
+ghost use Rattle.roam_auth.specs.MessageAuthenticator.{HasOneMessageAuthenticator, IsWellSealed, attribute_with_value};
+ghost use Rattle.roam_auth.specs.MessageAuthenticator.{zeroed_text, message_authenticator};
 
 use crate::comparing::is_same_digest;
 use crate::hmac::{inner_hasher, outer_digest};
@@ -66,8 +69,7 @@ fn update_with_attributes(hasher: &mut Md5, attributes: Attrs<'_>)
 /// the packet with that Authenticator in its field and its Message-Authenticator's 16 octets zero
 /// (RFC 3579, section 3.2). None unless just one Message-Authenticator stands there, of 16 octets.
 pub fn message_auth(view: &View<'_>, secret: &[u8], authenticator: [u8; 16]) -> Option<[u8; 16]>
-    requires at_least_one { 1 ≤ length secret.now }
-    requires at_most_64 { length secret.now ≤ 64 }
+    requires secret { IsSecret secret.now }
     ensures some { IfSome result (λ digest.
         digest ≡ message_authenticator secret.now authenticator view.now) }
     ensures stands { IsSome result ↔ HasOneMessageAuthenticator view.now }
@@ -86,8 +88,7 @@ pub fn message_auth(view: &View<'_>, secret: &[u8], authenticator: [u8; 16]) -> 
 /// Message-Authenticator, or just one, of 16 octets, that is the packet's over that Authenticator
 /// (RFC 3579, section 3.2).
 pub fn message_ok(view: &View<'_>, secret: &[u8], authenticator: [u8; 16]) -> bool
-    requires at_least_one { 1 ≤ length secret.now }
-    requires at_most_64 { length secret.now ≤ 64 }
+    requires secret { IsSecret secret.now }
     ensures { IsTrue result ↔ IsWellSealed secret.now (authenticator ∷ []) view.now }
 {
     match view.first(MESSAGE_AUTHENTICATOR) {

@@ -2,6 +2,7 @@
 //! section 2.3).
 
 ghost use Rattle.std.specs.Prelude.{◌≡◌, ◌↔◌, ◌≤◌, IsTrue, length};
+ghost use Rattle.roam_wire.specs.Secret.{IsSecret};
 ghost use Rattle.roam_auth.specs.Authenticators.{request_authenticator, IsSignedRequest};
 
 use crate::comparing::is_same_digest;
@@ -12,10 +13,8 @@ use roam_wire::View;
 /// The Request Authenticator of an accounting or reverse request: MD5 of its Code, Identifier and
 /// Length, sixteen zero octets, its attributes and the secret (RFC 2866, section 3; RFC 5176,
 /// section 2.3).
-#[tactic(auto, unfolding(crate::specs::Authenticators::request_authenticator, crate::specs::Authenticators::response_authenticator))]
 pub fn request_auth(view: &View<'_>, secret: &[u8]) -> [u8; 16]
-    requires at_least_one { 1 ≤ length secret.now }
-    requires at_most_64 { length secret.now ≤ 64 }
+    requires secret { IsSecret secret.now }
     ensures { result ≡ request_authenticator secret.now view.now }
 {
     response_auth(view, ZERO_OCTETS, secret)
@@ -24,8 +23,7 @@ pub fn request_auth(view: &View<'_>, secret: &[u8]) -> [u8; 16]
 /// Whether an accounting or reverse request is signed: whether its Authenticator field is its
 /// Request Authenticator (RFC 2866, section 3; RFC 5176, section 2.3).
 pub fn request_ok(view: &View<'_>, secret: &[u8]) -> bool
-    requires at_least_one { 1 ≤ length secret.now }
-    requires at_most_64 { length secret.now ≤ 64 }
+    requires secret { IsSecret secret.now }
     ensures { IsTrue result ↔ IsSignedRequest secret.now view.now }
 {
     let expected = request_auth(view, secret);

@@ -1,6 +1,7 @@
 //! The Response Authenticator (RFC 2865, section 3).
 
 ghost use Rattle.std.specs.Prelude.{◌≡◌, ◌↔◌, ◌≤◌, IsTrue, length};
+ghost use Rattle.roam_wire.specs.Secret.{IsSecret};
 ghost use Rattle.roam_auth.specs.Authenticators.{response_authenticator, IsSignedReply};
 
 use crate::comparing::is_same_digest;
@@ -11,8 +12,7 @@ use roam_wire::View;
 /// The Response Authenticator of a reply: MD5 of its Code, Identifier and Length, the request's
 /// Authenticator, its attributes and the secret (RFC 2865, section 3).
 pub fn response_auth(view: &View<'_>, request_authenticator: [u8; 16], secret: &[u8]) -> [u8; 16]
-    requires at_least_one { 1 ≤ length secret.now }
-    requires at_most_64 { length secret.now ≤ 64 }
+    requires secret { IsSecret secret.now }
     ensures { result ≡ response_authenticator secret.now request_authenticator view.now }
 {
     let octets = view.octets();
@@ -27,8 +27,7 @@ pub fn response_auth(view: &View<'_>, request_authenticator: [u8; 16], secret: &
 /// Whether a reply is signed: whether its Authenticator field is its Response Authenticator
 /// (RFC 2865, section 3).
 pub fn response_ok(view: &View<'_>, request_authenticator: [u8; 16], secret: &[u8]) -> bool
-    requires at_least_one { 1 ≤ length secret.now }
-    requires at_most_64 { length secret.now ≤ 64 }
+    requires secret { IsSecret secret.now }
     ensures { IsTrue result ↔ IsSignedReply secret.now request_authenticator view.now }
 {
     let expected = response_auth(view, request_authenticator, secret);

@@ -23,7 +23,7 @@ use Rattle.roam_hide.proofs.SaltedFunctionLemmas.{tunnel_anew_is, vendor_anew_is
 use Rattle.roam_hide.proofs.OctetLemmas.{AreOctets-tunnel_anew, AreOctets-vendor_anew}
 use Rattle.roam_wire.specs.Codes.{is_access_reply}
 use Rattle.roam_back.specs.Returned.{Returning, proxy_states, with_salted_anew, returned_attributes, unsealed_return, sealed_return, returned, returned_length}
-use Rattle.roam_back.proofs.SignedLemmas.{IsPacket-sealed}
+use Rattle.roam_auth.proofs.SignedLemmas.{IsPacket-sealed}
 use Rattle.roam_back.proofs.ReturnedLemmas.{other_kind, count_of-without_itself, count_of-only, short_kept, short_joined, carried-others, AtMostOne-others}
 
 -- ---- salted strings hidden anew

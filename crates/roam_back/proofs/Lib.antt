@@ -1,6 +1,4 @@
 pub mod CheckLemmas
-pub mod KeptLemmas
-pub mod SignedLemmas
 pub mod ReturnedLemmas
 pub mod EveryCodeLemmas
 pub mod PlainLemmas

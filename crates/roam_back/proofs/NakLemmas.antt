@@ -17,7 +17,7 @@ use Rattle.roam_auth.proofs.ValueLemmas.{count_of-no, count_of-yes}
 use Rattle.roam_back.specs.Returned.{proxy_states}
 use Rattle.roam_back.specs.Nak.{error_cause, unsigned_nak, nak, nak_length}
 use Rattle.roam_back.specs.NakLaws.{CanBeRefused, NakIsPacket, NakHasLength, NakIsShort, NakAnswers, NakHasIdentifier, NakIsSigned, NakHasNoSeal, NakHasOneCause, NakTellsCause, NakHasProxyStates, NakHasNothingElse, NothingElseCounts}
-use Rattle.roam_back.proofs.KeptLemmas.{length-kept_text}
+use Rattle.roam_wire.proofs.KeptLemmas.{length-kept_text}
 use Rattle.roam_back.proofs.ReturnedLemmas.{count_of-only, short_kept}
 use Rattle.roam_back.proofs.EveryCodeLemmas.{only-only, seal_apart}
 

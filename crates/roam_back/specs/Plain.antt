@@ -1,9 +1,10 @@
 -- The packet that is returned for a reply, before its salted strings are hidden anew (ours).
-use Rattle.std.specs.Prelude.{◌==◌, ◌&&◌, Bool, not, List, [], ◌∷◌, ◌++◌, filter, if◌then◌else◌}
+use Rattle.std.specs.Prelude.{◌≡◌, ◌==◌, ◌&&◌, ℕ, Bool, not, List, [], ◌∷◌, ◌++◌, filter, if◌then◌else◌}
 use Rattle.roam_wire.specs.Packet.{Attribute, Packet}
 use Rattle.roam_wire.specs.declared.attribute_type.TheConstants.{PROXY_STATE, MESSAGE_AUTHENTICATOR}
 use Rattle.roam_auth.specs.MessageAuthenticator.{empty_message_authenticator}
 use Rattle.roam_wire.specs.Codes.{is_access_reply}
+use Rattle.roam_wire.specs.Reading.{IsPacketText, packet_of}
 use Rattle.roam_back.specs.Returned.{proxy_states}
 
 -- whether an attribute of a reply is returned: no Proxy-State is, and no Message-Authenticator of an
@@ -30,3 +31,8 @@ plain_packet reply request = record {
   authenticator = request.authenticator;
   attributes = plain_attributes reply request;
 }
+
+-- octets that are that packet's
+pub record IsPlainText (reply request : Packet) (octets : List ℕ) : Type 0 where
+  pub text : IsPacketText octets
+  pub packet : packet_of octets ≡ plain_packet reply request

@@ -17,6 +17,14 @@ pub record Returning : Type 0 where
   pub home_secret : List ℕ
   pub client_secret : List ℕ
 
+-- it, of these
+abbrev pub returning : List ℕ → List ℕ → List ℕ → Returning
+returning forwarded_authenticator home_secret client_secret = record {
+  forwarded_authenticator = forwarded_authenticator;
+  home_secret = home_secret;
+  client_secret = client_secret;
+}
+
 -- a packet's Proxy-States, in their order (RFC 2865, section 5.33)
 abbrev pub proxy_states : Packet → List Attribute
 proxy_states p = only_kind PROXY_STATE p.attributes

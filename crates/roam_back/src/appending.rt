@@ -1,39 +1,20 @@
 //! The octets of a returned packet, appended to a buffer, before its salted strings are hidden anew and
 //! it is sealed and signed.
 
-ghost use Rattle.std.specs.Prelude.{◌≡◌, ◌+◌, ◌/◌, ◌%◌, ◌≤◌, ◌∷◌, ◌++◌, length, filter, vec_len, vec_capacity};
-ghost use Rattle.roam_wire.specs.Packet.{IsAttribute, IsPacket, attribute_text, attributes_text, packet_length, packet_text};
-ghost use Rattle.roam_wire.specs.Attributes.{only_kind};
+ghost use Rattle.std.specs.Prelude.{◌≡◌, ◌+◌, ◌≤◌, ◌++◌, length, filter, vec_len, vec_capacity};
+ghost use Rattle.roam_wire.specs.Packet.{IsPacket, attributes_text, packet_length, packet_text};
 ghost use Rattle.roam_wire.specs.Shown.{shown};
 ghost use Rattle.roam_back.specs.Returned.{Returning, returned_length};
 ghost use Rattle.roam_back.specs.Plain.{is_carried, first_seal, plain_packet};
 
 use roam_wire::attribute_type::{MESSAGE_AUTHENTICATOR, PROXY_STATE};
 use roam_wire::code::is_access_reply;
+use roam_wire::writing::{
+    EMPTY_MESSAGE_AUTHENTICATOR, append_attribute, append_header, append_octets,
+    append_proxy_states, proxy_states_len,
+};
 use roam_wire::{Attr, View};
 use std::alloc::Allocator;
-
-/// A Message-Authenticator that is still to be filled in (RFC 3579, section 3.2).
-const EMPTY_SEAL: [u8; 18] = [
-    MESSAGE_AUTHENTICATOR,
-    18,
-    0,
-    0,
-    0,
-    0,
-    0,
-    0,
-    0,
-    0,
-    0,
-    0,
-    0,
-    0,
-    0,
-    0,
-    0,
-    0,
-];
 
 /// Whether an attribute of a reply is returned: no Proxy-State is, and no Message-Authenticator of an
 /// Access reply.
@@ -48,7 +29,11 @@ fn is_carried(attribute: &Attr<'_>, access: bool) -> bool
 fn seal_len(access: bool) -> usize
     ensures { result ≡ length (attributes_text (first_seal access)) }
 {
-    if access { EMPTY_SEAL.len() } else { 0 }
+    if access {
+        EMPTY_MESSAGE_AUTHENTICATOR.len()
+    } else {
+        0
+    }
 }
 
 /// How many octets the attributes of a reply take that are returned. One pass.
@@ -60,21 +45,6 @@ fn carried_len(reply: &View<'_>, access: bool) -> usize
     let mut size = 0;
     for attribute in reply.attributes() {
         if is_carried(&attribute, access) {
-            size += 2 + attribute.value.len();
-        }
-    }
-    size
-}
-
-/// How many octets a packet's Proxy-States take. One pass.
-pub(crate) fn proxy_states_len(request: &View<'_>) -> usize
-    ensures all { result ≡ length (attributes_text (only_kind PROXY_STATE request.now.attributes)) }
-    ensures few { result ≤ 4076 }
-    ensures packet { IsPacket request.now }
-{
-    let mut size = 0;
-    for attribute in request.attributes() {
-        if attribute.kind == PROXY_STATE {
             size += 2 + attribute.value.len();
         }
     }
@@ -93,46 +63,6 @@ pub(crate) fn returned_len(reply: &View<'_>, request: &View<'_>) -> usize
     20 + seal_len(access) + carried_len(reply, access) + proxy_states_len(request)
 }
 
-/// Appends octets where the room is there.
-fn append_reserved<A: Allocator>(out: &mut Vec<u8, A>, octets: &[u8])
-    requires { vec_len out.old + length octets.now ≤ vec_capacity out.old }
-    ensures items { out.new.items ≡ out.old.items ++ octets.now }
-    ensures capacity { vec_capacity out.new ≡ vec_capacity out.old }
-{
-    for octet in octets {
-        out.push_reserved(*octet);
-    }
-}
-
-/// Appends a packet's header: Code, Identifier, Length, Authenticator (RFC 2865, section 3).
-pub(crate) fn append_header<A: Allocator>(
-    out: &mut Vec<u8, A>,
-    code: u8,
-    id: u8,
-    size: usize,
-    authenticator: &[u8; 16],
-)
-    requires room { vec_len out.old + 20 ≤ vec_capacity out.old }
-    requires size { size ≤ 4096 }
-    ensures items { out.new.items
-        ≡ out.old.items ++ code ∷ id ∷ (size / 256) ∷ (size % 256) ∷ authenticator.now }
-    ensures capacity { vec_capacity out.new ≡ vec_capacity out.old }
-{
-    append_reserved(out, &[code, id, (size / 256) as u8, (size % 256) as u8]);
-    append_reserved(out, authenticator);
-}
-
-/// Appends an attribute: Type, Length, Value (RFC 2865, section 5).
-pub(crate) fn append_attribute<A: Allocator>(out: &mut Vec<u8, A>, attribute: Attr<'_>)
-    requires short { IsAttribute (shown attribute) }
-    requires room { vec_len out.old + 2 + length attribute.value.now ≤ vec_capacity out.old }
-    ensures items { out.new.items ≡ out.old.items ++ attribute_text (shown attribute.entry) }
-    ensures capacity { vec_capacity out.new ≡ vec_capacity out.old }
-{
-    append_reserved(out, &[attribute.kind, attribute.value.len() as u8 + 2]);
-    append_reserved(out, attribute.value);
-}
-
 /// Appends a Message-Authenticator that is still to be filled in, to an Access reply.
 fn append_seal<A: Allocator>(out: &mut Vec<u8, A>, access: bool)
     requires { vec_len out.old + length (attributes_text (first_seal access)) ≤ vec_capacity out.old }
@@ -140,14 +70,13 @@ fn append_seal<A: Allocator>(out: &mut Vec<u8, A>, access: bool)
     ensures capacity { vec_capacity out.new ≡ vec_capacity out.old }
 {
     if access {
-        append_reserved(out, &EMPTY_SEAL);
+        append_octets(out, &EMPTY_MESSAGE_AUTHENTICATOR);
     }
 }
 
 /// Appends the attributes of a reply that are returned.
 fn append_carried<A: Allocator>(out: &mut Vec<u8, A>, reply: &View<'_>, access: bool)
-    requires { vec_len out.old
-        + length (attributes_text (filter (is_carried access) reply.now.attributes))
+    requires { vec_len out.old + length (attributes_text (filter (is_carried access) reply.now.attributes))
         ≤ vec_capacity out.old }
     ensures items { out.new.items
         ≡ out.old.items ++ attributes_text (filter (is_carried access) reply.now.attributes) }
@@ -155,22 +84,6 @@ fn append_carried<A: Allocator>(out: &mut Vec<u8, A>, reply: &View<'_>, access: 
 {
     for next in reply.attributes() {
         if is_carried(&next, access) {
-            append_attribute(out, next);
-        }
-    }
-}
-
-/// Appends a packet's Proxy-States, in their order (RFC 2865, section 5.33).
-pub(crate) fn append_proxy_states<A: Allocator>(out: &mut Vec<u8, A>, request: &View<'_>)
-    requires { vec_len out.old
-        + length (attributes_text (only_kind PROXY_STATE request.now.attributes))
-        ≤ vec_capacity out.old }
-    ensures items { out.new.items
-        ≡ out.old.items ++ attributes_text (only_kind PROXY_STATE request.now.attributes) }
-    ensures capacity { vec_capacity out.new ≡ vec_capacity out.old }
-{
-    for next in request.attributes() {
-        if next.kind == PROXY_STATE {
             append_attribute(out, next);
         }
     }

@@ -3,8 +3,12 @@
 
 ghost use Rattle.roam_back.specs.ReplyCheck.{TakenHasNoFault};
 ghost use Rattle.roam_back.specs.CarriedLaws.{AcceptCarriesAll, RejectCarriesAll, OthersAreCarriedBack};
-ghost use Rattle.roam_back.specs.NakLaws.{NakIsPacket, NakReads, NakHasLength, NakIsShort, NakAnswers, NakHasIdentifier, NakIsSigned, NakHasNoSeal, NakHasOneCause, NakTellsCause, NakHasProxyStates, NakHasNothingElse, NothingElseCounts};
-ghost use Rattle.roam_back.specs.ReturnedLaws.{ReturnedIsPacket, ReturnedReads, ReturnedHasLength, ReturnedIsSigned, ReturnedIsWellSealed, AccessIsSealed, AccessReplyHasSealFirst, CodeIsTheReplys, IdentifierIsTheRequests, ProxyStatesAreTheRequests};
+ghost use Rattle.roam_back.specs.NakLaws.{NakIsPacket, NakReads, NakHasLength, NakIsShort, NakAnswers};
+ghost use Rattle.roam_back.specs.NakLaws.{NakHasIdentifier, NakIsSigned, NakHasNoSeal, NakHasOneCause, NakTellsCause};
+ghost use Rattle.roam_back.specs.NakLaws.{NakHasProxyStates, NakHasNothingElse, NothingElseCounts};
+ghost use Rattle.roam_back.specs.ReturnedLaws.{ReturnedIsPacket, ReturnedReads, ReturnedHasLength, ReturnedIsSigned};
+ghost use Rattle.roam_back.specs.ReturnedLaws.{ReturnedIsWellSealed, AccessIsSealed, AccessReplyHasSealFirst};
+ghost use Rattle.roam_back.specs.ReturnedLaws.{CodeIsTheReplys, IdentifierIsTheRequests, ProxyStatesAreTheRequests};
 
 /// The tests of a reply find no fault just where it is taken (RFC 2865, section 2.3).
 pub fn taken_replies()

@@ -10,6 +10,7 @@ mod laws;
 mod negative_ack;
 mod reply_check;
 mod returning;
+mod terms;
 
 pub use laws::{
     nak_answers, nak_carries, nak_reads, returned_authenticators, returned_carries, returned_reads,

@@ -1,16 +1,18 @@
 //! The negative acknowledgement of a reverse request (RFC 5176, sections 2.3 and 3.5).
 
-ghost use Rattle.std.specs.Prelude.{◌≡◌, ℕ, ◌+◌, ◌≤◌, ◌++◌, length, take, drop, vec_len, vec_capacity, IfOk, IsTrue};
+ghost use Rattle.std.specs.Prelude.{◌≡◌, ℕ, ◌+◌, ◌≤◌, ◌++◌, length, take, drop, vec_len};
+ghost use Rattle.std.specs.Prelude.{vec_capacity, IfOk, IsTrue};
 ghost use Rattle.roam_wire.specs.Packet.{IsPacket, packet_length, packet_text};
 ghost use Rattle.roam_wire.specs.Reading.{IsPacketText, packet_of};
 ghost use Rattle.roam_wire.specs.Codes.{is_reverse_request};
+ghost use Rattle.roam_wire.specs.Secret.{IsSecret};
 ghost use Rattle.roam_auth.specs.Authenticators.{signed_reply};
 ghost use Rattle.roam_back.specs.Nak.{nak_code, unsigned_nak, nak, nak_length};
 
-use crate::appending::{append_attribute, append_header, append_proxy_states, proxy_states_len};
 use roam_auth::sign_reply;
 use roam_wire::attribute_type::ERROR_CAUSE;
 use roam_wire::code::{COA_NAK, DISCONNECT_NAK, DISCONNECT_REQUEST};
+use roam_wire::writing::{append_attribute, append_header, append_proxy_states, proxy_states_len};
 use roam_wire::{Attr, NoMemory, View};
 use std::alloc::Allocator;
 
@@ -71,8 +73,7 @@ fn sign_from<A: Allocator>(
 )
     requires start { start ≤ vec_len out.old }
     requires packet { IsPacketText (drop start out.old.items) }
-    requires at_least_one_octet { 1 ≤ length secret.now }
-    requires at_most_64_octets { length secret.now ≤ 64 }
+    requires secret { IsSecret secret.now }
     ensures items { out.new.items ≡ take start out.old.items
         ++ packet_text (signed_reply secret.now request_authenticator
         (packet_of (drop start out.old.items))) }
@@ -80,8 +81,8 @@ fn sign_from<A: Allocator>(
 {
     sign_reply(
         &mut out.as_mut_slice()[start..],
-        request_authenticator,
         secret,
+        request_authenticator,
     );
 }
 
@@ -97,8 +98,7 @@ pub fn nak_reserved<A: Allocator>(
     requires code { IsTrue (is_reverse_request request.now.code) }
     requires short { packet_length request.now ≤ 4086 }
     requires room { vec_len out.old + nak_length request.now ≤ vec_capacity out.old }
-    requires at_least_one_octet { 1 ≤ length secret.now }
-    requires at_most_64_octets { length secret.now ≤ 64 }
+    requires secret { IsSecret secret.now }
     ensures octets { out.new.items
         ≡ out.old.items ++ packet_text (nak secret.now cause request.now) }
     ensures capacity { vec_capacity out.new ≡ vec_capacity out.old }
@@ -120,8 +120,7 @@ pub fn nak<A: Allocator>(
 ) -> Result<Vec<u8, A>, NoMemory>
     requires code { IsTrue (is_reverse_request request.now.code) }
     requires short { packet_length request.now ≤ 4086 }
-    requires at_least_one_octet { 1 ≤ length secret.now }
-    requires at_most_64_octets { length secret.now ≤ 64 }
+    requires secret { IsSecret secret.now }
     ensures { IfOk result (λ v. v.items ≡ packet_text (nak secret.now cause request.now)) }
 {
     let mut out = Vec::with_capacity(alloc, nak_len(request))?;

@@ -2,10 +2,12 @@
 //! their Message-Authenticator.
 
 ghost use Rattle.std.specs.Prelude.{◌≡◌, ◌⊎◌, ◌↔◌, ◌≤◌, IsTrue, IsOk, IfErr, IsErrOf, length};
+ghost use Rattle.roam_wire.specs.Secret.{IsSecret};
 ghost use Rattle.std.specs.Result.{result_err};
 ghost use Rattle.roam_auth.specs.Authenticators.{IsSignedReply};
 ghost use Rattle.roam_auth.specs.MessageAuthenticator.{IsWellSealed};
-ghost use Rattle.roam_back.specs.ReplyCheck.{answers, sealing_authenticators, HasRequiredSeal, HasSealForEap, IsRightlySealed, IsTaken, reply_fault};
+ghost use Rattle.roam_back.specs.ReplyCheck.{answers, sealing_authenticators, HasRequiredSeal, HasSealForEap};
+ghost use Rattle.roam_back.specs.ReplyCheck.{IsRightlySealed, IsTaken, reply_fault};
 
 use roam_auth::{ZERO_OCTETS, message_ok, response_ok};
 use roam_wire::attribute_type::{EAP_MESSAGE, MESSAGE_AUTHENTICATOR};
@@ -32,8 +34,7 @@ fn answers(request: u8, reply: u8) -> bool
 /// Whether a reply is well sealed for one of the Authenticators over which its Message-Authenticator
 /// may be (RFC 3579, section 3.2).
 fn is_well_sealed(reply: &View<'_>, forwarded: &View<'_>, secret: &[u8]) -> bool
-    requires at_least_one_octet { 1 ≤ length secret.now }
-    requires at_most_64_octets { length secret.now ≤ 64 }
+    requires secret { IsSecret secret.now }
     ensures { IsTrue result
         ↔ IsWellSealed secret.now (sealing_authenticators reply.now forwarded.now) reply.now }
 {
@@ -68,8 +69,7 @@ fn is_rightly_sealed(
     secret: &[u8],
     seal_required: bool,
 ) -> bool
-    requires at_least_one_octet { 1 ≤ length secret.now }
-    requires at_most_64_octets { length secret.now ≤ 64 }
+    requires secret { IsSecret secret.now }
     ensures { IsTrue result ↔ IsRightlySealed secret.now seal_required reply.now forwarded.now }
 {
     is_well_sealed(reply, forwarded, secret)
@@ -94,8 +94,7 @@ pub fn check_reply(
     secret: &[u8],
     seal_required: bool,
 ) -> Result<(), Refusal>
-    requires at_least_one_octet { 1 ≤ length secret.now }
-    requires at_most_64_octets { length secret.now ≤ 64 }
+    requires secret { IsSecret secret.now }
     ensures taken { IsOk result ↔ IsTaken secret.now seal_required reply.now forwarded.now }
     ensures fault { result_err result
         ≡ reply_fault secret.now seal_required reply.now forwarded.now }

@@ -1,96 +1,49 @@
 //! The packet that is returned for a reply (RFC 2865, section 2.3).
 
-ghost use Rattle.std.specs.Prelude.{◌≡◌, ◌⊎◌, ◌↔◌, ◌+◌, ◌<◌, ◌≤◌, ◌++◌, length, take, drop, vec_len, vec_capacity, IsOk, IfErr, OnOk, OnErr, IsErrOf};
+ghost use Rattle.std.specs.Prelude.{◌≡◌, ◌⊎◌, ◌↔◌, ◌+◌, ◌<◌, ◌≤◌, ◌++◌, take, drop};
+ghost use Rattle.std.specs.Prelude.{vec_len, vec_capacity, IsOk, IfErr, OnOk, OnErr, IsErrOf};
 ghost use Rattle.roam_wire.specs.Packet.{packet_text};
-ghost use Rattle.roam_wire.specs.Reading.{IsPacketText, packet_of};
-ghost use Rattle.roam_auth.specs.Authenticators.{signed_reply};
-ghost use Rattle.roam_auth.specs.MessageAuthenticator.{HasAtMostOneMessageAuthenticator, with_message_authenticator};
-ghost use Rattle.roam_back.specs.Returned.{unsealed_return, returned, returned_length};
-ghost use Rattle.roam_back.specs.Plain.{plain_packet};
+ghost use Rattle.roam_wire.specs.Secret.{IsSecret};
+ghost use Rattle.roam_auth.specs.MessageAuthenticator.{HasAtMostOneMessageAuthenticator};
+ghost use Rattle.roam_back.specs.Returned.{returning, unsealed_return, returned, returned_length};
+ghost use Rattle.roam_back.specs.Plain.{IsPlainText};
+ghost use Rattle.roam_back.specs.Shown.{shown};
 
 use crate::appending::{append_plain, returned_len};
-use roam_auth::{seal, sign_reply};
+use crate::terms::Returning;
+use roam_auth::seal_and_sign;
 use roam_hide::{Hidden, HidingKey, rehide_packet};
 use roam_wire::code::ACCESS_ACCEPT;
 use roam_wire::{MAX_PACKET_LENGTH, Refusal, View};
 use std::alloc::Allocator;
 
 /// Hides the salted strings of an Access-Accept anew, in place.
-fn rehide_accept(
-    octets: &mut [u8],
-    reply: &View<'_>,
-    request: &View<'_>,
-    forwarded_authenticator: [u8; 16],
-    home_secret: &[u8],
-    client_secret: &[u8],
-)
-    requires packet { IsPacketText octets.old }
-    requires plain { packet_of octets.old ≡ plain_packet reply.now request.now }
-    ensures { octets.new ≡ packet_text (unsealed_return
-        (record {
-          forwarded_authenticator = forwarded_authenticator;
-          home_secret = home_secret.now;
-          client_secret = client_secret.now;
-        })
-        reply.now request.now) }
+fn rehide_accept(octets: &mut [u8], reply: &View<'_>, request: &View<'_>, returning: &Returning<'_>)
+    requires plain { IsPlainText reply.now request.now octets.old }
+    ensures { octets.new ≡ packet_text (unsealed_return (shown returning.now) reply.now request.now) }
 {
     if reply.code() == ACCESS_ACCEPT {
         let from = HidingKey {
-            secret: home_secret,
-            authenticator: &forwarded_authenticator,
+            secret: returning.home_secret,
+            authenticator: &returning.forwarded_authenticator,
         };
         let to = HidingKey {
-            secret: client_secret,
+            secret: returning.client_secret,
             authenticator: &request.authenticator(),
         };
         rehide_packet(octets, Hidden::SaltedStrings, from, to);
     }
 }
 
-/// Seals and signs a reply in place, for the requester (RFC 3579 section 3.2, RFC 2865 section 3).
-fn seal_and_sign(octets: &mut [u8], secret: &[u8], request_authenticator: [u8; 16])
-    requires packet { IsPacketText octets.old }
-    requires at_most_one { HasAtMostOneMessageAuthenticator (packet_of octets.old) }
-    requires at_least_one_octet { 1 ≤ length secret.now }
-    requires at_most_64_octets { length secret.now ≤ 64 }
-    ensures { octets.new ≡ packet_text (signed_reply secret.now request_authenticator
-        (with_message_authenticator secret.now request_authenticator (packet_of octets.old))) }
-{
-    seal(octets, secret, request_authenticator);
-    sign_reply(octets, request_authenticator, secret);
-}
-
 /// Makes the returned packet of the octets that were appended for it, in place.
-fn finish(
-    octets: &mut [u8],
-    reply: &View<'_>,
-    request: &View<'_>,
-    forwarded_authenticator: [u8; 16],
-    home_secret: &[u8],
-    client_secret: &[u8],
-)
-    requires packet { IsPacketText octets.old }
-    requires plain { packet_of octets.old ≡ plain_packet reply.now request.now }
+fn finish(octets: &mut [u8], reply: &View<'_>, request: &View<'_>, returning: &Returning<'_>)
+    requires plain { IsPlainText reply.now request.now octets.old }
     requires at_most_one { HasAtMostOneMessageAuthenticator reply.now }
-    requires at_least_one_octet { 1 ≤ length client_secret.now }
-    requires at_most_64_octets { length client_secret.now ≤ 64 }
-    ensures { octets.new ≡ packet_text (returned
-        (record {
-          forwarded_authenticator = forwarded_authenticator;
-          home_secret = home_secret.now;
-          client_secret = client_secret.now;
-        })
-        reply.now request.now) }
+    requires secret { IsSecret returning.now.client_secret.now }
+    ensures { octets.new ≡ packet_text (returned (shown returning.now) reply.now request.now) }
 {
-    rehide_accept(
-        octets,
-        reply,
-        request,
-        forwarded_authenticator,
-        home_secret,
-        client_secret,
-    );
-    seal_and_sign(octets, client_secret, request.authenticator());
+    rehide_accept(octets, reply, request, returning);
+    seal_and_sign(octets, returning.client_secret, request.authenticator());
 }
 
 /// The same, for the octets of a buffer from one on.
@@ -99,32 +52,16 @@ fn finish_from<A: Allocator>(
     start: usize,
     reply: &View<'_>,
     request: &View<'_>,
-    forwarded_authenticator: [u8; 16],
-    home_secret: &[u8],
-    client_secret: &[u8],
+    returning: &Returning<'_>,
 )
     requires start { start ≤ vec_len out.old }
-    requires packet { IsPacketText (drop start out.old.items) }
-    requires plain { packet_of (drop start out.old.items) ≡ plain_packet reply.now request.now }
+    requires plain { IsPlainText reply.now request.now (drop start out.old.items) }
     requires at_most_one { HasAtMostOneMessageAuthenticator reply.now }
-    requires at_least_one_octet { 1 ≤ length client_secret.now }
-    requires at_most_64_octets { length client_secret.now ≤ 64 }
-    ensures { out.new.items ≡ take start out.old.items ++ packet_text (returned
-        (record {
-          forwarded_authenticator = forwarded_authenticator;
-          home_secret = home_secret.now;
-          client_secret = client_secret.now;
-        })
-        reply.now request.now) }
+    requires secret { IsSecret returning.now.client_secret.now }
+    ensures { out.new.items ≡ take start out.old.items
+        ++ packet_text (returned (shown returning.now) reply.now request.now) }
 {
-    finish(
-        &mut out[start..],
-        reply,
-        request,
-        forwarded_authenticator,
-        home_secret,
-        client_secret,
-    );
+    finish(&mut out[start..], reply, request, returning);
 }
 
 /// Appends the packet that is returned to the requester for a reply that was taken (RFC 2865, section
@@ -148,35 +85,22 @@ pub fn back<A: Allocator>(
     out: &mut Vec<u8, A>,
 ) -> Result<(), Refusal>
     requires at_most_one { HasAtMostOneMessageAuthenticator reply.now }
-    requires home_at_least_one_octet { 1 ≤ length home_secret.now }
-    requires home_at_most_64_octets { length home_secret.now ≤ 64 }
-    requires client_at_least_one_octet { 1 ≤ length client_secret.now }
-    requires client_at_most_64_octets { length client_secret.now ≤ 64 }
-    ensures ok { OnOk result (out.new.items ≡ out.old.items
-        ++ packet_text (returned (record {
-          forwarded_authenticator = forwarded_authenticator;
-          home_secret = home_secret.now;
-          client_secret = client_secret.now;
-        }) reply.now request.now)) }
+    requires home_secret { IsSecret home_secret.now }
+    requires client_secret { IsSecret client_secret.now }
+    ensures ok { OnOk result (out.new.items ≡ out.old.items ++ packet_text (returned
+        (returning forwarded_authenticator home_secret.now client_secret.now) reply.now request.now)) }
     ensures err { OnErr result (out.new.items ≡ out.old.items) }
     ensures capacity { OnErr result (vec_capacity out.new ≡ vec_capacity out.old) }
 
     // The size is looked at before memory is asked for.
-    ensures reply_too_long { IsErrOf result Refusal.ReplyTooLong
-        ↔ (4096 < returned_length (record {
-          forwarded_authenticator = forwarded_authenticator;
-          home_secret = home_secret.now;
-          client_secret = client_secret.now;
-        }) reply.now request.now) }
+    ensures reply_too_long { IsErrOf result Refusal.ReplyTooLong ↔ (4096 < returned_length
+        (returning forwarded_authenticator home_secret.now client_secret.now) reply.now request.now) }
     ensures causes { IfErr result (λ e. (e ≡ Refusal.ReplyTooLong) ⊎ (e ≡ Refusal.NoMemory)) }
 
     // Memory is wanting only where there was no room for the packet.
-    ensures full { IsErrOf result Refusal.NoMemory → vec_capacity out.old < vec_len out.old
-        + returned_length (record {
-          forwarded_authenticator = forwarded_authenticator;
-          home_secret = home_secret.now;
-          client_secret = client_secret.now;
-        }) reply.now request.now }
+    ensures full { IsErrOf result Refusal.NoMemory
+        → vec_capacity out.old < vec_len out.old + returned_length
+        (returning forwarded_authenticator home_secret.now client_secret.now) reply.now request.now }
 {
     let size = returned_len(reply, request);
     if size > MAX_PACKET_LENGTH {
@@ -185,14 +109,11 @@ pub fn back<A: Allocator>(
     out.reserve(size).map_err(|_| Refusal::NoMemory)?;
     let start = out.len();
     append_plain(out, reply, request, size);
-    finish_from(
-        out,
-        start,
-        reply,
-        request,
+    let returning = Returning {
         forwarded_authenticator,
         home_secret,
         client_secret,
-    );
+    };
+    finish_from(out, start, reply, request, &returning);
     Ok(())
 }

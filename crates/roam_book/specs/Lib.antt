@@ -23,3 +23,4 @@ pub mod Memory
 pub mod MoreLanes
 pub mod NewEntry
 pub mod ReplyPlans
+pub mod Stays

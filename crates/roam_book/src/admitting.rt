@@ -1,7 +1,8 @@
 //! How a new request is admitted, once its way is chosen: memory is taken, way is made, and the
 //! request is forwarded.
 
-ghost use Rattle.std.specs.Prelude.{◌≡◌, ℕ, ◌+◌, ◌<◌, ◌≤◌, ◌^◌, ◌∷◌, [], true, IfErr, IfOk, OnOk, is_some, length};
+ghost use Rattle.std.specs.Prelude.{◌≡◌, ℕ, ◌+◌, ◌<◌, ◌≤◌, ◌^◌, ◌∷◌, [], true, IfErr};
+ghost use Rattle.std.specs.Prelude.{IfOk, OnOk, is_some, length};
 ghost use Rattle.roam_wire.specs.Reading.{IsPacketText, packet_of};
 ghost use Rattle.roam_fwd.specs.Forwarded.{forwarded_length};
 ghost use Rattle.roam_pending.specs.PlainEntry.{PlainRequest};
@@ -19,7 +20,7 @@ use crate::buffers::Buffers;
 use crate::gone::Gone;
 use crate::outs::Outs;
 use crate::realm::Realm;
-use crate::sending::{Asked, Sent, send_new};
+use crate::sending::{Asked, Hop, Sent, send_new};
 use crate::way::Way;
 use roam_conf::Link;
 use roam_fwd::forwarded_len;
@@ -153,15 +154,12 @@ impl<A: Allocator + Copy, E: Entries<A>> Realm<'_, '_, '_, '_, A, E> {
         ensures keeps { Keeps E.Entries self.old self.new }
     {
         let ticket = self.numbers.ticket;
-        let (sent, waiting) = send_new(
-            self.settings,
-            self.numbers,
-            now,
+        let hop = Hop {
             asked,
             ticket,
             link,
-            buffers,
-        );
+        };
+        let (sent, waiting) = send_new(self.settings, self.numbers, now, hop, buffers);
         let request = Request {
             key: asked.key,
             requester: asked.requester,

@@ -10,13 +10,14 @@ ghost use Rattle.roam_book.specs.RealmState.{chosen_target};
 ghost use Rattle.roam_book.specs.Rests.{after_silence};
 ghost use Rattle.roam_book.specs.OnRequest.{is_reverse, packet_to};
 ghost use Rattle.roam_book.specs.OnTick.{due_standing, fail_over, given_up_at};
-ghost use Rattle.roam_book.specs.Sound.{AreOwnLanes, IsEntry, IsRequest, cursors_of, chosen_link, has_free, lane_of, marks_of, state_of};
+ghost use Rattle.roam_book.specs.Sound.{AreOwnLanes, IsEntry, IsRequest, cursors_of, chosen_link, has_free, lane_of};
+ghost use Rattle.roam_book.specs.Sound.{marks_of, state_of};
 ghost use Rattle.roam_book.specs.Fates.{GivesUp, held_for, IsHeld, IsFate, IsFateCopied};
 ghost use Rattle.roam_book.specs.Memory.{HasBuffers, IsCopied};
 
 use crate::buffers::{Buffers, copied_into};
 use crate::numbers::Numbers;
-use crate::sending::{Asked, Sent, packet_back, packet_to, send_new};
+use crate::sending::{Asked, Hop, Sent, packet_back, packet_to, send_new};
 use crate::service::Service;
 use crate::settings::Settings;
 use roam_back::nak_reserved;
@@ -204,7 +205,12 @@ fn fail_over<A: Allocator + Copy>(
         named: None,
         octets: entry.request.octets.as_slice(),
     };
-    let (sent, waiting) = send_new(settings, numbers, now, asked, entry.ticket, target, buffers);
+    let hop = Hop {
+        asked,
+        ticket: entry.ticket,
+        link: target,
+    };
+    let (sent, waiting) = send_new(settings, numbers, now, hop, buffers);
     Fate::Forwarded(sent, waiting)
 }
 

@@ -1,6 +1,8 @@
 //! What a realm keeps besides its entries: the numbers that it hands out, and the ledger of sessions.
 
-ghost use Rattle.std.specs.Prelude.{◌≡◌, ℕ, ◌<◌, ◌≤◌, ◌+◌, ◌^◌, ◌*◌, ◌%◌, List, [], ◌∷◌, true, Some, None, length, replicate, drop, slice_set, IfSome, IfNone, IfOk, IsOk, OnOk, is_some};
+ghost use Rattle.std.specs.Prelude.{◌≡◌, ℕ, ◌<◌, ◌≤◌, ◌+◌, ◌^◌, ◌*◌, ◌%◌, List, []};
+ghost use Rattle.std.specs.Prelude.{◌∷◌, true, Some, None, length, replicate, drop, slice_set, IfSome, IfNone};
+ghost use Rattle.std.specs.Prelude.{IfOk, IsOk, OnOk, is_some};
 ghost use Rattle.std.specs.List.{find};
 ghost use Rattle.roam_ids.specs.LaneState.{place_at, ticket_at};
 ghost use Rattle.roam_ids.specs.declared.place.Place.TheVariants.{Free};
@@ -12,7 +14,9 @@ ghost use Rattle.roam_book.specs.ReplyPlans.{IsPrepared};
 ghost use Rattle.roam_book.specs.RealmConfig.{IsLink, link_place, link_count, server_links};
 ghost use Rattle.roam_book.specs.RealmState.{next_toward};
 ghost use Rattle.roam_book.specs.Rests.{after_choice, after_reply, after_silence, all_awake, rest_of, with_rest};
-ghost use Rattle.roam_book.specs.Sound.{AreOwnLanes, LanesTell, lane_of, cursors_of, has_free, is_freed, is_open, marks_of, WaitsJustAt, chosen_link, is_ready, stands_back_at};
+ghost use Rattle.roam_book.specs.Stays.{IsStarted, RestsBecome, KeepsButLanes, KeepsButSessions};
+ghost use Rattle.roam_book.specs.Sound.{AreOwnLanes, LanesTell, lane_of, cursors_of, has_free, is_freed, is_open};
+ghost use Rattle.roam_book.specs.Sound.{marks_of, WaitsJustAt, chosen_link, is_ready, stands_back_at};
 
 use crate::rest::Rest;
 use crate::service::Service;
@@ -119,15 +123,7 @@ fn is_freed(freed: Option<Link>, link: Link) -> bool
 impl<A: Allocator + Copy> Numbers<A> {
     /// Nothing is in use yet, and the place and the next ticket are those given.
     pub fn new(alloc: A, settings: &Settings<'_>, start: Start) -> Result<Numbers<A>, NoMemory>
-        ensures count { IfOk result (λ n. length n.lanes.items ≡ link_count settings.now) }
-        ensures cursors { IfOk result (λ n. cursors_of n.lanes.items ≡ replicate (link_count settings.now) 0) }
-        ensures free { IfOk result (λ n. LanesTell settings.now [] n.lanes.items) }
-        ensures lanes { IfOk result (λ n. AreOwnLanes settings.now (marks_of n.lanes.items)) }
-        ensures ticket { IfOk result (λ n. n.ticket ≡ start.ticket) }
-        ensures place { IfOk result (λ n. n.stream_position ≡ start.place) }
-        ensures sessions { IfOk result (λ n. n.sessions.sessions ≡ []) }
-        ensures rests { IfOk result (λ n. n.rests.items ≡ all_awake settings.now) }
-        ensures ledger { IfOk result (λ n. n.sessions.limit ≡ settings.now.realm.max_sessions) }
+        ensures { IfOk result (IsStarted settings.now start) }
     {
         let lanes = new_lanes(alloc, settings)?;
         let rests = new_rests(alloc, settings)?;
@@ -281,12 +277,8 @@ impl<A: Allocator + Copy> Numbers<A> {
     /// Writes how a link rests: a peer's `coa` never does, and the rests stay.
     fn set_rest(&mut self, settings: &Settings<'_>, link: Link, rest: Rest)
         requires link { IsLink settings.now link }
-        ensures rests { self.new.rests.items
-            ≡ with_rest settings.now self.old.rests.items link rest }
-        ensures lanes { self.new.lanes.items ≡ self.old.lanes.items }
-        ensures ticket { self.new.ticket ≡ self.old.ticket }
-        ensures stream_position { self.new.stream_position ≡ self.old.stream_position }
-        ensures sessions { self.new.sessions ≡ self.old.sessions }
+        ensures { RestsBecome (with_rest settings.now self.old.rests.items link rest)
+            self.old self.new }
     {
         let place = settings.place_of(link);
         if place < self.rests.len() {
@@ -312,12 +304,8 @@ impl<A: Allocator + Copy> Numbers<A> {
     pub(crate) fn put_off(&mut self, settings: &Settings<'_>, now: u64, link: Link)
         requires moment { now ≤ 2 ^ 62 }
         requires link { IsLink settings.now link }
-        ensures rests { self.new.rests.items
-            ≡ after_choice settings.now now self.old.rests.items link }
-        ensures lanes { self.new.lanes.items ≡ self.old.lanes.items }
-        ensures ticket { self.new.ticket ≡ self.old.ticket }
-        ensures stream_position { self.new.stream_position ≡ self.old.stream_position }
-        ensures sessions { self.new.sessions ≡ self.old.sessions }
+        ensures { RestsBecome (after_choice settings.now now self.old.rests.items link)
+            self.old self.new }
     {
         let rest = self.rest_of(settings, link).once_chosen(settings, now);
         self.set_rest(settings, link, rest);
@@ -328,12 +316,8 @@ impl<A: Allocator + Copy> Numbers<A> {
     pub(crate) fn count_silence(&mut self, settings: &Settings<'_>, now: u64, link: Link)
         requires moment { now ≤ 2 ^ 62 }
         requires link { IsLink settings.now link }
-        ensures rests { self.new.rests.items
-            ≡ after_silence settings.now now self.old.rests.items link }
-        ensures lanes { self.new.lanes.items ≡ self.old.lanes.items }
-        ensures ticket { self.new.ticket ≡ self.old.ticket }
-        ensures stream_position { self.new.stream_position ≡ self.old.stream_position }
-        ensures sessions { self.new.sessions ≡ self.old.sessions }
+        ensures { RestsBecome (after_silence settings.now now self.old.rests.items link)
+            self.old self.new }
     {
         if settings.rest() > 0 {
             let rest = self.rest_of(settings, link).once_silent(settings, now);
@@ -344,11 +328,8 @@ impl<A: Allocator + Copy> Numbers<A> {
     /// A reply from a link was taken: it doesn't rest, and no request counts as given up there.
     pub(crate) fn wake(&mut self, settings: &Settings<'_>, link: Link)
         requires link { IsLink settings.now link }
-        ensures rests { self.new.rests.items ≡ after_reply settings.now self.old.rests.items link }
-        ensures lanes { self.new.lanes.items ≡ self.old.lanes.items }
-        ensures ticket { self.new.ticket ≡ self.old.ticket }
-        ensures stream_position { self.new.stream_position ≡ self.old.stream_position }
-        ensures sessions { self.new.sessions ≡ self.old.sessions }
+        ensures { RestsBecome (after_reply settings.now self.old.rests.items link)
+            self.old self.new }
     {
         self.set_rest(settings, link, Rest::awake());
     }
@@ -364,11 +345,7 @@ impl<A: Allocator + Copy> Numbers<A> {
             → LanesTell settings.now es self.new.lanes.items }
         ensures lanes { AreOwnLanes settings.now (marks_of self.old.lanes.items)
             → AreOwnLanes settings.now (marks_of self.new.lanes.items) }
-        ensures count { length self.new.lanes.items ≡ length self.old.lanes.items }
-        ensures ticket { self.new.ticket ≡ self.old.ticket }
-        ensures stream_position { self.new.stream_position ≡ self.old.stream_position }
-        ensures rests { self.new.rests.items ≡ self.old.rests.items }
-        ensures sessions { self.new.sessions ≡ self.old.sessions }
+        ensures keeps { KeepsButLanes self.old self.new }
         ensures succeeds { (lane_of settings.now self.old.lanes.items link).made ≡ true
             → IsOk result }
     {
@@ -403,11 +380,7 @@ impl<A: Allocator + Copy> Numbers<A> {
             → WaitsJustAt link id e
             → LanesTell settings.now (put e es) self.new.lanes.items) }
         ensures marks { marks_of self.new.lanes.items ≡ marks_of self.old.lanes.items }
-        ensures count { length self.new.lanes.items ≡ length self.old.lanes.items }
-        ensures ticket { self.new.ticket ≡ self.old.ticket }
-        ensures stream_position { self.new.stream_position ≡ self.old.stream_position }
-        ensures rests { self.new.rests.items ≡ self.old.rests.items }
-        ensures sessions { self.new.sessions ≡ self.old.sessions }
+        ensures keeps { KeepsButLanes self.old self.new }
     {
         let lane = &mut self.lanes[settings.place_of(link)];
         let slot = lane.take()?;
@@ -428,11 +401,7 @@ impl<A: Allocator + Copy> Numbers<A> {
             → find_ticket e.ticket es ≡ Some e → waits_at link id e ≡ true
             → LanesTell settings.now (without e.ticket es) self.new.lanes.items }
         ensures marks { marks_of self.new.lanes.items ≡ marks_of self.old.lanes.items }
-        ensures count { length self.new.lanes.items ≡ length self.old.lanes.items }
-        ensures ticket { self.new.ticket ≡ self.old.ticket }
-        ensures stream_position { self.new.stream_position ≡ self.old.stream_position }
-        ensures rests { self.new.rests.items ≡ self.old.rests.items }
-        ensures sessions { self.new.sessions ≡ self.old.sessions }
+        ensures keeps { KeepsButLanes self.old self.new }
     {
         let lane = &mut self.lanes[settings.place_of(link)];
         if let Some((slot, _)) = lane.claim(id) {
@@ -451,11 +420,7 @@ impl<A: Allocator + Copy> Numbers<A> {
             (applied self.old.sessions.limit peer request.now.attributes
             self.old.sessions.sessions)) }
         ensures sessions { self.new.sessions.sessions ≡ self.old.sessions.sessions }
-        ensures limit { self.new.sessions.limit ≡ self.old.sessions.limit }
-        ensures lanes { self.new.lanes.items ≡ self.old.lanes.items }
-        ensures ticket { self.new.ticket ≡ self.old.ticket }
-        ensures stream_position { self.new.stream_position ≡ self.old.stream_position }
-        ensures rests { self.new.rests.items ≡ self.old.rests.items }
+        ensures keeps { KeepsButSessions self.old self.new }
     {
         self.sessions.prepare(peer, request)
     }
@@ -465,11 +430,7 @@ impl<A: Allocator + Copy> Numbers<A> {
         requires { IfSome change (λ made. HasRoomFor made self.old.sessions) }
         ensures sessions { (sessions : List Session) → IsPrepared self.old.sessions change sessions
             → self.new.sessions.sessions ≡ sessions }
-        ensures limit { self.new.sessions.limit ≡ self.old.sessions.limit }
-        ensures lanes { self.new.lanes.items ≡ self.old.lanes.items }
-        ensures ticket { self.new.ticket ≡ self.old.ticket }
-        ensures stream_position { self.new.stream_position ≡ self.old.stream_position }
-        ensures rests { self.new.rests.items ≡ self.old.rests.items }
+        ensures keeps { KeepsButSessions self.old self.new }
     {
         if let Some(change) = change {
             self.sessions.apply_prepared(change);

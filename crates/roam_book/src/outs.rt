@@ -1,6 +1,7 @@
 //! The packets of an answer, while they are gathered.
 
-ghost use Rattle.std.specs.Prelude.{◌≡◌, ℕ, ◌+◌, ◌++◌, ◌∷◌, Bool, List, [], None, Some, IfOk, IfSome, IsOk, is_some, length};
+ghost use Rattle.std.specs.Prelude.{◌≡◌, ℕ, ◌+◌, ◌++◌, ◌∷◌, Bool, List, [], None, Some, IfOk};
+ghost use Rattle.std.specs.Prelude.{IfSome, IsOk, is_some, length};
 ghost use Rattle.roam_route.specs.Admission.{PlainOut};
 ghost use Rattle.roam_route.specs.Shown.{shown_out};
 ghost use Rattle.roam_book.specs.Turn.{shown_outs};

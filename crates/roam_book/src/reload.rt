@@ -7,7 +7,8 @@ ghost use Rattle.roam_reload.specs.Reload.{IsCarried};
 ghost use Rattle.roam_book.specs.BookView.{settings_of};
 ghost use Rattle.roam_book.specs.RealmConfig.{RealmConfig, link_count};
 ghost use Rattle.roam_book.specs.MoreLanes.{AreMoreLanes};
-ghost use Rattle.roam_book.specs.Reload.{AsIfNothingChanged, CarriedRealmsGoOn, Carries, NothingChangesForThem, carried};
+ghost use Rattle.roam_book.specs.Reload.{AsIfNothingChanged, CarriedRealmsGoOn, Carries, NothingChangesForThem};
+ghost use Rattle.roam_book.specs.Reload.{carried};
 ghost use Rattle.roam_book.specs.Sound.{IsSound, state_of};
 
 use crate::book::Book;

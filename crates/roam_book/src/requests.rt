@@ -3,13 +3,16 @@
 //! First it is decided whether it is a duplicate, answered by a NAK, refused or admitted, and which
 //! entries make way; that changes nothing. Then a new request is admitted.
 
-ghost use Rattle.std.specs.Prelude.{◌≡◌, ◌≢◌, ℕ, ◌<◌, ◌≤◌, ◌^◌, ◌∷◌, [], true, None, Some, IfOk, IfSome, IsOk, length};
+ghost use Rattle.std.specs.Prelude.{◌≡◌, ◌≢◌, ℕ, ◌<◌, ◌≤◌, ◌^◌, ◌∷◌, [], true, None};
+ghost use Rattle.std.specs.Prelude.{Some, IfOk, IfSome, IsOk, length};
 ghost use Rattle.roam_wire.specs.Reading.{IsPacketText};
 ghost use Rattle.roam_pending.specs.EntryList.{besides, find_client, without_client};
 ghost use Rattle.roam_pending.specs.PlainEntry.{PlainRequest};
 ghost use Rattle.roam_pending.specs.Shown.{shown_standing};
-ghost use Rattle.roam_book.specs.NewEntry.{Chooses, IsRequestPlan, IsWay, freed_link, once_gone, straight_after, target_at};
-ghost use Rattle.roam_book.specs.OnRequest.{at_target, first_seen, held_reply, is_reverse, nak_octets, new_request, of_key, on_request, packet_back, reverse_cause, targets};
+ghost use Rattle.roam_book.specs.NewEntry.{Chooses, IsRequestPlan, IsWay, freed_link, once_gone, straight_after};
+ghost use Rattle.roam_book.specs.NewEntry.{target_at};
+ghost use Rattle.roam_book.specs.OnRequest.{at_target, first_seen, held_reply, is_reverse, nak_octets, new_request};
+ghost use Rattle.roam_book.specs.OnRequest.{of_key, on_request, packet_back, reverse_cause, targets};
 ghost use Rattle.roam_book.specs.RealmConfig.{IsLink};
 ghost use Rattle.roam_book.specs.RealmTurn.{IsRealm, Turns, TurnsTwice, entries, state};
 ghost use Rattle.roam_book.specs.Sound.{CountsAsGone, IsRequest, chosen_link, gone_ticket, shown_request};

@@ -1,6 +1,8 @@
 //! A request as it is forwarded (RFC 2865, section 2.3).
 
-ghost use Rattle.std.specs.Prelude.{◌≡◌, ℕ, ◌<◌, ◌≤◌, ◌==◌, ◌+◌, ◌%◌, ◌^◌, ◌++◌, List, [], ◌∷◌, Some, None, true, IfSome, is_some, length, slice_set, vec_len, vec_capacity};
+ghost use Rattle.std.specs.Prelude.{◌≡◌, ℕ, ◌<◌, ◌≤◌, ◌==◌, ◌+◌, ◌%◌, ◌^◌, ◌++◌};
+ghost use Rattle.std.specs.Prelude.{List, [], ◌∷◌, Some, None, true, IfSome, is_some, length, slice_set, vec_len};
+ghost use Rattle.std.specs.Prelude.{vec_capacity};
 ghost use Rattle.roam_wire.specs.Reading.{IsPacketText, packet_of};
 ghost use Rattle.roam_wire.specs.declared.code.TheConstants.{ACCESS_REQUEST};
 ghost use Rattle.roam_fwd.specs.Forwarded.{forwarded_length};
@@ -12,9 +14,11 @@ ghost use Rattle.roam_route.specs.Shown.{shown_out};
 ghost use Rattle.roam_book.specs.RealmConfig.{IsLink, link_place, link_count};
 ghost use Rattle.roam_book.specs.RealmState.{next_toward};
 ghost use Rattle.roam_book.specs.Rests.{after_choice};
-ghost use Rattle.roam_book.specs.OnRequest.{packet_to, packet_back, drawn_at, position_after, forwarded_octets, forwarded_entry};
+ghost use Rattle.roam_book.specs.OnRequest.{packet_to, packet_back, drawn_at, position_after, forwarded_octets};
+ghost use Rattle.roam_book.specs.OnRequest.{forwarded_entry};
 ghost use Rattle.roam_book.specs.Memory.{HasBuffers, HasRoom, IsCopied};
-ghost use Rattle.roam_book.specs.Sound.{shown_request, IsRequest, LanesTell, IsWaiting, lane_of, cursors_of, has_free, marks_of};
+ghost use Rattle.roam_book.specs.Sound.{shown_request, IsRequest, LanesTell, IsWaiting, lane_of, cursors_of, has_free};
+ghost use Rattle.roam_book.specs.Sound.{marks_of};
 
 use crate::buffers::{Buffers, copied_into};
 use crate::numbers::Numbers;
@@ -37,6 +41,14 @@ pub struct Asked<'a> {
     /// new it is asked; of one that goes on to another link it is left out.
     pub named: Option<u16>,
     pub octets: &'a [u8],
+}
+
+/// A request that is forwarded: the ticket that it has, and the link to which it goes.
+#[derive(Clone, Copy)]
+pub(crate) struct Hop<'a> {
+    pub asked: Asked<'a>,
+    pub ticket: u64,
+    pub link: Link,
 }
 
 /// A packet that is sent, and an equal one where it is wanted twice.
@@ -138,34 +150,32 @@ fn position_after(asked: Asked<'_>, position: u128) -> u128
 /// drawn from this position on.
 fn forward_into<A: Allocator>(
     settings: &Settings<'_>,
-    asked: Asked<'_>,
+    hop: Hop<'_>,
     position: u128,
-    ticket: u64,
-    link: Link,
     id: u8,
     out: &mut Vec<u8, A>,
 )
-    requires request { IsRequest settings.now (shown_request asked) }
-    requires link { IsLink settings.now link }
-    requires room { HasRoom (forwarded_length (packet_of asked.octets.now)) out.old }
+    requires request { IsRequest settings.now (shown_request hop.asked) }
+    requires link { IsLink settings.now hop.link }
+    requires room { HasRoom (forwarded_length (packet_of hop.asked.octets.now)) out.old }
     ensures octets { out.new.items
-        ≡ forwarded_octets settings.now (shown_request asked.entry) position ticket
-        (record { link = link; id = id }) }
-    ensures waiting { IsWaiting settings.now (shown_request asked.entry) link id out.new.items }
+        ≡ forwarded_octets settings.now (shown_request hop.entry.asked) position hop.entry.ticket
+        (record { link = hop.entry.link; id = id }) }
+    ensures waiting { IsWaiting settings.now (shown_request hop.entry.asked) hop.entry.link id out.new.items }
     ensures size { length out.new.items
-        ≡ forwarded_length (packet_of (shown_request asked.entry).octets) }
+        ≡ forwarded_length (packet_of (shown_request hop.entry.asked).octets) }
 {
-    let request = View::of_packet(asked.octets);
-    let from_secret = settings.secret_of_requester(asked.requester);
-    let to_secret = settings.secret_of_link(link);
-    let authenticator = drawn_at(settings, asked, position);
+    let request = View::of_packet(hop.asked.octets);
+    let from_secret = settings.secret_of_requester(hop.asked.requester);
+    let to_secret = settings.secret_of_link(hop.link);
+    let authenticator = drawn_at(settings, hop.asked, position);
     forward_reserved(
         &request,
         from_secret,
         to_secret,
         id,
         authenticator,
-        ticket,
+        hop.ticket,
         out,
     );
 }
@@ -177,52 +187,50 @@ pub(crate) fn send_new<A: Allocator + Copy>(
     settings: &Settings<'_>,
     numbers: &mut Numbers<A>,
     now: u64,
-    asked: Asked<'_>,
-    ticket: u64,
-    link: Link,
+    hop: Hop<'_>,
     buffers: Buffers<A>,
 ) -> (Sent<A>, Waiting<A>)
     requires moment { now ≤ 2 ^ 62 }
-    requires request { IsRequest settings.now (shown_request asked) }
-    requires link { IsLink settings.now link }
+    requires request { IsRequest settings.now (shown_request hop.asked) }
+    requires link { IsLink settings.now hop.link }
     requires count { length numbers.old.lanes.items ≡ link_count settings.now }
-    requires free { has_free (lane_of settings.now numbers.old.lanes.items link) ≡ true }
-    requires made { (lane_of settings.now numbers.old.lanes.items link).made ≡ true }
-    requires buffers { HasBuffers (forwarded_length (packet_of asked.octets.now)) buffers }
+    requires free { has_free (lane_of settings.now numbers.old.lanes.items hop.link) ≡ true }
+    requires made { (lane_of settings.now numbers.old.lanes.items hop.link).made ≡ true }
+    requires buffers { HasBuffers (forwarded_length (packet_of hop.asked.octets.now)) buffers }
     ensures next { (es : List PlainEntry) → IsEntryList es
         → LanesTell settings.now es numbers.old.lanes.items
-        → next_toward settings.now (cursors_of numbers.old.lanes.items) es link ≡ Some result.1.id }
-    ensures out { shown_out result.0.out ≡ packet_to settings.now link
+        → next_toward settings.now (cursors_of numbers.old.lanes.items) es hop.entry.link ≡ Some result.1.id }
+    ensures out { shown_out result.0.out ≡ packet_to settings.now hop.entry.link
         (forwarded_octets settings.now
-        (shown_request asked.entry) numbers.old.stream_position ticket
-        (record { link = link; id = result.1.id })) }
+        (shown_request hop.entry.asked) numbers.old.stream_position hop.entry.ticket
+        (record { link = hop.entry.link; id = result.1.id })) }
     ensures copied { IsCopied (is_some buffers.copy) result.0 }
     ensures standing { shown_standing (standing.Waiting result.1)
-        ≡ (forwarded_entry settings.now now (shown_request asked.entry)
-        numbers.old.stream_position ticket (record { link = link; id = result.1.id })).standing }
-    ensures waiting { IsWaiting settings.now (shown_request asked.entry) link result.1.id
+        ≡ (forwarded_entry settings.now now (shown_request hop.entry.asked)
+        numbers.old.stream_position hop.entry.ticket (record { link = hop.entry.link; id = result.1.id })).standing }
+    ensures waiting { IsWaiting settings.now (shown_request hop.entry.asked) hop.entry.link result.1.id
         result.1.forwarded }
     ensures cursors { cursors_of numbers.new.lanes.items
-        ≡ slice_set (cursors_of numbers.old.lanes.items) (link_place settings.now link)
+        ≡ slice_set (cursors_of numbers.old.lanes.items) (link_place settings.now hop.entry.link)
         ((result.1.id + 1) % 256) }
 
     // The lanes then tell the entry that waits there too.
     ensures tells { (es : List PlainEntry) → LanesTell settings.now es numbers.old.lanes.items
-        → find_ticket ticket es ≡ None
+        → find_ticket hop.entry.ticket es ≡ None
         → LanesTell settings.now
-        (put (forwarded_entry settings.now now (shown_request asked.entry)
-        numbers.old.stream_position ticket (record { link = link; id = result.1.id })) es)
+        (put (forwarded_entry settings.now now (shown_request hop.entry.asked)
+        numbers.old.stream_position hop.entry.ticket (record { link = hop.entry.link; id = result.1.id })) es)
         numbers.new.lanes.items }
     ensures marks { marks_of numbers.new.lanes.items ≡ marks_of numbers.old.lanes.items }
     ensures count { length numbers.new.lanes.items ≡ length numbers.old.lanes.items }
     ensures ticket { numbers.new.ticket ≡ numbers.old.ticket }
     ensures stream_position { numbers.new.stream_position
-        ≡ position_after (shown_request asked.entry) numbers.old.stream_position }
+        ≡ position_after (shown_request hop.entry.asked) numbers.old.stream_position }
     ensures sessions { numbers.new.sessions ≡ numbers.old.sessions }
     ensures rests { numbers.new.rests.items
-        ≡ after_choice settings.now now numbers.old.rests.items link }
+        ≡ after_choice settings.now now numbers.old.rests.items hop.entry.link }
 {
-    let Some(id) = numbers.take_next(settings, link, ticket) else {
+    let Some(id) = numbers.take_next(settings, hop.link, hop.ticket) else {
         unreachable!();
     };
     let Buffers {
@@ -231,17 +239,17 @@ pub(crate) fn send_new<A: Allocator + Copy>(
         copy,
     } = buffers;
     let position = numbers.stream_position;
-    forward_into(settings, asked, position, ticket, link, id, &mut sent);
-    numbers.stream_position = position_after(asked, position);
-    numbers.put_off(settings, now, link);
+    forward_into(settings, hop, position, id, &mut sent);
+    numbers.stream_position = position_after(hop.asked, position);
+    numbers.put_off(settings, now, hop.link);
     let forwarded = copied_into(kept, sent.as_slice());
     let waiting = Waiting {
-        link,
+        link: hop.link,
         id,
         forwarded,
         sends_left: settings.tries().saturating_sub(1),
         deadline: now + u64::from(settings.wait()),
     };
-    let out = packet_to(settings, link, Octets::from_vec(sent));
+    let out = packet_to(settings, hop.link, Octets::from_vec(sent));
     (Sent::new(out, copy), waiting)
 }

@@ -1,11 +1,15 @@
 //! What the rules of a realm read of the configuration.
 
-ghost use Rattle.std.specs.Prelude.{◌≡◌, ◌↔◌, ℕ, ◌<◌, ◌≤◌, ◌+◌, IfSome, IsTrue, length, unwrap_or, vec_len};
+ghost use Rattle.std.specs.Prelude.{◌≡◌, ◌↔◌, ℕ, ◌<◌, ◌≤◌, ◌+◌, IfSome, IsTrue, length};
+ghost use Rattle.std.specs.Prelude.{unwrap_or, vec_len};
+ghost use Rattle.roam_wire.specs.Secret.{IsSecret};
 ghost use Rattle.roam_conf.specs.Shown.{shown};
 ghost use Rattle.roam_conf.specs.Parts.{shown_realm, shown_peer, shown_server};
 ghost use Rattle.roam_reverse.specs.Causes.{cause};
 ghost use Rattle.roam_reverse.specs.Target.{target};
-ghost use Rattle.roam_book.specs.RealmConfig.{realm_config, server_secret, peer_secret, link_secret, requester_secret, seal_required, link_endpoint, link_place, link_count, nowhere, IsLink, IsRequester};
+ghost use Rattle.roam_book.specs.RealmConfig.{realm_config, server_secret, peer_secret, link_secret, requester_secret};
+ghost use Rattle.roam_book.specs.RealmConfig.{seal_required, link_endpoint, link_place, link_count, nowhere, IsLink};
+ghost use Rattle.roam_book.specs.RealmConfig.{IsRequester};
 
 use roam_conf::{Config, Endpoint, Link, Peer, Realm, Server};
 use roam_pending::Requester;
@@ -153,8 +157,7 @@ impl<'c> Settings<'c> {
     fn secret_of_server(&self, server: u8) -> &[u8]
         requires { server < length self.now.realm.servers }
         ensures text { result.now ≡ server_secret self.now server }
-        ensures at_least_one { 1 ≤ length result.now }
-        ensures at_most_64 { length result.now ≤ 64 }
+        ensures secret { IsSecret result.now }
     {
         self.server(server).secret.as_bytes()
     }
@@ -163,8 +166,7 @@ impl<'c> Settings<'c> {
     fn secret_of_peer(&self, peer: u16) -> &[u8]
         requires { peer < length self.now.peers }
         ensures text { result.now ≡ peer_secret self.now peer }
-        ensures at_least_one { 1 ≤ length result.now }
-        ensures at_most_64 { length result.now ≤ 64 }
+        ensures secret { IsSecret result.now }
     {
         self.peer(peer).secret.as_bytes()
     }
@@ -173,8 +175,7 @@ impl<'c> Settings<'c> {
     pub(crate) fn secret_of_link(&self, link: Link) -> &[u8]
         requires { IsLink self.now link }
         ensures text { result.now ≡ link_secret self.now link }
-        ensures at_least_one { 1 ≤ length result.now }
-        ensures at_most_64 { length result.now ≤ 64 }
+        ensures secret { IsSecret result.now }
     {
         match link {
             Link::Auth(server) | Link::Acct(server) => self.secret_of_server(server),
@@ -197,8 +198,7 @@ impl<'c> Settings<'c> {
     pub(crate) fn secret_of_requester(&self, requester: Requester) -> &[u8]
         requires { IsRequester self.now requester }
         ensures text { result.now ≡ requester_secret self.now requester }
-        ensures at_least_one { 1 ≤ length result.now }
-        ensures at_most_64 { length result.now ≤ 64 }
+        ensures secret { IsSecret result.now }
     {
         match requester {
             Requester::Peer(peer) => self.secret_of_peer(peer),

@@ -1,6 +1,7 @@
 //! What a tick does to a realm: each due entry is taken once, in order of deadline and ticket.
 
-ghost use Rattle.std.specs.Prelude.{◌≡◌, ℕ, ◌≤◌, ◌++◌, ◌+◌, ◌^◌, Bool, List, true, Ok, IfSome, is_some, length};
+ghost use Rattle.std.specs.Prelude.{◌≡◌, ℕ, ◌≤◌, ◌++◌, ◌+◌, ◌^◌, Bool, List, true, Ok};
+ghost use Rattle.std.specs.Prelude.{IfSome, is_some, length};
 ghost use Rattle.roam_pending.specs.EntryList.{find_ticket};
 ghost use Rattle.roam_pending.specs.Realms.{RealmBecomes};
 ghost use Rattle.roam_route.specs.Admission.{PlainOut};

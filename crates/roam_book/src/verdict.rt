@@ -1,7 +1,9 @@
 //! What comes of a reply for the entry that it is for (RFC 2865, section 2.3).
 
-ghost use Rattle.std.specs.Prelude.{◌≡◌, ◌⊎◌, ◌↔◌, ℕ, ◌<◌, ◌≤◌, ◌^◌, [], true, IfErr, IfNone, IfOk, IsErrOf, IsOk, length};
+ghost use Rattle.std.specs.Prelude.{◌≡◌, ◌⊎◌, ◌↔◌, ℕ, ◌<◌, ◌≤◌, ◌^◌, [], true, IfErr};
+ghost use Rattle.std.specs.Prelude.{IfNone, IfOk, IsErrOf, IsOk, length};
 ghost use Rattle.roam_wire.specs.Reading.{packet_of};
+ghost use Rattle.roam_wire.specs.Secret.{IsSecret};
 ghost use Rattle.roam_back.specs.ReplyCheck.{IsTaken};
 ghost use Rattle.roam_back.specs.Returned.{returned_length};
 ghost use Rattle.roam_pending.specs.PlainEntry.{PlainEntry, waits_at};
@@ -9,7 +11,8 @@ ghost use Rattle.roam_pending.specs.Shown.{shown, shown_request, shown_standing}
 ghost use Rattle.roam_book.specs.RealmConfig.{IsLink, RealmConfig, link_secret, seal_required};
 ghost use Rattle.roam_book.specs.RealmState.{RealmState};
 ghost use Rattle.roam_book.specs.Turn.{packets_of, refuses};
-ghost use Rattle.roam_book.specs.OnReply.{counted_peer, judge, reply_fault, return_reply, returned_octets, returning, to_standing};
+ghost use Rattle.roam_book.specs.OnReply.{counted_peer, judge, reply_fault, return_reply, returned_octets, returning};
+ghost use Rattle.roam_book.specs.OnReply.{to_standing};
 ghost use Rattle.roam_book.specs.Sound.{IsRequest, IsWaiting, StandsWell};
 ghost use Rattle.roam_book.specs.Judged.{IsVerdict, returns_octets};
 
@@ -52,43 +55,50 @@ fn fault_of(
     secret: &[u8],
     seal_required: bool,
 ) -> Option<Refusal>
-    requires at_least_one_octet { 1 ≤ length secret.now }
-    requires at_most_64_octets { length secret.now ≤ 64 }
+    requires secret { IsSecret secret.now }
     ensures fault { result ≡ reply_fault secret.now seal_required reply.now forwarded.now }
     ensures taken { IfNone result (IsTaken secret.now seal_required reply.now forwarded.now) }
 {
     check_reply(reply, forwarded, secret, seal_required).err()
 }
 
+/// A reply, and with what it is judged.
+#[derive(Drop)]
+struct Judging<'s, 'c, 'r, 'd, A: Allocator> {
+    alloc: A,
+    settings: &'s Settings<'c>,
+    moment: u64,
+    reply: &'r View<'d>,
+}
+
 /// The packet that is returned for a reply that was taken.
 ///
 /// Refused in this order: `ReplyTooLong`, looked at before memory is asked for; `NoMemory`.
 fn returned_packet<A: Allocator + Copy>(
-    alloc: A,
-    settings: &Settings<'_>,
+    judging: &Judging<'_, '_, '_, '_, A>,
     request: &Request<A>,
     link: Link,
     forwarded: &View<'_>,
-    reply: &View<'_>,
 ) -> Result<Vec<u8, A>, Refusal>
-    requires request { IsRequest settings.now (shown_request request.now) }
-    requires link { IsLink settings.now link }
-    requires taken { IsTaken (link_secret settings.now link) (seal_required settings.now link)
-        reply.now forwarded.now }
+    requires request { IsRequest judging.now.settings.now (shown_request request.now) }
+    requires link { IsLink judging.now.settings.now link }
+    requires taken { IsTaken (link_secret judging.now.settings.now link)
+        (seal_required judging.now.settings.now link) judging.now.reply.now forwarded.now }
     ensures octets { IfOk result (λ packet. packet.items
-        ≡ returned_octets settings.now (shown_request request.now) link forwarded.now reply.now) }
+        ≡ returned_octets judging.now.settings.now (shown_request request.now) link forwarded.now
+        judging.now.reply.now) }
     ensures too_long { IsErrOf result Refusal.ReplyTooLong ↔ (4096 < returned_length
-        (returning settings.now (shown_request request.now) link forwarded.now) reply.now
-        (packet_of request.now.octets)) }
+        (returning judging.now.settings.now (shown_request request.now) link forwarded.now)
+        judging.now.reply.now (packet_of request.now.octets)) }
     ensures causes { IfErr result (λ e. (e ≡ Refusal.ReplyTooLong) ⊎ (e ≡ Refusal.NoMemory)) }
 {
-    let mut packet = Vec::new(alloc);
+    let mut packet = Vec::new(judging.alloc);
     match back(
-        reply,
+        judging.reply,
         &View::of_packet(request.octets.as_slice()),
         forwarded.authenticator(),
-        settings.secret_of_link(link),
-        settings.secret_of_requester(request.requester),
+        judging.settings.secret_of_link(link),
+        judging.settings.secret_of_requester(request.requester),
         &mut packet,
     ) {
         Ok(()) => Ok(packet),
@@ -113,24 +123,22 @@ fn counted_peer(requester: Requester, reply: &View<'_>) -> Option<u16>
     }
 }
 
-/// A packet goes back to the sender of a request, and is held until `now + hold`.
+/// A packet goes back to the sender of a request, and is held until `hold` after the moment.
 fn return_packet<A: Allocator + Copy>(
-    alloc: A,
-    settings: &Settings<'_>,
-    now: u64,
+    judging: &Judging<'_, '_, '_, '_, A>,
     key: Key,
     counted: Option<u16>,
     packet: Vec<u8, A>,
 ) -> Result<Verdict<A>, NoMemory>
-    requires moment { now ≤ 2 ^ 62 }
+    requires moment { judging.now.moment ≤ 2 ^ 62 }
     ensures { IfOk result (λ v. (e : PlainEntry) (l : Link)
-        → IsVerdict settings.now v e l
-        (λ s. returns_octets settings.now now key counted packet.items e l s)) }
+        → IsVerdict judging.now.settings.now v e l (λ s. returns_octets judging.now.settings.now
+        judging.now.moment key counted packet.items e l s)) }
 {
-    let reply = Octets::copy_of(alloc, packet.as_slice())?;
-    let deadline = now + u64::from(settings.hold());
-    let out = packet_back(settings, key, Octets::from_vec(packet));
-    let answer = one_packet(alloc, out)?;
+    let reply = Octets::copy_of(judging.alloc, packet.as_slice())?;
+    let deadline = judging.moment + u64::from(judging.settings.hold());
+    let out = packet_back(judging.settings, key, Octets::from_vec(packet));
+    let answer = one_packet(judging.alloc, out)?;
     Ok(Verdict {
         answer,
         done: Some(Done { reply, deadline }),
@@ -140,67 +148,64 @@ fn return_packet<A: Allocator + Copy>(
 
 /// A reply that was taken, for the entry that waits for it.
 fn return_reply<A: Allocator + Copy>(
-    alloc: A,
-    settings: &Settings<'_>,
-    now: u64,
+    judging: &Judging<'_, '_, '_, '_, A>,
     entry: &Entry<A>,
     link: Link,
     forwarded: &View<'_>,
-    reply: &View<'_>,
 ) -> Result<Verdict<A>, NoMemory>
-    requires moment { now ≤ 2 ^ 62 }
-    requires request { IsRequest settings.now (shown entry.now).request }
-    requires link { IsLink settings.now link }
-    requires taken { IsTaken (link_secret settings.now link) (seal_required settings.now link)
-        reply.now forwarded.now }
-    ensures turn { IfOk result (λ v. IsVerdict settings.now v (shown entry.now) link
-        (λ s. return_reply settings.now now s (shown entry.now) link forwarded.now reply.now)) }
-    ensures succeeds { (s : RealmState) → packets_of (return_reply settings.now now s
-        (shown entry.now) link forwarded.now reply.now) ≡ [] → IsOk result }
+    requires moment { judging.now.moment ≤ 2 ^ 62 }
+    requires request { IsRequest judging.now.settings.now (shown entry.now).request }
+    requires link { IsLink judging.now.settings.now link }
+    requires taken { IsTaken (link_secret judging.now.settings.now link)
+        (seal_required judging.now.settings.now link) judging.now.reply.now forwarded.now }
+    ensures turn { IfOk result (λ v. IsVerdict judging.now.settings.now v (shown entry.now) link
+        (λ s. return_reply judging.now.settings.now judging.now.moment s (shown entry.now) link
+        forwarded.now judging.now.reply.now)) }
+    ensures succeeds { (s : RealmState) → packets_of (return_reply judging.now.settings.now
+        judging.now.moment s (shown entry.now) link forwarded.now judging.now.reply.now) ≡ []
+        → IsOk result }
 {
-    match returned_packet(alloc, settings, &entry.request, link, forwarded, reply) {
+    match returned_packet(judging, &entry.request, link, forwarded) {
         Ok(packet) => {
-            let counted = counted_peer(entry.request.requester, reply);
-            return_packet(alloc, settings, now, entry.request.key, counted, packet)
+            let counted = counted_peer(entry.request.requester, judging.reply);
+            return_packet(judging, entry.request.key, counted, packet)
         }
-        Err(Refusal::ReplyTooLong) => Ok(not_taken(alloc, Refusal::ReplyTooLong)),
+        Err(Refusal::ReplyTooLong) => Ok(not_taken(judging.alloc, Refusal::ReplyTooLong)),
         Err(_) => Err(NoMemory),
     }
 }
 
 /// A reply to an entry that waits.
 fn judge<A: Allocator + Copy>(
-    alloc: A,
-    settings: &Settings<'_>,
-    now: u64,
+    judging: &Judging<'_, '_, '_, '_, A>,
     entry: &Entry<A>,
     waiting: &Waiting<A>,
-    reply: &View<'_>,
 ) -> Result<Verdict<A>, NoMemory>
-    requires moment { now ≤ 2 ^ 62 }
-    requires request { IsRequest settings.now (shown entry.now).request }
-    requires waiting { IsWaiting settings.now (shown entry.now).request waiting.now.link waiting.now.id
-        waiting.now.forwarded }
-    ensures turn { IfOk result (λ v. IsVerdict settings.now v (shown entry.now) waiting.now.link
-        (λ s. judge settings.now now s (shown entry.now) waiting.now.link
-        (packet_of waiting.now.forwarded) reply.now
-        (reply_fault (link_secret settings.now waiting.now.link)
-        (seal_required settings.now waiting.now.link) reply.now
+    requires moment { judging.now.moment ≤ 2 ^ 62 }
+    requires request { IsRequest judging.now.settings.now (shown entry.now).request }
+    requires waiting { IsWaiting judging.now.settings.now (shown entry.now).request waiting.now.link
+        waiting.now.id waiting.now.forwarded }
+    ensures turn { IfOk result (λ v.
+        IsVerdict judging.now.settings.now v (shown entry.now) waiting.now.link
+        (λ s. judge judging.now.settings.now judging.now.moment s (shown entry.now)
+        waiting.now.link (packet_of waiting.now.forwarded) judging.now.reply.now
+        (reply_fault (link_secret judging.now.settings.now waiting.now.link)
+        (seal_required judging.now.settings.now waiting.now.link) judging.now.reply.now
         (packet_of waiting.now.forwarded)))) }
-    ensures succeeds { (s : RealmState) → packets_of (judge settings.now now s (shown entry.now)
-        waiting.now.link (packet_of waiting.now.forwarded) reply.now
-        (reply_fault (link_secret settings.now waiting.now.link)
-        (seal_required settings.now waiting.now.link) reply.now
+    ensures succeeds { (s : RealmState) → packets_of (judge judging.now.settings.now
+        judging.now.moment s (shown entry.now) waiting.now.link (packet_of waiting.now.forwarded)
+        judging.now.reply.now (reply_fault (link_secret judging.now.settings.now waiting.now.link)
+        (seal_required judging.now.settings.now waiting.now.link) judging.now.reply.now
         (packet_of waiting.now.forwarded))) ≡ [] → IsOk result }
 {
     let link = waiting.link;
     let forwarded = View::of_packet(waiting.forwarded.as_slice());
-    let secret = settings.secret_of_link(link);
-    let seal_required = settings.seal_required(link);
-    if let Some(why) = fault_of(reply, &forwarded, secret, seal_required) {
-        return Ok(not_taken(alloc, why));
+    let secret = judging.settings.secret_of_link(link);
+    let seal_required = judging.settings.seal_required(link);
+    if let Some(why) = fault_of(judging.reply, &forwarded, secret, seal_required) {
+        return Ok(not_taken(judging.alloc, why));
     }
-    return_reply(alloc, settings, now, entry, link, &forwarded, reply)
+    return_reply(judging, entry, link, &forwarded)
 }
 
 /// A reply to an entry, as it stands. A reply that isn't taken wants no memory.
@@ -221,8 +226,14 @@ pub(crate) fn to_standing<A: Allocator + Copy>(
     ensures succeeds { (s : RealmState) → packets_of (to_standing settings.now now s
         (shown entry.now) reply.now (shown entry.now).standing) ≡ [] → IsOk result }
 {
+    let judging = Judging {
+        alloc,
+        settings,
+        moment: now,
+        reply,
+    };
     match &entry.standing {
-        Standing::Waiting(waiting) => judge(alloc, settings, now, entry, waiting, reply),
+        Standing::Waiting(waiting) => judge(&judging, entry, waiting),
         Standing::Done(_) => Ok(not_taken(alloc, Refusal::NoEntry)),
     }
 }

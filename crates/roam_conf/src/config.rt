@@ -2,7 +2,8 @@
 
 ghost use Rattle.std.specs.Prelude.{◌≡◌, ℕ, List, ◌≤◌, false, map, vec_len};
 ghost use Rattle.std.specs.Option.{ForSome};
-ghost use Rattle.roam_conf.specs.Duplicates.{has_duplicate_realm, has_duplicate_peer, has_duplicate_endpoint, has_duplicate_server, has_duplicate_link};
+ghost use Rattle.roam_conf.specs.Duplicates.{has_duplicate_realm, has_duplicate_peer, has_duplicate_endpoint};
+ghost use Rattle.roam_conf.specs.Duplicates.{has_duplicate_server, has_duplicate_link};
 ghost use Rattle.roam_conf.specs.Index.{owners, owner_of, all_patterns};
 ghost use Rattle.roam_conf.specs.Lookup.{peer_with_ip};
 ghost use Rattle.roam_conf.specs.Parts.{shown_peer, shown_realm};

@@ -4,7 +4,8 @@ ghost use Rattle.std.specs.Prelude.{◌≡◌, ◌≢◌, ◌<◌, [], length, N
 ghost use Rattle.std.specs.List.{AllByRecursion};
 ghost use Rattle.std.specs.Str.{str_eq_ignore_ascii_case};
 ghost use Rattle.roam_conf.specs.Config.{whole, suffix, any};
-ghost use Rattle.roam_conf.specs.Lookup.{EndsIn, NoSuffix, first_place, realm_named, realm_with, link_in, endpoint_in_realm};
+ghost use Rattle.roam_conf.specs.Lookup.{EndsIn, NoSuffix, first_place, realm_named, realm_with, link_in};
+ghost use Rattle.roam_conf.specs.Lookup.{endpoint_in_realm};
 ghost use Rattle.roam_conf.specs.Shown.{shown};
 
 use crate::{Config, Endpoint, Link};

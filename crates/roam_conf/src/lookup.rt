@@ -57,7 +57,8 @@ impl Config {
     ghost use Rattle.std.specs.Prelude.{◌≡◌, ◌%◌, ◌<◌, IfSome, length, vec_len};
     ghost use Rattle.roam_conf.specs.Config.{suffix};
     ghost use Rattle.roam_conf.specs.Index.{pattern_seen};
-    ghost use Rattle.roam_conf.specs.Lookup.{realm_named, realm_with, after_dots, further_patterns, first_answer, peer_with_ip, link_in, home_in, servers_in, IsLinkIn};
+    ghost use Rattle.roam_conf.specs.Lookup.{realm_named, realm_with, after_dots, further_patterns, first_answer};
+    ghost use Rattle.roam_conf.specs.Lookup.{peer_with_ip, link_in, home_in, servers_in, IsLinkIn};
     ghost use Rattle.roam_conf.specs.Shown.{shown};
 
     /// The realm that has a pattern; none has a name of more than 253 octets in it.

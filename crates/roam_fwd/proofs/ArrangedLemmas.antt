@@ -23,6 +23,7 @@ use Rattle.roam_hide.specs.Hiding.{Key}
 use Rattle.roam_hide.specs.PacketAnew.{attribute_anew, packet_anew, CanBeHiddenAnew}
 use Rattle.roam_fwd.specs.Forwarded.{Forwarding, ticket_state, challenge_is_authenticator, added_challenge, access_growth, forwarded, forwarded_length, HasPasswordBlocks, CanBeForwarded}
 use Rattle.roam_fwd.specs.Arranged.{IsSealStart, arranged_attributes}
+use Rattle.roam_fwd.specs.Rewriting.{request_in, IsRewritable}
 use Rattle.roam_fwd.proofs.ForwardedLemmas.{IsAttribute-with_ticket}
 use Rattle.roam_fwd.proofs.AccessLemmas.{without-yes, without-no, all_without, length-challenge, IsAttribute-challenge, AllByRecursion-append, zero_or_one, IsForwardableAccess, access_unsealed, IsPacket-access_unsealed, forwarded-access, forwarded_length-access}
 
@@ -35,6 +36,14 @@ pub record HoldsAccess (len : ℕ) (octets : List ℕ) : Type 0 where
   pub can_be_forwarded : CanBeForwarded (packet_of (take len octets))
   pub size : length octets ≡ forwarded_length (packet_of (take len octets))
   pub access : (packet_of (take len octets)).code ≡ ACCESS_REQUEST
+
+pub access_held : (len : ℕ) (octets : List ℕ) → IsRewritable len octets → (request_in len octets).code ≡ ACCESS_REQUEST → HoldsAccess len octets
+access_held len octets h access = record {
+  packet = h.packet;
+  can_be_forwarded = h.can_be_forwarded;
+  size = h.size;
+  access = access;
+}
 
 -- so many octets are the request's
 pub front_size : (len : ℕ) (octets : List ℕ) → IsPacketText (take len octets) → length (take len octets) ≡ packet_length (packet_of (take len octets))
@@ -370,3 +379,7 @@ pub sixteen_there : (a b c d : ℕ) (field rest headed : List ℕ) → headed �
 sixteen_there a b c d field rest headed is octets size =
     let there : take 16 (drop 4 headed) ≡ field = ap (λ (t : List ℕ). take 16 (drop 4 t)) is ∙ take_at field rest 16 size in
     record { size = size; octets = subst AreOctets there (AreOctets-take 16 (drop 4 headed) (AreOctets-drop 4 headed octets)) }
+
+-- and so is the Identifier that stands behind the Code
+pub id_there : (a id : ℕ) (rest headed : List ℕ) → headed ≡ a ∷ id ∷ rest → AreOctets headed → id < 256
+id_there a id rest headed is octets = subst (λ (o : List ℕ). slice_index o 1 < 256) is (octets 1)

@@ -5,6 +5,7 @@ use Rattle.roam_wire.specs.Packet.{Packet, IsPacket, packet_text, packet_length}
 use Rattle.roam_wire.specs.Reading.{IsPacketText, packet_of}
 use Rattle.roam_wire.proofs.LawLemmas.{packet_of-packet_text, IsPacketText-packet_text, length-packet_text}
 use Rattle.roam_fwd.specs.Forwarded.{forwarded_length, CanBeForwarded}
+use Rattle.roam_fwd.specs.Rewriting.{IsRewritable}
 
 -- all octets from the start on
 abbrev pub from_start : ℕ → List ℕ → List ℕ
@@ -68,11 +69,6 @@ length-there q start size old text all h =
     omega (arith, ap length (from_start-is start all old (text ++ zeros) h.all-is h.start-is), length-append text zeros, length-replicate {A = ℕ} (size - length text) 0, ap length h.text-is, length-packet_text q h.packet, more)
 
 -- so they can be rewritten
-pub record IsRewritable (len : ℕ) (octets : List ℕ) : Type 0 where
-  pub packet : IsPacketText (take len octets)
-  pub can_be_forwarded : CanBeForwarded (packet_of (take len octets))
-  pub size : length octets ≡ forwarded_length (packet_of (take len octets))
-
 pub can_be_rewritten : (q : Packet) (start size : ℕ) (old text all : List ℕ) → HoldsRequest q start size old text all → CanBeForwarded q → IsRewritable (length text) (from_start start all)
 can_be_rewritten q start size old text all h can =
     let there = packet_there q start size old text all h in
@@ -84,7 +80,7 @@ can_be_rewritten q start size old text all h can =
     }
 
 -- the request that is rewritten ends within the octets
-pub rewritten_within : (len : ℕ) (octets : List ℕ) → IsPacketText (take len octets) → length octets ≡ forwarded_length (packet_of (take len octets)) → len ≤ length octets
+pub rewritten_within : (len : ℕ) (octets : List ℕ) → IsRewritable len octets → len ≤ length octets
 unfolding forwarded_length
-rewritten_within len octets text size =
-    omega (arith, size, ap length text.spelt, length-packet_text (packet_of (take len octets)) text.packet, length-take len octets)
+rewritten_within len octets h =
+    omega (arith, h.size, ap length h.packet.spelt, length-packet_text (packet_of (take len octets)) h.packet.packet, length-take len octets)

@@ -18,6 +18,7 @@ use Rattle.roam_auth.proofs.ValueLemmas.{IsPacket-with_value}
 use Rattle.roam_auth.proofs.DigestLemmas.{sixteen-message_authenticator}
 use Rattle.roam_auth.proofs.SealingLemmas.{count_of-append}
 use Rattle.roam_fwd.specs.Forwarded.{Forwarding, ticket_state, unsealed, forwarded, forwarded_length, CanBeForwarded}
+use Rattle.roam_fwd.specs.Rewriting.{request_in, IsRewritable}
 
 -- ---- the ticket behind the attributes
 
@@ -152,6 +153,14 @@ pub record CanBeRewritten (len : ℕ) (octets : List ℕ) : Type 0 where
   pub can_be_forwarded : CanBeForwarded (packet_of (take len octets))
   pub size : length octets ≡ forwarded_length (packet_of (take len octets))
   pub other_code : (packet_of (take len octets)).code ≢ ACCESS_REQUEST
+
+pub signed_held : (len : ℕ) (octets : List ℕ) → IsRewritable len octets → (request_in len octets).code ≢ ACCESS_REQUEST → CanBeRewritten len octets
+signed_held len octets h other_code = record {
+  packet = h.packet;
+  can_be_forwarded = h.can_be_forwarded;
+  size = h.size;
+  other_code = other_code;
+}
 
 -- so ten octets stand behind the request
 pub ten_behind : (len : ℕ) (octets : List ℕ) → CanBeRewritten len octets → len + 10 ≡ length octets

@@ -21,6 +21,16 @@ pub record Forwarding : Type 0 where
   pub authenticator : List ℕ
   pub ticket : ℕ
 
+-- it, of these
+abbrev pub forwarding : List ℕ → List ℕ → ℕ → List ℕ → ℕ → Forwarding
+forwarding from_secret to_secret id authenticator ticket = record {
+  from_secret = from_secret;
+  to_secret = to_secret;
+  id = id;
+  authenticator = authenticator;
+  ticket = ticket;
+}
+
 -- the Proxy-State that the broker adds: the ticket in eight octets, the high one first (RFC 2865,
 -- section 5.33; that it is the ticket is ours)
 abbrev pub ticket_state : ℕ → Attribute

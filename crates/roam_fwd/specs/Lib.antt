@@ -1,4 +1,5 @@
 pub mod Forwarded
 pub mod ForwardedLaws
 pub mod Arranged
+pub mod Rewriting
 pub mod CarriedLaws

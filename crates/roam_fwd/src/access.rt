@@ -2,14 +2,15 @@
 
 ghost use Rattle.std.specs.Prelude.{◌≡◌, ℕ, ◌+◌, ◌≤◌, List, [], ◌∷◌, ◌++◌, length, take};
 ghost use Rattle.roam_wire.specs.Packet.{attributes_text, packet_text};
-ghost use Rattle.roam_wire.specs.Reading.{IsPacketText, packet_of};
 ghost use Rattle.roam_wire.specs.declared.code.TheConstants.{ACCESS_REQUEST};
-ghost use Rattle.roam_auth.specs.MessageAuthenticator.{HasAtMostOneMessageAuthenticator};
-ghost use Rattle.roam_fwd.specs.Forwarded.{ticket_state, added_challenge, forwarded, forwarded_length, CanBeForwarded};
+ghost use Rattle.roam_wire.specs.Secret.{IsSecret};
+ghost use Rattle.roam_fwd.specs.Forwarded.{ticket_state, added_challenge, forwarded};
 ghost use Rattle.roam_fwd.specs.Arranged.{challenge_of, IsSealStart, arranged_attributes};
+ghost use Rattle.roam_fwd.specs.Rewriting.{shown, request_in, IsRewritable};
 
 use crate::length::{ADDED_SIZE, TICKET_SIZE, challenge_is_authenticator};
 use crate::places::{front_packet, put_challenge, put_header, put_seal_first, put_ticket};
+use crate::terms::Forwarding;
 use roam_auth::{seal, value_place};
 use roam_hide::{Hidden, HidingKey, rehide_packet};
 use roam_wire::View;
@@ -52,12 +53,10 @@ fn put_last(octets: &mut [u8], challenge: Option<[u8; 16]>, ticket: u64)
 
 /// Brings the attributes into the order in which they are forwarded, with room for what is added.
 fn arrange(octets: &mut [u8], len: usize, ticket: u64)
-    requires packet { IsPacketText (take len octets.old) }
-    requires can_be_forwarded { CanBeForwarded (packet_of (take len octets.old)) }
-    requires size { length octets.old ≡ forwarded_length (packet_of (take len octets.old)) }
-    requires access { (packet_of (take len octets.old)).code ≡ ACCESS_REQUEST }
+    requires rewritable { IsRewritable len octets.old }
+    requires access { (request_in len octets.old).code ≡ ACCESS_REQUEST }
     ensures { octets.new ≡ take 20 octets.old
-        ++ attributes_text (arranged_attributes (packet_of (take len octets.old)) ticket) }
+        ++ attributes_text (arranged_attributes (request_in len octets.old) ticket) }
 {
     let request = front_packet(octets, len);
     let start = seal_start(&request);
@@ -67,42 +66,24 @@ fn arrange(octets: &mut [u8], len: usize, ticket: u64)
 }
 
 /// Rewrites an Access-Request's octets to those of the packet that is forwarded for it.
-pub(crate) fn rewrite_access(
-    octets: &mut [u8],
-    len: usize,
-    from_secret: &[u8],
-    to_secret: &[u8],
-    id: u8,
-    authenticator: &[u8; 16],
-    ticket: u64,
-)
-    requires packet { IsPacketText (take len octets.old) }
-    requires can_be_forwarded { CanBeForwarded (packet_of (take len octets.old)) }
-    requires size { length octets.old ≡ forwarded_length (packet_of (take len octets.old)) }
-    requires access { (packet_of (take len octets.old)).code ≡ ACCESS_REQUEST }
-    requires to_at_least_one_octet { 1 ≤ length to_secret.now }
-    requires to_at_most_64_octets { length to_secret.now ≤ 64 }
-    ensures { octets.new ≡ packet_text (forwarded
-        (record {
-          from_secret = from_secret.now;
-          to_secret = to_secret.now;
-          id = id;
-          authenticator = authenticator.now;
-          ticket = ticket;
-        })
-        (packet_of (take len octets.old))) }
+pub(crate) fn rewrite_access(octets: &mut [u8], len: usize, forwarding: &Forwarding<'_>)
+    requires rewritable { IsRewritable len octets.old }
+    requires access { (request_in len octets.old).code ≡ ACCESS_REQUEST }
+    requires secret { IsSecret forwarding.now.to_secret.now }
+    ensures { octets.new
+        ≡ packet_text (forwarded (shown forwarding.now) (request_in len octets.old)) }
 {
     let requesters = front_packet(octets, len).authenticator();
-    arrange(octets, len, ticket);
-    put_header(octets, id, authenticator);
+    arrange(octets, len, forwarding.ticket);
+    put_header(octets, forwarding.id, &forwarding.authenticator);
     let from = HidingKey {
-        secret: from_secret,
+        secret: forwarding.from_secret,
         authenticator: &requesters,
     };
     let to = HidingKey {
-        secret: to_secret,
-        authenticator,
+        secret: forwarding.to_secret,
+        authenticator: &forwarding.authenticator,
     };
     rehide_packet(octets, Hidden::UserPassword, from, to);
-    seal(octets, to_secret, *authenticator);
+    seal(octets, forwarding.to_secret, forwarding.authenticator);
 }

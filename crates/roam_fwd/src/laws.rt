@@ -1,7 +1,10 @@
 //! Laws of the forwarded packet. These functions do nothing: their contracts hold of all packets.
 
 ghost use Rattle.roam_fwd.specs.CarriedLaws.{ForwardedReads, AccessCarriesAll, OthersAreCarried};
-ghost use Rattle.roam_fwd.specs.ForwardedLaws.{ForwardedIsPacket, ForwardedHasLength, ForwardedIsWellSealed, ForwardedIsSigned, AccessHasSeal, AccessHasSealFirst, AccessHasAuthenticator, ForwardedKeepsCode, ForwardedHasIdentifier, TicketIsLast};
+ghost use Rattle.roam_fwd.specs.ForwardedLaws.{ForwardedIsPacket, ForwardedHasLength, ForwardedIsWellSealed};
+ghost use Rattle.roam_fwd.specs.ForwardedLaws.{ForwardedIsSigned, AccessHasSeal, AccessHasSealFirst};
+ghost use Rattle.roam_fwd.specs.ForwardedLaws.{AccessHasAuthenticator, ForwardedKeepsCode, ForwardedHasIdentifier};
+ghost use Rattle.roam_fwd.specs.ForwardedLaws.{TicketIsLast};
 
 /// What a forwarded packet is, for every code.
 pub fn forwarded_packet()

@@ -11,8 +11,10 @@ mod forwarding;
 mod laws;
 mod length;
 mod places;
+mod terms;
 
 pub use forwardable::can_be_forwarded;
 pub use forwarding::{forward, forward_reserved, rewrite};
 pub use laws::{forwarded_authenticator, forwarded_carries, forwarded_marks, forwarded_packet};
 pub use length::{MAX_GROWTH, forwarded_len};
+pub use terms::Forwarding;

@@ -1,6 +1,7 @@
 //! The places of a packet's octets: what is read there, and what is written.
 
-ghost use Rattle.std.specs.Prelude.{◌≡◌, ◌+◌, ◌/◌, ◌%◌, ◌≤◌, ◌∷◌, ◌++◌, length, take, drop, slice_index, slice_range};
+ghost use Rattle.std.specs.Prelude.{◌≡◌, ◌+◌, ◌/◌, ◌%◌, ◌≤◌, ◌∷◌, ◌++◌, length, take};
+ghost use Rattle.std.specs.Prelude.{drop, slice_index, slice_range};
 ghost use Rattle.roam_wire.specs.Packet.{AreOctets, attribute_text};
 ghost use Rattle.roam_wire.specs.Reading.{IsPacketText, packet_of};
 ghost use Rattle.roam_wire.specs.declared.attribute_type.TheConstants.{CHAP_CHALLENGE};
@@ -9,29 +10,8 @@ ghost use Rattle.roam_fwd.specs.Forwarded.{ticket_state};
 
 use crate::length::{ADDED_SIZE, TICKET_SIZE};
 use roam_wire::View;
-use roam_wire::attribute_type::{CHAP_CHALLENGE, MESSAGE_AUTHENTICATOR, PROXY_STATE};
-
-/// A Message-Authenticator that is still to be filled in (RFC 3579, section 3.2).
-const EMPTY_SEAL: [u8; 18] = [
-    MESSAGE_AUTHENTICATOR,
-    18,
-    0,
-    0,
-    0,
-    0,
-    0,
-    0,
-    0,
-    0,
-    0,
-    0,
-    0,
-    0,
-    0,
-    0,
-    0,
-    0,
-];
+use roam_wire::attribute_type::{CHAP_CHALLENGE, PROXY_STATE};
+use roam_wire::writing::EMPTY_MESSAGE_AUTHENTICATOR;
 
 /// The packet whose octets are the first ones.
 pub(crate) fn front_packet(octets: &[u8], len: usize) -> View<'_>
@@ -67,7 +47,7 @@ pub(crate) fn put_seal_first(octets: &mut [u8], start: usize)
         ++ (slice_range octets.old 20 start ++ drop (start + 18) octets.old)) }
 {
     octets.copy_within(20..start, 38);
-    octets[20..38].copy_from_slice(&EMPTY_SEAL);
+    octets[20..38].copy_from_slice(&EMPTY_MESSAGE_AUTHENTICATOR);
 }
 
 /// Writes a CHAP-Challenge (RFC 2865, section 5.40).

@@ -1,5 +1,5 @@
 -- A packet whose hidden values are hidden anew (RFC 2865, section 2.3).
-use Rattle.std.specs.Prelude.{◌≡◌, ◌==◌, map, if◌then◌else◌}
+use Rattle.std.specs.Prelude.{◌≡◌, ◌==◌, ℕ, ◌+◌, List, map, slice_index, slice_range, if◌then◌else◌}
 use Rattle.roam_wire.specs.Packet.{Attribute, Packet}
 use Rattle.roam_wire.specs.declared.attribute_type.TheConstants.{USER_PASSWORD, TUNNEL_PASSWORD, VENDOR_SPECIFIC}
 use Rattle.roam_hide.specs.declared.packet_values.Hidden.{Hidden}
@@ -21,6 +21,12 @@ salted_hidden_anew from to a =
           else if a.kind == VENDOR_SPECIFIC then vendor_anew from to a.value
           else a.value;
     }
+
+-- the attribute that stands in octets from one to another: its Type, its Length, its Value (RFC 2865,
+-- section 5)
+abbrev pub attribute_in : List ℕ → ℕ → ℕ → Attribute
+attribute_in octets start end =
+    record { kind = slice_index octets start; value = slice_range octets (start + 2) end }
 
 -- one of the two
 abbrev pub attribute_anew : Hidden → Key → Key → Attribute → Attribute

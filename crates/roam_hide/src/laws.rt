@@ -1,8 +1,11 @@
 //! What follows from the definitions of hiding and of salted values: each function's contract is
 //! one law, and it does nothing.
 
-ghost use Rattle.roam_hide.specs.HidingLaws.{OneHiddenText, OnePlainText, OneTextAnew, SameKeyChangesNothing, FirstKeyBringsBack, PasswordSizeIsDecided};
-ghost use Rattle.roam_hide.specs.SaltedLaws.{OneListOfSubAttributes, OneTunnelAnew, OneVendorAnew, HiddenAnewKeepsSize, TunnelAnewKeepsSize, VendorAnewKeepsSize, HiddenAnewIsOctets, TunnelAnewIsOctets, VendorAnewIsOctets, SaltedIsDecided};
+ghost use Rattle.roam_hide.specs.HidingLaws.{OneHiddenText, OnePlainText, OneTextAnew, SameKeyChangesNothing};
+ghost use Rattle.roam_hide.specs.HidingLaws.{FirstKeyBringsBack, PasswordSizeIsDecided};
+ghost use Rattle.roam_hide.specs.SaltedLaws.{OneListOfSubAttributes, OneTunnelAnew, OneVendorAnew, HiddenAnewKeepsSize};
+ghost use Rattle.roam_hide.specs.SaltedLaws.{TunnelAnewKeepsSize, VendorAnewKeepsSize, HiddenAnewIsOctets};
+ghost use Rattle.roam_hide.specs.SaltedLaws.{TunnelAnewIsOctets, VendorAnewIsOctets, SaltedIsDecided};
 
 /// A plain text of whole blocks has just one hidden text.
 pub fn one_hidden_text()

@@ -1,19 +1,20 @@
 //! The hidden values of a whole packet, hidden anew in its octets (RFC 2865, section 2.3).
 
-ghost use Rattle.std.specs.Prelude.{◌≡◌, ℕ, ◌+◌, ◌≤◌, List, ◌++◌, length, take, drop, map, slice_index, slice_range};
+ghost use Rattle.std.specs.Prelude.{◌≡◌, ℕ, ◌+◌, ◌≤◌, List, ◌++◌, length, take, drop, map};
 ghost use Rattle.std.specs.List.{AllByRecursion};
 ghost use Rattle.roam_wire.specs.Packet.{Attribute, attributes_text, packet_text};
 ghost use Rattle.roam_wire.specs.Reading.{IsPacketText, packet_of};
 ghost use Rattle.roam_wire.specs.declared.attribute_type.TheConstants.{USER_PASSWORD};
 ghost use Rattle.roam_hide.specs.Hiding.{HasWholeBlocks};
 ghost use Rattle.roam_hide.specs.HidingKeys.{password_key};
-ghost use Rattle.roam_hide.specs.PacketAnew.{attribute_anew, packet_anew, CanBeHiddenAnew};
+ghost use Rattle.roam_hide.specs.PacketAnew.{attribute_in, attribute_anew, packet_anew, CanBeHiddenAnew};
 
 use crate::hiding_key::HidingKey;
 use crate::password::rehide_password;
 use crate::tunnel_password::rehide_tunnel;
 use crate::vendor_specific::rehide_vendor;
 use roam_wire::attribute_type::{TUNNEL_PASSWORD, USER_PASSWORD, VENDOR_SPECIFIC};
+use std::ops::Range;
 
 /// Which values of a packet are hidden anew.
 #[derive(Clone, Copy)]
@@ -51,26 +52,29 @@ fn rehide_value_of(
     }
 }
 
-/// Hides the value of the attribute from one octet to another anew, in place.
+/// Hides the value of the attribute that stands in this range of the octets anew, in place.
 fn rehide_attribute(
     octets: &mut [u8],
-    at: usize,
-    end: usize,
+    place: Range<usize>,
     hidden: Hidden,
     from: HidingKey<'_>,
     to: HidingKey<'_>,
 )
-    requires in_order { at + 2 ≤ end }
-    requires inside { end ≤ length octets.old }
-    requires can_be { CanBeHiddenAnew hidden
-        (record { kind = slice_index octets.old at; value = slice_range octets.old (at + 2) end }) }
-    ensures { octets.new ≡ take (at + 2) octets.old
+    requires in_order { place.start + 2 ≤ place.end }
+    requires inside { place.end ≤ length octets.old }
+    requires can_be { CanBeHiddenAnew hidden (attribute_in octets.old place.start place.end) }
+    ensures { octets.new ≡ take (place.start + 2) octets.old
         ++ ((attribute_anew hidden (password_key from.entry) (password_key to.entry)
-        (record { kind = slice_index octets.old at; value = slice_range octets.old (at + 2) end })).value
-        ++ drop end octets.old) }
+        (attribute_in octets.old place.start place.end)).value ++ drop place.end octets.old) }
 {
-    let kind = octets[at];
-    rehide_value_of(kind, &mut octets[at + 2..end], hidden, from, to);
+    let kind = octets[place.start];
+    rehide_value_of(
+        kind,
+        &mut octets[place.start + 2..place.end],
+        hidden,
+        from,
+        to,
+    );
 }
 
 /// Hides the values of attributes anew, in place: one behind another.
@@ -85,7 +89,7 @@ fn rehide_attributes(octets: &mut [u8], hidden: Hidden, from: HidingKey<'_>, to:
     let mut at = 0;
     while at < octets.len() {
         let end = at + usize::from(octets[at + 1]);
-        rehide_attribute(octets, at, end, hidden, from, to);
+        rehide_attribute(octets, at..end, hidden, from, to);
         at = end;
     }
 }

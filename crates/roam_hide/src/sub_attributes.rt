@@ -1,7 +1,8 @@
 //! The sub-attributes of a Vendor-Specific (RFC 2865, section 5.26): Type, Length, Value, one
 //! behind another.
 
-ghost use Rattle.std.specs.Prelude.{◌≡◌, ◌↔◌, ℕ, ◌+◌, ◌≤◌, List, ◌++◌, IsTrue, IsSome, IfSome, length, take, drop, slice_index, slice_range};
+ghost use Rattle.std.specs.Prelude.{◌≡◌, ◌↔◌, ℕ, ◌+◌, ◌≤◌, List, ◌++◌, IsTrue, IsSome};
+ghost use Rattle.std.specs.Prelude.{IfSome, length, take, drop, slice_index, slice_range};
 ghost use Rattle.std.specs.List.{AllZip};
 ghost use Rattle.roam_wire.specs.Packet.{Attribute, attributes_text};
 ghost use Rattle.roam_hide.specs.HidingKeys.{password_key};

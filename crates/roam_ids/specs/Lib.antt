@@ -5,3 +5,4 @@ pub mod Making
 pub mod Marks
 pub mod NextIdentifier
 pub mod Standing
+pub mod Taking

@@ -1,10 +1,9 @@
 //! The Identifiers in use toward one endpoint for one realm.
-ghost use Rattle.std.specs.Prelude.{◌≡◌, ℕ, ◌<◌, ◌↔◌, IsTrue, IfSome, IfNone, OnSome};
-ghost use Rattle.std.specs.Option.{option_map};
-ghost use Rattle.roam_ids.specs.NextIdentifier.{next_identifier, AllUsed};
-ghost use Rattle.roam_ids.specs.IdSlot.{slot_id, claimed_ticket};
+ghost use Rattle.std.specs.Prelude.{◌≡◌, ℕ, ◌<◌, ◌↔◌, IsTrue};
+ghost use Rattle.roam_ids.specs.NextIdentifier.{AllUsed};
 ghost use Rattle.roam_ids.specs.Marks.{is_marked};
-ghost use Rattle.roam_ids.specs.LaneState.{HasIdentifiers, place_at, ticket_at, is_used, put_at, cursor_past};
+ghost use Rattle.roam_ids.specs.LaneState.{HasIdentifiers, place_at, ticket_at, is_used, put_at};
+ghost use Rattle.roam_ids.specs.Taking.{IsOutOf, TakesNext, Claims};
 ghost use Rattle.roam_ids.specs.Making.{fresh_lane, with_memory};
 
 use crate::place::Place;
@@ -68,16 +67,8 @@ impl Lane {
     /// Takes the next free Identifier: the first at or after the cursor, cyclic. The cursor then
     /// stands one past it. `None` where all 256 are in use: the lane is as it was.
     pub fn take(&mut self) -> Option<IdSlot>
-        ensures next { option_map slot_id result
-            ≡ next_identifier (is_used self.old) self.old.cursor }
-        ensures tag { IfSome result (λ slot. slot.tag ≡ self.old.tag) }
-        ensures taken { IfSome result (λ slot.
-            self.new ≡ cursor_past (put_at self.old slot.id Place.Out) slot.id) }
-        ensures none { IfNone result (self.new ≡ self.old) }
-
         // So the slot can be parked or freed here.
-        ensures out { IfSome result (λ slot. place_at self.new slot.id ≡ Place.Out) }
-        ensures whole { HasIdentifiers self.new }
+        ensures { TakesNext self.old self.new result }
     {
         let id = next_free(&self.words, self.cursor)?;
         self.put(id, Place::Out);
@@ -87,8 +78,7 @@ impl Lane {
 
     /// Parks an Identifier with the ticket of the request that waits for a reply to it.
     pub fn park(&mut self, slot: IdSlot, ticket: u64)
-        requires tag { slot.tag ≡ self.old.tag }
-        requires out { place_at self.old slot.id ≡ Place.Out }
+        requires { IsOutOf self.old slot }
         ensures parked { self.new ≡ put_at self.old slot.id (Place.Parked ticket) }
         ensures whole { HasIdentifiers self.new }
     {
@@ -99,15 +89,8 @@ impl Lane {
     /// Claims a parked Identifier, with its ticket. It is then out. `None` where nothing is parked
     /// there: the lane is as it was.
     pub fn claim(&mut self, id: u8) -> Option<(IdSlot, u64)>
-        ensures ticket { option_map claimed_ticket result ≡ ticket_at self.old id }
-        ensures slot { IfSome result (λ claimed.
-            claimed.0 ≡ record { tag = self.old.tag; id = id }) }
-        ensures claimed { OnSome result (self.new ≡ put_at self.old id Place.Out) }
-        ensures none { IfNone result (self.new ≡ self.old) }
-
         // So the slot can be parked or freed here.
-        ensures out { OnSome result (place_at self.new id ≡ Place.Out) }
-        ensures whole { HasIdentifiers self.new }
+        ensures { Claims id self.old self.new result }
     {
         let ticket = self.holder(id)?;
         self.put(id, Place::Out);
@@ -134,8 +117,7 @@ impl Lane {
 
     /// Gives an Identifier back: it is free again.
     pub fn free(&mut self, slot: IdSlot)
-        requires tag { slot.tag ≡ self.old.tag }
-        requires out { place_at self.old slot.id ≡ Place.Out }
+        requires { IsOutOf self.old slot }
         ensures free { self.new ≡ put_at self.old slot.id Place.Free }
         ensures whole { HasIdentifiers self.new }
     {

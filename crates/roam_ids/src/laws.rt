@@ -1,6 +1,7 @@
 //! Laws of the next free Identifier and of what stands at an Identifier, for callers' proofs.
 //! They do nothing when they run.
-ghost use Rattle.roam_ids.specs.Laws.{AnswersTheNext, NoneWhereAllUsed, NextIsFree, OneIsFirst, SameUseSameNext, PutChangesOne};
+ghost use Rattle.roam_ids.specs.Laws.{AnswersTheNext, NoneWhereAllUsed, NextIsFree, OneIsFirst, SameUseSameNext};
+ghost use Rattle.roam_ids.specs.Laws.{PutChangesOne};
 
 /// The function answers the next free Identifier, and nothing else is the next free one.
 pub fn answers_the_next()

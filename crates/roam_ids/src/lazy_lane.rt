@@ -1,10 +1,9 @@
 //! A lane whose memory is taken when it is first needed.
-ghost use Rattle.std.specs.Prelude.{◌≡◌, ℕ, ◌↔◌, true, false, None, IsOk, IsTrue, IfSome, IfNone, OnSome, OnOk, OnErr};
-ghost use Rattle.std.specs.Option.{option_map};
-ghost use Rattle.roam_ids.specs.NextIdentifier.{next_identifier, AllUsed};
+ghost use Rattle.std.specs.Prelude.{◌≡◌, ℕ, ◌↔◌, true, false, None, IsOk, IsTrue, OnOk, OnErr};
+ghost use Rattle.roam_ids.specs.NextIdentifier.{AllUsed};
 ghost use Rattle.roam_ids.specs.declared.place.Place.{Place};
-ghost use Rattle.roam_ids.specs.IdSlot.{slot_id, claimed_ticket};
-ghost use Rattle.roam_ids.specs.LaneState.{HasIdentifiers, place_at, ticket_at, is_used, put_at, cursor_past};
+ghost use Rattle.roam_ids.specs.LaneState.{HasIdentifiers, place_at, ticket_at, is_used, put_at};
+ghost use Rattle.roam_ids.specs.Taking.{IsOutOf, TakesNext, Claims};
 ghost use Rattle.roam_ids.specs.Making.{with_memory};
 
 use crate::lane::Lane;
@@ -63,24 +62,15 @@ impl<A: Allocator> LazyLane<A> {
     /// Takes the next free Identifier of a lane that is made, as `Lane::take` does.
     pub fn take(&mut self) -> Option<IdSlot>
         requires made { self.old.made ≡ true }
-        ensures next { option_map slot_id result
-            ≡ next_identifier (is_used self.old) self.old.cursor }
-        ensures tag { IfSome result (λ slot. slot.tag ≡ self.old.tag) }
-        ensures taken { IfSome result (λ slot.
-            self.new ≡ cursor_past (put_at self.old slot.id Place.Out) slot.id) }
-        ensures none { IfNone result (self.new ≡ self.old) }
-
         // So the slot can be parked or freed here.
-        ensures out { IfSome result (λ slot. place_at self.new slot.id ≡ Place.Out) }
-        ensures whole { HasIdentifiers self.new }
+        ensures { TakesNext self.old self.new result }
     {
         self.lane[0].take()
     }
 
     /// Parks an Identifier with the ticket of the request that waits for a reply to it.
     pub fn park(&mut self, slot: IdSlot, ticket: u64)
-        requires tag { slot.tag ≡ self.old.tag }
-        requires out { place_at self.old slot.id ≡ Place.Out }
+        requires { IsOutOf self.old slot }
         ensures parked { self.new ≡ put_at self.old slot.id (Place.Parked ticket) }
         ensures whole { HasIdentifiers self.new }
     {
@@ -90,15 +80,8 @@ impl<A: Allocator> LazyLane<A> {
     /// Claims a parked Identifier, with its ticket. It is then out. `None` where nothing is parked
     /// there: the lane is as it was.
     pub fn claim(&mut self, id: u8) -> Option<(IdSlot, u64)>
-        ensures ticket { option_map claimed_ticket result ≡ ticket_at self.old id }
-        ensures slot { IfSome result (λ claimed.
-            claimed.0 ≡ record { tag = self.old.tag; id = id }) }
-        ensures claimed { OnSome result (self.new ≡ put_at self.old id Place.Out) }
-        ensures none { IfNone result (self.new ≡ self.old) }
-
         // So the slot can be parked or freed here.
-        ensures out { OnSome result (place_at self.new id ≡ Place.Out) }
-        ensures whole { HasIdentifiers self.new }
+        ensures { Claims id self.old self.new result }
     {
         if self.lane.is_empty() {
             return None;
@@ -134,8 +117,7 @@ impl<A: Allocator> LazyLane<A> {
 
     /// Gives an Identifier back: it is free again.
     pub fn free(&mut self, slot: IdSlot)
-        requires tag { slot.tag ≡ self.old.tag }
-        requires out { place_at self.old slot.id ≡ Place.Out }
+        requires { IsOutOf self.old slot }
         ensures free { self.new ≡ put_at self.old slot.id Place.Free }
         ensures whole { HasIdentifiers self.new }
     {

@@ -1,5 +1,6 @@
 //! A set of Identifiers as 256 bits: bit `i mod 64` of word `i / 64` for Identifier `i`.
-ghost use Rattle.std.specs.Prelude.{◌≡◌, ℕ, ◌<◌, ◌≤◌, ◌==◌, if◌then◌else◌, IfSome, IfNone, IsTrue, ◌↔◌, EachIndex, slice_index};
+ghost use Rattle.std.specs.Prelude.{◌≡◌, ℕ, ◌<◌, ◌≤◌, ◌==◌, if◌then◌else◌, IfSome, IfNone};
+ghost use Rattle.std.specs.Prelude.{IsTrue, ◌↔◌, EachIndex, slice_index};
 ghost use Rattle.std.specs.Int.{bit_at};
 ghost use Rattle.roam_ids.specs.NextIdentifier.{next_identifier, AllUsed};
 ghost use Rattle.roam_ids.specs.Marks.{is_marked};

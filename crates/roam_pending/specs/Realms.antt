@@ -1,12 +1,21 @@
 -- The entries of several realms: a list for each realm's index (ours).
-use Rattle.std.specs.Prelude.{◌≡◌, ◌≢◌, ◌-◌, ◌==◌, ℕ, Bool, List, [], if◌then◌else◌}
+use Rattle.std.specs.Prelude.{◌≡◌, ◌≢◌, ◌-◌, ◌==◌, ℕ, Bool, List, [], MatchOption, if◌then◌else◌}
 use Rattle.roam_pending.specs.PlainEntry.{PlainEntry, PlainStanding, waiting, done}
-use Rattle.roam_pending.specs.EntryList.{Held}
+use Rattle.roam_pending.specs.EntryList.{Held, find_ticket, put}
 
 -- the realm's entries are now these, and every other realm's are as they were
 pub record RealmBecomes (realm : ℕ) (es : List PlainEntry) (old new : ℕ → List PlainEntry) : Type 0 where
   pub here : new realm ≡ es
   pub others : (r : ℕ) → r ≢ realm → new r ≡ old r
+
+-- an entry was put among a realm's, and every other realm's are as they were
+abbrev pub Puts : ℕ → PlainEntry → (ℕ → List PlainEntry) → (ℕ → List PlainEntry) → Type 0
+Puts realm e old new = RealmBecomes realm (put e (old realm)) old new
+
+-- the entry of a ticket was put changed among a realm's, and where there is none all is as it was
+abbrev pub PutsChanged : (PlainEntry → PlainEntry) → ℕ → ℕ → (ℕ → List PlainEntry) → (ℕ → List PlainEntry) → Type 0
+PutsChanged change realm ticket old new =
+    MatchOption (find_ticket ticket (old realm)) (new ≡ old) (λ e. Puts realm (change e) old new)
 
 -- the list of one realm as lists of all: every other realm isn't kept, and has no entries and no room
 abbrev pub keeps_in : Held → ℕ → Bool

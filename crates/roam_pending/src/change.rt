@@ -1,8 +1,9 @@
 //! Changing the entries of a realm, whatever keeps them, without a copy of their buffers.
 
 ghost use Rattle.std.specs.Prelude.{◌≡◌, ◌<◌, ◌≤◌, ◌+◌, Some, MatchOption};
-ghost use Rattle.roam_pending.specs.EntryList.{IsNew, HasPlaceOf, find_ticket, put};
-ghost use Rattle.roam_pending.specs.Realms.{RealmBecomes, hollow, hollow_standing, sent_again, waits_on, with_standing};
+ghost use Rattle.roam_pending.specs.EntryList.{IsNew, HasPlaceOf, find_ticket};
+ghost use Rattle.roam_pending.specs.Realms.{Puts, PutsChanged, hollow, hollow_standing};
+ghost use Rattle.roam_pending.specs.Realms.{sent_again, waits_on, with_standing};
 ghost use Rattle.roam_pending.specs.Shown.{shown, shown_standing, taken};
 
 use crate::entries::Entries;
@@ -14,7 +15,8 @@ use std::alloc::Allocator;
 pub fn insert_entry<A: Allocator, E: Entries<A>>(entries: &mut E, realm: u16, entry: Entry<A>)
     requires new { IsNew (shown entry) (E.entries_of entries.old realm) }
     requires room { 0 < E.room_for entries.old realm }
-    ensures entries { RealmBecomes realm (put (shown entry) (E.entries_of entries.old realm)) (E.entries_of entries.old) (E.entries_of entries.new) }
+    ensures entries { Puts realm (shown entry) (E.entries_of entries.old)
+        (E.entries_of entries.new) }
     ensures room { E.room_for entries.old realm ≤ E.room_for entries.new realm + 1 }
     ensures keeps { E.keeps entries.new ≡ E.keeps entries.old }
 {
@@ -31,7 +33,8 @@ pub fn replace_entry<A: Allocator, E: Entries<A>>(
 ) -> Entry<A>
     requires { HasPlaceOf (shown entry) (E.entries_of entries.old realm) }
     ensures found { Some (shown result) ≡ find_ticket entry.ticket (E.entries_of entries.old realm) }
-    ensures entries { RealmBecomes realm (put (shown entry) (E.entries_of entries.old realm)) (E.entries_of entries.old) (E.entries_of entries.new) }
+    ensures entries { Puts realm (shown entry) (E.entries_of entries.old)
+        (E.entries_of entries.new) }
     ensures room { E.room_for entries.old realm ≤ E.room_for entries.new realm }
     ensures keeps { E.keeps entries.new ≡ E.keeps entries.old }
 {
@@ -112,7 +115,8 @@ pub fn take_out<A: Allocator + Copy, E: Entries<A>>(
     ticket: u64,
 ) -> Option<Entry<A>>
     ensures found { taken result ≡ find_ticket ticket (E.entries_of entries.old realm) }
-    ensures entries { MatchOption result (E.entries_of entries.new ≡ E.entries_of entries.old) (λ e. RealmBecomes realm (put (hollow (shown e)) (E.entries_of entries.old realm)) (E.entries_of entries.old) (E.entries_of entries.new)) }
+    ensures entries { MatchOption result (E.entries_of entries.new ≡ E.entries_of entries.old)
+        (λ e. Puts realm (hollow (shown e)) (E.entries_of entries.old) (E.entries_of entries.new)) }
     ensures room { E.room_for entries.old realm ≤ E.room_for entries.new realm }
     ensures keeps { E.keeps entries.new ≡ E.keeps entries.old }
 {
@@ -145,7 +149,8 @@ pub fn set_standing<A: Allocator + Copy, E: Entries<A>>(
     ticket: u64,
     standing: Standing<A>,
 )
-    ensures entries { MatchOption (find_ticket ticket (E.entries_of entries.old realm)) (E.entries_of entries.new ≡ E.entries_of entries.old) (λ e. RealmBecomes realm (put (with_standing (shown_standing standing) e) (E.entries_of entries.old realm)) (E.entries_of entries.old) (E.entries_of entries.new)) }
+    ensures entries { PutsChanged (with_standing (shown_standing standing)) realm ticket
+        (E.entries_of entries.old) (E.entries_of entries.new) }
     ensures room { E.room_for entries.old realm ≤ E.room_for entries.new realm }
     ensures keeps { E.keeps entries.new ≡ E.keeps entries.old }
 {
@@ -163,7 +168,8 @@ pub fn send_again<A: Allocator + Copy, E: Entries<A>>(
     ticket: u64,
     deadline: u64,
 )
-    ensures entries { MatchOption (find_ticket ticket (E.entries_of entries.old realm)) (E.entries_of entries.new ≡ E.entries_of entries.old) (λ e. RealmBecomes realm (put (sent_again deadline e) (E.entries_of entries.old realm)) (E.entries_of entries.old) (E.entries_of entries.new)) }
+    ensures entries { PutsChanged (sent_again deadline) realm ticket
+        (E.entries_of entries.old) (E.entries_of entries.new) }
     ensures room { E.room_for entries.old realm ≤ E.room_for entries.new realm }
     ensures keeps { E.keeps entries.new ≡ E.keeps entries.old }
 {

@@ -1,10 +1,12 @@
 //! What a realm's rules need of its entries, whatever keeps them.
 
-ghost use Rattle.std.specs.Prelude.{◌≡◌, ◌<◌, ◌≤◌, ◌+◌, ℕ, Bool, List, Some, None, length, OnErr, OnOk, IsOk, IfSome, IsSomeAnd, IsTrue};
+ghost use Rattle.std.specs.Prelude.{◌≡◌, ◌<◌, ◌≤◌, ◌+◌, ℕ, Bool, List, Some, None, length, OnErr};
+ghost use Rattle.std.specs.Prelude.{OnOk, IsOk, IfSome, IsSomeAnd, IsTrue};
 ghost use Rattle.roam_pending.specs.PlainEntry.{PlainEntry};
-ghost use Rattle.roam_pending.specs.EntryList.{IsEntryList, IsNew, HasPlaceOf, find_client, find_ticket, first_done, besides, put, without};
+ghost use Rattle.roam_pending.specs.EntryList.{IsEntryList, IsNew, HasPlaceOf, find_client, find_ticket, first_done};
+ghost use Rattle.roam_pending.specs.EntryList.{besides, without};
 ghost use Rattle.roam_pending.specs.DueOrder.{due_after};
-ghost use Rattle.roam_pending.specs.Realms.{RealmBecomes};
+ghost use Rattle.roam_pending.specs.Realms.{RealmBecomes, Puts};
 ghost use Rattle.roam_pending.specs.Shown.{shown, seen, taken};
 
 use crate::due::Due;
@@ -73,7 +75,8 @@ pub trait Entries<A: Allocator> {
     fn insert_from(&mut self, realm: u16, entry: &mut Option<Entry<A>>)
         requires new { IsSomeAnd entry.old (λ e. IsNew (shown e) (entries_of self.old realm)) }
         requires room { 0 < room_for self.old realm }
-        ensures entries { IfSome entry.old (λ e. RealmBecomes realm (put (shown e) (entries_of self.old realm)) (entries_of self.old) (entries_of self.new)) }
+        ensures entries { IfSome entry.old
+            (λ e. Puts realm (shown e) (entries_of self.old) (entries_of self.new)) }
         ensures handed_over { entry.new ≡ None }
         ensures room { room_for self.old realm ≤ room_for self.new realm + 1 }
         ensures keeps { keeps self.new ≡ keeps self.old };
@@ -81,7 +84,8 @@ pub trait Entries<A: Allocator> {
     /// Takes out the entry of a ticket for good. Takes no memory, and no room.
     fn remove(&mut self, realm: u16, ticket: u64) -> Option<Entry<A>>
         ensures found { taken result ≡ find_ticket ticket (entries_of self.old realm) }
-        ensures entries { RealmBecomes realm (without ticket (entries_of self.old realm)) (entries_of self.old) (entries_of self.new) }
+        ensures entries { RealmBecomes realm (without ticket (entries_of self.old realm))
+            (entries_of self.old) (entries_of self.new) }
         ensures room { room_for self.old realm ≤ room_for self.new realm }
         ensures keeps { keeps self.new ≡ keeps self.old };
 
@@ -90,7 +94,7 @@ pub trait Entries<A: Allocator> {
     fn swap(&mut self, realm: u16, entry: &mut Entry<A>)
         requires { HasPlaceOf (shown entry.old) (entries_of self.old realm) }
         ensures found { Some (shown entry.new) ≡ find_ticket entry.old.ticket (entries_of self.old realm) }
-        ensures entries { RealmBecomes realm (put (shown entry.old) (entries_of self.old realm)) (entries_of self.old) (entries_of self.new) }
+        ensures entries { Puts realm (shown entry.old) (entries_of self.old) (entries_of self.new) }
         ensures room { room_for self.old realm ≤ room_for self.new realm }
         ensures keeps { keeps self.new ≡ keeps self.old };
 }

@@ -2,7 +2,12 @@
 //!
 //! Each is a function that does nothing: its contract is the law.
 
-ghost use Rattle.roam_pending.specs.ListLaws.{ChangeKeepsList, DueIsReached, DueRises, EntryGoesBack, FoundByKey, FoundByTicket, FoundDone, FoundOnLink, HollowStandsIn, KeyIsGone, NewKeepsList, NextDue, NoneOfAKey, NothingIsRemoved, OneChangeOfTwo, OneFewer, OneMore, OneOfAKey, PutBack, PutIsFound, PutKeepsOthers, PutLater, PutTwice, RemovalKeepsList, RemovalKeepsOthers, RemovedIsGone, RestIsDue, SameKeyIsEqual, TakenOut, UsedIsFound};
+ghost use Rattle.roam_pending.specs.ListLaws.{ChangeKeepsList, DueIsReached, DueRises, EntryGoesBack, FoundByKey};
+ghost use Rattle.roam_pending.specs.ListLaws.{FoundByTicket, FoundDone, FoundOnLink, HollowStandsIn, KeyIsGone};
+ghost use Rattle.roam_pending.specs.ListLaws.{NewKeepsList, NextDue, NoneOfAKey, NothingIsRemoved, OneChangeOfTwo};
+ghost use Rattle.roam_pending.specs.ListLaws.{OneFewer, OneMore, OneOfAKey, PutBack, PutIsFound, PutKeepsOthers};
+ghost use Rattle.roam_pending.specs.ListLaws.{PutLater, PutTwice, RemovalKeepsList, RemovalKeepsOthers, RemovedIsGone};
+ghost use Rattle.roam_pending.specs.ListLaws.{RestIsDue, SameKeyIsEqual, TakenOut, UsedIsFound};
 
 /// Each change leaves a list in order of ticket with distinct keys.
 pub fn changes_keep_the_list()

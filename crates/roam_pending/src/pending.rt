@@ -1,8 +1,10 @@
 //! The entries of one realm as a plain list.
 
-ghost use Rattle.std.specs.Prelude.{◌≡◌, ◌<◌, ◌≤◌, ◌+◌, ◌↔◌, IsTrue, [], length, slice_get, OnOk, OnErr, IfErr, IsOk, Some, None, MatchOption};
+ghost use Rattle.std.specs.Prelude.{◌≡◌, ◌<◌, ◌≤◌, ◌+◌, ◌↔◌, IsTrue, [], length, slice_get};
+ghost use Rattle.std.specs.Prelude.{OnOk, OnErr, IfErr, IsOk, Some, None, MatchOption};
 ghost use Rattle.roam_pending.specs.DueOrder.{due_after};
-ghost use Rattle.roam_pending.specs.EntryList.{IsEntryList, IsNew, HasPlaceOf, find_client, find_ticket, first_done, besides, put, without};
+ghost use Rattle.roam_pending.specs.EntryList.{IsEntryList, IsNew, HasPlaceOf, find_client, find_ticket, first_done};
+ghost use Rattle.roam_pending.specs.EntryList.{besides, put, without};
 ghost use Rattle.roam_pending.specs.Shown.{shown, seen, taken};
 
 use crate::due::Due;
@@ -29,7 +31,11 @@ impl<A: Allocator> Model for Pending<A> {
 
     ghost Value = { Held };
 
-    ghost view = { λ p. record { realm = p.realm; entries = shown_all p.entries.items; spare = vec_capacity p.entries - vec_len p.entries } };
+    ghost view = { λ p. record {
+      realm = p.realm;
+      entries = shown_all p.entries.items;
+      spare = vec_capacity p.entries - vec_len p.entries;
+    } };
 
     ghost invariant = { λ p. IsEntryList (shown_all p.entries.items) };
 }

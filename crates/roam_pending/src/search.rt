@@ -1,10 +1,12 @@
 //! Looking through entries that stand in a row.
 
-ghost use Rattle.std.specs.Prelude.{◌≡◌, ◌≢◌, ◌<◌, ◌≤◌, ℕ, nat_lt, length, slice_index_or, IfSome, None, MatchOption};
+ghost use Rattle.std.specs.Prelude.{◌≡◌, ◌≢◌, ◌<◌, ◌≤◌, ℕ, nat_lt, length, slice_index_or};
+ghost use Rattle.std.specs.Prelude.{IfSome, None, MatchOption};
 ghost use Rattle.std.specs.List.{count_by};
 ghost use Rattle.roam_pending.specs.EntryList.{IsInOrder};
 ghost use Rattle.roam_pending.specs.PlainEntry.{deadline_of as plain_deadline_of, stands_done};
-ghost use Rattle.roam_pending.specs.EntryList.{find_client, find_ticket, first_done as plain_first_done, besides, is_beside, is_done_beside};
+ghost use Rattle.roam_pending.specs.EntryList.{find_client, find_ticket, first_done as plain_first_done, besides};
+ghost use Rattle.roam_pending.specs.EntryList.{is_beside, is_done_beside};
 ghost use Rattle.roam_pending.specs.DueOrder.{due_after, is_after as plain_is_after, is_before as plain_is_before};
 ghost use Rattle.roam_pending.specs.DueSearch.{due_alone as plain_due_alone, earlier as plain_earlier};
 ghost use Rattle.roam_pending.specs.Shown.{shown, shown_all, shown_standing, seen};
@@ -24,7 +26,8 @@ pub(crate) fn count_below<A: Allocator>(entries: &[Entry<A>], ticket: u64) -> us
 /// The place of a ticket, where entries stand in order.
 pub(crate) fn place_of<A: Allocator>(entries: &[Entry<A>], ticket: u64) -> Option<usize>
     requires { IsInOrder (shown_all entries.now) }
-    ensures none { MatchOption result (find_ticket ticket (shown_all entries.now) ≡ None) (λ i. i < length entries.now) }
+    ensures none { MatchOption result (find_ticket ticket (shown_all entries.now) ≡ None)
+        (λ i. i < length entries.now) }
     ensures found { IfSome result (λ i. (d : Entry A) → (slice_index_or entries.now i d).ticket ≡ ticket) }
 {
     let place = count_below(entries, ticket);

@@ -15,11 +15,13 @@ use Rattle.roam_auth.specs.Deciding.{is_well_sealed}
 use Rattle.roam_auth.proofs.DecidingLemmas.{well_sealed_decided}
 use Rattle.roam_route.specs.Admission.{has_seal}
 use Rattle.roam_wire.specs.declared.attribute_type.TheConstants.{MESSAGE_AUTHENTICATOR, PROXY_STATE}
+use Rattle.roam_wire.proofs.KeptLemmas.{length-kept_text}
 use Rattle.roam_wire.proofs.OctetLemmas.{AreOctets-zeros}
 use Rattle.roam_wire.proofs.PacketLemmas.{IsPacketText-packet_text, length-packet_text, packet_of-packet_text, ReadsAs-packet_text}
 use Rattle.roam_auth.specs.Authenticators.{IsSignedReply, signed_reply, response_authenticator}
 use Rattle.roam_auth.specs.MessageAuthenticator.{IsWellSealed, StandsFirst, empty_message_authenticator, HasOneMessageAuthenticator, HasAtMostOneMessageAuthenticator, message_authenticator, with_message_authenticator, attributes_with_value}
 use Rattle.roam_auth.proofs.DigestLemmas.{IsPacket-signed_reply, sixteen-message_authenticator, length-message_authenticator}
+use Rattle.roam_auth.proofs.SignedLemmas.{IsPacket-sealed}
 use Rattle.roam_auth.proofs.SealLemmas.{IsWellSealed-sealed, IsWellSealed-with_authenticator}
 use Rattle.roam_auth.proofs.ValueLemmas.{IsPacket-with_value, IsSized, all_sized, count_of-no, packet_length-with_value}
 use Rattle.roam_auth.proofs.SealingLemmas.{length-attributes_text-append}
@@ -31,38 +33,11 @@ use Rattle.roam_route.specs.RejectLaws.{RejectReads, RejectHasLength, RejectIsSi
 
 -- ---- the size of the Proxy-States
 
-states : List Attribute → List ℕ
-states all = attributes_text (only_kind PROXY_STATE all)
-
--- those that are kept take no more octets than all
-shorter : (keep : Attribute → Bool) (all : List Attribute) → length (attributes_text (filter keep all)) ≤ length (attributes_text all)
-shorter keep [] = omega arith
-shorter keep (a ∷ all) =
-    let rest = shorter keep all in
-    let kept = length-append (attribute_text a) (attributes_text (filter keep all)) in
-    let whole = length-append (attribute_text a) (attributes_text all) in
-    elim (cases_Bool (keep a)) [
-      | inl passes ↦ rw passes (omega (arith, rest, kept, whole))
-      | inr fails ↦ rw fails (omega (arith, rest, whole))
-    ]
-
--- the octets counted so far, with those of the Proxy-States that are left, are those of all
-pub record IsCount (all left : List Attribute) (size : ℕ) : Type 0 where
-  pub total : size + length (attributes_text (only_kind PROXY_STATE left)) ≡ length (attributes_text (only_kind PROXY_STATE all))
-
 first_kept : (a : Attribute) (rest : List Attribute) → has_kind PROXY_STATE a ≡ true → only_kind PROXY_STATE (a ∷ rest) ≡ a ∷ only_kind PROXY_STATE rest
 first_kept a rest passes = rw passes refl
 
 first_left : (a : Attribute) (rest : List Attribute) → has_kind PROXY_STATE a ≡ false → only_kind PROXY_STATE (a ∷ rest) ≡ only_kind PROXY_STATE rest
 first_left a rest fails = rw fails refl
-
-pub IsCount-kept : (all left rest : List Attribute) (a : Attribute) (size : ℕ) → left ≡ a ∷ rest → has_kind PROXY_STATE a ≡ true → IsCount all left size → IsCount all rest (size + (2 + length a.value))
-IsCount-kept all left rest a size split passes h =
-    let here : only_kind PROXY_STATE left ≡ a ∷ only_kind PROXY_STATE rest = ap (only_kind PROXY_STATE) split ∙ first_kept a rest passes in
-    record { total = omega (arith, h.total, ap (λ x. length (attributes_text x)) here, length-append (attribute_text a) (attributes_text (only_kind PROXY_STATE rest))) }
-
-pub IsCount-within : (all rest : List Attribute) (size : ℕ) → IsCount all rest size → 20 + length (attributes_text all) ≤ 4096 → size ≤ 4076
-IsCount-within all rest size h limit = omega (arith, h.total, shorter (has_kind PROXY_STATE) all)
 
 -- the size of the whole
 pub answer_length-is : (code : ℕ) (request : Packet) → packet_length (unsealed_answer code request) ≡ answer_length request
@@ -139,18 +114,6 @@ one_seal code request = record {
   one = sum_by-cons (λ (x : Attribute). if has_kind MESSAGE_AUTHENTICATOR x then 1 else 0) empty_message_authenticator (only_kind PROXY_STATE request.attributes) ∙ ap (λ n. 1 + n) (no_seal_kept request.attributes);
   size = refl;
 }
-
-pub IsPacket-sealed : (secret authenticator : List ℕ) (p : Packet) → HasAtMostOneMessageAuthenticator p → IsPacket p → IsPacket (with_message_authenticator secret authenticator p)
-IsPacket-sealed secret authenticator p h packet =
-    IsPacket-with_value (message_authenticator secret authenticator p) p (sixteen-message_authenticator secret authenticator p) h packet
-
-pub IsPacketText-sealed : (secret authenticator : List ℕ) (p : Packet) → HasAtMostOneMessageAuthenticator p → IsPacket p → IsPacketText (packet_text (with_message_authenticator secret authenticator p))
-IsPacketText-sealed secret authenticator p h packet =
-    IsPacketText-packet_text (with_message_authenticator secret authenticator p) (IsPacket-sealed secret authenticator p h packet)
-
-pub packet_of-sealed : (secret authenticator octets : List ℕ) (p : Packet) → HasAtMostOneMessageAuthenticator p → IsPacket p → octets ≡ packet_text (with_message_authenticator secret authenticator p) → packet_of octets ≡ with_message_authenticator secret authenticator p
-packet_of-sealed secret authenticator octets p h packet text =
-    ap packet_of text ∙ packet_of-packet_text (with_message_authenticator secret authenticator p) (IsPacket-sealed secret authenticator p h packet)
 
 -- ---- laws, of each local answer
 
@@ -277,7 +240,7 @@ room_for_seal (a ∷ all) sized some =
     elim (cases_Bool (has_kind MESSAGE_AUTHENTICATOR a)) [
       | inl seal ↦
           let size : length a.value ≡ 16 = sized.0.size seal in
-          let fewer = shorter (has_kind PROXY_STATE) all in
+          let fewer = length-kept_text (has_kind PROXY_STATE) all in
           rw (no_state a seal) (omega (arith, whole, size, fewer))
       | inr other ↦
           let later : 0 < count_of MESSAGE_AUTHENTICATOR all = rw (count_of-no MESSAGE_AUTHENTICATOR a all other) at some in

@@ -1,8 +1,12 @@
 //! What an arrival gives: a refusal, a local answer, or the event of a realm.
 
-ghost use Rattle.std.specs.Prelude.{◌≡◌, ℕ, ◌<◌, ◌≤◌, length, Some, None, true, vec_len, IfOk, IsErrOf};
+ghost use Rattle.std.specs.Prelude.{◌≡◌, ℕ, ◌<◌, ◌≤◌, length, Some, None, true, vec_len, IfOk};
+ghost use Rattle.std.specs.Prelude.{IsErrOf};
+ghost use Rattle.roam_wire.specs.Secret.{IsSecret};
 ghost use Rattle.roam_conf.specs.Shown.{shown};
-ghost use Rattle.roam_route.specs.Admission.{admission, forwarded_for, given_to, is_taken, named, packet_admission, rejected_for, request_admission, routed, sent_admission, status_admission, status_from};
+ghost use Rattle.roam_route.specs.Admission.{admission, forwarded_for, given_to, is_taken, named, packet_admission};
+ghost use Rattle.roam_route.specs.Admission.{rejected_for, request_admission, routed, sent_admission, status_admission};
+ghost use Rattle.roam_route.specs.Admission.{status_from};
 ghost use Rattle.roam_route.specs.Events.{IsPrepared};
 ghost use Rattle.roam_route.specs.Shown.{IsAdmission, IsHome, Prepares, WantsMemory, shown_arrival};
 
@@ -22,25 +26,31 @@ use roam_fwd::forwarded_len;
 use roam_wire::{MAX_PACKET_LENGTH, Octets, Refusal, View};
 use std::alloc::Allocator;
 
+/// A packet whose sender is known, in the datagram that brought it.
+#[derive(Drop)]
+struct SentPacket<'a, A: Allocator> {
+    alloc: A,
+    datagram: &'a Datagram<A>,
+    side: Side,
+    view: View<'a>,
+}
+
 /// A packet that passed, as the event of a realm, with the realm that it names: its octets are copied,
 /// without padding.
 fn given_to<A: Allocator + Copy>(
-    alloc: A,
-    datagram: &Datagram<A>,
-    side: Side,
-    view: &View<'_>,
+    packet: &SentPacket<'_, A>,
     realm: u16,
     names: Option<u16>,
 ) -> Result<Prepared<A>, Refusal>
-    ensures { Prepares result
-        (given_to (shown_arrival datagram.now) side view.now realm names) }
+    ensures { Prepares result (given_to (shown_arrival packet.now.datagram.now) packet.now.side
+        packet.now.view realm names) }
 {
-    let octets = Octets::copy_of(alloc, view.octets())?;
+    let octets = Octets::copy_of(packet.alloc, packet.view.octets())?;
     Ok(Prepared::Job(Job {
         realm,
-        place: datagram.at,
-        from: datagram.from,
-        side,
+        place: packet.datagram.at,
+        from: packet.datagram.from,
+        side: packet.side,
         octets,
         named: names,
     }))
@@ -48,54 +58,47 @@ fn given_to<A: Allocator + Copy>(
 
 /// A request of a realm, where its forwarded packet has at most 4096 octets.
 fn forwarded_for<A: Allocator + Copy>(
-    alloc: A,
-    datagram: &Datagram<A>,
-    side: Side,
-    view: &View<'_>,
+    packet: &SentPacket<'_, A>,
     realm: u16,
     names: Option<u16>,
 ) -> Result<Prepared<A>, Refusal>
-    ensures { Prepares result
-        (forwarded_for (shown_arrival datagram.now) side view.now realm names) }
+    ensures { Prepares result (forwarded_for (shown_arrival packet.now.datagram.now)
+        packet.now.side packet.now.view realm names) }
 {
-    if forwarded_len(view) > MAX_PACKET_LENGTH {
+    if forwarded_len(&packet.view) > MAX_PACKET_LENGTH {
         return Err(Refusal::TooLong);
     }
-    given_to(alloc, datagram, side, view, realm, names)
+    given_to(packet, realm, names)
 }
 
 /// A request of the realm that it names, if it names one.
 fn named<A: Allocator + Copy>(
-    alloc: A,
-    datagram: &Datagram<A>,
-    side: Side,
-    view: &View<'_>,
+    packet: &SentPacket<'_, A>,
     realm: Option<u16>,
 ) -> Result<Prepared<A>, Refusal>
-    ensures { Prepares result (named (shown_arrival datagram.now) side view.now realm) }
+    ensures { Prepares result (named (shown_arrival packet.now.datagram.now) packet.now.side
+        packet.now.view realm) }
 {
     match realm {
         None => Err(Refusal::NoRealm),
-        Some(index) => forwarded_for(alloc, datagram, side, view, index, realm),
+        Some(index) => forwarded_for(packet, index, realm),
     }
 }
 
 /// The local reject of an Access-Request, where it has at most 4096 octets.
 fn rejected_for<A: Allocator + Copy>(
-    alloc: A,
-    datagram: &Datagram<A>,
-    view: &View<'_>,
+    packet: &SentPacket<'_, A>,
     secret: &[u8],
 ) -> Result<Prepared<A>, Refusal>
-    requires at_least_one { 1 ≤ length secret.now }
-    requires at_most_64 { length secret.now ≤ 64 }
-    ensures { Prepares result (rejected_for secret.now (shown_arrival datagram.now) view.now) }
+    requires secret { IsSecret secret.now }
+    ensures { Prepares result (rejected_for secret.now (shown_arrival packet.now.datagram.now)
+        packet.now.view) }
 {
-    let bytes = reject(alloc, view, secret)?;
+    let bytes = reject(packet.alloc, &packet.view, secret)?;
     Ok(Prepared::Reject(Out {
         realm: None,
-        from: datagram.at,
-        to: datagram.from,
+        from: packet.datagram.at,
+        to: packet.datagram.from,
         bytes,
     }))
 }
@@ -104,87 +107,80 @@ fn rejected_for<A: Allocator + Copy>(
 /// it came from a home server, else to the one that it names. An Access-Request that names none, whose
 /// passwords can't be carried, or that has too many hops is answered by a local reject.
 fn routed<A: Allocator + Copy>(
-    alloc: A,
     config: &Config,
-    datagram: &Datagram<A>,
-    side: Side,
+    packet: &SentPacket<'_, A>,
     secret: &[u8],
-    view: &View<'_>,
 ) -> Result<Prepared<A>, Refusal>
-    requires at_least_one { 1 ≤ length secret.now }
-    requires at_most_64 { length secret.now ≤ 64 }
-    ensures { Prepares result (routed (shown config.now) secret.now (shown_arrival datagram.now)
-        side view.now datagram.now.at) }
+    requires secret { IsSecret secret.now }
+    ensures { Prepares result (routed (shown config.now) secret.now
+        (shown_arrival packet.now.datagram.now) packet.now.side packet.now.view
+        packet.now.datagram.now.at) }
 {
+    let view = &packet.view;
     let realm = realm_of(config, view);
-    if let Place::Reverse(own) = datagram.at {
-        return forwarded_for(alloc, datagram, side, view, own, realm);
+    if let Place::Reverse(own) = packet.datagram.at {
+        return forwarded_for(packet, own, realm);
     }
-    if datagram.at == Place::Auth
+    if packet.datagram.at == Place::Auth
         && (realm.is_none() || has_bad_password(view) || has_too_many_hops(view, config.max_hops))
     {
-        return rejected_for(alloc, datagram, view, secret);
+        return rejected_for(packet, secret);
     }
-    named(alloc, datagram, side, view, realm)
+    named(packet, realm)
 }
 
 /// What a request gives: its signature is looked at, then its seal, its hops, and where it goes.
 fn request<A: Allocator + Copy>(
-    alloc: A,
     config: &Config,
-    datagram: &Datagram<A>,
-    side: Side,
+    packet: &SentPacket<'_, A>,
     secret: &[u8],
-    view: &View<'_>,
 ) -> Result<Prepared<A>, Refusal>
-    requires at_least_one { 1 ≤ length secret.now }
-    requires at_most_64 { length secret.now ≤ 64 }
-    requires peer { (i : ℕ) → side ≡ Side.Peer i → i < vec_len config.now.peers }
+    requires secret { IsSecret secret.now }
+    requires peer { (i : ℕ) → packet.now.side ≡ Side.Peer i → i < vec_len config.now.peers }
     ensures { Prepares result (request_admission (shown config.now) secret.now
-        (shown_arrival datagram.now) side view.now) }
+        (shown_arrival packet.now.datagram.now) packet.now.side packet.now.view) }
 {
+    let view = &packet.view;
     if !is_rightly_signed(view, secret) {
         return Err(Refusal::BadAuthenticator);
     }
     if !is_rightly_sealed(view, secret) {
         return Err(Refusal::BadMessageAuthenticator);
     }
-    if !has_needed_seal(view, seal_required(config, side)) {
+    if !has_needed_seal(view, seal_required(config, packet.side)) {
         return Err(Refusal::MissingMessageAuthenticator);
     }
     if !has_few_hops(view, config.max_hops) {
         return Err(Refusal::TooManyHops);
     }
-    routed(alloc, config, datagram, side, secret, view)
+    routed(config, packet, secret)
 }
 
 /// What a packet gives whose sender is known, and whose code is taken: a reply goes to the realm of
 /// its place as it is, and is judged there.
 fn taken<A: Allocator + Copy>(
-    alloc: A,
     config: &Config,
-    datagram: &Datagram<A>,
-    side: Side,
-    view: &View<'_>,
+    packet: &SentPacket<'_, A>,
 ) -> Result<Prepared<A>, Refusal>
-    requires peer { (i : ℕ) → side ≡ Side.Peer i → i < vec_len config.now.peers }
-    requires home { (realm i : ℕ) → datagram.now.at ≡ Place.Reverse realm → side ≡ Side.Home i
-        → IsHome config.now realm i }
-    ensures { Prepares result (packet_admission (shown config.now) (shown_arrival datagram.now)
-        side view.now datagram.now.at) }
+    requires peer { (i : ℕ) → packet.now.side ≡ Side.Peer i → i < vec_len config.now.peers }
+    requires home { (realm i : ℕ) → packet.now.datagram.now.at ≡ Place.Reverse realm
+        → packet.now.side ≡ Side.Home i → IsHome config.now realm i }
+    ensures { Prepares result (packet_admission (shown config.now)
+        (shown_arrival packet.now.datagram.now) packet.now.side packet.now.view
+        packet.now.datagram.now.at) }
 {
-    if let Place::Out(realm) = datagram.at {
-        return given_to(alloc, datagram, side, view, realm, None);
+    if let Place::Out(realm) = packet.datagram.at {
+        return given_to(packet, realm, None);
     }
-    match side {
+    match packet.side {
         Side::Peer(peer) => {
             let secret = secret_of_peer(config, peer);
-            request(alloc, config, datagram, side, secret, view)
+            request(config, packet, secret)
         }
-        Side::Home(server) => match datagram.at {
+        Side::Home(server) => match packet.datagram.at {
             Place::Reverse(realm) => {
                 let secret = secret_of_home(config, realm, server);
-                request(alloc, config, datagram, side, secret, view)
+                request(config, packet, secret)
             }
             _ => Err(Refusal::WrongCode),
         },
@@ -195,44 +191,40 @@ fn taken<A: Allocator + Copy>(
 /// What a Status-Server gives: the local answer, where it is sealed over its own Authenticator (RFC 5997,
 /// section 3).
 fn status<A: Allocator + Copy>(
-    alloc: A,
-    datagram: &Datagram<A>,
-    view: &View<'_>,
+    packet: &SentPacket<'_, A>,
     secret: &[u8],
 ) -> Result<Prepared<A>, Refusal>
-    requires at_least_one { 1 ≤ length secret.now }
-    requires at_most_64 { length secret.now ≤ 64 }
-    ensures { Prepares result (status_admission secret.now (shown_arrival datagram.now) view.now) }
+    requires secret { IsSecret secret.now }
+    ensures { Prepares result (status_admission secret.now
+        (shown_arrival packet.now.datagram.now) packet.now.view) }
 {
+    let view = &packet.view;
     if !is_sealed_over(view, secret, view.authenticator()) {
         return Err(Refusal::BadMessageAuthenticator);
     }
     if !has_seal(view) {
         return Err(Refusal::MissingMessageAuthenticator);
     }
-    let bytes = status_answer(alloc, datagram.at, view, secret)?;
+    let bytes = status_answer(packet.alloc, packet.datagram.at, view, secret)?;
     Ok(Prepared::Reject(Out {
         realm: None,
-        from: datagram.at,
-        to: datagram.from,
+        from: packet.datagram.at,
+        to: packet.datagram.from,
         bytes,
     }))
 }
 
 /// What a Status-Server of a sender gives: of a peer alone it is answered.
 fn status_from<A: Allocator + Copy>(
-    alloc: A,
     config: &Config,
-    datagram: &Datagram<A>,
-    side: Side,
-    view: &View<'_>,
+    packet: &SentPacket<'_, A>,
 ) -> Result<Prepared<A>, Refusal>
-    requires peer { (i : ℕ) → side ≡ Side.Peer i → i < vec_len config.now.peers }
-    ensures { Prepares result
-        (status_from (shown config.now) (shown_arrival datagram.now) side view.now) }
+    requires peer { (i : ℕ) → packet.now.side ≡ Side.Peer i → i < vec_len config.now.peers }
+    ensures { Prepares result (status_from (shown config.now)
+        (shown_arrival packet.now.datagram.now) packet.now.side packet.now.view) }
 {
-    match side {
-        Side::Peer(peer) => status(alloc, datagram, view, secret_of_peer(config, peer)),
+    match packet.side {
+        Side::Peer(peer) => status(packet, secret_of_peer(config, peer)),
         Side::Link(_) | Side::Home(_) => Err(Refusal::WrongCode),
     }
 }
@@ -240,25 +232,24 @@ fn status_from<A: Allocator + Copy>(
 /// What a packet gives whose sender is known: a Status-Server is answered, and of the others the code is
 /// looked at first.
 fn sent<A: Allocator + Copy>(
-    alloc: A,
     config: &Config,
-    datagram: &Datagram<A>,
-    side: Side,
-    view: &View<'_>,
+    packet: &SentPacket<'_, A>,
 ) -> Result<Prepared<A>, Refusal>
-    requires peer { (i : ℕ) → side ≡ Side.Peer i → i < vec_len config.now.peers }
-    requires home { (realm i : ℕ) → datagram.now.at ≡ Place.Reverse realm → side ≡ Side.Home i
-        → IsHome config.now realm i }
-    ensures { Prepares result (sent_admission (shown config.now) (shown_arrival datagram.now)
-        view.now (Some side)) }
+    requires peer { (i : ℕ) → packet.now.side ≡ Side.Peer i → i < vec_len config.now.peers }
+    requires home { (realm i : ℕ) → packet.now.datagram.now.at ≡ Place.Reverse realm
+        → packet.now.side ≡ Side.Home i → IsHome config.now realm i }
+    ensures { Prepares result (sent_admission (shown config.now)
+        (shown_arrival packet.now.datagram.now) packet.now.view (Some packet.now.side)) }
 {
-    if is_status_request(config, datagram.at, side, view.code()) {
-        return status_from(alloc, config, datagram, side, view);
+    let at = packet.datagram.at;
+    let code = packet.view.code();
+    if is_status_request(config, at, packet.side, code) {
+        return status_from(config, packet);
     }
-    if !is_taken(datagram.at, side, view.code()) {
+    if !is_taken(at, packet.side, code) {
         return Err(Refusal::WrongCode);
     }
-    taken(alloc, config, datagram, side, view)
+    taken(config, packet)
 }
 
 /// What an arrival gives: the event of a realm, with the packet's octets, or a local answer, or the
@@ -286,5 +277,11 @@ pub fn prepare<A: Allocator + Copy>(
     let Some(side) = sender(config, datagram) else {
         return Err(Refusal::UnknownSource);
     };
-    sent(alloc, config, datagram, side, &view)
+    let packet = SentPacket {
+        alloc,
+        datagram,
+        side,
+        view,
+    };
+    sent(config, &packet)
 }

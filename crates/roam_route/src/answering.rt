@@ -1,35 +1,20 @@
 //! The answers that the broker gives itself: the local reject (RFC 2865, section 4.3), and the answer to
 //! a Status-Server (RFC 5997, section 3).
 
-ghost use Rattle.std.specs.Prelude.{◌≡◌, ◌⊎◌, ◌↔◌, ◌+◌, ◌<◌, ◌≤◌, length, IfOk, IfErr, IsErrOf};
-ghost use Rattle.roam_wire.specs.Packet.{IsPacket, attributes_text, packet_text};
-ghost use Rattle.roam_wire.specs.Attributes.{only_kind};
-ghost use Rattle.roam_wire.specs.Reading.{IsPacketText, packet_of};
-ghost use Rattle.roam_auth.specs.Authenticators.{signed_reply};
-ghost use Rattle.roam_auth.specs.MessageAuthenticator.{HasAtMostOneMessageAuthenticator, HasOneMessageAuthenticator, with_message_authenticator};
-ghost use Rattle.roam_route.specs.LocalAnswer.{answer_length, local_answer, local_reject, status_answer, status_code, unsealed_answer};
+ghost use Rattle.std.specs.Prelude.{◌≡◌, ◌⊎◌, ◌↔◌, ◌<◌, IfOk, IfErr, IsErrOf};
+ghost use Rattle.roam_wire.specs.Packet.{IsPacket, packet_text};
+ghost use Rattle.roam_wire.specs.Secret.{IsSecret};
+ghost use Rattle.roam_auth.specs.MessageAuthenticator.{HasOneMessageAuthenticator};
+ghost use Rattle.roam_route.specs.LocalAnswer.{answer_length, local_answer, local_reject, status_answer, status_code};
+ghost use Rattle.roam_route.specs.LocalAnswer.{unsealed_answer};
 
-use roam_auth::{ZERO_OCTETS, seal, sign_reply};
+use roam_auth::{ZERO_OCTETS, seal_and_sign};
 use roam_conf::Place;
 use roam_wire::attribute_type::{MESSAGE_AUTHENTICATOR, PROXY_STATE};
 use roam_wire::code::{ACCESS_ACCEPT, ACCESS_REJECT, ACCOUNTING_RESPONSE};
+use roam_wire::writing::proxy_states_len;
 use roam_wire::{MAX_PACKET_LENGTH, Octets, PacketBuf, Refusal, View};
 use std::alloc::Allocator;
-
-/// How many octets a packet's Proxy-States take. One pass.
-fn proxy_states_len(request: &View<'_>) -> usize
-    ensures all { result ≡ length (attributes_text (only_kind PROXY_STATE request.now.attributes)) }
-    ensures few { result ≤ 4076 }
-    ensures packet { IsPacket request.now }
-{
-    let mut size = 0;
-    for attribute in request.attributes() {
-        if attribute.kind == PROXY_STATE {
-            size += 2 + attribute.value.len();
-        }
-    }
-    size
-}
 
 /// How many octets a local answer to a request has: the header, a Message-Authenticator, the request's
 /// Proxy-States.
@@ -57,19 +42,6 @@ fn unsealed<A: Allocator>(alloc: A, code: u8, request: &View<'_>) -> Result<Vec<
     Ok(packet.finish())
 }
 
-/// Seals and signs a reply in place (RFC 3579, section 3.2; RFC 2865, section 3).
-fn seal_and_sign(octets: &mut [u8], secret: &[u8], authenticator: [u8; 16])
-    requires packet { IsPacketText octets.old }
-    requires at_most_one { HasAtMostOneMessageAuthenticator (packet_of octets.old) }
-    requires at_least_one_octet { 1 ≤ length secret.now }
-    requires at_most_64_octets { length secret.now ≤ 64 }
-    ensures { octets.new ≡ packet_text (signed_reply secret.now authenticator
-        (with_message_authenticator secret.now authenticator (packet_of octets.old))) }
-{
-    seal(octets, secret, authenticator);
-    sign_reply(octets, authenticator, secret);
-}
-
 /// A local answer of this code: a Message-Authenticator and the request's Proxy-States, sealed and signed
 /// for the access server with this secret (RFC 3579, section 3.2; RFC 2865, section 3).
 ///
@@ -81,8 +53,7 @@ fn answer<A: Allocator>(
     request: &View<'_>,
     secret: &[u8],
 ) -> Result<Octets<A>, Refusal>
-    requires at_least_one_octet { 1 ≤ length secret.now }
-    requires at_most_64_octets { length secret.now ≤ 64 }
+    requires secret { IsSecret secret.now }
     ensures ok { IfOk result (λ o. o ≡ packet_text (local_answer code secret.now request.now)) }
     ensures too_long { IsErrOf result Refusal.TooLong ↔ (4096 < answer_length request.now) }
     ensures causes { IfErr result (λ e. (e ≡ Refusal.TooLong) ⊎ (e ≡ Refusal.NoMemory)) }
@@ -106,8 +77,7 @@ pub fn reject<A: Allocator>(
     request: &View<'_>,
     secret: &[u8],
 ) -> Result<Octets<A>, Refusal>
-    requires at_least_one_octet { 1 ≤ length secret.now }
-    requires at_most_64_octets { length secret.now ≤ 64 }
+    requires secret { IsSecret secret.now }
     ensures ok { IfOk result (λ o. o ≡ packet_text (local_reject secret.now request.now)) }
     ensures too_long { IsErrOf result Refusal.TooLong ↔ (4096 < answer_length request.now) }
     ensures causes { IfErr result (λ e. (e ≡ Refusal.TooLong) ⊎ (e ≡ Refusal.NoMemory)) }
@@ -136,8 +106,7 @@ pub fn status_answer<A: Allocator>(
     secret: &[u8],
 ) -> Result<Octets<A>, Refusal>
     requires sealed { HasOneMessageAuthenticator request.now }
-    requires at_least_one_octet { 1 ≤ length secret.now }
-    requires at_most_64_octets { length secret.now ≤ 64 }
+    requires secret { IsSecret secret.now }
     ensures ok { IfOk result (λ o. o ≡ packet_text (status_answer at secret.now request.now)) }
     ensures causes { IfErr result (λ e. e ≡ Refusal.NoMemory) }
 {

@@ -1,10 +1,12 @@
 //! The checks of a request: its signature, its seal, its passwords.
 
 ghost use Rattle.std.specs.Prelude.{◌≡◌, ◌≤◌, [], ◌∷◌, false, length, not, option_map};
+ghost use Rattle.roam_wire.specs.Secret.{IsSecret};
 ghost use Rattle.std.specs.Option.{option_map_or};
 ghost use Rattle.roam_auth.specs.Deciding.{is_well_sealed};
 ghost use Rattle.roam_hide.specs.Hiding.{password_fits};
-ghost use Rattle.roam_route.specs.Admission.{has_few_hops, has_needed_seal, has_seal, is_rightly_sealed, is_rightly_signed};
+ghost use Rattle.roam_route.specs.Admission.{has_few_hops, has_needed_seal, has_seal, is_rightly_sealed};
+ghost use Rattle.roam_route.specs.Admission.{is_rightly_signed};
 ghost use Rattle.roam_route.specs.LocalReject.{has_bad_password, has_too_many_hops};
 
 use roam_auth::{ZERO_OCTETS, message_ok, request_ok};
@@ -18,8 +20,7 @@ use roam_wire::code::ACCESS_REQUEST;
 /// Whether a request is signed where its code says that it is (RFC 2866, section 3; RFC 5176, section
 /// 2.3).
 pub(crate) fn is_rightly_signed(request: &View<'_>, secret: &[u8]) -> bool
-    requires at_least_one { 1 ≤ length secret.now }
-    requires at_most_64 { length secret.now ≤ 64 }
+    requires secret { IsSecret secret.now }
     ensures { result ≡ is_rightly_signed secret.now request.now }
 {
     request.code() == ACCESS_REQUEST || request_ok(request, secret)
@@ -27,8 +28,7 @@ pub(crate) fn is_rightly_signed(request: &View<'_>, secret: &[u8]) -> bool
 
 /// Whether a request is well sealed over an Authenticator (RFC 3579, section 3.2).
 pub(crate) fn is_sealed_over(request: &View<'_>, secret: &[u8], authenticator: [u8; 16]) -> bool
-    requires at_least_one { 1 ≤ length secret.now }
-    requires at_most_64 { length secret.now ≤ 64 }
+    requires secret { IsSecret secret.now }
     ensures { result ≡ is_well_sealed secret.now (authenticator ∷ []) request.now }
 {
     message_ok(request, secret, authenticator)
@@ -37,8 +37,7 @@ pub(crate) fn is_sealed_over(request: &View<'_>, secret: &[u8], authenticator: [
 /// Whether a request is well sealed: over its own Authenticator in an Access-Request, over zeros in
 /// any other (RFC 3579, section 3.2).
 pub(crate) fn is_rightly_sealed(request: &View<'_>, secret: &[u8]) -> bool
-    requires at_least_one { 1 ≤ length secret.now }
-    requires at_most_64 { length secret.now ≤ 64 }
+    requires secret { IsSecret secret.now }
     ensures { result ≡ is_rightly_sealed secret.now request.now }
 {
     if request.code() == ACCESS_REQUEST {

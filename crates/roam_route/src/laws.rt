@@ -4,8 +4,12 @@
 ghost use Rattle.roam_route.specs.Events.{EventHasRealm, EventIsSound};
 ghost use Rattle.roam_route.specs.NameLaws.{LastAtSignDecides, NameWithoutAtSign};
 ghost use Rattle.roam_route.specs.OwnPart.{OwnAnswersDecided, OwnPartDecides};
-ghost use Rattle.roam_route.specs.RejectLaws.{RejectCarriesProxyStates, RejectHasLength, RejectHasSealFirst, RejectIsSigned, RejectIsWellSealed, RejectReads};
-ghost use Rattle.roam_route.specs.StatusLaws.{StatusAnswerAtAcct, StatusAnswerAtAuth, StatusAnswerCarriesProxyStates, StatusAnswerHasIdentifier, StatusAnswerHasSealFirst, StatusAnswerIsNoLonger, StatusAnswerIsSigned, StatusAnswerIsWellSealed, StatusAnswerReads};
+ghost use Rattle.roam_route.specs.RejectLaws.{RejectCarriesProxyStates, RejectHasLength, RejectHasSealFirst};
+ghost use Rattle.roam_route.specs.RejectLaws.{RejectIsSigned, RejectIsWellSealed, RejectReads};
+ghost use Rattle.roam_route.specs.StatusLaws.{StatusAnswerAtAcct, StatusAnswerAtAuth, StatusAnswerCarriesProxyStates};
+ghost use Rattle.roam_route.specs.StatusLaws.{StatusAnswerHasIdentifier, StatusAnswerHasSealFirst};
+ghost use Rattle.roam_route.specs.StatusLaws.{StatusAnswerIsNoLonger, StatusAnswerIsSigned, StatusAnswerIsWellSealed};
+ghost use Rattle.roam_route.specs.StatusLaws.{StatusAnswerReads};
 
 /// What the realm part of a name is.
 pub fn names()

@@ -3,7 +3,9 @@
 ghost use Rattle.std.specs.Prelude.{◌≡◌, ℕ, ◌<◌, ◌≤◌, Some, length, vec_len};
 ghost use Rattle.roam_conf.specs.Shown.{shown};
 ghost use Rattle.roam_wire.specs.Codes.{is_reverse_reply, is_reverse_request};
-ghost use Rattle.roam_route.specs.Admission.{home_secret, is_code_of_link, is_status_request, is_taken, peer_secret, seal_required, sender};
+ghost use Rattle.roam_wire.specs.Secret.{IsSecret};
+ghost use Rattle.roam_route.specs.Admission.{home_secret, is_code_of_link, is_status_request, is_taken, peer_secret};
+ghost use Rattle.roam_route.specs.Admission.{seal_required, sender};
 ghost use Rattle.roam_route.specs.Shown.{IsHome, shown_arrival};
 
 use crate::datagram::Datagram;
@@ -44,8 +46,7 @@ pub(crate) fn sender<A: Allocator>(config: &Config, datagram: &Datagram<A>) -> O
 pub(crate) fn secret_of_peer(config: &Config, peer: u16) -> &[u8]
     requires { peer < vec_len config.now.peers }
     ensures text { result.now ≡ peer_secret (shown config.now) peer }
-    ensures at_least_one { 1 ≤ length result.now }
-    ensures at_most_64 { length result.now ≤ 64 }
+    ensures secret { IsSecret result.now }
 {
     config.peers[usize::from(peer)].secret.as_bytes()
 }
@@ -54,8 +55,7 @@ pub(crate) fn secret_of_peer(config: &Config, peer: u16) -> &[u8]
 pub(crate) fn secret_of_home(config: &Config, realm: u16, server: u8) -> &[u8]
     requires { IsHome config.now realm server }
     ensures text { result.now ≡ home_secret (shown config.now) realm server }
-    ensures at_least_one { 1 ≤ length result.now }
-    ensures at_most_64 { length result.now ≤ 64 }
+    ensures secret { IsSecret result.now }
 {
     config.realms[usize::from(realm)].servers[usize::from(server)]
         .secret

@@ -1,6 +1,7 @@
 //! The runs of each realm.
 
-ghost use Rattle.std.specs.Prelude.{◌≡◌, ◌<◌, ◌≤◌, Some, IfOk, OnErr, OnOk, IsOk, length, option_copied, slice_get};
+ghost use Rattle.std.specs.Prelude.{◌≡◌, ◌<◌, ◌≤◌, Some, IfOk, OnErr, OnOk, IsOk, length};
+ghost use Rattle.std.specs.Prelude.{option_copied, slice_get};
 ghost use Rattle.std.specs.List.{AllByRecursion};
 ghost use Rattle.roam_tables.specs.Marks.{AreEmpty, CanEnter, CanLeave, Changes, Enters, Leaves, SameRuns};
 ghost use Rattle.roam_tables.specs.Stands.{AreMore, AtRealm, runs_room};

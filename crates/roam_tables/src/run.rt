@@ -4,7 +4,8 @@ ghost use Rattle.std.specs.Prelude.{◌≡◌, ◌<◌, ◌≤◌, ◌+◌, true
 ghost use Rattle.std.specs.Ordering.{nat_cmp};
 ghost use Rattle.std.specs.VecDeque.{deque_len, deque_capacity};
 ghost use Rattle.roam_pending.specs.ListLaws.{IsIn};
-ghost use Rattle.roam_tables.specs.Rising.{Adds, AmongRun, Drops, IsAt, IsGap, IsNextOf, IsPlaceOf, IsStart, Rises, due_cmp};
+ghost use Rattle.roam_tables.specs.Rising.{Adds, AmongRun, Drops, IsAt, IsGap, IsNextOf, IsPlaceOf, IsStart, Rises};
+ghost use Rattle.roam_tables.specs.Rising.{due_cmp};
 
 use roam_pending::Due;
 use roam_wire::NoMemory;

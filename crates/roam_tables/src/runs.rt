@@ -3,7 +3,8 @@
 ghost use Rattle.std.specs.Prelude.{◌≡◌, ◌⊎◌, ◌+◌, OnOk, IsOk};
 ghost use Rattle.roam_pending.specs.EntryList.{is_beside};
 ghost use Rattle.roam_tables.specs.Rising.{AmongBoth, IsFirstBesides, IsNextOf};
-ghost use Rattle.roam_tables.specs.Marks.{AllRise, AreEmpty, CanEnter, CanLeave, Changes, Enters, Holds, Leaves, SameRuns, held};
+ghost use Rattle.roam_tables.specs.Marks.{AllRise, AreEmpty, CanEnter, CanLeave, Changes, Enters, Holds, Leaves};
+ghost use Rattle.roam_tables.specs.Marks.{SameRuns, held};
 
 use crate::mark::Mark;
 use crate::run::{add_due, add_ticket, drop_due, drop_ticket, make_room, next_due};

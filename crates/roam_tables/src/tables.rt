@@ -1,12 +1,15 @@
 //! The entries of all realms of a shard in one slab, with indexes and runs beside it.
 
-ghost use Rattle.std.specs.Prelude.{◌≡◌, ℕ, ◌<◌, ◌≤◌, ◌+◌, [], Some, OnErr, OnOk, IsOk, IfNone, IfOk, IfSome, length};
+ghost use Rattle.std.specs.Prelude.{◌≡◌, ℕ, ◌<◌, ◌≤◌, ◌+◌, [], Some, OnErr, OnOk, IsOk, IfNone};
+ghost use Rattle.std.specs.Prelude.{IfOk, IfSome, length};
 ghost use Rattle.indexmap.specs.IndexMap.{spare};
 ghost use Rattle.roam_pending.specs.DueOrder.{due_after};
-ghost use Rattle.roam_pending.specs.EntryList.{HasPlaceOf, IsEntryList, IsNew, besides, find_client, find_ticket, first_done, put, without};
+ghost use Rattle.roam_pending.specs.EntryList.{HasPlaceOf, IsEntryList, IsNew, besides, find_client, find_ticket};
+ghost use Rattle.roam_pending.specs.EntryList.{first_done, put, without};
 ghost use Rattle.roam_pending.specs.Realms.{RealmBecomes};
 ghost use Rattle.roam_pending.specs.Shown.{seen, shown, taken};
-ghost use Rattle.roam_tables.specs.Stands.{AtRealm, HasTicket, client_at, entries_in, place, room_in, runs_room, slab_room, ticket_at};
+ghost use Rattle.roam_tables.specs.Stands.{AtRealm, HasTicket, client_at, entries_in, place, room_in, runs_room};
+ghost use Rattle.roam_tables.specs.Stands.{slab_room, ticket_at};
 
 use crate::growth::grow;
 use crate::index::{

@@ -5,3 +5,4 @@ pub mod PacketLemmas
 pub mod BuildingLemmas
 pub mod ReadingLemmas
 pub mod LawLemmas
+pub mod KeptLemmas

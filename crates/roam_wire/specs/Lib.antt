@@ -7,4 +7,5 @@ pub mod Codes
 pub mod Numbered
 pub mod Constants
 pub mod Building
+pub mod Secret
 pub mod Laws

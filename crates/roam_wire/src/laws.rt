@@ -1,8 +1,10 @@
 //! Laws of reading, of packets' octets, and of the numbers that RFCs give to codes and attribute types.
 //! These functions do nothing: their contracts hold of all packets and datagrams.
 
-ghost use Rattle.roam_wire.specs.Constants.{AccessCodes, AccessTypes, AccountingCodes, AccountingTypes, LargestPacket, OtherTypes, ReverseCodes};
-ghost use Rattle.roam_wire.specs.Laws.{ReadingIsRight, PacketTextReads, PacketTextIsReadAgain, PacketTextIsOfPacket, PacketTextHasLength, PacketTextIsOctets};
+ghost use Rattle.roam_wire.specs.Constants.{AccessCodes, AccountingCodes, ReverseCodes};
+ghost use Rattle.roam_wire.specs.Constants.{AccessTypes, AccountingTypes, OtherTypes, LargestPacket};
+ghost use Rattle.roam_wire.specs.Laws.{ReadingIsRight, PacketTextReads, PacketTextIsReadAgain};
+ghost use Rattle.roam_wire.specs.Laws.{PacketTextIsOfPacket, PacketTextHasLength, PacketTextIsOctets};
 
 /// What a datagram reads as.
 pub fn readings()

@@ -15,6 +15,7 @@ mod packet_size;
 mod refusal;
 mod view;
 mod walk;
+pub mod writing;
 
 pub use attributes::{Attr, Attrs};
 pub use laws::{

@@ -1,11 +1,15 @@
 //! Building a packet (RFC 2865, sections 3 and 5).
 
-ghost use Rattle.std.specs.Prelude.{◌≡◌, ◌⊎◌, ◌↔◌, ◌+◌, ◌/◌, ◌%◌, ◌<◌, ◌≤◌, [], ◌∷◌, length, vec_len, IfOk, IfErr, OnOk, OnErr, IsErrOf, ◌++◌, slice_set};
+ghost use Rattle.std.specs.Prelude.{◌≡◌, ◌⊎◌, ◌↔◌, ◌+◌, ◌/◌, ◌%◌, ◌<◌, ◌≤◌};
+ghost use Rattle.std.specs.Prelude.{[], ◌∷◌, ◌++◌};
+ghost use Rattle.std.specs.Prelude.{length, vec_len, slice_set, IfOk, IfErr, OnOk, OnErr, IsErrOf};
 ghost use Rattle.roam_wire.specs.Packet.{IsPacket, packet_length, packet_text, attribute_text};
 ghost use Rattle.roam_wire.specs.Building.{header_of, with_attribute};
 
+use crate::attributes::Attr;
 use crate::packet_size::MAX_PACKET_LENGTH;
 use crate::refusal::{NoMemory, Refusal};
+use crate::writing::{append_attribute, append_header};
 use std::alloc::Allocator;
 use std::marker::Model;
 
@@ -37,13 +41,12 @@ fn header_octets<A: Allocator>(
     ensures { IfOk result (λ v. v.items ≡ code ∷ id ∷ 0 ∷ 20 ∷ authenticator.now) }
 {
     let mut octets = Vec::with_capacity(alloc, 20)?;
-    octets.extend_from_slice(&[code, id, 0, 20])?;
-    octets.extend_from_slice(authenticator)?;
+    append_header(&mut octets, code, id, 20, authenticator);
     Ok(octets)
 }
 
 /// Appends an attribute's octets, or leaves the octets as they were.
-fn append_attribute<A: Allocator>(
+fn push_attribute<A: Allocator>(
     octets: &mut Vec<u8, A>,
     kind: u8,
     value: &[u8],
@@ -55,9 +58,7 @@ fn append_attribute<A: Allocator>(
     ensures err { OnErr result (octets.new.items ≡ octets.old.items) }
 {
     octets.reserve(2 + value.len())?;
-    octets.push(kind).unwrap();
-    octets.push((2 + value.len()) as u8).unwrap();
-    octets.extend_from_slice(value).unwrap();
+    append_attribute(octets, Attr { kind, value });
     Ok(())
 }
 
@@ -103,7 +104,7 @@ impl<A: Allocator> PacketBuf<A> {
         if size > MAX_PACKET_LENGTH {
             return Err(Refusal::TooLong);
         }
-        append_attribute(&mut self.octets, kind, value)?;
+        push_attribute(&mut self.octets, kind, value)?;
         write_length(&mut self.octets, size);
         Ok(())
     }

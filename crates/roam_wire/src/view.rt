@@ -1,6 +1,8 @@
 //! A packet in a datagram, looked at where it lies (RFC 2865, section 3).
 
-ghost use Rattle.std.specs.Prelude.{◌≡◌, ◌⊎◌, ◌↔◌, ◌<◌, ◌≤◌, length, take, drop, option_map, IfOk, IfErr, IsOkAnd, IsErrOf};
+ghost use Rattle.std.specs.Prelude.{◌≡◌, ◌⊎◌, ◌↔◌, ◌<◌, ◌≤◌, length, take, drop};
+ghost use Rattle.std.specs.Prelude.{option_map};
+ghost use Rattle.std.specs.Prelude.{IfOk, IfErr, IsOkAnd, IsErrOf};
 ghost use Rattle.roam_wire.specs.Packet.{Packet, IsPacket, packet_text};
 ghost use Rattle.roam_wire.specs.Reading.{length_field, HasLength, IsPacketText, ReadsAs, Reads, packet_of, reading};
 ghost use Rattle.roam_wire.specs.Attributes.{first_value, count_of};

@@ -1,6 +1,6 @@
 use Rattle.std.proofs.Common.{◌≡◌, vec_len, vec_capacity}
 use Rattle.roam_back.specs.Plain.{is_carried}
-use Rattle.roam_back.proofs.KeptLemmas.{IsAppending}
+use Rattle.roam_wire.proofs.KeptLemmas.{IsAppending}
 use Rattle.roam_back.proofs.appending.append_carried.Given as goal
 
 -- all that are appended but those that are left were appended, and there is room for these

@@ -1,6 +1,6 @@
 use Rattle.std.proofs.Common.{◌≤◌, ◌+◌, length, sym, ◌∙◌, arith}
 use Rattle.roam_wire.specs.Shown.{shown}
-use Rattle.roam_back.proofs.KeptLemmas.{IsCount-kept, IsCount-within}
+use Rattle.roam_wire.proofs.KeptLemmas.{IsCount-kept, IsCount-within}
 use Rattle.roam_back.proofs.appending.carried_len.Goals as goal
 
 -- what is counted, with this attribute, stays within the packet

@@ -1,5 +1,5 @@
 use Rattle.roam_back.specs.Plain.{is_carried}
-use Rattle.roam_back.proofs.KeptLemmas.{IsCount}
+use Rattle.roam_wire.proofs.KeptLemmas.{IsCount}
 use Rattle.roam_back.proofs.appending.carried_len.Given as goal
 
 -- the octets of all that count but those that are left were counted

@@ -7,6 +7,7 @@ use Rattle.roam_wire.specs.declared.code.TheConstants.{ACCESS_ACCEPT}
 use Rattle.roam_hide.specs.declared.packet_values.Hidden.TheVariants.{SaltedStrings}
 use Rattle.roam_hide.specs.PacketAnew.{packet_anew}
 use Rattle.roam_back.specs.Returned.{Returning}
+use Rattle.roam_back.specs.Shown.{shown}
 use Rattle.roam_back.proofs.PlainLemmas.{can_be-salted, from_key, rehidden_text, plain_text_stays}
 use Rattle.roam_back.proofs.returning.rehide_accept.Goals as goal
 
@@ -17,23 +18,15 @@ rehide_packet-requires-clause-can_be c = can_be-salted (packet_of c.args.octets.
 -- the salted strings of an Access-Accept are
 pub returns-then-code-eq-ACCESS_ACCEPT : goal.returns-then-code-eq-ACCESS_ACCEPT
 returns-then-code-eq-ACCESS_ACCEPT c =
-    let r : Returning = record {
-      forwarded_authenticator = c.args.forwarded_authenticator;
-      home_secret = c.args.home_secret.now;
-      client_secret = c.args.client_secret.now;
-    } in
+    let r : Returning = shown c.args.returning.now in
     let accept : (c.args.reply.now.code == ACCESS_ACCEPT) ≡ true = eq-eqb c.args.reply.now.code ACCESS_ACCEPT (sym c.code.ensures ∙ c.if-code-eq-ACCESS_ACCEPT.true) in
     c.rehide_packet.ensures
-    ∙ ap (λ (first : List ℕ). packet_text (packet_anew SaltedStrings (from_key r) (record { secret = c.args.client_secret.now; first = first }) (packet_of c.args.octets.now))) c.authenticator.ensures
-    ∙ rehidden_text r c.args.reply.now c.args.request.now (packet_of c.args.octets.now) c.requires.plain accept
+    ∙ ap (λ (first : List ℕ). packet_text (packet_anew SaltedStrings (from_key r) (record { secret = r.client_secret; first = first }) (packet_of c.args.octets.now))) c.authenticator.ensures
+    ∙ rehidden_text r c.args.reply.now c.args.request.now (packet_of c.args.octets.now) c.requires.plain.packet accept
 
 -- any other reply stays
 pub returns-else-code-eq-ACCESS_ACCEPT : goal.returns-else-code-eq-ACCESS_ACCEPT
 returns-else-code-eq-ACCESS_ACCEPT c =
-    let r : Returning = record {
-      forwarded_authenticator = c.args.forwarded_authenticator;
-      home_secret = c.args.home_secret.now;
-      client_secret = c.args.client_secret.now;
-    } in
+    let r : Returning = shown c.args.returning.now in
     let other : (c.args.reply.now.code == ACCESS_ACCEPT) ≡ false = ne_eqb c.args.reply.now.code ACCESS_ACCEPT (λ e. c.if-code-eq-ACCESS_ACCEPT.false (c.code.ensures ∙ e)) in
-    c.requires.packet.spelt ∙ plain_text_stays r c.args.reply.now c.args.request.now (packet_of c.args.octets.now) c.requires.plain other
+    c.requires.plain.text.spelt ∙ plain_text_stays r c.args.reply.now c.args.request.now (packet_of c.args.octets.now) c.requires.plain.packet other

@@ -19,11 +19,11 @@ returns-in_default-clause-fate g c =
     (record {
       cursors = c.give_back.ensures.cursors;
       tells = c.give_back.ensures.tells;
-      count = c.give_back.ensures.count;
-      ticket = c.give_back.ensures.ticket;
-      stream_position = c.give_back.ensures.stream_position;
-      sessions = c.give_back.ensures.sessions;
-      rests = c.give_back.ensures.rests;
+      count = c.give_back.ensures.keeps.count;
+      ticket = c.give_back.ensures.keeps.ticket;
+      stream_position = c.give_back.ensures.keeps.stream_position;
+      sessions = c.give_back.ensures.keeps.sessions;
+      rests = c.give_back.ensures.keeps.rests;
       marks = c.give_back.ensures.marks;
     })
     (record {
@@ -49,11 +49,11 @@ returns-clause-fate g c =
     (record {
       cursors = c.give_back.ensures.cursors;
       tells = c.give_back.ensures.tells;
-      count = c.give_back.ensures.count;
-      ticket = c.give_back.ensures.ticket;
-      stream_position = c.give_back.ensures.stream_position;
-      sessions = c.give_back.ensures.sessions;
-      rests = c.give_back.ensures.rests;
+      count = c.give_back.ensures.keeps.count;
+      ticket = c.give_back.ensures.keeps.ticket;
+      stream_position = c.give_back.ensures.keeps.stream_position;
+      sessions = c.give_back.ensures.keeps.sessions;
+      rests = c.give_back.ensures.keeps.rests;
       marks = c.give_back.ensures.marks;
     })
     (record {

@@ -3,41 +3,26 @@ use Rattle.roam_wire.specs.Packet.{Packet, attributes_text}
 use Rattle.roam_wire.specs.Reading.{packet_of}
 use Rattle.roam_fwd.specs.Forwarded.{added_challenge}
 use Rattle.roam_fwd.specs.Arranged.{challenge_of, IsSealStart}
-use Rattle.roam_fwd.proofs.ArrangedLemmas.{HoldsAccess, access_within, movable, carried_front, moved_text, arranged_text}
+use Rattle.roam_fwd.proofs.ArrangedLemmas.{HoldsAccess, access_held, access_within, movable, carried_front, moved_text, arranged_text}
 use Rattle.roam_fwd.proofs.access.arrange.Goals as goal
 
 -- the request ends within the slice
 pub front_packet-request-requires-clause-inside : goal.front_packet-request-requires-clause-inside
 front_packet-request-requires-clause-inside c =
-    access_within c.args.len c.args.octets.now (record {
-      packet = c.requires.packet;
-      can_be_forwarded = c.requires.can_be_forwarded;
-      size = c.requires.size;
-      access = c.requires.access;
-    })
+    access_within c.args.len c.args.octets.now (access_held c.args.len c.args.octets.now c.requires.rewritable c.requires.access)
 
 -- its Message-Authenticator can be moved
 pub put_seal_first-requires-clause-behind_header : goal.put_seal_first-requires-clause-behind_header
 put_seal_first-requires-clause-behind_header c =
     let q : Packet = packet_of (take c.args.len c.args.octets.now) in
-    let h : HoldsAccess c.args.len c.args.octets.now = record {
-      packet = c.requires.packet;
-      can_be_forwarded = c.requires.can_be_forwarded;
-      size = c.requires.size;
-      access = c.requires.access;
-    } in
+    let h : HoldsAccess c.args.len c.args.octets.now = access_held c.args.len c.args.octets.now c.requires.rewritable c.requires.access in
     let place : IsSealStart c.seal_start-start.result q = subst (IsSealStart c.seal_start-start.result) c.front_packet-request.ensures c.seal_start-start.ensures in
     (movable c.args.len c.args.octets.now c.seal_start-start.result h place).behind_header
 
 pub put_seal_first-requires-clause-room : goal.put_seal_first-requires-clause-room
 put_seal_first-requires-clause-room c =
     let q : Packet = packet_of (take c.args.len c.args.octets.now) in
-    let h : HoldsAccess c.args.len c.args.octets.now = record {
-      packet = c.requires.packet;
-      can_be_forwarded = c.requires.can_be_forwarded;
-      size = c.requires.size;
-      access = c.requires.access;
-    } in
+    let h : HoldsAccess c.args.len c.args.octets.now = access_held c.args.len c.args.octets.now c.requires.rewritable c.requires.access in
     let place : IsSealStart c.seal_start-start.result q = subst (IsSealStart c.seal_start-start.result) c.front_packet-request.ensures c.seal_start-start.ensures in
     (movable c.args.len c.args.octets.now c.seal_start-start.result h place).room
 
@@ -45,12 +30,7 @@ put_seal_first-requires-clause-room c =
 pub put_last-requires : goal.put_last-requires
 put_last-requires c =
     let q : Packet = packet_of (take c.args.len c.args.octets.now) in
-    let h : HoldsAccess c.args.len c.args.octets.now = record {
-      packet = c.requires.packet;
-      can_be_forwarded = c.requires.can_be_forwarded;
-      size = c.requires.size;
-      access = c.requires.access;
-    } in
+    let h : HoldsAccess c.args.len c.args.octets.now = access_held c.args.len c.args.octets.now c.requires.rewritable c.requires.access in
     let place : IsSealStart c.seal_start-start.result q = subst (IsSealStart c.seal_start-start.result) c.front_packet-request.ensures c.seal_start-start.ensures in
     let can = movable c.args.len c.args.octets.now c.seal_start-start.result h place in
     let moved = moved_text q c.args.octets.now c.put_seal_first.new.octets c.seal_start-start.result can c.put_seal_first.ensures in
@@ -61,12 +41,7 @@ put_last-requires c =
 pub returns : goal.returns
 returns c =
     let q : Packet = packet_of (take c.args.len c.args.octets.now) in
-    let h : HoldsAccess c.args.len c.args.octets.now = record {
-      packet = c.requires.packet;
-      can_be_forwarded = c.requires.can_be_forwarded;
-      size = c.requires.size;
-      access = c.requires.access;
-    } in
+    let h : HoldsAccess c.args.len c.args.octets.now = access_held c.args.len c.args.octets.now c.requires.rewritable c.requires.access in
     let place : IsSealStart c.seal_start-start.result q = subst (IsSealStart c.seal_start-start.result) c.front_packet-request.ensures c.seal_start-start.ensures in
     let can = movable c.args.len c.args.octets.now c.seal_start-start.result h place in
     let moved = moved_text q c.args.octets.now c.put_seal_first.new.octets c.seal_start-start.result can c.put_seal_first.ensures in

@@ -1,12 +1,13 @@
 use Rattle.std.proofs.Common.{◌≡◌, ℕ, ◌-◌, List, ◌++◌, length, replicate, sym, ap, ◌∙◌, arith}
 use Rattle.roam_wire.specs.Packet.{Packet, packet_text}
-use Rattle.roam_fwd.specs.Forwarded.{Forwarding, forwarded}
+use Rattle.roam_fwd.specs.Forwarded.{Forwarding, forwarding, forwarded}
 use Rattle.roam_fwd.proofs.BufferLemmas.{appended_twice, HoldsRequest, can_be_rewritten, packet_of-there, from_start-is, written_back}
 use Rattle.roam_fwd.proofs.forwarding.forward_reserved.Goals as goal
 
--- behind the buffer's own octets stand a packet's
-pub rewrite-requires-clause-packet : goal.rewrite-requires-clause-packet
-rewrite-requires-clause-packet g c =
+-- behind the buffer's own octets stand those of a packet that can be forwarded, with room for what is
+-- added
+pub rewrite-requires-clause-rewritable : goal.rewrite-requires-clause-rewritable
+rewrite-requires-clause-rewritable g c =
     let old : List ℕ = c.args.out.now.items in
     let text : List ℕ = c.octets-text.result.now in
     let all : List ℕ = c.as_mut_slice.result.now in
@@ -14,52 +15,14 @@ rewrite-requires-clause-packet g c =
     let size : ℕ = c.forwarded_len-size.result in
     let zeros : List ℕ = replicate (size - length text) 0 in
     let held : HoldsRequest c.args.request.now start size old text all = record {
-      all-is = appended_twice old text zeros c.append_reserved.new.out.items c.append_zeros_reserved.new.out.items all c.append_reserved.ensures.items c.append_zeros_reserved.ensures.items c.as_mut_slice.ensures.value;
+      all-is = appended_twice old text zeros c.append_octets.new.out.items c.append_zeros.new.out.items all c.append_octets.ensures.items c.append_zeros.ensures.items c.as_mut_slice.ensures.value;
       start-is = c.len-start.ensures ∙ c.args.out.now.ok.0;
       text-is = c.octets-text.ensures.text;
       packet = c.octets-text.ensures.packet;
       size-is = c.forwarded_len-size.ensures.size;
       longer = c.forwarded_len-size.ensures.at_least;
     } in
-    (can_be_rewritten c.args.request.now start size old text all held c.requires.can_be_forwarded).packet
-
--- that can be forwarded
-pub rewrite-requires-clause-can_be_forwarded : goal.rewrite-requires-clause-can_be_forwarded
-rewrite-requires-clause-can_be_forwarded g c =
-    let old : List ℕ = c.args.out.now.items in
-    let text : List ℕ = c.octets-text.result.now in
-    let all : List ℕ = c.as_mut_slice.result.now in
-    let start : ℕ = c.len-start.result in
-    let size : ℕ = c.forwarded_len-size.result in
-    let zeros : List ℕ = replicate (size - length text) 0 in
-    let held : HoldsRequest c.args.request.now start size old text all = record {
-      all-is = appended_twice old text zeros c.append_reserved.new.out.items c.append_zeros_reserved.new.out.items all c.append_reserved.ensures.items c.append_zeros_reserved.ensures.items c.as_mut_slice.ensures.value;
-      start-is = c.len-start.ensures ∙ c.args.out.now.ok.0;
-      text-is = c.octets-text.ensures.text;
-      packet = c.octets-text.ensures.packet;
-      size-is = c.forwarded_len-size.ensures.size;
-      longer = c.forwarded_len-size.ensures.at_least;
-    } in
-    (can_be_rewritten c.args.request.now start size old text all held c.requires.can_be_forwarded).can_be_forwarded
-
--- with room for what is added
-pub rewrite-requires-clause-size : goal.rewrite-requires-clause-size
-rewrite-requires-clause-size g c =
-    let old : List ℕ = c.args.out.now.items in
-    let text : List ℕ = c.octets-text.result.now in
-    let all : List ℕ = c.as_mut_slice.result.now in
-    let start : ℕ = c.len-start.result in
-    let size : ℕ = c.forwarded_len-size.result in
-    let zeros : List ℕ = replicate (size - length text) 0 in
-    let held : HoldsRequest c.args.request.now start size old text all = record {
-      all-is = appended_twice old text zeros c.append_reserved.new.out.items c.append_zeros_reserved.new.out.items all c.append_reserved.ensures.items c.append_zeros_reserved.ensures.items c.as_mut_slice.ensures.value;
-      start-is = c.len-start.ensures ∙ c.args.out.now.ok.0;
-      text-is = c.octets-text.ensures.text;
-      packet = c.octets-text.ensures.packet;
-      size-is = c.forwarded_len-size.ensures.size;
-      longer = c.forwarded_len-size.ensures.at_least;
-    } in
-    (can_be_rewritten c.args.request.now start size old text all held c.requires.can_be_forwarded).size
+    can_be_rewritten c.args.request.now start size old text all held c.requires.can_be_forwarded
 
 -- the forwarded packet then stands there
 pub returns-clause-octets : goal.returns-clause-octets
@@ -71,24 +34,18 @@ returns-clause-octets g c =
     let size : ℕ = c.forwarded_len-size.result in
     let zeros : List ℕ = replicate (size - length text) 0 in
     let held : HoldsRequest c.args.request.now start size old text all = record {
-      all-is = appended_twice old text zeros c.append_reserved.new.out.items c.append_zeros_reserved.new.out.items all c.append_reserved.ensures.items c.append_zeros_reserved.ensures.items c.as_mut_slice.ensures.value;
+      all-is = appended_twice old text zeros c.append_octets.new.out.items c.append_zeros.new.out.items all c.append_octets.ensures.items c.append_zeros.ensures.items c.as_mut_slice.ensures.value;
       start-is = c.len-start.ensures ∙ c.args.out.now.ok.0;
       text-is = c.octets-text.ensures.text;
       packet = c.octets-text.ensures.packet;
       size-is = c.forwarded_len-size.ensures.size;
       longer = c.forwarded_len-size.ensures.at_least;
     } in
-    let f : Forwarding = record {
-      from_secret = c.args.from_secret.now;
-      to_secret = c.args.to_secret.now;
-      id = c.args.id;
-      authenticator = c.args.authenticator;
-      ticket = c.args.ticket;
-    } in
+    let f : Forwarding = forwarding c.args.from_secret.now c.args.to_secret.now c.args.id c.args.authenticator c.args.ticket in
     let written : List ℕ = c.rewrite.new.octets in
     let as_many : length written ≡ length (text ++ zeros) =
     omega (arith, c.rewrite.auto.octets, ap length (from_start-is start all old (text ++ zeros) held.all-is held.start-is)) in
-    let whole : c.append_zeros_reserved.new.out.len ≡ length all =
-    c.append_zeros_reserved.new.out.ok.0 ∙ ap length (sym c.as_mut_slice.ensures.value) in
-    written_back start c.append_zeros_reserved.new.out.len all old (text ++ zeros) written c.append_zeros_reserved.new.out.items held.all-is held.start-is as_many whole
+    let whole : c.append_zeros.new.out.len ≡ length all =
+    c.append_zeros.new.out.ok.0 ∙ ap length (sym c.as_mut_slice.ensures.value) in
+    written_back start c.append_zeros.new.out.len all old (text ++ zeros) written c.append_zeros.new.out.items held.all-is held.start-is as_many whole
     ∙ ap (λ (t : List ℕ). old ++ t) (c.rewrite.ensures ∙ ap (λ (p : Packet). packet_text (forwarded f p)) (packet_of-there c.args.request.now start size old text all held))

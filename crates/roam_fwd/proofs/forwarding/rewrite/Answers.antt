@@ -3,4 +3,4 @@ use Rattle.roam_fwd.proofs.forwarding.rewrite.Goals as goal
 
 -- the request ends within the slice
 pub front_packet-requires-clause-inside : goal.front_packet-requires-clause-inside
-front_packet-requires-clause-inside c = rewritten_within c.args.len c.args.octets.now c.requires.packet c.requires.size
+front_packet-requires-clause-inside c = rewritten_within c.args.len c.args.octets.now c.requires.rewritable

@@ -13,13 +13,13 @@ returns-clause-keeps g c =
       realm = record {
         kept_here = kept.kept_here;
         sound = record {
-          each = rw made.ticket kept.sound.each;
-          ticket = rw made.ticket kept.sound.ticket;
-          stream_position = rw made.stream_position kept.sound.stream_position;
-          lane_count = made.count ∙ kept.sound.lane_count;
+          each = rw made.keeps.ticket kept.sound.each;
+          ticket = rw made.keeps.ticket kept.sound.ticket;
+          stream_position = rw made.keeps.stream_position kept.sound.stream_position;
+          lane_count = made.keeps.count ∙ kept.sound.lane_count;
           lanes = made.lanes kept.sound.lanes;
           lanes_tell = made.tells es kept.sound.lanes_tell;
-          ledger = rw made.sessions kept.sound.ledger;
+          ledger = rw made.keeps.sessions kept.sound.ledger;
         };
         list = kept.list;
       };

@@ -21,18 +21,18 @@ returns-clause-keeps g c =
     let back = c.give_back.ensures in
     let made = c.change_ledger.ensures in
     let woken = c.wake.ensures in
-    let lanes = woken.lanes ∙ made.lanes in
+    let lanes = woken.lanes ∙ made.keeps.lanes in
     record {
       realm = record {
         kept_here = rw c.set_standing.ensures.keeps c.requires.realm.kept_here;
         sound = done-sound config t found.0 es _ c.in-Some.settled.done.reply c.in-Some.settled.done.deadline
             old.numbers.now c.wake.new.self c.requires.realm.sound found.1 become.here
             (rw lanes (back.tells found.0 es c.requires.realm.sound.lanes_tell here found.2))
-            (rw lanes back.count) (woken.ticket ∙ made.ticket ∙ back.ticket)
-            (woken.stream_position ∙ made.stream_position ∙ back.stream_position)
+            (rw lanes back.keeps.count) (woken.ticket ∙ made.keeps.ticket ∙ back.keeps.ticket)
+            (woken.stream_position ∙ made.keeps.stream_position ∙ back.keeps.stream_position)
             (rw lanes back.marks)
-            (ap (λ (l : Ledger). l.limit) (woken.sessions) ∙ made.limit
-            ∙ ap (λ (l : Ledger). l.limit) back.sessions);
+            (ap (λ (l : Ledger). l.limit) (woken.sessions) ∙ made.keeps.limit
+            ∙ ap (λ (l : Ledger). l.limit) back.keeps.sessions);
         list = rw become.here (list-standing _ found.0 es c.requires.realm.list here);
       };
       loans = record {

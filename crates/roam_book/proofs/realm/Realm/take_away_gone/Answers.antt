@@ -29,8 +29,8 @@ returns-in-Some-waits_at-clause-keeps g c =
         kept_here = rw c.remove-gone.ensures.keeps kept.kept_here;
         sound = rw left (gone-waiting old.settings.now es old.numbers.now c.give_back.new.self
             c.args.gone c.in-Some.gone c.in-Some-waits_at.link c.in-Some-waits_at.id kept.sound
-            c.requires.gone c.in-Some.is c.in-Some-waits_at.is back.tells back.ticket
-            back.stream_position back.sessions back.count back.marks);
+            c.requires.gone c.in-Some.is c.in-Some-waits_at.is back.tells back.keeps.ticket
+            back.keeps.stream_position back.keeps.sessions back.keeps.count back.marks);
         list = rw left (list-besides (gone_ticket c.args.gone) es kept.list);
       };
       loans = record {

@@ -13,19 +13,15 @@ index_mut-requires g c =
     omega (arith, l.lane.ok.0, some)
 
 -- it is the one that is seen
-pub free-requires-clause-tag : goal.free-requires-clause-tag
-free-requires-clause-tag g c =
+pub free-requires : goal.free-requires
+free-requires g c =
     let l = c.self.inside in
     let some = kept-out l.tag l.lane.items c.args.self.now c.args.slot.id c.self.view_is c.requires.out in
     let same = kept-first l.tag l.lane.items c.args.self.now c.index_mut.result.now c.self.view_is some c.index_mut.ensures.value in
-    c.requires.tag ∙ ap (λ (lane : LaneState). lane.tag) (sym same)
-
-pub free-requires-clause-out : goal.free-requires-clause-out
-free-requires-clause-out g c =
-    let l = c.self.inside in
-    let some = kept-out l.tag l.lane.items c.args.self.now c.args.slot.id c.self.view_is c.requires.out in
-    let same = kept-first l.tag l.lane.items c.args.self.now c.index_mut.result.now c.self.view_is some c.index_mut.ensures.value in
-    ap (λ (lane : LaneState). place_at lane c.args.slot.id) same ∙ c.requires.out
+    record {
+      tag = c.requires.tag ∙ ap (λ (lane : LaneState). lane.tag) (sym same);
+      out = ap (λ (lane : LaneState). place_at lane c.args.slot.id) same ∙ c.requires.out;
+    }
 
 -- and it is written in its place
 pub returns-clause-free : goal.returns-clause-free

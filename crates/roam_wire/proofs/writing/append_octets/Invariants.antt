@@ -1,6 +1,6 @@
 use Rattle.std.proofs.Common.{◌≡◌, ◌++◌, take}
 use Rattle.std.specs.Prelude.{vec_capacity}
-use Rattle.roam_back.proofs.appending.append_reserved.Given as goal
+use Rattle.roam_wire.proofs.writing.append_octets.Given as goal
 
 -- the octets so far are appended, and the room is the same
 abbrev pub invariant-loop-octet : goal.invariant-loop-octet

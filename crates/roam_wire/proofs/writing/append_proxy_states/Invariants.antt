@@ -1,8 +1,8 @@
 use Rattle.std.proofs.Common.{◌≡◌, vec_len, vec_capacity}
 use Rattle.roam_wire.specs.Attributes.{has_kind}
 use Rattle.roam_wire.specs.declared.attribute_type.TheConstants.{PROXY_STATE}
-use Rattle.roam_back.proofs.KeptLemmas.{IsAppending}
-use Rattle.roam_back.proofs.appending.append_proxy_states.Given as goal
+use Rattle.roam_wire.proofs.KeptLemmas.{IsAppending}
+use Rattle.roam_wire.proofs.writing.append_proxy_states.Given as goal
 
 -- all that are appended but those that are left were appended, and there is room for these
 abbrev pub invariant-loop-next : goal.invariant-loop-next

@@ -1,7 +1,7 @@
 use Rattle.std.proofs.Common.{◌≤◌, ◌+◌, length, rules, arith}
 use Rattle.roam_wire.specs.Shown.{shown}
-use Rattle.roam_back.proofs.KeptLemmas.{IsCount-kept, IsCount-within}
-use Rattle.roam_back.proofs.appending.proxy_states_len.Goals as goal
+use Rattle.roam_wire.proofs.KeptLemmas.{IsCount-kept, IsCount-within}
+use Rattle.roam_wire.proofs.writing.proxy_states_len.Goals as goal
 
 -- what is counted, with this attribute, stays within the packet
 pub overflow_add-size-then-attribute-eq-PROXY_STATE : goal.overflow_add-size-then-attribute-eq-PROXY_STATE

@@ -3,8 +3,8 @@ use Rattle.roam_wire.specs.Packet.{Packet, packet_text}
 use Rattle.roam_wire.specs.Reading.{packet_of}
 use Rattle.roam_auth.specs.Authenticators.{signed_reply}
 use Rattle.roam_auth.specs.MessageAuthenticator.{with_message_authenticator}
-use Rattle.roam_back.proofs.SignedLemmas.{IsPacketText-sealed, packet_of-sealed}
-use Rattle.roam_back.proofs.returning.seal_and_sign.Goals as goal
+use Rattle.roam_auth.proofs.SignedLemmas.{IsPacketText-sealed, packet_of-sealed}
+use Rattle.roam_auth.proofs.in_place.seal_and_sign.Goals as goal
 
 -- what was sealed is still a packet's octets
 pub sign_reply-requires-clause-packet : goal.sign_reply-requires-clause-packet

@@ -1,6 +1,6 @@
 use Rattle.std.proofs.Common.{◌≡◌, ◌++◌, replicate}
 use Rattle.std.specs.Prelude.{vec_capacity}
-use Rattle.roam_fwd.proofs.forwarding.append_zeros_reserved.Given as goal
+use Rattle.roam_wire.proofs.writing.append_zeros.Given as goal
 
 -- so many zeros are appended, and the room is the same
 abbrev pub invariant-loop-k : goal.invariant-loop-k

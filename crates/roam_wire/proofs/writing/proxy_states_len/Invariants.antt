@@ -1,7 +1,7 @@
 use Rattle.roam_wire.specs.Attributes.{has_kind}
 use Rattle.roam_wire.specs.declared.attribute_type.TheConstants.{PROXY_STATE}
-use Rattle.roam_back.proofs.KeptLemmas.{IsCount}
-use Rattle.roam_back.proofs.appending.proxy_states_len.Given as goal
+use Rattle.roam_wire.proofs.KeptLemmas.{IsCount}
+use Rattle.roam_wire.proofs.writing.proxy_states_len.Given as goal
 
 -- the octets of all that count but those that are left were counted
 abbrev pub invariant-loop-attribute : goal.invariant-loop-attribute
