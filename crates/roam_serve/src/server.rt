@@ -437,6 +437,25 @@ fn serve_to_end<
     Ok(())
 }
 
+/// The same, where the threads have started that outlast each configuration.
+fn serve_started<
+    R: Threads + Wait + Clock + Net + RandomSource + Log + Sync,
+    G: Gate + Sync,
+    S: Source,
+>(
+    have_started: bool,
+    parts: &mut ServerParts<'_, R, G, S>,
+    configured: Configured,
+    means: Means,
+) -> Result<(), ServeFault>
+    ensures { IfErr result IsAfterBinding }
+{
+    if !have_started {
+        return Err(ServeFault::Thread);
+    }
+    serve_to_end(parts, configured, means)
+}
+
 /// Serves a configuration, and each one that follows, with the threads that outlast them.
 fn serve_with<
     R: Threads + Wait + Clock + Net + RandomSource + Log + Sync,
@@ -469,11 +488,8 @@ fn serve_with<
         |scope| -> Result<(), ServeFault>
             ensures { IfErr result IsAfterBinding }
         {
-            let served = if start_behind(scope, rt, alloc, behind) {
-                serve_to_end(parts, configured, means)
-            } else {
-                Err(ServeFault::Thread)
-            };
+            let have_started = start_behind(scope, rt, alloc, behind);
+            let served = serve_started(have_started, parts, configured, means);
             office.close();
             old_history.wake();
             served
