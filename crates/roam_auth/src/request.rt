@@ -1,7 +1,7 @@
 //! The Request Authenticator of accounting and reverse requests (RFC 2866, section 3; RFC 5176,
 //! section 2.3).
 
-ghost use Rattle.std.specs.Prelude.{◌≡◌, ◌↔◌, ◌≤◌, IsTrue, length};
+ghost use Rattle.std.specs.Prelude.{◌≡◌, ◌↔◌, IsTrue};
 ghost use Rattle.roam_wire.specs.Secret.{IsSecret};
 ghost use Rattle.roam_auth.specs.Authenticators.{request_authenticator, IsSignedRequest};
 

@@ -1,6 +1,6 @@
 //! The Response Authenticator (RFC 2865, section 3).
 
-ghost use Rattle.std.specs.Prelude.{◌≡◌, ◌↔◌, ◌≤◌, IsTrue, length};
+ghost use Rattle.std.specs.Prelude.{◌≡◌, ◌↔◌, IsTrue};
 ghost use Rattle.roam_wire.specs.Secret.{IsSecret};
 ghost use Rattle.roam_auth.specs.Authenticators.{response_authenticator, IsSignedReply};
 

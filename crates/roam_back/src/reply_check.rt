@@ -1,7 +1,7 @@
 //! Which replies are taken (RFC 2865, section 2.3): by their code, their Response Authenticator and
 //! their Message-Authenticator.
 
-ghost use Rattle.std.specs.Prelude.{◌≡◌, ◌⊎◌, ◌↔◌, ◌≤◌, IsTrue, IsOk, IfErr, IsErrOf, length};
+ghost use Rattle.std.specs.Prelude.{◌≡◌, ◌⊎◌, ◌↔◌, IsTrue, IsOk, IfErr, IsErrOf};
 ghost use Rattle.roam_wire.specs.Secret.{IsSecret};
 ghost use Rattle.std.specs.Result.{result_err};
 ghost use Rattle.roam_auth.specs.Authenticators.{IsSignedReply};

@@ -2,7 +2,7 @@
 //! request is forwarded.
 
 ghost use Rattle.std.specs.Prelude.{◌≡◌, ℕ, ◌+◌, ◌<◌, ◌≤◌, ◌^◌, ◌∷◌, [], true, IfErr};
-ghost use Rattle.std.specs.Prelude.{IfOk, OnOk, is_some, length};
+ghost use Rattle.std.specs.Prelude.{IfOk, OnOk, is_some};
 ghost use Rattle.roam_wire.specs.Reading.{IsPacketText, packet_of};
 ghost use Rattle.roam_fwd.specs.Forwarded.{forwarded_length};
 ghost use Rattle.roam_pending.specs.PlainEntry.{PlainRequest};

@@ -1,13 +1,13 @@
 //! What comes of a reply for the entry that it is for (RFC 2865, section 2.3).
 
 ghost use Rattle.std.specs.Prelude.{◌≡◌, ◌⊎◌, ◌↔◌, ℕ, ◌<◌, ◌≤◌, ◌^◌, [], true, IfErr};
-ghost use Rattle.std.specs.Prelude.{IfNone, IfOk, IsErrOf, IsOk, length};
+ghost use Rattle.std.specs.Prelude.{IfNone, IfOk, IsErrOf, IsOk};
 ghost use Rattle.roam_wire.specs.Reading.{packet_of};
 ghost use Rattle.roam_wire.specs.Secret.{IsSecret};
 ghost use Rattle.roam_back.specs.ReplyCheck.{IsTaken};
 ghost use Rattle.roam_back.specs.Returned.{returned_length};
 ghost use Rattle.roam_pending.specs.PlainEntry.{PlainEntry, waits_at};
-ghost use Rattle.roam_pending.specs.Shown.{shown, shown_request, shown_standing};
+ghost use Rattle.roam_pending.specs.Shown.{shown, shown_request};
 ghost use Rattle.roam_book.specs.RealmConfig.{IsLink, RealmConfig, link_secret, seal_required};
 ghost use Rattle.roam_book.specs.RealmState.{RealmState};
 ghost use Rattle.roam_book.specs.Turn.{packets_of, refuses};

@@ -1,6 +1,7 @@
 //! The broker over a list of books, one for each realm.
 
-ghost use Rattle.std.specs.Prelude.{◌≡◌, ◌+◌, ◌<◌, ◌≤◌, ◌^◌, ◌++◌, [], ◌∷◌, Some, None, false, true, length, slice_set, IfOk, IsErr, vec_len, vec_capacity};
+ghost use Rattle.std.specs.Prelude.{◌≡◌, ◌+◌, ◌<◌, ◌≤◌, ◌^◌, ◌++◌, [], ◌∷◌, Some};
+ghost use Rattle.std.specs.Prelude.{None, false, true, length, slice_set, IfOk, IsErr, vec_len, vec_capacity};
 ghost use Rattle.roam_conf.specs.Shown.{shown};
 ghost use Rattle.roam_route.specs.Admission.{admitted, admission};
 ghost use Rattle.roam_route.specs.Events.{IsEvent};

@@ -2,9 +2,13 @@
 //! configurations, states and events.
 
 ghost use Rattle.roam_core.specs.Alone.{OneRealmIsAlone};
-ghost use Rattle.roam_core.specs.Isolation.{EachIsIsolatedFromStart, EachLedgerIsIsolated, EachRealmIsIsolated, EachRealmOpens, EachRealmStandsAlone, SameInTwoWorlds, SameInTwoWorldsFromStart};
+ghost use Rattle.roam_core.specs.Isolation.{EachIsIsolatedFromStart, EachLedgerIsIsolated, EachRealmIsIsolated};
+ghost use Rattle.roam_core.specs.Isolation.{EachRealmOpens, EachRealmStandsAlone, SameInTwoWorlds};
+ghost use Rattle.roam_core.specs.Isolation.{SameInTwoWorldsFromStart};
 ghost use Rattle.roam_core.specs.OwnPart.{SameOwnEvents, SamePacketsOfOwnPart};
-ghost use Rattle.roam_core.specs.ProvenanceLaws.{DrawsAreApart, EachEntryHasOrigin, EachPacketHasOrigin, OneRequestHasTicket, TicketIsGivenOnce, WordsAreDrawnInOrder, WordsAreDrawnOnce};
+ghost use Rattle.roam_core.specs.ProvenanceLaws.{DrawsAreApart, EachEntryHasOrigin, EachPacketHasOrigin};
+ghost use Rattle.roam_core.specs.ProvenanceLaws.{OneRequestHasTicket, TicketIsGivenOnce, WordsAreDrawnInOrder};
+ghost use Rattle.roam_core.specs.ProvenanceLaws.{WordsAreDrawnOnce};
 
 /// Whatever the events, what the broker sends for a realm, and how the realm then stands, is what the
 /// written broker of that one realm does with the realm's own events.

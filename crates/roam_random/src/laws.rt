@@ -1,6 +1,7 @@
 //! Laws of the random words, for callers' proofs. They do nothing when they run.
 
-ghost use Rattle.roam_random.specs.Laws.{AuthenticatorsAreOctets, AuthenticatorsHave16Octets, NextPositionsAreInTheStream, PositionsCountModuloTheStream};
+ghost use Rattle.roam_random.specs.Laws.{AuthenticatorsAreOctets, AuthenticatorsHave16Octets};
+ghost use Rattle.roam_random.specs.Laws.{NextPositionsAreInTheStream, PositionsCountModuloTheStream};
 
 /// A Request Authenticator has 16 octets, each of them a number below 256.
 pub fn authenticators_have_16_octets()

@@ -1,6 +1,7 @@
 //! The sessions of a ledger in the order in which they were opened.
 
-ghost use Rattle.std.specs.Prelude.{◌≡◌, ℕ, ◌+◌, ◌-◌, ◌<◌, ◌≤◌, [], ◌∷◌, ◌++◌, None, Some, IsOk, IsSome, OnOk, OnErr, drop};
+ghost use Rattle.std.specs.Prelude.{◌≡◌, ℕ, ◌+◌, ◌-◌, ◌<◌, ◌≤◌, [], ◌∷◌, ◌++◌};
+ghost use Rattle.std.specs.Prelude.{None, Some, IsOk, IsSome, OnOk, OnErr, drop};
 ghost use Rattle.roam_reverse.specs.Sessions.{Session, without_peer};
 ghost use Rattle.roam_reverse.specs.Shown.{shown_session};
 ghost use Rattle.roam_reverse.specs.Stands.{IsSound, chain_of, sessions_of};

@@ -3,7 +3,9 @@
 
 ghost use Rattle.roam_reverse.specs.CauseLaws.{ForwardedHasTarget, ForwardedNamesTheRealm, NamedRequestsNeedNoSession};
 ghost use Rattle.roam_reverse.specs.Constants.{ErrorCauses, StatusTypes};
-ghost use Rattle.roam_reverse.specs.SessionLaws.{ClosedIsGone, LimitOfNoneHoldsNone, NoneOfThePeerIsLeft, OpenedIsThere, OpenedTwiceIsOpenedOnce, OtherPeersSessionsStay, OthersStayOpen, RequestsKeepTheLedger};
+ghost use Rattle.roam_reverse.specs.SessionLaws.{ClosedIsGone, LimitOfNoneHoldsNone, NoneOfThePeerIsLeft};
+ghost use Rattle.roam_reverse.specs.SessionLaws.{OpenedIsThere, OpenedTwiceIsOpenedOnce, OtherPeersSessionsStay};
+ghost use Rattle.roam_reverse.specs.SessionLaws.{OthersStayOpen, RequestsKeepTheLedger};
 ghost use Rattle.roam_reverse.specs.TargetLaws.{NamelessIsForNone, NoTargetIsThere, TargetIsTheFirst};
 
 /// The target is the first peer that takes reverse requests and fits.

@@ -1,7 +1,8 @@
 //! The ledger of a realm's open sessions.
 
 ghost use Rattle.std.specs.Prelude.{◌≡◌, ◌<◌, ◌≤◌, [], IfOk, IsOk, OnOk, OnErr, length};
-ghost use Rattle.roam_reverse.specs.Sessions.{IsLedger, applied, change_by_request, changed, closes_all, has_session, with_session, without_session, without_peer};
+ghost use Rattle.roam_reverse.specs.Sessions.{IsLedger, applied, change_by_request, changed, closes_all, has_session};
+ghost use Rattle.roam_reverse.specs.Sessions.{with_session, without_session, without_peer};
 ghost use Rattle.roam_reverse.specs.Shown.{HasRoomFor, shown_session};
 
 use crate::accounting::{Said, said_by};

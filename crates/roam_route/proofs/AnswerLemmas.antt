@@ -1,5 +1,5 @@
 -- The local answers: how they are filled, sealed and signed.
-use Rattle.std.proofs.Common.{◌≡◌, ◌⊎◌, ◌↔◌, ℕ, ◌+◌, ◌≤◌, ◌<◌, Bool, true, false, inl, inr, List, [], ◌∷◌, ◌++◌, length, take, drop, filter, refl, sym, ap, subst, ◌∙◌, arith, length-append, append_assoc, lit<, lit≤}
+use Rattle.std.proofs.Common.{◌≡◌, ◌⊎◌, ◌↔◌, ℕ, ◌+◌, ◌≤◌, ◌<◌, true, false, inl, inr, List, [], ◌∷◌, ◌++◌, length, take, drop, refl, sym, ap, subst, ◌∙◌, arith, length-append, append_assoc, lit<, lit≤}
 use Rattle.std.specs.List.{AllByRecursion}
 use Rattle.std.proofs.lemmas.Bool.{cases_Bool, eqb-true}
 use Rattle.std.specs.Prelude.{if◌then◌else◌, Result, Ok, Err, IfErr, IsErrOf}
@@ -7,7 +7,7 @@ use Rattle.std.proofs.lemmas.Bool.Decides.{nat_tests}
 use Rattle.std.proofs.lemmas.List.{append-nil, take_at}
 use Rattle.std.proofs.lemmas.List.Sums.{sum_by-cons}
 use Rattle.roam_wire.specs.Packet.{Attribute, IsAttribute, Packet, IsPacket, attribute_text, attributes_text, packet_length, packet_text}
-use Rattle.roam_wire.specs.Reading.{IsPacketText, ReadsAs, packet_of}
+use Rattle.roam_wire.specs.Reading.{ReadsAs, packet_of}
 use Rattle.roam_wire.specs.Attributes.{has_kind, count_of, only_kind}
 use Rattle.roam_wire.specs.declared.refusal.Refusal.{Refusal}
 use Rattle.roam_wire.specs.declared.refusal.Refusal.TheVariants as refusal
@@ -17,13 +17,13 @@ use Rattle.roam_route.specs.Admission.{has_seal}
 use Rattle.roam_wire.specs.declared.attribute_type.TheConstants.{MESSAGE_AUTHENTICATOR, PROXY_STATE}
 use Rattle.roam_wire.proofs.KeptLemmas.{length-kept_text}
 use Rattle.roam_wire.proofs.OctetLemmas.{AreOctets-zeros}
-use Rattle.roam_wire.proofs.PacketLemmas.{IsPacketText-packet_text, length-packet_text, packet_of-packet_text, ReadsAs-packet_text}
+use Rattle.roam_wire.proofs.PacketLemmas.{length-packet_text, packet_of-packet_text, ReadsAs-packet_text}
 use Rattle.roam_auth.specs.Authenticators.{IsSignedReply, signed_reply, response_authenticator}
-use Rattle.roam_auth.specs.MessageAuthenticator.{IsWellSealed, StandsFirst, empty_message_authenticator, HasOneMessageAuthenticator, HasAtMostOneMessageAuthenticator, message_authenticator, with_message_authenticator, attributes_with_value}
-use Rattle.roam_auth.proofs.DigestLemmas.{IsPacket-signed_reply, sixteen-message_authenticator, length-message_authenticator}
+use Rattle.roam_auth.specs.MessageAuthenticator.{IsWellSealed, StandsFirst, empty_message_authenticator, HasOneMessageAuthenticator, message_authenticator, with_message_authenticator, attributes_with_value}
+use Rattle.roam_auth.proofs.DigestLemmas.{IsPacket-signed_reply, length-message_authenticator}
 use Rattle.roam_auth.proofs.SignedLemmas.{IsPacket-sealed}
 use Rattle.roam_auth.proofs.SealLemmas.{IsWellSealed-sealed, IsWellSealed-with_authenticator}
-use Rattle.roam_auth.proofs.ValueLemmas.{IsPacket-with_value, IsSized, all_sized, count_of-no, packet_length-with_value}
+use Rattle.roam_auth.proofs.ValueLemmas.{IsSized, all_sized, count_of-no, packet_length-with_value}
 use Rattle.roam_auth.proofs.SealingLemmas.{length-attributes_text-append}
 use Rattle.roam_route.specs.LocalAnswer.{local_answer, answer_length, unsealed_answer, status_code}
 use Rattle.roam_conf.specs.declared.place.Place.{Place}

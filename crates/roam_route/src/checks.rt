@@ -1,6 +1,6 @@
 //! The checks of a request: its signature, its seal, its passwords.
 
-ghost use Rattle.std.specs.Prelude.{◌≡◌, ◌≤◌, [], ◌∷◌, false, length, not, option_map};
+ghost use Rattle.std.specs.Prelude.{◌≡◌, [], ◌∷◌, false, not, option_map};
 ghost use Rattle.roam_wire.specs.Secret.{IsSecret};
 ghost use Rattle.std.specs.Option.{option_map_or};
 ghost use Rattle.roam_auth.specs.Deciding.{is_well_sealed};

@@ -1,6 +1,6 @@
 //! Who sent a datagram, the secret shared with it, and the codes that are taken from it.
 
-ghost use Rattle.std.specs.Prelude.{◌≡◌, ℕ, ◌<◌, ◌≤◌, Some, length, vec_len};
+ghost use Rattle.std.specs.Prelude.{◌≡◌, ℕ, ◌<◌, Some, vec_len};
 ghost use Rattle.roam_conf.specs.Shown.{shown};
 ghost use Rattle.roam_wire.specs.Codes.{is_reverse_reply, is_reverse_request};
 ghost use Rattle.roam_wire.specs.Secret.{IsSecret};

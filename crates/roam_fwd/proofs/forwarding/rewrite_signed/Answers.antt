@@ -1,4 +1,4 @@
-use Rattle.std.proofs.Common.{ℕ, ◌<◌, List, [], take, subst, sym}
+use Rattle.std.proofs.Common.{ℕ, ◌<◌, List, take, subst, sym}
 use Rattle.roam_wire.specs.Reading.{packet_of}
 use Rattle.roam_auth.specs.MessageAuthenticator.{HasAtMostOneMessageAuthenticator}
 use Rattle.roam_fwd.specs.Forwarded.{Forwarding}
