@@ -21,38 +21,11 @@ mod row;
 mod stage;
 
 use crate::ends::Ends;
-use crate::row::{ROWS, Row, TAKEN};
+use crate::row::{ROWS, TAKEN};
 use crate::stage::Stage;
-use log::Log;
 use roam_serve::{NoSource, ServeFault, ServeOptions, Watch, serve};
-use std::alloc::Global;
-use std::net::Net;
-use std::random::RandomSource;
-use std::rt::Files;
-use std::sync::Wait;
 use std::sync::atomic::AtomicU64;
-use std::thread::Threads;
-use std::time::Clock;
 use std::{io, thread};
-
-/// How a second server of a row ends.
-fn second<R: Files + RandomSource + Threads + Wait + Clock + Net + Log + Sync>(
-    stage: &Stage<'_, R>,
-    rt: &R,
-    alloc: Global,
-    row: Row,
-) -> Result<(), ServeFault> {
-    let Some(Ok(config)) = row.config(stage, rt, alloc) else {
-        return Err(ServeFault::Memory);
-    };
-    let options = ServeOptions {
-        watch: None,
-        are_exchanges_told: true,
-        milliseconds: Some(row.milliseconds()),
-        gate: &stage.turnstile,
-    };
-    serve(stage, alloc, config, options, &mut NoSource { alloc })
-}
 
 fn main(rt: HostRuntime) -> io::Result<()> {
     let alloc = rt.alloc();
@@ -61,6 +34,7 @@ fn main(rt: HostRuntime) -> io::Result<()> {
         let stage = &Stage::new(&rt, row, &earlier);
         let gate = &stage.turnstile;
         let time = Some(row.milliseconds());
+        let second = row.second(stage, &rt, alloc);
         let verdict = match (row.config(stage, &rt, alloc), Ends::bind(&rt, row)) {
             (Some(Ok(config)), Ok(ends)) => {
                 let counted = row.counters(alloc, &config);
@@ -87,8 +61,17 @@ fn main(rt: HostRuntime) -> io::Result<()> {
                         served
                     });
                     let mut acted = row.act(stage, &ends, alloc);
-                    if row.has_second() && second(stage, &rt, alloc, row) != TAKEN {
-                        acted = Err("a second server has the ports too");
+                    if let Some(config) = second {
+                        let none = &mut NoSource { alloc };
+                        let options = ServeOptions {
+                            watch: None,
+                            are_exchanges_told: true,
+                            milliseconds: time,
+                            gate,
+                        };
+                        if serve(stage, alloc, config, options, none) != TAKEN {
+                            acted = Err("a second server has the ports too");
+                        }
                     }
                     if row.ends_early() {
                         stage.end();
