@@ -51,7 +51,7 @@ fn options<'s>(
     watch: Option<Watch<'s>>,
     settings: &Settings,
     milliseconds: Option<u64>,
-) -> ServeOptions<'s, 's, Open> {
+) -> ServeOptions<'s, Open> {
     ServeOptions {
         watch,
         are_exchanges_told: settings.log_exchanges,

@@ -51,25 +51,25 @@ use std::time::{Clock, Instant};
 
 /// How a server serves.
 #[derive(Drop)]
-pub struct ServeOptions<'w, 'g, G> {
+pub struct ServeOptions<'s, G> {
     /// Where what its threads do is counted, and who may ask for that; none where nobody watches it.
-    pub watch: Option<Watch<'w>>,
+    pub watch: Option<Watch<'s>>,
     /// Whether a line tells of each exchange that ends.
     pub are_exchanges_told: bool,
     /// For how long it serves; none where that has no end.
     pub milliseconds: Option<u64>,
     /// Called while a lock is held.
-    pub gate: &'g G,
+    pub gate: &'s G,
 }
 
 /// What outlasts each configuration that a server serves.
 #[derive(Drop)]
-struct ServerParts<'s, 'w, R, G, S> {
+struct ServerParts<'s, R, G, S> {
     rt: &'s R,
     alloc: Global,
     gate: &'s G,
     losses: &'s SharedLosses,
-    watch: Option<Watch<'w>>,
+    watch: Option<Watch<'s>>,
     old_history: &'s OldHistory,
     office: &'s Office,
     stopping: &'s Stopping,
@@ -146,7 +146,7 @@ fn run<
     N: Opened + Send + Sync,
     S: Source,
 >(
-    parts: &mut ServerParts<'_, '_, R, G, S>,
+    parts: &mut ServerParts<'_, R, G, S>,
     configured: &'c Configured,
     hub: &Hub<'c, Global, N>,
     seat: Seat<Global, N>,
@@ -238,7 +238,7 @@ fn run_hub<
     G: Gate + Sync,
     S: Source,
 >(
-    parts: &mut ServerParts<'_, '_, R, G, S>,
+    parts: &mut ServerParts<'_, R, G, S>,
     configured: &'c Configured,
     hub: Hub<'c, Global, N>,
     seat: Seat<Global, N>,
@@ -274,7 +274,7 @@ fn serve_first<
     G: Gate + Sync,
     S: Source,
 >(
-    parts: &mut ServerParts<'_, '_, R, G, S>,
+    parts: &mut ServerParts<'_, R, G, S>,
     configured: &Configured,
     starts: &[Start],
     blanks: Blanks<Global>,
@@ -299,7 +299,7 @@ fn serve_over<
     G: Gate + Sync,
     S: Source,
 >(
-    parts: &mut ServerParts<'_, '_, R, G, S>,
+    parts: &mut ServerParts<'_, R, G, S>,
     configured: &Configured,
     shards: Vec<Paused<Global>>,
     blanks: Blanks<Global>,
@@ -335,7 +335,7 @@ fn means_for(kits: Kits, outboxes: Vec<Outbox<Global>>, reply: Reply, before: Co
 /// Has the server go on with the configuration that is to follow, or where memory is wanting with the one of before. Answers
 /// what its threads are made of.
 fn change<R, G, S>(
-    parts: &ServerParts<'_, '_, R, G, S>,
+    parts: &ServerParts<'_, R, G, S>,
     configured: &mut Configured,
     shards: &mut Vec<Paused<Global>>,
     next: Next,
@@ -368,7 +368,7 @@ fn serve_next<
     G: Gate + Sync,
     S: Source,
 >(
-    parts: &mut ServerParts<'_, '_, R, G, S>,
+    parts: &mut ServerParts<'_, R, G, S>,
     configured: &mut Configured,
     mut shards: Vec<Paused<Global>>,
     next: Next,
@@ -389,7 +389,7 @@ fn serve_all<
     G: Gate + Sync,
     S: Source,
 >(
-    parts: &mut ServerParts<'_, '_, R, G, S>,
+    parts: &mut ServerParts<'_, R, G, S>,
     configured: &mut Configured,
     means: Means,
 ) -> Result<u64, ServeFault>
@@ -423,7 +423,7 @@ fn serve_to_end<
     G: Gate + Sync,
     S: Source,
 >(
-    parts: &mut ServerParts<'_, '_, R, G, S>,
+    parts: &mut ServerParts<'_, R, G, S>,
     mut configured: Configured,
     means: Means,
 ) -> Result<(), ServeFault>
@@ -444,7 +444,7 @@ fn serve_started<
     S: Source,
 >(
     have_started: bool,
-    parts: &mut ServerParts<'_, '_, R, G, S>,
+    parts: &mut ServerParts<'_, R, G, S>,
     configured: Configured,
     means: Means,
 ) -> Result<(), ServeFault>
@@ -462,7 +462,7 @@ fn serve_with<
     G: Gate + Sync,
     S: Source,
 >(
-    parts: &mut ServerParts<'_, '_, R, G, S>,
+    parts: &mut ServerParts<'_, R, G, S>,
     listener: Option<&TcpListener>,
     configured: Configured,
     means: Means,
@@ -511,7 +511,7 @@ pub fn serve<
     rt: &R,
     alloc: Global,
     config: Config,
-    options: ServeOptions<'_, '_, G>,
+    options: ServeOptions<'_, G>,
     source: &mut S,
 ) -> Result<(), ServeFault>
     ensures { IfErr result (IsFaultOf (shown config)) }

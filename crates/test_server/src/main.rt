@@ -21,40 +21,45 @@ mod row;
 mod stage;
 
 use crate::ends::Ends;
-use crate::row::{ROWS, TAKEN};
+use crate::row::{ROWS, Row, TAKEN};
 use crate::stage::Stage;
 use roam_serve::{NoSource, ServeFault, ServeOptions, Watch, serve};
 use std::sync::atomic::AtomicU64;
 use std::{io, thread};
 
+/// Who watches the server of a row.
+fn watch<'s, R>(stage: &'s Stage<'_, R>, row: Row) -> Option<Watch<'s>> {
+    match &stage.counters {
+        Some(counters) => Some(Watch {
+            counters,
+            metrics: row.metrics(),
+            control: None,
+        }),
+        None => None,
+    }
+}
+
 fn main(rt: HostRuntime) -> io::Result<()> {
     let alloc = rt.alloc();
     let earlier = AtomicU64::new(0);
     for row in ROWS {
-        let stage = &Stage::new(&rt, row, &earlier);
-        let gate = &stage.turnstile;
-        let time = Some(row.milliseconds());
-        let second = row.second(stage, &rt, alloc);
-        let verdict = match (row.config(stage, &rt, alloc), Ends::bind(&rt, row)) {
+        let mut stage = Stage::new(&rt, row, &earlier);
+        let second = row.second(&stage, &rt, alloc);
+        let config = row.config(&stage, &rt, alloc);
+        if let Some(Ok(config)) = &config {
+            stage.counters = row.counters(alloc, config);
+        }
+        let stage = &stage;
+        let verdict = match (config, Ends::bind(&rt, row)) {
             (Some(Ok(config)), Ok(ends)) => {
-                let counted = row.counters(alloc, &config);
-                let counters = counted.as_ref();
-                let watch = match counters {
-                    Some(counters) => Some(Watch {
-                        counters,
-                        metrics: row.metrics(),
-                        control: None,
-                    }),
-                    None => None,
-                };
                 let (acted, served) = thread::scope(thread::scope_env(), &rt, |scope| {
                     let server = scope.spawn(move || {
                         let none = &mut NoSource { alloc };
                         let options = ServeOptions {
-                            watch,
+                            watch: watch(stage, row),
                             are_exchanges_told: true,
-                            milliseconds: time,
-                            gate,
+                            milliseconds: Some(row.milliseconds()),
+                            gate: &stage.turnstile,
                         };
                         let served = serve(stage, alloc, config, options, none);
                         stage.note_end();
@@ -66,8 +71,8 @@ fn main(rt: HostRuntime) -> io::Result<()> {
                         let options = ServeOptions {
                             watch: None,
                             are_exchanges_told: true,
-                            milliseconds: time,
-                            gate,
+                            milliseconds: Some(row.milliseconds()),
+                            gate: &stage.turnstile,
                         };
                         if serve(stage, alloc, config, options, none) != TAKEN {
                             acted = Err("a second server has the ports too");
@@ -81,9 +86,9 @@ fn main(rt: HostRuntime) -> io::Result<()> {
                         Err(_) => (acted, Err(ServeFault::Memory)),
                     }
                 });
-                row.verdict(stage, acted, served, counters)
+                row.verdict(stage, acted, served)
             }
-            (Some(Err(fault)), _) => row.verdict(stage, Ok(()), Err(fault), None),
+            (Some(Err(fault)), _) => row.verdict(stage, Ok(()), Err(fault)),
             _ => "the configuration or the sockets of the test can't be had",
         };
         let name = row.name();

@@ -256,7 +256,6 @@ impl Row {
         stage: &Stage<'_, R>,
         acted: Verdict,
         served: Result<(), ServeFault>,
-        counters: Option<&Counters>,
     ) -> Verdict {
         acted?;
         if served != self.wanted() {
@@ -268,7 +267,7 @@ impl Row {
         if stage.serving.load(Ordering::SeqCst) != self.servings() {
             return Err("that it serves isn't told as it should be");
         }
-        if let Some(counters) = counters {
+        if let Some(counters) = &stage.counters {
             counted::judge(self, counters)?;
         }
         match self {
@@ -298,9 +297,8 @@ impl Row {
         stage: &Stage<'_, R>,
         acted: Verdict,
         served: Result<(), ServeFault>,
-        counters: Option<&Counters>,
     ) -> &'static str {
-        match self.judge(stage, acted, served, counters) {
+        match self.judge(stage, acted, served) {
             Ok(()) => "as it should be",
             Err(words) => words,
         }
