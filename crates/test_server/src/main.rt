@@ -23,72 +23,60 @@ mod stage;
 use crate::ends::Ends;
 use crate::row::{ROWS, Row, TAKEN};
 use crate::stage::Stage;
-use log::Log;
 use roam_serve::{NoSource, ServeFault, ServeOptions, Watch, serve};
-use std::alloc::Global;
-use std::net::Net;
-use std::random::RandomSource;
-use std::rt::Files;
-use std::sync::Wait;
 use std::sync::atomic::AtomicU64;
-use std::thread::Threads;
-use std::time::Clock;
 use std::{io, thread};
 
-/// How a second server of a row ends.
-fn second<R: Files + RandomSource + Threads + Wait + Clock + Net + Log + Sync>(
-    stage: &Stage<'_, R>,
-    rt: &R,
-    alloc: Global,
-    row: Row,
-) -> Result<(), ServeFault> {
-    let Some(Ok(config)) = row.config(stage, rt, alloc) else {
-        return Err(ServeFault::Memory);
-    };
-    let options = ServeOptions {
-        watch: None,
-        are_exchanges_told: true,
-        milliseconds: Some(row.milliseconds()),
-        gate: &stage.turnstile,
-    };
-    serve(stage, alloc, config, options, &mut NoSource { alloc })
+/// Who watches the server of a row.
+fn watch<'s, R>(stage: &'s Stage<'_, R>, row: Row) -> Option<Watch<'s>> {
+    match &stage.counters {
+        Some(counters) => Some(Watch {
+            counters,
+            metrics: row.metrics(),
+            control: None,
+        }),
+        None => None,
+    }
 }
 
 fn main(rt: HostRuntime) -> io::Result<()> {
     let alloc = rt.alloc();
     let earlier = AtomicU64::new(0);
     for row in ROWS {
-        let stage = &Stage::new(&rt, row, &earlier);
-        let gate = &stage.turnstile;
-        let time = Some(row.milliseconds());
-        let verdict = match (row.config(stage, &rt, alloc), Ends::bind(&rt, row)) {
+        let mut stage = Stage::new(&rt, row, &earlier);
+        let second = row.second(&stage, &rt, alloc);
+        let config = row.config(&stage, &rt, alloc);
+        if let Some(Ok(config)) = &config {
+            stage.counters = row.counters(alloc, config);
+        }
+        let stage = &stage;
+        let verdict = match (config, Ends::bind(&rt, row)) {
             (Some(Ok(config)), Ok(ends)) => {
-                let counted = row.counters(alloc, &config);
-                let counters = counted.as_ref();
-                let watch = match counters {
-                    Some(counters) => Some(Watch {
-                        counters,
-                        metrics: row.metrics(),
-                        control: None,
-                    }),
-                    None => None,
-                };
                 let (acted, served) = thread::scope(thread::scope_env(), &rt, |scope| {
                     let server = scope.spawn(move || {
                         let none = &mut NoSource { alloc };
                         let options = ServeOptions {
-                            watch,
+                            watch: watch(stage, row),
                             are_exchanges_told: true,
-                            milliseconds: time,
-                            gate,
+                            milliseconds: Some(row.milliseconds()),
+                            gate: &stage.turnstile,
                         };
                         let served = serve(stage, alloc, config, options, none);
                         stage.note_end();
                         served
                     });
                     let mut acted = row.act(stage, &ends, alloc);
-                    if row.has_second() && second(stage, &rt, alloc, row) != TAKEN {
-                        acted = Err("a second server has the ports too");
+                    if let Some(config) = second {
+                        let none = &mut NoSource { alloc };
+                        let options = ServeOptions {
+                            watch: None,
+                            are_exchanges_told: true,
+                            milliseconds: Some(row.milliseconds()),
+                            gate: &stage.turnstile,
+                        };
+                        if serve(stage, alloc, config, options, none) != TAKEN {
+                            acted = Err("a second server has the ports too");
+                        }
                     }
                     if row.ends_early() {
                         stage.end();
@@ -98,9 +86,9 @@ fn main(rt: HostRuntime) -> io::Result<()> {
                         Err(_) => (acted, Err(ServeFault::Memory)),
                     }
                 });
-                row.verdict(stage, acted, served, counters)
+                row.verdict(stage, acted, served)
             }
-            (Some(Err(fault)), _) => row.verdict(stage, Ok(()), Err(fault), None),
+            (Some(Err(fault)), _) => row.verdict(stage, Ok(()), Err(fault)),
             _ => "the configuration or the sockets of the test can't be had",
         };
         let name = row.name();

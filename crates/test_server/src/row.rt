@@ -211,9 +211,17 @@ impl Row {
         }
     }
 
-    /// Whether a second server is to begin beside the first.
-    pub(crate) fn has_second(self) -> bool {
-        matches!(self, Row::Accounting | Row::Spread)
+    /// The configuration of a second server, where one is to begin beside the first.
+    pub(crate) fn second<R: Files + RandomSource>(
+        self,
+        stage: &Stage<'_, R>,
+        rt: &R,
+        alloc: Global,
+    ) -> Option<Config> {
+        match self {
+            Row::Accounting | Row::Spread => self.config(stage, rt, alloc)?.ok(),
+            _ => None,
+        }
     }
 
     /// What happens while the server runs.
@@ -248,7 +256,6 @@ impl Row {
         stage: &Stage<'_, R>,
         acted: Verdict,
         served: Result<(), ServeFault>,
-        counters: Option<&Counters>,
     ) -> Verdict {
         acted?;
         if served != self.wanted() {
@@ -260,7 +267,7 @@ impl Row {
         if stage.serving.load(Ordering::SeqCst) != self.servings() {
             return Err("that it serves isn't told as it should be");
         }
-        if let Some(counters) = counters {
+        if let Some(counters) = &stage.counters {
             counted::judge(self, counters)?;
         }
         match self {
@@ -290,9 +297,8 @@ impl Row {
         stage: &Stage<'_, R>,
         acted: Verdict,
         served: Result<(), ServeFault>,
-        counters: Option<&Counters>,
     ) -> &'static str {
-        match self.judge(stage, acted, served, counters) {
+        match self.judge(stage, acted, served) {
             Ok(()) => "as it should be",
             Err(words) => words,
         }

@@ -11,6 +11,7 @@ use std::io::ErrorKind;
 use std::net::{Net, SocketAddr, UdpSocket};
 use std::random::RandomSource;
 use std::sync::Wait;
+use roam_serve::Counters;
 use std::sync::atomic::{AtomicBool, AtomicU64, Ordering};
 use std::thread::Threads;
 use std::time::{Clock, Duration};
@@ -104,6 +105,8 @@ pub(crate) struct Stage<'t, R> {
     ended: AtomicU64,
     /// What a server drew first, in an earlier row.
     pub(crate) earlier: &'t AtomicU64,
+    /// What its server counts, once its configuration is known.
+    pub(crate) counters: Option<Counters>,
 }
 
 impl<'t, R: Clock> Stage<'t, R> {
@@ -136,6 +139,7 @@ impl<'t, R: Clock> Stage<'t, R> {
             times: AtomicU64::new(0),
             ended: AtomicU64::new(0),
             earlier,
+            counters: None,
         }
     }
 
