@@ -81,7 +81,13 @@ impl<R: Wait + Clock + Net + Log, G, N: Opened> Attendant<'_, '_, R, G, N> {
             return Ok(bare(self.shared.alloc, Course::Unknown));
         };
         let seconds = self.now / 1000;
-        let text = status(self.shared.alloc, self.shared.config, &standing, seconds, form)?;
+        let text = status(
+            self.shared.alloc,
+            self.shared.config,
+            &standing,
+            seconds,
+            form,
+        )?;
         let mut body = Vec::new(self.shared.alloc);
         body.extend_from_slice(text.as_str().as_bytes())?;
         Ok(done(body))
