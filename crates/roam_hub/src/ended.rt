@@ -14,6 +14,7 @@ use crate::fault::HubFault;
 use crate::gate::Gate;
 use crate::hub::Hub;
 use crate::kept::Kept;
+use crate::locking::wait_for;
 use crate::notes::{Notes, Stood, standing_of};
 use roam_audit::Seat;
 use roam_history::Opened;
@@ -133,7 +134,7 @@ impl<'c, A: Allocator + Copy, N: Opened> Hub<'c, A, N> {
         ensures no_shard { IfErr result (λ e. e.fault ≢ HubFault.NoShard) }
     {
         let shard = self.config.shard_of(job.realm);
-        let mut kept = self.locks[usize::from(shard)].lock(rt);
+        let mut kept = wait_for(rt, &self.locks[usize::from(shard)]);
         gate.inside(shard);
         notes.clear();
         note_job(kept.traced.shard(), &job, notes);
@@ -165,7 +166,7 @@ impl<'c, A: Allocator + Copy, N: Opened> Hub<'c, A, N> {
         if usize::from(shard) >= self.locks.len() {
             return Err(HubFault::NoShard);
         }
-        let mut kept = self.locks[usize::from(shard)].lock(rt);
+        let mut kept = wait_for(rt, &self.locks[usize::from(shard)]);
         gate.inside(shard);
         notes.clear();
         kept.note_due(rt, self.config.realms.len() as u16, now, notes);

@@ -16,6 +16,7 @@ use crate::answered::{Answered, Refused};
 use crate::fault::HubFault;
 use crate::gate::Gate;
 use crate::kept::Kept;
+use crate::locking::wait_for;
 use roam_audit::{Receipt, Seat};
 use roam_conf::Config;
 use roam_core::Event;
@@ -67,7 +68,7 @@ impl<'c, A: Allocator + Copy, N: Opened> Hub<'c, A, N> {
         ensures no_shard { IfErr result (λ e. e.fault ≢ HubFault.NoShard) }
     {
         let shard = self.config.shard_of(job.realm);
-        let mut kept = self.locks[usize::from(shard)].lock(rt);
+        let mut kept = wait_for(rt, &self.locks[usize::from(shard)]);
         gate.inside(shard);
         kept.take(rt, seat, shard, now, job)
     }
@@ -132,7 +133,7 @@ impl<'c, A: Allocator + Copy, N: Opened> Hub<'c, A, N> {
         if usize::from(shard) >= self.locks.len() {
             return Err(HubFault::NoShard);
         }
-        let mut kept = self.locks[usize::from(shard)].lock(rt);
+        let mut kept = wait_for(rt, &self.locks[usize::from(shard)]);
         gate.inside(shard);
         let answered = kept.tick(rt, seat, shard, now)?;
         Ok(receipt_of(seat, Event::Tick { now, shard }, answered))
@@ -162,7 +163,7 @@ impl<'c, A: Allocator + Copy, N: Opened> Hub<'c, A, N> {
         if usize::from(shard) >= self.locks.len() {
             return Err(HubFault::NoShard);
         }
-        let mut kept = self.locks[usize::from(shard)].lock(rt);
+        let mut kept = wait_for(rt, &self.locks[usize::from(shard)]);
         gate.inside(shard);
         kept.tick_if_due(rt, seat, shard, now)
     }
@@ -190,9 +191,7 @@ impl<'c, A: Allocator + Copy, N: Opened> Hub<'c, A, N> {
         if usize::from(shard) >= self.locks.len() {
             return Err(HubFault::NoShard);
         }
-        self.locks[usize::from(shard)]
-            .lock(rt)
-            .is_due(seat, shard, now)
+        wait_for(rt, &self.locks[usize::from(shard)]).is_due(seat, shard, now)
     }
 
     /// Lets go of the stored steps of a shard, for whose lock it waits: takes them out, and gives them
@@ -217,9 +216,7 @@ impl<'c, A: Allocator + Copy, N: Opened> Hub<'c, A, N> {
         if usize::from(shard) >= self.locks.len() {
             return Err(HubFault::NoShard);
         }
-        self.locks[usize::from(shard)]
-            .lock(rt)
-            .let_go(rt, seat, shard)
+        wait_for(rt, &self.locks[usize::from(shard)]).let_go(rt, seat, shard)
     }
 }
 

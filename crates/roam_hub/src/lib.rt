@@ -14,6 +14,7 @@ mod gate;
 mod hub;
 mod kept;
 mod laws;
+mod locking;
 mod look;
 mod notes;
 mod opening;

@@ -4,6 +4,7 @@ ghost use Rattle.std.specs.Prelude.{IfSome};
 ghost use Rattle.roam_hub.specs.Looks.{StandsSomewhere};
 
 use crate::hub::Hub;
+use crate::locking::wait_for;
 use roam_book::Gauges;
 use roam_history::Opened;
 use std::alloc::Allocator;
@@ -16,8 +17,7 @@ impl<A: Allocator + Copy, N: Opened> Hub<'_, A, N> {
         ensures { IfSome result (StandsSomewhere N.opening realm) }
     {
         let shard = self.config.shard_of(realm);
-        self.locks[usize::from(shard)]
-            .lock(rt)
+        wait_for(rt, &self.locks[usize::from(shard)])
             .traced
             .shard()
             .gauges(realm)

@@ -13,15 +13,23 @@ use std::time::{Clock, Duration};
 /// Stored steps of a shard.
 pub type Steps = Vec<Step<Global>>;
 
-/// How many steps are freed at a time. Meanwhile the workers may have to wait for the allocator.
-const AT_A_TIME: usize = 1000;
+/// How many steps are freed while the others are kept from everybody else.
+const AT_ONCE: usize = 20;
 
-/// How long it leaves the allocator to the workers then, in milliseconds.
-const PAUSE: u64 = 1;
+/// How often the thread beside does that in a row, and how long it leaves the others to the workers then, in milliseconds.
+const IN_A_ROW: u32 = 10;
+
+const PAUSE: u64 = 10;
+
+/// How many steps a worker frees when it has stored so many: more, so that all are freed before as many are stored again.
+const FREED: usize = 5;
+
+const STORED: u64 = 4;
 
 /// Stored steps that were let go of and wait to be freed: those of as many shards as there are, at most, and
-/// whoever finds that many frees its own. So what waits is bounded by what is stored, and nobody waits for
-/// another thread.
+/// whoever finds that many frees its own. So what waits is bounded by what is stored, and who hands steps over waits
+/// for another thread no longer than that takes to free a few. Workers free some as they store others, since the
+/// memory that a thread gives back is at hand for it at once; a thread beside frees the rest where little is stored.
 #[derive(Drop)]
 pub struct OldHistory {
     waiting: Mutex<Vec<Steps>>,
@@ -38,6 +46,22 @@ fn put_or_back(waiting: &mut Vec<Steps>, steps: Steps) -> Option<Steps> {
         None
     } else {
         Some(steps)
+    }
+}
+
+/// Frees so many steps of the list that was put last.
+fn free_some(waiting: &mut Vec<Steps>, count: usize) {
+    if let Some(steps) = waiting.last_mut() {
+        let left = steps.len().saturating_sub(count);
+        steps.truncate(left);
+    }
+}
+
+/// Takes the list that was put last where all its steps are freed: its own memory is to be freed yet.
+fn take_empty(waiting: &mut Vec<Steps>) -> Option<Steps> {
+    match waiting.last() {
+        Some(steps) if steps.is_empty() => waiting.pop(),
+        _ => None,
     }
 }
 
@@ -67,7 +91,7 @@ impl OldHistory {
         put_or_back(&mut waiting, steps)
     }
 
-    /// Hands steps to the thread that frees them, or frees them here where too many wait for it.
+    /// Hands steps to those that free them, or frees them here where too many wait.
     pub fn hand_over<R: Wait>(&self, rt: &R, steps: Steps) {
         self.count();
         match self.put(rt, steps) {
@@ -76,9 +100,49 @@ impl OldHistory {
         }
     }
 
+    /// Frees some of the steps that wait, for a worker that stored the step of this number, unless another thread is at it.
+    pub fn free_beside(&self, number: u64) {
+        if number % STORED == 0 {
+            if let Some(mut waiting) = self.waiting.try_lock() {
+                free_some(&mut waiting, FREED);
+            }
+        }
+    }
+
     /// The steps that were let go of last, of those that wait.
     fn take<R: Wait>(&self, rt: &R) -> Option<Steps> {
         self.waiting.lock(rt).pop()
+    }
+
+    /// Frees all steps that wait.
+    pub fn free_all<R: Wait>(&self, rt: &R) {
+        for _ in rt.forever() {
+            match self.take(rt) {
+                Some(steps) => drop(steps),
+                None => return,
+            }
+        }
+    }
+
+    /// Frees some of the steps that wait. Answers whether others do.
+    fn free_portion<R: Wait>(&self, rt: &R) -> bool {
+        let mut waiting = self.waiting.lock(rt);
+        free_some(&mut waiting, AT_ONCE);
+        let empty = take_empty(&mut waiting);
+        let are_left = !waiting.is_empty();
+        drop(waiting);
+        drop(empty);
+        are_left
+    }
+
+    /// Frees some of the steps that wait, in portions. Answers whether others do.
+    fn free_portions<R: Wait>(&self, rt: &R) -> bool {
+        for _ in 0..IN_A_ROW {
+            if !self.free_portion(rt) {
+                return false;
+            }
+        }
+        true
     }
 
     /// Has the thread that frees them look whether it is to end.
@@ -91,28 +155,20 @@ impl OldHistory {
     pub fn free_on<R: Wait + Clock>(&self, rt: &R, stop: &AtomicBool) {
         for _ in rt.forever() {
             let is_over = stop.load(Ordering::SeqCst);
-            match self.take(rt) {
-                Some(steps) => free(rt, stop, steps),
-                None if is_over => return,
-                None => self.wake.park(rt),
+            if self.free_portions(rt) {
+                leave_room(rt, is_over);
+            } else if is_over {
+                return;
+            } else {
+                self.wake.park(rt);
             }
         }
     }
 }
 
-/// Leaves the allocator to the workers, unless they are to end.
-fn leave_room<R: Wait + Clock>(rt: &R, stop: &AtomicBool) {
-    if !stop.load(Ordering::SeqCst) {
+/// Leaves the others to the workers, unless they are to end.
+fn leave_room<R: Wait + Clock>(rt: &R, is_over: bool) {
+    if !is_over {
         thread::sleep(rt, Duration::from_millis(PAUSE));
-    }
-}
-
-/// Frees the steps of a shard.
-fn free<R: Wait + Clock>(rt: &R, stop: &AtomicBool, steps: Steps) {
-    for (number, step) in steps.into_iter().enumerate() {
-        drop(step);
-        if number % AT_A_TIME == AT_A_TIME - 1 {
-            leave_room(rt, stop);
-        }
     }
 }

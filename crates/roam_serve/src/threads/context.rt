@@ -332,6 +332,7 @@ impl<G: Gate, N: Opened> WorkerContext<'_, '_, G, N> {
                 self.counting.let_go(shard, steps.len());
                 self.shared.old_history.count();
                 drop(steps);
+                self.shared.old_history.free_all(rt);
                 true
             }
             Err(_) => false,
@@ -346,6 +347,7 @@ impl<G: Gate, N: Opened> WorkerContext<'_, '_, G, N> {
             self.refuse(refusal, origin);
         }
         self.outgoing.put_all(answered.answer.outs);
+        self.shared.old_history.free_beside(answered.number);
         if answered.octets > u64::from(self.shared.config.trace_octets) {
             self.let_go(rt, answered.shard);
         }
