@@ -28,6 +28,7 @@ def roam(directory, options, realms, shards):
         f'auth = "{HERE}:{base}"',
         f'acct = "{HERE}:{base + 1}"',
         f"trace_limit = {options.trace_limit}",
+        *getattr(options, "top", []),
     ]
     if options.spread:
         lines.append("spread = true")

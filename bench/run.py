@@ -20,7 +20,7 @@ RATIO_WANTED, COST_WANTED = 0.35, 4.2
 def read_options():
     parser = argparse.ArgumentParser(description=__doc__)
     parser.add_argument("mode", choices=["table", "interference", "soak", "mutated", "idle",
-                                         "pauses", "beside"])
+                                         "pauses", "beside", "counts"])
     parser.add_argument("--broker", choices=configurations.BROKERS, default="roam")
     parser.add_argument("--command", help="in which {conf} and {ms} are filled in")
     parser.add_argument("--realms", default=None, help="numbers with commas between them")
@@ -269,6 +269,39 @@ def beside(options):
     return 0
 
 
+# What the ways of `counts` add to the configuration, by name.
+COUNTED = {"neither": ["log_exchanges = false"],
+           "counts": ["log_exchanges = false", f'control = "{DIRECTORY}/control"'],
+           "counts and lines": [f'control = "{DIRECTORY}/control"']}
+
+
+def counts(options):
+    """What counting costs, and a line for each exchange: the closed loop with neither, with counts, and with both, by
+    turns."""
+    seconds = options.seconds or 5
+    realms = numbers_of(options.realms, "8")[0]
+    shards = numbers_of(options.shards, "2")[0]
+    found = {way: [] for way in COUNTED}
+    print_head(["round", "way", "closed /s", "broker us", "lost", "stolen %"])
+    for number in range(options.rounds):
+        for way, top in COUNTED.items():
+            options.top = top
+            with Homes(options, realms, seconds + 60):
+                with Broker(options, realms, shards, seconds + 30) as broker:
+                    words = load_words("closed", options, realms, "broker", broker.process.pid,
+                                       seconds=seconds, outstanding=options.outstanding)
+                    ran = load(words, seconds)
+            closed = ran["closed"]
+            found[way].append((closed["exchanges_a_second"], closed["broker_us"]))
+            print_row([number, way, f"{closed['exchanges_a_second']:.0f}", f"{closed['broker_us']:.2f}",
+                       int(ran["total"]["lost"]), f"{closed['stolen_percent']:.0f}"])
+    without = [statistics.median(column) for column in zip(*found["neither"])]
+    for way, rounds in found.items():
+        rate, cost = (statistics.median(column) for column in zip(*rounds))
+        print(f"{way}: {rate:.0f} /s ({share(rate, without[0])}), {cost:.2f} us ({share(cost, without[1])})")
+    return 0
+
+
 def idle(options):
     """Processor time of a broker to which nobody sends anything."""
     seconds = options.seconds or 10
@@ -317,7 +350,7 @@ def main():
     if options.load_cpus:
         os.sched_setaffinity(0, processors(options.load_cpus))
     return {"table": table, "beside": beside, "interference": interference, "soak": soak,
-            "mutated": mutated, "idle": idle, "pauses": pauses}[options.mode](options)
+            "mutated": mutated, "idle": idle, "pauses": pauses, "counts": counts}[options.mode](options)
 
 
 if __name__ == "__main__":

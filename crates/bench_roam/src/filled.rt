@@ -72,8 +72,8 @@ fn measure_given<S: Stepper<Global>>(
     Ok(())
 }
 
-/// Fills a broker with held replies, and gives it the next events. Where a second name is given, it then simulates those
-/// that follow.
+/// Fills a broker with held replies, and gives it the next events. Where a second name is given, it then simulates
+/// those that follow.
 pub(crate) fn measure_filled<S: Stepper<Global>>(
     rt: &HostRuntime,
     load: Load,

@@ -34,8 +34,8 @@ fn packet(
     Ok(packet.finish())
 }
 
-/// A packet of these attributes that is signed: an Accounting-Request, or the Accounting-Response to a request with that
-/// Authenticator.
+/// A packet of these attributes that is signed: an Accounting-Request, or the Accounting-Response to a request with
+/// that Authenticator.
 fn signed(
     alloc: Global,
     answered: Option<[u8; 16]>,

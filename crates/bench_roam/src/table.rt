@@ -5,6 +5,7 @@ use roam_conf::Config;
 use roam_conf_reader::read_config;
 use std::alloc::Global;
 use std::fmt::Write;
+use test_fixtures::configuration::{PLAIN_PEER, SEED_AND_ENDPOINTS};
 
 /// The secret that the broker shares with the one access server.
 pub(crate) const ACCESS_SERVER_SECRET: &[u8] = b"xyzzy5461";
@@ -39,7 +40,9 @@ impl Table {
     /// The configuration, in one shard. Replies are held for so long that none is due, and no session is remembered.
     fn text(self, alloc: Global) -> Result<String, Fault> {
         let places = self.places;
-        let mut text = String::from_str(alloc, HEAD)?;
+        let mut text = format!(in alloc;
+            "shards = 1\ntrace_limit = 1000000\n{SEED_AND_ENDPOINTS}{PLAIN_PEER}"
+        )?;
         for realm in 0..self.realms {
             let out = 10000 + u32::from(realm);
             let reverse = 20000 + u32::from(realm);
@@ -73,15 +76,3 @@ secret = \"h1\"
         Ok(config)
     }
 }
-
-const HEAD: &str = "shards = 1
-seed = \"0000000000000000000000000000000000000000000000000000000000000000\"
-auth = \"127.0.0.1:1812\"
-acct = \"127.0.0.1:1813\"
-trace_limit = 1000000
-
-[[peer]]
-name = \"nas1\"
-ip = \"192.0.2.1\"
-secret = \"xyzzy5461\"
-";

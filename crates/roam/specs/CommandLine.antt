@@ -1,8 +1,8 @@
 -- What a command line asks for, by the words after the program's name. Ours.
 use Rattle.std.specs.Prelude.{◌≡◌, ◌⊎◌, ℕ, List, [], ◌∷◌, codes, Option, Some, None}
 use Rattle.roam_conf.specs.Texts.{decimal_in}
-use Rattle.roam.specs.declared.command_line.Order.{Order}
-use Rattle.roam.specs.declared.command_line.Order.TheVariants as order
+use Rattle.roam.specs.declared.command_line.ControlOrder.{ControlOrder}
+use Rattle.roam.specs.declared.command_line.ControlOrder.TheVariants as order
 
 -- to say how much there is in a configuration; to say what becomes of each realm when another one follows it; to run a
 -- script over one; to serve one, with a seed that is drawn or with its own, for so many milliseconds or without end; to ask
@@ -14,7 +14,7 @@ pub data Asked : Type 0 where
   to_simulate : List ℕ → List ℕ → Asked
   to_serve : List ℕ → Option ℕ → Asked
   to_serve_with_its_seed : List ℕ → Option ℕ → Asked
-  to_control : List ℕ → Order → Asked
+  to_control : List ℕ → ControlOrder → Asked
   to_help : Asked
   to_tell_version : Asked
 
@@ -28,7 +28,7 @@ IsTime word milliseconds = decimal_in 1 86400000 word ≡ Some milliseconds
 
 -- the words ask a server for it through the control socket of this path: for the trace of a shard by its number, a
 -- decimal one without leading zeros
-abbrev pub AsksOrder : List (List ℕ) → List ℕ → Order → Type 0
+abbrev pub AsksOrder : List (List ℕ) → List ℕ → ControlOrder → Type 0
 AsksOrder words path order.Status = codes "ctl" ∷ path ∷ codes "status" ∷ [] ≡ words
 AsksOrder words path order.Metrics = codes "ctl" ∷ path ∷ codes "metrics" ∷ [] ≡ words
 AsksOrder words path order.Stop = codes "ctl" ∷ path ∷ codes "stop" ∷ [] ≡ words

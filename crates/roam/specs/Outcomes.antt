@@ -10,10 +10,10 @@ use Rattle.roam_conf_reader.specs.Faults.{IsFirstFault}
 use Rattle.roam_sim.specs.Script.{script_states}
 use Rattle.roam_sim.specs.Simulation.{IsConfiguration, IsAccepted, Simulates, SimulatesInPart}
 use Rattle.roam.specs.CommandLine.{Asked, to_check, to_compare, to_simulate, to_serve, to_serve_with_its_seed, to_control, to_help, to_tell_version, Asks, AsksToServe, AsksNothing, files_of, IsConfigurationOf}
-use Rattle.roam.specs.declared.command_line.Order.{Order}
+use Rattle.roam.specs.declared.command_line.ControlOrder.{ControlOrder}
 use Rattle.roam.specs.Report.{status_of, usage_text, version_text, Tells}
 use Rattle.roam.specs.declared.text_file.TextFile.{TextFile}
-use Rattle.roam.specs.declared.report.Ending.{Ending}
+use Rattle.roam.specs.declared.report.ProgramEnd.{ProgramEnd}
 use Rattle.roam.specs.declared.report.Fault.{Fault}
 use Rattle.roam.specs.declared.report.Fault.TheVariants as fault
 
@@ -162,7 +162,7 @@ abbrev pub NamesFile : List (List ℕ) → List ℕ → Type 0
 NamesFile words path = (asked : Asked) × Asks words asked × Contains (files_of asked) path
 
 abbrev pub NamesSocket : List (List ℕ) → List ℕ → Type 0
-NamesSocket words path = (order : Order) × Asks words (to_control path order)
+NamesSocket words path = (order : ControlOrder) × Asks words (to_control path order)
 
 abbrev pub NamesConfiguration : List (List ℕ) → List ℕ → Type 0
 NamesConfiguration words path = (asked : Asked) × Asks words asked × IsConfigurationOf asked path
@@ -209,7 +209,7 @@ pub record IsPrevented (words : List (List ℕ)) (old new : Option (List ℕ)) (
   pub prevents : Prevents words old new fault
 
 -- and it was told, where that could be
-pub record IsToldFault (words : List (List ℕ)) (old new : Option (List ℕ)) (ending : Ending) (told_old told_new : Option (List ℕ)) : Type 0 where
+pub record IsToldFault (words : List (List ℕ)) (old new : Option (List ℕ)) (ending : ProgramEnd) (told_old told_new : Option (List ℕ)) : Type 0 where
   pub fault : Fault
   pub status_is : status_of fault ≡ ending.status
   pub prevents : Prevents words old new fault

@@ -5,7 +5,7 @@ use Rattle.std.specs.Fmt.{decimal}
 use Rattle.std.specs.Io.KnownBytes.{Appends}
 use Rattle.roam_diagnosis.specs.Lines.{IsDiagnosis, printed}
 use Rattle.roam_conf.specs.declared.endpoint.Endpoint.{Endpoint}
-use Rattle.roam_sim.specs.Lines.{endpoint_text}
+use Rattle.roam_conf.specs.Texts.{endpoint_text}
 use Rattle.roam_conf_reader.specs.declared.fault.ConfFault.{ConfFault}
 use Rattle.roam_conf_reader.specs.FaultNames.{name_of}
 use Rattle.roam_serve.specs.declared.fault.ServeFault.{ServeFault}

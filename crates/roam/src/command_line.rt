@@ -12,7 +12,7 @@ const LONGEST: u64 = 86_400_000;
 
 /// What a server is asked for through its control socket.
 #[derive(Clone, Copy, Debug, PartialEq, Eq)]
-pub enum Order {
+pub enum ControlOrder {
     /// How it stands.
     Status,
     /// All that it counts.
@@ -66,7 +66,7 @@ pub enum Command<'a> {
         /// The path of the socket.
         path: &'a str,
         /// What it is asked for: `status`, `metrics`, `stop`, `reload` or `trace N`.
-        order: Order,
+        order: ControlOrder,
     },
     /// To print the usage: `help`, `--help` or `-h`.
     Help,
@@ -138,10 +138,10 @@ fn of_control<'a>(path: &'a str, order: &str) -> Option<Command<'a>>
         (λ c. Asks (codes "ctl" ∷ path.now ∷ order.now ∷ []) (shown c)) }
 {
     let order = match order {
-        "status" => Order::Status,
-        "metrics" => Order::Metrics,
-        "stop" => Order::Stop,
-        "reload" => Order::Reload,
+        "status" => ControlOrder::Status,
+        "metrics" => ControlOrder::Metrics,
+        "stop" => ControlOrder::Stop,
+        "reload" => ControlOrder::Reload,
         _ => return None,
     };
     Some(Command::Control { path, order })
@@ -192,7 +192,7 @@ fn of_trace<'a>(path: &'a str, word: &str, last: &str) -> Option<Command<'a>>
         "trace" => match decimal(last, 0, 65535) {
             Some(shard) => Some(Command::Control {
                 path,
-                order: Order::Trace(shard as u16),
+                order: ControlOrder::Trace(shard as u16),
             }),
             None => None,
         },

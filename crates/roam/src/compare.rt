@@ -27,11 +27,9 @@ pub fn print_hindrance<W: Write>(writer: &mut W, hindrance: Option<Hindrance>) -
         Some(Hindrance::Spread) => writer.write_all(b"may not follow: spread\n"),
         Some(Hindrance::Realms) => writer.write_all(b"may not follow: fewer realms\n"),
         Some(Hindrance::Endpoint(endpoint)) => {
-            let [a, b, c, d] = endpoint.ip;
-            let port = endpoint.port;
             writeln!(
                 writer,
-                "may not follow: {a}.{b}.{c}.{d}:{port} is a place of another kind"
+                "may not follow: {endpoint} is a place of another kind"
             )
         }
     }

@@ -3,7 +3,7 @@
 ghost use Rattle.std.specs.Prelude.{◌≡◌, ◌⊎◌, OnOk, IfErr};
 ghost use Rattle.roam.specs.Outcomes.{AskFails, IsPrinted};
 
-use crate::command_line::Order;
+use crate::command_line::ControlOrder;
 use crate::output::finish;
 use crate::report::Fault;
 use std::io::{Read, Write};
@@ -30,27 +30,28 @@ fn ask_for_trace<W: Write>(stream: &mut W, shard: u16) -> io::Result<()> {
 }
 
 /// What is sent, where it is always the same.
-fn question(order: Order) -> &'static [u8] {
+fn question(order: ControlOrder) -> &'static [u8] {
     match order {
-        Order::Trace(_) => b"",
-        Order::Status => b"GET /status HTTP/1.1\r\nHost: roam\r\nConnection: close\r\n\r\n",
-        Order::Metrics => b"GET /metrics HTTP/1.1\r\nHost: roam\r\nConnection: close\r\n\r\n",
-        Order::Stop => {
+        ControlOrder::Trace(_) => b"",
+        ControlOrder::Status => b"GET /status HTTP/1.1\r\nHost: roam\r\nConnection: close\r\n\r\n",
+        ControlOrder::Metrics =>
+            b"GET /metrics HTTP/1.1\r\nHost: roam\r\nConnection: close\r\n\r\n",
+        ControlOrder::Stop => {
             b"POST /stop HTTP/1.1\r\nHost: roam\r\nContent-Length: 0\r\nConnection: close\r\n\r\n"
         }
-        Order::Reload => {
+        ControlOrder::Reload => {
             b"POST /reload HTTP/1.1\r\nHost: roam\r\nContent-Length: 0\r\nConnection: close\r\n\r\n"
         }
     }
 }
 
 /// All that is answered.
-fn answer<R: AllocGlobal + Net>(rt: &R, path: &str, order: Order) -> io::Result<Vec<u8>> {
+fn answer<R: AllocGlobal + Net>(rt: &R, path: &str, order: ControlOrder) -> io::Result<Vec<u8>> {
     let mut stream = UnixStream::connect(rt, path)?;
     stream.set_read_timeout(Some(Duration::from_secs(PATIENCE)))?;
     stream.set_write_timeout(Some(Duration::from_secs(PATIENCE)))?;
     match order {
-        Order::Trace(shard) => ask_for_trace(&mut stream, shard)?,
+        ControlOrder::Trace(shard) => ask_for_trace(&mut stream, shard)?,
         _ => stream.write_all(question(order))?,
     }
     let mut answer = Vec::new(rt.alloc());
@@ -116,7 +117,7 @@ fn has_ended<R: Net + Clock>(rt: &R, path: &str) -> bool {
 pub fn ask<'a, R: AllocGlobal + Net + Clock, W: Write>(
     rt: &R,
     path: &'a str,
-    order: Order,
+    order: ControlOrder,
     out: &mut W,
 ) -> Result<(), Fault<'a>>
     ensures ok { OnOk result (IsPrinted (W.contents out.old) (W.contents out.new)) }
@@ -129,7 +130,7 @@ pub fn ask<'a, R: AllocGlobal + Net + Clock, W: Write>(
     let answer = answer.as_slice();
     match body(answer) {
         Some(body) if is_declined(answer) => Err(print_declined(path, body, out)),
-        Some(body) if is_done(answer) && (order != Order::Stop || has_ended(rt, path)) => {
+        Some(body) if is_done(answer) && (order != ControlOrder::Stop || has_ended(rt, path)) => {
             print(body, out)
         }
         _ => Err(Fault::Unanswered { path }),

@@ -10,7 +10,7 @@ use crate::check::check;
 use crate::command_line::Command;
 use crate::compare::compare_files;
 use crate::control::ask;
-use crate::report::{Ending, Fault};
+use crate::report::{Fault, ProgramEnd};
 use crate::serving::serve_file;
 use crate::simulation::simulate;
 use crate::telling::{tell_advice, tell_usage, tell_version};
@@ -105,7 +105,7 @@ fn answer<
     S: AsStr,
     W: Write,
     E: Write,
->(rt: &R, words: &[S], out: &mut W, err: &mut E) -> Ending
+>(rt: &R, words: &[S], out: &mut W, err: &mut E) -> ProgramEnd
     ensures status { result.status ≤ 4 }
     ensures done { result.status ≡ 0
         → IsAnswered (map S.text words.now) (W.contents out.old) (W.contents out.new) }
@@ -126,8 +126,8 @@ fn answer<
 
 /// Does what the words after the program's name ask for, and answers the status with which the program ends: 0, or
 /// that of the fault that prevents it, whose text goes to `err`. Behind the text of a configuration's fault come the
-/// lines that say where it stands, ten at most; a check of one that is accepted says there what is unwise in it. Whether
-/// `err` takes them changes nothing.
+/// lines that say where it stands, ten at most; a check of one that is accepted says there what is unwise in it.
+/// Whether `err` takes them changes nothing.
 ///
 /// Each fault says what it leaves of `out`: all is as it was, but for what went out before a refused write, and
 /// for the lines of a simulation that lost events for want of memory. A server leaves it as it was, and of what its

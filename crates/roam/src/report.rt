@@ -80,7 +80,7 @@ pub enum Fault<'a> {
 
 /// How the program ends.
 #[derive(Drop)]
-pub struct Ending {
+pub struct ProgramEnd {
     /// The status.
     pub status: u8,
     /// Whether the fault could be told, where there was one.
@@ -138,9 +138,7 @@ fn print_unbound<W: Write>(writer: &mut W, endpoint: Endpoint) -> io::Result<()>
     ensures { OnOk result
         (Appends (W.contents writer.old) (W.contents writer.new) (spec.unbound_text endpoint)) }
 {
-    let [a, b, c, d] = endpoint.ip;
-    let port = endpoint.port;
-    write!(writer, "roam: cannot bind {a}.{b}.{c}.{d}:{port}")
+    write!(writer, "roam: cannot bind {endpoint}")
 }
 
 /// Prints the system's reason, and ends the line.
@@ -280,12 +278,12 @@ impl<'a> Fault<'a> {
     }
 
     /// Tells the fault on a writer, and how the program ends after it.
-    pub fn tell<W: Write>(self, writer: &mut W) -> Ending
+    pub fn tell<W: Write>(self, writer: &mut W) -> ProgramEnd
         ensures status { result.status ≡ spec.status_of self.entry }
         ensures told { OnOk result.told
             (Appends (W.contents writer.old) (W.contents writer.new) (spec.text_of self.entry)) }
     {
-        Ending {
+        ProgramEnd {
             status: self.status(),
             told: self.print(writer),
         }
@@ -307,14 +305,14 @@ impl<'a> Fault<'a> {
         }
     }
 
-    /// Tells the fault on a writer, and behind a configuration's the lines of a diagnosis, and how the program ends after
-    /// it.
-    pub fn tell_with<W: Write>(self, lines: &Lines, writer: &mut W) -> Ending
+    /// Tells the fault on a writer, and behind a configuration's the lines of a diagnosis, and how the program ends
+    /// after it.
+    pub fn tell_with<W: Write>(self, lines: &Lines, writer: &mut W) -> ProgramEnd
         ensures status { result.status ≡ spec.status_of self.entry }
         ensures told { OnOk result.told
             (spec.Tells self.entry (W.contents writer.old) (W.contents writer.new)) }
     {
-        Ending {
+        ProgramEnd {
             status: self.status(),
             told: self.print_with(lines, writer),
         }

@@ -112,8 +112,8 @@ fn serve_stated<R: Files + AllocGlobal + Threads + Wait + Clock + Net + RandomSo
     serve_watched(rt, file.path, config, &settings, milliseconds)
 }
 
-/// Reads a configuration, and serves it for so many milliseconds, or without end. Where it is refused, `lines` are where
-/// its fault stands.
+/// Reads a configuration, and serves it for so many milliseconds, or without end. Where it is refused, `lines` are
+/// where its fault stands.
 ///
 /// # Errors
 ///

@@ -7,7 +7,7 @@ ghost use Rattle.roam.specs.Report.{Says, usage_text, version_text};
 
 use crate::command_line::Command;
 use crate::output::finish;
-use crate::report::{Ending, Fault, print_usage, print_version};
+use crate::report::{Fault, ProgramEnd, print_usage, print_version};
 use roam_diagnosis::Lines;
 use std::convert::AsStr;
 use std::io::Write;
@@ -42,7 +42,7 @@ pub fn tell_version<W: Write>(writer: &mut W) -> Result<(), Fault<'static>>
 
 /// Tells what is unwise in a configuration, where the words ask for a check: how the program ends after one that is
 /// accepted.
-pub fn tell_advice<S: AsStr, E: Write>(words: &[S], lines: &Lines, err: &mut E) -> Ending
+pub fn tell_advice<S: AsStr, E: Write>(words: &[S], lines: &Lines, err: &mut E) -> ProgramEnd
     ensures status { result.status ≡ 0 }
     ensures silent { ¬ (AsksToCheck (map S.text words.now)) → err.new ≡ err.old }
     ensures advice { OnOk result.told (Says (E.contents err.old) (E.contents err.new)) }
@@ -51,5 +51,5 @@ pub fn tell_advice<S: AsStr, E: Write>(words: &[S], lines: &Lines, err: &mut E) 
         Some(Command::Check { .. }) => lines.print(err),
         _ => Ok(()),
     };
-    Ending { status: 0, told }
+    ProgramEnd { status: 0, told }
 }

@@ -6,7 +6,7 @@ use Rattle.roam_audit.specs.declared.audit_fault.AuditFault.{AuditFault}
 use Rattle.roam_audit.specs.declared.audit_fault.AuditFault.TheVariants as fault
 use Rattle.roam_audit.specs.Seats.{SeatView}
 use Rattle.roam_audit.specs.Receipts.{PlainReceipt}
-use Rattle.roam_history.specs.Entries.{Entry}
+use Rattle.roam_history.specs.Entries.{HistoryEntry}
 use Rattle.roam_audit.specs.Audit.{AllAgree, HasSeen, IsFirstFault, IsInOrder, IsFirstUneven, IsPassed, AreOfFirstWrong}
 use Rattle.roam_audit.specs.Findings.{FindsPassed, FindsUneven, FindsWrong, Audits}
 use Rattle.roam_audit.proofs.ReceiptLemmas.{one_wrong, none_wrong}
@@ -109,14 +109,14 @@ audits_receipts steps seats receipts (Err (fault.Receipt shard number)) agree fo
 }
 
 -- a fault of the seats is that of an audit by the seats alone
-pub first_fault : (steps : List (List PlainStep)) (shards : ℕ) (whole : ℕ → List Entry) (seats : List SeatView) (what : AuditFault)
+pub first_fault : (steps : List (List PlainStep)) (shards : ℕ) (whole : ℕ → List HistoryEntry) (seats : List SeatView) (what : AuditFault)
     → FindsUneven steps seats (Err what)
     → IsFirstFault steps shards whole seats what
 first_fault steps shards whole seats (fault.Seats shard) first = inl first
 first_fault steps shards whole seats (fault.Receipt shard number) never = absurd never
 
 -- where there is one they don't pass
-pub not_passed : (steps : List (List PlainStep)) (shards : ℕ) (whole : ℕ → List Entry) (seats : List SeatView) (what : AuditFault)
+pub not_passed : (steps : List (List PlainStep)) (shards : ℕ) (whole : ℕ → List HistoryEntry) (seats : List SeatView) (what : AuditFault)
     → IsFirstFault steps shards whole seats what
     → ¬ IsPassed steps shards whole seats
 not_passed steps shards whole seats (fault.Seats shard) (inl first) passed = none_uneven steps seats shard passed.agree first

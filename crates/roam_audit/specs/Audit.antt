@@ -3,7 +3,7 @@
 use Rattle.std.specs.Prelude.{◌≡◌, ◌⊎◌, ℕ, ◌+◌, ◌<◌, ◌==◌, ◌&&◌, Bool, List, [], length, take, sum_by, Some, slice_get, slice_index_or, false}
 use Rattle.std.specs.List.{All, AllPairs}
 use Rattle.roam_trace.specs.Steps.{PlainStep}
-use Rattle.roam_history.specs.Entries.{Entry}
+use Rattle.roam_history.specs.Entries.{HistoryEntry}
 use Rattle.roam_audit.specs.declared.audit_fault.AuditFault.{AuditFault}
 use Rattle.roam_audit.specs.declared.audit_fault.AuditFault.TheVariants as fault
 use Rattle.roam_audit.specs.Seats.{SeatView, front_of, tally_of}
@@ -74,22 +74,22 @@ pub record AreOfFirstWrong (steps : List (List PlainStep)) (seats : List SeatVie
   pub its_number : receipt.number ≡ number
 
 -- what was seen of a history begins the whole
-abbrev pub Begins : List Entry → List Entry → Type 0
+abbrev pub Begins : List HistoryEntry → List HistoryEntry → Type 0
 Begins seen whole = take (length seen) whole ≡ seen
 
 -- all that a seat has seen of each of so many shards begins that shard's whole history
-abbrev pub HasSeen : ℕ → (ℕ → List Entry) → SeatView → Type 0
+abbrev pub HasSeen : ℕ → (ℕ → List HistoryEntry) → SeatView → Type 0
 HasSeen shards whole seat = (shard : ℕ) → shard < shards → Begins (front_of seat shard) (whole shard)
 
 -- the seats agree with every shard, and what each has seen begins the histories
-pub record IsPassed (steps : List (List PlainStep)) (shards : ℕ) (whole : ℕ → List Entry)
+pub record IsPassed (steps : List (List PlainStep)) (shards : ℕ) (whole : ℕ → List HistoryEntry)
     (seats : List SeatView) : Type 0 where
   pub agree : AllAgree steps seats
   pub begun : All (HasSeen shards whole) seats
 
 -- the first fault of an audit by the seats alone: the least shard with which they don't agree; or they
 -- agree, and one has seen what isn't there: that is told as a fault of shard 0
-abbrev pub IsFirstFault : List (List PlainStep) → ℕ → (ℕ → List Entry) → List SeatView → AuditFault → Type 0
+abbrev pub IsFirstFault : List (List PlainStep) → ℕ → (ℕ → List HistoryEntry) → List SeatView → AuditFault → Type 0
 IsFirstFault steps shards whole seats (fault.Seats shard) =
     IsFirstUneven steps seats shard
     ⊎ ((shard ≡ 0) × AllAgree steps seats × ¬ All (HasSeen shards whole) seats)

@@ -2,7 +2,7 @@
 use Rattle.std.specs.Prelude.{◌≡◌, ℕ, false, List, Result, Ok, Err}
 use Rattle.std.specs.List.{All}
 use Rattle.roam_trace.specs.Steps.{PlainStep}
-use Rattle.roam_history.specs.Entries.{Entry}
+use Rattle.roam_history.specs.Entries.{HistoryEntry}
 use Rattle.roam_audit.specs.declared.audit_fault.AuditFault.{AuditFault}
 use Rattle.roam_audit.specs.declared.audit_fault.AuditFault.TheVariants as fault
 use Rattle.roam_audit.specs.Seats.{SeatView}
@@ -17,7 +17,7 @@ FindsUneven steps seats (Err (fault.Seats shard)) = IsFirstUneven steps seats sh
 FindsUneven steps seats (Err (fault.Receipt shard number)) = ⊥
 
 -- what is found of the seats, and of what they have seen
-abbrev pub FindsPassed : List (List PlainStep) → ℕ → (ℕ → List Entry) → List SeatView
+abbrev pub FindsPassed : List (List PlainStep) → ℕ → (ℕ → List HistoryEntry) → List SeatView
     → Result (Unit {0}) AuditFault → Type 0
 FindsPassed steps shards whole seats (Ok _) = IsPassed steps shards whole seats
 FindsPassed steps shards whole seats (Err what) = IsFirstFault steps shards whole seats what

@@ -1,12 +1,12 @@
 -- What a caller counts of its calls (ours).
 use Rattle.std.specs.Prelude.{ℕ, ◌+◌, ◌-◌, ◌^◌, ◌==◌, ◌||◌, min, nat_lt, false, List, [], replicate, slice_index_or, slice_set}
-use Rattle.roam_history.specs.Entries.{Entry}
+use Rattle.roam_history.specs.Entries.{HistoryEntry}
 use Rattle.roam_audit.specs.declared.tally.Tally.{Tally}
 
 -- a seat: what it counts, and what it has seen of the one history of each shard, by shard
 pub record SeatView : Type 0 where
   pub tallies : List Tally
-  pub fronts : List (List Entry)
+  pub fronts : List (List HistoryEntry)
 
 -- nothing is counted
 abbrev pub no_calls : Tally
@@ -25,7 +25,7 @@ abbrev pub tally_of : List Tally → ℕ → Tally
 tally_of tallies shard = slice_index_or tallies shard no_calls
 
 -- what a seat has seen of a shard's history
-abbrev pub front_of : SeatView → ℕ → List Entry
+abbrev pub front_of : SeatView → ℕ → List HistoryEntry
 front_of seat shard = slice_index_or seat.fronts shard []
 
 -- a call was recorded under a number. It is counted, as far as 64 bits go. The number should be at
@@ -43,13 +43,13 @@ noted tallies shard number =
     slice_set tallies shard (tally_after (tally_of tallies shard) number)
 
 -- a seat that has seen these entries of a shard: all else stays
-abbrev pub having_seen : SeatView → ℕ → List Entry → SeatView
+abbrev pub having_seen : SeatView → ℕ → List HistoryEntry → SeatView
 having_seen seat shard entries =
     record { tallies = seat.tallies; fronts = slice_set seat.fronts shard entries }
 
 -- a seat after a call that was recorded under a number of a shard, and of whose history it has then seen
 -- these entries
-abbrev pub after_call : SeatView → ℕ → ℕ → List Entry → SeatView
+abbrev pub after_call : SeatView → ℕ → ℕ → List HistoryEntry → SeatView
 after_call seat shard number entries =
     record {
       tallies = noted seat.tallies shard number;

@@ -4,7 +4,7 @@ use Rattle.std.specs.declared.vec.Vec.{Vec}
 use Rattle.roam_core.specs.Shown.{shown_event}
 use Rattle.roam_trace.specs.Steps.{PlainStep, shown_answer}
 use Rattle.roam_history.specs.declared.opened.Opened.{Ghosts}
-use Rattle.roam_history.specs.Entries.{Entry, steps_in}
+use Rattle.roam_history.specs.Entries.{HistoryEntry, steps_in}
 use Rattle.roam_history.specs.Fronts.{FrontView}
 use Rattle.roam_audit.specs.Receipts.{PlainReceipt}
 use Rattle.roam_audit.specs.declared.receipt.Receipt.{Receipt}
@@ -37,5 +37,5 @@ abbrev pub recorded : {A N : Type 0} {g : Ghosts N} → Report A N g → List (L
 recorded report = map all_in report.fronts.items
 
 -- the whole history of a shard
-abbrev pub whole_of : {A N : Type 0} {g : Ghosts N} → Report A N g → ℕ → List Entry
+abbrev pub whole_of : {A N : Type 0} {g : Ghosts N} → Report A N g → ℕ → List HistoryEntry
 whole_of report shard = slice_index_or (map (λ f. f.entries) report.fronts.items) shard []

@@ -1,8 +1,8 @@
 //! What comes back from threads that ran, as plain data, and the audit that compares it.
 //!
 //! A caller's [`Seat`] counts its calls, a [`Receipt`] says under which number a call was recorded,
-//! and a [`Report`] has what was recorded, of which an [`Audited`] one passed its audit. Nothing here touches a thread, a lock, a socket or a
-//! clock.
+//! and a [`Report`] has what was recorded, of which an [`Audited`] one passed its audit. Nothing here touches a thread,
+//! a lock, a socket or a clock.
 #![tactic(auto)]
 
 mod audit_fault;

@@ -17,7 +17,7 @@ use Rattle.roam_hide.specs.Hiding.{Key}
 use Rattle.roam_hide.specs.PacketAnew.{packet_anew, CanBeHiddenAnew}
 use Rattle.roam_wire.specs.Codes.{is_access_reply}
 use Rattle.roam_back.specs.Returned.{Returning, proxy_states, with_salted_anew, returned_attributes, unsealed_return, returned_length}
-use Rattle.roam_back.specs.Plain.{is_carried, first_seal, plain_attributes, plain_packet}
+use Rattle.roam_back.specs.Private.Plain.{is_carried, first_seal, plain_attributes, plain_packet}
 use Rattle.roam_back.proofs.ReturnedLemmas.{short_kept, short_joined, carried-others}
 use Rattle.roam_back.proofs.EveryCodeLemmas.{salted_size, short_salted, carried-access}
 

@@ -5,9 +5,9 @@
 //! what it is returned with, is handed in.
 #![tactic(auto)]
 
-mod appending;
 mod laws;
 mod negative_ack;
+mod plain_packet;
 mod reply_check;
 mod returning;
 mod terms;

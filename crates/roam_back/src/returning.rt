@@ -6,10 +6,10 @@ ghost use Rattle.roam_wire.specs.Packet.{packet_text};
 ghost use Rattle.roam_wire.specs.Secret.{IsSecret};
 ghost use Rattle.roam_auth.specs.MessageAuthenticator.{HasAtMostOneMessageAuthenticator};
 ghost use Rattle.roam_back.specs.Returned.{returning, unsealed_return, returned, returned_length};
-ghost use Rattle.roam_back.specs.Plain.{IsPlainText};
+ghost use Rattle.roam_back.specs.Private.Plain.{IsPlainText};
 ghost use Rattle.roam_back.specs.Shown.{shown};
 
-use crate::appending::{append_plain, returned_len};
+use crate::plain_packet::{append_plain, returned_len};
 use crate::terms::Returning;
 use roam_auth::seal_and_sign;
 use roam_hide::{Hidden, HidingKey, rehide_packet};
@@ -36,7 +36,12 @@ fn rehide_accept(octets: &mut [u8], reply: &View<'_>, request: &View<'_>, return
 }
 
 /// Makes the returned packet of the octets that were appended for it, in place.
-fn finish(octets: &mut [u8], reply: &View<'_>, request: &View<'_>, returning: &Returning<'_>)
+fn seal_for_requester(
+    octets: &mut [u8],
+    reply: &View<'_>,
+    request: &View<'_>,
+    returning: &Returning<'_>,
+)
     requires plain { IsPlainText reply.now request.now octets.old }
     requires at_most_one { HasAtMostOneMessageAuthenticator reply.now }
     requires secret { IsSecret returning.now.client_secret.now }
@@ -47,7 +52,7 @@ fn finish(octets: &mut [u8], reply: &View<'_>, request: &View<'_>, returning: &R
 }
 
 /// The same, for the octets of a buffer from one on.
-fn finish_from<A: Allocator>(
+fn seal_appended<A: Allocator>(
     out: &mut Vec<u8, A>,
     start: usize,
     reply: &View<'_>,
@@ -61,7 +66,7 @@ fn finish_from<A: Allocator>(
     ensures { out.new.items ≡ take start out.old.items
         ++ packet_text (returned (shown returning.now) reply.now request.now) }
 {
-    finish(&mut out[start..], reply, request, returning);
+    seal_for_requester(&mut out[start..], reply, request, returning);
 }
 
 /// Appends the packet that is returned to the requester for a reply that was taken (RFC 2865, section
@@ -114,6 +119,6 @@ pub fn back<A: Allocator>(
         home_secret,
         client_secret,
     };
-    finish_from(out, start, reply, request, &returning);
+    seal_appended(out, start, reply, request, &returning);
     Ok(())
 }

@@ -15,10 +15,10 @@ use Rattle.roam_pending.proofs.ChangeLemmas.{found-ticket, length-without}
 use Rattle.roam_pending.proofs.ClientLemmas.{done-found}
 use Rattle.roam_reverse.specs.Sessions.{Session}
 use Rattle.roam_reverse.specs.Shown.{Ledger}
-use Rattle.roam_book.specs.declared.gone.Gone.{Gone}
-use Rattle.roam_book.specs.declared.numbers.Numbers.{Numbers}
-use Rattle.roam_book.specs.declared.rest.Rest.{Rest}
-use Rattle.roam_book.specs.NewEntry.{MakesWay, target_at}
+use Rattle.roam_book.specs.declared.rules.replaced.Replaced.{Replaced}
+use Rattle.roam_book.specs.declared.state.realm_numbers.RealmNumbers.{RealmNumbers}
+use Rattle.roam_book.specs.declared.state.rest.Rest.{Rest}
+use Rattle.roam_book.specs.Private.NewEntry.{MakesWay, target_at}
 use Rattle.roam_book.specs.RealmConfig.{RealmConfig, IsLink}
 use Rattle.roam_book.specs.RealmState.{RealmState, Target, next_toward}
 use Rattle.roam_book.specs.OnRequest.{admit, position_after}
@@ -66,19 +66,19 @@ stands-done (done reply deadline) h = refl
 
 -- the entry that counts as gone waits on a link of the realm
 pub gone-on_link :
-    {A : Type 0} (c : RealmConfig) (es : List PlainEntry) (n : Numbers A) (o : Option Gone)
-    (g : Gone) (l : Link) (i : ℕ) → IsSound c es n → CountsAsGone o es → o ≡ Some g → g.waits_at ≡ Some (l, i)
+    {A : Type 0} (c : RealmConfig) (es : List PlainEntry) (n : RealmNumbers A) (o : Option Replaced)
+    (g : Replaced) (l : Link) (i : ℕ) → IsSound c es n → CountsAsGone o es → o ≡ Some g → g.waits_at ≡ Some (l, i)
     → IsLink c l
 gone-on_link c es n None g l i sound gone is at = absurd (let k : None ≡ Some g = is in cc)
 gone-on_link c es n (Some x) g l i sound gone is at =
     let same : x ≡ g = cc is in
-    let there : x.waits_at ≡ Some (l, i) = ap (λ (y : Gone). y.waits_at) same ∙ at in
+    let there : x.waits_at ≡ Some (l, i) = ap (λ (y : Replaced). y.waits_at) same ∙ at in
     let well = (kept-ticket c n.ticket x.ticket gone.0 es gone.1.found sound.each).standing in
     stands-on_link c gone.0.request gone.0.standing l i (sym gone.1.place ∙ there) well
 
 -- what a realm keeps is kept where a done entry goes
 pub without-done :
-    {A : Type 0} (c : RealmConfig) (es : List PlainEntry) (n : Numbers A) (t : ℕ) (e : PlainEntry)
+    {A : Type 0} (c : RealmConfig) (es : List PlainEntry) (n : RealmNumbers A) (t : ℕ) (e : PlainEntry)
     → IsSound c es n → find_ticket t es ≡ Some e → is_done e ≡ true → IsSound c (without t es) n
 without-done c es n t e sound found is = record {
   each = kept-without c n.ticket t es sound.each;
@@ -91,19 +91,19 @@ without-done c es n t e sound found is = record {
 }
 
 pub gone-done :
-    {A : Type 0} (c : RealmConfig) (es : List PlainEntry) (n : Numbers A) (o : Option Gone)
-    (g : Gone) → IsSound c es n → CountsAsGone o es → o ≡ Some g → g.waits_at ≡ None
+    {A : Type 0} (c : RealmConfig) (es : List PlainEntry) (n : RealmNumbers A) (o : Option Replaced)
+    (g : Replaced) → IsSound c es n → CountsAsGone o es → o ≡ Some g → g.waits_at ≡ None
     → IsSound c (besides (gone_ticket o) es) n
 gone-done c es n None g sound gone is at = absurd (let k : None ≡ Some g = is in cc)
 gone-done c es n (Some x) g sound gone is at =
-    let none : x.waits_at ≡ None = let same : x ≡ g = cc is in ap (λ (y : Gone). y.waits_at) same ∙
+    let none : x.waits_at ≡ None = let same : x ≡ g = cc is in ap (λ (y : Replaced). y.waits_at) same ∙
     at in
     without-done c es n x.ticket gone.0 sound gone.1.found
     (stands-done gone.0.standing (sym gone.1.place ∙ none))
 
 -- what a realm keeps is kept where a waiting entry goes and its Identifier is free again
 without-waiting :
-    {A : Type 0} (c : RealmConfig) (es : List PlainEntry) (old new : Numbers A) (t : ℕ)
+    {A : Type 0} (c : RealmConfig) (es : List PlainEntry) (old new : RealmNumbers A) (t : ℕ)
     → IsSound c es old → LanesTell c (without t es) new.lanes.items → new.ticket ≡ old.ticket
     → new.stream_position ≡ old.stream_position
     → new.sessions ≡ old.sessions → length new.lanes.items ≡ length old.lanes.items
@@ -126,8 +126,8 @@ GivenBack c old new l i =
     → waits_at l i e ≡ true → LanesTell c (without e.ticket es) new
 
 pub gone-waiting :
-    {A : Type 0} (c : RealmConfig) (es : List PlainEntry) (old new : Numbers A) (o : Option Gone)
-    (g : Gone) (l : Link) (i : ℕ) → IsSound c es old → CountsAsGone o es → o ≡ Some g
+    {A : Type 0} (c : RealmConfig) (es : List PlainEntry) (old new : RealmNumbers A) (o : Option Replaced)
+    (g : Replaced) (l : Link) (i : ℕ) → IsSound c es old → CountsAsGone o es → o ≡ Some g
     → g.waits_at ≡ Some (l, i) → GivenBack c old.lanes.items new.lanes.items l i
     → new.ticket ≡ old.ticket → new.stream_position ≡ old.stream_position
     → new.sessions ≡ old.sessions → length new.lanes.items ≡ length old.lanes.items
@@ -137,7 +137,7 @@ gone-waiting c es old new None g l i sound gone is at back ticket position sessi
 gone-waiting c es old new (Some x) g l i sound gone is at back ticket position sessions count marks =
     let e = gone.0 in
     let same : x ≡ g = cc is in
-    let there : x.waits_at ≡ Some (l, i) = ap (λ (y : Gone). y.waits_at) same ∙ at in
+    let there : x.waits_at ≡ Some (l, i) = ap (λ (y : Replaced). y.waits_at) same ∙ at in
     let same_ticket : e.ticket ≡ x.ticket = found-ticket x.ticket es e gone.1.found in
     let found : find_ticket e.ticket es ≡ Some e =
     subst (λ (t : ℕ). find_ticket t es ≡ Some e) (sym same_ticket) gone.1.found in
@@ -147,7 +147,7 @@ gone-waiting c es old new (Some x) g l i sound gone is at back ticket position s
     without-waiting c es old new x.ticket sound told ticket position sessions count marks
 
 pub way-sound :
-    {A : Type 0} (c : RealmConfig) (es : List PlainEntry) (n : Numbers A) (way : Option ℕ)
+    {A : Type 0} (c : RealmConfig) (es : List PlainEntry) (n : RealmNumbers A) (way : Option ℕ)
     → IsSound c es n → IsEntryList es → MakesWay way es → IsSound c (besides way es) n
 way-sound c es n None sound list h = sound
 way-sound c es n (Some t) sound list h =
@@ -184,7 +184,7 @@ client-besides k (Some t) es h = client-without k t es h
 
 -- the next free Identifier doesn't change where a done entry goes
 pub next-besides :
-    {A : Type 0} (c : RealmConfig) (es : List PlainEntry) (n : Numbers A) (way : Option ℕ)
+    {A : Type 0} (c : RealmConfig) (es : List PlainEntry) (n : RealmNumbers A) (way : Option ℕ)
     (l : Link) → IsSound c es n → IsEntryList es → MakesWay way es → IsLink c l
     → next_toward c (cursors_of n.lanes.items) (besides way es) l
     ≡ next_toward c (cursors_of n.lanes.items) es l
@@ -195,7 +195,7 @@ next-besides c es n way l sound list h is =
 
 -- how many entries there are besides one that counts as gone
 pub length-besides :
-    (es : List PlainEntry) (o : Option Gone) (g : Gone) → IsEntryList es → CountsAsGone o es
+    (es : List PlainEntry) (o : Option Replaced) (g : Replaced) → IsEntryList es → CountsAsGone o es
     → o ≡ Some g → length (besides (gone_ticket o) es) + 1 ≡ length es
 length-besides es None g list gone is = absurd (let k : None ≡ Some g = is in cc)
 length-besides es (Some x) g list gone is =
@@ -219,7 +219,7 @@ entry-is q octets ticket s u same_octets same_standing =
 
 -- what a realm keeps is kept where a new request waits
 pub new-sound :
-    {A : Type 0} (c : RealmConfig) (es fs : List PlainEntry) (old new : Numbers A) (e : PlainEntry)
+    {A : Type 0} (c : RealmConfig) (es fs : List PlainEntry) (old new : RealmNumbers A) (e : PlainEntry)
     → IsSound c es old → e.ticket ≡ old.ticket → IsRequest c e.request
     → StandsWell c e.request e.standing → LanesTell c (put e es) new.lanes.items
     → old.ticket < 2 ^ 63 → new.ticket ≡ old.ticket + 1

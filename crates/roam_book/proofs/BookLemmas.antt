@@ -12,13 +12,11 @@ use Rattle.roam_pending.proofs.TestLemmas.{same}
 use Rattle.roam_book.specs.RealmConfig.{RealmConfig, link_count, realm_config}
 use Rattle.roam_book.specs.RealmState.{RealmState}
 use Rattle.roam_book.specs.Turn.{Turn, Gives, packets_of}
-use Rattle.roam_book.specs.RealmTurn.{GivesTwice}
 use Rattle.roam_book.specs.Sound.{AreOwnLanes, IsSound, LanesTell, state_of, marks_of}
 use Rattle.roam_book.specs.BookView.{BookView, IsBook, settings_of}
-use Rattle.roam_book.specs.declared.answer.Answer.{Answer}
-use Rattle.roam_book.specs.declared.answer.Twin.{Twin}
-use Rattle.roam_book.specs.declared.numbers.Numbers.{Numbers}
-use Rattle.roam_book.specs.declared.start.Start.{Start}
+use Rattle.roam_book.specs.declared.packets.answer.Answer.{Answer}
+use Rattle.roam_book.specs.declared.state.realm_numbers.RealmNumbers.{RealmNumbers}
+use Rattle.roam_book.specs.declared.state.start.Start.{Start}
 
 -- the entries of a list's own realm
 pub own-entries : (p : Held) (realm : ℕ) → p.realm ≡ realm → entries_in p realm ≡ p.entries
@@ -44,7 +42,7 @@ own-realm old new realm own keeps =
     sym (eqb-true realm new.realm is)
 
 -- a call of the realm keeps what the book keeps
-pub kept-book : {A : Type 0} (config : Config) (realm : ℕ) (old new : Held) (m : Numbers A)
+pub kept-book : {A : Type 0} (config : Config) (realm : ℕ) (old new : Held) (m : RealmNumbers A)
     (c : RealmConfig) → realm < vec_len config.realms → old.realm ≡ realm
     → c ≡ realm_config (shown config) realm → keeps_in new ≡ keeps_in old
     → IsSound c (entries_in new c.index) m → IsEntryList (entries_in new c.index)
@@ -63,7 +61,7 @@ kept-book config realm old new m c configured own is keeps sound list =
 -- what is said of the realm's state before a call of the realm and after it holds of the book's
 own-becomes : {A : Type 0} (P : RealmConfig → RealmState → RealmState → Type 0)
     (view : BookView) (config : ConfigView) (realm : ℕ)
-    (old new : Held) (n m : Numbers A) (c : RealmConfig)
+    (old new : Held) (n m : RealmNumbers A) (c : RealmConfig)
     → view ≡ record { config = config; realm = realm; state = state_of old.entries n }
     → c ≡ realm_config config realm → old.realm ≡ realm → new.realm ≡ realm
     → P c (state_of (entries_in old c.index) n) (state_of (entries_in new c.index) m)
@@ -80,7 +78,7 @@ own-becomes P view config realm old new n m c v is own now h =
 
 pub realm-becomes : {A : Type 0} (P : RealmConfig → RealmState → RealmState → Type 0)
     (view : BookView) (config : ConfigView) (realm : ℕ)
-    (old new : Held) (n m : Numbers A) (c k : RealmConfig) → k ≡ c
+    (old new : Held) (n m : RealmNumbers A) (c k : RealmConfig) → k ≡ c
     → view ≡ record { config = config; realm = realm; state = state_of old.entries n }
     → c ≡ realm_config config realm → old.realm ≡ realm → keeps_in new ≡ keeps_in old
     → P c (state_of (entries_in old c.index) n) (state_of (entries_in new k.index) m)
@@ -92,7 +90,7 @@ realm-becomes P view config realm old new n m c k at v is own keeps h =
 -- what a call of the realm gives, the book gives
 pub own-gives : {A : Type 0} (f : RealmConfig → RealmState → Turn)
     (r : Result (Answer A) NoMemory) (view : BookView) (config : ConfigView) (realm : ℕ)
-    (old new : Held) (n m : Numbers A) (c : RealmConfig)
+    (old new : Held) (n m : RealmNumbers A) (c : RealmConfig)
     → view ≡ record { config = config; realm = realm; state = state_of old.entries n }
     → c ≡ realm_config config realm → old.realm ≡ realm → new.realm ≡ realm
     → Gives r (state_of (entries_in old c.index) n) (state_of (entries_in new c.index) m)
@@ -111,7 +109,7 @@ own-gives f r view config realm old new n m c v is own now h =
 -- what the realm gives that a book lends for an event, under the settings that it has then
 pub realm-gives : {A : Type 0} (f : RealmConfig → RealmState → Turn)
     (r : Result (Answer A) NoMemory) (view : BookView) (config : ConfigView) (realm : ℕ)
-    (old new : Held) (n m : Numbers A) (c k : RealmConfig) → k ≡ c
+    (old new : Held) (n m : RealmNumbers A) (c k : RealmConfig) → k ≡ c
     → view ≡ record { config = config; realm = realm; state = state_of old.entries n }
     → c ≡ realm_config config realm → old.realm ≡ realm → keeps_in new ≡ keeps_in old
     → Gives r (state_of (entries_in old c.index) n) (state_of (entries_in new k.index) m)
@@ -121,26 +119,10 @@ realm-gives f r view config realm old new n m c k at v is own keeps h =
     own-gives f r view config realm old new n m c v is own (own-realm old new realm own keeps)
     (subst (λ (x : RealmConfig). Gives r (state_of (entries_in old c.index) n) (state_of (entries_in new x.index) m) (f c (state_of (entries_in old c.index) n))) at h)
 
--- the same where the answer is wanted twice
-pub realm-gives-twice : {A : Type 0} (f : RealmConfig → RealmState → Turn)
-    (r : Result (Twin A) NoMemory) (view : BookView) (config : ConfigView) (realm : ℕ)
-    (old new : Held) (n m : Numbers A) (c k : RealmConfig) → k ≡ c
-    → view ≡ record { config = config; realm = realm; state = state_of old.entries n }
-    → c ≡ realm_config config realm → old.realm ≡ realm → keeps_in new ≡ keeps_in old
-    → GivesTwice r (state_of (entries_in old c.index) n) (state_of (entries_in new k.index) m)
-    (f c (state_of (entries_in old c.index) n))
-    → GivesTwice r view.state (state_of new.entries m) (f (settings_of view) view.state)
-realm-gives-twice f (Ok twin) view config realm old new n m c k at v is own keeps h = (
-  realm-gives f (Ok twin.answer) view config realm old new n m c k at v is own keeps h.0,
-  realm-gives f (Ok twin.copy) view config realm old new n m c k at v is own keeps h.1,
-)
-realm-gives-twice {A = A} f (Err e) view config realm old new n m c k at v is own keeps h =
-    realm-gives {A = A} f (Err e) view config realm old new n m c k at v is own keeps h
-
 -- and no memory is wanted where the realm's call wants none
 pub own-succeeds : {A R : Type 0} (f : RealmConfig → RealmState → Turn)
     (r : Result R NoMemory) (view : BookView) (config : ConfigView) (realm : ℕ)
-    (held : Held) (n : Numbers A) (c : RealmConfig)
+    (held : Held) (n : RealmNumbers A) (c : RealmConfig)
     → view ≡ record { config = config; realm = realm; state = state_of held.entries n }
     → c ≡ realm_config config realm → held.realm ≡ realm
     → (packets_of (f c (state_of (entries_in held c.index) n)) ≡ [] → IsOk r)
@@ -154,7 +136,7 @@ own-succeeds f r view config realm held n c v is own h =
     subst (λ (b : BookView). packets_of (f (settings_of b) b.state) ≡ [] → IsOk r) (sym v) listed
 
 -- a book that begins keeps it
-pub new-book : {A : Type 0} (config : Config) (realm : ℕ) (held : Held) (n : Numbers A)
+pub new-book : {A : Type 0} (config : Config) (realm : ℕ) (held : Held) (n : RealmNumbers A)
     (c : RealmConfig) (start : Start) → realm < vec_len config.realms → held.realm ≡ realm
     → held.entries ≡ [] → c ≡ realm_config (shown config) realm → n.ticket ≡ start.ticket
     → start.ticket ≤ 2 ^ 63 → n.stream_position ≡ start.place → start.place < 2 ^ 68

@@ -3,9 +3,9 @@ use Rattle.std.proofs.Common.{◌≡◌, ℕ, is_some, List, refl, ap, ◌∙◌
 use Rattle.roam_pending.specs.PlainEntry.{PlainEntry, PlainRequest}
 use Rattle.roam_pending.specs.EntryList.{IsEntryList, besides}
 use Rattle.roam_reverse.specs.Shown.{Ledger}
-use Rattle.roam_book.specs.declared.numbers.Numbers.{Numbers}
-use Rattle.roam_book.specs.declared.way.Way.{Way}
-use Rattle.roam_book.specs.NewEntry.{IsWay, MakesWay, admits, cleared, left_by, once_gone}
+use Rattle.roam_book.specs.declared.state.realm_numbers.RealmNumbers.{RealmNumbers}
+use Rattle.roam_book.specs.declared.rules.admit_plan.AdmitPlan.{AdmitPlan}
+use Rattle.roam_book.specs.Private.NewEntry.{IsWay, MakesWay, admits, cleared, left_by, once_gone}
 use Rattle.roam_book.specs.RealmConfig.{RealmConfig, IsLink}
 use Rattle.roam_book.specs.RealmState.{next_toward}
 use Rattle.roam_book.specs.Sound.{IsSameButSlots, IsSound, cursors_of, state_of}
@@ -13,7 +13,7 @@ use Rattle.roam_book.proofs.AdmissionLemmas.{admit-same, client-besides, next-be
 
 -- the entries and numbers before, between, and once those that had to go are gone
 pub record IsCleared {A : Type 0} (c : RealmConfig) (es mid fs : List PlainEntry)
-    (n m k : Numbers A) (way : Way) : Type 0 where
+    (n m k : RealmNumbers A) (way : AdmitPlan) : Type 0 where
   pub gone : mid ≡ once_gone way.gone es
   pub done : fs ≡ besides way.done mid
   pub slots : IsSameButSlots n m
@@ -22,7 +22,7 @@ pub record IsCleared {A : Type 0} (c : RealmConfig) (es mid fs : List PlainEntry
   pub list : IsEntryList mid
 
 way-next :
-    {A : Type 0} (c : RealmConfig) (es mid fs : List PlainEntry) (n m k : Numbers A) (way : Way)
+    {A : Type 0} (c : RealmConfig) (es mid fs : List PlainEntry) (n m k : RealmNumbers A) (way : AdmitPlan)
     → IsCleared c es mid fs n m k way → MakesWay way.done (once_gone way.gone es) → IsLink c way.link
     → next_toward c (cursors_of k.lanes.items) fs way.link
     ≡ next_toward c (cursors_of n.lanes.items) (once_gone way.gone es) way.link
@@ -32,7 +32,7 @@ way-next c es mid fs n m k way h makes link =
     ∙ (rw (h.gone, h.slots.cursors) refl))
 
 pub clear-way :
-    {A : Type 0} (c : RealmConfig) (es mid fs : List PlainEntry) (n m k : Numbers A) (way : Way)
+    {A : Type 0} (c : RealmConfig) (es mid fs : List PlainEntry) (n m k : RealmNumbers A) (way : AdmitPlan)
     → IsCleared c es mid fs n m k way → (q : PlainRequest) → IsWay c (state_of es n) q way
     → IsWay c (state_of fs k) q (cleared way)
 clear-way c es mid fs n m k way h q is = record {
@@ -46,7 +46,7 @@ clear-way c es mid fs n m k way h q is = record {
 }
 
 pub clear-turn :
-    {A : Type 0} (c : RealmConfig) (es mid fs : List PlainEntry) (n m k : Numbers A) (way : Way)
+    {A : Type 0} (c : RealmConfig) (es mid fs : List PlainEntry) (n m k : RealmNumbers A) (way : AdmitPlan)
     → IsCleared c es mid fs n m k way → (now : ℕ) (q : PlainRequest) → IsWay c (state_of es n) q way
     → admits c now (state_of fs k) q (cleared way) ≡ admits c now (state_of es n) q way
 clear-turn c es mid fs n m k way h now q is =

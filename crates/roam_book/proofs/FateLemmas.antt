@@ -17,20 +17,20 @@ use Rattle.roam_pending.proofs.ChangeLemmas.{put-without}
 use Rattle.roam_route.specs.Admission.{PlainOut}
 use Rattle.roam_route.specs.Shown.{shown_out}
 use Rattle.roam_ids.specs.LaneState.{LaneState}
-use Rattle.roam_book.specs.declared.fate.Fate.{Fate}
-use Rattle.roam_book.specs.declared.fate.Fate.TheVariants as fate
+use Rattle.roam_book.specs.declared.rules.due_action.DueAction.{DueAction}
+use Rattle.roam_book.specs.declared.rules.due_action.DueAction.TheVariants as fate
 use Rattle.roam_reverse.specs.Shown.{Ledger}
-use Rattle.roam_book.specs.declared.numbers.Numbers.{Numbers}
-use Rattle.roam_book.specs.declared.sending.Sent.{Sent}
-use Rattle.roam_book.specs.declared.service.Service.TheVariants as service
+use Rattle.roam_book.specs.declared.state.realm_numbers.RealmNumbers.{RealmNumbers}
+use Rattle.roam_book.specs.declared.packets.forwarding.PacketCopies.{PacketCopies}
+use Rattle.roam_book.specs.declared.state.service.Service.TheVariants as service
 use Rattle.roam_book.specs.RealmConfig.{RealmConfig, IsLink, link_place, later_targets}
 use Rattle.roam_book.specs.RealmState.{Target, with_entries, next_toward, chosen_target}
 use Rattle.roam_book.specs.Rests.{after_choice, after_silence}
-use Rattle.roam_book.specs.declared.rest.Rest.{Rest}
-use Rattle.roam_book.specs.OnRequest.{packet_to, position_after, forwarded_octets, forwarded_entry}
+use Rattle.roam_book.specs.declared.state.rest.Rest.{Rest}
+use Rattle.roam_book.specs.OnRequest.{packet_to_link, position_after, forwarded_octets, forwarded_entry}
 use Rattle.roam_book.specs.OnTick.{fail_over, given_up_at, due_standing}
 use Rattle.roam_book.specs.Sound.{AreOwnLanes, IsEntry, IsWaiting, StandsWell, IsSound, LanesTell, state_of, cursors_of, lane_of, has_free, chosen_link, marks_of}
-use Rattle.roam_book.specs.Fates.{GivesUp, IsHeld, IsFate, fate_entries, once_held}
+use Rattle.roam_book.specs.Private.Fates.{GivesUp, IsHeld, IsFate, fate_entries, once_held}
 use Rattle.roam_book.proofs.SendingLemmas.{position-below}
 use Rattle.roam_book.proofs.SoundLemmas.{kept-put, kept-without, kept-ticket}
 use Rattle.roam_book.proofs.LaneLemmas.{tells-done, tells-gone, tells-again, chosen-open, target-tells, target-next, links-are}
@@ -38,7 +38,7 @@ use Rattle.roam_book.proofs.LaneLemmas.{tells-done, tells-gone, tells-again, cho
 -- A realm whose entries change
 
 -- the numbers that a realm hands out are as they were, but for the lanes
-pub record IsSameBut {A : Type 0} (old new : Numbers A) : Type 0 where
+pub record IsSameBut {A : Type 0} (old new : RealmNumbers A) : Type 0 where
   pub count : length new.lanes.items ≡ length old.lanes.items
   pub ticket : new.ticket ≡ old.ticket
   pub stream_position : new.stream_position ≡ old.stream_position
@@ -46,7 +46,7 @@ pub record IsSameBut {A : Type 0} (old new : Numbers A) : Type 0 where
   pub marks : marks_of new.lanes.items ≡ marks_of old.lanes.items
 
 sound-drawn :
-    {A : Type 0} (c : RealmConfig) (es fs : List PlainEntry) (n m : Numbers A) → IsSound c es n
+    {A : Type 0} (c : RealmConfig) (es fs : List PlainEntry) (n m : RealmNumbers A) → IsSound c es n
     → length m.lanes.items ≡ length n.lanes.items → m.ticket ≡ n.ticket
     → m.stream_position < 2 ^ 68 → m.sessions ≡ n.sessions
     → marks_of m.lanes.items ≡ marks_of n.lanes.items
@@ -62,28 +62,28 @@ sound-drawn c es fs n m sound count ticket position sessions marks each tells = 
 }
 
 pub sound-changed :
-    {A : Type 0} (c : RealmConfig) (es fs : List PlainEntry) (n m : Numbers A) → IsSound c es n
+    {A : Type 0} (c : RealmConfig) (es fs : List PlainEntry) (n m : RealmNumbers A) → IsSound c es n
     → IsSameBut n m → AllByRecursion (IsEntry c n.ticket) fs → LanesTell c fs m.lanes.items
     → IsSound c fs m
 sound-changed c es fs n m sound same each tells =
     sound-drawn c es fs n m sound same.count same.ticket
     (rw same.stream_position sound.stream_position) same.sessions same.marks each tells
 
-same-numbers : {A : Type 0} (n : Numbers A) → IsSameBut n n
+same-numbers : {A : Type 0} (n : RealmNumbers A) → IsSameBut n n
 same-numbers n =
     record { count = refl; ticket = refl; stream_position = refl; sessions = refl; marks = refl }
 
 -- A done entry
 
 pub gone-done :
-    {A : Type 0} (c : RealmConfig) (now : ℕ) (es : List PlainEntry) (e : PlainEntry) (n : Numbers A)
+    {A : Type 0} (c : RealmConfig) (now : ℕ) (es : List PlainEntry) (e : PlainEntry) (n : RealmNumbers A)
     (reply : List ℕ) (deadline : ℕ) → e.standing ≡ done reply deadline → IsHeld c es e n
-    → IsFate c now es e n fate.Gone (due_standing c now (state_of es n) e e.standing)
+    → IsFate c now es e n fate.Expired (due_standing c now (state_of es n) e e.standing)
 gone-done {A} c now es e n reply deadline stands held =
     let is : is_done e ≡ true = ap stands_done stands in
     let each = kept-without c n.ticket e.ticket es held.sound.each in
     let tells = tells-gone c es n.lanes.items e.ticket e held.sound.lanes_tell held.found is in
-    subst (λ (p : PlainStanding). IsFate c now es e n fate.Gone
+    subst (λ (p : PlainStanding). IsFate c now es e n fate.Expired
     (due_standing c now (state_of es n) e p)) (sym stands) (record {
       packets = refl;
       state = refl;
@@ -107,10 +107,10 @@ entry-again c n e d h = record {
 }
 
 pub again :
-    {A : Type 0} (c : RealmConfig) (now : ℕ) (es : List PlainEntry) (e : PlainEntry) (n : Numbers A)
-    (l : Link) (id : ℕ) (forwarded : List ℕ) (sends_left deadline : ℕ) (sent : Sent A)
+    {A : Type 0} (c : RealmConfig) (now : ℕ) (es : List PlainEntry) (e : PlainEntry) (n : RealmNumbers A)
+    (l : Link) (id : ℕ) (forwarded : List ℕ) (sends_left deadline : ℕ) (sent : PacketCopies A)
     → e.standing ≡ waiting l id forwarded sends_left deadline → 0 < sends_left
-    → shown_out sent.out ≡ packet_to c l forwarded → IsHeld c es e n
+    → shown_out sent.out ≡ packet_to_link c l forwarded → IsHeld c es e n
     → IsFate c now es e n (fate.SentAgain sent) (due_standing c now (state_of es n) e e.standing)
 again c now es e n l id forwarded sends_left deadline sent stands some is held =
     let d = now + c.realm.wait in
@@ -128,7 +128,7 @@ again c now es e n l id forwarded sends_left deadline sent stands some is held =
 -- An entry that isn't sent to its link again: its Identifier was given back, and it was counted there
 
 pub record IsFreed {A : Type 0} (c : RealmConfig) (now : ℕ) (l : Link) (es : List PlainEntry)
-    (old new : Numbers A) : Type 0 where
+    (old new : RealmNumbers A) : Type 0 where
   pub cursors : cursors_of new.lanes.items ≡ cursors_of old.lanes.items
   pub rests : new.rests.items ≡ after_silence c now old.rests.items l
   pub tells : LanesTell c es new.lanes.items
@@ -136,7 +136,7 @@ pub record IsFreed {A : Type 0} (c : RealmConfig) (now : ℕ) (l : Link) (es : L
 
 -- what giving an Identifier back, and counting at its link, leave of the numbers
 pub record IsBack {A : Type 0} (c : RealmConfig) (l : Link) (id : ℕ)
-    (old new : Numbers A) : Type 0 where
+    (old new : RealmNumbers A) : Type 0 where
   pub cursors : cursors_of new.lanes.items ≡ cursors_of old.lanes.items
   pub tells : (e : PlainEntry) (es : List PlainEntry) → LanesTell c es old.lanes.items
       → find_ticket e.ticket es ≡ Some e → waits_at l id e ≡ true
@@ -149,7 +149,7 @@ pub record IsBack {A : Type 0} (c : RealmConfig) (l : Link) (id : ℕ)
   pub marks : marks_of new.lanes.items ≡ marks_of old.lanes.items
 
 pub record IsCounted {A : Type 0} (c : RealmConfig) (now : ℕ) (l : Link)
-    (old new : Numbers A) : Type 0 where
+    (old new : RealmNumbers A) : Type 0 where
   pub lanes : new.lanes.items ≡ old.lanes.items
   pub ticket : new.ticket ≡ old.ticket
   pub stream_position : new.stream_position ≡ old.stream_position
@@ -158,7 +158,7 @@ pub record IsCounted {A : Type 0} (c : RealmConfig) (now : ℕ) (l : Link)
 
 pub was-freed :
     {A : Type 0} (c : RealmConfig) (now : ℕ) (l : Link) (id : ℕ) (es : List PlainEntry)
-    (e : PlainEntry) (n m k : Numbers A) → IsHeld c es e n → waits_at l id e ≡ true
+    (e : PlainEntry) (n m k : RealmNumbers A) → IsHeld c es e n → waits_at l id e ≡ true
     → IsBack c l id n m → IsCounted c now l m k → IsFreed c now l (without e.ticket es) n k
 was-freed c now l id es e n m k held waits back counted = record {
   cursors = ap cursors_of counted.lanes ∙ back.cursors;
@@ -181,14 +181,14 @@ later-links c (link.Coa peer) = tt
 
 -- the target that is chosen then
 abbrev next_target :
-    {A : Type 0} → RealmConfig → ℕ → List PlainEntry → PlainEntry → Numbers A → Link → Option Target
+    {A : Type 0} → RealmConfig → ℕ → List PlainEntry → PlainEntry → RealmNumbers A → Link → Option Target
 next_target c now es e n l =
     chosen_target c now (after_silence c now n.rests.items l) (cursors_of n.lanes.items)
     (without e.ticket es) (later_targets c l)
 
 -- it is found by the lanes and the rests
 target-is :
-    {A : Type 0} (c : RealmConfig) (now : ℕ) (es : List PlainEntry) (e : PlainEntry) (n m : Numbers A)
+    {A : Type 0} (c : RealmConfig) (now : ℕ) (es : List PlainEntry) (e : PlainEntry) (n m : RealmNumbers A)
     (l : Link)
     → IsHeld c es e n → IsFreed c now l (without e.ticket es) n m
     → option_map (λ t. t.link) (next_target c now es e n l)
@@ -224,7 +224,7 @@ free-target c now rests lanes links (Some l) h = chosen-open c now rests lanes N
 
 -- an entry that is done, or gone, in place of one that waited
 held-done :
-    {A : Type 0} (c : RealmConfig) (es : List PlainEntry) (e : PlainEntry) (n m : Numbers A)
+    {A : Type 0} (c : RealmConfig) (es : List PlainEntry) (e : PlainEntry) (n m : RealmNumbers A)
     (d : Option (Done A)) (now : ℕ) (l : Link) → IsHeld c es e n
     → IsFreed c now l (without e.ticket es) n m → IsSound c (once_held e es d) m
 held-done c es e n m None now l held freed =
@@ -244,10 +244,10 @@ held-done c es e n m (Some d) now l held freed =
 
 given-sound :
     {A : Type 0} (c : RealmConfig) (now : ℕ) (es : List PlainEntry) (e : PlainEntry)
-    (n m : Numbers A) (l : Link) (f : Fate A) → IsHeld c es e n
+    (n m : RealmNumbers A) (l : Link) (f : DueAction A) → IsHeld c es e n
     → IsFreed c now l (without e.ticket es) n m → GivesUp c now e f
     → IsSound c (fate_entries c now e es f) m
-given-sound c now es e n m l fate.Gone held freed given = held-done c es e n m None now l held freed
+given-sound c now es e n m l fate.Expired held freed given = held-done c es e n m None now l held freed
 given-sound c now es e n m l (fate.Refused sent d) held freed given =
     held-done c es e n m d now l held freed
 given-sound c now es e n m l (fate.SentAgain sent) held freed given = absurd (given.ends)
@@ -256,7 +256,7 @@ given-sound c now es e n m l (fate.Forwarded sent w) held freed given = absurd (
 -- no later target has a free Identifier: no one answers the request
 pub gone-freed :
     {A : Type 0} (c : RealmConfig) (now : ℕ) (es : List PlainEntry) (e : PlainEntry)
-    (n m : Numbers A) (l : Link) (f : Fate A)
+    (n m : RealmNumbers A) (l : Link) (f : DueAction A)
     → IsHeld c es e n → IsFreed c now l (without e.ticket es) n m
     → None ≡ chosen_link c now m.rests.items m.lanes.items None (later_targets c l)
     → GivesUp c now e f
@@ -280,10 +280,10 @@ target_at l i = record { link = l; id = i }
 
 -- a request was forwarded to a link
 pub record IsSent {A : Type 0} (c : RealmConfig) (now : ℕ) (es : List PlainEntry) (q : PlainRequest)
-    (t : ℕ) (l : Link) (old new : Numbers A) (o : Sent A) (w : Waiting A) : Type 0 where
+    (t : ℕ) (l : Link) (old new : RealmNumbers A) (o : PacketCopies A) (w : Waiting A) : Type 0 where
   pub next : next_toward c (cursors_of old.lanes.items) es l ≡ Some w.id
   pub out : shown_out o.out
-      ≡ packet_to c l (forwarded_octets c q old.stream_position t (target_at l w.id))
+      ≡ packet_to_link c l (forwarded_octets c q old.stream_position t (target_at l w.id))
   pub standing : shown_standing (standing.Waiting w)
       ≡ (forwarded_entry c now q old.stream_position t (target_at l w.id)).standing
   pub waits : IsWaiting c q l w.id w.forwarded
@@ -311,7 +311,7 @@ stands-waiting {A} c q l w f s d is waits =
 -- a later target is chosen: the request goes there under its ticket
 pub forwarded-freed :
     {A : Type 0} (c : RealmConfig) (now : ℕ) (es : List PlainEntry) (e : PlainEntry)
-    (n m k : Numbers A) (l to : Link) (o : Sent A) (w : Waiting A)
+    (n m k : RealmNumbers A) (l to : Link) (o : PacketCopies A) (w : Waiting A)
     → IsHeld c es e n → IsFreed c now l (without e.ticket es) n m
     → Some to ≡ chosen_link c now m.rests.items m.lanes.items None (later_targets c l)
     → IsSent c now (without e.ticket es) e.request e.ticket to m k o w
@@ -330,7 +330,7 @@ forwarded-freed c now es e n m k l to o w held freed some sent =
     let at = freed.same.stream_position in
     let new = forwarded_entry c now e.request n.stream_position e.ticket (target_at to w.id) in
     let out : shown_out o.out
-    ≡ packet_to c to (forwarded_octets c e.request n.stream_position e.ticket (target_at to w.id)) =
+    ≡ packet_to_link c to (forwarded_octets c e.request n.stream_position e.ticket (target_at to w.id)) =
     rw (← at) sent.out in
     let stands : shown_standing (standing.Waiting w) ≡ new.standing = rw (← at) sent.standing in
     let is : with_standing (shown_standing (standing.Waiting w)) e ≡ new = ap

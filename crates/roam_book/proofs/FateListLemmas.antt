@@ -8,11 +8,11 @@ use Rattle.roam_pending.specs.Realms.{sent_again, with_standing}
 use Rattle.roam_pending.specs.Shown.{shown_standing}
 use Rattle.roam_pending.proofs.OrderLemmas.{list-changed, list-without}
 use Rattle.roam_pending.proofs.ChangeLemmas.{find-put, find-put_other, find-without, find-without_other}
-use Rattle.roam_book.specs.declared.fate.Fate.{Fate}
-use Rattle.roam_book.specs.declared.fate.Fate.TheVariants as fate
+use Rattle.roam_book.specs.declared.rules.due_action.DueAction.{DueAction}
+use Rattle.roam_book.specs.declared.rules.due_action.DueAction.TheVariants as fate
 use Rattle.roam_book.specs.RealmConfig.{RealmConfig}
 use Rattle.roam_book.specs.Rooms.{size_of}
-use Rattle.roam_book.specs.Fates.{fate_entries}
+use Rattle.roam_book.specs.Private.Fates.{fate_entries}
 
 -- No entry grows
 
@@ -38,10 +38,10 @@ size-without t s es =
     ]
 
 pub size-after :
-    {A : Type 0} (c : RealmConfig) (now t : ℕ) (e : PlainEntry) (es : List PlainEntry) (f : Fate A)
+    {A : Type 0} (c : RealmConfig) (now t : ℕ) (e : PlainEntry) (es : List PlainEntry) (f : DueAction A)
     → IsInOrder es → find_ticket e.ticket es ≡ Some e
     → size_of (find_ticket t (fate_entries c now e es f)) ≤ size_of (find_ticket t es)
-size-after c now t e es fate.Gone order found = size-without t e.ticket es
+size-after c now t e es fate.Expired order found = size-without t e.ticket es
 size-after c now t e es (fate.SentAgain sent) order found = size-put t
     (sent_again (now + c.realm.wait) e) e es order refl refl found
 size-after c now t e es (fate.Forwarded sent w) order found = size-put t
@@ -59,9 +59,9 @@ list-put x e es list at is found =
     list-changed x es list (rw here (ap (λ q. q.key) (sym is)))
 
 pub list-after :
-    {A : Type 0} (c : RealmConfig) (now : ℕ) (e : PlainEntry) (es : List PlainEntry) (f : Fate A)
+    {A : Type 0} (c : RealmConfig) (now : ℕ) (e : PlainEntry) (es : List PlainEntry) (f : DueAction A)
     → IsEntryList es → find_ticket e.ticket es ≡ Some e → IsEntryList (fate_entries c now e es f)
-list-after c now e es fate.Gone list found = list-without e.ticket es list
+list-after c now e es fate.Expired list found = list-without e.ticket es list
 list-after c now e es (fate.SentAgain sent) list found =
     list-put (sent_again (now + c.realm.wait) e) e es list refl refl found
 list-after c now e es (fate.Forwarded sent w) list found =

@@ -8,20 +8,20 @@ use Rattle.roam_pending.proofs.TestLemmas.{same}
 use Rattle.roam_pending.proofs.ChangeLemmas.{find-passes, found-is}
 use Rattle.roam_book.specs.RealmConfig.{RealmConfig, IsLink}
 use Rattle.roam_book.specs.Sound.{IsSound, lane_of}
-use Rattle.roam_book.specs.declared.numbers.Numbers.{Numbers}
+use Rattle.roam_book.specs.declared.state.realm_numbers.RealmNumbers.{RealmNumbers}
 use Rattle.roam_book.proofs.SoundLemmas.{kept-link}
 use Rattle.roam_book.proofs.ReplyLemmas.{link-of}
 use Rattle.roam_book.proofs.UsedLemmas.{parked_as_found, parked-one}
 use Rattle.roam_book.proofs.WaitingLemmas.{waits_as, parks}
 
 -- an entry that waits on a link waits on a link of the realm, and its ticket is parked there
-on_link : {A : Type 0} (c : RealmConfig) (es : List PlainEntry) (n : Numbers A) (l : Link) (i : ℕ)
+on_link : {A : Type 0} (c : RealmConfig) (es : List PlainEntry) (n : RealmNumbers A) (l : Link) (i : ℕ)
     (e : PlainEntry) → IsSound c es n → find_link l i es ≡ Some e → IsLink c l
 on_link c es n l i e sound found =
     let kept = kept-link c n.ticket l i e es found sound.each in
     link-of c l i e.request e.standing (find-passes (waits_at l i) es e found) kept.standing
 
-parked : {A : Type 0} (c : RealmConfig) (es : List PlainEntry) (n : Numbers A) (l : Link) (i : ℕ)
+parked : {A : Type 0} (c : RealmConfig) (es : List PlainEntry) (n : RealmNumbers A) (l : Link) (i : ℕ)
     (e : PlainEntry) → IsSound c es n → IsEntryList es → i < 256 → find_link l i es ≡ Some e
     → parks e.ticket (ticket_at (lane_of c n.lanes.items l) i) ≡ true
 parked c es n l i e sound list octet found =
@@ -30,7 +30,7 @@ parked c es n l i e sound list octet found =
     (sound.lanes_tell l (on_link c es n l i e sound found) i octet).parked e.ticket ∙ waits
 
 -- where no ticket is parked, no entry waits
-none-found : {A : Type 0} (c : RealmConfig) (es : List PlainEntry) (n : Numbers A) (l : Link) (i : ℕ)
+none-found : {A : Type 0} (c : RealmConfig) (es : List PlainEntry) (n : RealmNumbers A) (l : Link) (i : ℕ)
     (f : Option PlainEntry) → IsSound c es n → IsEntryList es → i < 256
     → (IsLink c l → None ≡ ticket_at (lane_of c n.lanes.items l) i) → find_link l i es ≡ f
     → find_link l i es ≡ None
@@ -40,14 +40,14 @@ none-found c es n l i (Some e) sound list octet at found =
     absurd (let k : false ≡ true = ap (parks e.ticket) none
     ∙ parked c es n l i e sound list octet found in cc)
 
-pub found-none : {A : Type 0} (c : RealmConfig) (es : List PlainEntry) (n : Numbers A) (l : Link)
+pub found-none : {A : Type 0} (c : RealmConfig) (es : List PlainEntry) (n : RealmNumbers A) (l : Link)
     (i : ℕ) → IsSound c es n → IsEntryList es → i < 256
     → (IsLink c l → None ≡ ticket_at (lane_of c n.lanes.items l) i) → find_link l i es ≡ None
 found-none c es n l i sound list octet at =
     none-found c es n l i (find_link l i es) sound list octet at refl
 
 -- the ticket that is parked is that of the entry that waits
-ticket-found : {A : Type 0} (c : RealmConfig) (es : List PlainEntry) (n : Numbers A) (l : Link)
+ticket-found : {A : Type 0} (c : RealmConfig) (es : List PlainEntry) (n : RealmNumbers A) (l : Link)
     (i t : ℕ) (f : Option PlainEntry) → IsSound c es n → IsEntryList es → i < 256 → IsLink c l
     → Some t ≡ ticket_at (lane_of c n.lanes.items l) i → find_link l i es ≡ f
     → find_ticket t es ≡ find_link l i es
@@ -63,7 +63,7 @@ ticket-found c es n l i t (Some e) sound list octet link at found =
     ap (λ (x : ℕ). find_ticket x es) same_ticket
     ∙ found-is (waits_at l i) es e list.in_order found ∙ sym found
 
-pub found-held : {A : Type 0} (c : RealmConfig) (es : List PlainEntry) (n : Numbers A) (l : Link)
+pub found-held : {A : Type 0} (c : RealmConfig) (es : List PlainEntry) (n : RealmNumbers A) (l : Link)
     (i t : ℕ) → IsSound c es n → IsEntryList es → i < 256 → IsLink c l
     → (IsLink c l → Some t ≡ ticket_at (lane_of c n.lanes.items l) i)
     → find_ticket t es ≡ find_link l i es

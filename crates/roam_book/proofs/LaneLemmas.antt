@@ -17,12 +17,12 @@ use Rattle.roam_pending.proofs.OrderLemmas.{list-without, without-absent}
 use Rattle.roam_pending.proofs.ChangeLemmas.{find-passes, found-ticket, find-without, put-without}
 use Rattle.roam_pending.proofs.ClientLemmas.{identifier-used}
 use Rattle.roam_conf.specs.Config.{ServerView}
-use Rattle.roam_book.specs.declared.service.Service.{Service}
-use Rattle.roam_book.specs.declared.service.Service.TheVariants as service
+use Rattle.roam_book.specs.declared.state.service.Service.{Service}
+use Rattle.roam_book.specs.declared.state.service.Service.TheVariants as service
 use Rattle.roam_book.specs.RealmConfig.{RealmConfig, IsLink, link_place, links_from, server_link, server_links}
 use Rattle.roam_book.specs.RealmState.{Target, next_toward, chosen_target, first_target, ready_links, this_or, is_used_on}
 use Rattle.roam_book.specs.Rests.{stands_back}
-use Rattle.roam_book.specs.declared.rest.Rest.{Rest}
+use Rattle.roam_book.specs.declared.state.rest.Rest.{Rest}
 use Rattle.roam_book.specs.Sound.{IsEntry, StandsWell, TellsAt, LanesTell, lane_of, cursors_of, waits_there, chosen_link, is_open, is_ready, standing_place, no_lane}
 use Rattle.roam_book.proofs.WaitingLemmas.{waits_as, without-waits, put-waits, tells-same}
 use Rattle.roam_book.proofs.UsedLemmas.{used-tells, freed-none, free_one}

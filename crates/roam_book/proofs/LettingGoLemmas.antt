@@ -19,7 +19,7 @@ use Rattle.roam_book.specs.Turn.{sends}
 use Rattle.roam_book.specs.OnTick.{Progress, silent, as_turn, without_entry, due_standing, due_entry, due_one, due_each, on_tick}
 use Rattle.roam_book.specs.Rooms.{done_or_gone, is_done_at, only_done_due}
 use Rattle.roam_book.specs.Sound.{IsSound}
-use Rattle.roam_book.specs.declared.numbers.Numbers.{Numbers}
+use Rattle.roam_book.specs.declared.state.realm_numbers.RealmNumbers.{RealmNumbers}
 use Rattle.roam_book.proofs.AdmissionLemmas.{without-done}
 use Rattle.roam_book.proofs.RoomLemmas.{first_rest, no_first, last_or-more}
 
@@ -282,7 +282,7 @@ letting_go-end c now first s time h next =
 
 -- what a realm keeps is kept
 pub sound-without :
-    {A : Type 0} (c : RealmConfig) (es : List PlainEntry) (n : Numbers A) (t : ℕ)
+    {A : Type 0} (c : RealmConfig) (es : List PlainEntry) (n : RealmNumbers A) (t : ℕ)
     → IsSound c es n → done_or_gone (find_ticket t es) ≡ true → IsSound c (without t es) n
 sound-without c es n t sound is = by (find_ticket t es) refl is
   where

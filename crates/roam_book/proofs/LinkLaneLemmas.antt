@@ -6,14 +6,14 @@ use Rattle.std.proofs.lemmas.List.{get_or_default, length-map, map-set, set-get_
 use Rattle.std.proofs.Math.Seq.{map-set_same}
 use Rattle.roam_conf.specs.Config.{ServerView}
 use Rattle.roam_conf.specs.declared.place.Link.{Link}
-use Rattle.roam_ids.specs.declared.place.Place.{Place}
-use Rattle.roam_ids.specs.declared.place.Place.TheVariants.{Free, Out, Parked}
+use Rattle.roam_ids.specs.declared.id_state.IdState.{IdState}
+use Rattle.roam_ids.specs.declared.id_state.IdState.TheVariants.{Free, Out, Parked}
 use Rattle.roam_ids.specs.LaneState.{LaneState, is_used, put_at, cursor_past}
 use Rattle.roam_ids.specs.Making.{with_memory}
 use Rattle.roam_ids.specs.NextIdentifier.{AllUsed, IsNextIdentifier, next_identifier}
 use Rattle.roam_ids.proofs.NextIdentifierLemmas.{next_identifier-is_next, below_256}
-use Rattle.roam_book.specs.declared.service.Service.{Service}
-use Rattle.roam_book.specs.declared.service.Service.TheVariants as service
+use Rattle.roam_book.specs.declared.state.service.Service.{Service}
+use Rattle.roam_book.specs.declared.state.service.Service.TheVariants as service
 use Rattle.roam_book.specs.RealmConfig.{RealmConfig, IsLink, link_place, server_link, server_links}
 use Rattle.roam_book.specs.Sound.{is_freed, is_open, has_free, cursors_of, lane_of, no_lane, Mark, mark_of, marks_of, AreOwnLanes}
 use Rattle.std.proofs.lemmas.Bool.{cases_Bool, cases_eq}
@@ -164,7 +164,7 @@ cursors-freed lanes place id i lane out new is out_is new_is =
 
 -- the marks stay, whatever is put twice at an Identifier
 pub marks-taken :
-    (lanes : List LaneState) (place id i : ℕ) (a : Place) (lane out new : LaneState)
+    (lanes : List LaneState) (place id i : ℕ) (a : IdState) (lane out new : LaneState)
     → lane ≡ get_or lanes place lane → out ≡ cursor_past (put_at lane id Out) id
     → new ≡ put_at out i a → marks_of (set lanes place new) ≡ marks_of lanes
 marks-taken lanes place id i a lane out new is out_is new_is =

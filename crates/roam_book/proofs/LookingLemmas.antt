@@ -2,7 +2,7 @@
 use Rattle.std.proofs.Common.{arith, ◌≡◌, ◌∙◌, ℕ, zero, suc, ◌+◌, Bool, false, refl, ap, sym}
 use Rattle.std.specs.Prelude.{is_some, if◌then◌else◌, None}
 use Rattle.roam_ids.specs.LaneState.{LaneState, ticket_at}
-use Rattle.roam_book.specs.Looking.{used_below}
+use Rattle.roam_book.specs.Private.Looking.{used_below}
 
 pub none-below : (lane : LaneState) → used_below lane 0 ≡ 0
 unfolding used_below

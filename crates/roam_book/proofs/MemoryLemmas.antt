@@ -5,17 +5,17 @@ use Rattle.roam_wire.specs.declared.refusal.NoMemory.{NoMemory}
 use Rattle.roam_wire.specs.declared.refusal.Refusal.{Refusal}
 use Rattle.roam_route.specs.Admission.{PlainOut}
 use Rattle.roam_route.specs.declared.datagram.Out.{Out}
-use Rattle.roam_book.specs.declared.answer.Answer.{Answer}
-use Rattle.roam_book.specs.declared.answer.Told.{Told}
-use Rattle.roam_book.specs.declared.answer.Twin.{Twin}
-use Rattle.roam_book.specs.declared.outs.Outs.{Outs}
+use Rattle.roam_book.specs.declared.packets.answer.Answer.{Answer}
+use Rattle.roam_book.specs.declared.packets.answer.AnswerCopies.{AnswerCopies}
+use Rattle.roam_book.specs.declared.packets.answer.Twin.{Twin}
+use Rattle.roam_book.specs.declared.packets.answer_builder.AnswerBuilder.{AnswerBuilder}
 use Rattle.roam_book.specs.RealmState.{RealmState}
 use Rattle.roam_book.specs.Turn.{Turn, Answers, refuses, packets_of, refusal_of, shown_outs, state_after}
-use Rattle.roam_book.specs.Memory.{HasPlace, IsOuts, IsTwin, Tells}
+use Rattle.roam_book.specs.Private.Memory.{HasPlace, IsOuts, IsTwin, Tells}
 use Rattle.roam_book.specs.RealmTurn.{GivesTwice}
 
 -- where there are places for one packet more, there is one
-pub has-place : {A : Type 0} (n : ℕ) (twice : Bool) (ps : List PlainOut) (o : Outs A)
+pub has-place : {A : Type 0} (n : ℕ) (twice : Bool) (ps : List PlainOut) (o : AnswerBuilder A)
     → IsOuts (n + 1) twice ps o → HasPlace o
 has-place n twice ps o h = record {
   sent = omega (arith, h.sent_places);
@@ -36,7 +36,7 @@ copy-tells twice ps copies (Some a) old new turn wanted same items refusal packe
 }
 
 -- what was gathered is told, and its copy where it is wanted
-pub told-tells : {A : Type 0} (n : ℕ) (twice : Bool) (ps : List PlainOut) (o : Outs A) (t : Told A)
+pub told-tells : {A : Type 0} (n : ℕ) (twice : Bool) (ps : List PlainOut) (o : AnswerBuilder A) (t : AnswerCopies A)
     (old new : RealmState) (turn : Turn) → IsOuts n twice ps o
     → t.answer.outs.items ≡ o.sent.items → t.answer.refusal ≡ None → is_some t.copy ≡ o.twice
     → IfSome t.copy (λ a. a.outs.items ≡ o.copies.items) → IfSome t.copy (λ a. a.refusal ≡ None)
@@ -62,7 +62,7 @@ copy-refuses : {A : Type 0} (o : Option (Answer A)) (s : RealmState) (why : Refu
 copy-refuses None s why outs refusal = tt
 copy-refuses (Some a) s why outs refusal = record { packets = outs; refusal = refusal; state = refl }
 
-pub refused-tells : {A : Type 0} (twice : Bool) (t : Told A) (s : RealmState) (why : Refusal)
+pub refused-tells : {A : Type 0} (twice : Bool) (t : AnswerCopies A) (s : RealmState) (why : Refusal)
     → shown_outs t.answer.outs.items ≡ [] → t.answer.refusal ≡ Some why → is_some t.copy ≡ twice
     → IfSome t.copy (λ a. shown_outs a.outs.items ≡ []) → IfSome t.copy (λ a. a.refusal ≡ Some why)
     → Tells twice t s s (refuses why)
@@ -73,7 +73,7 @@ refused-tells twice t s why outs refusal wanted copies copy_refusal = record {
 }
 
 -- both answers of a twin are the turn's
-pub twin-tells : {A : Type 0} (told : Told A) (twin : Twin A) (old new : RealmState) (turn : Turn)
+pub twin-tells : {A : Type 0} (told : AnswerCopies A) (twin : Twin A) (old new : RealmState) (turn : Turn)
     → Tells true told old new turn → twin.answer ≡ told.answer → Some twin.copy ≡ told.copy
     → Answers twin.answer old new turn × Answers twin.copy old new turn
 twin-tells told twin old new turn h answer copy =

@@ -21,15 +21,15 @@ use Rattle.roam_pending.proofs.ChangeLemmas.{put-without}
 use Rattle.roam_reverse.specs.declared.error_cause.TheConstants.{OTHER_PROXY_PROCESSING_ERROR}
 use Rattle.roam_route.specs.Admission.{PlainOut}
 use Rattle.roam_route.specs.Shown.{shown_out}
-use Rattle.roam_book.specs.declared.fate.Fate.{Fate}
-use Rattle.roam_book.specs.declared.fate.Fate.TheVariants as fate
-use Rattle.roam_book.specs.declared.sending.Sent.{Sent}
+use Rattle.roam_book.specs.declared.rules.due_action.DueAction.{DueAction}
+use Rattle.roam_book.specs.declared.rules.due_action.DueAction.TheVariants as fate
+use Rattle.roam_book.specs.declared.packets.forwarding.PacketCopies.{PacketCopies}
 use Rattle.roam_book.specs.RealmConfig.{RealmConfig, requester_secret}
 use Rattle.roam_book.specs.RealmState.{RealmState, with_entries}
-use Rattle.roam_book.specs.OnRequest.{is_reverse, nak_octets, packet_back}
+use Rattle.roam_book.specs.OnRequest.{is_reverse, nak_octets, packet_to_requester}
 use Rattle.roam_book.specs.OnTick.{given_up, once_refused}
-use Rattle.roam_book.specs.Fates.{GivesUp, fate_entries, held_for, once_held}
-use Rattle.roam_book.specs.Memory.{HasRoom}
+use Rattle.roam_book.specs.Private.Fates.{GivesUp, fate_entries, held_for, once_held}
+use Rattle.roam_book.specs.Private.Memory.{HasRoom}
 use Rattle.roam_book.specs.Sound.{IsRequest}
 
 -- the forwarded packet of a reverse request is ten octets longer than it, and short enough
@@ -84,10 +84,10 @@ copy-less n m None h le = tt
 copy-less n m (Some b) h le = room-less n m b h le
 
 -- a reverse request that is given up
-pub gives-up : {A : Type 0} (c : RealmConfig) (now : ℕ) (e : PlainEntry) (sent : Sent A)
+pub gives-up : {A : Type 0} (c : RealmConfig) (now : ℕ) (e : PlainEntry) (sent : PacketCopies A)
     (held : Option (Done A)) → is_reverse e.request ≡ true
     → shown_out sent.out
-    ≡ packet_back c e.request.key (nak_octets c e.request OTHER_PROXY_PROCESSING_ERROR)
+    ≡ packet_to_requester c e.request.key (nak_octets c e.request OTHER_PROXY_PROCESSING_ERROR)
     → held ≡ held_for c now (nak_octets c e.request OTHER_PROXY_PROCESSING_ERROR)
     → GivesUp c now e (fate.Refused sent held)
 gives-up {A} c now e sent held reverse out is = record {
@@ -110,7 +110,7 @@ gives-up {A} c now e sent held reverse out is = record {
 
 -- any other just goes
 pub goes : {A : Type 0} (c : RealmConfig) (now : ℕ) (e : PlainEntry)
-    → is_reverse e.request ≡ false → GivesUp {A = A} c now e fate.Gone
+    → is_reverse e.request ≡ false → GivesUp {A = A} c now e fate.Expired
 goes c now e other = record {
   packets = λ s. rw other refl;
   state = λ s es rest. rw other (rw (← rest) refl);

@@ -7,16 +7,16 @@ use Rattle.roam_conf.specs.Config.{ConfigView, RealmView}
 use Rattle.roam_conf.specs.declared.place.Link.{Link}
 use Rattle.roam_conf.specs.declared.place.Link.TheVariants as link
 use Rattle.roam_ids.specs.LaneState.{LaneState, place_at}
-use Rattle.roam_ids.specs.declared.place.Place.TheVariants.{Free}
+use Rattle.roam_ids.specs.declared.id_state.IdState.TheVariants.{Free}
 use Rattle.roam_pending.specs.declared.key.Requester.{Requester}
 use Rattle.roam_pending.specs.declared.key.Requester.TheVariants as requester
 use Rattle.roam_pending.specs.PlainEntry.{PlainEntry, PlainRequest, PlainStanding, waiting, done, has_ticket, same_link, stands_at}
 use Rattle.roam_reload.specs.Reload.{IsCarried, peer_part, realm_part}
 use Rattle.roam_book.specs.RealmConfig.{RealmConfig, IsLink, IsRequester, link_count, link_place, no_realm, realm_config}
-use Rattle.roam_book.specs.MoreLanes.{AreMoreLanes}
+use Rattle.roam_book.specs.Private.MoreLanes.{AreMoreLanes}
 use Rattle.roam_book.specs.Reload.{Carries}
 use Rattle.roam_book.specs.Sound.{AreOwnLanes, IsEntry, IsSound, LanesTell, Mark, StandsWell, TellsAt, cursors_of, lane_of, mark_of, marks_of, no_lane, own_tags, waits_there}
-use Rattle.roam_book.specs.declared.numbers.Numbers.{Numbers}
+use Rattle.roam_book.specs.declared.state.realm_numbers.RealmNumbers.{RealmNumbers}
 use Rattle.roam_book.proofs.SoundLemmas.{same_link-equal}
 
 -- the servers are the same, and the peers aren't fewer
@@ -188,7 +188,7 @@ one_more c place old lanes lane longer tag cursor free more = record {
 
 module _ {A : Type 0} where
   -- the numbers with more lanes fit the same entries under the new settings
-  pub sound_stays : (b c : RealmConfig) → Carries b c → (es : List PlainEntry) (old new : Numbers A)
+  pub sound_stays : (b c : RealmConfig) → Carries b c → (es : List PlainEntry) (old new : RealmNumbers A)
       → AreMoreLanes c (link_count c) old.lanes.items new.lanes.items
       → new.ticket ≡ old.ticket → new.stream_position ≡ old.stream_position → new.sessions ≡ old.sessions
       → IsSound b es old → IsSound c es new

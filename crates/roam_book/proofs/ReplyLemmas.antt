@@ -17,12 +17,12 @@ use Rattle.roam_book.specs.RealmState.{RealmState}
 use Rattle.roam_book.specs.Turn.{Turn, Answers, refuses}
 use Rattle.roam_book.specs.OnReply.{counted_peer, return_reply, returned_octets, returning}
 use Rattle.roam_book.specs.Sound.{AreOwnLanes, IsEntry, IsSound, LanesTell, StandsWell, marks_of}
-use Rattle.roam_book.specs.Judged.{Judges, returns_octets}
-use Rattle.roam_book.specs.ReplyPlans.{IsReplyPlan}
-use Rattle.roam_book.specs.declared.replies.Settled.{Settled}
-use Rattle.roam_book.specs.declared.verdict.Verdict.{Verdict}
-use Rattle.roam_book.specs.declared.answer.Answer.{Answer}
-use Rattle.roam_book.specs.declared.numbers.Numbers.{Numbers}
+use Rattle.roam_book.specs.Private.Judged.{Judges, returns_octets}
+use Rattle.roam_book.specs.Private.ReplyPlans.{IsReplyPlan}
+use Rattle.roam_book.specs.declared.rules.replies.Settled.{Settled}
+use Rattle.roam_book.specs.declared.rules.reply_outcome.ReplyOutcome.{ReplyOutcome}
+use Rattle.roam_book.specs.declared.packets.answer.Answer.{Answer}
+use Rattle.roam_book.specs.declared.state.realm_numbers.RealmNumbers.{RealmNumbers}
 use Rattle.roam_book.proofs.LaneLemmas.{tells-done}
 use Rattle.roam_book.proofs.SoundLemmas.{kept-put, kept-ticket, same_link-equal}
 
@@ -73,13 +73,13 @@ same-turn a old after new turn other h at is = record {
 }
 
 -- a verdict is one for the same turn
-pub same-verdict : {A : Type 0} (c : RealmConfig) (v : Verdict A) (e : PlainEntry) (l : Link)
+pub same-verdict : {A : Type 0} (c : RealmConfig) (v : ReplyOutcome A) (e : PlainEntry) (l : Link)
     (s : RealmState) (turn other : Turn) → Judges c v e l s turn → turn ≡ other
     → Judges c v e l s other
 same-verdict c v e l s turn other h is = subst (λ (t : Turn). Judges c v e l s t) is h
 
 -- so is one for the same link
-pub verdict-from : {A : Type 0} (c : RealmConfig) (v : Verdict A) (e : PlainEntry) (s : RealmState)
+pub verdict-from : {A : Type 0} (c : RealmConfig) (v : ReplyOutcome A) (e : PlainEntry) (s : RealmState)
     (turn : Turn) (l k : Link) → l ≡ k → Judges c v e l s turn → Judges c v e k s turn
 verdict-from c v e s turn l k is h = subst (λ (x : Link). Judges c v e x s turn) is h
 
@@ -116,7 +116,7 @@ found-with (Some x) P h = (x, refl, h)
 
 -- once an entry is done and its Identifier given back, its realm keeps what it kept
 pub done-sound : {A : Type 0} (c : RealmConfig) (t : ℕ) (e : PlainEntry) (es fs : List PlainEntry)
-    (reply : List ℕ) (deadline : ℕ) (old new : Numbers A) → IsSound c es old
+    (reply : List ℕ) (deadline : ℕ) (old new : RealmNumbers A) → IsSound c es old
     → find_ticket t es ≡ Some e → fs ≡ put (with_standing (done reply deadline) e) es
     → LanesTell c (without e.ticket es) new.lanes.items
     → length new.lanes.items ≡ length old.lanes.items → new.ticket ≡ old.ticket
@@ -145,7 +145,7 @@ list-standing s e es list found = list-changed (with_standing s e) es list (rw f
 -- What a reply is to do
 
 -- where the reply isn't taken, or its entry is done, the answer's turn is that of the plan
-pub plan-none : {A : Type 0} (c : RealmConfig) (s : RealmState) (e : PlainEntry) (v : Verdict A)
+pub plan-none : {A : Type 0} (c : RealmConfig) (s : RealmState) (e : PlainEntry) (v : ReplyOutcome A)
     (l : Link) (turn : Turn) → v.done ≡ None → Judges c v e l s turn
     → IsReplyPlan c s (record { answer = v.answer; settled = None }) turn
 plan-none c s e v l turn is h = record {
@@ -154,7 +154,7 @@ plan-none c s e v l turn is h = record {
   silent = λ none. refl;
 }
 
-pub plan-some : {A : Type 0} (c : RealmConfig) (s : RealmState) (e : PlainEntry) (v : Verdict A)
+pub plan-some : {A : Type 0} (c : RealmConfig) (s : RealmState) (e : PlainEntry) (v : ReplyOutcome A)
     (turn : Turn) (d : Settled A) → v.done ≡ Some d.done → v.counted ≡ d.counted → IsLink c d.link
     → d.ticket ≡ e.ticket
     → find_ticket e.ticket s.entries ≡ Some e → waits_at d.link d.id e ≡ true

@@ -13,15 +13,15 @@ use Rattle.roam_pending.specs.declared.key.Key.{Key}
 use Rattle.roam_pending.proofs.TestLemmas.{differs}
 use Rattle.roam_pending.proofs.ChangeLemmas.{find-passes, found-is}
 use Rattle.roam_pending.proofs.ClientLemmas.{client-without, key-equal, without_client-found}
-use Rattle.roam_book.specs.NewEntry.{HasNext, freed_link, target_at}
-use Rattle.roam_book.specs.OnRequest.{at_target, coa_links, first_seen, held_reply, is_reverse, nak_octets, nak_or_new, new_request, of_key, packet_back, reverse_cause, targets}
+use Rattle.roam_book.specs.Private.NewEntry.{HasNext, freed_link, target_at}
+use Rattle.roam_book.specs.OnRequest.{at_target, coa_links, first_seen, held_reply, is_reverse, nak_octets, nak_or_new, new_request, of_key, packet_to_requester, reverse_cause, targets}
 use Rattle.roam_book.specs.RealmConfig.{RealmConfig, IsLink, service_of}
 use Rattle.roam_book.specs.RealmState.{RealmState, Target, chosen_target, next_toward}
-use Rattle.roam_book.specs.declared.rest.Rest.{Rest}
+use Rattle.roam_book.specs.declared.state.rest.Rest.{Rest}
 use Rattle.roam_book.specs.Sound.{CountsAsGone, IsSound, chosen_link, cursors_of, gone_ticket, standing_place, state_of}
 use Rattle.roam_book.specs.Turn.{Turn, refuses, sends}
-use Rattle.roam_book.specs.declared.gone.Gone.{Gone}
-use Rattle.roam_book.specs.declared.numbers.Numbers.{Numbers}
+use Rattle.roam_book.specs.declared.rules.replaced.Replaced.{Replaced}
+use Rattle.roam_book.specs.declared.state.realm_numbers.RealmNumbers.{RealmNumbers}
 use Rattle.roam_book.proofs.JobLemmas.{target-within}
 use Rattle.roam_book.proofs.LaneLemmas.{links-are, target-freed, target-next, target-tells}
 
@@ -59,7 +59,7 @@ no-target (Some target) h = absurd (let k : Some target.link ≡ None = h in cc)
 
 -- the link that is chosen is that of the target
 open-is :
-    {A : Type 0} (c : RealmConfig) (now : ℕ) (es : List PlainEntry) (n : Numbers A) (o : Option Gone)
+    {A : Type 0} (c : RealmConfig) (now : ℕ) (es : List PlainEntry) (n : RealmNumbers A) (o : Option Replaced)
     (links : List Link) → IsSound c es n → IsEntryList es → CountsAsGone o es
     → AllByRecursion (IsLink c) links
     → option_map (λ t. t.link) (chosen_target c now n.rests.items (cursors_of n.lanes.items)
@@ -85,7 +85,7 @@ targets-links c q =
     ]
 
 targets-open :
-    {A : Type 0} (c : RealmConfig) (now : ℕ) (es : List PlainEntry) (n : Numbers A) (o : Option Gone)
+    {A : Type 0} (c : RealmConfig) (now : ℕ) (es : List PlainEntry) (n : RealmNumbers A) (o : Option Replaced)
     (q : PlainRequest) → IsSound c es n → IsEntryList es → CountsAsGone o es
     → option_map (λ t. t.link) (chosen_target c now n.rests.items (cursors_of n.lanes.items)
     (besides (gone_ticket o) es) (targets c q))
@@ -111,8 +111,8 @@ new-request-is c now s es q found ne is =
 
 -- a new request for which the code chose a link, or found none
 pub at-open :
-    {A : Type 0} (c : RealmConfig) (now : ℕ) (es : List PlainEntry) (n : Numbers A)
-    (o : Option Gone) (q : PlainRequest) (freed : Option Link) (l : Link) → IsSound c es n → IsEntryList es
+    {A : Type 0} (c : RealmConfig) (now : ℕ) (es : List PlainEntry) (n : RealmNumbers A)
+    (o : Option Replaced) (q : PlainRequest) (freed : Option Link) (l : Link) → IsSound c es n → IsEntryList es
     → CountsAsGone o es → n.ticket ≢ 2 ^ 63 → freed ≡ freed_link o
     → Some l ≡ chosen_link c now n.rests.items n.lanes.items freed (targets c q)
     → (new_request c now (state_of es n) (besides (gone_ticket o) es) q
@@ -131,8 +131,8 @@ at-open c now es n o q freed l sound list gone ne same_freed found =
     (new-request-is c now (state_of es n) mid q _ ne target.0, target.1)
 
 pub at-none :
-    {A : Type 0} (c : RealmConfig) (now : ℕ) (es : List PlainEntry) (n : Numbers A)
-    (o : Option Gone) (q : PlainRequest) (freed : Option Link) → IsSound c es n → IsEntryList es
+    {A : Type 0} (c : RealmConfig) (now : ℕ) (es : List PlainEntry) (n : RealmNumbers A)
+    (o : Option Replaced) (q : PlainRequest) (freed : Option Link) → IsSound c es n → IsEntryList es
     → CountsAsGone o es → n.ticket ≢ 2 ^ 63 → freed ≡ freed_link o
     → None ≡ chosen_link c now n.rests.items n.lanes.items freed (targets c q)
     → new_request c now (state_of es n) (besides (gone_ticket o) es) q
@@ -149,7 +149,7 @@ at-none c now es n o q freed sound list gone ne same_freed found =
 
 -- the entry of a request's key counts as gone, and the key is then free
 pub key-gone :
-    (k : Key) (e : PlainEntry) (es : List PlainEntry) (g : Gone) → IsEntryList es
+    (k : Key) (e : PlainEntry) (es : List PlainEntry) (g : Replaced) → IsEntryList es
     → find_client k es ≡ Some e → g.ticket ≡ e.ticket → g.waits_at ≡ standing_place e.standing
     → CountsAsGone (Some g) es
 key-gone k e es g list at ticket place =
@@ -199,7 +199,7 @@ seen-new c now s es named q rest none =
 pub seen-refused :
     (c : RealmConfig) (now : ℕ) (s : RealmState) (named : Option ℕ) (q : PlainRequest) (why : ℕ)
     → Some why ≡ reverse_cause c s named q
-    → first_seen c now s named q ≡ sends (packet_back c q.key (nak_octets c q why) ∷ []) s
+    → first_seen c now s named q ≡ sends (packet_to_requester c q.key (nak_octets c q why) ∷ []) s
 seen-refused c now s named q why some = ap (nak_or_new c now s q) (sym some)
 
 pub of-key-same :

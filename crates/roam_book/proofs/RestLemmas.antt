@@ -24,8 +24,8 @@ use Rattle.roam_book.specs.OnRequest.{admit, at_target, is_reverse, make_way, na
 use Rattle.roam_book.specs.OnReply.{judge, on_reply, reply_fault, returning, to_entry, to_standing}
 use Rattle.roam_book.specs.OnTick.{Progress, due_each, due_entry, due_one, due_standing, fail_over, given_up_at, on_tick, once_refused}
 use Rattle.roam_book.specs.OneRealm.{RealmEvent, on_event, one_realm_run, reply_came, request_came, tick_came}
-use Rattle.roam_book.specs.declared.rest.Rest.{Rest}
-use Rattle.roam_book.specs.declared.start.Start.{Start}
+use Rattle.roam_book.specs.declared.state.rest.Rest.{Rest}
+use Rattle.roam_book.specs.declared.state.start.Start.{Start}
 
 either : {X : Type 0} (P : X → Type 0) (test : Bool) (one other : X) → P one → P other
     → P (cond test one other)

@@ -10,9 +10,9 @@ use Rattle.roam_pending.specs.PlainEntry.{PlainEntry}
 use Rattle.roam_pending.specs.EntryList.{IsInOrder, find_ticket}
 use Rattle.roam_pending.specs.DueOrder.{is_before, into, due_at, is_due, due_list, due_after}
 use Rattle.roam_pending.proofs.DueListLemmas.{due-next}
-use Rattle.roam_book.specs.declared.buffers.Buffers.{Buffers}
-use Rattle.roam_book.specs.declared.room.Slot.{Slot}
-use Rattle.roam_book.specs.Memory.{HasBuffers, HasRoom}
+use Rattle.roam_book.specs.declared.packets.buffers.Buffers.{Buffers}
+use Rattle.roam_book.specs.declared.packets.tick_memory.TickSlot.{TickSlot}
+use Rattle.roam_book.specs.Private.Memory.{HasBuffers, HasRoom}
 use Rattle.roam_book.specs.Rooms.{dues_of, size_of, EachHasBuffers}
 
 -- How many are due
@@ -38,13 +38,13 @@ due-few now (e ∷ es) =
 
 -- the slots that were made so far are for the first due ones, and `last` is the last of those
 pub record IsReading {A : Type 0} (twice : Bool) (now : ℕ) (es : List PlainEntry)
-    (slots : List (Slot A)) (last : Option Due) : Type 0 where
+    (slots : List (TickSlot A)) (last : Option Due) : Type 0 where
   pub rest : List Due
   pub dues : due_list now es ≡ dues_of slots ++ rest
   pub at : last ≡ last_or None (dues_of slots)
   pub buffers : EachHasBuffers twice es slots
 
-dues-more : {A : Type 0} (slots : List (Slot A)) (slot : Slot A)
+dues-more : {A : Type 0} (slots : List (TickSlot A)) (slot : TickSlot A)
     → dues_of (slots ++ slot ∷ []) ≡ dues_of slots ++ slot.due ∷ []
 dues-more slots slot = map-append (λ s. s.due) slots (slot ∷ [])
 
@@ -53,7 +53,7 @@ last_or-more o [] d = refl
 last_or-more o (x ∷ xs) d = last_or-more (Some x) xs d
 
 buffers-more :
-    {A : Type 0} (twice : Bool) (es : List PlainEntry) (slots : List (Slot A)) (slot : Slot A)
+    {A : Type 0} (twice : Bool) (es : List PlainEntry) (slots : List (TickSlot A)) (slot : TickSlot A)
     → EachHasBuffers twice es slots
     → HasBuffers (size_of (find_ticket slot.due.ticket es)) slot.buffers
     → is_some slot.buffers.copy ≡ twice → EachHasBuffers twice es (slots ++ slot ∷ [])
@@ -62,7 +62,7 @@ buffers-more twice es (s ∷ ss) slot h k copy =
     (h.0, h.1, buffers-more twice es ss slot h.2 k copy)
 
 next_read :
-    {A : Type 0} (twice : Bool) (now : ℕ) (es : List PlainEntry) (slots : List (Slot A))
+    {A : Type 0} (twice : Bool) (now : ℕ) (es : List PlainEntry) (slots : List (TickSlot A))
     (last : Option Due) → IsInOrder es → (h : IsReading twice now es slots last)
     → due_after now last es ≡ slice_get h.rest 0
 next_read twice now es slots last order h = rw (h.at)
@@ -81,8 +81,8 @@ no_first (x ∷ xs) h = absurd (let k : Some x ≡ None = h in cc)
 
 -- a slot for the next one
 pub reading-turn :
-    {A : Type 0} (twice : Bool) (now : ℕ) (es : List PlainEntry) (slots more : List (Slot A))
-    (slot : Slot A) (last : Option Due) (due : Due)
+    {A : Type 0} (twice : Bool) (now : ℕ) (es : List PlainEntry) (slots more : List (TickSlot A))
+    (slot : TickSlot A) (last : Option Due) (due : Due)
     → IsInOrder es → IsReading twice now es slots last → Some due ≡ due_after now last es → slot.due ≡ due
     → HasBuffers (size_of (find_ticket due.ticket es)) slot.buffers
     → is_some slot.buffers.copy ≡ twice → more ≡ slots ++ slot ∷ []
@@ -103,7 +103,7 @@ reading-turn twice now es slots more slot last due order h next is buffers copy 
 
 -- none is left
 pub reading-end :
-    {A : Type 0} (twice : Bool) (now : ℕ) (es : List PlainEntry) (slots : List (Slot A))
+    {A : Type 0} (twice : Bool) (now : ℕ) (es : List PlainEntry) (slots : List (TickSlot A))
     (last : Option Due) → IsInOrder es → IsReading twice now es slots last → None ≡ due_after now last es
     → dues_of slots ≡ due_list now es
 reading-end twice now es slots last order h next =
@@ -112,8 +112,8 @@ reading-end twice now es slots last order h next =
 
 -- there were fewer slots than due ones before
 pub reading-fewer :
-    {A : Type 0} (twice : Bool) (now : ℕ) (es : List PlainEntry) (slots more : List (Slot A))
-    (slot : Slot A) (last : Option Due) (due : Due)
+    {A : Type 0} (twice : Bool) (now : ℕ) (es : List PlainEntry) (slots more : List (TickSlot A))
+    (slot : TickSlot A) (last : Option Due) (due : Due)
     → IsInOrder es → IsReading twice now es slots last → Some due ≡ due_after now last es
     → more ≡ slots ++ slot ∷ []
     → length (due_list now es) - length more < length (due_list now es) - length slots
@@ -153,7 +153,7 @@ buffers-smaller n m b le h = record {
 
 -- slots stay large enough while no entry grows
 pub buffers-kept :
-    {A : Type 0} (twice : Bool) (es fs : List PlainEntry) (slots : List (Slot A))
+    {A : Type 0} (twice : Bool) (es fs : List PlainEntry) (slots : List (TickSlot A))
     → ((t : ℕ) → size_of (find_ticket t fs) ≤ size_of (find_ticket t es))
     → EachHasBuffers twice es slots → EachHasBuffers twice fs slots
 buffers-kept twice es fs [] le h = tt

@@ -36,14 +36,14 @@ use Rattle.roam_route.specs.Admission.{PlainOut}
 use Rattle.roam_route.specs.UserName.{nas_of}
 use Rattle.roam_book.specs.OneRealm.{RealmEvent, request_came, reply_came, tick_came, on_event, one_realm_run}
 use Rattle.roam_book.specs.OnReply.{counted, counted_peer, judge, on_reply, once_returned, return_reply, returned_octets, returning, to_entry, to_standing}
-use Rattle.roam_book.specs.OnRequest.{admit, at_target, coa_links, first_seen, forwarded_entry, forwarded_octets, is_reverse, make_way, nak_octets, nak_or_new, new_request, of_key, on_request, once_forwarded, packet_to, position_after, drawn_at, packet_back, held_reply, reverse_cause, targets}
+use Rattle.roam_book.specs.OnRequest.{admit, at_target, coa_links, first_seen, forwarded_entry, forwarded_octets, is_reverse, make_way, nak_octets, nak_or_new, new_request, of_key, on_request, once_forwarded, packet_to_link, position_after, drawn_at, packet_to_requester, held_reply, reverse_cause, targets}
 use Rattle.roam_book.specs.OnTick.{Progress, as_turn, due_each, due_entry, due_one, due_standing, fail_over, given_up, given_up_at, on_tick, once_refused, silent, without_entry}
 use Rattle.roam_book.specs.RealmConfig.{RealmConfig, later_targets, link_endpoint, link_place, link_secret, links_from, nowhere, requester_secret, seal_required, service_of}
 use Rattle.roam_book.specs.RealmState.{RealmState, Target, chosen_target, first_target, is_used_on, next_toward, ready_links, this_or, with_entries, with_next_ticket}
 use Rattle.roam_book.specs.Reload.{Carries}
 use Rattle.roam_book.specs.Rests.{after_choice, after_silence, awake, is_resting, once_chosen, once_silent, rest_of, stands_back, with_rest}
 use Rattle.roam_book.specs.Turn.{Turn, in_time, packets_of, refuses, sends, state_after}
-use Rattle.roam_book.specs.declared.rest.Rest.{Rest}
+use Rattle.roam_book.specs.declared.state.rest.Rest.{Rest}
 
 -- a part of a configuration without what isn't looked at
 abbrev pub bare : RealmConfig → RealmConfig
@@ -139,7 +139,7 @@ module _ (c : RealmConfig) where
       λ i. option_or (ready i) (first_same cursors entries links i)
 
   -- requests
-  to_same : (l : Link) (octets : List ℕ) → packet_to (bare c) l octets ≡ packet_to c l octets
+  to_same : (l : Link) (octets : List ℕ) → packet_to_link (bare c) l octets ≡ packet_to_link c l octets
   to_same l octets = λ i. record { realm = Some c.index; from = place.Out c.index; to = endpoint_same l i; bytes = octets }
 
   octets_same : (q : PlainRequest) (position ticket : ℕ) (target : Target) → forwarded_octets (bare c) q position ticket target ≡ forwarded_octets c q position ticket target
@@ -170,8 +170,8 @@ module _ (c : RealmConfig) where
 
   admit_same : (now : ℕ) (s : RealmState) (entries : List PlainEntry) (q : PlainRequest) (target : Target) → admit (bare c) now s entries q target ≡ admit c now s entries q target
   admit_same now s entries q target =
-      let octets : packet_to (bare c) target.link (forwarded_octets (bare c) q s.stream_position s.ticket target) ≡ packet_to c target.link (forwarded_octets c q s.stream_position s.ticket target) =
-      ap (packet_to (bare c) target.link) (octets_same q s.stream_position s.ticket target) ∙ to_same target.link (forwarded_octets c q s.stream_position s.ticket target) in
+      let octets : packet_to_link (bare c) target.link (forwarded_octets (bare c) q s.stream_position s.ticket target) ≡ packet_to_link c target.link (forwarded_octets c q s.stream_position s.ticket target) =
+      ap (packet_to_link (bare c) target.link) (octets_same q s.stream_position s.ticket target) ∙ to_same target.link (forwarded_octets c q s.stream_position s.ticket target) in
       λ i. sends (octets i ∷ []) (with_next_ticket (once_same now (with_entries s entries) q s.ticket target i))
 
   way_same : (now : ℕ) (s : RealmState) (entries : List PlainEntry) (q : PlainRequest) (target : Target) (t : Option ℕ) → make_way (bare c) now s entries q target t ≡ make_way c now s entries q target t
@@ -208,7 +208,7 @@ module _ (c : RealmConfig) where
       if is_reverse q then cause_same c.peers c.index named (packet_of q.octets).attributes s.sessions i else None
 
   nak_or_new_same : (now : ℕ) (s : RealmState) (q : PlainRequest) (why : Option ℕ) → nak_or_new (bare c) now s q why ≡ nak_or_new c now s q why
-  nak_or_new_same now s q (Some why) = λ i. sends (packet_back c q.key (nak_same q why i) ∷ []) s
+  nak_or_new_same now s q (Some why) = λ i. sends (packet_to_requester c q.key (nak_same q why i) ∷ []) s
   nak_or_new_same now s q None = new_same now s (without_client q.key s.entries) q
 
   first_seen_same : (now : ℕ) (s : RealmState) (named : Option ℕ) (q : PlainRequest) → first_seen (bare c) now s named q ≡ first_seen c now s named q
@@ -257,7 +257,7 @@ module _ (c : RealmConfig) where
       ap (once_returned (bare c) now s e l reply) (returned_same e.request l p reply) ∙ once_returned_same now s e l reply (returned_octets c e.request l p reply) in
       λ i. if nat_lt MAX_PACKET_LENGTH (returned_length (returning_same e.request l p i) reply (packet_of e.request.octets))
       then refuses refusal.ReplyTooLong
-      else sends (packet_back c e.request.key (returned_same e.request l p reply i) ∷ []) (state i)
+      else sends (packet_to_requester c e.request.key (returned_same e.request l p reply i) ∷ []) (state i)
 
   judge_same : (now : ℕ) (s : RealmState) (e : PlainEntry) (l : Link) (p reply : Packet) (why : Option Refusal) → judge (bare c) now s e l p reply why ≡ judge c now s e l p reply why
   judge_same now s e l p reply (Some why) = refl
@@ -284,7 +284,7 @@ module _ (c : RealmConfig) where
       let octets = nak_same e.request OTHER_PROXY_PROCESSING_ERROR in
       λ i. if is_reverse e.request
       then record {
-        packets = packet_back c e.request.key (octets i) ∷ [];
+        packets = packet_to_requester c e.request.key (octets i) ∷ [];
         state = once_refused c now s e (octets i);
       }
       else silent s
@@ -292,8 +292,8 @@ module _ (c : RealmConfig) where
   fail_over_same : (now : ℕ) (s : RealmState) (e : PlainEntry) (t : Option Target) → fail_over (bare c) now s e t ≡ fail_over c now s e t
   fail_over_same now s e None = given_up_same now s e
   fail_over_same now s e (Some t) =
-      let packet : packet_to (bare c) t.link (forwarded_octets (bare c) e.request s.stream_position e.ticket t) ≡ packet_to c t.link (forwarded_octets c e.request s.stream_position e.ticket t) =
-      ap (packet_to (bare c) t.link) (octets_same e.request s.stream_position e.ticket t) ∙ to_same t.link (forwarded_octets c e.request s.stream_position e.ticket t) in
+      let packet : packet_to_link (bare c) t.link (forwarded_octets (bare c) e.request s.stream_position e.ticket t) ≡ packet_to_link c t.link (forwarded_octets c e.request s.stream_position e.ticket t) =
+      ap (packet_to_link (bare c) t.link) (octets_same e.request s.stream_position e.ticket t) ∙ to_same t.link (forwarded_octets c e.request s.stream_position e.ticket t) in
       λ i. record { packets = packet i ∷ []; state = once_same now s e.request e.ticket t i }
 
   given_up_at_same : (now : ℕ) (l : Link) (s : RealmState) (e : PlainEntry) → given_up_at (bare c) now l s e ≡ given_up_at c now l s e

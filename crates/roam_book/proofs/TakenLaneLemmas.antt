@@ -2,8 +2,8 @@
 use Rattle.std.proofs.Common.{◌≡◌, ◌≢◌, ◌⊎◌, ℕ, ◌<◌, ◌&&◌, ◌==◌, Bool, true, false, List, Option, Some, None, is_some, refl, ap, sym, ◌∙◌, subst, arith, eqb, eqb-true, inl, inr, get_or, set, length, get_or-set_same, get_or-set_other, length-set}
 use Rattle.std.proofs.lemmas.Bool.{cases_Bool, cases_eq}
 use Rattle.roam_conf.specs.declared.place.Link.{Link}
-use Rattle.roam_ids.specs.declared.place.Place.{Place}
-use Rattle.roam_ids.specs.declared.place.Place.TheVariants.{Free, Out, Parked}
+use Rattle.roam_ids.specs.declared.id_state.IdState.{IdState}
+use Rattle.roam_ids.specs.declared.id_state.IdState.TheVariants.{Free, Out, Parked}
 use Rattle.roam_ids.specs.LaneState.{LaneState, HasIdentifiers, is_used, place_at, ticket_at, put_at, cursor_past}
 use Rattle.roam_ids.specs.Standing.{is_in_use, ticket_of}
 use Rattle.roam_ids.specs.NextIdentifier.{IsNextIdentifier, next_identifier}
@@ -20,10 +20,10 @@ use Rattle.roam_book.proofs.UsedLemmas.{parked-one}
 use Rattle.roam_book.proofs.LinkLaneLemmas.{lane-read, link_place-one, same_link-same, apart}
 
 -- a place where this ticket is parked; where one is
-abbrev parks_in : ℕ → Place → Bool
+abbrev parks_in : ℕ → IdState → Bool
 parks_in ticket p = parks ticket (ticket_of p)
 
-abbrev is_parking : Place → Bool
+abbrev is_parking : IdState → Bool
 is_parking p = is_some (ticket_of p)
 
 -- the same stands at an Identifier, and the same wait there
@@ -81,14 +81,14 @@ one_changes c es fs lanes l id lane link within tells places here there one k is
 
 -- what stands at each Identifier, once a place was put twice at one
 placed_there :
-    (lane : LaneState) (id : ℕ) (a b : Place) → length lane.places ≡ 256 → id < 256
+    (lane : LaneState) (id : ℕ) (a b : IdState) → length lane.places ≡ 256 → id < 256
     → place_at (put_at (put_at lane id a) id b) id ≡ b
 placed_there lane id a b whole octet =
     let count = length-set lane.places id a in
     get_or-set_same (set lane.places id a) id b Free (omega (arith, count))
 
 placed_elsewhere :
-    (lane : LaneState) (id i : ℕ) (a b : Place) → i ≢ id
+    (lane : LaneState) (id i : ℕ) (a b : IdState) → i ≢ id
     → place_at (put_at (put_at lane id a) id b) i ≡ place_at lane i
 placed_elsewhere lane id i a b ne =
     get_or-set_other (set lane.places id a) id i b Free ne

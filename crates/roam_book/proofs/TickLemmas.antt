@@ -11,18 +11,18 @@ use Rattle.roam_pending.specs.EntryList.{IsEntryList, find_ticket, without}
 use Rattle.roam_pending.specs.DueOrder.{due_list}
 use Rattle.roam_pending.specs.Realms.{RealmBecomes}
 use Rattle.roam_pending.proofs.ChangeLemmas.{found-ticket}
-use Rattle.roam_book.specs.declared.answer.Told.{Told}
-use Rattle.roam_book.specs.declared.outs.Outs.{Outs}
-use Rattle.roam_book.specs.declared.room.Slot.{Slot}
+use Rattle.roam_book.specs.declared.packets.answer.AnswerCopies.{AnswerCopies}
+use Rattle.roam_book.specs.declared.packets.answer_builder.AnswerBuilder.{AnswerBuilder}
+use Rattle.roam_book.specs.declared.packets.tick_memory.TickSlot.{TickSlot}
 use Rattle.roam_book.specs.RealmConfig.{RealmConfig}
 use Rattle.roam_book.specs.RealmState.{RealmState}
 use Rattle.roam_book.specs.Turn.{shown_outs}
 use Rattle.roam_book.specs.OnTick.{as_turn, on_tick, due_standing, due_entry, due_one, due_each}
-use Rattle.roam_book.specs.Memory.{HasBuffers, HasPlace, IsOuts, Tells}
+use Rattle.roam_book.specs.Private.Memory.{HasBuffers, HasPlace, IsOuts, Tells}
 use Rattle.roam_book.proofs.MemoryLemmas.{has-place, told-tells}
 use Rattle.roam_book.specs.Rooms.{dues_of, size_of, EachHasBuffers}
-use Rattle.roam_book.specs.declared.fate.Fate.{Fate}
-use Rattle.roam_book.specs.Fates.{fate_entries}
+use Rattle.roam_book.specs.declared.rules.due_action.DueAction.{DueAction}
+use Rattle.roam_book.specs.Private.Fates.{fate_entries}
 use Rattle.roam_book.proofs.RoomLemmas.{buffers-kept}
 
 pub no-outs : {A : Type 0} (xs : List (Out A)) → shown_outs xs ≡ [] → length xs ≡ 0
@@ -36,7 +36,7 @@ nothing-left (x ∷ xs) h = absurd (omega arith)
 -- what was sent and what the slots that are left will send is what all slots send, and so with the
 -- state; there are places for all of that
 pub record IsTicking {A : Type 0} (c : RealmConfig) (now : ℕ) (twice : Bool) (first s : RealmState)
-    (all left : List (Slot A)) (outs : Outs A) : Type 0 where
+    (all left : List (TickSlot A)) (outs : AnswerBuilder A) : Type 0 where
   pub sent : List PlainOut
   pub gathered : IsOuts (length left) twice sent outs
   pub packets : sent ++ (due_each c now s (dues_of left)).packets
@@ -47,7 +47,7 @@ pub record IsTicking {A : Type 0} (c : RealmConfig) (now : ℕ) (twice : Bool) (
 
 -- one slot was used
 pub record IsStep {A : Type 0} (c : RealmConfig) (now : ℕ) (s after : RealmState) (d : Due)
-    (outs more : Outs A) : Type 0 where
+    (outs more : AnswerBuilder A) : Type 0 where
   pub gathers : (places : ℕ) (twice : Bool) (packets : List PlainOut)
       → IsOuts (places + 1) twice packets outs
       → IsOuts places twice (packets ++ (due_one c now s d).packets) more
@@ -58,7 +58,7 @@ pub record IsStep {A : Type 0} (c : RealmConfig) (now : ℕ) (s after : RealmSta
 -- the first of the slots that are left
 pub first-buffers :
     {A : Type 0} (c : RealmConfig) (now : ℕ) (twice : Bool) (first s : RealmState)
-    (all left rest : List (Slot A)) (slot : Slot A) (outs : Outs A) → left ≡ slot ∷ rest
+    (all left rest : List (TickSlot A)) (slot : TickSlot A) (outs : AnswerBuilder A) → left ≡ slot ∷ rest
     → IsTicking c now twice first s all left outs
     → HasBuffers (size_of (find_ticket slot.due.ticket s.entries)) slot.buffers
 first-buffers c now twice first s all left rest slot outs is h =
@@ -66,14 +66,14 @@ first-buffers c now twice first s all left rest slot outs is h =
 
 pub first-copy :
     {A : Type 0} (c : RealmConfig) (now : ℕ) (twice : Bool) (first s : RealmState)
-    (all left rest : List (Slot A)) (slot : Slot A) (outs : Outs A) → left ≡ slot ∷ rest
+    (all left rest : List (TickSlot A)) (slot : TickSlot A) (outs : AnswerBuilder A) → left ≡ slot ∷ rest
     → IsTicking c now twice first s all left outs → is_some slot.buffers.copy ≡ outs.twice
 first-copy c now twice first s all left rest slot outs is h =
     let buffers = subst (EachHasBuffers twice s.entries) is h.buffers in
     buffers.1 ∙ sym h.gathered.wanted
 
-one-more : {A : Type 0} (twice : Bool) (ps : List PlainOut) (left rest : List (Slot A)) (slot : Slot A)
-    (outs : Outs A) → left ≡ slot ∷ rest → IsOuts (length left) twice ps outs
+one-more : {A : Type 0} (twice : Bool) (ps : List PlainOut) (left rest : List (TickSlot A)) (slot : TickSlot A)
+    (outs : AnswerBuilder A) → left ≡ slot ∷ rest → IsOuts (length left) twice ps outs
     → IsOuts (length rest + 1) twice ps outs
 one-more twice ps left rest slot outs is h =
     let count : length left ≡ length rest + 1 = omega (arith, ap length is) in
@@ -81,14 +81,14 @@ one-more twice ps left rest slot outs is h =
 
 pub first-place :
     {A : Type 0} (c : RealmConfig) (now : ℕ) (twice : Bool) (first s : RealmState)
-    (all left rest : List (Slot A)) (slot : Slot A) (outs : Outs A) → left ≡ slot ∷ rest
+    (all left rest : List (TickSlot A)) (slot : TickSlot A) (outs : AnswerBuilder A) → left ≡ slot ∷ rest
     → IsTicking c now twice first s all left outs → HasPlace outs
 first-place c now twice first s all left rest slot outs is h =
     has-place (length rest) twice h.sent outs (one-more twice h.sent left rest slot outs is h.gathered)
 
 pub ticking-turn :
     {A : Type 0} (c : RealmConfig) (now : ℕ) (twice : Bool) (first s after : RealmState)
-    (all left rest : List (Slot A)) (slot : Slot A) (outs more : Outs A) → left ≡ slot ∷ rest
+    (all left rest : List (TickSlot A)) (slot : TickSlot A) (outs more : AnswerBuilder A) → left ≡ slot ∷ rest
     → IsTicking c now twice first s all left outs → IsStep c now s after slot.due outs more
     → IsTicking c now twice first after all rest more
 ticking-turn c now twice first s after all left rest slot outs more is h step =
@@ -107,7 +107,7 @@ ticking-turn c now twice first s after all left rest slot outs more is h step =
 -- as it begins
 pub ticking-start :
     {A : Type 0} (c : RealmConfig) (now : ℕ) (twice : Bool) (first : RealmState)
-    (all : List (Slot A)) (outs : Outs A) → EachHasBuffers twice first.entries all
+    (all : List (TickSlot A)) (outs : AnswerBuilder A) → EachHasBuffers twice first.entries all
     → IsOuts (length all) twice [] outs → IsTicking c now twice first first all all outs
 ticking-start c now twice first all outs buffers empty =
     let none : length outs.sent.items ≡ 0 = no-outs outs.sent.items empty.sent in
@@ -123,7 +123,7 @@ ticking-start c now twice first all outs buffers empty =
 -- as it ends: what was done is what the tick does
 pub ticking-end :
     {A : Type 0} (c : RealmConfig) (now : ℕ) (twice : Bool) (first s : RealmState)
-    (all left : List (Slot A)) (outs : Outs A) (t : Told A) → left ≡ []
+    (all left : List (TickSlot A)) (outs : AnswerBuilder A) (t : AnswerCopies A) → left ≡ []
     → dues_of all ≡ due_list now first.entries → now ≤ 2 ^ 62
     → IsTicking c now twice first s all left outs
     → t.answer.outs.items ≡ outs.sent.items → t.answer.refusal ≡ None
@@ -182,7 +182,7 @@ becomes-at all new r s t is h = subst (λ (n : ℕ). RealmBecomes n (without t (
 -- what the entries are once an entry had its fate
 pub becomes-found :
     {A : Type 0} (c : RealmConfig) (now r t : ℕ) (e : PlainEntry) (es : List PlainEntry)
-    (old new : ℕ → List PlainEntry) (f : Fate A)
+    (old new : ℕ → List PlainEntry) (f : DueAction A)
     → Some e ≡ find_ticket t es
     → IfSome (find_ticket t es) (λ x. RealmBecomes r (fate_entries c now x es f) old new)
     → RealmBecomes r (fate_entries c now e es f) old new

@@ -3,14 +3,14 @@ use Rattle.std.proofs.Common.{◌≡◌, [], Option, ap, refl, ◌∙◌}
 use Rattle.std.specs.Prelude.{IsErr, IsOk, Result, Ok, Err}
 use Rattle.roam_wire.specs.declared.refusal.NoMemory.{NoMemory}
 use Rattle.roam_pending.specs.declared.entries.Entries.{Ghosts}
-use Rattle.roam_book.specs.declared.answer.Answer.{Answer}
-use Rattle.roam_book.specs.declared.answer.Twin.{Twin}
-use Rattle.roam_book.specs.declared.realm.Realm.{Realm}
-use Rattle.roam_book.specs.declared.replies.Settled.{Settled}
+use Rattle.roam_book.specs.declared.packets.answer.Answer.{Answer}
+use Rattle.roam_book.specs.declared.packets.answer.Twin.{Twin}
+use Rattle.roam_book.specs.declared.state.realm_broker.RealmBroker.{RealmBroker}
+use Rattle.roam_book.specs.declared.rules.replies.Settled.{Settled}
 use Rattle.roam_book.specs.RealmConfig.{RealmConfig}
 use Rattle.roam_book.specs.RealmState.{RealmState}
 use Rattle.roam_book.specs.RealmTurn.{GivesTwice, Keeps, Turns, TurnsTwice, state}
-use Rattle.roam_book.specs.ReplyPlans.{IsReplyPlan, once_settled}
+use Rattle.roam_book.specs.Private.ReplyPlans.{IsReplyPlan, once_settled}
 use Rattle.roam_book.specs.Turn.{Gives, Turn, packets_of}
 use Rattle.roam_book.proofs.RealmLemmas.{keeps-both}
 
@@ -30,7 +30,7 @@ gives-none_twice (Err e) old new turn err same = same
 
 -- memory was wanted for a packet, and nothing happened
 pub turns-lost :
-    {A E : Type 0} (g : Ghosts E A) (old new : Realm A E) (r : Result (Answer A) NoMemory)
+    {A E : Type 0} (g : Ghosts E A) (old new : RealmBroker A E) (r : Result (Answer A) NoMemory)
     (turn : RealmState → Turn) → IsErr r → state g new ≡ state g old
     → (packets_of (turn (state g old)) ≡ [] → ⊥) → Keeps g old new → Turns g old new r turn
 turns-lost g old new r turn err same sends rest = record {
@@ -40,7 +40,7 @@ turns-lost g old new r turn err same sends rest = record {
 }
 
 pub turns-lost_twice :
-    {A E : Type 0} (g : Ghosts E A) (old new : Realm A E) (r : Result (Twin A) NoMemory)
+    {A E : Type 0} (g : Ghosts E A) (old new : RealmBroker A E) (r : Result (Twin A) NoMemory)
     (turn : RealmState → Turn) → IsErr r → state g new ≡ state g old
     → (packets_of (turn (state g old)) ≡ [] → ⊥) → Keeps g old new → TurnsTwice g old new r turn
 turns-lost_twice g old new r turn err same sends rest = record {
@@ -51,7 +51,7 @@ turns-lost_twice g old new r turn err same sends rest = record {
 
 -- an entry was settled, once the ledger had its memory
 pub turns-settled :
-    {A E : Type 0} (g : Ghosts E A) (old made new : Realm A E) (answer : Answer A)
+    {A E : Type 0} (g : Ghosts E A) (old made new : RealmBroker A E) (answer : Answer A)
     (settled : Option (Settled A)) (turn : RealmState → Turn)
     → IsReplyPlan old.settings.now (state g old) (record { answer = answer; settled = settled })
     (turn (state g old))

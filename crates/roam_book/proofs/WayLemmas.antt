@@ -8,24 +8,24 @@ use Rattle.roam_route.specs.Admission.{PlainOut}
 use Rattle.roam_pending.specs.PlainEntry.{PlainEntry, PlainRequest}
 use Rattle.roam_pending.specs.EntryList.{find_client, first_done}
 use Rattle.roam_pending.proofs.TestLemmas.{same}
-use Rattle.roam_book.specs.NewEntry.{Chooses, HasNext, IsChosen, IsRequestPlan, IsWay, once_gone, straight_after, target_at}
+use Rattle.roam_book.specs.Private.NewEntry.{Chooses, HasNext, IsChosen, IsRequestPlan, IsWay, once_gone, straight_after, target_at}
 use Rattle.roam_book.specs.OnRequest.{at_target, make_way, new_request}
 use Rattle.roam_book.specs.RealmConfig.{RealmConfig, IsLink}
 use Rattle.roam_book.specs.RealmState.{RealmState, Target}
 use Rattle.roam_book.specs.Sound.{CountsAsGone, IsRequest}
 use Rattle.roam_book.specs.Turn.{Turn, Answers, refuses, sends, shown_outs}
-use Rattle.roam_book.specs.declared.answer.Answer.{Answer}
-use Rattle.roam_book.specs.declared.gone.Gone.{Gone}
-use Rattle.roam_book.specs.declared.requests.RequestPlan.{RequestPlan}
-use Rattle.roam_book.specs.declared.requests.RequestPlan.TheVariants as plan
-use Rattle.roam_book.specs.declared.way.Way.{Way}
+use Rattle.roam_book.specs.declared.packets.answer.Answer.{Answer}
+use Rattle.roam_book.specs.declared.rules.replaced.Replaced.{Replaced}
+use Rattle.roam_book.specs.declared.rules.requests.RequestPlan.{RequestPlan}
+use Rattle.roam_book.specs.declared.rules.requests.RequestPlan.TheVariants as plan
+use Rattle.roam_book.specs.declared.rules.admit_plan.AdmitPlan.{AdmitPlan}
 use Rattle.roam_book.proofs.RequestLemmas.{in-else, in-then}
 
 -- The way of a new request
 
 -- there is a place
 pub place-free :
-    (c : RealmConfig) (now : ℕ) (s : RealmState) (q : PlainRequest) (gone : Option Gone) (l : Link)
+    (c : RealmConfig) (now : ℕ) (s : RealmState) (q : PlainRequest) (gone : Option Replaced) (l : Link)
     → length (once_gone gone s.entries) < c.realm.max_pending → IsWay c s q (straight_after gone l)
     → IsChosen c now s q (straight_after gone l) (at_target c now s (once_gone gone s.entries) q
     (Some (target_at c s.cursors (once_gone gone s.entries) l)))
@@ -44,7 +44,7 @@ no-place c now s q es t full none =
 
 -- there is none, and one does
 pub place-made :
-    (c : RealmConfig) (now : ℕ) (s : RealmState) (q : PlainRequest) (gone : Option Gone) (l : Link)
+    (c : RealmConfig) (now : ℕ) (s : RealmState) (q : PlainRequest) (gone : Option Replaced) (l : Link)
     (t : ℕ)
     → c.realm.max_pending ≤ length (once_gone gone s.entries)
     → first_done (once_gone gone s.entries) ≡ Some t → IsWay c s q (straight_after gone l)
@@ -77,14 +77,14 @@ exhausted c now s q es at =
 
 -- what is chosen for a turn is chosen for the same turn
 pub chosen-same :
-    (c : RealmConfig) (now : ℕ) (s : RealmState) (q : PlainRequest) (r : Result Way Refusal)
+    (c : RealmConfig) (now : ℕ) (s : RealmState) (q : PlainRequest) (r : Result AdmitPlan Refusal)
     (turn other : Turn) → other ≡ turn → Chooses c now s q r turn → Chooses c now s q r other
 chosen-same c now s q (Ok way) turn other is h = record { way = h.way; does = is ∙ h.does }
 chosen-same c now s q (Err why) turn other is h = is ∙ h
 
 -- a link has a free Identifier for a request whose key is free once an entry is gone
 pub straight-way :
-    (c : RealmConfig) (s : RealmState) (q : PlainRequest) (gone : Option Gone) (l : Link)
+    (c : RealmConfig) (s : RealmState) (q : PlainRequest) (gone : Option Replaced) (l : Link)
     → IsRequest c q → s.ticket ≤ 2 ^ 63 → s.ticket ≢ 2 ^ 63 → CountsAsGone gone s.entries
     → find_client q.key (once_gone gone s.entries) ≡ None → IsLink c l
     → HasNext c s.cursors (once_gone gone s.entries) l → IsWay c s q (straight_after gone l)

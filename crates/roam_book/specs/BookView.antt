@@ -15,7 +15,7 @@ use Rattle.roam_book.specs.RealmConfig.{RealmConfig, realm_config}
 use Rattle.roam_book.specs.RealmState.{RealmState}
 use Rattle.roam_book.specs.OneRealm.{request_of}
 use Rattle.roam_book.specs.Sound.{IsRequest, IsSound}
-use Rattle.roam_book.specs.declared.numbers.Numbers.{Numbers}
+use Rattle.roam_book.specs.declared.state.realm_numbers.RealmNumbers.{RealmNumbers}
 
 -- a book: the configuration that it was made with, its realm's index there, and its realm's state
 pub record BookView : Type 0 where
@@ -28,7 +28,7 @@ abbrev pub settings_of : BookView → RealmConfig
 settings_of b = realm_config b.config b.realm
 
 -- what a book keeps
-pub record IsBook {A : Type 0} (config : Config) (realm : ℕ) (held : Held) (numbers : Numbers A) : Type 0 where
+pub record IsBook {A : Type 0} (config : Config) (realm : ℕ) (held : Held) (numbers : RealmNumbers A) : Type 0 where
   pub configured : realm < vec_len config.realms
   pub own_entries : held.realm ≡ realm
   pub sound : IsSound (realm_config (shown config) realm) held.entries numbers

@@ -15,12 +15,6 @@ pub mod RealmTurn
 pub mod Reload
 pub mod Rooms
 pub mod Sound
--- Words of private functions and of proofs alone.
-pub mod Fates
-pub mod Judged
-pub mod Looking
-pub mod Memory
-pub mod MoreLanes
-pub mod NewEntry
-pub mod ReplyPlans
 pub mod Stays
+-- Words that no contract of a public call names: those of private functions and of invariants.
+pub mod Private

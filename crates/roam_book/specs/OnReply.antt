@@ -20,7 +20,7 @@ use Rattle.roam_book.specs.RealmConfig.{RealmConfig, link_secret, requester_secr
 use Rattle.roam_book.specs.Rests.{after_reply}
 use Rattle.roam_book.specs.RealmState.{RealmState}
 use Rattle.roam_book.specs.Turn.{Turn, refuses, sends, in_time}
-use Rattle.roam_book.specs.OnRequest.{packet_back}
+use Rattle.roam_book.specs.OnRequest.{packet_to_requester}
 
 -- what a reply from a link is returned with
 abbrev pub returning : RealmConfig → PlainRequest → Link → Packet → Returning
@@ -63,7 +63,7 @@ abbrev pub return_reply : RealmConfig → ℕ → RealmState → PlainEntry → 
 return_reply c now s e l forwarded reply =
     if nat_lt MAX_PACKET_LENGTH (returned_length (returning c e.request l forwarded) reply (packet_of e.request.octets))
     then refuses refusal.ReplyTooLong
-    else sends (packet_back c e.request.key (returned_octets c e.request l forwarded reply) ∷ [])
+    else sends (packet_to_requester c e.request.key (returned_octets c e.request l forwarded reply) ∷ [])
     (once_returned c now s e l reply (returned_octets c e.request l forwarded reply))
 
 -- a reply with what is wrong with it, if anything is

@@ -27,12 +27,12 @@ use Rattle.roam_book.specs.Rests.{after_choice}
 use Rattle.roam_book.specs.Turn.{Turn, refuses, sends, in_time}
 
 -- a packet of the realm toward a link, and one back to the sender of a request
-abbrev pub packet_to : RealmConfig → Link → List ℕ → PlainOut
-packet_to c l octets =
+abbrev pub packet_to_link : RealmConfig → Link → List ℕ → PlainOut
+packet_to_link c l octets =
     record { realm = Some c.index; from = place.Out c.index; to = link_endpoint c l; bytes = octets }
 
-abbrev pub packet_back : RealmConfig → Key → List ℕ → PlainOut
-packet_back c key octets = record { realm = Some c.index; from = key.place; to = key.from; bytes = octets }
+abbrev pub packet_to_requester : RealmConfig → Key → List ℕ → PlainOut
+packet_to_requester c key octets = record { realm = Some c.index; from = key.place; to = key.from; bytes = octets }
 
 -- whether random words are drawn for a request: for an Access-Request, whose Authenticator is to be
 -- unpredictable (RFC 2865, section 3). In any other the Authenticator is a signature
@@ -88,7 +88,7 @@ once_forwarded c now s q ticket target = record s {
 -- a new request beside these entries: it takes the next ticket and is forwarded
 abbrev pub admit : RealmConfig → ℕ → RealmState → List PlainEntry → PlainRequest → Target → Turn
 admit c now s entries q target =
-    sends (packet_to c target.link (forwarded_octets c q s.stream_position s.ticket target) ∷ [])
+    sends (packet_to_link c target.link (forwarded_octets c q s.stream_position s.ticket target) ∷ [])
     (with_next_ticket (once_forwarded c now (with_entries s entries) q s.ticket target))
 
 -- where all places are held, the done entry of least ticket makes way
@@ -145,7 +145,7 @@ reverse_cause c s named q =
 -- a request that is no duplicate, with the cause for which it isn't forwarded, if there is one: then it
 -- gets a NAK, and the state stays as it is; else it is new, and the entry of its key counts as gone
 abbrev pub nak_or_new : RealmConfig → ℕ → RealmState → PlainRequest → Option ℕ → Turn
-nak_or_new c now s q (Some why) = sends (packet_back c q.key (nak_octets c q why) ∷ []) s
+nak_or_new c now s q (Some why) = sends (packet_to_requester c q.key (nak_octets c q why) ∷ []) s
 nak_or_new c now s q None = new_request c now s (without_client q.key s.entries) q
 
 -- a request that is no duplicate
@@ -155,7 +155,7 @@ first_seen c now s named q = nak_or_new c now s q (reverse_cause c s named q)
 -- what a duplicate gets: nothing while its request waits, else the reply that is held, once more
 abbrev pub held_reply : RealmConfig → Key → PlainStanding → List PlainOut
 held_reply c key (waiting l id forwarded sends_left deadline) = []
-held_reply c key (done reply deadline) = packet_back c key reply ∷ []
+held_reply c key (done reply deadline) = packet_to_requester c key reply ∷ []
 
 -- a request whose key an entry has: a duplicate where the octets are equal too, and the state stays as
 -- it is

@@ -13,7 +13,7 @@ use Rattle.roam_book.specs.RealmConfig.{RealmConfig, later_targets}
 use Rattle.roam_book.specs.RealmState.{RealmState, Target, with_entries, chosen_target}
 use Rattle.roam_book.specs.Rests.{after_silence}
 use Rattle.roam_book.specs.Turn.{Turn, sends, in_time}
-use Rattle.roam_book.specs.OnRequest.{packet_to, packet_back, forwarded_octets, is_reverse, nak_octets, once_forwarded}
+use Rattle.roam_book.specs.OnRequest.{packet_to_link, packet_to_requester, forwarded_octets, is_reverse, nak_octets, once_forwarded}
 
 -- what was sent so far, and the state that follows
 pub record Progress : Type 0 where
@@ -39,7 +39,7 @@ abbrev pub given_up : RealmConfig → ℕ → RealmState → PlainEntry → Prog
 given_up c now s e =
     if is_reverse e.request
     then record {
-      packets = packet_back c e.request.key
+      packets = packet_to_requester c e.request.key
           (nak_octets c e.request OTHER_PROXY_PROCESSING_ERROR) ∷ [];
       state = once_refused c now s e (nak_octets c e.request OTHER_PROXY_PROCESSING_ERROR);
     }
@@ -51,7 +51,7 @@ given_up c now s e =
 abbrev pub fail_over : RealmConfig → ℕ → RealmState → PlainEntry → Option Target → Progress
 fail_over c now s e None = given_up c now s e
 fail_over c now s e (Some target) = record {
-  packets = packet_to c target.link
+  packets = packet_to_link c target.link
       (forwarded_octets c e.request s.stream_position e.ticket target) ∷ [];
   state = once_forwarded c now s e.request e.ticket target;
 }
@@ -73,7 +73,7 @@ due_standing c now s e (done reply deadline) = silent (without_entry s e)
 due_standing c now s e (waiting l id forwarded sends_left deadline) =
     if nat_lt 0 sends_left
     then record {
-      packets = packet_to c l forwarded ∷ [];
+      packets = packet_to_link c l forwarded ∷ [];
       state = with_entries s (put (sent_again (now + c.realm.wait) e) s.entries);
     }
     else fail_over c now (given_up_at c now l s e) e

@@ -10,8 +10,8 @@ use Rattle.roam_conf.specs.declared.place.Link.{Link}
 use Rattle.roam_conf.specs.declared.place.Link.TheVariants as link
 use Rattle.roam_pending.specs.declared.key.Requester.{Requester}
 use Rattle.roam_pending.specs.declared.key.Requester.TheVariants as requester
-use Rattle.roam_book.specs.declared.service.Service.{Service}
-use Rattle.roam_book.specs.declared.service.Service.TheVariants as service
+use Rattle.roam_book.specs.declared.state.service.Service.{Service}
+use Rattle.roam_book.specs.declared.state.service.Service.TheVariants as service
 
 -- the seed of the random words, the realm's index, its own entry, and all peers; of other realms nothing
 pub record RealmConfig : Type 0 where

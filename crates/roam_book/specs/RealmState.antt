@@ -9,8 +9,8 @@ use Rattle.roam_pending.specs.EntryList.{identifiers_on}
 use Rattle.roam_reverse.specs.Sessions.{Session}
 use Rattle.roam_book.specs.RealmConfig.{RealmConfig, link_place, link_count}
 use Rattle.roam_book.specs.Rests.{all_awake, stands_back}
-use Rattle.roam_book.specs.declared.rest.Rest.{Rest}
-use Rattle.roam_book.specs.declared.start.Start.{Start}
+use Rattle.roam_book.specs.declared.state.rest.Rest.{Rest}
+use Rattle.roam_book.specs.declared.state.start.Start.{Start}
 
 -- the entries in order of ticket, the next ticket, a cursor for each link in the order of their
 -- places, the place in the stream of random words, the ledger of the sessions that are open, and how

@@ -5,32 +5,32 @@ use Rattle.roam_wire.specs.declared.refusal.NoMemory.{NoMemory}
 use Rattle.roam_pending.specs.declared.entries.Entries.{Ghosts}
 use Rattle.roam_pending.specs.PlainEntry.{PlainEntry}
 use Rattle.roam_pending.specs.EntryList.{IsEntryList}
-use Rattle.roam_book.specs.declared.answer.Answer.{Answer}
-use Rattle.roam_book.specs.declared.answer.Twin.{Twin}
-use Rattle.roam_book.specs.declared.realm.Realm.{Realm}
+use Rattle.roam_book.specs.declared.packets.answer.Answer.{Answer}
+use Rattle.roam_book.specs.declared.packets.answer.Twin.{Twin}
+use Rattle.roam_book.specs.declared.state.realm_broker.RealmBroker.{RealmBroker}
 use Rattle.roam_book.specs.RealmState.{RealmState}
 use Rattle.roam_book.specs.Turn.{Turn, Answers, Gives, packets_of}
 use Rattle.roam_book.specs.Sound.{IsSound, OthersStay, state_of}
 
 -- its entries, its state, and for how many more entries there is room without memory
-abbrev pub entries : {A E : Type 0} → Ghosts E A → Realm A E → List PlainEntry
+abbrev pub entries : {A E : Type 0} → Ghosts E A → RealmBroker A E → List PlainEntry
 entries g r = g.entries_of r.entries.now r.settings.now.index
 
-abbrev pub state : {A E : Type 0} → Ghosts E A → Realm A E → RealmState
+abbrev pub state : {A E : Type 0} → Ghosts E A → RealmBroker A E → RealmState
 state g r = state_of (entries g r) r.numbers.now
 
-abbrev pub room : {A E : Type 0} → Ghosts E A → Realm A E → ℕ
+abbrev pub room : {A E : Type 0} → Ghosts E A → RealmBroker A E → ℕ
 room g r = g.room_for r.entries.now r.settings.now.index
 
 -- its entries are kept there, in order of ticket with distinct keys, and fit its numbers
-pub record IsRealm {A E : Type 0} (g : Ghosts E A) (r : Realm A E) : Type 0 where
+pub record IsRealm {A E : Type 0} (g : Ghosts E A) (r : RealmBroker A E) : Type 0 where
   pub kept_here : IsTrue (g.keeps r.entries.now r.settings.now.index)
   pub sound : IsSound r.settings.now (entries g r) r.numbers.now
   pub list : IsEntryList (entries g r)
 
 -- it has the same settings, borrows the same entries and numbers, and they are kept for the same
 -- realms
-pub record KeepsLoans {A E : Type 0} (g : Ghosts E A) (old new : Realm A E) : Type 0 where
+pub record KeepsLoans {A E : Type 0} (g : Ghosts E A) (old new : RealmBroker A E) : Type 0 where
   pub settings : new.settings.now ≡ old.settings.now
   pub same_entries : new.entries.ghost_name ≡ old.entries.ghost_name
   pub same_numbers : new.numbers.ghost_name ≡ old.numbers.ghost_name
@@ -38,7 +38,7 @@ pub record KeepsLoans {A E : Type 0} (g : Ghosts E A) (old new : Realm A E) : Ty
 
 -- what each rule keeps: it is a realm still, with the same loans, and every other realm is as it
 -- was
-pub record Keeps {A E : Type 0} (g : Ghosts E A) (old new : Realm A E) : Type 0 where
+pub record Keeps {A E : Type 0} (g : Ghosts E A) (old new : RealmBroker A E) : Type 0 where
   pub realm : IsRealm g new
   pub loans : KeepsLoans g old new
   pub others : OthersStay old.settings.now.index (g.entries_of old.entries.now)
@@ -46,7 +46,7 @@ pub record Keeps {A E : Type 0} (g : Ghosts E A) (old new : Realm A E) : Type 0 
 
 -- a rule gives this turn of the old state, or wants memory and nothing happened; none is wanted
 -- where nothing is sent; the rest is kept
-pub record Turns {A E : Type 0} (g : Ghosts E A) (old new : Realm A E)
+pub record Turns {A E : Type 0} (g : Ghosts E A) (old new : RealmBroker A E)
     (result : Result (Answer A) NoMemory) (turn : RealmState → Turn) : Type 0 where
   pub gives : Gives result (state g old) (state g new) (turn (state g old))
   pub succeeds : packets_of (turn (state g old)) ≡ [] → IsOk result
@@ -59,7 +59,7 @@ GivesTwice (Ok twin) old new turn =
     Answers twin.answer old new turn × Answers twin.copy old new turn
 GivesTwice (Err e) old new turn = new ≡ old
 
-pub record TurnsTwice {A E : Type 0} (g : Ghosts E A) (old new : Realm A E)
+pub record TurnsTwice {A E : Type 0} (g : Ghosts E A) (old new : RealmBroker A E)
     (result : Result (Twin A) NoMemory) (turn : RealmState → Turn) : Type 0 where
   pub gives : GivesTwice result (state g old) (state g new) (turn (state g old))
   pub succeeds : packets_of (turn (state g old)) ≡ [] → IsOk result

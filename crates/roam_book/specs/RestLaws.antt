@@ -7,7 +7,7 @@ use Rattle.roam_book.specs.RealmConfig.{RealmConfig}
 use Rattle.roam_book.specs.RealmState.{RealmState, opening, chosen_target, first_target}
 use Rattle.roam_book.specs.Rests.{all_awake, stands_back}
 use Rattle.roam_book.specs.OneRealm.{RealmEvent, one_realm_run}
-use Rattle.roam_book.specs.declared.start.Start.{Start}
+use Rattle.roam_book.specs.declared.state.start.Start.{Start}
 
 -- where a realm's `rest` is 0, no link ever has a moment or a count, whatever comes
 abbrev pub WithoutRestAllStayAwake : Type 0

@@ -5,7 +5,7 @@ use Rattle.std.specs.Prelude.{ℕ, ◌+◌, Bool, false, nat_lt, nat_le, List, O
 use Rattle.std.specs.Option.{option_map_or}
 use Rattle.roam_conf.specs.declared.place.Link.{Link}
 use Rattle.roam_book.specs.RealmConfig.{RealmConfig, link_place, server_link_count}
-use Rattle.roam_book.specs.declared.rest.Rest.{Rest}
+use Rattle.roam_book.specs.declared.state.rest.Rest.{Rest}
 
 -- no moment, and a count of 0
 abbrev pub awake : Rest

@@ -5,12 +5,12 @@ use Rattle.roam_pending.specs.declared.due.Due.{Due}
 use Rattle.roam_pending.specs.DueOrder.{due_list}
 use Rattle.roam_pending.specs.PlainEntry.{PlainEntry, is_done}
 use Rattle.roam_pending.specs.EntryList.{find_ticket}
-use Rattle.roam_book.specs.Memory.{HasBuffers, IsOuts}
-use Rattle.roam_book.specs.declared.room.Room.{Room}
-use Rattle.roam_book.specs.declared.room.Slot.{Slot}
+use Rattle.roam_book.specs.Private.Memory.{HasBuffers, IsOuts}
+use Rattle.roam_book.specs.declared.packets.tick_memory.Room.{Room}
+use Rattle.roam_book.specs.declared.packets.tick_memory.TickSlot.{TickSlot}
 
 -- what the slots are for
-abbrev pub dues_of : {A : Type 0} → List (Slot A) → List Due
+abbrev pub dues_of : {A : Type 0} → List (TickSlot A) → List Due
 dues_of slots = map (λ slot. slot.due) slots
 
 -- how many octets an entry's forwarded packet may have: its request's, and 46 more
@@ -19,7 +19,7 @@ size_of None = 0
 size_of (Some e) = length e.request.octets + 46
 
 -- each slot has buffers for its entry's packet, and for its copy where it is wanted twice
-abbrev pub EachHasBuffers : {A : Type 0} → Bool → List PlainEntry → List (Slot A) → Type 0
+abbrev pub EachHasBuffers : {A : Type 0} → Bool → List PlainEntry → List (TickSlot A) → Type 0
 EachHasBuffers twice entries [] = Unit {0}
 EachHasBuffers twice entries (slot ∷ slots) =
     HasBuffers (size_of (find_ticket slot.due.ticket entries)) slot.buffers

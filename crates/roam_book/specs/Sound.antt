@@ -14,10 +14,10 @@ use Rattle.roam_pending.specs.EntryList.{find_ticket}
 use Rattle.roam_book.specs.RealmConfig.{RealmConfig, IsLink, IsRequester, link_place, link_count}
 use Rattle.roam_book.specs.RealmState.{RealmState}
 use Rattle.roam_book.specs.Rests.{stands_back}
-use Rattle.roam_book.specs.declared.gone.Gone.{Gone}
-use Rattle.roam_book.specs.declared.sending.Asked.{Asked}
-use Rattle.roam_book.specs.declared.numbers.Numbers.{Numbers}
-use Rattle.roam_book.specs.declared.rest.Rest.{Rest}
+use Rattle.roam_book.specs.declared.rules.replaced.Replaced.{Replaced}
+use Rattle.roam_book.specs.declared.packets.forwarding.RequestRef.{RequestRef}
+use Rattle.roam_book.specs.declared.state.realm_numbers.RealmNumbers.{RealmNumbers}
+use Rattle.roam_book.specs.declared.state.rest.Rest.{Rest}
 
 -- a request of the realm
 pub record IsRequest (c : RealmConfig) (q : PlainRequest) : Type 0 where
@@ -94,7 +94,7 @@ pub record AreOwnLanes (c : RealmConfig) (marks : List Mark) : Type 0 where
   pub servers : (place : ℕ) → place < 2 * length c.realm.servers
       → (slice_index_or marks place (mark_of no_lane)).made ≡ true
 
-abbrev pub state_of : {A : Type 0} → List PlainEntry → Numbers A → RealmState
+abbrev pub state_of : {A : Type 0} → List PlainEntry → RealmNumbers A → RealmState
 state_of entries numbers = record {
   entries = entries;
   ticket = numbers.ticket;
@@ -105,7 +105,7 @@ state_of entries numbers = record {
 }
 
 -- the numbers are as they were, but for which Identifiers are in use
-pub record IsSameButSlots {A : Type 0} (old new : Numbers A) : Type 0 where
+pub record IsSameButSlots {A : Type 0} (old new : RealmNumbers A) : Type 0 where
   pub cursors : cursors_of new.lanes.items ≡ cursors_of old.lanes.items
   pub marks : marks_of new.lanes.items ≡ marks_of old.lanes.items
   pub ticket : new.ticket ≡ old.ticket
@@ -114,7 +114,7 @@ pub record IsSameButSlots {A : Type 0} (old new : Numbers A) : Type 0 where
   pub rests : new.rests.items ≡ old.rests.items
 
 -- what a realm keeps
-pub record IsSound {A : Type 0} (c : RealmConfig) (entries : List PlainEntry) (numbers : Numbers A) : Type 0 where
+pub record IsSound {A : Type 0} (c : RealmConfig) (entries : List PlainEntry) (numbers : RealmNumbers A) : Type 0 where
   pub each : AllByRecursion (IsEntry c numbers.ticket) entries
   pub ticket : numbers.ticket ≤ 2 ^ 63
   pub stream_position : numbers.stream_position < 2 ^ 68
@@ -157,7 +157,7 @@ abbrev pub WaitsJustAt : Link → ℕ → PlainEntry → Type 0
 WaitsJustAt link id e = (l : Link) (i : ℕ) → waits_at l i e ≡ (same_link link l && id == i)
 
 -- a request that is looked at
-abbrev pub shown_request : Asked → PlainRequest
+abbrev pub shown_request : RequestRef → PlainRequest
 shown_request q = record { key = q.key; requester = q.requester; octets = q.octets.now }
 
 -- the entry that counts as gone: its ticket, and where it waits, if it does
@@ -165,16 +165,16 @@ abbrev pub standing_place : PlainStanding → Option (Link × ℕ)
 standing_place (waiting l id forwarded sends_left deadline) = Some (l, id)
 standing_place (done reply deadline) = None
 
-pub record IsGone (g : Gone) (entries : List PlainEntry) (e : PlainEntry) : Type 0 where
+pub record IsGone (g : Replaced) (entries : List PlainEntry) (e : PlainEntry) : Type 0 where
   pub found : find_ticket g.ticket entries ≡ Some e
   pub place : g.waits_at ≡ standing_place e.standing
 
 -- the ticket of the entry that counts as gone; the link where it waits
-abbrev pub gone_ticket : Option Gone → Option ℕ
+abbrev pub gone_ticket : Option Replaced → Option ℕ
 gone_ticket gone = option_map (λ g. g.ticket) gone
 
 -- an entry counts as gone, or none does
-abbrev pub CountsAsGone : Option Gone → List PlainEntry → Type 0
+abbrev pub CountsAsGone : Option Replaced → List PlainEntry → Type 0
 CountsAsGone None entries = Unit {0}
 CountsAsGone (Some g) entries = (e : PlainEntry) × IsGone g entries e
 

@@ -3,13 +3,13 @@ use Rattle.std.specs.Prelude.{◌≡◌, List, [], length, replicate}
 use Rattle.roam_book.specs.RealmConfig.{RealmConfig, link_count}
 use Rattle.roam_book.specs.Rests.{all_awake}
 use Rattle.roam_book.specs.Sound.{AreOwnLanes, LanesTell, cursors_of, marks_of}
-use Rattle.roam_book.specs.declared.numbers.Numbers.{Numbers}
-use Rattle.roam_book.specs.declared.rest.Rest.{Rest}
-use Rattle.roam_book.specs.declared.start.Start.{Start}
+use Rattle.roam_book.specs.declared.state.realm_numbers.RealmNumbers.{RealmNumbers}
+use Rattle.roam_book.specs.declared.state.rest.Rest.{Rest}
+use Rattle.roam_book.specs.declared.state.start.Start.{Start}
 
 -- nothing is in use yet, no session is open, all servers are awake, and the place and the next ticket
 -- are the start's
-pub record IsStarted {A : Type 0} (c : RealmConfig) (start : Start) (n : Numbers A) : Type 0 where
+pub record IsStarted {A : Type 0} (c : RealmConfig) (start : Start) (n : RealmNumbers A) : Type 0 where
   pub count : length n.lanes.items ≡ link_count c
   pub cursors : cursors_of n.lanes.items ≡ replicate (link_count c) 0
   pub free : LanesTell c [] n.lanes.items
@@ -21,7 +21,7 @@ pub record IsStarted {A : Type 0} (c : RealmConfig) (start : Start) (n : Numbers
   pub ledger : n.sessions.limit ≡ c.realm.max_sessions
 
 -- the rests are now these, and all else is as it was
-pub record RestsBecome {A : Type 0} (are : List Rest) (old new : Numbers A) : Type 0 where
+pub record RestsBecome {A : Type 0} (are : List Rest) (old new : RealmNumbers A) : Type 0 where
   pub rests : new.rests.items ≡ are
   pub lanes : new.lanes.items ≡ old.lanes.items
   pub ticket : new.ticket ≡ old.ticket
@@ -29,7 +29,7 @@ pub record RestsBecome {A : Type 0} (are : List Rest) (old new : Numbers A) : Ty
   pub sessions : new.sessions ≡ old.sessions
 
 -- the lanes are as many as before, and all but them is as it was
-pub record KeepsButLanes {A : Type 0} (old new : Numbers A) : Type 0 where
+pub record KeepsButLanes {A : Type 0} (old new : RealmNumbers A) : Type 0 where
   pub count : length new.lanes.items ≡ length old.lanes.items
   pub ticket : new.ticket ≡ old.ticket
   pub stream_position : new.stream_position ≡ old.stream_position
@@ -37,7 +37,7 @@ pub record KeepsButLanes {A : Type 0} (old new : Numbers A) : Type 0 where
   pub sessions : new.sessions ≡ old.sessions
 
 -- the ledger's limit stands, and all but its sessions is as it was
-pub record KeepsButSessions {A : Type 0} (old new : Numbers A) : Type 0 where
+pub record KeepsButSessions {A : Type 0} (old new : RealmNumbers A) : Type 0 where
   pub limit : new.sessions.limit ≡ old.sessions.limit
   pub lanes : new.lanes.items ≡ old.lanes.items
   pub ticket : new.ticket ≡ old.ticket

@@ -7,7 +7,7 @@ use Rattle.roam_route.specs.Admission.{PlainOut}
 use Rattle.roam_route.specs.Shown.{shown_out}
 use Rattle.roam_route.specs.declared.datagram.Out.{Out}
 use Rattle.roam_book.specs.RealmState.{RealmState}
-use Rattle.roam_book.specs.declared.answer.Answer.{Answer}
+use Rattle.roam_book.specs.declared.packets.answer.Answer.{Answer}
 
 -- a refusal sends nothing and leaves the state as it was
 pub data Turn : Type 0 where

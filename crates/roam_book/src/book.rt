@@ -15,15 +15,15 @@ ghost use Rattle.roam_book.specs.Sound.{IsRequest, shown_request};
 ghost use Rattle.roam_book.specs.Rooms.{IsRoomFor, only_done_due};
 ghost use Rattle.roam_book.specs.BookView.{IsTakenFrom, is_link, settings_of};
 
-use crate::answer::{Answer, nothing, refused};
-use crate::letting_go::only_done_due;
-use crate::numbers::Numbers;
-use crate::realm::Realm;
-use crate::requests::LATEST;
-use crate::room::{Room, room_for};
-use crate::sending::Asked;
-use crate::settings::Settings;
-use crate::start::Start;
+use crate::packets::answer::{Answer, nothing, refused};
+use crate::packets::forwarding::RequestRef;
+use crate::packets::tick_memory::{Room, room_for};
+use crate::rules::evict_done::only_done_due;
+use crate::rules::requests::LATEST;
+use crate::state::realm_broker::RealmBroker;
+use crate::state::realm_numbers::RealmNumbers;
+use crate::state::realm_settings::RealmSettings;
+use crate::state::start::Start;
 use roam_conf::{Config, Link};
 use roam_pending::{Key, Pending, Requester};
 use roam_route::{Job, Side};
@@ -38,7 +38,7 @@ pub struct Book<'c, A: Allocator> {
     pub(crate) config: &'c Config,
     pub(crate) realm: u16,
     pub(crate) entries: Pending<A>,
-    pub(crate) numbers: Numbers<A>,
+    pub(crate) numbers: RealmNumbers<A>,
 }
 
 impl<'c, A: Allocator> Model for Book<'c, A> {
@@ -58,11 +58,11 @@ impl<'c, A: Allocator> Model for Book<'c, A> {
 }
 
 /// A job of these octets as a request of its realm.
-pub fn asked_by<'a, A: Allocator>(
-    settings: &Settings<'_>,
+pub fn request_of_job<'a, A: Allocator>(
+    settings: &RealmSettings<'_>,
     job: &Job<A>,
     octets: &'a [u8],
-) -> Asked<'a>
+) -> RequestRef<'a>
     requires taken { IsTakenFrom settings.now (shown_job job.now) job.now.side }
     requires octets { octets.now ≡ job.now.octets }
     requires side { is_link job.now.side ≡ false }
@@ -80,7 +80,7 @@ pub fn asked_by<'a, A: Allocator>(
         from: job.from,
         id: View::of_packet(octets).id(),
     };
-    Asked {
+    RequestRef {
         key,
         requester,
         named: job.named,
@@ -89,7 +89,7 @@ pub fn asked_by<'a, A: Allocator>(
 }
 
 /// The link from which a reply came.
-pub(crate) fn link_of(side: Side) -> Link
+fn link_of(side: Side) -> Link
     requires { is_link side ≡ true }
     ensures { side ≡ Side.Link result }
 {
@@ -116,8 +116,8 @@ impl<'c, A: Allocator + Copy> Book<'c, A> {
         ensures state { IfOk result (λ b. b.state
             ≡ opening (realm_config (shown config.now) realm) start) }
     {
-        let settings = Settings::new(config, realm);
-        let numbers = Numbers::new(alloc, &settings, start)?;
+        let settings = RealmSettings::new(config, realm);
+        let numbers = RealmNumbers::new(alloc, &settings, start)?;
         let entries = Pending::new(alloc, realm);
         Ok(Book {
             config,
@@ -155,10 +155,10 @@ impl<'c, A: Allocator + Copy> Book<'c, A> {
         ensures config { self.new.config ≡ self.old.config }
         ensures realm { self.new.realm ≡ self.old.realm }
     {
-        let settings = Settings::new(self.config, self.realm);
+        let settings = RealmSettings::new(self.config, self.realm);
         let octets = job.octets.as_slice();
-        let asked = asked_by(&settings, job, octets);
-        let mut realm = Realm {
+        let asked = request_of_job(&settings, job, octets);
+        let mut realm = RealmBroker {
             settings: &settings,
             entries: &mut self.entries,
             numbers: &mut self.numbers,
@@ -183,9 +183,9 @@ impl<'c, A: Allocator + Copy> Book<'c, A> {
         ensures config { self.new.config ≡ self.old.config }
         ensures realm { self.new.realm ≡ self.old.realm }
     {
-        let settings = Settings::new(self.config, self.realm);
+        let settings = RealmSettings::new(self.config, self.realm);
         let octets = job.octets.as_slice();
-        let mut realm = Realm {
+        let mut realm = RealmBroker {
             settings: &settings,
             entries: &mut self.entries,
             numbers: &mut self.numbers,
@@ -214,8 +214,8 @@ impl<'c, A: Allocator + Copy> Book<'c, A> {
         ensures config { self.new.config ≡ self.old.config }
         ensures realm { self.new.realm ≡ self.old.realm }
     {
-        let settings = Settings::new(self.config, self.realm);
-        let mut realm = Realm {
+        let settings = RealmSettings::new(self.config, self.realm);
+        let mut realm = RealmBroker {
             settings: &settings,
             entries: &mut self.entries,
             numbers: &mut self.numbers,
@@ -232,8 +232,8 @@ impl<'c, A: Allocator + Copy> Book<'c, A> {
         ensures config { self.new.config ≡ self.old.config }
         ensures realm { self.new.realm ≡ self.old.realm }
     {
-        let settings = Settings::new(self.config, self.realm);
-        let mut realm = Realm {
+        let settings = RealmSettings::new(self.config, self.realm);
+        let mut realm = RealmBroker {
             settings: &settings,
             entries: &mut self.entries,
             numbers: &mut self.numbers,

@@ -1,6 +1,7 @@
 -- What the texts of a configuration say: decimal numbers, addresses and endpoints. Ours.
-use Rattle.std.specs.Prelude.{ℕ, ◌==◌, ◌&&◌, not, nat_lt, nat_le, Bool, if◌then◌else◌, List, [], ◌∷◌, length, slice_index, Option, Some, None}
+use Rattle.std.specs.Prelude.{ℕ, ◌==◌, ◌&&◌, not, nat_lt, nat_le, Bool, if◌then◌else◌, List, [], ◌∷◌, ◌++◌, length, codes, slice_index, Option, Some, None}
 use Rattle.std.specs.Char.{is_ascii_digit}
+use Rattle.std.specs.Fmt.{decimal}
 use Rattle.std.specs.List.{list_all, slice_split}
 use Rattle.std.specs.Str.Parse.{digits_value}
 use Rattle.roam_conf.specs.declared.endpoint.Endpoint.{Endpoint}
@@ -48,3 +49,9 @@ address_and_port _ = None
 -- an endpoint: an address, a colon (58) and a port from 1 to 65535
 unfoldable pub endpoint_in : List ℕ → Option Endpoint
 endpoint_in text = address_and_port (parts 58 text)
+
+-- four decimal numbers joined by dots, a colon and the port
+abbrev pub endpoint_text : Endpoint → List ℕ
+endpoint_text e =
+    decimal (slice_index e.ip 0) ++ codes "." ++ decimal (slice_index e.ip 1) ++ codes "." ++
+    decimal (slice_index e.ip 2) ++ codes "." ++ decimal (slice_index e.ip 3) ++ codes ":" ++ decimal e.port

@@ -1,6 +1,11 @@
 //! Where a packet comes from or goes to: an IPv4 address and a UDP port.
 
-use crate::texts::{address, cut_at_colon, decimal};
+ghost use Rattle.std.specs.Prelude.{Some};
+ghost use Rattle.roam_conf.specs.Texts.{endpoint_text};
+
+use crate::decimals::{address, cut_at_colon, decimal};
+use std::fmt;
+use std::fmt::{Display, Formatter, Write};
 
 /// An IPv4 address and a UDP port.
 #[derive(Clone, Copy, Debug, PartialEq, Eq, Hash)]
@@ -29,5 +34,16 @@ impl Endpoint {
             }),
             _ => None,
         }
+    }
+}
+
+impl Display for Endpoint {
+    ghost output = { λ endpoint. Some (endpoint_text endpoint) };
+
+    /// The address and the port, as a configuration states them.
+    fn fmt<W: Write>(&self, f: &mut Formatter<W>) -> fmt::Result {
+        let [a, b, c, d] = self.ip;
+        let port = self.port;
+        write!(f, "{a}.{b}.{c}.{d}:{port}")
     }
 }

@@ -3,13 +3,15 @@
 //! Nothing here reads a document: `roam_conf_reader` does.
 #![tactic(auto)]
 
+mod comparison;
 mod config;
+mod decimals;
 mod endpoint;
 mod equality;
-mod finding;
 mod index;
 mod indexes;
 mod laws;
+mod list_search;
 mod lookup;
 mod names;
 mod parts;
@@ -17,11 +19,11 @@ mod pattern;
 mod peer;
 mod place;
 mod realm;
-mod sameness;
 mod server;
-mod texts;
 
+pub use comparison::{is_same_endpoint, is_same_name};
 pub use config::Config;
+pub use decimals::{address, decimal};
 pub use endpoint::Endpoint;
 pub use indexes::has_duplicate_realm;
 pub use laws::{
@@ -33,6 +35,4 @@ pub use pattern::RealmPattern;
 pub use peer::Peer;
 pub use place::{Link, Place};
 pub use realm::Realm;
-pub use sameness::{is_same_endpoint, is_same_name};
 pub use server::Server;
-pub use texts::{address, decimal};

@@ -4,7 +4,7 @@ ghost use Rattle.std.specs.Prelude.{◌≡◌, ◌≤◌, length, drop};
 
 use crate::index::owner_of;
 use crate::names::{PatternRef, kind_and_name, realm_of};
-use crate::{Config, Endpoint, Link, Peer, Realm, finding};
+use crate::{Config, Endpoint, Link, Peer, Realm, list_search};
 
 impl Realm {
     ghost use Rattle.std.specs.Prelude.{◌≡◌, ◌≤◌, length, map};
@@ -17,7 +17,7 @@ impl Realm {
         requires { length peers.now ≤ 1024 }
         ensures { result ≡ link_at (map shown_peer peers.now) (shown_realm self.now) endpoint }
     {
-        match finding::auth_at(self.servers.as_slice(), endpoint) {
+        match list_search::auth_at(self.servers.as_slice(), endpoint) {
             Some(server) => Some(Link::Auth(server as u8)),
             None => self.acct_or_coa_at(peers, endpoint),
         }
@@ -28,9 +28,9 @@ impl Realm {
         requires { length peers.now ≤ 1024 }
         ensures { result ≡ acct_or_coa_at (map shown_peer peers.now) (shown_realm self.now) endpoint }
     {
-        match finding::acct_at(self.servers.as_slice(), endpoint) {
+        match list_search::acct_at(self.servers.as_slice(), endpoint) {
             Some(server) => Some(Link::Acct(server as u8)),
-            None => finding::link_to_peer(finding::coa_at(peers, endpoint)),
+            None => list_search::link_to_peer(list_search::coa_at(peers, endpoint)),
         }
     }
 
@@ -38,7 +38,7 @@ impl Realm {
     fn home_of(&self, ip: [u8; 4]) -> Option<u8>
         ensures { result ≡ server_with_ip (shown_realm self.now).servers ip }
     {
-        match finding::server_with_ip(self.servers.as_slice(), ip) {
+        match list_search::server_with_ip(self.servers.as_slice(), ip) {
             Some(server) => Some(server as u8),
             None => None,
         }

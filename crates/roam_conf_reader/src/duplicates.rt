@@ -6,7 +6,10 @@
 
 ghost use Rattle.std.specs.Prelude.{◌≡◌, ◌≤◌, ◌+◌, ◌||◌, ◌⊎◌, Some, None, IfOk, IfErr, MatchResult, length, map, drop};
 ghost use Rattle.std.specs.List.{list_any};
-ghost use Rattle.roam_conf.specs.Duplicates.{has_pair, same_endpoint, is_among, same_if_there, same_peer, own_endpoints, server_endpoints, coa_endpoints, some_server_at, has_duplicate_peer, has_duplicate_endpoint, has_duplicate_server, has_duplicate_link};
+ghost use Rattle.roam_conf.specs.Duplicates.{has_pair, same_endpoint, is_among, same_if_there, same_peer};
+ghost use Rattle.roam_conf.specs.Duplicates.{own_endpoints, server_endpoints, coa_endpoints, some_server_at};
+ghost use Rattle.roam_conf.specs.Duplicates.{has_duplicate_peer, has_duplicate_endpoint, has_duplicate_server};
+ghost use Rattle.roam_conf.specs.Duplicates.{has_duplicate_link};
 ghost use Rattle.roam_conf.specs.Parts.{shown_server, shown_peer, shown_realm};
 ghost use Rattle.roam_conf.specs.Shown.{shown_parts};
 ghost use Rattle.roam_conf_reader.specs.Faults.{first_duplicate};

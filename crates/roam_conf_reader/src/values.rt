@@ -1,6 +1,7 @@
 //! What a single value of the document states, and what a key of a table does.
 
-ghost use Rattle.std.specs.Prelude.{◌≡◌, ◌≤◌, ◌⊎◌, ℕ, Some, None, Ok, Err, IfOk, IfErr, IfSome, IsTrue, MatchResult, MatchOption, option_map, string_bytes, length, vec_len, true};
+ghost use Rattle.std.specs.Prelude.{◌≡◌, ◌≤◌, ◌⊎◌, ℕ, Some, None, Ok, Err, IfOk, IfErr, IfSome, IsTrue, MatchResult};
+ghost use Rattle.std.specs.Prelude.{MatchOption, option_map, string_bytes, length, vec_len, true};
 ghost use Rattle.std.specs.Bool.{OnTrue};
 ghost use Rattle.std.specs.List.{list_all};
 ghost use Rattle.std.specs.Option.{option_copied};

@@ -10,7 +10,7 @@ use Rattle.roam_conf.specs.declared.place.Place.{Place}
 use Rattle.roam_conf.specs.declared.place.Place.TheVariants as place
 use Rattle.roam_route.specs.UserName.{realm_of}
 use Rattle.roam_route.specs.LocalReject.{is_rejected}
-use Rattle.roam_route.specs.Admission.{Arrival, PlainJob, PlainOut, Admission, refused, rejected, admitted, sender, checked, given_to, forwarded_for, rejected_for, named, routed, request_admission, packet_admission, sent_admission, read_admission, admission, is_taken, peer_secret, home_secret, is_rightly_signed, is_rightly_sealed, has_needed_seal, has_few_hops, seal_required, has_seal, is_status_request, status_admission, status_from}
+use Rattle.roam_route.specs.Admission.{Arrival, PlainJob, PlainOut, Admission, refused, rejected, admitted, sender, checked, job_of, forwarded_for, rejected_for, for_named_realm, route_request, request_admission, packet_admission, sent_admission, read_admission, admission, is_taken, peer_secret, home_secret, is_rightly_signed, is_rightly_sealed, has_needed_seal, has_few_hops, seal_required, has_seal, is_status_request, status_admission, status_from}
 use Rattle.roam_route.specs.declared.job.Side.{Side}
 use Rattle.roam_route.specs.declared.job.Side.TheVariants as side
 
@@ -37,9 +37,9 @@ checked_so true why further h = h
 checked_so false why further h = refused_so why
 
 forwarded_so : (a : Arrival) (s : Side) (p : Packet) (realm : ℕ) (names : Option ℕ) → RejectsForNone (forwarded_for a s p realm names)
-forwarded_so a s p realm names = checked_so _ refusal.TooLong (given_to a s p realm names) (admitted_so _)
+forwarded_so a s p realm names = checked_so _ refusal.TooLong (job_of a s p realm names) (admitted_so _)
 
-named_so : (a : Arrival) (s : Side) (p : Packet) (realm : Option ℕ) → RejectsForNone (named a s p realm)
+named_so : (a : Arrival) (s : Side) (p : Packet) (realm : Option ℕ) → RejectsForNone (for_named_realm a s p realm)
 named_so a s p None = refused_so refusal.NoRealm
 named_so a s p (Some realm) = forwarded_so a s p realm (Some realm)
 
@@ -50,10 +50,10 @@ either_so : (test : Bool) (one other : Admission) → RejectsForNone one → Rej
 either_so true one other this that = this
 either_so false one other this that = that
 
-routed_so : (config : ConfigView) (secret : List ℕ) (a : Arrival) (s : Side) (p : Packet) (at : Place) → RejectsForNone (routed config secret a s p at)
+routed_so : (config : ConfigView) (secret : List ℕ) (a : Arrival) (s : Side) (p : Packet) (at : Place) → RejectsForNone (route_request config secret a s p at)
 routed_so config secret a s p (place.Reverse realm) = forwarded_so a s p realm (realm_of config p.attributes)
 routed_so config secret a s p place.Auth =
-    either_so (is_rejected config p) (rejected_for secret a p) (named a s p (realm_of config p.attributes))
+    either_so (is_rejected config p) (rejected_for secret a p) (for_named_realm a s p (realm_of config p.attributes))
     (reject_so secret a p) (named_so a s p (realm_of config p.attributes))
 routed_so config secret a s p place.Acct = named_so a s p (realm_of config p.attributes)
 routed_so config secret a s p (place.Out realm) = named_so a s p (realm_of config p.attributes)
@@ -63,7 +63,7 @@ request_so config secret a s p =
     checked_so (is_rightly_signed secret p) refusal.BadAuthenticator _
     (checked_so (is_rightly_sealed secret p) refusal.BadMessageAuthenticator _
     (checked_so (has_needed_seal (seal_required config s) p) refusal.MissingMessageAuthenticator _
-    (checked_so (has_few_hops config.max_hops p) refusal.TooManyHops (routed config secret a s p a.at)
+    (checked_so (has_few_hops config.max_hops p) refusal.TooManyHops (route_request config secret a s p a.at)
     (routed_so config secret a s p a.at))))
 
 packet_so : (config : ConfigView) (a : Arrival) (s : Side) (p : Packet) (at : Place) → RejectsForNone (packet_admission config a s p at)

@@ -9,9 +9,9 @@ use Rattle.roam_book.specs.RealmConfig.{RealmConfig, realm_config}
 use Rattle.roam_book.specs.RealmState.{RealmState, opening}
 use Rattle.roam_book.specs.Turn.{Turn, refuses, sends, state_after, Gives}
 use Rattle.roam_book.specs.OnTick.{on_tick}
-use Rattle.roam_book.specs.declared.answer.Answer.{Answer}
-use Rattle.roam_book.specs.declared.room.Room.{Room}
-use Rattle.roam_book.specs.declared.start.Start.{Start}
+use Rattle.roam_book.specs.declared.packets.answer.Answer.{Answer}
+use Rattle.roam_book.specs.declared.packets.tick_memory.Room.{Room}
+use Rattle.roam_book.specs.declared.state.start.Start.{Start}
 use Rattle.roam_core.specs.ManyRealms.{no_state, state_at, turn_of_one}
 use Rattle.roam_core.specs.Openings.{openings_from}
 use Rattle.roam_core.specs.Steps.{GivesAnswer}

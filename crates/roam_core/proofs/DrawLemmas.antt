@@ -25,7 +25,7 @@ use Rattle.roam_book.specs.OnRequest.{draws, make_way, at_target, is_reverse, na
 use Rattle.roam_book.specs.OnReply.{returning, judge, to_standing, to_entry}
 use Rattle.roam_book.specs.OnTick.{Progress, fail_over, once_refused, due_standing, due_entry, due_one, due_each}
 use Rattle.roam_book.specs.OneRealm.{RealmEvent, request_came, reply_came, tick_came, on_event, one_realm_run}
-use Rattle.roam_book.specs.declared.start.Start.{Start}
+use Rattle.roam_book.specs.declared.state.start.Start.{Start}
 use Rattle.roam_core.specs.Draws.{DrawsAt, drawn, drawn_between, drawn_by, drawn_by_dues}
 use Rattle.roam_core.specs.Openings.{state_then}
 use Rattle.roam_core.specs.ProvenanceLaws.{DrawsAreApart, WordsAreDrawnInOrder, WordsAreDrawnOnce}

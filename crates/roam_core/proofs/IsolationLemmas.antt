@@ -10,7 +10,7 @@ use Rattle.roam_core.specs.Events.{PlainEvent, given_to_realm, events_of_realm, 
 use Rattle.roam_core.specs.Isolation.{packets_for, packets_for_none, HasRealm, IsIsolated, IsIsolatedFromStart, EachIsIsolatedFromStart, EachRealmIsIsolated, EachRealmStandsAlone, EachRealmOpens, SameInTwoWorlds, SameInTwoWorldsFromStart, EachLedgerIsIsolated}
 use Rattle.roam_core.specs.ManyRealms.{BrokerTurn, packets_in_turn, states_after, state_at, answer_to, answers_to}
 use Rattle.roam_core.specs.Openings.{openings, openings_from, start_of}
-use Rattle.roam_book.specs.declared.start.Start.{Start}
+use Rattle.roam_book.specs.declared.state.start.Start.{Start}
 use Rattle.roam_core.proofs.PacketLemmas.{joined, packets_for-append, packets_for_none-append, have_realms-append}
 use Rattle.roam_core.proofs.RealmRunLemmas.{packets-append, state-append}
 use Rattle.roam_core.proofs.EventLemmas.{event_turn, event-length, event_rejects, event_realms}

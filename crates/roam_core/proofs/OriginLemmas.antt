@@ -9,9 +9,9 @@ use Rattle.roam_pending.proofs.TestLemmas.{all-weaker}
 use Rattle.roam_book.specs.RealmConfig.{RealmConfig}
 use Rattle.roam_book.specs.RealmState.{RealmState, Target}
 use Rattle.roam_book.specs.Turn.{Turn, packets_of, state_after, in_time}
-use Rattle.roam_book.specs.OnRequest.{packet_back}
+use Rattle.roam_book.specs.OnRequest.{packet_to_requester}
 use Rattle.roam_book.specs.OneRealm.{RealmEvent, request_came, reply_came, tick_came, on_event}
-use Rattle.roam_book.specs.declared.start.Start.{Start}
+use Rattle.roam_book.specs.declared.state.start.Start.{Start}
 use Rattle.roam_core.specs.Openings.{state_then}
 use Rattle.roam_core.specs.Provenance.{IsRequestOf, IsSentBy, AtLaterTick, Forwards, IsForwarded, IsReturned, HasOrigin, StandsFrom, ComesFrom, IsNak}
 use Rattle.roam_core.proofs.RealmRunLemmas.{state-next}
@@ -136,9 +136,9 @@ stands-later c start es fs q ticket (waiting l id forwarded sends_left deadline)
       h.forwarded;
 }
 stands-later c start es fs q ticket (done reply deadline) (inl h) =
-    inl (returned-later c start es fs q ticket (packet_back c q.key reply) h)
+    inl (returned-later c start es fs q ticket (packet_to_requester c q.key reply) h)
 stands-later c start es fs q ticket (done reply deadline) (inr h) =
-    inr (nak-later c start es fs q (packet_back c q.key reply) h)
+    inr (nak-later c start es fs q (packet_to_requester c q.key reply) h)
 
 comes-later :
     (c : RealmConfig) (start : Start) (es fs : List RealmEvent) (e : PlainEntry)

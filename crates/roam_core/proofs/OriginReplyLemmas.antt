@@ -19,11 +19,11 @@ use Rattle.roam_pending.proofs.ChangeLemmas.{find-passes}
 use Rattle.roam_book.specs.RealmConfig.{RealmConfig, link_secret, seal_required}
 use Rattle.roam_book.specs.RealmState.{RealmState}
 use Rattle.roam_book.specs.Turn.{packets_of}
-use Rattle.roam_book.specs.OnRequest.{packet_back}
+use Rattle.roam_book.specs.OnRequest.{packet_to_requester}
 use Rattle.roam_back.specs.ReplyCheck.{reply_fault}
 use Rattle.roam_book.specs.OnReply.{returned_octets, returning, return_reply, judge, to_standing, to_entry, on_reply}
 use Rattle.roam_book.specs.OneRealm.{RealmEvent, reply_came}
-use Rattle.roam_book.specs.declared.start.Start.{Start}
+use Rattle.roam_book.specs.declared.state.start.Start.{Start}
 use Rattle.roam_core.specs.Provenance.{IsSentBy, IsReturned, WaitsFor, StandsFrom, ComesFrom}
 use Rattle.roam_core.proofs.OriginLemmas.{EachComes, AreSentBy, TurnKeeps, request-later, each-later, in_time-keeps}
 
@@ -53,7 +53,7 @@ and_reply before now l reply = before ++ reply_came now l reply ∷ []
 
 -- what goes back to the sender of a request, for a reply to what was forwarded
 abbrev pub back_for : RealmConfig → PlainRequest → Link → Packet → Packet → PlainOut
-back_for c q l forwarded reply = packet_back c q.key (returned_octets c q l forwarded reply)
+back_for c q l forwarded reply = packet_to_requester c q.key (returned_octets c q l forwarded reply)
 
 -- what was forwarded to a link was forwarded to an equal one
 on-same_link :

@@ -15,9 +15,9 @@ use Rattle.roam_pending.proofs.ClientLemmas.{key-equal}
 use Rattle.roam_book.specs.RealmConfig.{RealmConfig}
 use Rattle.roam_book.specs.RealmState.{RealmState, Target, chosen_target}
 use Rattle.roam_book.specs.Turn.{Turn, state_after}
-use Rattle.roam_book.specs.OnRequest.{packet_back, forwarded_entry, admit, make_way, at_target, new_request, held_reply, first_seen, nak_octets, nak_or_new, of_key, on_request, reverse_cause, targets}
+use Rattle.roam_book.specs.OnRequest.{packet_to_requester, forwarded_entry, admit, make_way, at_target, new_request, held_reply, first_seen, nak_octets, nak_or_new, of_key, on_request, reverse_cause, targets}
 use Rattle.roam_book.specs.OneRealm.{RealmEvent, request_came}
-use Rattle.roam_book.specs.declared.start.Start.{Start}
+use Rattle.roam_book.specs.declared.state.start.Start.{Start}
 use Rattle.roam_core.specs.Draws.{DrawsAt, drawn_between, drawn_by}
 use Rattle.roam_core.specs.Provenance.{IsReturned, IsNak, IsForwarded, StandsFrom, ComesFrom, forwarded_packet}
 use Rattle.roam_core.proofs.OriginLemmas.{EachComes, EachHasOrigin, TurnKeeps, IsTurnAfter, sent-by, state-by}
@@ -29,10 +29,10 @@ held-origin :
     → EachHasOrigin c start events (held_reply c key s)
 held-origin c start events q ticket key (waiting l id forwarded sends_left deadline) is h = tt
 held-origin c start events q ticket key (done reply deadline) is (inl h) =
-    let back = subst (λ (k : Key). IsReturned c start events q ticket (packet_back c k reply)) is h in
+    let back = subst (λ (k : Key). IsReturned c start events q ticket (packet_to_requester c k reply)) is h in
     (inr (inl (record { request = q; ticket = ticket; returned = back })), tt)
 held-origin c start events q ticket key (done reply deadline) is (inr h) =
-    let back = subst (λ (k : Key). IsNak c start events q (packet_back c k reply)) is h in
+    let back = subst (λ (k : Key). IsNak c start events q (packet_to_requester c k reply)) is h in
     (inr (inr (record { request = q; nak = back })), tt)
 
 -- the position of the stream after the four words that are drawn from one; it is another one
@@ -174,7 +174,7 @@ module _ (c : RealmConfig) (start : Start) (before : List RealmEvent) (now : ℕ
       let event = request_came now named q in
       let whole : IsTurnAfter c start before event s (nak_or_new c now s q (Some why)) =
       record { state = after.state; does = after.does ∙ is } in
-      let out = packet_back c q.key (nak_octets c q why) in
+      let out = packet_to_requester c q.key (nak_octets c q why) in
       record {
         packets = (
           inr (inr (record {

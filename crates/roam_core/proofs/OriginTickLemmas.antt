@@ -17,10 +17,10 @@ use Rattle.roam_book.specs.Rests.{after_silence}
 use Rattle.roam_book.specs.RealmState.{RealmState, Target, chosen_target}
 use Rattle.roam_book.specs.Turn.{packets_of}
 use Rattle.roam_route.specs.Admission.{PlainOut}
-use Rattle.roam_book.specs.OnRequest.{draws, forwarded_entry, is_reverse, nak_octets, once_forwarded, packet_back, packet_to}
+use Rattle.roam_book.specs.OnRequest.{draws, forwarded_entry, is_reverse, nak_octets, once_forwarded, packet_to_requester, packet_to_link}
 use Rattle.roam_book.specs.OnTick.{Progress, fail_over, given_up, once_refused, without_entry, due_standing, due_entry, due_one, due_each, as_turn, on_tick, given_up_at}
 use Rattle.roam_book.specs.OneRealm.{RealmEvent, tick_came}
-use Rattle.roam_book.specs.declared.start.Start.{Start}
+use Rattle.roam_book.specs.declared.state.start.Start.{Start}
 use Rattle.roam_core.specs.Openings.{state_then}
 use Rattle.roam_core.specs.Draws.{DrawsAt, drawn_between, drawn_by, drawn_by_dues}
 use Rattle.roam_core.specs.Provenance.{IsRequestOf, IsSentBy, IsHeld, AtLaterTick, Forwards, IsForwarded, IsNak, StandsFrom, ComesFrom}
@@ -72,7 +72,7 @@ module _ (c : RealmConfig) (start : Start) (before : List RealmEvent) (now : ℕ
 
   -- a reverse request that is given up gets a NAK
   abbrev nak_out : PlainEntry → PlainOut
-  nak_out e = packet_back c e.request.key (nak_octets c e.request OTHER_PROXY_PROCESSING_ERROR)
+  nak_out e = packet_to_requester c e.request.key (nak_octets c e.request OTHER_PROXY_PROCESSING_ERROR)
 
   nak-of : (e : PlainEntry) → IsKnown e → is_reverse e.request ≡ true
       → IsSentBy c start before (tick_came now) (nak_out e)
@@ -209,7 +209,7 @@ module _ (c : RealmConfig) (start : Start) (before : List RealmEvent) (now : ℕ
               ticket = e.ticket;
               target = record { link = l; id = id };
               forwarded = stands.forwarded;
-              is_forwarded = ap (λ (octets : List ℕ). packet_to c l octets) stands.octets_are;
+              is_forwarded = ap (λ (octets : List ℕ). packet_to_link c l octets) stands.octets_are;
             }),
             tt,
           );

@@ -8,7 +8,7 @@ use Rattle.roam_book.specs.RealmState.{RealmState}
 use Rattle.roam_core.specs.Events.{PlainEvent, kept, local_rejects}
 use Rattle.roam_core.specs.Isolation.{IsIsolated, IsIsolatedFromStart, packets_for_none, HasRealm}
 use Rattle.roam_core.specs.ManyRealms.{packets_in_turn, states_after, answer_to, answers_to}
-use Rattle.roam_book.specs.declared.start.Start.{Start}
+use Rattle.roam_book.specs.declared.state.start.Start.{Start}
 use Rattle.roam_core.specs.Openings.{openings}
 use Rattle.roam_core.specs.Provenance.{HasProvenance}
 use Rattle.roam_core.specs.Runs.{ArePlaces, EachWantsMemory, StandsAfterSome, WereGiven}

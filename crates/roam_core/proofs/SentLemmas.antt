@@ -18,7 +18,7 @@ use Rattle.roam_book.specs.RealmConfig.{RealmConfig, later_targets, link_secret,
 use Rattle.roam_book.specs.Rests.{after_silence}
 use Rattle.roam_book.specs.RealmState.{RealmState, Target, chosen_target}
 use Rattle.roam_book.specs.Turn.{Turn, refuses, sends, packets_of, in_time}
-use Rattle.roam_book.specs.OnRequest.{packet_back, admit, make_way, at_target, new_request, held_reply, first_seen, is_reverse, nak_octets, nak_or_new, of_key, on_request, reverse_cause, targets}
+use Rattle.roam_book.specs.OnRequest.{packet_to_requester, admit, make_way, at_target, new_request, held_reply, first_seen, is_reverse, nak_octets, nak_or_new, of_key, on_request, reverse_cause, targets}
 use Rattle.roam_book.specs.OnReply.{return_reply, judge, to_standing, to_entry, reply_fault, on_reply}
 use Rattle.roam_book.specs.OnTick.{Progress, silent, fail_over, without_entry, due_standing, due_entry, due_one, due_each, as_turn, on_tick, given_up_at}
 use Rattle.roam_book.specs.OneRealm.{RealmEvent, request_came, reply_came, tick_came, on_event}
@@ -80,12 +80,12 @@ new_request_for c now s entries q =
 
 held_reply_for : (c : RealmConfig) (key : Key) (standing : PlainStanding) (s : RealmState) → SendsFor c.index (sends (held_reply c key standing) s)
 held_reply_for c key (waiting l id forwarded sends_left deadline) s = nothing_for c.index s
-held_reply_for c key (done reply deadline) s = one_for c.index (packet_back c key reply) s refl
+held_reply_for c key (done reply deadline) s = one_for c.index (packet_to_requester c key reply) s refl
 
 nak_or_new_for : (c : RealmConfig) (now : ℕ) (s : RealmState) (q : PlainRequest) (why : Option ℕ)
     → SendsFor c.index (nak_or_new c now s q why)
 nak_or_new_for c now s q None = new_request_for c now s (without_client q.key s.entries) q
-nak_or_new_for c now s q (Some why) = one_for c.index (packet_back c q.key (nak_octets c q why)) s refl
+nak_or_new_for c now s q (Some why) = one_for c.index (packet_to_requester c q.key (nak_octets c q why)) s refl
 
 of_key_for : (c : RealmConfig) (now : ℕ) (s : RealmState) (named : Option ℕ) (q : PlainRequest) (e : Option PlainEntry) → SendsFor c.index (of_key c now s named q e)
 of_key_for c now s named q None = nak_or_new_for c now s q (reverse_cause c s named q)

@@ -2,7 +2,7 @@
 use Rattle.std.proofs.Common.{◌≡◌, Result, Ok, Err, refl}
 use Rattle.std.specs.Prelude.{IsErr, is_ok}
 use Rattle.roam_wire.specs.declared.refusal.NoMemory.{NoMemory}
-use Rattle.roam_book.specs.declared.answer.Answer.{Answer}
+use Rattle.roam_book.specs.declared.packets.answer.Answer.{Answer}
 use Rattle.roam_core.specs.BrokerView.{BrokerView}
 use Rattle.roam_core.specs.Events.{PlainEvent}
 use Rattle.roam_core.specs.ManyRealms.{answer_to}

@@ -10,7 +10,7 @@ use Rattle.roam_book.specs.RealmState.{RealmState}
 use Rattle.roam_book.specs.Turn.{latest_moment, state_after}
 use Rattle.roam_book.specs.OnTick.{due_one}
 use Rattle.roam_book.specs.OneRealm.{RealmEvent, request_came, reply_came, tick_came, on_event}
-use Rattle.roam_book.specs.declared.start.Start.{Start}
+use Rattle.roam_book.specs.declared.state.start.Start.{Start}
 use Rattle.roam_core.specs.Openings.{state_then}
 
 -- the position from which words are drawn between two states, if they are: the stream stood there, and

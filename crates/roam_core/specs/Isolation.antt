@@ -12,7 +12,7 @@ use Rattle.roam_route.specs.Admission.{PlainOut}
 use Rattle.roam_book.specs.RealmConfig.{realm_config}
 use Rattle.roam_book.specs.RealmState.{RealmState, opening}
 use Rattle.roam_book.specs.OneRealm.{one_realm_run}
-use Rattle.roam_book.specs.declared.start.Start.{Start}
+use Rattle.roam_book.specs.declared.state.start.Start.{Start}
 use Rattle.roam_core.specs.Events.{PlainEvent, events_of_realm}
 use Rattle.roam_core.specs.ManyRealms.{state_at, answers_to}
 use Rattle.roam_core.specs.Openings.{openings, start_of, state_then, one_realm_packets}

@@ -13,5 +13,4 @@ pub mod BrokerView
 pub mod Steps
 pub mod Runs
 pub mod Shown
--- What proofs of the broker over books need: no definition above rests on it.
 pub mod ShardRooms

@@ -5,7 +5,7 @@ use Rattle.roam_route.specs.Admission.{PlainOut}
 use Rattle.roam_book.specs.RealmConfig.{RealmConfig, realm_config}
 use Rattle.roam_book.specs.RealmState.{RealmState, opening}
 use Rattle.roam_book.specs.OneRealm.{RealmEvent, one_realm_run}
-use Rattle.roam_book.specs.declared.start.Start.{Start}
+use Rattle.roam_book.specs.declared.state.start.Start.{Start}
 
 -- where a realm of a fresh broker begins: at place 0 of its random words, and ticket 0
 abbrev pub first_start : Start

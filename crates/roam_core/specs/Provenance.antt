@@ -11,11 +11,11 @@ use Rattle.roam_book.specs.RealmConfig.{RealmConfig, link_secret, realm_config, 
 use Rattle.roam_book.specs.RealmState.{Target}
 use Rattle.roam_book.specs.Turn.{packets_of}
 use Rattle.roam_reverse.specs.declared.error_cause.TheConstants.{OTHER_PROXY_PROCESSING_ERROR}
-use Rattle.roam_book.specs.OnRequest.{packet_to, packet_back, draws, forwarded_octets, is_reverse, nak_octets, reverse_cause}
+use Rattle.roam_book.specs.OnRequest.{packet_to_link, packet_to_requester, draws, forwarded_octets, is_reverse, nak_octets, reverse_cause}
 use Rattle.roam_back.specs.ReplyCheck.{reply_fault}
 use Rattle.roam_book.specs.OnReply.{returned_octets}
 use Rattle.roam_book.specs.OneRealm.{RealmEvent, request_came, reply_came, tick_came, on_event}
-use Rattle.roam_book.specs.declared.start.Start.{Start}
+use Rattle.roam_book.specs.declared.state.start.Start.{Start}
 use Rattle.roam_core.specs.Draws.{DrawsAt}
 use Rattle.roam_core.specs.Events.{PlainEvent, events_of_realm}
 use Rattle.roam_core.specs.Isolation.{packets_for}
@@ -64,7 +64,7 @@ pub record AtLaterTick (c : RealmConfig) (start : Start) (first : List RealmEven
 -- Authenticator is what was drawn from the realm's stream, from this position on
 abbrev pub forwarded_packet : RealmConfig → PlainRequest → ℕ → ℕ → Target → PlainOut
 forwarded_packet c q position ticket target =
-    packet_to c target.link (forwarded_octets c q position ticket target)
+    packet_to_link c target.link (forwarded_octets c q position ticket target)
 
 -- an event that comes after others forwards a request: its own turn sends the packet, and draws the words
 -- for it, where words are drawn, from this position on
@@ -101,7 +101,7 @@ pub record IsReturned (c : RealmConfig) (start : Start) (events : List RealmEven
       reply_fault (link_secret c target.link) (seal_required c target.link) (packet_of reply)
       (packet_of (forwarded_octets c q position ticket target)) ≡ None
   pub is_returned :
-      out ≡ packet_back c q.key (returned_octets c q target.link
+      out ≡ packet_to_requester c q.key (returned_octets c q target.link
       (packet_of (forwarded_octets c q position ticket target)) (packet_of reply))
   pub sent : IsSentBy c start before (reply_came answered_at target.link reply) out
 
@@ -117,7 +117,7 @@ pub record IsRefusedAtOnce (c : RealmConfig) (start : Start) (events : List Real
   pub in_order : events ≡ first ++ request_came asked_at named q ∷ rest
   pub cause : ℕ
   pub why : reverse_cause c (state_then c start first) named q ≡ Some cause
-  pub is_nak : out ≡ packet_back c q.key (nak_octets c q cause)
+  pub is_nak : out ≡ packet_to_requester c q.key (nak_octets c q cause)
   pub sent : IsSentBy c start first (request_came asked_at named q) out
 
 -- or with Error-Cause 505, from a later tick, at which the request was given up: it had been forwarded, and
@@ -127,7 +127,7 @@ pub record IsGivenUp (c : RealmConfig) (start : Start) (events : List RealmEvent
   pub ticket : ℕ
   pub request : IsRequestOf c start events q ticket
   pub reverse : is_reverse q ≡ true
-  pub is_nak : out ≡ packet_back c q.key (nak_octets c q OTHER_PROXY_PROCESSING_ERROR)
+  pub is_nak : out ≡ packet_to_requester c q.key (nak_octets c q OTHER_PROXY_PROCESSING_ERROR)
   pub given_up :
       AtLaterTick c start request.first request.asked_at request.named q request.rest ticket
       (λ before e. IsSentBy c start before e out)
@@ -178,8 +178,8 @@ abbrev pub StandsFrom :
 StandsFrom c start events q ticket (waiting l id forwarded sends_left deadline) =
     WaitsFor c start events q ticket (record { link = l; id = id }) forwarded
 StandsFrom c start events q ticket (done reply deadline) =
-    IsReturned c start events q ticket (packet_back c q.key reply)
-    ⊎ IsNak c start events q (packet_back c q.key reply)
+    IsReturned c start events q ticket (packet_to_requester c q.key reply)
+    ⊎ IsNak c start events q (packet_to_requester c q.key reply)
 
 -- an entry is that of a request of the list, and stands so
 pub record ComesFrom (c : RealmConfig) (start : Start) (events : List RealmEvent)

@@ -7,7 +7,7 @@ use Rattle.roam_book.specs.RealmState.{RealmState}
 use Rattle.roam_book.specs.Turn.{Turn, sends, packets_of, state_after}
 use Rattle.roam_book.specs.OnTick.{on_tick}
 use Rattle.roam_book.specs.Rooms.{IsRoomFor, only_done_due}
-use Rattle.roam_book.specs.declared.room.Room.{Room}
+use Rattle.roam_book.specs.declared.packets.tick_memory.Room.{Room}
 use Rattle.roam_core.specs.Events.{is_in_shard}
 use Rattle.roam_core.specs.ManyRealms.{AllRealms}
 

@@ -14,7 +14,8 @@ ghost use Rattle.roam_core.specs.Events.{is_in_shard};
 ghost use Rattle.roam_core.specs.ManyRealms.{state_at, tick_from, tick_of, to_arrival, to_tick};
 ghost use Rattle.roam_core.specs.Steps.{GivesAnswer, StepsTo};
 ghost use Rattle.roam_core.specs.Openings.{fresh};
-ghost use Rattle.roam_core.specs.ShardRooms.{AllFit, Fits, most_of, most_of_all, only_done_from, tick_in, turn_in};
+ghost use Rattle.roam_core.specs.ShardRooms.{AllFit, Fits, most_of, most_of_all, only_done_from, tick_in};
+ghost use Rattle.roam_core.specs.ShardRooms.{turn_in};
 
 use crate::event::Event;
 use crate::shard_room::{ShardRoom, has_only_done, room_of_shard};
@@ -51,7 +52,7 @@ fn rejected<A: Allocator>(alloc: A, out: Out<A>) -> Result<Answer<A>, NoMemory>
 }
 
 /// Gives a job to the book of its realm: what comes from a link is a reply, all else is a request.
-fn given<A: Allocator + Copy>(
+fn handle_job<A: Allocator + Copy>(
     book: &mut Book<'_, A>,
     now: u64,
     job: &Job<A>,
@@ -129,7 +130,7 @@ impl<'c, A: Allocator + Copy> Broker<'c, A> {
             (to_arrival self.old.config self.old.states now (admitted (shown_job job.now))) }
         ensures config { self.new.config ≡ self.old.config }
     {
-        given(&mut self.books[usize::from(job.realm)], now, job)
+        handle_job(&mut self.books[usize::from(job.realm)], now, job)
     }
 
     /// Answers an arrival.

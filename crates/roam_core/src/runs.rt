@@ -3,7 +3,7 @@
 ghost use Rattle.std.specs.Prelude.{◌≡◌, ◌++◌, ◌∷◌, [], IfOk, List, OnErr, OnOk, length};
 ghost use Rattle.std.specs.List.{AllByRecursion};
 ghost use Rattle.roam_book.specs.Turn.{shown_outs};
-ghost use Rattle.roam_book.specs.declared.start.Start.{Start};
+ghost use Rattle.roam_book.specs.declared.state.start.Start.{Start};
 ghost use Rattle.roam_core.specs.ManyRealms.{answers_to};
 ghost use Rattle.roam_core.specs.Openings.{openings};
 ghost use Rattle.roam_core.specs.Provenance.{HasProvenance};

@@ -10,7 +10,7 @@ use Rattle.roam_counters.specs.Process.{process_place}
 use Rattle.roam_counters.specs.declared.cell.Layout.{Layout}
 use Rattle.roam_counters.specs.declared.cell.Subject.{Subject}
 use Rattle.roam_counters.specs.declared.cell.Subject.TheVariants as subject
-use Rattle.roam_counters.specs.declared.event.Event.{Event}
+use Rattle.roam_counters.specs.declared.event.CountedEvent.{CountedEvent}
 use Rattle.roam_counters.specs.declared.process.Process.{Process}
 
 -- rows of nine, and of ninety-one
@@ -40,14 +40,14 @@ same-at : {X : Type 0} (all : List X) (m n : ℕ) (x y : X) → m ≡ n → slic
 same-at all m n x y same here there =
     let both : Some x ≡ Some y = sym here ∙ ap (λ (k : ℕ). slice_get all k) same ∙ there in cc
 
-pub events-apart : (a b : Event) → event_place a ≡ event_place b → a ≡ b
+pub events-apart : (a b : CountedEvent) → event_place a ≡ event_place b → a ≡ b
 events-apart a b same = same-at all_events (event_place a) (event_place b) a b same (event-at_place a) (event-at_place b)
 
 pub processes-apart : (p q : Process) → process_place p ≡ process_place q → p ≡ q
 processes-apart p q same =
     same-at all_processes (process_place p) (process_place q) p q same (process-at_place p) (process-at_place q)
 
-pub event-below : (a : Event) → event_place a < 91
+pub event-below : (a : CountedEvent) → event_place a < 91
 event-below a = slice_get_within all_events (event_place a) a (event-at_place a)
 
 pub process-below : (p : Process) → process_place p < 14

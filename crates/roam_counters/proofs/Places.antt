@@ -7,12 +7,12 @@ use Rattle.roam_counters.specs.declared.kinds.RequestKind.TheVariants as request
 use Rattle.roam_counters.specs.declared.kinds.ReplyKind.TheVariants as reply
 use Rattle.roam_counters.specs.declared.kinds.NakCause.TheVariants as nak
 use Rattle.roam_counters.specs.declared.delay.Delay.TheVariants as delay
-use Rattle.roam_counters.specs.declared.event.Event.{Event}
-use Rattle.roam_counters.specs.declared.event.Event.TheVariants as event
+use Rattle.roam_counters.specs.declared.event.CountedEvent.{CountedEvent}
+use Rattle.roam_counters.specs.declared.event.CountedEvent.TheVariants as event
 use Rattle.roam_counters.specs.declared.process.Process.{Process}
 use Rattle.roam_counters.specs.declared.process.Process.TheVariants as process
 
-abbrev pub all_events : List Event
+abbrev pub all_events : List CountedEvent
 all_events =
     event.Request request.Access ∷ event.Request request.Accounting ∷ event.Request request.Disconnect ∷
     event.Request request.Coa ∷ event.Forwarded request.Access ∷ event.Forwarded request.Accounting ∷
@@ -53,7 +53,7 @@ all_events =
     event.AnswerWithin delay.Longer ∷ event.AnswerTime ∷ []
 
 -- each stands at its place
-pub event-at_place : (event : Event) → slice_get all_events (event_place event) ≡ Some event
+pub event-at_place : (event : CountedEvent) → slice_get all_events (event_place event) ≡ Some event
 event-at_place (event.Request request.Access) = refl
 event-at_place (event.Request request.Accounting) = refl
 event-at_place (event.Request request.Disconnect) = refl

@@ -5,7 +5,7 @@ use Rattle.roam_counters.specs.Process.{process_place}
 use Rattle.roam_counters.specs.declared.cell.Layout.{Layout}
 use Rattle.roam_counters.specs.declared.cell.Subject.{Subject}
 use Rattle.roam_counters.specs.declared.cell.Subject.TheVariants as subject
-use Rattle.roam_counters.specs.declared.event.Event.{Event}
+use Rattle.roam_counters.specs.declared.event.CountedEvent.{CountedEvent}
 use Rattle.roam_counters.specs.declared.process.Process.{Process}
 
 -- how many there are
@@ -19,7 +19,7 @@ row_of layout (subject.Realm realm) = 1 + 9 * realm
 row_of layout (subject.Server realm server) = 2 + 9 * realm + server
 row_of layout (subject.Peer peer) = 1 + 9 * layout.realms + peer
 
-abbrev pub cell_of : Layout → Subject → Event → ℕ
+abbrev pub cell_of : Layout → Subject → CountedEvent → ℕ
 cell_of layout subject event = 14 + 91 * row_of layout subject + event_place event
 
 abbrev pub process_cell : Process → ℕ

@@ -3,11 +3,11 @@ use Rattle.std.specs.Prelude.{ℕ, ◌+◌}
 use Rattle.roam_wire.specs.Refusal.{number_of}
 use Rattle.roam_counters.specs.Kinds.{cause_place, request_place, reply_place}
 use Rattle.roam_counters.specs.Delays.{delay_place}
-use Rattle.roam_counters.specs.declared.event.Event.{Event}
-use Rattle.roam_counters.specs.declared.event.Event.TheVariants as event
+use Rattle.roam_counters.specs.declared.event.CountedEvent.{CountedEvent}
+use Rattle.roam_counters.specs.declared.event.CountedEvent.TheVariants as event
 
 -- its place among all events, from 0
-abbrev pub event_place : Event → ℕ
+abbrev pub event_place : CountedEvent → ℕ
 event_place (event.Request kind) = request_place kind
 event_place (event.Forwarded kind) = 4 + request_place kind
 event_place (event.SentAgain kind) = 8 + request_place kind

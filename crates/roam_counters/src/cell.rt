@@ -4,7 +4,7 @@ ghost use Rattle.std.specs.Prelude.{◌≡◌, ◌≤◌, length};
 ghost use Rattle.roam_conf.specs.Shown.{shown};
 ghost use Rattle.roam_counters.specs.Cells as spec;
 
-use crate::event::{EVENTS, Event};
+use crate::event::{CountedEvent, EVENTS};
 use crate::process::Process;
 use roam_conf::Config;
 
@@ -69,7 +69,7 @@ impl Layout {
     }
 
     /// Where an event of a subject is counted.
-    pub fn cell(self, subject: Subject, event: Event) -> usize
+    pub fn cell(self, subject: Subject, event: CountedEvent) -> usize
         ensures { result ≡ spec.cell_of self subject event }
     {
         14 + EVENTS * self.row(subject) + event.place()

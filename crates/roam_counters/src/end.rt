@@ -17,8 +17,8 @@ pub fn subject_of(realm: u16, link: Link) -> Subject
     }
 }
 
-/// Who is at the other end of a packet that comes to this place from this endpoint, or leaves from this place to it; none where
-/// nobody of the configuration has it there.
+/// Who is at the other end of a packet that comes to this place from this endpoint, or leaves from this place to it;
+/// none where nobody of the configuration has it there.
 pub fn end_at(config: &Config, place: Place, endpoint: Endpoint) -> Option<Subject>
     ensures { result ≡ spec.end_at (shown config.now) place endpoint }
 {

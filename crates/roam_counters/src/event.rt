@@ -12,7 +12,7 @@ pub const EVENTS: usize = 91;
 
 /// What is counted of a realm, a home server or a peer.
 #[derive(Clone, Copy, Debug, PartialEq, Eq)]
-pub enum Event {
+pub enum CountedEvent {
     /// A request came that is for a realm.
     Request(RequestKind),
     /// A new request was forwarded.
@@ -52,31 +52,31 @@ pub enum Event {
     AnswerTime,
 }
 
-impl Event {
+impl CountedEvent {
     /// Its place among all events.
     pub fn place(self) -> usize
         ensures value { result ≡ spec.event_place self }
         ensures below { result < 91 }
     {
         match self {
-            Event::Request(kind) => kind.place(),
-            Event::Forwarded(kind) => 4 + kind.place(),
-            Event::SentAgain(kind) => 8 + kind.place(),
-            Event::Waiting => 12,
-            Event::Reply(kind) => 13 + kind.place(),
-            Event::Returned(kind) => 21 + kind.place(),
-            Event::Answered(kind) => 29 + kind.place(),
-            Event::AnsweredByTick(kind) => 37 + kind.place(),
-            Event::Refused(refusal) => 44 + usize::from(refusal.number()),
-            Event::TakenOver(kind) => 69 + kind.place(),
-            Event::FailedOver => 73,
-            Event::GivenUp => 74,
-            Event::Replaced => 75,
-            Event::AnsweredAgain => 76,
-            Event::LocalReject => 77,
-            Event::Nak(cause) => 78 + cause.place(),
-            Event::AnswerWithin(delay) => 82 + delay.place(),
-            Event::AnswerTime => 90,
+            CountedEvent::Request(kind) => kind.place(),
+            CountedEvent::Forwarded(kind) => 4 + kind.place(),
+            CountedEvent::SentAgain(kind) => 8 + kind.place(),
+            CountedEvent::Waiting => 12,
+            CountedEvent::Reply(kind) => 13 + kind.place(),
+            CountedEvent::Returned(kind) => 21 + kind.place(),
+            CountedEvent::Answered(kind) => 29 + kind.place(),
+            CountedEvent::AnsweredByTick(kind) => 37 + kind.place(),
+            CountedEvent::Refused(refusal) => 44 + usize::from(refusal.number()),
+            CountedEvent::TakenOver(kind) => 69 + kind.place(),
+            CountedEvent::FailedOver => 73,
+            CountedEvent::GivenUp => 74,
+            CountedEvent::Replaced => 75,
+            CountedEvent::AnsweredAgain => 76,
+            CountedEvent::LocalReject => 77,
+            CountedEvent::Nak(cause) => 78 + cause.place(),
+            CountedEvent::AnswerWithin(delay) => 82 + delay.place(),
+            CountedEvent::AnswerTime => 90,
         }
     }
 }

@@ -5,7 +5,7 @@ ghost use Rattle.roam_counters.specs.Turns as spec;
 
 use crate::cell::Subject;
 use crate::end::subject_of;
-use crate::event::Event;
+use crate::event::CountedEvent;
 use crate::kinds::{ReplyKind, RequestKind};
 use roam_conf::Place;
 use roam_route::Side;
@@ -13,7 +13,7 @@ use roam_wire::Refusal;
 
 /// A packet that is given to a realm.
 #[derive(Clone, Copy, Debug, PartialEq, Eq)]
-pub struct Turn {
+pub struct CountedTurn {
     /// The index of the realm.
     pub realm: u16,
     /// Who sent it.
@@ -22,7 +22,7 @@ pub struct Turn {
     pub code: u8,
 }
 
-impl Turn {
+impl CountedTurn {
     /// Who sent it.
     pub fn sender(self) -> Subject
         ensures { result ≡ spec.sender_of self.realm self.side }
@@ -35,54 +35,54 @@ impl Turn {
     }
 
     /// That it came.
-    pub fn arrival(self) -> Option<Event>
+    pub fn arrival(self) -> Option<CountedEvent>
         ensures { result ≡ spec.arrival_event self.side self.code }
     {
         match self.side {
             Side::Peer(_) | Side::Home(_) => match RequestKind::of(self.code) {
-                Some(kind) => Some(Event::Request(kind)),
+                Some(kind) => Some(CountedEvent::Request(kind)),
                 None => None,
             },
             Side::Link(_) => match ReplyKind::of(self.code) {
-                Some(kind) => Some(Event::Reply(kind)),
+                Some(kind) => Some(CountedEvent::Reply(kind)),
                 None => None,
             },
         }
     }
 
     /// What comes of it where nothing is sent.
-    fn silence(self, refusal: Option<Refusal>) -> Option<Event>
+    fn silence(self, refusal: Option<Refusal>) -> Option<CountedEvent>
         ensures { result ≡ spec.silence_event self.side refusal }
     {
         match (refusal, self.side) {
-            (Some(refusal), _) => Some(Event::Refused(refusal)),
+            (Some(refusal), _) => Some(CountedEvent::Refused(refusal)),
             (None, Side::Link(_)) => None,
-            (None, _) => Some(Event::Waiting),
+            (None, _) => Some(CountedEvent::Waiting),
         }
     }
 
     /// What comes of it where a packet of this code leaves from this place.
-    fn packet(self, from: Place, code: u8) -> Option<Event>
+    fn packet(self, from: Place, code: u8) -> Option<CountedEvent>
         ensures { result ≡ spec.packet_event self.side self.code from code }
     {
         match (self.side, from) {
             (Side::Link(_), _) => match ReplyKind::of(code) {
-                Some(kind) => Some(Event::Returned(kind)),
+                Some(kind) => Some(CountedEvent::Returned(kind)),
                 None => None,
             },
             (_, Place::Out(_)) => match RequestKind::of(self.code) {
-                Some(kind) => Some(Event::Forwarded(kind)),
+                Some(kind) => Some(CountedEvent::Forwarded(kind)),
                 None => None,
             },
             _ => match ReplyKind::of(code) {
-                Some(kind) => Some(Event::Answered(kind)),
+                Some(kind) => Some(CountedEvent::Answered(kind)),
                 None => None,
             },
         }
     }
 
     /// What comes of it: why it is refused, or the place and the code of the packet that leaves, where one does.
-    pub fn outcome(self, refusal: Option<Refusal>, out: Option<(Place, u8)>) -> Option<Event>
+    pub fn outcome(self, refusal: Option<Refusal>, out: Option<(Place, u8)>) -> Option<CountedEvent>
         ensures { result ≡ spec.outcome_event self.side self.code refusal out }
     {
         match out {
@@ -93,16 +93,16 @@ impl Turn {
 }
 
 /// What a packet of this code is that a tick sends from this place.
-pub fn tick_event(from: Place, code: u8) -> Option<Event>
+pub fn tick_event(from: Place, code: u8) -> Option<CountedEvent>
     ensures { result ≡ spec.tick_event from code }
 {
     match from {
         Place::Out(_) => match RequestKind::of(code) {
-            Some(kind) => Some(Event::SentAgain(kind)),
+            Some(kind) => Some(CountedEvent::SentAgain(kind)),
             None => None,
         },
         _ => match ReplyKind::of(code) {
-            Some(kind) => Some(Event::AnsweredByTick(kind)),
+            Some(kind) => Some(CountedEvent::AnsweredByTick(kind)),
             None => None,
         },
     }

@@ -2,7 +2,7 @@
 
 use crate::document::{Document, Located};
 use crate::lines::Lines;
-use crate::place::Kind;
+use crate::place::TableKind;
 use crate::unsaid::Unsaid;
 use std::fmt::Write;
 
@@ -33,35 +33,35 @@ impl Unwise {
 
 /// An advice: for which tables and keys it is, where it is given, and what it says.
 #[derive(Clone, Copy)]
-struct Advice(Kind, &'static str, Unwise, &'static str);
+struct Advice(TableKind, &'static str, Unwise, &'static str);
 
 const ADVICE: [Advice; 5] = [
     Advice(
-        Kind::Top,
+        TableKind::Top,
         "seed",
         Unwise::ZeroSeed,
         "is all zeros, so with --seed-of-file what is drawn from it can be guessed",
     ),
     Advice(
-        Kind::Peer,
+        TableKind::Peer,
         "require_seal",
         Unwise::Unsealed,
         "isn't true: an Access-Request without a Message-Authenticator, which can be forged, is taken",
     ),
     Advice(
-        Kind::Realm,
+        TableKind::Realm,
         "hold",
         Unwise::LongHold,
         "is beyond 30000, and RFC 5080 says 5 to 30 seconds",
     ),
     Advice(
-        Kind::Realm,
+        TableKind::Realm,
         "max_pending",
         Unwise::FewEntries,
         "is less than what one exchange a second takes, with replies held for hold",
     ),
     Advice(
-        Kind::Server,
+        TableKind::Server,
         "require_seal",
         Unwise::Unsealed,
         "isn't true: an Access-Accept without a Message-Authenticator, which can be forged, is taken",

@@ -1,7 +1,7 @@
 //! Which values aren't of their form, and which keys a table doesn't have.
 
 use crate::document::{Document, Located};
-use crate::forms::{Form, misfit};
+use crate::forms::{ValueForm, misfit};
 use crate::line::Line;
 use crate::lines::Lines;
 use crate::quoted::Quoted;
@@ -27,7 +27,7 @@ fn say_bad(
     document: &Document<'_>,
     at: Located<'_>,
     key: &str,
-    form: Form,
+    form: ValueForm,
     lines: &mut Lines,
 ) -> Result<(), Unsaid> {
     let mut line = document.line_at(at, key)?;

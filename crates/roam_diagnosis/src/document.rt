@@ -2,7 +2,7 @@
 
 use crate::keys::Keys;
 use crate::line::Line;
-use crate::place::{Kind, Place};
+use crate::place::{TableKind, TablePlace};
 use crate::quoted::Quoted;
 use crate::statements::nearest_line;
 use crate::unsaid::Unsaid;
@@ -14,7 +14,7 @@ use toml::{Table, Value};
 /// A table of the document, and where it stands.
 #[derive(Clone, Copy)]
 pub(crate) struct Located<'a> {
-    pub place: Place,
+    pub place: TablePlace,
     pub keys: Keys<'a>,
     /// What has its name: the realm's table for a server's, else itself.
     pub named: Keys<'a>,
@@ -49,13 +49,13 @@ impl<'a> Document<'a> {
             tables: Vec::new(alloc),
         };
         let top = Keys::new(table);
-        document.add(Place::TOP, top, top)?;
+        document.add(TablePlace::TOP, top, top)?;
         document.add_peers(top)?;
         document.add_realms(top)?;
         Ok(document)
     }
 
-    fn add(&mut self, place: Place, keys: Keys<'a>, named: Keys<'a>) -> Result<(), Unsaid> {
+    fn add(&mut self, place: TablePlace, keys: Keys<'a>, named: Keys<'a>) -> Result<(), Unsaid> {
         self.tables.push(Located { place, keys, named })?;
         Ok(())
     }
@@ -66,7 +66,7 @@ impl<'a> Document<'a> {
             index = index.saturating_add(1);
             if let Value::Table(table) = item {
                 let keys = Keys::new(table);
-                self.add(Place::peer(index), keys, keys)?;
+                self.add(TablePlace::peer(index), keys, keys)?;
             }
         }
         Ok(())
@@ -78,7 +78,7 @@ impl<'a> Document<'a> {
             index = index.saturating_add(1);
             if let Value::Table(table) = item {
                 let keys = Keys::new(table);
-                self.add(Place::realm(index), keys, keys)?;
+                self.add(TablePlace::realm(index), keys, keys)?;
                 self.add_servers(index, keys)?;
             }
         }
@@ -90,7 +90,7 @@ impl<'a> Document<'a> {
         for item in items_of(realm, "server") {
             server = server.saturating_add(1);
             if let Value::Table(table) = item {
-                self.add(Place::server(index, server), Keys::new(table), realm)?;
+                self.add(TablePlace::server(index, server), Keys::new(table), realm)?;
             }
         }
         Ok(())
@@ -130,9 +130,9 @@ fn write_named(line: &mut Line, word: &str, at: Located<'_>) -> fmt::Result {
 /// Writes which table it is, and a colon. The document itself isn't named.
 fn write_table(line: &mut Line, at: Located<'_>) -> fmt::Result {
     match at.place.kind {
-        Kind::Peer => write_named(line, "peer", at)?,
-        Kind::Realm => write_named(line, "realm", at)?,
-        Kind::Server => {
+        TableKind::Peer => write_named(line, "peer", at)?,
+        TableKind::Realm => write_named(line, "realm", at)?,
+        TableKind::Server => {
             write_named(line, "realm", at)?;
             write!(line, ", server {}", at.place.server)?;
         }

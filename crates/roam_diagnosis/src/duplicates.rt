@@ -2,7 +2,7 @@
 
 use crate::document::{Document, Located};
 use crate::lines::Lines;
-use crate::place::Kind;
+use crate::place::TableKind;
 use crate::quoted::Quoted;
 use crate::unsaid::Unsaid;
 use roam_conf_reader::ConfFault;
@@ -12,13 +12,13 @@ use toml::Value;
 
 /// A key whose values are compared.
 #[derive(Clone, Copy)]
-struct Key(Kind, &'static str);
+struct ComparedKey(TableKind, &'static str);
 
 /// Keys of which no two values may be equal.
 #[derive(Clone, Copy)]
 struct Group {
     fault: ConfFault,
-    keys: &'static [Key],
+    keys: &'static [ComparedKey],
     /// Whether the values of each realm are compared apart.
     is_apart: bool,
 }
@@ -26,50 +26,56 @@ struct Group {
 const GROUPS: [Group; 8] = [
     Group {
         fault: ConfFault::DuplicateRealm,
-        keys: &[Key(Kind::Realm, "name"), Key(Kind::Realm, "also")],
+        keys: &[
+            ComparedKey(TableKind::Realm, "name"),
+            ComparedKey(TableKind::Realm, "also"),
+        ],
         is_apart: false,
     },
     Group {
         fault: ConfFault::DuplicatePeer,
-        keys: &[Key(Kind::Peer, "name")],
+        keys: &[ComparedKey(TableKind::Peer, "name")],
         is_apart: false,
     },
     Group {
         fault: ConfFault::DuplicatePeer,
-        keys: &[Key(Kind::Peer, "ip")],
+        keys: &[ComparedKey(TableKind::Peer, "ip")],
         is_apart: false,
     },
     Group {
         fault: ConfFault::DuplicatePeer,
-        keys: &[Key(Kind::Peer, "nas_ip")],
+        keys: &[ComparedKey(TableKind::Peer, "nas_ip")],
         is_apart: false,
     },
     Group {
         fault: ConfFault::DuplicatePeer,
-        keys: &[Key(Kind::Peer, "nas_id")],
+        keys: &[ComparedKey(TableKind::Peer, "nas_id")],
         is_apart: false,
     },
     Group {
         fault: ConfFault::DuplicateEndpoint,
         keys: &[
-            Key(Kind::Top, "auth"),
-            Key(Kind::Top, "acct"),
-            Key(Kind::Realm, "out"),
-            Key(Kind::Realm, "reverse"),
+            ComparedKey(TableKind::Top, "auth"),
+            ComparedKey(TableKind::Top, "acct"),
+            ComparedKey(TableKind::Realm, "out"),
+            ComparedKey(TableKind::Realm, "reverse"),
         ],
         is_apart: false,
     },
     Group {
         fault: ConfFault::DuplicateServer,
-        keys: &[Key(Kind::Server, "auth"), Key(Kind::Server, "acct")],
+        keys: &[
+            ComparedKey(TableKind::Server, "auth"),
+            ComparedKey(TableKind::Server, "acct"),
+        ],
         is_apart: true,
     },
     Group {
         fault: ConfFault::DuplicateLink,
         keys: &[
-            Key(Kind::Peer, "coa"),
-            Key(Kind::Server, "auth"),
-            Key(Kind::Server, "acct"),
+            ComparedKey(TableKind::Peer, "coa"),
+            ComparedKey(TableKind::Server, "auth"),
+            ComparedKey(TableKind::Server, "acct"),
         ],
         is_apart: false,
     },
@@ -128,7 +134,7 @@ impl<'a> Seen<'a> {
 
     /// Whether equal values of this kind may stand: servers' endpoints, which only peers' mustn't equal.
     fn is_only_looked_for(&self, spot: Spot<'_>) -> bool {
-        self.group.fault == ConfFault::DuplicateLink && spot.at.place.kind == Kind::Server
+        self.group.fault == ConfFault::DuplicateLink && spot.at.place.kind == TableKind::Server
     }
 
     /// Takes down the texts under a key.
@@ -177,7 +183,7 @@ fn say_group(document: &Document<'_>, group: Group, lines: &mut Lines) -> Result
         spots: BTreeMap::new(document.alloc),
     };
     for at in document.tables.as_slice() {
-        for Key(kind, key) in group.keys {
+        for ComparedKey(kind, key) in group.keys {
             if at.place.kind == *kind {
                 seen.take_all(document, Spot { at: *at, key }, lines)?;
             }

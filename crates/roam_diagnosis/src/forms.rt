@@ -6,7 +6,7 @@ use toml::Value;
 
 /// What stands under a key.
 #[derive(Clone, Copy)]
-pub(crate) enum Form {
+pub(crate) enum ValueForm {
     /// An integer from the first to the second.
     Number(u32, u32),
     Flag,
@@ -77,26 +77,26 @@ fn is_pattern(text: &str) -> bool {
 }
 
 /// Whether the text is of the form, where that is one of texts.
-fn text_fits(form: Form, text: &str) -> bool {
+fn text_fits(form: ValueForm, text: &str) -> bool {
     match form {
-        Form::Seed => is_seed(text),
-        Form::Address => address(text).is_some(),
-        Form::Endpoint => Endpoint::from_text(text).is_some(),
-        Form::Text(most) => !text.is_empty() && text.len() <= most,
-        Form::SocketPath => is_socket_path(text),
-        Form::Secret => !text.is_empty() && text.len() <= 64,
-        Form::PeerName => is_name(text, 64, true),
-        Form::RealmName => is_name(text, 253, false),
-        Form::Names => is_pattern(text),
+        ValueForm::Seed => is_seed(text),
+        ValueForm::Address => address(text).is_some(),
+        ValueForm::Endpoint => Endpoint::from_text(text).is_some(),
+        ValueForm::Text(most) => !text.is_empty() && text.len() <= most,
+        ValueForm::SocketPath => is_socket_path(text),
+        ValueForm::Secret => !text.is_empty() && text.len() <= 64,
+        ValueForm::PeerName => is_name(text, 64, true),
+        ValueForm::RealmName => is_name(text, 253, false),
+        ValueForm::Names => is_pattern(text),
         _ => false,
     }
 }
 
 /// The first of the items that isn't a text of the form, or a table where that is one of tables.
-fn first_misfit(form: Form, items: &[Value]) -> Option<&Value> {
+fn first_misfit(form: ValueForm, items: &[Value]) -> Option<&Value> {
     for item in items {
         let fits = match item {
-            Value::Table(_) => matches!(form, Form::Tables(_)),
+            Value::Table(_) => matches!(form, ValueForm::Tables(_)),
             Value::String(text) => text_fits(form, text.as_str()),
             _ => false,
         };
@@ -108,28 +108,29 @@ fn first_misfit(form: Form, items: &[Value]) -> Option<&Value> {
 }
 
 /// Whether so many items, of which one may not fit, are of the form.
-fn items_fit(form: Form, items: &[Value]) -> bool {
+fn items_fit(form: ValueForm, items: &[Value]) -> bool {
     let fits = match form {
-        Form::Names => items.len() <= 256,
-        Form::Tables(most) => !items.is_empty() && items.len() <= most,
+        ValueForm::Names => items.len() <= 256,
+        ValueForm::Tables(most) => !items.is_empty() && items.len() <= most,
         _ => false,
     };
     fits && first_misfit(form, items).is_none()
 }
 
 /// Whether the value is of the form.
-pub(crate) fn fits(form: Form, value: &Value) -> bool {
+pub(crate) fn fits(form: ValueForm, value: &Value) -> bool {
     match value {
         Value::Integer(number) => match form {
-            Form::Number(least, most) => i64::from(least) <= *number && *number <= i64::from(most),
+            ValueForm::Number(least, most) => i64::from(least) <= *number
+                && *number <= i64::from(most),
             _ => false,
         },
         Value::Boolean(_) => match form {
-            Form::Flag => true,
+            ValueForm::Flag => true,
             _ => false,
         },
         Value::String(text) => match form {
-            Form::Names => false,
+            ValueForm::Names => false,
             _ => text_fits(form, text.as_str()),
         },
         Value::Array(items) => items_fit(form, items.as_slice()),
@@ -138,12 +139,12 @@ pub(crate) fn fits(form: Form, value: &Value) -> bool {
 }
 
 /// What of a value is shown that isn't of the form: the first item that doesn't fit, or all of it.
-pub(crate) fn misfit(form: Form, value: &Value) -> &Value {
+pub(crate) fn misfit(form: ValueForm, value: &Value) -> &Value {
     let Value::Array(items) = value else {
         return value;
     };
     match form {
-        Form::Names if items.len() <= 256 => match first_misfit(form, items.as_slice()) {
+        ValueForm::Names if items.len() <= 256 => match first_misfit(form, items.as_slice()) {
             Some(item) => item,
             None => value,
         },
@@ -152,27 +153,27 @@ pub(crate) fn misfit(form: Form, value: &Value) -> &Value {
 }
 
 /// What a value isn't that doesn't fit.
-impl fmt::Display for Form {
+impl fmt::Display for ValueForm {
     fn fmt<W: fmt::Write>(&self, f: &mut fmt::Formatter<W>) -> fmt::Result {
         match *self {
-            Form::Number(least, most) => write!(f, "is not in {least}..{most}"),
-            Form::Flag => f.write_str("is neither true nor false"),
-            Form::Seed => f.write_str("is not a text of 64 hexadecimal digits"),
-            Form::Address => f.write_str("is no IPv4 address in decimal, as \"192.0.2.1\""),
-            Form::Endpoint => {
+            ValueForm::Number(least, most) => write!(f, "is not in {least}..{most}"),
+            ValueForm::Flag => f.write_str("is neither true nor false"),
+            ValueForm::Seed => f.write_str("is not a text of 64 hexadecimal digits"),
+            ValueForm::Address => f.write_str("is no IPv4 address in decimal, as \"192.0.2.1\""),
+            ValueForm::Endpoint => {
                 f.write_str("is no IPv4 address with a port of 1..65535, as \"192.0.2.1:1812\"")
             }
-            Form::Text(most) => write!(f, "is not a text of 1..{most} octets"),
-            Form::SocketPath => f.write_str("is not a path of 1..107 octets"),
-            Form::Secret => f.write_str("is not a text of 1..64 octets"),
-            Form::PeerName => f.write_str("is not 1..64 of ASCII letters, digits, . - and _"),
-            Form::RealmName => {
+            ValueForm::Text(most) => write!(f, "is not a text of 1..{most} octets"),
+            ValueForm::SocketPath => f.write_str("is not a path of 1..107 octets"),
+            ValueForm::Secret => f.write_str("is not a text of 1..64 octets"),
+            ValueForm::PeerName => f.write_str("is not 1..64 of ASCII letters, digits, . - and _"),
+            ValueForm::RealmName => {
                 f.write_str("is not 1..253 of ASCII letters, digits, . and - (patterns go to also)")
             }
-            Form::Names => {
+            ValueForm::Names => {
                 f.write_str("is not in an array of 0..256 texts, each a name, *. and a name, or *")
             }
-            Form::Tables(most) => write!(f, "is no array of 1..{most} tables"),
+            ValueForm::Tables(most) => write!(f, "is no array of 1..{most} tables"),
         }
     }
 }

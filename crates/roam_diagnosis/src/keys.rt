@@ -2,7 +2,7 @@
 
 ghost use Rattle.std.specs.Prelude.{◌≡◌, codes, IsNone};
 
-use crate::forms::{Form, fits};
+use crate::forms::{ValueForm, fits};
 use std::collections::btree_map;
 use toml::value::Array;
 use toml::{Table, Value};
@@ -23,7 +23,7 @@ impl<'a> Keys<'a> {
     }
 
     /// Whether the key is absent, or what stands under it is of the form.
-    pub(crate) fn fits(self, key: &str, form: Form) -> bool {
+    pub(crate) fn fits(self, key: &str, form: ValueForm) -> bool {
         match self.table.get(key) {
             Some(value) => fits(form, value),
             None => true,

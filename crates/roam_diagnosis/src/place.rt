@@ -4,7 +4,7 @@ use std::fmt;
 
 /// Which kind of table it is.
 #[derive(Clone, Copy, PartialEq, Eq)]
-pub(crate) enum Kind {
+pub(crate) enum TableKind {
     /// The document itself.
     Top,
     /// A `[[peer]]`.
@@ -19,48 +19,48 @@ pub(crate) enum Kind {
 
 /// Which table it is. Tables are counted from 1; a count that tells nothing of its kind is 0.
 #[derive(Clone, Copy, PartialEq, Eq)]
-pub(crate) struct Place {
-    pub kind: Kind,
+pub(crate) struct TablePlace {
+    pub kind: TableKind,
     /// Which of the peers or realms.
     pub index: u32,
     /// Which of the realm's servers.
     pub server: u32,
 }
 
-impl Place {
+impl TablePlace {
     /// The document itself.
-    pub(crate) const TOP: Place = Place {
-        kind: Kind::Top,
+    pub(crate) const TOP: TablePlace = TablePlace {
+        kind: TableKind::Top,
         index: 0,
         server: 0,
     };
 
     /// A table that no configuration has.
-    pub(crate) const OTHER: Place = Place {
-        kind: Kind::Other,
+    pub(crate) const OTHER: TablePlace = TablePlace {
+        kind: TableKind::Other,
         index: 0,
         server: 0,
     };
 
-    pub(crate) fn peer(index: u32) -> Place {
-        Place {
-            kind: Kind::Peer,
+    pub(crate) fn peer(index: u32) -> TablePlace {
+        TablePlace {
+            kind: TableKind::Peer,
             index,
             server: 0,
         }
     }
 
-    pub(crate) fn realm(index: u32) -> Place {
-        Place {
-            kind: Kind::Realm,
+    pub(crate) fn realm(index: u32) -> TablePlace {
+        TablePlace {
+            kind: TableKind::Realm,
             index,
             server: 0,
         }
     }
 
-    pub(crate) fn server(index: u32, server: u32) -> Place {
-        Place {
-            kind: Kind::Server,
+    pub(crate) fn server(index: u32, server: u32) -> TablePlace {
+        TablePlace {
+            kind: TableKind::Server,
             index,
             server,
         }
@@ -68,16 +68,16 @@ impl Place {
 }
 
 /// The name of a kind, with its article.
-fn name_of(kind: Kind) -> &'static str {
+fn name_of(kind: TableKind) -> &'static str {
     match kind {
-        Kind::Peer => "a peer",
-        Kind::Realm => "a realm",
-        Kind::Server => "a server",
+        TableKind::Peer => "a peer",
+        TableKind::Realm => "a realm",
+        TableKind::Server => "a server",
         _ => "the top table",
     }
 }
 
-impl fmt::Display for Kind {
+impl fmt::Display for TableKind {
     fn fmt<W: fmt::Write>(&self, f: &mut fmt::Formatter<W>) -> fmt::Result {
         f.write_str(name_of(*self))
     }

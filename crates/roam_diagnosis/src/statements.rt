@@ -3,7 +3,7 @@
 //! The document was read already. A line that begins a statement is a header, as `[[realm]]`, or a key with its value;
 //! what stands in inline tables has the line of the statement.
 
-use crate::place::{Kind, Place};
+use crate::place::{TableKind, TablePlace};
 use crate::scan::Scan;
 
 /// The tables that came so far.
@@ -14,7 +14,7 @@ struct Cursor {
     /// Of the last realm.
     servers: u32,
     /// The one to which the next keys belong.
-    here: Place,
+    here: TablePlace,
 }
 
 /// A key without blanks and quotation marks round it.
@@ -55,49 +55,52 @@ impl Cursor {
         peers: 0,
         realms: 0,
         servers: 0,
-        here: Place::TOP,
+        here: TablePlace::TOP,
     };
 
     /// Passes a header below `realm`, and says under which key of which table it is.
-    fn enter_below_realm<'a>(&mut self, path: &'a str) -> (Place, &'a str) {
+    fn enter_below_realm<'a>(&mut self, path: &'a str) -> (TablePlace, &'a str) {
         let (key, rest) = first_key(path);
         if key != "server" {
-            return (Place::realm(self.realms), key);
+            return (TablePlace::realm(self.realms), key);
         }
         match rest {
-            Some(rest) => (Place::server(self.realms, self.servers), first_key(rest).0),
+            Some(rest) => (
+                TablePlace::server(self.realms, self.servers),
+                first_key(rest).0,
+            ),
             None => {
                 self.servers = self.servers.saturating_add(1);
-                self.here = Place::server(self.realms, self.servers);
-                (Place::realm(self.realms), key)
+                self.here = TablePlace::server(self.realms, self.servers);
+                (TablePlace::realm(self.realms), key)
             }
         }
     }
 
     /// Passes a header, and says under which key of which table it is.
-    fn enter<'a>(&mut self, path: &'a str) -> (Place, &'a str) {
-        self.here = Place::OTHER;
+    fn enter<'a>(&mut self, path: &'a str) -> (TablePlace, &'a str) {
+        self.here = TablePlace::OTHER;
         let (key, rest) = first_key(path);
         match (key, rest) {
             ("peer", None) => {
                 self.peers = self.peers.saturating_add(1);
-                self.here = Place::peer(self.peers);
+                self.here = TablePlace::peer(self.peers);
             }
-            ("peer", Some(rest)) => return (Place::peer(self.peers), first_key(rest).0),
+            ("peer", Some(rest)) => return (TablePlace::peer(self.peers), first_key(rest).0),
             ("realm", None) => {
                 self.realms = self.realms.saturating_add(1);
                 self.servers = 0;
-                self.here = Place::realm(self.realms);
+                self.here = TablePlace::realm(self.realms);
             }
             ("realm", Some(rest)) => return self.enter_below_realm(rest),
             _ => {}
         }
-        (Place::TOP, key)
+        (TablePlace::TOP, key)
     }
 
     /// Passes a line that begins a statement, and says whether that is the key of the table; the empty key is the
     /// table's header.
-    fn is_it(&mut self, line: &str, place: Place, key: &str) -> bool {
+    fn is_it(&mut self, line: &str, place: TablePlace, key: &str) -> bool {
         match header_of(line) {
             Some(path) => {
                 let (table, name) = self.enter(path);
@@ -110,7 +113,7 @@ impl Cursor {
 
 /// The number of the line, from 1, on which the key of the table stands, or its header for the empty key; 0 where
 /// there is none.
-fn line_of(text: &str, place: Place, key: &str) -> u32 {
+fn line_of(text: &str, place: TablePlace, key: &str) -> u32 {
     let mut cursor = Cursor::START;
     let mut scan = Scan::START;
     let mut number = 0u32;
@@ -125,22 +128,22 @@ fn line_of(text: &str, place: Place, key: &str) -> u32 {
 }
 
 /// The number of the line, from 1, on which the key of the table stands, or else the table; 0 where there is none.
-pub(crate) fn nearest_line(text: &str, place: Place, key: &str) -> u32 {
+pub(crate) fn nearest_line(text: &str, place: TablePlace, key: &str) -> u32 {
     let exact = line_of(text, place, key);
     if exact > 0 {
         return exact;
     }
     let header = match place.kind {
-        Kind::Top => 0,
+        TableKind::Top => 0,
         _ => line_of(text, place, ""),
     };
     if header > 0 {
         return header;
     }
     match place.kind {
-        Kind::Peer => line_of(text, Place::TOP, "peer"),
-        Kind::Realm => line_of(text, Place::TOP, "realm"),
-        Kind::Server => line_of(text, Place::realm(place.index), "server"),
+        TableKind::Peer => line_of(text, TablePlace::TOP, "peer"),
+        TableKind::Realm => line_of(text, TablePlace::TOP, "realm"),
+        TableKind::Server => line_of(text, TablePlace::realm(place.index), "server"),
         _ => 0,
     }
 }

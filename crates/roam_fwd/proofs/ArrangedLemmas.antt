@@ -22,7 +22,7 @@ use Rattle.roam_hide.specs.declared.packet_values.Hidden.TheVariants.{UserPasswo
 use Rattle.roam_hide.specs.Hiding.{Key}
 use Rattle.roam_hide.specs.PacketAnew.{attribute_anew, packet_anew, CanBeHiddenAnew}
 use Rattle.roam_fwd.specs.Forwarded.{Forwarding, ticket_state, challenge_is_authenticator, added_challenge, access_growth, forwarded, forwarded_length, HasPasswordBlocks, CanBeForwarded}
-use Rattle.roam_fwd.specs.Arranged.{IsSealStart, arranged_attributes}
+use Rattle.roam_fwd.specs.Private.Arranged.{IsSealStart, arranged_attributes}
 use Rattle.roam_fwd.specs.Rewriting.{request_in, IsRewritable}
 use Rattle.roam_fwd.proofs.ForwardedLemmas.{IsAttribute-with_ticket}
 use Rattle.roam_fwd.proofs.AccessLemmas.{without-yes, without-no, all_without, length-challenge, IsAttribute-challenge, AllByRecursion-append, zero_or_one, IsForwardableAccess, access_unsealed, IsPacket-access_unsealed, forwarded-access, forwarded_length-access}

@@ -5,7 +5,7 @@ ghost use Rattle.roam_wire.specs.Packet.{attributes_text, packet_text};
 ghost use Rattle.roam_wire.specs.declared.code.TheConstants.{ACCESS_REQUEST};
 ghost use Rattle.roam_wire.specs.Secret.{IsSecret};
 ghost use Rattle.roam_fwd.specs.Forwarded.{ticket_state, added_challenge, forwarded};
-ghost use Rattle.roam_fwd.specs.Arranged.{challenge_of, IsSealStart, arranged_attributes};
+ghost use Rattle.roam_fwd.specs.Private.Arranged.{challenge_of, IsSealStart, arranged_attributes};
 ghost use Rattle.roam_fwd.specs.Rewriting.{shown, request_in, IsRewritable};
 
 use crate::length::{ADDED_SIZE, TICKET_SIZE, challenge_is_authenticator};

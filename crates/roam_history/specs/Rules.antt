@@ -1,10 +1,10 @@
 -- The rule of a history's ghost book, and what its steps tell (ours).
 use Rattle.std.specs.Prelude.{ℕ, ◌≡◌, ◌==◌, true, List, [], ◌∷◌, ◌++◌, length, MatchBool}
 use Rattle.logbook.specs.Pages.{Cell, Step, View, Book, Named}
-use Rattle.roam_history.specs.Entries.{Entry}
+use Rattle.roam_history.specs.Entries.{HistoryEntry}
 
 -- the first word is how many entries the history has; a book has two words, of which the second isn't used
-pub record IsKept (cells : List Cell) (log : List Entry) : Type 0 where
+pub record IsKept (cells : List Cell) (log : List HistoryEntry) : Type 0 where
   pub words : cells ≡ (length log, true) ∷ (0, true) ∷ []
 
 -- the first word of a book
@@ -12,6 +12,6 @@ abbrev pub head_of : Book → Named
 head_of b = record { tracked = true; key = 0; book = b }
 
 -- an entry was added to all that had been seen, which was the whole; or the history was longer
-abbrev pub Adds : Step Entry → View Entry ℕ → ℕ → View Entry ℕ → Type 0
+abbrev pub Adds : Step HistoryEntry → View HistoryEntry ℕ → ℕ → View HistoryEntry ℕ → Type 0
 Adds s v found w =
     MatchBool (found == s.old) ((w.0 ≡ v.0 ++ s.ask ∷ []) × (length v.0 ≡ s.old)) (Unit {0})

@@ -6,14 +6,14 @@ ghost use Rattle.roam_history.specs.Rules.{head_of};
 use crate::front::Front;
 use crate::head::Head;
 use crate::opened::Opened;
-use crate::rule::{Entry, OneHistory};
+use crate::rule::{HistoryEntry, OneHistory};
 use logbook::{Seen, Start, Word};
 
 /// A history with no entry, which has no name yet.
 #[derive(Drop)]
 pub struct Blank {
-    pub(crate) word: Word<Entry, u64, OneHistory>,
-    pub(crate) seen: Seen<Entry, u64, OneHistory>,
+    pub(crate) word: Word<HistoryEntry, u64, OneHistory>,
+    pub(crate) seen: Seen<HistoryEntry, u64, OneHistory>,
     ghost empty: { seen.log ≡ [] },
     ghost word_is: { word ≡ head_of seen.book },
 }

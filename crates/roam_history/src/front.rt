@@ -7,7 +7,7 @@ ghost use Rattle.roam_trace.specs.Steps.{PlainStep};
 
 use crate::head::Head;
 use crate::opened::Opened;
-use crate::rule::{Add, Entry, LetGo, Nothing, OneHistory};
+use crate::rule::{Add, HistoryEntry, LetGo, Nothing, OneHistory};
 use logbook::{Offer, Plain, Seen};
 use roam_trace::Traced;
 use std::alloc::Allocator;
@@ -22,7 +22,7 @@ pub struct Front<N: Opened> {
     entries: u64,
     /// How many of them are steps.
     steps: u64,
-    seen: Seen<Entry, u64, OneHistory>,
+    seen: Seen<HistoryEntry, u64, OneHistory>,
     hub: PhantomData<N>,
 }
 
@@ -43,12 +43,12 @@ impl<N: Opened> Model for Front<N> {
 /// Adds an entry to all that was seen of a history, where no more was ever added: what is seen then. None
 /// where more was: nothing is added then. The one step of all this that threads share: a word is compared
 /// and exchanged.
-fn added<N: Opened, X, M: Plain<X, Entry, u64>>(
+fn added<N: Opened, X, M: Plain<X, HistoryEntry, u64>>(
     head: &Head<N>,
-    seen: &Seen<Entry, u64, OneHistory>,
+    seen: &Seen<HistoryEntry, u64, OneHistory>,
     entries: u64,
     about: &X,
-) -> Option<Seen<Entry, u64, OneHistory>>
+) -> Option<Seen<HistoryEntry, u64, OneHistory>>
     requires book { seen.now.book ≡ N.books head.now.shard }
     requires entries { entries ≡ length seen.now.log }
     requires room { entries < 2 ^ 64 - 1 }
@@ -57,7 +57,7 @@ fn added<N: Opened, X, M: Plain<X, Entry, u64>>(
     ensures book { IfSome result (λ s. s.book ≡ seen.now.book) }
 {
     let mut seen = seen.again();
-    let mut offer: Offer<Entry, u64, OneHistory, Nothing> = seen.plain::<Nothing, X, M>(about);
+    let mut offer: Offer<HistoryEntry, u64, OneHistory, Nothing> = seen.plain::<Nothing, X, M>(about);
     let mut pen = seen.no_pen();
     let found = head
         .word
@@ -67,7 +67,7 @@ fn added<N: Opened, X, M: Plain<X, Entry, u64>>(
 
 impl<N: Opened> Front<N> {
     /// The front that has seen nothing.
-    pub(crate) fn new(shard: u16, seen: Seen<Entry, u64, OneHistory>) -> Front<N>
+    pub(crate) fn new(shard: u16, seen: Seen<HistoryEntry, u64, OneHistory>) -> Front<N>
         requires book { seen.book ≡ N.books shard }
         requires empty { seen.log ≡ [] }
         ensures { result ≡ record { shard = shard; entries = [] } }

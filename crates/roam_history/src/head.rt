@@ -4,7 +4,7 @@ ghost use Rattle.std.specs.Prelude.{◌≡◌};
 ghost use Rattle.roam_history.specs.Rules.{head_of};
 
 use crate::opened::Opened;
-use crate::rule::{Entry, OneHistory};
+use crate::rule::{HistoryEntry, OneHistory};
 use logbook::Word;
 use std::marker::PhantomData;
 
@@ -12,14 +12,14 @@ use std::marker::PhantomData;
 #[derive(Drop)]
 pub struct Head<N: Opened> {
     pub shard: u16,
-    pub(crate) word: Word<Entry, u64, OneHistory>,
+    pub(crate) word: Word<HistoryEntry, u64, OneHistory>,
     hub: PhantomData<N>,
     ghost word_is: { word ≡ head_of (N.books shard) },
 }
 
 impl<N: Opened> Head<N> {
     /// The word of a history. Takes no memory.
-    pub(crate) fn new(shard: u16, word: Word<Entry, u64, OneHistory>) -> Head<N>
+    pub(crate) fn new(shard: u16, word: Word<HistoryEntry, u64, OneHistory>) -> Head<N>
         requires { word ≡ head_of (N.books shard) }
         ensures { result.shard ≡ shard }
     {

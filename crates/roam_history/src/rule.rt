@@ -5,12 +5,12 @@ use roam_trace::{Step, Traced};
 use std::alloc::{Allocator, Global};
 
 /// An entry of a history, in proofs alone: a step; or none, where the stored steps were let go of.
-pub(crate) type Entry = Option<Step<Global>>;
+pub(crate) type HistoryEntry = Option<Step<Global>>;
 
 /// The rule of a history.
 pub(crate) struct OneHistory;
 
-impl Rule<Entry, u64> for OneHistory {
+impl Rule<HistoryEntry, u64> for OneHistory {
     ghost use Rattle.std.specs.Prelude.{[]};
     ghost use base.Fml.{ftrue};
     ghost use Rattle.roam_history.specs.Rules.{IsKept};
@@ -31,7 +31,7 @@ impl Rule<Entry, u64> for OneHistory {
 /// Callers trade nothing.
 pub(crate) struct Nothing;
 
-impl Gain<Entry, u64> for Nothing {
+impl Gain<HistoryEntry, u64> for Nothing {
     ghost use base.Fml.{ftrue};
 
     ghost after = { λ names about answer. ftrue };
@@ -40,14 +40,14 @@ impl Gain<Entry, u64> for Nothing {
 /// An entry is added.
 pub(crate) struct Add;
 
-impl Play<Entry, u64> for Add {
+impl Play<HistoryEntry, u64> for Add {
     ghost use Rattle.roam_history.specs.Rules.{Adds};
 
     ghost then = { Adds };
 }
 
 /// The last step of a trace is added.
-impl<A: Allocator> Plain<Traced<'_, A>, Entry, u64> for Add {
+impl<A: Allocator> Plain<Traced<'_, A>, HistoryEntry, u64> for Add {
     ghost use Rattle.std.specs.Prelude.{None};
     ghost use Rattle.roam_history.specs.Entries.{last_of};
 
@@ -59,7 +59,7 @@ impl<A: Allocator> Plain<Traced<'_, A>, Entry, u64> for Add {
 /// That stored steps were let go of.
 pub(crate) struct LetGo;
 
-impl Plain<LetGo, Entry, u64> for LetGo {
+impl Plain<LetGo, HistoryEntry, u64> for LetGo {
     ghost use Rattle.std.specs.Prelude.{None};
 
     ghost ask = { λ _. None };

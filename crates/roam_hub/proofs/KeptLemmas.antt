@@ -5,7 +5,7 @@ use mathlib.Core.List.{IsPrefix}
 use Rattle.roam_trace.specs.History.{Beginning, Ends, GoesOn, IsHistory, begun, TraceView, end_of, with_step, without_steps}
 use Rattle.roam_shard.specs.Twins.{NothingDue}
 use Rattle.roam_trace.specs.Steps.{PlainStep}
-use Rattle.roam_history.specs.Entries.{Entry, gone_of, last_of, steps_in, stored_of}
+use Rattle.roam_history.specs.Entries.{HistoryEntry, gone_of, last_of, steps_in, stored_of}
 use Rattle.roam_history.specs.Fronts.{FrontView}
 use Rattle.roam_history.specs.HubOpening.{HubOpening, opening_at}
 use Rattle.roam_history.proofs.EntryLemmas.{all-gone, all-steps, last-push, none-stored, one-step, one-stored, same-gone, same-steps}
@@ -16,25 +16,25 @@ use Rattle.roam_hub.specs.Calls.{AreGone, IsCall, IsDueCall, IsFull, IsLook, See
 use Rattle.roam_hub.specs.Keeping.{IsKept, KeptView}
 
 -- a seat that has seen all entries of a shard
-front_same : (fronts : List (List Entry)) (shard : ℕ) (es : List Entry) → shard < length fronts → slice_index_or (slice_set fronts shard es) shard [] ≡ es
+front_same : (fronts : List (List HistoryEntry)) (shard : ℕ) (es : List HistoryEntry) → shard < length fronts → slice_index_or (slice_set fronts shard es) shard [] ≡ es
 front_same fronts shard es lt = get_or-set_same fronts shard es [] lt
 
 -- nothing was seen
 pub sees_same : (shard : ℕ) (old : SeatView) → Sees shard old old
 sees_same shard old = record { begins = prefix_self (front_of old shard); others = λ k ne. refl }
 
-sees_set : (shard : ℕ) (old new : SeatView) (es : List Entry) → new.fronts ≡ slice_set old.fronts shard es → shard < length old.fronts → IsPrefix (front_of old shard) es → Sees shard old new
+sees_set : (shard : ℕ) (old new : SeatView) (es : List HistoryEntry) → new.fronts ≡ slice_set old.fronts shard es → shard < length old.fronts → IsPrefix (front_of old shard) es → Sees shard old new
 sees_set shard old new es is lt pre = record {
-  begins = subst (λ (l : List Entry). IsPrefix (front_of old shard) l) (sym (ap (λ (fs : List (List Entry)). slice_index_or fs shard []) is ∙ front_same old.fronts shard es lt)) pre;
-  others = λ k ne. ap (λ (fs : List (List Entry)). slice_index_or fs k []) is ∙ get_or-set_other old.fronts shard k es [] ne;
+  begins = subst (λ (l : List HistoryEntry). IsPrefix (front_of old shard) l) (sym (ap (λ (fs : List (List HistoryEntry)). slice_index_or fs shard []) is ∙ front_same old.fronts shard es lt)) pre;
+  others = λ k ne. ap (λ (fs : List (List HistoryEntry)). slice_index_or fs k []) is ∙ get_or-set_other old.fronts shard k es [] ne;
 }
 
 -- a seat that has then seen the whole history of a shard
-pub sees_whole : (shard : ℕ) (old new : SeatView) (es : List Entry) → new ≡ having_seen old shard es → shard < length old.fronts → IsPrefix (front_of old shard) es
+pub sees_whole : (shard : ℕ) (old new : SeatView) (es : List HistoryEntry) → new ≡ having_seen old shard es → shard < length old.fronts → IsPrefix (front_of old shard) es
     → (front_of new shard ≡ es) × Sees shard old new
 sees_whole shard old new es is lt pre =
     let fronts = ap (λ (s : SeatView). s.fronts) is in (
-      ap (λ (fs : List (List Entry)). slice_index_or fs shard []) fronts ∙ front_same old.fronts shard es lt,
+      ap (λ (fs : List (List HistoryEntry)). slice_index_or fs shard []) fronts ∙ front_same old.fronts shard es lt,
       sees_set shard old new es fronts lt pre,
     )
 
@@ -137,8 +137,8 @@ recorded-one o k s shard number old new kept more here there begins number_is no
     let after : KeptView = record { trace = with_step k.trace s; front = record { shard = k.front.shard; entries = whole } } in
     let keeps : IsKept o after = kept_step o k s kept more in
     let fronts = ap (λ (x : SeatView). x.fronts) noted in
-    let front : front_of new shard ≡ whole = ap (λ (fs : List (List Entry)). slice_index_or fs shard []) fronts ∙ front_same old.fronts shard whole there in
-    let steps : steps_in (front_of new shard) ≡ steps_in es ++ s ∷ [] = ap (λ (l : List Entry). steps_in l) front ∙ one-step es s in
+    let front : front_of new shard ≡ whole = ap (λ (fs : List (List HistoryEntry)). slice_index_or fs shard []) fronts ∙ front_same old.fronts shard whole there in
+    let steps : steps_in (front_of new shard) ≡ steps_in es ++ s ∷ [] = ap (λ (l : List HistoryEntry). steps_in l) front ∙ one-step es s in
     let history : IsHistory (opening_at o shard) (steps_in whole) = subst (λ (n : ℕ). IsHistory (opening_at o n) (steps_in whole)) here (whole_history o after keeps) in
     record {
       kept = keeps;
@@ -147,7 +147,7 @@ recorded-one o k s shard number old new kept more here there begins number_is no
         stands = ap (λ (l : List PlainStep). slice_get l number) steps ∙ (ap (λ (n : ℕ). slice_get (steps_in es ++ s ∷ []) n) number_is ∙ get-last (steps_in es) s);
         last = (let len = ap length steps in let more = length-append (steps_in es) (s ∷ []) in omega (arith, len, more, number_is));
         rises = (let less = prefix_length (steps_in (front_of old shard)) (steps_in es) (steps_begin (front_of old shard) es begins) in omega (arith, less, number_is));
-        history = subst (λ (l : List Entry). IsHistory (opening_at o shard) (steps_in l)) (sym front) history;
+        history = subst (λ (l : List HistoryEntry). IsHistory (opening_at o shard) (steps_in l)) (sym front) history;
       };
       sees = sees_set shard old new whole fronts there (prefix_trans (front_of old shard) es whole begins (Some s ∷ [], refl));
       front = front;
@@ -159,7 +159,7 @@ pub recorded : (o : HubOpening) (k : KeptView) (t : TraceView) (f : FrontView) (
 recorded o k t f s shard number old new kept r =
     let last : last_of t.steps ≡ Some s = ap (λ (v : TraceView). last_of v.steps) r.trace ∙ last-push k.trace.steps s in
     let front : f ≡ record { shard = k.front.shard; entries = k.front.entries ++ Some s ∷ [] } =
-    r.front ∙ ap (λ (e : Entry). record { shard = k.front.shard; entries = k.front.entries ++ e ∷ [] }) last in
+    r.front ∙ ap (λ (e : HistoryEntry). record { shard = k.front.shard; entries = k.front.entries ++ e ∷ [] }) last in
     let noted = r.noted ∙ ap (λ (g : FrontView). after_call old shard number g.entries) front in
     let more = subst (λ (v : TraceView). GoesOn k.trace v) r.trace r.more in
     let one = recorded-one o k s shard number old new kept more r.here r.there r.begins r.number_is noted in
@@ -180,7 +180,7 @@ gone_of_shard o k shard old new steps kept here there begins are seen =
         before = es;
         entries = both.0;
         steps_are = are ∙ kept.stored;
-        history = subst (λ (l : List PlainStep). IsHistory (opening_at o shard) l) (sym (ap (λ (l : List Entry). steps_in l) both.0 ∙ same-steps es)) history;
+        history = subst (λ (l : List PlainStep). IsHistory (opening_at o shard) l) (sym (ap (λ (l : List HistoryEntry). steps_in l) both.0 ∙ same-steps es)) history;
         tallies = ap (λ (x : SeatView). x.tallies) seen;
       },
       both.1,
@@ -197,8 +197,8 @@ look o k shard now old new due kept here there begins is seen =
     let end = whole_end o k kept ∙ ap (λ (n : ℕ). end_of (opening_at o n) (steps_in k.front.entries)) here in (
       record {
         tallies = ap (λ (x : SeatView). x.tallies) seen;
-        history = subst (λ (l : List Entry). IsHistory (opening_at o shard) (steps_in l)) (sym both.0) history;
-        due_is = subst (λ (l : List Entry). due ≡ false ↔ NothingDue now (end_of (opening_at o shard) (steps_in l))) (sym both.0) (subst (λ states. due ≡ false ↔ NothingDue now states) end is);
+        history = subst (λ (l : List HistoryEntry). IsHistory (opening_at o shard) (steps_in l)) (sym both.0) history;
+        due_is = subst (λ (l : List HistoryEntry). due ≡ false ↔ NothingDue now (end_of (opening_at o shard) (steps_in l))) (sym both.0) (subst (λ states. due ≡ false ↔ NothingDue now states) end is);
       },
       both.1,
     )
@@ -222,4 +222,4 @@ pub full : (o : HubOpening) (k : KeptView) (shard : ℕ) (old new : SeatView) �
     → new ≡ having_seen old shard k.front.entries → length k.trace.steps ≡ k.trace.limit → IsFull o shard new
 full o k shard old new kept here there begins seen all =
     let both = sees_whole shard old new k.front.entries seen there begins in
-    ap (λ (l : List Entry). length (stored_of l)) both.0 ∙ (ap length (sym kept.stored) ∙ (all ∙ kept.limit))
+    ap (λ (l : List HistoryEntry). length (stored_of l)) both.0 ∙ (ap length (sym kept.stored) ∙ (all ∙ kept.limit))

@@ -6,7 +6,7 @@ use Rattle.roam_core.specs.Events.{PlainEvent}
 use Rattle.roam_shard.specs.Twins.{NothingDue}
 use Rattle.roam_trace.specs.History.{IsHistory, end_of}
 use Rattle.roam_trace.specs.Steps.{PlainStep, shown_answer}
-use Rattle.roam_history.specs.Entries.{Entry, steps_in, stored_of}
+use Rattle.roam_history.specs.Entries.{HistoryEntry, steps_in, stored_of}
 use Rattle.roam_history.specs.HubOpening.{HubOpening, opening_at}
 use Rattle.roam_audit.specs.Seats.{SeatView, front_of, noted}
 use Rattle.roam_hub.specs.declared.answered.Answered.{Answered}
@@ -54,7 +54,7 @@ pub record IsLook (o : HubOpening) (shard now : ℕ) (old new : SeatView) (due :
 -- the stored steps of a shard were let go of, and are these ones: the seat has seen the history up to there
 pub record AreGone (o : HubOpening) (shard : ℕ) (old new : SeatView) (steps : List PlainStep)
     : Type 0 where
-  pub before : List Entry
+  pub before : List HistoryEntry
   pub entries : front_of new shard ≡ before ++ None ∷ []
   pub steps_are : steps ≡ stored_of before
   pub history : HasHistory o shard new

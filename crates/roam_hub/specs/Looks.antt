@@ -1,6 +1,6 @@
 -- How a realm of a hub is seen to stand (ours).
 use Rattle.std.specs.Prelude.{ℕ, List}
-use Rattle.roam_book.specs.declared.looking.Gauges.{Gauges}
+use Rattle.roam_book.specs.declared.state.gauges.Gauges.{Gauges}
 use Rattle.roam_core.specs.ManyRealms.{state_at}
 use Rattle.roam_shard.specs.Looks.{StandsAs}
 use Rattle.roam_trace.specs.History.{IsHistory, end_of}

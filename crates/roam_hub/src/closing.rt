@@ -11,7 +11,7 @@ ghost use Rattle.roam_hub.specs.Histories.{AreHistories, starts_at_end};
 
 use crate::fault::HubFault;
 use crate::hub::Hub;
-use crate::kept::Kept;
+use crate::locked_trace::LockedTrace;
 use crate::pausing::PausedHub;
 use roam_audit::Report;
 use roam_book::Start;
@@ -33,7 +33,7 @@ pub(crate) struct Closed<'c, A: Allocator, N: Opened> {
 
 /// Takes the locks apart, one at a time, into lists with room. Takes no memory.
 pub(crate) fn taken_apart<'c, A: Allocator + Copy, N: Opened>(
-    locks: Vec<Mutex<Kept<'c, A, N>>, A>,
+    locks: Vec<Mutex<LockedTrace<'c, A, N>>, A>,
     mut shards: Vec<Shard<'c, A>, A>,
     mut steps: Vec<Vec<Step<A>, A>, A>,
     mut fronts: Vec<Front<N>, A>,

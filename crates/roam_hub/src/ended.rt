@@ -13,7 +13,7 @@ use crate::answered::{Answered, Refused};
 use crate::fault::HubFault;
 use crate::gate::Gate;
 use crate::hub::Hub;
-use crate::kept::Kept;
+use crate::locked_trace::LockedTrace;
 use crate::locking::wait_for;
 use crate::notes::{Notes, Stood, standing_of};
 use roam_audit::Seat;
@@ -91,7 +91,7 @@ fn note_after<A: Allocator + Copy>(shard: &Shard<'_, A>, notes: &mut Notes<A>) {
     }
 }
 
-impl<A: Allocator + Copy, N: Opened> Kept<'_, A, N> {
+impl<A: Allocator + Copy, N: Opened> LockedTrace<'_, A, N> {
     /// Notes of all entries that are due those that wait and aren't sent to their link again.
     fn note_due<R: Wait>(&self, rt: &R, realms: u16, now: u64, notes: &mut Notes<A>) {
         let shard = self.traced.shard();
@@ -105,8 +105,8 @@ impl<A: Allocator + Copy, N: Opened> Kept<'_, A, N> {
 }
 
 impl<'c, A: Allocator + Copy, N: Opened> Hub<'c, A, N> {
-    /// As `answer`; and before the call it notes the entry that the job is about: for a reply the one that waits where it
-    /// came from, for a request the one of its key. That takes no memory.
+    /// As `answer`; and before the call it notes the entry that the job is about: for a reply the one that waits where
+    /// it came from, for a request the one of its key. That takes no memory.
     ///
     /// # Errors
     ///
@@ -141,8 +141,8 @@ impl<'c, A: Allocator + Copy, N: Opened> Hub<'c, A, N> {
         kept.take(rt, seat, shard, now, job)
     }
 
-    /// As `tick_if_due`; and it notes of the entries that are due those that wait and aren't sent to their link again, and
-    /// how they stand after the tick. That takes no memory.
+    /// As `tick_if_due`; and it notes of the entries that are due those that wait and aren't sent to their link again,
+    /// and how they stand after the tick. That takes no memory.
     ///
     /// # Errors
     ///

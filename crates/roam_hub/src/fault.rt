@@ -4,7 +4,7 @@ ghost use Rattle.std.specs.Prelude.{Some};
 ghost use Rattle.roam_hub.specs.Texts.{text_of};
 
 use roam_trace::TraceFault;
-use roam_wire::NoMemory;
+use roam_wire::{NoMemory, Refusal};
 use std::{error, fmt};
 
 /// Why a call of a hub isn't recorded: nothing changes then. They are looked at in this order, but for
@@ -20,6 +20,23 @@ pub enum HubFault {
     TraceFull,
     /// A growth was refused (refusal 21).
     NoMemory,
+}
+
+impl HubFault {
+    ghost use Rattle.std.specs.Prelude.{◌≡◌};
+    ghost use Rattle.roam_hub.specs.Faults.{refusal_of};
+
+    /// The refusal that the fault is told as.
+    pub fn refusal(self) -> Refusal
+        ensures { result ≡ refusal_of self }
+    {
+        match self {
+            HubFault::NoShard => Refusal::NoShard,
+            HubFault::Misplaced => Refusal::Misplaced,
+            HubFault::TraceFull => Refusal::TraceFull,
+            HubFault::NoMemory => Refusal::NoMemory,
+        }
+    }
 }
 
 impl fmt::Display for HubFault {

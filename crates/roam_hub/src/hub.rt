@@ -1,6 +1,7 @@
 //! A lock for each shard.
 
-ghost use Rattle.std.specs.Prelude.{◌≡◌, ◌≢◌, ◌<◌, ◌≤◌, ◌-◌, ◌%◌, ◌^◌, ◌↔◌, Some, min, slice_get, vec_len, IfErr, IfOk, IsErrOf, OnErr};
+ghost use Rattle.std.specs.Prelude.{◌≡◌, ◌≢◌, ◌<◌, ◌≤◌, ◌-◌, ◌%◌, ◌^◌, ◌↔◌, Some, min, slice_get, vec_len, IfErr, IfOk};
+ghost use Rattle.std.specs.Prelude.{IsErrOf, OnErr};
 ghost use Rattle.roam_conf.specs.Shown.{shown};
 ghost use Rattle.roam_route.specs.Events.{IsEvent, arrival_of};
 ghost use Rattle.roam_route.specs.Shown.{shown_job};
@@ -15,7 +16,7 @@ ghost use Rattle.roam_hub.specs.Calls.{AreGone, IsCall, IsFull, IsLook, IsTick, 
 use crate::answered::{Answered, Refused};
 use crate::fault::HubFault;
 use crate::gate::Gate;
-use crate::kept::Kept;
+use crate::locked_trace::LockedTrace;
 use crate::locking::wait_for;
 use roam_audit::{Receipt, Seat};
 use roam_conf::Config;
@@ -32,7 +33,7 @@ use std::sync::{Mutex, Wait};
 pub struct Hub<'c, A: Allocator, N: Opened> {
     pub(crate) alloc: A,
     pub(crate) config: &'c Config,
-    pub(crate) locks: Vec<Mutex<Kept<'c, A, N>>, A>,
+    pub(crate) locks: Vec<Mutex<LockedTrace<'c, A, N>>, A>,
     ghost config_is: { shown config.now ≡ N.opening.config },
     ghost count: { vec_len locks ≡ N.opening.config.shards },
 }

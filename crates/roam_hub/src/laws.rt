@@ -16,15 +16,15 @@ pub fn provenance_in_histories()
     ensures { ProvenanceInHistories }
 {}
 
-/// In a history that begins in any states each realm is isolated too: the packets that were sent for it are those that its
-/// written broker sends from the state in which it begins, and where the history ends it stands as that one does.
+/// In a history that begins in any states each realm is isolated too: the packets that were sent for it are those that
+/// its written broker sends from the state in which it begins, and where the history ends it stands as that one does.
 pub fn realms_from_any_states()
     ensures { EachGoesAlone }
 {}
 
-/// While the configuration changes, any number of times, the packets that were sent for a realm which each change carries
-/// over are those of its own written broker over all its events, before and after: it goes on in its state. Any other realm
-/// begins anew.
+/// While the configuration changes, any number of times, the packets that were sent for a realm which each change
+/// carries over are those of its own written broker over all its events, before and after: it goes on in its state. Any
+/// other realm begins anew.
 pub fn realms_over_changes()
     ensures carried { CarriedOverChanges }
     ensures others { OthersBeginAnew }

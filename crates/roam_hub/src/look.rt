@@ -11,8 +11,8 @@ use std::alloc::Allocator;
 use std::sync::Wait;
 
 impl<A: Allocator + Copy, N: Opened> Hub<'_, A, N> {
-    /// How a realm stands, in numbers, at some end of its shard's history; none where it isn't configured. Waits for the
-    /// shard's lock, records nothing, and takes no memory.
+    /// How a realm stands, in numbers, at some end of its shard's history; none where it isn't configured. Waits for
+    /// the shard's lock, records nothing, and takes no memory.
     pub fn look<R: Wait>(&self, rt: &R, realm: u16) -> Option<Gauges>
         ensures { IfSome result (StandsSomewhere N.opening realm) }
     {

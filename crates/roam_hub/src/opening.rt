@@ -8,7 +8,7 @@ ghost use Rattle.roam_history.specs.HubOpening.{fresh_opening};
 ghost use Rattle.roam_audit.specs.Seats.{new_seat};
 
 use crate::hub::Hub;
-use crate::kept::Kept;
+use crate::locked_trace::LockedTrace;
 use roam_audit::Seat;
 use roam_book::Start;
 use roam_conf::Config;
@@ -27,7 +27,7 @@ fn kept_at<'c, A: Allocator + Copy, N: Opened>(
     shard: u16,
     starts: &[Start],
     blank: Blank,
-) -> Result<(Kept<'c, A, N>, Front<N>), NoMemory>
+) -> Result<(LockedTrace<'c, A, N>, Front<N>), NoMemory>
     requires opening { N.opening ≡ fresh_opening (shown config.now) starts.now }
     requires shard { shard < config.now.shards }
     requires starts { AreStarts (shown config.now) starts.now }
@@ -38,7 +38,7 @@ fn kept_at<'c, A: Allocator + Copy, N: Opened>(
     let seen = front.again();
     let shard = Shard::new(alloc, config, shard, starts)?;
     let traced = Traced::new(alloc, shard, config.trace_limit as usize);
-    Ok((Kept::new(traced, front, head), seen))
+    Ok((LockedTrace::new(traced, front, head), seen))
 }
 
 impl<'c, A: Allocator + Copy, N: Opened> Hub<'c, A, N> {

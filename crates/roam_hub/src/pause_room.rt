@@ -11,8 +11,8 @@ use roam_trace::Step;
 use roam_wire::NoMemory;
 use std::alloc::Allocator;
 
-/// The memory with which a hub is paused: empty lists, with room for all that comes back. It is taken while the hub still
-/// answers, so that a growth that is refused changes nothing.
+/// The memory with which a hub is paused: empty lists, with room for all that comes back. It is taken while the hub
+/// still answers, so that a growth that is refused changes nothing.
 #[derive(Drop)]
 pub struct PauseRoom<'c, A: Allocator, N: Opened> {
     pub(crate) shards: Vec<Shard<'c, A>, A>,

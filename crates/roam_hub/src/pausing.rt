@@ -16,7 +16,7 @@ ghost use Rattle.roam_shard.specs.Pausing.{states_under};
 use crate::closing::{Closed, starts_of, taken_apart};
 use crate::fault::HubFault;
 use crate::hub::Hub;
-use crate::kept::Kept;
+use crate::locked_trace::LockedTrace;
 use crate::pause_room::PauseRoom;
 use roam_audit::{Report, Seat, no_tallies};
 use roam_conf::Config;
@@ -54,7 +54,7 @@ fn kept_over<'c, A: Allocator + Copy, N: Opened>(
     shard: u16,
     paused: Paused<A>,
     blank: Blank,
-) -> (Kept<'c, A, N>, Front<N>)
+) -> (LockedTrace<'c, A, N>, Front<N>)
     requires config { N.opening.config ≡ shown config.now }
     requires paused { IsPaused (shown config.now) shard paused }
     requires states { N.opening.states shard ≡ states_under (shown config.now) paused }
@@ -65,12 +65,12 @@ fn kept_over<'c, A: Allocator + Copy, N: Opened>(
     let seen = front.again();
     let shard = Shard::resume(config, paused);
     let traced = Traced::new(alloc, shard, config.trace_limit as usize);
-    (Kept::new(traced, front, head), seen)
+    (LockedTrace::new(traced, front, head), seen)
 }
 
 impl<'c, A: Allocator + Copy, N: Opened> Hub<'c, A, N> {
-    /// Ends the hub, once nobody calls any more, as `close` does, and gives its shards too, which go on where they stand.
-    /// Takes no memory.
+    /// Ends the hub, once nobody calls any more, as `close` does, and gives its shards too, which go on where they
+    /// stand. Takes no memory.
     ///
     /// # Errors
     ///
@@ -111,8 +111,8 @@ impl<'c, A: Allocator + Copy, N: Opened> Hub<'c, A, N> {
         Ok(PausedHub { report, shards })
     }
 
-    /// A hub over shards that stand under this configuration, one for each number, and the first seat. Nothing is recorded
-    /// yet: the history of each shard begins where it stands.
+    /// A hub over shards that stand under this configuration, one for each number, and the first seat. Nothing is
+    /// recorded yet: the history of each shard begins where it stands.
     ///
     /// # Errors
     ///

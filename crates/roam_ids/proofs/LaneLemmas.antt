@@ -4,8 +4,8 @@ use Rattle.std.specs.Int.{bit_at}
 use Rattle.std.proofs.lemmas.List.{get_or-replicate}
 use Rattle.std.proofs.lemmas.Bool.{cases_eq, eq-eqb, ne_eqb}
 use Rattle.std.proofs.lemmas.Nat.Bits.{bit_at-zero}
-use Rattle.roam_ids.specs.declared.place.Place.{Place}
-use Rattle.roam_ids.specs.declared.place.Place.TheVariants.{Free}
+use Rattle.roam_ids.specs.declared.id_state.IdState.{IdState}
+use Rattle.roam_ids.specs.declared.id_state.IdState.TheVariants.{Free}
 use Rattle.roam_ids.specs.LaneState.{LaneState, HasIdentifiers, place_at, put_at}
 use Rattle.roam_ids.specs.Standing.{is_in_use}
 use Rattle.roam_ids.specs.Marks.{WordsTell}
@@ -24,7 +24,7 @@ zeros_tell id octet =
     ∙ ap is_in_use (sym (free_everywhere 256 id))
 
 -- A place that is written stands where it was written, and nowhere else.
-pub place_at-put_at : (lane : LaneState) (id other : ℕ) (place : Place) → HasIdentifiers lane
+pub place_at-put_at : (lane : LaneState) (id other : ℕ) (place : IdState) → HasIdentifiers lane
     → id < 256
     → place_at (put_at lane id place) other ≡ cond (eqb other id) place (place_at lane other)
 place_at-put_at lane id other place whole octet =

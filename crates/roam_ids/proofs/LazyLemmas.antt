@@ -1,6 +1,6 @@
 -- A lane whose memory is taken when it is first needed.
 use Rattle.std.proofs.Common.{◌≡◌, ℕ, ◌<◌, List, [], ◌∷◌, None, length, set, get_or, refl, ap, subst, ◌∙◌, arith}
-use Rattle.roam_ids.specs.declared.place.Place.TheVariants.{Free, Out}
+use Rattle.roam_ids.specs.declared.id_state.IdState.TheVariants.{Free, Out}
 use Rattle.roam_ids.specs.NextIdentifier.{AllUsed}
 use Rattle.roam_ids.specs.Standing.{is_in_use, ticket_of}
 use Rattle.roam_ids.specs.LaneState.{LaneState, HasIdentifiers, place_at, ticket_at, is_used}

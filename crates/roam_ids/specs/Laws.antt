@@ -1,7 +1,7 @@
 -- Laws of the next free Identifier and of what stands at an Identifier (ours). Each is what a
 -- function of `laws` ensures.
 use Rattle.std.specs.Prelude.{◌≡◌, ℕ, ◌<◌, ◌↔◌, Bool, false, Option, Some, None, ◌==◌, if◌then◌else◌}
-use Rattle.roam_ids.specs.declared.place.Place.{Place}
+use Rattle.roam_ids.specs.declared.id_state.IdState.{IdState}
 use Rattle.roam_ids.specs.LaneState.{LaneState, HasIdentifiers, place_at, put_at}
 use Rattle.roam_ids.specs.NextIdentifier.{AllUsed, IsFirstFree, IsNextIdentifier, next_identifier}
 
@@ -38,6 +38,6 @@ SameUseSameNext =
 -- to put a place at an Identifier changes what stands there, and nowhere else
 abbrev pub PutChangesOne : Type 0
 PutChangesOne =
-    (lane : LaneState) (id other : ℕ) (place : Place)
+    (lane : LaneState) (id other : ℕ) (place : IdState)
     → HasIdentifiers lane → id < 256
     → place_at (put_at lane id place) other ≡ (if other == id then place else place_at lane other)

@@ -1,11 +1,11 @@
 -- A lane whose memory is taken when it is first needed (ours).
 use Rattle.std.specs.Prelude.{ℕ, true, false, List, [], ◌∷◌, replicate}
-use Rattle.roam_ids.specs.declared.place.Place.{Place}
-use Rattle.roam_ids.specs.declared.place.Place.TheVariants.{Free}
+use Rattle.roam_ids.specs.declared.id_state.IdState.{IdState}
+use Rattle.roam_ids.specs.declared.id_state.IdState.TheVariants.{Free}
 use Rattle.roam_ids.specs.LaneState.{LaneState}
 
 -- 256 Identifiers of which none is in use
-unfoldable pub all_free : List Place
+unfoldable pub all_free : List IdState
 all_free = replicate 256 Free
 
 -- a lane of which nothing is in use, with its cursor at 0, and for which no memory was taken

@@ -1,7 +1,7 @@
 -- To take the next free Identifier of a lane, and to claim a parked one (ours).
 use Rattle.std.specs.Prelude.{◌≡◌, ℕ, Option, IfSome, IfNone, OnSome}
 use Rattle.std.specs.Option.{option_map}
-use Rattle.roam_ids.specs.declared.place.Place.TheVariants.{Out}
+use Rattle.roam_ids.specs.declared.id_state.IdState.TheVariants.{Out}
 use Rattle.roam_ids.specs.IdSlot.{Slot, slot_id, claimed_ticket}
 use Rattle.roam_ids.specs.LaneState.{LaneState, HasIdentifiers, place_at, ticket_at, is_used, put_at, cursor_past}
 use Rattle.roam_ids.specs.NextIdentifier.{next_identifier}

@@ -6,7 +6,7 @@ ghost use Rattle.roam_ids.specs.LaneState.{HasIdentifiers, place_at, ticket_at, 
 ghost use Rattle.roam_ids.specs.Taking.{IsOutOf, TakesNext, Claims};
 ghost use Rattle.roam_ids.specs.Making.{fresh_lane, with_memory};
 
-use crate::place::Place;
+use crate::id_state::IdState;
 use crate::slot::IdSlot;
 use crate::words::{all_marked, mark, next_free};
 use std::marker::Model;
@@ -21,7 +21,7 @@ pub struct Lane {
     tag: u32,
     cursor: u8,
     words: [u64; 4],
-    places: [Place; 256],
+    places: [IdState; 256],
 }
 
 impl Model for Lane {
@@ -43,7 +43,7 @@ impl Lane {
     pub fn new(tag: u32) -> Lane
         ensures tag { result.tag ≡ tag }
         ensures cursor { result.cursor ≡ 0 }
-        ensures free { (id : ℕ) → place_at result id ≡ Place.Free }
+        ensures free { (id : ℕ) → place_at result id ≡ IdState.Free }
         ensures whole { HasIdentifiers result }
         ensures fresh { result ≡ with_memory (fresh_lane tag) }
     {
@@ -51,12 +51,12 @@ impl Lane {
             tag,
             cursor: 0,
             words: [0; 4],
-            places: [Place::Free; 256],
+            places: [IdState::Free; 256],
         }
     }
 
     /// Writes what stands at an Identifier, and its bit.
-    fn put(&mut self, id: u8, place: Place)
+    fn put(&mut self, id: u8, place: IdState)
         ensures put { self.new ≡ put_at self.old id place }
         ensures whole { HasIdentifiers self.new }
     {
@@ -71,7 +71,7 @@ impl Lane {
         ensures { TakesNext self.old self.new result }
     {
         let id = next_free(&self.words, self.cursor)?;
-        self.put(id, Place::Out);
+        self.put(id, IdState::Out);
         self.cursor = id.wrapping_add(1);
         Some(IdSlot { tag: self.tag, id })
     }
@@ -79,11 +79,11 @@ impl Lane {
     /// Parks an Identifier with the ticket of the request that waits for a reply to it.
     pub fn park(&mut self, slot: IdSlot, ticket: u64)
         requires { IsOutOf self.old slot }
-        ensures parked { self.new ≡ put_at self.old slot.id (Place.Parked ticket) }
+        ensures parked { self.new ≡ put_at self.old slot.id (IdState.Parked ticket) }
         ensures whole { HasIdentifiers self.new }
     {
         let IdSlot { tag: _, id } = slot;
-        self.put(id, Place::Parked(ticket));
+        self.put(id, IdState::Parked(ticket));
     }
 
     /// Claims a parked Identifier, with its ticket. It is then out. `None` where nothing is parked
@@ -93,7 +93,7 @@ impl Lane {
         ensures { Claims id self.old self.new result }
     {
         let ticket = self.holder(id)?;
-        self.put(id, Place::Out);
+        self.put(id, IdState::Out);
         Some((IdSlot { tag: self.tag, id }, ticket))
     }
 
@@ -103,7 +103,7 @@ impl Lane {
         ensures whole { HasIdentifiers self.now }
     {
         match self.places[usize::from(id)] {
-            Place::Parked(ticket) => Some(ticket),
+            IdState::Parked(ticket) => Some(ticket),
             _ => None,
         }
     }
@@ -118,11 +118,11 @@ impl Lane {
     /// Gives an Identifier back: it is free again.
     pub fn free(&mut self, slot: IdSlot)
         requires { IsOutOf self.old slot }
-        ensures free { self.new ≡ put_at self.old slot.id Place.Free }
+        ensures free { self.new ≡ put_at self.old slot.id IdState.Free }
         ensures whole { HasIdentifiers self.new }
     {
         let IdSlot { tag: _, id } = slot;
-        self.put(id, Place::Free);
+        self.put(id, IdState::Free);
     }
 
     /// The Identifiers in use as bits: bit `i mod 64` of word `i / 64`, rounded down, is set just

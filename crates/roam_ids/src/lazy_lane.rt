@@ -1,7 +1,7 @@
 //! A lane whose memory is taken when it is first needed.
 ghost use Rattle.std.specs.Prelude.{◌≡◌, ℕ, ◌↔◌, true, false, None, IsOk, IsTrue, OnOk, OnErr};
 ghost use Rattle.roam_ids.specs.NextIdentifier.{AllUsed};
-ghost use Rattle.roam_ids.specs.declared.place.Place.{Place};
+ghost use Rattle.roam_ids.specs.declared.id_state.IdState.{IdState};
 ghost use Rattle.roam_ids.specs.LaneState.{HasIdentifiers, place_at, ticket_at, is_used, put_at};
 ghost use Rattle.roam_ids.specs.Taking.{IsOutOf, TakesNext, Claims};
 ghost use Rattle.roam_ids.specs.Making.{with_memory};
@@ -36,7 +36,7 @@ impl<A: Allocator> LazyLane<A> {
     pub fn new(alloc: A, tag: u32) -> LazyLane<A>
         ensures tag { result.tag ≡ tag }
         ensures cursor { result.cursor ≡ 0 }
-        ensures free { (id : ℕ) → place_at result id ≡ Place.Free }
+        ensures free { (id : ℕ) → place_at result id ≡ IdState.Free }
         ensures whole { HasIdentifiers result }
         ensures made { result.made ≡ false }
     {
@@ -71,7 +71,7 @@ impl<A: Allocator> LazyLane<A> {
     /// Parks an Identifier with the ticket of the request that waits for a reply to it.
     pub fn park(&mut self, slot: IdSlot, ticket: u64)
         requires { IsOutOf self.old slot }
-        ensures parked { self.new ≡ put_at self.old slot.id (Place.Parked ticket) }
+        ensures parked { self.new ≡ put_at self.old slot.id (IdState.Parked ticket) }
         ensures whole { HasIdentifiers self.new }
     {
         self.lane[0].park(slot, ticket);
@@ -118,7 +118,7 @@ impl<A: Allocator> LazyLane<A> {
     /// Gives an Identifier back: it is free again.
     pub fn free(&mut self, slot: IdSlot)
         requires { IsOutOf self.old slot }
-        ensures free { self.new ≡ put_at self.old slot.id Place.Free }
+        ensures free { self.new ≡ put_at self.old slot.id IdState.Free }
         ensures whole { HasIdentifiers self.new }
     {
         self.lane[0].free(slot);

@@ -5,10 +5,10 @@
 //! or a clock, and nothing takes memory but a lane that is made when it is first needed.
 #![tactic(auto)]
 
+mod id_state;
 mod lane;
 pub mod laws;
 mod lazy_lane;
-mod place;
 mod slot;
 mod words;
 

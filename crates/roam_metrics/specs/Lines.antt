@@ -2,8 +2,8 @@
 use Rattle.std.specs.Prelude.{ℕ, codes, ◌+◌, ◌/◌, ◌%◌, ◌==◌, List, [], ◌∷◌, ◌++◌, if◌then◌else◌}
 use Rattle.std.specs.Fmt.{decimal}
 use Rattle.std.specs.List.{flat_map}
-use Rattle.roam_metrics.specs.declared.samples.Kind.{Kind}
-use Rattle.roam_metrics.specs.declared.samples.Kind.TheVariants as kind
+use Rattle.roam_metrics.specs.declared.samples.MetricKind.{MetricKind}
+use Rattle.roam_metrics.specs.declared.samples.MetricKind.TheVariants as kind
 use Rattle.roam_metrics.specs.declared.samples.Label.{Label}
 
 -- an octet of a label's value: a quotation mark (34), a reverse solidus (92) and a line feed (10) have a reverse solidus
@@ -36,12 +36,12 @@ seconds_text name labels milliseconds =
     (46 ∷ (48 + milliseconds / 100 % 10) ∷ (48 + milliseconds / 10 % 10) ∷ (48 + milliseconds % 10) ∷ []) ++ codes "\n"
 
 -- what a metric is
-abbrev pub kind_word : Kind → List ℕ
+abbrev pub kind_word : MetricKind → List ℕ
 kind_word kind.Counter = codes " counter\n"
 kind_word kind.Gauge = codes " gauge\n"
 kind_word kind.Histogram = codes " histogram\n"
 
 -- what stands before the samples of a metric
-abbrev pub header_text : List ℕ → List ℕ → Kind → List ℕ
+abbrev pub header_text : List ℕ → List ℕ → MetricKind → List ℕ
 header_text name help kind =
     codes "# HELP " ++ name ++ codes " " ++ help ++ codes "\n# TYPE " ++ name ++ kind_word kind

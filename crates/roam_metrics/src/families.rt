@@ -1,6 +1,6 @@
 //! The metrics of realms, home servers and peers: what is counted of each of them.
 
-use roam_counters::{Event, ReplyKind, RequestKind};
+use roam_counters::{CountedEvent, Process, ReplyKind, RequestKind};
 use roam_wire::Refusal;
 
 /// Of whom something is counted.
@@ -110,12 +110,12 @@ impl OfRequests {
     }
 
     /// The event, of one kind.
-    pub(crate) fn event(self, kind: RequestKind) -> Event {
+    pub(crate) fn event(self, kind: RequestKind) -> CountedEvent {
         match self {
-            OfRequests::Came => Event::Request(kind),
-            OfRequests::Forwarded => Event::Forwarded(kind),
-            OfRequests::SentAgain => Event::SentAgain(kind),
-            OfRequests::TakenOver => Event::TakenOver(kind),
+            OfRequests::Came => CountedEvent::Request(kind),
+            OfRequests::Forwarded => CountedEvent::Forwarded(kind),
+            OfRequests::SentAgain => CountedEvent::SentAgain(kind),
+            OfRequests::TakenOver => CountedEvent::TakenOver(kind),
         }
     }
 }
@@ -152,12 +152,12 @@ impl OfReplies {
     }
 
     /// The event, of one kind.
-    pub(crate) fn event(self, kind: ReplyKind) -> Event {
+    pub(crate) fn event(self, kind: ReplyKind) -> CountedEvent {
         match self {
-            OfReplies::Came => Event::Reply(kind),
-            OfReplies::Returned => Event::Returned(kind),
-            OfReplies::Answered => Event::Answered(kind),
-            OfReplies::AnsweredByTick => Event::AnsweredByTick(kind),
+            OfReplies::Came => CountedEvent::Reply(kind),
+            OfReplies::Returned => CountedEvent::Returned(kind),
+            OfReplies::Answered => CountedEvent::Answered(kind),
+            OfReplies::AnsweredByTick => CountedEvent::AnsweredByTick(kind),
         }
     }
 }
@@ -227,14 +227,14 @@ impl Single {
     }
 
     /// The event.
-    pub(crate) fn event(self) -> Event {
+    pub(crate) fn event(self) -> CountedEvent {
         match self {
-            Single::Waiting => Event::Waiting,
-            Single::AnsweredAgain => Event::AnsweredAgain,
-            Single::FailedOver => Event::FailedOver,
-            Single::GivenUp => Event::GivenUp,
-            Single::Replaced => Event::Replaced,
-            Single::LocalReject => Event::LocalReject,
+            Single::Waiting => CountedEvent::Waiting,
+            Single::AnsweredAgain => CountedEvent::AnsweredAgain,
+            Single::FailedOver => CountedEvent::FailedOver,
+            Single::GivenUp => CountedEvent::GivenUp,
+            Single::Replaced => CountedEvent::Replaced,
+            Single::LocalReject => CountedEvent::LocalReject,
         }
     }
 }
@@ -258,3 +258,64 @@ impl Scope {
         }
     }
 }
+
+/// A metric of the whole server: its name, what it means, and its samples, each with the label's value.
+pub(crate) struct OfServer {
+    pub name: &'static str,
+    pub help: &'static str,
+    pub label: &'static str,
+    pub samples: &'static [(&'static str, Process)],
+}
+
+/// The metrics of the whole server, in the order in which they are told.
+pub(crate) const OF_SERVER: [OfServer; 6] = [
+    OfServer {
+        name: "roam_received_datagrams_total",
+        help: "Datagrams that were received.",
+        label: "place",
+        samples: &[
+            ("auth", Process::ReceivedAuth),
+            ("acct", Process::ReceivedAcct),
+            ("out", Process::ReceivedOut),
+            ("reverse", Process::ReceivedReverse),
+        ],
+    },
+    OfServer {
+        name: "roam_sent_packets_total",
+        help: "Packets that were handed to a socket.",
+        label: "outcome",
+        samples: &[("sent", Process::Sent)],
+    },
+    OfServer {
+        name: "roam_lost_packets_total",
+        help: "Packets that were to leave and are lost.",
+        label: "cause",
+        samples: &[
+            ("full_ring", Process::LostFullRing),
+            ("unreachable", Process::LostUnreachable),
+            ("not_permitted", Process::LostNotPermitted),
+            ("other", Process::LostOther),
+        ],
+    },
+    OfServer {
+        name: "roam_history_steps_total",
+        help: "Steps of histories.",
+        label: "outcome",
+        samples: &[("stored", Process::Step), ("let_go", Process::StepLetGo)],
+    },
+    OfServer {
+        name: "roam_exchange_lines_lost_total",
+        help: "Exchanges that ended without a line in the log.",
+        label: "cause",
+        samples: &[
+            ("dropped", Process::LineDropped),
+            ("not_noted", Process::NoteMissed),
+        ],
+    },
+    OfServer {
+        name: "roam_history_let_go_total",
+        help: "How often a shard's stored steps were let go of.",
+        label: "outcome",
+        samples: &[("let_go", Process::TimeLetGo)],
+    },
+];

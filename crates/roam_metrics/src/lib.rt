@@ -13,5 +13,5 @@ mod words;
 
 pub use gauges::Gauge;
 pub use pages::{Counts, page};
-pub use samples::{Kind, Label, push_header, push_sample, push_seconds};
-pub use standing::{Form, status};
+pub use samples::{Label, MetricKind, push_header, push_sample, push_seconds};
+pub use standing::{StatusForm, status};

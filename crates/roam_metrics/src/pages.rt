@@ -4,23 +4,23 @@ ghost use Rattle.std.specs.Prelude.{OnOk, IfOk};
 ghost use Rattle.roam_metrics.specs.Pages.{AreLines, MoreLines};
 
 use crate::families::{
-    OF_REPLIES, OF_REQUESTS, OfReplies, OfRequests, REFUSALS, SCOPES, SINGLES, Scope, Single,
+    OF_REPLIES, OF_REQUESTS, OF_SERVER, OfReplies, OfRequests, OfServer, REFUSALS, SCOPES, SINGLES,
+    Scope, Single,
 };
 use crate::gauges::{Gauge, OF_GAUGES, OfGauges};
-use crate::samples::{Kind, Label, push_header, push_sample, push_seconds};
+use crate::samples::{Label, MetricKind, push_header, push_sample, push_seconds};
 use crate::words::{
     BOUNDS, NAKS, REPLIES, REQUESTS, bound_word, nak_word, reply_word, request_word,
 };
 use itoa::Buffer;
 use roam_conf::Config;
-use roam_counters::{Event, Process, Subject};
-use roam_notices::EndpointText;
+use roam_counters::{CountedEvent, Process, Subject};
 use std::alloc::{AllocError, Global};
 
 /// What was counted.
 pub trait Counts {
     /// How often an event was counted of a subject.
-    fn event(&self, subject: Subject, event: Event) -> u64;
+    fn event(&self, subject: Subject, event: CountedEvent) -> u64;
 
     /// How often this was counted of the whole server.
     fn process(&self, process: Process) -> u64;
@@ -56,7 +56,7 @@ fn all_named(alloc: Global, config: &Config) -> Result<Vec<Named<'_>>, AllocErro
                 scope: Scope::Server,
                 subject: Subject::Server(number, place),
                 name,
-                server: Some(format!(in alloc; "{}", EndpointText(server.auth))?),
+                server: Some(format!(in alloc; "{}", server.auth)?),
             })?;
         }
     }
@@ -171,7 +171,7 @@ fn push_requests<C: Counts>(
 ) -> Result<(), AllocError>
     ensures { OnOk result (MoreLines page.old.items page.new.items) }
 {
-    push_header(page, family.name(scope), family.help(), Kind::Counter)?;
+    push_header(page, family.name(scope), family.help(), MetricKind::Counter)?;
     for named in all {
         if named.scope == scope {
             push_requests_of(page, counts, named, family)?;
@@ -210,7 +210,7 @@ fn push_replies<C: Counts>(
 ) -> Result<(), AllocError>
     ensures { OnOk result (MoreLines page.old.items page.new.items) }
 {
-    push_header(page, family.name(scope), family.help(), Kind::Counter)?;
+    push_header(page, family.name(scope), family.help(), MetricKind::Counter)?;
     for named in all {
         if named.scope == scope {
             push_replies_of(page, counts, named, family)?;
@@ -228,7 +228,7 @@ fn push_refusals_of<C: Counts>(
     ensures { OnOk result (MoreLines page.old.items page.new.items) }
 {
     for refusal in &REFUSALS {
-        let value = counts.event(named.subject, Event::Refused(*refusal));
+        let value = counts.event(named.subject, CountedEvent::Refused(*refusal));
         let mut number = Buffer::new();
         let label = Label {
             name: "number",
@@ -249,7 +249,7 @@ fn push_refusals<C: Counts>(
     ensures { OnOk result (MoreLines page.old.items page.new.items) }
 {
     let help = "Arrivals that were refused, by the number of the refusal.";
-    push_header(page, scope.refusals(), help, Kind::Counter)?;
+    push_header(page, scope.refusals(), help, MetricKind::Counter)?;
     for named in all {
         if named.scope == scope {
             push_refusals_of(page, counts, named)?;
@@ -268,7 +268,7 @@ fn push_single<C: Counts>(
 ) -> Result<(), AllocError>
     ensures { OnOk result (MoreLines page.old.items page.new.items) }
 {
-    push_header(page, family.name(scope), family.help(), Kind::Counter)?;
+    push_header(page, family.name(scope), family.help(), MetricKind::Counter)?;
     for named in all {
         if named.scope == scope {
             let value = counts.event(named.subject, family.event());
@@ -287,7 +287,7 @@ fn push_naks_of<C: Counts>(
     ensures { OnOk result (MoreLines page.old.items page.new.items) }
 {
     for cause in &NAKS {
-        let value = counts.event(named.subject, Event::Nak(*cause));
+        let value = counts.event(named.subject, CountedEvent::Nak(*cause));
         let label = Label {
             name: "error_cause",
             value: nak_word(*cause),
@@ -307,7 +307,7 @@ fn push_naks<C: Counts>(
     ensures { OnOk result (MoreLines page.old.items page.new.items) }
 {
     let help = "Disconnect- and CoA-Requests that the broker answered by a NAK of its own.";
-    push_header(page, scope.naks(), help, Kind::Counter)?;
+    push_header(page, scope.naks(), help, MetricKind::Counter)?;
     for named in all {
         if named.scope == scope {
             push_naks_of(page, counts, named)?;
@@ -338,24 +338,21 @@ fn push_scope<C: Counts>(
     push_refusals(page, counts, all, scope)
 }
 
-/// The metrics of the whole server: name, label, meaning, and for each of its samples the label's value and the count.
+/// Adds a metric of the whole server.
 fn push_process<C: Counts>(
     page: &mut Vec<u8>,
     counts: &C,
-    name: &str,
-    help: &str,
-    label: &str,
-    samples: &[(&str, Process)],
+    of_server: &OfServer,
 ) -> Result<(), AllocError>
     ensures { OnOk result (MoreLines page.old.items page.new.items) }
 {
-    push_header(page, name, help, Kind::Counter)?;
-    for (value, process) in samples {
+    push_header(page, of_server.name, of_server.help, MetricKind::Counter)?;
+    for (value, process) in of_server.samples {
         let label = Label {
-            name: label,
+            name: of_server.label,
             value: *value,
         };
-        push_sample(page, name, &[label], counts.process(*process))?;
+        push_sample(page, of_server.name, &[label], counts.process(*process))?;
     }
     Ok(())
 }
@@ -364,73 +361,10 @@ fn push_process<C: Counts>(
 fn push_server<C: Counts>(page: &mut Vec<u8>, counts: &C) -> Result<(), AllocError>
     ensures { OnOk result (MoreLines page.old.items page.new.items) }
 {
-    let received = [
-        ("auth", Process::ReceivedAuth),
-        ("acct", Process::ReceivedAcct),
-        ("out", Process::ReceivedOut),
-        ("reverse", Process::ReceivedReverse),
-    ];
-    push_process(
-        page,
-        counts,
-        "roam_received_datagrams_total",
-        "Datagrams that were received.",
-        "place",
-        &received,
-    )?;
-    let sent = [("sent", Process::Sent)];
-    push_process(
-        page,
-        counts,
-        "roam_sent_packets_total",
-        "Packets that were handed to a socket.",
-        "outcome",
-        &sent,
-    )?;
-    let lost = [
-        ("full_ring", Process::LostFullRing),
-        ("unreachable", Process::LostUnreachable),
-        ("not_permitted", Process::LostNotPermitted),
-        ("other", Process::LostOther),
-    ];
-    push_process(
-        page,
-        counts,
-        "roam_lost_packets_total",
-        "Packets that were to leave and are lost.",
-        "cause",
-        &lost,
-    )?;
-    let steps = [("stored", Process::Step), ("let_go", Process::StepLetGo)];
-    push_process(
-        page,
-        counts,
-        "roam_history_steps_total",
-        "Steps of histories.",
-        "outcome",
-        &steps,
-    )?;
-    let lines = [
-        ("dropped", Process::LineDropped),
-        ("not_noted", Process::NoteMissed),
-    ];
-    push_process(
-        page,
-        counts,
-        "roam_exchange_lines_lost_total",
-        "Exchanges that ended without a line in the log.",
-        "cause",
-        &lines,
-    )?;
-    let times = [("let_go", Process::TimeLetGo)];
-    push_process(
-        page,
-        counts,
-        "roam_history_let_go_total",
-        "How often a shard's stored steps were let go of.",
-        "outcome",
-        &times,
-    )
+    for of_server in &OF_SERVER {
+        push_process(page, counts, of_server)?;
+    }
+    Ok(())
 }
 
 /// Adds the refusals of all.
@@ -442,7 +376,7 @@ fn push_all_refusals<C: Counts>(page: &mut Vec<u8>, counts: &C) -> Result<(), Al
         page,
         name,
         "Arrivals and ticks that were refused, by the number of the refusal.",
-        Kind::Counter,
+        MetricKind::Counter,
     )?;
     for refusal in &REFUSALS {
         let mut number = Buffer::new();
@@ -454,7 +388,7 @@ fn push_all_refusals<C: Counts>(page: &mut Vec<u8>, counts: &C) -> Result<(), Al
             page,
             name,
             &[label],
-            counts.event(Subject::All, Event::Refused(*refusal)),
+            counts.event(Subject::All, CountedEvent::Refused(*refusal)),
         )?;
     }
     Ok(())
@@ -493,7 +427,7 @@ fn push_times_of<C: Counts>(
 {
     let mut sum = 0u64;
     for bound in &BOUNDS {
-        sum = sum.wrapping_add(counts.event(named.subject, Event::AnswerWithin(*bound)));
+        sum = sum.wrapping_add(counts.event(named.subject, CountedEvent::AnswerWithin(*bound)));
         let label = Label {
             name: "le",
             value: bound_word(*bound),
@@ -501,7 +435,7 @@ fn push_times_of<C: Counts>(
         push_count(page, "roam_server_answer_seconds_bucket", named, label, sum)?;
     }
     push_named(page, "roam_server_answer_seconds_count", named, sum)?;
-    let time = counts.event(named.subject, Event::AnswerTime);
+    let time = counts.event(named.subject, CountedEvent::AnswerTime);
     push_time(page, named, sum, time)
 }
 
@@ -517,7 +451,7 @@ fn push_times<C: Counts>(
         page,
         "roam_server_answer_seconds",
         "From the last sending of a request to its reply.",
-        Kind::Histogram,
+        MetricKind::Histogram,
     )?;
     for named in all {
         if named.scope == Scope::Server {
@@ -580,7 +514,7 @@ fn push_gauge<C: Counts>(
 ) -> Result<(), AllocError>
     ensures { OnOk result (MoreLines page.old.items page.new.items) }
 {
-    push_header(page, family.name(), family.help(), Kind::Gauge)?;
+    push_header(page, family.name(), family.help(), MetricKind::Gauge)?;
     for named in all {
         push_gauge_of(page, counts, named, family)?;
     }
@@ -613,7 +547,7 @@ fn push_history<C: Counts>(page: &mut Vec<u8>, counts: &C) -> Result<(), AllocEr
         page,
         name,
         "Octets of the datagrams and packets of all stored steps.",
-        Kind::Gauge,
+        MetricKind::Gauge,
     )?;
     push_sample(page, name, &[], octets)
 }

@@ -117,7 +117,7 @@ fn write_seconds(
 
 /// What a metric is.
 #[derive(Clone, Copy, Debug, PartialEq, Eq)]
-pub enum Kind {
+pub enum MetricKind {
     /// It grows, or begins again at 0.
     Counter,
     /// It rises and falls.
@@ -127,18 +127,23 @@ pub enum Kind {
 }
 
 /// The word of a kind, behind a blank, and the end of its line.
-fn kind_word(kind: Kind) -> &'static str
+fn kind_word(kind: MetricKind) -> &'static str
     ensures { result.now ≡ spec.kind_word kind }
 {
     match kind {
-        Kind::Counter => " counter\n",
-        Kind::Gauge => " gauge\n",
-        Kind::Histogram => " histogram\n",
+        MetricKind::Counter => " counter\n",
+        MetricKind::Gauge => " gauge\n",
+        MetricKind::Histogram => " histogram\n",
     }
 }
 
 /// Writes the two lines that stand before the samples of a metric.
-fn write_header(page: &mut Vec<u8>, name: &str, help: &str, kind: Kind) -> Result<(), AllocError>
+fn write_header(
+    page: &mut Vec<u8>,
+    name: &str,
+    help: &str,
+    kind: MetricKind,
+) -> Result<(), AllocError>
     ensures { OnOk result (page.new.items ≡ page.old.items ++ spec.header_text name.now help.now kind) }
 {
     push(page, b"# HELP ")?;
@@ -178,7 +183,12 @@ pub fn push_seconds(
 }
 
 /// Adds the two lines that stand before the samples of a metric: what it means, and of which kind it is.
-pub fn push_header(page: &mut Vec<u8>, name: &str, help: &str, kind: Kind) -> Result<(), AllocError>
+pub fn push_header(
+    page: &mut Vec<u8>,
+    name: &str,
+    help: &str,
+    kind: MetricKind,
+) -> Result<(), AllocError>
     ensures text { OnOk result (page.new.items ≡ page.old.items ++ spec.header_text name.now help.now kind) }
     ensures lines { OnOk result (MoreLines page.old.items page.new.items) }
 {

@@ -6,15 +6,14 @@ use crate::gauges::Gauge;
 use crate::pages::Counts;
 use crate::words::{REPLIES, REQUESTS};
 use roam_conf::{Config, Realm};
-use roam_counters::{Event, Subject};
-use roam_notices::EndpointText;
+use roam_counters::{CountedEvent, Subject};
 use std::alloc::{AllocError, Global};
 use std::fmt;
 use std::fmt::{Display, Formatter, Write};
 
 /// In which form it is told.
 #[derive(Clone, Copy, Debug, PartialEq, Eq)]
-pub enum Form {
+pub enum StatusForm {
     Text,
     Json,
 }
@@ -55,7 +54,7 @@ fn of_replies<C: Counts>(counts: &C, subject: Subject, family: OfReplies) -> u64
 fn of_refusals<C: Counts>(counts: &C, subject: Subject) -> u64 {
     let mut sum = 0u64;
     for refusal in &REFUSALS {
-        sum = sum.wrapping_add(counts.event(subject, Event::Refused(*refusal)));
+        sum = sum.wrapping_add(counts.event(subject, CountedEvent::Refused(*refusal)));
     }
     sum
 }
@@ -66,11 +65,11 @@ impl Totals {
             requests: of_requests(counts, subject, OfRequests::Came),
             forwarded: of_requests(counts, subject, OfRequests::Forwarded),
             sent_again: of_requests(counts, subject, OfRequests::SentAgain),
-            failed_over: counts.event(subject, Event::FailedOver),
-            given_up: counts.event(subject, Event::GivenUp),
+            failed_over: counts.event(subject, CountedEvent::FailedOver),
+            given_up: counts.event(subject, CountedEvent::GivenUp),
             duplicates: counts
-                .event(subject, Event::Waiting)
-                .wrapping_add(counts.event(subject, Event::AnsweredAgain)),
+                .event(subject, CountedEvent::Waiting)
+                .wrapping_add(counts.event(subject, CountedEvent::AnsweredAgain)),
             replies: of_replies(counts, subject, OfReplies::Came),
             returned: of_replies(counts, subject, OfReplies::Returned),
             refused: of_refusals(counts, subject),
@@ -80,7 +79,7 @@ impl Totals {
 
 /// Them in a form.
 #[derive(Clone, Copy)]
-struct TotalsText(Totals, Form);
+struct TotalsText(Totals, StatusForm);
 
 impl TotalsText {
     fn write_text<W: Write>(totals: Totals, f: &mut Formatter<W>) -> fmt::Result {
@@ -136,8 +135,8 @@ impl TotalsText {
 impl Display for TotalsText {
     fn fmt<W: Write>(&self, f: &mut Formatter<W>) -> fmt::Result {
         match self.1 {
-            Form::Text => TotalsText::write_text(self.0, f),
-            Form::Json => TotalsText::write_json(self.0, f),
+            StatusForm::Text => TotalsText::write_text(self.0, f),
+            StatusForm::Json => TotalsText::write_json(self.0, f),
         }
     }
 }
@@ -147,15 +146,15 @@ impl Display for TotalsText {
 struct GaugeText {
     word: &'static str,
     value: Option<u64>,
-    form: Form,
+    form: StatusForm,
 }
 
 impl Display for GaugeText {
     fn fmt<W: Write>(&self, f: &mut Formatter<W>) -> fmt::Result {
         let word = self.word;
         match (self.value, self.form) {
-            (Some(value), Form::Text) => write!(f, " {word} {value}"),
-            (Some(value), Form::Json) => write!(f, ",\"{word}\":{value}"),
+            (Some(value), StatusForm::Text) => write!(f, " {word} {value}"),
+            (Some(value), StatusForm::Json) => write!(f, ",\"{word}\":{value}"),
             (None, _) => Ok(()),
         }
     }
@@ -166,7 +165,7 @@ fn write_gauges<C: Counts>(
     out: &mut String,
     counts: &C,
     words: &[(&'static str, Gauge)],
-    form: Form,
+    form: StatusForm,
 ) -> Result<(), AllocError> {
     for (word, gauge) in words {
         let text = GaugeText {
@@ -190,15 +189,15 @@ fn write_servers<C: Counts>(
     counts: &C,
     number: u16,
     realm: &Realm,
-    form: Form,
+    form: StatusForm,
 ) -> Result<(), AllocError> {
     for (at, server) in realm.servers.iter().enumerate() {
         let place = u8::try_from(at).unwrap_or(u8::MAX);
         let totals = TotalsText(Totals::of(counts, Subject::Server(number, place)), form);
-        let endpoint = EndpointText(server.auth);
+        let endpoint = server.auth;
         match form {
-            Form::Text => write!(out, "  server {endpoint}: {totals}")?,
-            Form::Json => {
+            StatusForm::Text => write!(out, "  server {endpoint}: {totals}")?,
+            StatusForm::Json => {
                 let comma = comma(at);
                 write!(out, "{comma}{{\"endpoint\":\"{endpoint}\",{totals}")?;
             }
@@ -210,7 +209,7 @@ fn write_servers<C: Counts>(
             ("acct_rests", Gauge::AcctRests(number, place)),
         ];
         write_gauges(out, counts, &gauges, form)?;
-        out.push_str(if form == Form::Json { "}" } else { "\n" })?;
+        out.push_str(if form == StatusForm::Json { "}" } else { "\n" })?;
     }
     Ok(())
 }
@@ -220,15 +219,15 @@ fn write_realms<C: Counts>(
     out: &mut String,
     counts: &C,
     config: &Config,
-    form: Form,
+    form: StatusForm,
 ) -> Result<(), AllocError> {
     for (at, realm) in config.realms.iter().enumerate() {
         let number = u16::try_from(at).unwrap_or(u16::MAX);
         let totals = TotalsText(Totals::of(counts, Subject::Realm(number)), form);
         let name = realm.name.as_str();
         match form {
-            Form::Text => write!(out, "realm {name}: {totals}")?,
-            Form::Json => {
+            StatusForm::Text => write!(out, "realm {name}: {totals}")?,
+            StatusForm::Json => {
                 let comma = comma(at);
                 write!(out, "{comma}{{\"name\":\"{name}\",{totals}")?;
             }
@@ -239,13 +238,13 @@ fn write_realms<C: Counts>(
             ("sessions", Gauge::Sessions(number)),
         ];
         write_gauges(out, counts, &gauges, form)?;
-        out.push_str(if form == Form::Json {
+        out.push_str(if form == StatusForm::Json {
             ",\"servers\":["
         } else {
             "\n"
         })?;
         write_servers(out, counts, number, realm, form)?;
-        if form == Form::Json {
+        if form == StatusForm::Json {
             out.push_str("]}")?;
         }
     }
@@ -257,15 +256,15 @@ fn write_peers<C: Counts>(
     out: &mut String,
     counts: &C,
     config: &Config,
-    form: Form,
+    form: StatusForm,
 ) -> Result<(), AllocError> {
     for (at, peer) in config.peers.iter().enumerate() {
         let number = u16::try_from(at).unwrap_or(u16::MAX);
         let totals = TotalsText(Totals::of(counts, Subject::Peer(number)), form);
         let name = peer.name.as_str();
         match form {
-            Form::Text => writeln!(out, "peer {name}: {totals}")?,
-            Form::Json => {
+            StatusForm::Text => writeln!(out, "peer {name}: {totals}")?,
+            StatusForm::Json => {
                 let comma = comma(at);
                 write!(out, "{comma}{{\"name\":\"{name}\",{totals}}}")?;
             }
@@ -279,19 +278,19 @@ fn write_head(
     out: &mut String,
     config: &Config,
     seconds: u64,
-    form: Form,
+    form: StatusForm,
 ) -> Result<(), AllocError> {
     let realms = config.realms.len();
     let peers = config.peers.len();
     let shards = config.shards;
     match form {
-        Form::Text => {
+        StatusForm::Text => {
             writeln!(
                 out,
                 "serving for {seconds} s: realms {realms} peers {peers} shards {shards}"
             )
         }
-        Form::Json => write!(
+        StatusForm::Json => write!(
             out,
             "{{\"seconds\":{seconds},\"shards\":{shards},\"realms\":["
         ),
@@ -308,16 +307,16 @@ pub fn status<C: Counts>(
     config: &Config,
     counts: &C,
     seconds: u64,
-    form: Form,
+    form: StatusForm,
 ) -> Result<String, AllocError> {
     let mut out = String::new(alloc);
     write_head(&mut out, config, seconds, form)?;
     write_realms(&mut out, counts, config, form)?;
-    if form == Form::Json {
+    if form == StatusForm::Json {
         out.push_str("],\"peers\":[")?;
     }
     write_peers(&mut out, counts, config, form)?;
-    if form == Form::Json {
+    if form == StatusForm::Json {
         out.push_str("]}\n")?;
     }
     Ok(out)

@@ -5,15 +5,15 @@ use Rattle.std.specs.Fmt.{decimal}
 use Rattle.std.specs.List.{flat_map}
 use Rattle.roam_conf.specs.Config.{ConfigView, PeerView, RealmView}
 use Rattle.roam_conf.specs.declared.endpoint.Endpoint.{Endpoint}
-use Rattle.roam_notices.specs.declared.exchange.Asked.{Asked}
-use Rattle.roam_notices.specs.declared.exchange.Asked.TheVariants as asked
+use Rattle.roam_notices.specs.declared.exchange.RequestWord.{RequestWord}
+use Rattle.roam_notices.specs.declared.exchange.RequestWord.TheVariants as asked
 use Rattle.roam_notices.specs.declared.exchange.Exchange.{Exchange}
-use Rattle.roam_notices.specs.declared.exchange.Outcome.{Outcome}
-use Rattle.roam_notices.specs.declared.exchange.Outcome.TheVariants as outcome
+use Rattle.roam_notices.specs.declared.exchange.ExchangeEnd.{ExchangeEnd}
+use Rattle.roam_notices.specs.declared.exchange.ExchangeEnd.TheVariants as outcome
 use Rattle.roam_notices.specs.declared.exchange.Value.{Value}
 
 -- how an exchange ended, by the code of the reply that was returned
-abbrev pub outcome_of : ℕ → Option Outcome
+abbrev pub outcome_of : ℕ → Option ExchangeEnd
 outcome_of code =
     if code == 2 then Some outcome.Accept
     else if code == 3 then Some outcome.Reject
@@ -26,7 +26,7 @@ outcome_of code =
     else None
 
 -- what was asked, by the request's code
-abbrev pub asked_of : ℕ → Asked
+abbrev pub asked_of : ℕ → RequestWord
 asked_of code =
     if code == 1 then asked.Access
     else if code == 4 then asked.Accounting
@@ -78,7 +78,7 @@ abbrev pub server_text : Option Endpoint → List ℕ
 server_text None = codes " server=" ++ codes "-"
 server_text (Some e) = codes " server=" ++ address_text e.ip ++ codes ":" ++ decimal e.port
 
-abbrev pub outcome_word : Outcome → List ℕ
+abbrev pub outcome_word : ExchangeEnd → List ℕ
 outcome_word outcome.Accept = codes "accept"
 outcome_word outcome.Reject = codes "reject"
 outcome_word outcome.Challenge = codes "challenge"
@@ -89,7 +89,7 @@ outcome_word outcome.GivenUp = codes "given_up"
 outcome_word outcome.Replaced = codes "replaced"
 outcome_word outcome.LocalReject = codes "local_reject"
 
-abbrev pub asked_word : Asked → List ℕ
+abbrev pub asked_word : RequestWord → List ℕ
 asked_word asked.Access = codes "access"
 asked_word asked.Accounting = codes "accounting"
 asked_word asked.Disconnect = codes "disconnect"

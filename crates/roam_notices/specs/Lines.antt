@@ -1,7 +1,7 @@
 -- The line of refusals: what was refused, where, from whom, and how often. Ours.
-use Rattle.std.specs.Prelude.{ℕ, ◌==◌, List, [], ◌++◌, Option, Some, None, if◌then◌else◌, codes, slice_index}
+use Rattle.std.specs.Prelude.{ℕ, ◌==◌, List, [], ◌++◌, Option, Some, None, if◌then◌else◌, codes}
 use Rattle.std.specs.Fmt.{decimal}
-use Rattle.roam_conf.specs.declared.endpoint.Endpoint.{Endpoint}
+use Rattle.roam_conf.specs.Texts.{endpoint_text}
 use Rattle.roam_conf.specs.declared.place.Place.{Place}
 use Rattle.roam_conf.specs.declared.place.Place.TheVariants as place
 use Rattle.roam_wire.specs.Refusal.{number_of}
@@ -9,7 +9,7 @@ use Rattle.roam_wire.specs.declared.refusal.Refusal.{Refusal}
 use Rattle.roam_wire.specs.declared.refusal.Refusal.TheVariants as refusal
 use Rattle.roam_notices.specs.declared.origin.Origin.{Origin}
 use Rattle.roam_notices.specs.declared.origin.Origin.TheVariants as origin
-use Rattle.roam_notices.specs.declared.tally.Tally.{Tally}
+use Rattle.roam_notices.specs.declared.tally.RefusalCount.{RefusalCount}
 
 -- the name of a refusal
 abbrev pub refusal_name : Refusal → List ℕ
@@ -38,12 +38,6 @@ refusal_name refusal.TraceFull = codes "TraceFull"
 refusal_name refusal.Misplaced = codes "Misplaced"
 refusal_name refusal.TooManyHops = codes "TooManyHops"
 
--- four decimal numbers joined by dots, a colon and the port
-abbrev pub endpoint_text : Endpoint → List ℕ
-endpoint_text e =
-    decimal (slice_index e.ip 0) ++ codes "." ++ decimal (slice_index e.ip 1) ++ codes "." ++
-    decimal (slice_index e.ip 2) ++ codes "." ++ decimal (slice_index e.ip 3) ++ codes ":" ++ decimal e.port
-
 -- a place as a script names it, with the name of its realm
 abbrev pub place_text : Place → List ℕ → List ℕ
 place_text place.Auth realm = codes "auth"
@@ -64,7 +58,7 @@ abbrev pub count_text : ℕ → List ℕ
 count_text count = if count == 1 then [] else (codes " (" ++ decimal count ++ codes " times)")
 
 -- the line: no octet of a packet stands in it
-abbrev pub refused_text : Tally → List ℕ → List ℕ
+abbrev pub refused_text : RefusalCount → List ℕ → List ℕ
 refused_text tally realm =
     codes "refused " ++ decimal (number_of tally.refusal) ++ codes " " ++ refusal_name tally.refusal ++
     origin_text tally.origin realm ++ count_text tally.count

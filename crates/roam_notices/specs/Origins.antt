@@ -4,11 +4,11 @@ use Rattle.roam_conf.specs.declared.place.Place.{Place}
 use Rattle.roam_conf.specs.declared.place.Place.TheVariants as place
 use Rattle.roam_notices.specs.declared.origin.Origin.{Origin}
 use Rattle.roam_notices.specs.declared.origin.Origin.TheVariants as origin
-use Rattle.roam_notices.specs.declared.origin.Kind.{Kind}
-use Rattle.roam_notices.specs.declared.origin.Kind.TheVariants as kind
+use Rattle.roam_notices.specs.declared.origin.OriginKind.{OriginKind}
+use Rattle.roam_notices.specs.declared.origin.OriginKind.TheVariants as kind
 
 -- what of it is compared: the port that a datagram came from is not
-abbrev pub kind_of : Origin → Kind
+abbrev pub kind_of : Origin → OriginKind
 kind_of (origin.Datagram place from) = kind.Source place from.ip
 kind_of (origin.Place place) = kind.Place place
 kind_of (origin.Tick shard) = kind.Tick shard

@@ -11,7 +11,7 @@ const MOST: usize = 253;
 
 /// How an exchange ended.
 #[derive(Clone, Copy, Debug, PartialEq, Eq)]
-pub enum Outcome {
+pub enum ExchangeEnd {
     /// A reply of these codes was returned (RFC 2865 section 4, RFC 2866 section 4.2, RFC 5176 section 3).
     Accept,
     Reject,
@@ -29,7 +29,7 @@ pub enum Outcome {
 
 /// A request's code, as a line names it.
 #[derive(Clone, Copy, Debug, PartialEq, Eq)]
-pub enum Asked {
+pub enum RequestWord {
     Access,
     Accounting,
     Disconnect,
@@ -47,8 +47,8 @@ pub struct Value {
 /// An exchange that ended.
 #[derive(Clone, Copy)]
 pub struct Exchange {
-    pub outcome: Outcome,
-    pub asked: Asked,
+    pub outcome: ExchangeEnd,
+    pub asked: RequestWord,
     /// The index of its realm; none where the broker rejected it before a realm was asked.
     pub realm: Option<u16>,
     /// The index of the peer that asked, or that a reverse request was sent to.
@@ -64,34 +64,34 @@ pub struct Exchange {
     pub tries: u8,
 }
 
-impl Outcome {
+impl ExchangeEnd {
     /// That of a reply's code; none where the code is no such reply's.
-    pub fn of(code: u8) -> Option<Outcome>
+    pub fn of(code: u8) -> Option<ExchangeEnd>
         ensures { result ≡ spec.outcome_of code }
     {
         match code {
-            code::ACCESS_ACCEPT => Some(Outcome::Accept),
-            code::ACCESS_REJECT => Some(Outcome::Reject),
-            code::ACCESS_CHALLENGE => Some(Outcome::Challenge),
-            code::ACCOUNTING_RESPONSE => Some(Outcome::Response),
-            code::DISCONNECT_ACK | code::COA_ACK => Some(Outcome::Ack),
-            code::DISCONNECT_NAK | code::COA_NAK => Some(Outcome::Nak),
+            code::ACCESS_ACCEPT => Some(ExchangeEnd::Accept),
+            code::ACCESS_REJECT => Some(ExchangeEnd::Reject),
+            code::ACCESS_CHALLENGE => Some(ExchangeEnd::Challenge),
+            code::ACCOUNTING_RESPONSE => Some(ExchangeEnd::Response),
+            code::DISCONNECT_ACK | code::COA_ACK => Some(ExchangeEnd::Ack),
+            code::DISCONNECT_NAK | code::COA_NAK => Some(ExchangeEnd::Nak),
             _ => None,
         }
     }
 }
 
-impl Asked {
+impl RequestWord {
     /// That of a request's code.
-    pub fn of(code: u8) -> Asked
+    pub fn of(code: u8) -> RequestWord
         ensures { result ≡ spec.asked_of code }
     {
         match code {
-            code::ACCESS_REQUEST => Asked::Access,
-            code::ACCOUNTING_REQUEST => Asked::Accounting,
-            code::DISCONNECT_REQUEST => Asked::Disconnect,
-            code::COA_REQUEST => Asked::Coa,
-            _ => Asked::Other,
+            code::ACCESS_REQUEST => RequestWord::Access,
+            code::ACCOUNTING_REQUEST => RequestWord::Accounting,
+            code::DISCONNECT_REQUEST => RequestWord::Disconnect,
+            code::COA_REQUEST => RequestWord::Coa,
+            _ => RequestWord::Other,
         }
     }
 }

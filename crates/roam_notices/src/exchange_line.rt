@@ -5,7 +5,7 @@ ghost use Rattle.std.specs.Fmt.{decimal};
 ghost use Rattle.roam_conf.specs.Shown.{shown};
 ghost use Rattle.roam_notices.specs.Exchanges as spec;
 
-use crate::exchange::{Asked, Exchange, Outcome, Value};
+use crate::exchange::{Exchange, ExchangeEnd, RequestWord, Value};
 use itoa::Buffer;
 use roam_conf::{Config, Endpoint};
 use std::alloc::AllocError;
@@ -29,8 +29,8 @@ fn digit(number: u8) -> u8
     }
 }
 
-/// Whether an octet stands as itself between quotation marks: it is printable in ASCII, and neither a quotation mark nor a
-/// reverse solidus.
+/// Whether an octet stands as itself between quotation marks: it is printable in ASCII, and neither a quotation mark
+/// nor a reverse solidus.
 fn is_plain(octet: u8) -> bool
     ensures { result ≡ spec.is_plain octet }
 {
@@ -104,32 +104,32 @@ fn push_server(line: &mut Vec<u8>, server: Option<Endpoint>) -> Result<(), Alloc
 }
 
 /// The word of an outcome.
-fn outcome_word(outcome: Outcome) -> &'static str
+fn outcome_word(outcome: ExchangeEnd) -> &'static str
     ensures { result.now ≡ spec.outcome_word outcome }
 {
     match outcome {
-        Outcome::Accept => "accept",
-        Outcome::Reject => "reject",
-        Outcome::Challenge => "challenge",
-        Outcome::Response => "response",
-        Outcome::Ack => "ack",
-        Outcome::Nak => "nak",
-        Outcome::GivenUp => "given_up",
-        Outcome::Replaced => "replaced",
-        Outcome::LocalReject => "local_reject",
+        ExchangeEnd::Accept => "accept",
+        ExchangeEnd::Reject => "reject",
+        ExchangeEnd::Challenge => "challenge",
+        ExchangeEnd::Response => "response",
+        ExchangeEnd::Ack => "ack",
+        ExchangeEnd::Nak => "nak",
+        ExchangeEnd::GivenUp => "given_up",
+        ExchangeEnd::Replaced => "replaced",
+        ExchangeEnd::LocalReject => "local_reject",
     }
 }
 
 /// The word of a request.
-fn asked_word(asked: Asked) -> &'static str
+fn asked_word(asked: RequestWord) -> &'static str
     ensures { result.now ≡ spec.asked_word asked }
 {
     match asked {
-        Asked::Access => "access",
-        Asked::Accounting => "accounting",
-        Asked::Disconnect => "disconnect",
-        Asked::Coa => "coa",
-        Asked::Other => "other",
+        RequestWord::Access => "access",
+        RequestWord::Accounting => "accounting",
+        RequestWord::Disconnect => "disconnect",
+        RequestWord::Coa => "coa",
+        RequestWord::Other => "other",
     }
 }
 

@@ -8,8 +8,8 @@ pub fn values_read_back()
     ensures { ReadsBack }
 {}
 
-/// What a line of an exchange has of a value is printable in ASCII: no line feed, and nothing that a terminal acts on. What
-/// stands beside the values are words, numbers and endpoints.
+/// What a line of an exchange has of a value is printable in ASCII: no line feed, and nothing that a terminal acts on.
+/// What stands beside the values are words, numbers and endpoints.
 pub fn values_are_printable()
     ensures { ValuesArePrintable }
 {}

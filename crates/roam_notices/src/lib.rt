@@ -15,10 +15,10 @@ mod tally;
 mod tests;
 mod text;
 
-pub use exchange::{Asked, Exchange, Outcome, Value};
+pub use exchange::{Exchange, ExchangeEnd, RequestWord, Value};
 pub use exchange_line::push_exchange;
-pub use origin::{Kind, Origin};
+pub use origin::{Origin, OriginKind};
 pub use repeats::Repeats;
 pub use row::{KINDS, Row};
-pub use tally::Tally;
-pub use text::{EndpointText, RefusedText};
+pub use tally::RefusalCount;
+pub use text::RefusedText;

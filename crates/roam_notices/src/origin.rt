@@ -18,7 +18,7 @@ pub enum Origin {
 
 /// What of an origin is compared: of a datagram its place and the address that it came from, and not the port.
 #[derive(Clone, Copy, Debug, PartialEq, Eq)]
-pub enum Kind {
+pub enum OriginKind {
     Source(Place, [u8; 4]),
     Place(Place),
     Tick(u16),
@@ -36,13 +36,13 @@ fn realm_at(place: Place) -> Option<u16>
 
 impl Origin {
     /// What of it is compared.
-    pub fn kind(self) -> Kind
+    pub fn kind(self) -> OriginKind
         ensures { result ≡ spec.kind_of self }
     {
         match self {
-            Origin::Datagram(place, from) => Kind::Source(place, from.ip),
-            Origin::Place(place) => Kind::Place(place),
-            Origin::Tick(shard) => Kind::Tick(shard),
+            Origin::Datagram(place, from) => OriginKind::Source(place, from.ip),
+            Origin::Place(place) => OriginKind::Place(place),
+            Origin::Tick(shard) => OriginKind::Tick(shard),
         }
     }
 

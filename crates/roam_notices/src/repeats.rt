@@ -6,7 +6,7 @@ ghost use Rattle.roam_notices.specs.Tallies.{IsNoted};
 
 use crate::origin::Origin;
 use crate::row::Row;
-use crate::tally::Tally;
+use crate::tally::RefusalCount;
 use roam_wire::Refusal;
 use std::alloc::{AllocError, Global};
 use std::marker::Model;
@@ -22,9 +22,9 @@ pub struct Repeats {
 
 impl Model for Repeats {
     ghost use Rattle.std.specs.Prelude.{◌≡◌, List, vec_len};
-    ghost use Rattle.roam_notices.specs.declared.tally.Tally.{Tally};
+    ghost use Rattle.roam_notices.specs.declared.tally.RefusalCount.{RefusalCount};
 
-    ghost Value = { List (List Tally) };
+    ghost Value = { List (List RefusalCount) };
 
     ghost view = { λ repeats. repeats.rows.items };
 
@@ -69,7 +69,7 @@ impl Repeats {
     }
 
     /// Takes out the tally that is told first.
-    pub fn take_first(&mut self) -> Option<Tally>
+    pub fn take_first(&mut self) -> Option<RefusalCount>
         ensures some { IfSome result (λ tally. all_tallies self.old ≡ tally ∷ all_tallies self.new) }
         ensures none { IfNone result ((all_tallies self.old ≡ []) × (self.new ≡ self.old)) }
     {

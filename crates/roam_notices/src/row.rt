@@ -1,10 +1,11 @@
 //! What was refused under one number within a second.
 
-ghost use Rattle.std.specs.Prelude.{◌≡◌, ◌<◌, ◌↔◌, ◌∷◌, [], IsTrue, IfOk, IfSome, IfNone, All, MatchOption, length, slice_set};
+ghost use Rattle.std.specs.Prelude.{◌≡◌, ◌<◌, ◌↔◌, ◌∷◌, [], IsTrue, IfOk, IfSome, IfNone, All, MatchOption, length};
+ghost use Rattle.std.specs.Prelude.{slice_set};
 ghost use Rattle.roam_notices.specs.Tallies.{IsNoted, IsOfKind, one_more, tally_at};
 
-use crate::origin::{Kind, Origin};
-use crate::tally::Tally;
+use crate::origin::{Origin, OriginKind};
+use crate::tally::RefusalCount;
 use roam_wire::Refusal;
 use std::alloc::{AllocError, Global};
 use std::marker::Model;
@@ -16,14 +17,14 @@ pub const KINDS: usize = 8;
 /// at most `KINDS`, each of a kind of its own, and behind them one of all others.
 #[derive(Drop)]
 pub struct Row {
-    tallies: Vec<Tally>,
+    tallies: Vec<RefusalCount>,
 }
 
 impl Model for Row {
     ghost use Rattle.std.specs.Prelude.{List, ◌≤◌, vec_len, vec_capacity};
-    ghost use Rattle.roam_notices.specs.declared.tally.Tally.{Tally};
+    ghost use Rattle.roam_notices.specs.declared.tally.RefusalCount.{RefusalCount};
 
-    ghost Value = { List Tally };
+    ghost Value = { List RefusalCount };
 
     ghost view = { λ row. row.tallies.items };
 
@@ -48,7 +49,7 @@ impl Row {
     }
 
     /// The place of the tally of a kind.
-    fn place_of(&self, kind: Kind) -> Option<usize>
+    fn place_of(&self, kind: OriginKind) -> Option<usize>
         ensures found { IfSome result (λ i. (i < length self.now) × IsOfKind kind (tally_at self.now i)) }
         ensures none { IfNone result (All (λ tally. ¬ (IsOfKind kind tally)) self.now) }
     {
@@ -76,12 +77,12 @@ impl Row {
         let len = self.tallies.len();
         match self.place_of(origin.kind()) {
             Some(at) => self.count_at(at),
-            None if len < KINDS => self.tallies.push_reserved(Tally {
+            None if len < KINDS => self.tallies.push_reserved(RefusalCount {
                 refusal,
                 origin: Some(origin),
                 count: 1,
             }),
-            None if len == KINDS => self.tallies.push_reserved(Tally {
+            None if len == KINDS => self.tallies.push_reserved(RefusalCount {
                 refusal,
                 origin: None,
                 count: 1,
@@ -91,7 +92,7 @@ impl Row {
     }
 
     /// Takes out the tally that began first.
-    pub fn take_first(&mut self) -> Option<Tally>
+    pub fn take_first(&mut self) -> Option<RefusalCount>
         ensures { MatchOption result ((self.old ≡ []) × (self.new ≡ [])) (λ tally. self.old ≡ tally ∷ self.new) }
     {
         if self.tallies.is_empty() {

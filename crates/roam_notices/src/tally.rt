@@ -3,12 +3,12 @@
 ghost use Rattle.std.specs.Prelude.{◌≡◌, ◌↔◌, IsTrue};
 ghost use Rattle.roam_notices.specs.Tallies.{IsOfKind, one_more};
 
-use crate::origin::{Kind, Origin};
+use crate::origin::{Origin, OriginKind};
 use roam_wire::Refusal;
 
 /// How often something was refused within a second.
 #[derive(Clone, Copy, Debug, PartialEq, Eq)]
-pub struct Tally {
+pub struct RefusalCount {
     pub refusal: Refusal,
     /// Where the first of them was; none where they are all those of the refusal that are tallied nowhere else.
     pub origin: Option<Origin>,
@@ -16,9 +16,9 @@ pub struct Tally {
     pub count: u64,
 }
 
-impl Tally {
+impl RefusalCount {
     /// Whether it counts this kind.
-    pub fn is_of(&self, kind: Kind) -> bool
+    pub fn is_of(&self, kind: OriginKind) -> bool
         ensures { IsTrue result ↔ IsOfKind kind self.now }
     {
         match self.origin {

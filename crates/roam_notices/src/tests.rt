@@ -1,6 +1,6 @@
 //! The lines of refusals.
 
-use crate::{Origin, RefusedText, Tally};
+use crate::{Origin, RefusalCount, RefusedText};
 use roam_conf::{Endpoint, Place};
 use roam_wire::Refusal;
 use std::process::Abort;
@@ -19,7 +19,7 @@ fn expect<R: AllocGlobal + Abort>(
     count: u64,
     line: &str,
 ) {
-    let tally = Tally {
+    let tally = RefusalCount {
         refusal,
         origin,
         count,

@@ -6,25 +6,11 @@ ghost use Rattle.roam_notices.specs.Lines as lines;
 ghost use Rattle.roam_notices.specs.Names.{name_of, realm_name};
 
 use crate::origin::Origin;
-use crate::tally::Tally;
-use roam_conf::{Config, Endpoint, Place};
+use crate::tally::RefusalCount;
+use roam_conf::{Config, Place};
 use roam_wire::Refusal;
 use std::fmt;
 use std::fmt::{Display, Formatter, Write};
-
-/// An endpoint as `ADDRESS:PORT`.
-#[derive(Clone, Copy)]
-pub struct EndpointText(pub Endpoint);
-
-impl Display for EndpointText {
-    ghost output = { λ text. Some (lines.endpoint_text text.0) };
-
-    fn fmt<W: Write>(&self, f: &mut Formatter<W>) -> fmt::Result {
-        let Endpoint { ip, port } = self.0;
-        let [a, b, c, d] = ip;
-        write!(f, "{a}.{b}.{c}.{d}:{port}")
-    }
-}
 
 /// A place as a script names it, with the name of its realm.
 #[derive(Clone, Copy)]
@@ -51,7 +37,7 @@ impl Display for PlaceText<'_> {
 /// where they were several. No octet of a packet stands in it.
 #[derive(Clone, Copy)]
 pub struct RefusedText<'n> {
-    pub tally: Tally,
+    pub tally: RefusalCount,
     /// The name of the realm that the place belongs to, where it belongs to one.
     pub realm: &'n str,
 }
@@ -71,7 +57,7 @@ fn name_of(config: &Config, realm: Option<u16>) -> &str
 
 impl<'n> RefusedText<'n> {
     /// The line of these refusals, where this is the configuration.
-    pub fn new(config: &'n Config, tally: Tally) -> RefusedText<'n>
+    pub fn new(config: &'n Config, tally: RefusalCount) -> RefusedText<'n>
         ensures tally { result.tally ≡ tally }
         ensures realm { result.realm.now ≡ realm_name (shown config.now).realms tally }
     {
@@ -101,7 +87,6 @@ impl Display for OriginText<'_> {
         match self.origin {
             Some(Origin::Datagram(place, from)) => {
                 let place = PlaceText { place, realm };
-                let from = EndpointText(from);
                 write!(f, " at {place} from {from}")
             }
             Some(Origin::Place(place)) => {
@@ -167,7 +152,7 @@ impl Display for RefusedText<'_> {
     ghost output = { λ text. Some (lines.refused_text text.tally text.realm.now) };
 
     fn fmt<W: Write>(&self, f: &mut Formatter<W>) -> fmt::Result {
-        let Tally {
+        let RefusalCount {
             refusal,
             origin,
             count,

@@ -1,13 +1,13 @@
 -- What a change of the list leaves to be found.
-use Rattle.std.proofs.Common.{◌≡◌, ◌≢◌, ℕ, ◌+◌, ◌<◌, Bool, true, List, [], ◌∷◌, ◌++◌, Option, Some, None, refl, ap, sym, ◌∙◌, subst, arith, cond, eqb, ltb, inl, inr, length}
+use Rattle.std.proofs.Common.{◌≡◌, ◌≢◌, ℕ, ◌+◌, ◌<◌, Bool, true, List, [], ◌∷◌, ◌++◌, Option, Some, None, refl, ap, sym, ◌∙◌, arith, cond, eqb, ltb, inl, inr, length}
 use Rattle.std.specs.List.{find}
 use Rattle.std.proofs.lemmas.Bool.{cases_Bool}
 use Rattle.std.proofs.lemmas.Bool.Decides.{nat_tests}
 use Rattle.std.proofs.lemmas.List.{append-nil}
 use Rattle.std.proofs.lemmas.List.Elements.{filter-append}
-use Rattle.roam_pending.specs.PlainEntry.{PlainEntry, has_ticket}
+use Rattle.roam_pending.specs.PlainEntry.{PlainEntry, PlainStanding, has_ticket}
 use Rattle.roam_pending.specs.EntryList.{IsInOrder, HasPlaceOf, find_ticket, without, below, above, put}
-use Rattle.roam_pending.specs.Realms.{RealmBecomes, hollow}
+use Rattle.roam_pending.specs.Realms.{with_standing}
 use Rattle.roam_pending.proofs.TestLemmas.{same, differs, less, not_less, compared, all-find}
 use Rattle.roam_pending.proofs.OrderLemmas.{find-above, put-after, put-same, put-before, without-absent}
 
@@ -208,36 +208,10 @@ found-is p (x ∷ xs) e h at =
           rw (differs x.ticket e.ticket (omega arith)) (found-is p xs e h.1 later)
     ]
 
--- Entries that are out of their list
-
--- what stands in for an entry that is there has its place
-pub place-of_hollow :
-    (t : ℕ) (e x : PlainEntry) (es : List PlainEntry) → Some e ≡ find_ticket t es → x ≡ hollow e
-    → HasPlaceOf x es
-place-of_hollow t e x es at is =
-    let here : find_ticket e.ticket es ≡ Some e = ap (λ (n : ℕ). find_ticket n es) (found-ticket t es e (sym at)) ∙ sym at in
-    let place : HasPlaceOf (hollow e) es = rw here refl in
-    subst (λ (y : PlainEntry). HasPlaceOf y es) (sym is) place
-
-pub ticket-of_hollow :
-    (t : ℕ) (e x : PlainEntry) (es : List PlainEntry) → Some e ≡ find_ticket t es → x ≡ hollow e
-    → x.ticket ≡ t
-ticket-of_hollow t e x es at is = ap (λ (y : PlainEntry). y.ticket) is ∙ found-ticket t es e (sym at)
-
--- an entry has the place of what stands in for it
-pub place-in_hollow :
-    (e x : PlainEntry) (es now : List PlainEntry) → now ≡ put (hollow e) es → x.ticket ≡ e.ticket
-    → x.request.key ≡ e.request.key → HasPlaceOf x now
-place-in_hollow e x es now is ticket key =
-    let here : find_ticket x.ticket (put (hollow e) es) ≡ Some (hollow e) = rw ticket (find-put (hollow e) es) in
-    rw (is, here) (sym key)
-
--- the realm's entries become those with the second entry
-pub becomes-twice :
-    (r : ℕ) (h x : PlainEntry) (es : List PlainEntry) (old mid new : ℕ → List PlainEntry)
-    → h.ticket ≡ x.ticket → RealmBecomes r (put h es) old mid
-    → RealmBecomes r (put x (mid r)) mid new → RealmBecomes r (put x es) old new
-becomes-twice r h x es old mid new at first second = record {
-  here = second.here ∙ ap (put x) first.here ∙ put-put x h es at;
-  others = λ q ne. second.others q ne ∙ first.others q ne;
-}
+-- an entry that stands otherwise has the place of the one that was found
+pub place-of_standing :
+    (t : ℕ) (standing : PlainStanding) (e : PlainEntry) (es : List PlainEntry)
+    → find_ticket t es ≡ Some e → HasPlaceOf (with_standing standing e) es
+place-of_standing t standing e es at =
+    let here : find_ticket e.ticket es ≡ Some e = ap (λ (n : ℕ). find_ticket n es) (found-ticket t es e at) ∙ at in
+    rw here refl

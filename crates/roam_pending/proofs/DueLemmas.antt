@@ -9,7 +9,7 @@ use Rattle.roam_pending.specs.declared.due.Due.{Due}
 use Rattle.roam_pending.specs.declared.entry.Entry.{Entry}
 use Rattle.roam_pending.specs.PlainEntry.{PlainEntry}
 use Rattle.roam_pending.specs.DueOrder.{is_before, into, in_order, due_at, is_due, due_list, is_after, due_after}
-use Rattle.roam_pending.specs.DueSearch.{due_alone, lesser, earlier}
+use Rattle.roam_pending.specs.Private.DueSearch.{due_alone, lesser, earlier}
 use Rattle.roam_pending.specs.Shown.{shown, shown_all}
 
 -- no due of the list comes before d

@@ -4,5 +4,6 @@ pub mod OrderLemmas
 pub mod PlaceLemmas
 pub mod DueLemmas
 pub mod ChangeLemmas
+pub mod StandingLemmas
 pub mod ClientLemmas
 pub mod DueListLemmas

@@ -2,6 +2,7 @@ pub mod PlainEntry
 pub mod EntryList
 pub mod DueOrder
 pub mod Shown
-pub mod DueSearch
 pub mod Realms
 pub mod ListLaws
+-- Words that no contract of a public call names: those of private functions and of invariants.
+pub mod Private

@@ -6,7 +6,7 @@ use Rattle.roam_pending.specs.declared.due.Due.{Due}
 use Rattle.roam_pending.specs.declared.key.Key.{Key}
 use Rattle.roam_pending.specs.PlainEntry.{PlainEntry, deadline_of, same_key, waits_at, is_done}
 use Rattle.roam_pending.specs.EntryList.{IsInOrder, IsEntryList, IsNew, HasPlaceOf, find_client, find_link, find_ticket, first_done, without, without_client, put, identifiers_on}
-use Rattle.roam_pending.specs.Realms.{RealmBecomes, hollow}
+use Rattle.roam_pending.specs.Realms.{RealmBecomes}
 use Rattle.roam_pending.specs.DueOrder.{is_before, due_at, due_list, due_after}
 
 -- x is one of these
@@ -152,17 +152,6 @@ abbrev pub NextDue : Type 0
 NextDue =
     (now : ℕ) (es : List PlainEntry) (ds rest : List Due) → IsInOrder es
     → due_list now es ≡ ds ++ rest → due_after now (last_or None ds) es ≡ slice_get rest 0
-
--- what stands in for an entry of the list has its place, and the entry then has the place of what stands in for it
-abbrev pub HollowStandsIn : Type 0
-HollowStandsIn =
-    (t : ℕ) (e : PlainEntry) (es : List PlainEntry) → find_ticket t es ≡ Some e
-    → HasPlaceOf (hollow e) es
-
-abbrev pub EntryGoesBack : Type 0
-EntryGoesBack =
-    (e x : PlainEntry) (es : List PlainEntry) → x.ticket ≡ e.ticket → x.request.key ≡ e.request.key
-    → HasPlaceOf x (put (hollow e) es)
 
 -- two changes of one realm are one
 abbrev pub OneChangeOfTwo : Type 0

@@ -12,6 +12,11 @@ pub record RealmBecomes (realm : ℕ) (es : List PlainEntry) (old new : ℕ → 
 abbrev pub Puts : ℕ → PlainEntry → (ℕ → List PlainEntry) → (ℕ → List PlainEntry) → Type 0
 Puts realm e old new = RealmBecomes realm (put e (old realm)) old new
 
+-- the entry of a ticket was put changed, and where there is none all is as it was
+abbrev pub IsChanged : (PlainEntry → PlainEntry) → ℕ → List PlainEntry → List PlainEntry → Type 0
+IsChanged change ticket old new =
+    MatchOption (find_ticket ticket old) (new ≡ old) (λ e. new ≡ put (change e) old)
+
 -- the entry of a ticket was put changed among a realm's, and where there is none all is as it was
 abbrev pub PutsChanged : (PlainEntry → PlainEntry) → ℕ → ℕ → (ℕ → List PlainEntry) → (ℕ → List PlainEntry) → Type 0
 PutsChanged change realm ticket old new =
@@ -26,19 +31,6 @@ entries_in p r = if r == p.realm then p.entries else []
 
 abbrev pub room_in : Held → ℕ → ℕ
 room_in p r = if r == p.realm then p.spare else 0
-
--- how it stands while it is out of its list: as before, without the octets
-abbrev pub hollow_standing : PlainStanding → PlainStanding
-hollow_standing (waiting link id forwarded sends_left deadline) = waiting link id [] sends_left deadline
-hollow_standing (done reply deadline) = done [] deadline
-
--- what stands for an entry while it is out of its list: its key, ticket and deadline, without octets
-abbrev pub hollow : PlainEntry → PlainEntry
-hollow e = record {
-  request = record { key = e.request.key; requester = e.request.requester; octets = [] };
-  ticket = e.ticket;
-  standing = hollow_standing e.standing;
-}
 
 -- a forwarded packet was sent once more: one send fewer is left, and the wait lasts until a later moment
 abbrev pub waits_on : ℕ → PlainStanding → PlainStanding

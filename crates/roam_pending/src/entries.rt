@@ -1,29 +1,27 @@
 //! What a realm's rules need of its entries, whatever keeps them.
 
-ghost use Rattle.std.specs.Prelude.{◌≡◌, ◌<◌, ◌≤◌, ◌+◌, ℕ, Bool, List, Some, None, length, OnErr};
+ghost use Rattle.std.specs.Prelude.{◌≡◌, ◌<◌, ◌≤◌, ◌+◌, ℕ, Bool, List, None, length, OnErr};
 ghost use Rattle.std.specs.Prelude.{OnOk, IsOk, IfSome, IsSomeAnd, IsTrue};
 ghost use Rattle.roam_pending.specs.PlainEntry.{PlainEntry};
-ghost use Rattle.roam_pending.specs.EntryList.{IsEntryList, IsNew, HasPlaceOf, find_client, find_ticket, first_done};
+ghost use Rattle.roam_pending.specs.EntryList.{IsEntryList, IsNew, find_client, find_ticket, first_done};
 ghost use Rattle.roam_pending.specs.EntryList.{besides, without};
 ghost use Rattle.roam_pending.specs.DueOrder.{due_after};
-ghost use Rattle.roam_pending.specs.Realms.{RealmBecomes, Puts};
-ghost use Rattle.roam_pending.specs.Shown.{shown, seen, taken};
+ghost use Rattle.roam_pending.specs.Realms.{RealmBecomes, Puts, PutsChanged, sent_again, with_standing};
+ghost use Rattle.roam_pending.specs.Shown.{shown, shown_standing, seen, taken};
 
 use crate::due::Due;
-use crate::entry::Entry;
+use crate::entry::{Entry, Standing};
 use crate::key::Key;
 use roam_wire::NoMemory;
 use std::alloc::Allocator;
 
 /// Keeps the entries of some realms, each realm's in order of ticket.
 ///
-/// A change names its realm and leaves every other realm's entries as they were. An entry that owns
-/// buffers is changed without a copy: `take_out` hands it out and leaves a hollow one in its place, and
-/// `replace_entry` puts it back.
+/// A change names its realm and leaves every other realm's entries as they were. How an entry stands is
+/// changed in its place, without a copy of its buffers.
 ///
-/// An entry goes in behind a `&mut`, since the check can't yet state a trait's method that takes a
-/// value with an allocator of the trait's by value. `insert_entry` and `replace_entry` take it by
-/// value.
+/// What goes in stands behind a `&mut`, since the check can't yet state a trait's method that takes a
+/// value with an allocator of the trait's by value. `insert_entry` and `set_standing` take it by value.
 pub trait Entries<A: Allocator> {
     /// Whether the entries of the realm of this index are kept here.
     ghost keeps: { Self → ℕ → Bool };
@@ -89,12 +87,21 @@ pub trait Entries<A: Allocator> {
         ensures room { room_for self.old realm ≤ room_for self.new realm }
         ensures keeps { keeps self.new ≡ keeps self.old };
 
-    /// Changes an entry with the one that has its key and ticket. Takes no memory, and no room. (See
-    /// `replace_entry`.)
-    fn swap(&mut self, realm: u16, entry: &mut Entry<A>)
-        requires { HasPlaceOf (shown entry.old) (entries_of self.old realm) }
-        ensures found { Some (shown entry.new) ≡ find_ticket entry.old.ticket (entries_of self.old realm) }
-        ensures entries { Puts realm (shown entry.old) (entries_of self.old) (entries_of self.new) }
+    /// Exchanges how the entry of a ticket stands with another standing, where the realm has that entry;
+    /// else nothing changes. Takes no memory, and no room. (See `set_standing`.)
+    fn exchange_standing(&mut self, realm: u16, ticket: u64, standing: &mut Standing<A>)
+        ensures exchanged { IfSome (find_ticket ticket (entries_of self.old realm))
+            (λ e. shown_standing standing.new ≡ e.standing) }
+        ensures entries { PutsChanged (with_standing (shown_standing standing.old)) realm ticket
+            (entries_of self.old) (entries_of self.new) }
+        ensures room { room_for self.old realm ≤ room_for self.new realm }
+        ensures keeps { keeps self.new ≡ keeps self.old };
+
+    /// Notes that the forwarded packet of a ticket's entry was sent once more: one send fewer is left,
+    /// and the entry waits until the deadline. A done entry stays as it is. Takes no memory, and no room.
+    fn send_again(&mut self, realm: u16, ticket: u64, deadline: u64)
+        ensures entries { PutsChanged (sent_again deadline) realm ticket
+            (entries_of self.old) (entries_of self.new) }
         ensures room { room_for self.old realm ≤ room_for self.new realm }
         ensures keeps { keeps self.new ≡ keeps self.old };
 }

@@ -15,6 +15,10 @@
 //!
 //! A waiting entry also goes where a request of its key with other octets takes its place.
 
+ghost use Rattle.std.specs.Prelude.{◌≡◌};
+ghost use Rattle.roam_pending.specs.Realms.{waits_on};
+ghost use Rattle.roam_pending.specs.Shown.{shown_standing};
+
 use crate::key::{Key, Requester};
 use roam_conf::Link;
 use roam_wire::Octets;
@@ -60,6 +64,19 @@ pub struct Done<A: Allocator> {
 pub enum Standing<A: Allocator> {
     Waiting(Waiting<A>),
     Done(Done<A>),
+}
+
+impl<A: Allocator> Standing<A> {
+    /// The forwarded packet was sent once more: one send fewer is left, and the wait lasts until the
+    /// deadline. What is done stays as it is.
+    pub fn wait_on(&mut self, deadline: u64)
+        ensures { shown_standing self.new ≡ waits_on deadline (shown_standing self.old) }
+    {
+        if let Standing::Waiting(waiting) = self {
+            waiting.sends_left = waiting.sends_left.saturating_sub(1);
+            waiting.deadline = deadline;
+        }
+    }
 }
 
 /// A pending request.

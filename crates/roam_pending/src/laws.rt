@@ -2,8 +2,8 @@
 //!
 //! Each is a function that does nothing: its contract is the law.
 
-ghost use Rattle.roam_pending.specs.ListLaws.{ChangeKeepsList, DueIsReached, DueRises, EntryGoesBack, FoundByKey};
-ghost use Rattle.roam_pending.specs.ListLaws.{FoundByTicket, FoundDone, FoundOnLink, HollowStandsIn, KeyIsGone};
+ghost use Rattle.roam_pending.specs.ListLaws.{ChangeKeepsList, DueIsReached, DueRises, FoundByKey};
+ghost use Rattle.roam_pending.specs.ListLaws.{FoundByTicket, FoundDone, FoundOnLink, KeyIsGone};
 ghost use Rattle.roam_pending.specs.ListLaws.{NewKeepsList, NextDue, NoneOfAKey, NothingIsRemoved, OneChangeOfTwo};
 ghost use Rattle.roam_pending.specs.ListLaws.{OneFewer, OneMore, OneOfAKey, PutBack, PutIsFound, PutKeepsOthers};
 ghost use Rattle.roam_pending.specs.ListLaws.{PutLater, PutTwice, RemovalKeepsList, RemovalKeepsOthers, RemovedIsGone};
@@ -32,12 +32,6 @@ pub fn changes_in_a_row()
     ensures put_back { PutBack }
     ensures put_twice { PutTwice }
     ensures taken_out { TakenOut }
-{}
-
-/// An entry is out of its list while a hollow one stands in for it.
-pub fn entries_out_of_the_list()
-    ensures stands_in { HollowStandsIn }
-    ensures goes_back { EntryGoesBack }
 {}
 
 /// Changes of one realm, one after the other, leave every other realm as it was.

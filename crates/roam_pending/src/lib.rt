@@ -8,24 +8,23 @@
 //! Nothing here builds or reads a packet, looks at a clock or chooses a target.
 #![tactic(auto)]
 
-mod change;
 mod due;
 mod entries;
 mod entry;
 mod key;
 mod laws;
+mod list_search;
 mod one_realm;
 mod pending;
-mod search;
+mod updates;
 
-pub use change::{insert_entry, replace_entry, send_again, set_standing, take_out};
 pub use due::Due;
 pub use entries::Entries;
 pub use entry::{Done, Entry, Request, Standing, Waiting};
 pub use key::{Key, Requester};
 pub use laws::{
     changes_by_ticket, changes_in_a_row, changes_keep_the_list, changes_of_one_realm, due_entries,
-    due_one_after_the_other, entries_out_of_the_list, found_entries, least_due_first,
-    one_entry_of_a_key, used_identifiers,
+    due_one_after_the_other, found_entries, least_due_first, one_entry_of_a_key, used_identifiers,
 };
 pub use pending::Pending;
+pub use updates::{insert_entry, send_again, set_standing};

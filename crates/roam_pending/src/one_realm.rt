@@ -2,7 +2,7 @@
 
 use crate::due::Due;
 use crate::entries::Entries;
-use crate::entry::Entry;
+use crate::entry::{Entry, Standing};
 use crate::key::Key;
 use crate::pending::Pending;
 use roam_wire::NoMemory;
@@ -71,7 +71,15 @@ impl<A: Allocator> Entries<A> for Pending<A> {
         }
     }
 
-    fn swap(&mut self, realm: u16, entry: &mut Entry<A>) {
-        self.swap(entry);
+    fn exchange_standing(&mut self, realm: u16, ticket: u64, standing: &mut Standing<A>) {
+        if realm == self.realm() {
+            self.exchange_standing(ticket, standing);
+        }
+    }
+
+    fn send_again(&mut self, realm: u16, ticket: u64, deadline: u64) {
+        if realm == self.realm() {
+            self.send_again(ticket, deadline);
+        }
     }
 }

@@ -1,16 +1,17 @@
 //! The entries of one realm as a plain list.
 
 ghost use Rattle.std.specs.Prelude.{◌≡◌, ◌<◌, ◌≤◌, ◌+◌, ◌↔◌, IsTrue, [], length, slice_get};
-ghost use Rattle.std.specs.Prelude.{OnOk, OnErr, IfErr, IsOk, Some, None, MatchOption};
+ghost use Rattle.std.specs.Prelude.{OnOk, OnErr, IfErr, IfSome, IsOk, None, MatchOption};
 ghost use Rattle.roam_pending.specs.DueOrder.{due_after};
-ghost use Rattle.roam_pending.specs.EntryList.{IsEntryList, IsNew, HasPlaceOf, find_client, find_ticket, first_done};
+ghost use Rattle.roam_pending.specs.EntryList.{IsEntryList, IsNew, find_client, find_ticket, first_done};
 ghost use Rattle.roam_pending.specs.EntryList.{besides, put, without};
-ghost use Rattle.roam_pending.specs.Shown.{shown, seen, taken};
+ghost use Rattle.roam_pending.specs.Realms.{IsChanged, sent_again, with_standing};
+ghost use Rattle.roam_pending.specs.Shown.{shown, shown_standing, seen, taken};
 
 use crate::due::Due;
-use crate::entry::Entry;
+use crate::entry::{Entry, Standing};
 use crate::key::Key;
-use crate::search::{client_in, count_below, done_in, due_in, place_of};
+use crate::list_search::{client_in, count_below, done_in, due_in, place_of};
 use roam_wire::NoMemory;
 use std::alloc::Allocator;
 use std::marker::Model;
@@ -182,31 +183,30 @@ impl<A: Allocator> Pending<A> {
         }
     }
 
-    /// Changes an entry with the one that has its key and ticket. Takes no memory.
-    pub fn swap(&mut self, entry: &mut Entry<A>)
-        requires { HasPlaceOf (shown entry.old) self.old.entries }
-        ensures found { Some (shown entry.new) ≡ find_ticket entry.old.ticket self.old.entries }
+    /// Exchanges how the entry of a ticket stands with another standing, where there is that entry; else
+    /// nothing changes. Takes no memory.
+    pub fn exchange_standing(&mut self, ticket: u64, standing: &mut Standing<A>)
+        ensures exchanged { IfSome (find_ticket ticket self.old.entries)
+            (λ e. shown_standing standing.new ≡ e.standing) }
         ensures realm { self.new.realm ≡ self.old.realm }
-        ensures entries { self.new.entries ≡ put (shown entry.old) self.old.entries }
+        ensures entries { IsChanged (with_standing (shown_standing standing.old)) ticket
+            self.old.entries self.new.entries }
         ensures room { self.new.spare ≡ self.old.spare }
     {
-        match place_of(&self.entries, entry.ticket) {
-            None => unreachable!(),
-            Some(place) => mem::swap(&mut self.entries[place], entry),
+        if let Some(place) = place_of(&self.entries, ticket) {
+            mem::swap(&mut self.entries[place].standing, standing);
         }
     }
 
-    /// Puts an entry in place of the one that has its key and ticket, which comes back. Takes no
-    /// memory.
-    pub fn replace(&mut self, entry: Entry<A>) -> Entry<A>
-        requires { HasPlaceOf (shown entry) self.old.entries }
-        ensures found { Some (shown result) ≡ find_ticket entry.ticket self.old.entries }
+    /// Notes that the forwarded packet of a ticket's entry was sent once more: one send fewer is left,
+    /// and the entry waits until the deadline. A done entry stays as it is. Takes no memory.
+    pub fn send_again(&mut self, ticket: u64, deadline: u64)
         ensures realm { self.new.realm ≡ self.old.realm }
-        ensures entries { self.new.entries ≡ put (shown entry) self.old.entries }
+        ensures entries { IsChanged (sent_again deadline) ticket self.old.entries self.new.entries }
         ensures room { self.new.spare ≡ self.old.spare }
     {
-        let mut entry = entry;
-        self.swap(&mut entry);
-        entry
+        if let Some(place) = place_of(&self.entries, ticket) {
+            self.entries[place].standing.wait_on(deadline);
+        }
     }
 }

@@ -10,8 +10,8 @@ use Rattle.roam_conf.proofs.EqualLemmas.{endpoint_decides}
 use Rattle.roam_reload.specs.Differences.{HasMoved}
 use Rattle.roam_reload.specs.Moves.{is_moved}
 use Rattle.roam_reload.specs.Reload.{KeepsKinds, endpoints_of}
-use Rattle.roam_reload.specs.declared.kind.Kind.{Kind}
-use Rattle.roam_reload.specs.declared.kind.Kind.TheVariants.{Auth, Acct, Out, Reverse}
+use Rattle.roam_reload.specs.declared.kind.PlaceKind.{PlaceKind}
+use Rattle.roam_reload.specs.declared.kind.PlaceKind.TheVariants.{Auth, Acct, Out, Reverse}
 
 -- an endpoint that isn't at a place of another kind is at none
 record AreFalse (a b c : Bool) : Type 0 where
@@ -29,10 +29,10 @@ clash : {P : Type 0} (a : Bool) → a ≡ true → a ≡ false → P
 clash a yes' no' = absurd (true≢false (sym yes' ∙ no'))
 
 -- whether an endpoint is at a place of a kind
-abbrev at : ConfigView → Kind → Endpoint → Bool
+abbrev at : ConfigView → PlaceKind → Endpoint → Bool
 at config kind e = is_among (endpoints_of config kind) e
 
-pub stays : (config : ConfigView) (kind after : Kind) (e : Endpoint) → is_moved config kind e ≡ false → is_among (endpoints_of config after) e ≡ true → after ≡ kind
+pub stays : (config : ConfigView) (kind after : PlaceKind) (e : Endpoint) → is_moved config kind e ≡ false → is_among (endpoints_of config after) e ≡ true → after ≡ kind
 stays config Auth Auth e none there = refl
 stays config Auth Acct e none there = clash (at config Acct e) there (kept3 (at config Acct e) (at config Out e) (at config Reverse e) none).first
 stays config Auth Out e none there = clash (at config Out e) there (kept3 (at config Acct e) (at config Out e) (at config Reverse e) none).second
@@ -51,12 +51,12 @@ stays config Reverse Out e none there = clash (at config Out e) there (kept3 (at
 stays config Reverse Reverse e none there = refl
 
 -- one that is at such a place
-record IsAway (config : ConfigView) (kind : Kind) (e : Endpoint) : Type 0 where
-  after : Kind
+record IsAway (config : ConfigView) (kind : PlaceKind) (e : Endpoint) : Type 0 where
+  after : PlaceKind
   there : is_among (endpoints_of config after) e ≡ true
   differs : after ≢ kind
 
-away3 : (config : ConfigView) (kind a b c : Kind) (e : Endpoint) → a ≢ kind → b ≢ kind → c ≢ kind
+away3 : (config : ConfigView) (kind a b c : PlaceKind) (e : Endpoint) → a ≢ kind → b ≢ kind → c ≢ kind
     → (is_among (endpoints_of config a) e || is_among (endpoints_of config b) e || is_among (endpoints_of config c) e) ≡ true
     → IsAway config kind e
 away3 config kind a b c e not_a not_b not_c some =
@@ -68,14 +68,14 @@ away3 config kind a b c e not_a not_b not_c some =
       | inr third ↦ (record { after = c; there = third; differs = not_c })
     ]
 
-away : (config : ConfigView) (kind : Kind) (e : Endpoint) → is_moved config kind e ≡ true → IsAway config kind e
+away : (config : ConfigView) (kind : PlaceKind) (e : Endpoint) → is_moved config kind e ≡ true → IsAway config kind e
 away config Auth e moved = away3 config Auth Acct Out Reverse e (λ h. cc) (λ h. cc) (λ h. cc) moved
 away config Acct e moved = away3 config Acct Auth Out Reverse e (λ h. cc) (λ h. cc) (λ h. cc) moved
 away config Out e moved = away3 config Out Auth Acct Reverse e (λ h. cc) (λ h. cc) (λ h. cc) moved
 away config Reverse e moved = away3 config Reverse Auth Acct Out e (λ h. cc) (λ h. cc) (λ h. cc) moved
 
 -- an endpoint of this kind in the old configuration that is at a place of another kind in the new one
-pub moves : (old new : ConfigView) (kind : Kind) (e : Endpoint) → is_among (endpoints_of old kind) e ≡ true → is_moved new kind e ≡ true → HasMoved old new e
+pub moves : (old new : ConfigView) (kind : PlaceKind) (e : Endpoint) → is_among (endpoints_of old kind) e ≡ true → is_moved new kind e ≡ true → HasMoved old new e
 moves old new kind e was moved =
     let there = away new kind e moved in
     record { before = kind; after = there.after; was_there = was; is_there = there.there; differ = there.differs }

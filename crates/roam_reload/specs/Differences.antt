@@ -12,7 +12,7 @@ use Rattle.roam_reload.specs.declared.keys.PeerKey.{PeerKey}
 use Rattle.roam_reload.specs.declared.keys.PeerKey.TheVariants as peer_key
 use Rattle.roam_reload.specs.declared.keys.RealmKey.{RealmKey}
 use Rattle.roam_reload.specs.declared.keys.RealmKey.TheVariants as realm_key
-use Rattle.roam_reload.specs.declared.kind.Kind.{Kind}
+use Rattle.roam_reload.specs.declared.kind.PlaceKind.{PlaceKind}
 
 -- the two tables of a realm differ in a key; the two of a peer
 abbrev pub RealmsDiffer : RealmView → RealmView → RealmKey → Type 0
@@ -65,8 +65,8 @@ IsFate old new realm fate.Removed = IsRemoved old new realm
 
 -- an endpoint is at places of two kinds
 pub record HasMoved (old new : ConfigView) (endpoint : Endpoint) : Type 0 where
-  pub before : Kind
-  pub after : Kind
+  pub before : PlaceKind
+  pub after : PlaceKind
   pub was_there : is_among (endpoints_of old before) endpoint ≡ true
   pub is_there : is_among (endpoints_of new after) endpoint ≡ true
   pub differ : after ≢ before

@@ -4,11 +4,11 @@ use Rattle.roam_conf.specs.Config.{ConfigView}
 use Rattle.roam_conf.specs.Duplicates.{is_among}
 use Rattle.roam_conf.specs.declared.endpoint.Endpoint.{Endpoint}
 use Rattle.roam_reload.specs.Reload.{endpoints_of}
-use Rattle.roam_reload.specs.declared.kind.Kind.{Kind}
-use Rattle.roam_reload.specs.declared.kind.Kind.TheVariants.{Auth, Acct, Out, Reverse}
+use Rattle.roam_reload.specs.declared.kind.PlaceKind.{PlaceKind}
+use Rattle.roam_reload.specs.declared.kind.PlaceKind.TheVariants.{Auth, Acct, Out, Reverse}
 
 -- the endpoint is at a place of another kind than this
-abbrev pub is_moved : ConfigView → Kind → Endpoint → Bool
+abbrev pub is_moved : ConfigView → PlaceKind → Endpoint → Bool
 is_moved config Auth endpoint =
     is_among (endpoints_of config Acct) endpoint || is_among (endpoints_of config Out) endpoint
     || is_among (endpoints_of config Reverse) endpoint

@@ -3,8 +3,8 @@ use Rattle.std.specs.Prelude.{◌≡◌, ℕ, ◌<◌, ◌≤◌, true, false, L
 use Rattle.roam_conf.specs.Config.{ConfigView, PeerView, RealmView}
 use Rattle.roam_conf.specs.Duplicates.{is_among}
 use Rattle.roam_conf.specs.declared.endpoint.Endpoint.{Endpoint}
-use Rattle.roam_reload.specs.declared.kind.Kind.{Kind}
-use Rattle.roam_reload.specs.declared.kind.Kind.TheVariants.{Auth, Acct, Out, Reverse}
+use Rattle.roam_reload.specs.declared.kind.PlaceKind.{PlaceKind}
+use Rattle.roam_reload.specs.declared.kind.PlaceKind.TheVariants.{Auth, Acct, Out, Reverse}
 
 -- what a realm's packets depend on in its table: all but what names it
 abbrev pub realm_part : RealmView → RealmView
@@ -27,7 +27,7 @@ pub record IsCarried (old new : ConfigView) (realm : ℕ) : Type 0 where
   pub peers : KeepsPeers old.peers new.peers
 
 -- the endpoints of the broker's own places of a kind
-abbrev pub endpoints_of : ConfigView → Kind → List Endpoint
+abbrev pub endpoints_of : ConfigView → PlaceKind → List Endpoint
 endpoints_of config Auth = config.auth ∷ []
 endpoints_of config Acct = config.acct ∷ []
 endpoints_of config Out = map (λ realm. realm.out) config.realms
@@ -35,7 +35,7 @@ endpoints_of config Reverse = map (λ realm. realm.reverse) config.realms
 
 -- an endpoint that both have is at places of one kind
 abbrev pub KeepsKinds : ConfigView → ConfigView → Type 0
-KeepsKinds old new = (before after : Kind) (endpoint : Endpoint)
+KeepsKinds old new = (before after : PlaceKind) (endpoint : Endpoint)
     → is_among (endpoints_of old before) endpoint ≡ true → is_among (endpoints_of new after) endpoint ≡ true
     → after ≡ before
 

@@ -7,9 +7,9 @@ ghost use Rattle.roam_conf.specs.Shown.{shown};
 ghost use Rattle.roam_reload.specs.Differences.{HasMoved, Hinders};
 ghost use Rattle.roam_reload.specs.Moves.{is_moved};
 ghost use Rattle.roam_reload.specs.Reload.{KeepsKinds, MayFollow};
-ghost use Rattle.roam_reload.specs.declared.kind.Kind.TheVariants as kind;
+ghost use Rattle.roam_reload.specs.declared.kind.PlaceKind.TheVariants as kind;
 
-use crate::kind::{Kind, is_moved};
+use crate::kind::{PlaceKind, is_moved};
 use roam_conf::{Config, Endpoint, Realm};
 
 /// Why a configuration may not follow another.
@@ -34,7 +34,7 @@ fn moved_out(realms: &[Realm], new: &Config) -> Option<Endpoint>
         (map (λ realm. realm.out) (map shown_realm realms.now)) }
 {
     for realm in realms {
-        if is_moved(new, Kind::Out, realm.out) {
+        if is_moved(new, PlaceKind::Out, realm.out) {
             return Some(realm.out);
         }
     }
@@ -47,7 +47,7 @@ fn moved_reverse(realms: &[Realm], new: &Config) -> Option<Endpoint>
         (map (λ realm. realm.reverse) (map shown_realm realms.now)) }
 {
     for realm in realms {
-        if is_moved(new, Kind::Reverse, realm.reverse) {
+        if is_moved(new, PlaceKind::Reverse, realm.reverse) {
             return Some(realm.reverse);
         }
     }
@@ -59,10 +59,10 @@ fn moved_endpoint(old: &Config, new: &Config) -> Option<Endpoint>
     ensures none { IfNone result (KeepsKinds (shown old.now) (shown new.now)) }
     ensures some { IfSome result (HasMoved (shown old.now) (shown new.now)) }
 {
-    if is_moved(new, Kind::Auth, old.auth) {
+    if is_moved(new, PlaceKind::Auth, old.auth) {
         return Some(old.auth);
     }
-    if is_moved(new, Kind::Acct, old.acct) {
+    if is_moved(new, PlaceKind::Acct, old.acct) {
         return Some(old.acct);
     }
     match moved_out(old.realms.as_slice(), new) {

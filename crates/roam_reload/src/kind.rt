@@ -12,7 +12,7 @@ use roam_conf::{Config, Endpoint, Realm, is_same_endpoint};
 
 /// A kind of the broker's own places: which packets come in there.
 #[derive(Clone, Copy, Debug, PartialEq, Eq)]
-pub enum Kind {
+pub enum PlaceKind {
     /// Access-Requests of access servers (RFC 2865).
     Auth,
     /// Accounting-Requests of access servers (RFC 2866).
@@ -48,26 +48,26 @@ fn is_reverse(realms: &[Realm], endpoint: Endpoint) -> bool
 }
 
 /// Whether an endpoint is one of the broker's own places of a kind.
-fn is_at(config: &Config, kind: Kind, endpoint: Endpoint) -> bool
+fn is_at(config: &Config, kind: PlaceKind, endpoint: Endpoint) -> bool
     ensures { result ≡ is_among (endpoints_of (shown config.now) kind) endpoint }
 {
     match kind {
-        Kind::Auth => is_same_endpoint(endpoint, config.auth),
-        Kind::Acct => is_same_endpoint(endpoint, config.acct),
-        Kind::Out => is_out(config.realms.as_slice(), endpoint),
-        Kind::Reverse => is_reverse(config.realms.as_slice(), endpoint),
+        PlaceKind::Auth => is_same_endpoint(endpoint, config.auth),
+        PlaceKind::Acct => is_same_endpoint(endpoint, config.acct),
+        PlaceKind::Out => is_out(config.realms.as_slice(), endpoint),
+        PlaceKind::Reverse => is_reverse(config.realms.as_slice(), endpoint),
     }
 }
 
 /// Whether an endpoint is a place of another kind than this.
-pub(crate) fn is_moved(config: &Config, kind: Kind, endpoint: Endpoint) -> bool
+pub(crate) fn is_moved(config: &Config, kind: PlaceKind, endpoint: Endpoint) -> bool
     ensures { result ≡ is_moved (shown config.now) kind endpoint }
 {
     let [one, other, third] = match kind {
-        Kind::Auth => [Kind::Acct, Kind::Out, Kind::Reverse],
-        Kind::Acct => [Kind::Auth, Kind::Out, Kind::Reverse],
-        Kind::Out => [Kind::Auth, Kind::Acct, Kind::Reverse],
-        Kind::Reverse => [Kind::Auth, Kind::Acct, Kind::Out],
+        PlaceKind::Auth => [PlaceKind::Acct, PlaceKind::Out, PlaceKind::Reverse],
+        PlaceKind::Acct => [PlaceKind::Auth, PlaceKind::Out, PlaceKind::Reverse],
+        PlaceKind::Out => [PlaceKind::Auth, PlaceKind::Acct, PlaceKind::Reverse],
+        PlaceKind::Reverse => [PlaceKind::Auth, PlaceKind::Acct, PlaceKind::Out],
     };
     is_at(config, one, endpoint) || is_at(config, other, endpoint) || is_at(config, third, endpoint)
 }

@@ -13,6 +13,6 @@ mod realms;
 pub use fate::{Fate, fate_of, is_carried};
 pub use hindrance::{Hindrance, hindrance_of};
 pub use keys::{PeerKey, RealmKey};
-pub use kind::Kind;
+pub use kind::PlaceKind;
 pub use peers::{other_peer, peer_difference};
 pub use realms::realm_difference;

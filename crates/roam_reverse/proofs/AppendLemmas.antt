@@ -3,7 +3,7 @@ use Rattle.std.proofs.Common.{◌≡◌, ◌≢◌, ℕ, ◌+◌, ◌<◌, ◌�
 use Rattle.std.specs.Prelude.{IsSome, option_map}
 use Rattle.std.proofs.lemmas.Bool.{cases_Bool, cases_eq, cases_lt}
 use Rattle.roam_reverse.specs.Sessions.{Session, same_session}
-use Rattle.roam_reverse.specs.Tickets.{IsChain, IsFirst, IsFirstFrom, IsLast, IsLastBelow, PlainChain, PlainNode, PutsTicket, all_listed, end_beside, is_at, session_at, with_newer_at}
+use Rattle.roam_reverse.specs.Private.Tickets.{IsChain, IsFirst, IsFirstFrom, IsLast, IsLastBelow, PlainChain, PlainNode, PutsTicket, all_listed, end_beside, is_at, session_at, with_newer_at}
 use Rattle.roam_wire.specs.Numbered.{PutsAt, tickets_end}
 use Rattle.roam_reverse.proofs.SameLemmas.{same-itself, same-is}
 use Rattle.roam_reverse.proofs.NeighbourLemmas.{first-new, has-newer, has-oldest, last-new, last-stays, none-above, none-between}

@@ -4,7 +4,7 @@ use Rattle.std.specs.Prelude.{IsSome, option_map, if◌then◌else◌}
 use Rattle.std.proofs.lemmas.Bool.{cases_Bool, cases_eq, cases_lt}
 use Rattle.std.proofs.lemmas.Bool.Decides.{nat_tests}
 use Rattle.roam_reverse.specs.Sessions.{Session, same_session}
-use Rattle.roam_reverse.specs.Tickets.{IsChain, IsFirst, IsFirstFrom, IsLast, IsLastBelow, PlainChain, PlainNode, PutsTicket, all_listed, end_beside, is_at, session_at, with_newer_at, with_older_at}
+use Rattle.roam_reverse.specs.Private.Tickets.{IsChain, IsFirst, IsFirstFrom, IsLast, IsLastBelow, PlainChain, PlainNode, PutsTicket, all_listed, end_beside, is_at, session_at, with_newer_at, with_older_at}
 use Rattle.roam_wire.specs.Numbered.{PutsAt, tickets_end}
 use Rattle.roam_reverse.proofs.SameLemmas.{same-itself, same-is}
 use Rattle.roam_reverse.proofs.NeighbourLemmas.{first-kept, first-through, former-is, former-only, held-none, last-kept, last-through, newest-is, newest-isnt, next-is, next-only, oldest-is, oldest-isnt}

@@ -2,7 +2,7 @@
 use Rattle.std.proofs.Common.{◌≡◌, ◌≢◌, ℕ, ◌+◌, ◌<◌, ◌≤◌, Option, Some, None, refl, sym, ap, ◌∙◌, subst, inl, inr, arith}
 use Rattle.std.specs.Prelude.{IsSome}
 use Rattle.std.proofs.lemmas.Bool.{cases_eq, cases_lt}
-use Rattle.roam_reverse.specs.Tickets.{IsFirst, IsFirstFrom, IsLast, IsLastBelow}
+use Rattle.roam_reverse.specs.Private.Tickets.{IsFirst, IsFirstFrom, IsLast, IsLastBelow}
 use Rattle.roam_wire.specs.Numbered.{PutsAt}
 
 module _ {X : Type 0} where

@@ -5,7 +5,7 @@ use Rattle.std.specs.List.{cons_option}
 use Rattle.std.proofs.lemmas.Bool.{cases_Bool, cases_eq, cases_lt, or_parts, or_from}
 use Rattle.std.proofs.lemmas.Bool.Decides.{nat_tests}
 use Rattle.roam_reverse.specs.Sessions.{Session, AreDistinct, IsLedger, has_session, same_session, with_room, with_session, without_session}
-use Rattle.roam_reverse.specs.Tickets.{IsChain, IsFirst, IsFirstFrom, PlainChain, PlainNode, all_listed, session_at}
+use Rattle.roam_reverse.specs.Private.Tickets.{IsChain, IsFirst, IsFirstFrom, PlainChain, PlainNode, all_listed, session_at}
 use Rattle.roam_wire.specs.Numbered.{PutsAt, listed, tickets_end}
 use Rattle.roam_reverse.proofs.SameLemmas.{same-is, same-itself}
 use Rattle.roam_reverse.proofs.NeighbourLemmas.{held-none, held-some}

@@ -3,7 +3,7 @@ use Rattle.std.proofs.Common.{◌≡◌, ◌≢◌, ℕ, ◌+◌, ◌-◌, ◌<�
 use Rattle.std.specs.Prelude.{filter, not, IsSome, option_map}
 use Rattle.std.proofs.lemmas.Bool.{cases_eq, cases_lt}
 use Rattle.roam_reverse.specs.Sessions.{Session}
-use Rattle.roam_reverse.specs.Tickets.{IsChain, IsFirst, IsFirstFrom, PlainChain, PlainNode, all_listed, peer_newer, session_at}
+use Rattle.roam_reverse.specs.Private.Tickets.{IsChain, IsFirst, IsFirstFrom, PlainChain, PlainNode, all_listed, peer_newer, session_at}
 use Rattle.roam_wire.specs.Numbered.{PutsAt, tickets_end}
 use Rattle.roam_reverse.proofs.SameLemmas.{other-number, same-number}
 use Rattle.roam_reverse.proofs.ChainLemmas.{from-map}

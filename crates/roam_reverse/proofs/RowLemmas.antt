@@ -12,10 +12,10 @@ use Rattle.std.proofs.lemmas.Bool.{cases_Bool, cases_eq}
 use Rattle.std.proofs.lemmas.Bool.Decides.{nat_tests}
 use Rattle.std.proofs.lemmas.Slice.Eq.{bytes_eq-Decides}
 use Rattle.indexmap.specs.IndexMap.{IndexMap, UpdatesBy, get_by}
-use Rattle.roam_reverse.specs.Row.{session_row}
+use Rattle.roam_reverse.specs.Private.Row.{session_row}
 use Rattle.roam_reverse.specs.Sessions.{Session, same_session}
 use Rattle.roam_reverse.specs.Stands.{ticket_at}
-use Rattle.roam_reverse.specs.Tickets.{PutsTicket}
+use Rattle.roam_reverse.specs.Private.Tickets.{PutsTicket}
 use Rattle.roam_reverse.proofs.SameLemmas.{same-is, other-way}
 
 abbrev pub row_of : Session → List ℕ

@@ -1,11 +1,11 @@
 pub mod Target
 pub mod Sessions
-pub mod Row
 pub mod Shown
-pub mod Tickets
 pub mod Stands
 pub mod Causes
 pub mod TargetLaws
 pub mod SessionLaws
 pub mod CauseLaws
 pub mod Constants
+-- Words that no contract of a public call names: those of private functions and of invariants.
+pub mod Private

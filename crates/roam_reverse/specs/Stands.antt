@@ -4,10 +4,10 @@ use Rattle.std.specs.Cmp.Lexicographic.{pointwise}
 use Rattle.std.specs.declared.vec.Vec.{Vec}
 use Rattle.indexmap.specs.IndexMap as map
 use Rattle.indexmap.specs.IndexMap.{IndexMap, index_map_len, spare}
-use Rattle.roam_reverse.specs.Row.{session_row}
+use Rattle.roam_reverse.specs.Private.Row.{session_row}
 use Rattle.roam_reverse.specs.Sessions.{Session}
 use Rattle.roam_reverse.specs.Shown.{shown_session}
-use Rattle.roam_reverse.specs.Tickets.{IsChain, PlainNode, PlainChain, all_listed, session_at}
+use Rattle.roam_reverse.specs.Private.Tickets.{IsChain, PlainNode, PlainChain, all_listed, session_at}
 use Rattle.roam_wire.specs.Numbered.{tickets_end}
 use Rattle.roam_reverse.specs.declared.node.Node.{Node}
 use Rattle.roam_reverse.specs.declared.chain.Chain.{Chain}

@@ -5,12 +5,12 @@ ghost use Rattle.std.specs.Prelude.{None, Some, IsOk, IsSome, OnOk, OnErr, drop}
 ghost use Rattle.roam_reverse.specs.Sessions.{Session, without_peer};
 ghost use Rattle.roam_reverse.specs.Shown.{shown_session};
 ghost use Rattle.roam_reverse.specs.Stands.{IsSound, chain_of, sessions_of};
-ghost use Rattle.roam_reverse.specs.Tickets.{end_beside, session_at};
+ghost use Rattle.roam_reverse.specs.Private.Tickets.{end_beside, session_at};
 ghost use Rattle.roam_wire.specs.Numbered.{PutsAt};
 
-use crate::index::{Index, find, forget, note, ticket_of};
 use crate::node::{Node, Nodes, peer_and_newer, put, set_newer, set_older, take};
 use crate::open_session::{NewSession, OpenSession};
+use crate::session_index::{SessionIndex, find, forget, note, ticket_of};
 use indexmap::IndexMap;
 use roam_wire::NoMemory;
 use std::alloc::Allocator;
@@ -19,7 +19,7 @@ use std::alloc::Allocator;
 /// its neighbours, so that none of them costs more to take out than another.
 #[derive(Drop)]
 pub(crate) struct Chain<A: Allocator> {
-    by_row: Index<A>,
+    by_row: SessionIndex<A>,
     nodes: Nodes<A>,
     oldest: Option<u64>,
     newest: Option<u64>,

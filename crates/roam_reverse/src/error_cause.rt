@@ -6,7 +6,7 @@ ghost use Rattle.roam_conf.specs.Shown.{shown};
 ghost use Rattle.roam_reverse.specs.Causes.{cause, cause_by_name, cause_by_salt, is_realm};
 
 use crate::ledger::Sessions;
-use crate::nas_match::target;
+use crate::nas_target::target;
 use roam_conf::Config;
 use roam_hide::salted;
 use roam_wire::View;

@@ -8,7 +8,7 @@ ghost use Rattle.roam_reverse.specs.Shown.{HasRoomFor, shown_session};
 use crate::accounting::{Said, said_by};
 use crate::chain::Chain;
 use crate::open_session::{NewSession, OpenSession};
-use crate::session::{Change, Prepared};
+use crate::session::{Change, PreparedChange};
 use roam_wire::{NoMemory, View};
 use std::alloc::Allocator;
 use std::marker::Model;
@@ -70,7 +70,7 @@ impl<A: Allocator + Copy> Sessions<A> {
     /// Makes all growth that the change by an Accounting-Request of a peer wants, and changes no
     /// session. Then [`Sessions::apply_prepared`] always answers. No memory is wanted where the
     /// request leaves the sessions as they are, or says that none of the peer's is open.
-    pub fn prepare(&mut self, peer: u16, request: &View<'_>) -> Result<Prepared<A>, NoMemory>
+    pub fn prepare(&mut self, peer: u16, request: &View<'_>) -> Result<PreparedChange<A>, NoMemory>
         ensures change { IfOk result (λ prepared.
             changed self.old.limit prepared self.old.sessions
             ≡ applied self.old.limit peer request.now.attributes self.old.sessions) }
@@ -86,10 +86,10 @@ impl<A: Allocator + Copy> Sessions<A> {
         match said_by(request) {
             Said::Opens(id) => self.prepare_opening(peer, id),
             Said::Closes(id) => self.prepare_closing(peer, id),
-            Said::ClosesAll => Ok(Prepared {
+            Said::ClosesAll => Ok(PreparedChange {
                 change: Change::ClosesAll(peer),
             }),
-            Said::Nothing => Ok(Prepared {
+            Said::Nothing => Ok(PreparedChange {
                 change: Change::Nothing,
             }),
         }
@@ -97,7 +97,7 @@ impl<A: Allocator + Copy> Sessions<A> {
 
     /// The same for a session that is open: one that is there, or that can't be kept, wants no
     /// memory.
-    fn prepare_opening(&mut self, peer: u16, id: &[u8]) -> Result<Prepared<A>, NoMemory>
+    fn prepare_opening(&mut self, peer: u16, id: &[u8]) -> Result<PreparedChange<A>, NoMemory>
         ensures change { IfOk result (λ prepared.
             changed self.old.limit prepared self.old.sessions
             ≡ with_session self.old.limit (record { peer = peer; id = id.now }) self.old.sessions) }
@@ -109,19 +109,19 @@ impl<A: Allocator + Copy> Sessions<A> {
         ensures sessions { self.new.sessions ≡ self.old.sessions }
     {
         if self.has(peer, id) || self.limit == 0 {
-            return Ok(Prepared {
+            return Ok(PreparedChange {
                 change: Change::Nothing,
             });
         }
         let session = NewSession::copy_of(self.alloc, peer, id)?;
         self.chain.reserve()?;
-        Ok(Prepared {
+        Ok(PreparedChange {
             change: Change::Opens(session),
         })
     }
 
     /// The same for a session that is open no more: one that isn't there wants no memory.
-    fn prepare_closing(&self, peer: u16, id: &[u8]) -> Result<Prepared<A>, NoMemory>
+    fn prepare_closing(&self, peer: u16, id: &[u8]) -> Result<PreparedChange<A>, NoMemory>
         ensures change { IfOk result (λ prepared.
             changed self.now.limit prepared self.now.sessions
             ≡ without_session (record { peer = peer; id = id.now }) self.now.sessions) }
@@ -130,18 +130,18 @@ impl<A: Allocator + Copy> Sessions<A> {
             ≡ self.now.sessions → IsOk result }
     {
         if !self.has(peer, id) {
-            return Ok(Prepared {
+            return Ok(PreparedChange {
                 change: Change::Nothing,
             });
         }
         let session = OpenSession::copy_of(self.alloc, peer, id)?;
-        Ok(Prepared {
+        Ok(PreparedChange {
             change: Change::Closes(session),
         })
     }
 
     /// Makes a change that was prepared. Takes no memory.
-    pub fn apply_prepared(&mut self, prepared: Prepared<A>)
+    pub fn apply_prepared(&mut self, prepared: PreparedChange<A>)
         requires { HasRoomFor prepared self.old }
         ensures limit { self.new.limit ≡ self.old.limit }
         ensures sessions { self.new.sessions ≡ changed self.old.limit prepared self.old.sessions }

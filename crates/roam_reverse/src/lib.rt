@@ -9,13 +9,13 @@
 mod accounting;
 mod chain;
 pub mod error_cause;
-mod index;
 mod laws;
 mod ledger;
-mod nas_match;
+mod nas_target;
 mod node;
 mod open_session;
 mod session;
+mod session_index;
 
 pub use error_cause::verdict;
 pub use laws::{
@@ -23,5 +23,5 @@ pub use laws::{
     numbers_of_statuses_and_causes, opened_sessions, sessions_of_a_peer, target_is_the_first,
 };
 pub use ledger::Sessions;
-pub use nas_match::target;
-pub use session::Prepared;
+pub use nas_target::target;
+pub use session::PreparedChange;

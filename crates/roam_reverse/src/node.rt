@@ -3,7 +3,7 @@
 ghost use Rattle.std.specs.Prelude.{◌≡◌, ℕ, ◌<◌, ◌≤◌, ◌+◌, None, Some, IsSome, option_map};
 ghost use Rattle.indexmap.specs.IndexMap.{index_map_len, spare};
 ghost use Rattle.roam_reverse.specs.Stands.{node_at, shown_node};
-ghost use Rattle.roam_reverse.specs.Tickets.{peer_newer, with_newer_at, with_older_at};
+ghost use Rattle.roam_reverse.specs.Private.Tickets.{peer_newer, with_newer_at, with_older_at};
 ghost use Rattle.roam_wire.specs.Numbered.{PutsAt};
 
 use crate::open_session::OpenSession;

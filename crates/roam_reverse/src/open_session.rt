@@ -1,7 +1,7 @@
 //! A session of a peer as one row of octets, by which the ledger finds it.
 
 ghost use Rattle.std.specs.Prelude.{◌≡◌, IfOk, drop};
-ghost use Rattle.roam_reverse.specs.Row.{session_row};
+ghost use Rattle.roam_reverse.specs.Private.Row.{session_row};
 
 use roam_wire::{NoMemory, Octets};
 use std::alloc::Allocator;

@@ -42,11 +42,11 @@ pub(crate) enum Change<A: Allocator> {
 /// A change of a ledger for which all growth was made. It owns what it needs. Contracts see the
 /// change.
 #[derive(Drop)]
-pub struct Prepared<A: Allocator> {
+pub struct PreparedChange<A: Allocator> {
     pub(crate) change: Change<A>,
 }
 
-impl<A: Allocator> Model for Prepared<A> {
+impl<A: Allocator> Model for PreparedChange<A> {
     ghost use Rattle.roam_reverse.specs.Sessions.{LedgerChange};
     ghost use Rattle.roam_reverse.specs.Shown.{shown_change};
 

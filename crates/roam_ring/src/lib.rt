@@ -1,7 +1,7 @@
 //! The ring of packets that leave, first in, first out.
 //!
-//! Who puts a packet never waits: one that finds the ring full comes back. Nothing here sends, waits or starts a thread, and only [`ring`] takes
-//! memory.
+//! Who puts a packet never waits: one that finds the ring full comes back. Nothing here sends, waits or starts a
+//! thread, and only [`ring`] takes memory.
 #![tactic(auto)]
 
 mod intake;

@@ -24,7 +24,7 @@ use Rattle.roam_fwd.specs.Forwarded.{CanBeForwarded, HasPasswordBlocks, forwarde
 use Rattle.roam_route.specs.UserName.{realm_of}
 use Rattle.roam_route.specs.LocalAnswer.{answer_length, local_reject, status_answer}
 use Rattle.roam_route.specs.LocalReject.{is_rejected}
-use Rattle.roam_route.specs.Admission.{Arrival, PlainJob, PlainOut, Admission, refused, rejected, admitted, sender, checked, given_to, forwarded_for, answered_by, rejected_for, named, routed, request_admission, packet_admission, sent_admission, read_admission, admission, is_taken, is_rightly_signed, is_rightly_sealed, has_needed_seal, has_few_hops, has_seal, is_status_request, status_admission, status_from, seal_required, peer_secret, home_secret}
+use Rattle.roam_route.specs.Admission.{Arrival, PlainJob, PlainOut, Admission, refused, rejected, admitted, sender, checked, job_of, forwarded_for, answered_by, rejected_for, for_named_realm, route_request, request_admission, packet_admission, sent_admission, read_admission, admission, is_taken, is_rightly_signed, is_rightly_sealed, has_needed_seal, has_few_hops, has_seal, is_status_request, status_admission, status_from, seal_required, peer_secret, home_secret}
 use Rattle.roam_route.specs.Events.{arrival_of, IsEvent, IsPrepared, IsConfigured, IsForwardable, IsNamed, EventHasRealm, EventIsSound}
 use Rattle.roam_route.specs.Shown.{IsAdmission, shown_job}
 use Rattle.roam_route.specs.declared.job.Prepared.{Prepared}
@@ -80,7 +80,7 @@ record IsFor (config : ConfigView) (a : Arrival) (s : Side) (p : Packet) (realm 
 given_admits : (config : ConfigView) (a : Arrival) (s : Side) (p : Packet) (realm : ℕ)
     (names : Option ℕ)
     → IsFor config a s p realm → IsForwardable s p → IsNamed config s p names
-    → Admits config a p (given_to a s p realm names)
+    → Admits config a p (job_of a s p realm names)
 unfolding Admits
 given_admits config a s p realm names h forwardable named_so = record {
   arrival = refl;
@@ -107,7 +107,7 @@ forwarded_admits : (config : ConfigView) (a : Arrival) (s : Side) (p : Packet) (
     → Admits config a p (forwarded_for a s p realm names)
 forwarded_admits config a s p realm names h sealable named_so =
     checked_admits config a p (nat_le (forwarded_length p) 4096) refusal.TooLong
-    (given_to a s p realm names) (λ short. given_admits config a s p realm names h (forwardable_from s p (record {
+    (job_of a s p realm names) (λ short. given_admits config a s p realm names h (forwardable_from s p (record {
       message_authenticator = sealable.seal;
       passwords = sealable.passwords;
       size = grind (arith, nat_tests, short);
@@ -121,7 +121,7 @@ IsFromPeer config a i p =
 named_admits : (config : ConfigView) (a : Arrival) (i : ℕ) (p : Packet) (realm : Option ℕ)
     → realm ≡ realm_of config p.attributes
     → ((x : ℕ) → realm ≡ Some x → IsFor config a (side.Peer i) p x) → IsSealable p
-    → Admits config a p (named a (side.Peer i) p realm)
+    → Admits config a p (for_named_realm a (side.Peer i) p realm)
 named_admits config a i p None is h sealable = refused_admits config a p refusal.NoRealm
 named_admits config a i p (Some realm) is h sealable =
     forwarded_admits config a (side.Peer i) p realm (Some realm) (h realm refl) sealable is
@@ -129,7 +129,7 @@ named_admits config a i p (Some realm) is h sealable =
 -- where it names one
 own_realm_admits : (config : ConfigView) (a : Arrival) (i : ℕ) (p : Packet)
     → IsFromPeer config a i p → IsSealable p
-    → Admits config a p (named a (side.Peer i) p (realm_of config p.attributes))
+    → Admits config a p (for_named_realm a (side.Peer i) p (realm_of config p.attributes))
 unfolding IsFromPeer
 own_realm_admits config a i p h sealable =
     named_admits config a i p (realm_of config p.attributes) refl
@@ -161,12 +161,12 @@ sealed_once secret p h =
 
 -- a request whose signature and seal are right
 request_admits : (config : ConfigView) (secret : List ℕ) (a : Arrival) (s : Side) (p : Packet)
-    → (HasAtMostOneMessageAuthenticator p → Admits config a p (routed config secret a s p a.at))
+    → (HasAtMostOneMessageAuthenticator p → Admits config a p (route_request config secret a s p a.at))
     → Admits config a p (request_admission config secret a s p)
 request_admits config secret a s p h =
     let has_needed : Bool = has_needed_seal (seal_required config s) p in
     let few : Bool = has_few_hops config.max_hops p in
-    let last : Admission = routed config secret a s p a.at in
+    let last : Admission = route_request config secret a s p a.at in
     let fourth : Admission = checked few refusal.TooManyHops last in
     let third : Admission = checked has_needed refusal.MissingMessageAuthenticator fourth in
     let second : Admission = checked (is_rightly_sealed secret p) refusal.BadMessageAuthenticator third in
@@ -192,10 +192,10 @@ peer_admits : (config : ConfigView) (secret : List ℕ) (a : Arrival) (i : ℕ) 
     (at : Place)
     → is_taken at (side.Peer i) p.code ≡ true → IsFromPeer config a i p
     → HasAtMostOneMessageAuthenticator p
-    → Admits config a p (routed config secret a (side.Peer i) p at)
+    → Admits config a p (route_request config secret a (side.Peer i) p at)
 unfolding IsFromPeer
 peer_admits config secret a i p place.Auth test h seal =
-    let named_one : Admission = named a (side.Peer i) p (realm_of config p.attributes) in
+    let named_one : Admission = for_named_realm a (side.Peer i) p (realm_of config p.attributes) in
     either_admits config a p (is_rejected config p) (rejected_for secret a p) named_one
     (reject_admits config secret a p)
     (λ passes. own_realm_admits config a i p h (record {
@@ -214,7 +214,7 @@ peer_admits config secret a i p (place.Reverse realm) test h seal = absurd (cc t
 home_admits : (config : ConfigView) (secret : List ℕ) (a : Arrival) (i : ℕ) (p : Packet) (realm : ℕ)
     → is_taken (place.Reverse realm) (side.Home i) p.code ≡ true
     → IsFor config a (side.Home i) p realm → HasAtMostOneMessageAuthenticator p
-    → Admits config a p (routed config secret a (side.Home i) p (place.Reverse realm))
+    → Admits config a p (route_request config secret a (side.Home i) p (place.Reverse realm))
 home_admits config secret a i p realm test h seal =
     forwarded_admits config a (side.Home i) p realm (realm_of config p.attributes) h (record {
       seal = seal;
@@ -238,10 +238,10 @@ taken_at a s p at is test = ap (λ (x : Place). is_taken x s p.code) is ∙ test
 
 routed_at : (config : ConfigView) (secret : List ℕ) (a : Arrival) (s : Side) (p : Packet)
     (at : Place)
-    → a.at ≡ at → Admits config a p (routed config secret a s p at)
-    → Admits config a p (routed config secret a s p a.at)
+    → a.at ≡ at → Admits config a p (route_request config secret a s p at)
+    → Admits config a p (route_request config secret a s p a.at)
 routed_at config secret a s p at is h =
-    subst (λ (x : Place). Admits config a p (routed config secret a s p x)) (sym is) h
+    subst (λ (x : Place). Admits config a p (route_request config secret a s p x)) (sym is) h
 
 -- a packet from a sender that is known, and of a code that is taken
 packet_admits : (config : ConfigView) (a : Arrival) (s : Side) (p : Packet) (at : Place)

@@ -16,7 +16,7 @@ use Rattle.roam_conf.specs.declared.place.Place.TheVariants as place
 use Rattle.roam_conf.specs.Lookup.{peer_with_ip, link_in, home_in}
 use Rattle.roam_fwd.specs.Forwarded.{forwarded_length}
 use Rattle.roam_route.specs.UserName.{realm_of}
-use Rattle.roam_route.specs.Admission.{Arrival, Admission, PlainOut, sender, checked, given_to, forwarded_for, request_admission, sent_admission, status_admission, status_from, read_admission, admission, is_taken, peer_secret, home_secret, is_rightly_signed, is_rightly_sealed, has_needed_seal, has_few_hops, seal_required}
+use Rattle.roam_route.specs.Admission.{Arrival, Admission, PlainOut, sender, checked, job_of, forwarded_for, request_admission, sent_admission, status_admission, status_from, read_admission, admission, is_taken, peer_secret, home_secret, is_rightly_signed, is_rightly_sealed, has_needed_seal, has_few_hops, seal_required}
 use Rattle.roam_route.specs.declared.job.Side.{Side}
 use Rattle.roam_route.specs.declared.job.Side.TheVariants as side
 use Rattle.roam_route.specs.OwnPart.{AnswerAlike, OwnAnswersDecided, answered}
@@ -33,7 +33,7 @@ out-none : (config : ConfigView) (k : ℕ) (from : Endpoint) (octets : List ℕ)
 out-none config k from octets p None = refl
 out-none config k from octets p (Some s) =
     let a : Arrival = record { at = place.Out k; from = from; octets = octets } in
-    none-checked (is_taken (place.Out k) s p.code) refusal.WrongCode (given_to a s p k None) refl
+    none-checked (is_taken (place.Out k) s p.code) refusal.WrongCode (job_of a s p k None) refl
 
 reverse-none : (config : ConfigView) (k : ℕ) (from : Endpoint) (octets : List ℕ) (p : Packet) (o : Option ℕ)
     → answered (sent_admission config (record { at = place.Reverse k; from = from; octets = octets }) p (option_map (λ i. side.Home i) o)) ≡ None
@@ -47,7 +47,7 @@ reverse-none config k from octets p (Some i) =
     (none-checked (is_rightly_sealed secret p) refusal.BadMessageAuthenticator _
     (none-checked (has_needed_seal (seal_required config (side.Home i)) p) refusal.MissingMessageAuthenticator _
     (none-checked (has_few_hops config.max_hops p) refusal.TooManyHops (forwarded_for a (side.Home i) p k names)
-    (none-checked (nat_le (forwarded_length p) MAX_PACKET_LENGTH) refusal.TooLong (given_to a (side.Home i) p k names) refl)))))
+    (none-checked (nat_le (forwarded_length p) MAX_PACKET_LENGTH) refusal.TooLong (job_of a (side.Home i) p k names) refl)))))
 
 module _ (one other : ConfigView) (same : AnswerAlike one other) where
   alike : LooksAlike one other

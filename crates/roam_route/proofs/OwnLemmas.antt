@@ -20,7 +20,7 @@ use Rattle.roam_conf.specs.declared.place.Place.TheVariants as place
 use Rattle.roam_fwd.specs.Forwarded.{forwarded_length}
 use Rattle.roam_route.specs.UserName.{realm_of, realm_part}
 use Rattle.roam_route.specs.LocalAnswer.{status_answer}
-use Rattle.roam_route.specs.Admission.{Arrival, Admission, sender, checked, given_to, forwarded_for, answered_by, named, routed, request_admission, packet_admission, sent_admission, status_from, is_status_request, read_admission, admission, is_taken, peer_secret, home_secret, is_rightly_signed, is_rightly_sealed, has_needed_seal, has_few_hops, has_seal, seal_required}
+use Rattle.roam_route.specs.Admission.{Arrival, Admission, sender, checked, job_of, forwarded_for, answered_by, for_named_realm, route_request, request_admission, packet_admission, sent_admission, status_from, is_status_request, read_admission, admission, is_taken, peer_secret, home_secret, is_rightly_signed, is_rightly_sealed, has_needed_seal, has_few_hops, has_seal, seal_required}
 use Rattle.roam_route.specs.declared.job.Side.{Side}
 use Rattle.roam_route.specs.declared.job.Side.TheVariants as side
 use Rattle.roam_route.specs.OwnPart.{own, HaveSamePart, OwnPartDecides}
@@ -35,11 +35,11 @@ none-checked realm true why x none = none
 none-checked realm false why x none = refl
 
 -- a packet of another realm
-none-given : (realm k : ℕ) (a : Arrival) (s : Side) (p : Packet) (names : Option ℕ) → (k == realm) ≡ false → own realm (given_to a s p k names) ≡ None
+none-given : (realm k : ℕ) (a : Arrival) (s : Side) (p : Packet) (names : Option ℕ) → (k == realm) ≡ false → own realm (job_of a s p k names) ≡ None
 none-given realm k a s p names differs = rw differs refl
 
 none-forwarded : (realm k : ℕ) (a : Arrival) (s : Side) (p : Packet) (names : Option ℕ) → (k == realm) ≡ false → own realm (forwarded_for a s p k names) ≡ None
-none-forwarded realm k a s p names differs = none-checked realm (nat_le (forwarded_length p) 4096) refusal.TooLong (given_to a s p k names) (none-given realm k a s p names differs)
+none-forwarded realm k a s p names differs = none-checked realm (nat_le (forwarded_length p) 4096) refusal.TooLong (job_of a s p k names) (none-given realm k a s p names differs)
 
 -- a Status-Server is no realm's
 none-status : (realm : ℕ) (config : ConfigView) (a : Arrival) (s : Side) (p : Packet) → own realm (status_from config a s p) ≡ None
@@ -96,11 +96,11 @@ module _ (one other : ConfigView) (same : LooksAlike one other) where
   realm-same attributes = names-same (option_and_then realm_part (first_value USER_NAME attributes))
 
   -- where a request goes
-  routed-same : (secret : List ℕ) (a : Arrival) (s : Side) (p : Packet) (at : Place) → routed one secret a s p at ≡ routed other secret a s p at
-  routed-same secret a s p (place.Reverse k) = ap (forwarded_for a s p k) (realm-same p.attributes)
-  routed-same secret a s p place.Auth = rw (realm-same p.attributes, same.max_hops) refl
-  routed-same secret a s p place.Acct = ap (named a s p) (realm-same p.attributes)
-  routed-same secret a s p (place.Out k) = ap (named a s p) (realm-same p.attributes)
+  route_request-same : (secret : List ℕ) (a : Arrival) (s : Side) (p : Packet) (at : Place) → route_request one secret a s p at ≡ route_request other secret a s p at
+  route_request-same secret a s p (place.Reverse k) = ap (forwarded_for a s p k) (realm-same p.attributes)
+  route_request-same secret a s p place.Auth = rw (realm-same p.attributes, same.max_hops) refl
+  route_request-same secret a s p place.Acct = ap (for_named_realm a s p) (realm-same p.attributes)
+  route_request-same secret a s p (place.Out k) = ap (for_named_realm a s p) (realm-same p.attributes)
 
   seal-same : (s : Side) → seal_required one s ≡ seal_required other s
   seal-same (side.Peer i) = rw same.peers refl
@@ -109,9 +109,9 @@ module _ (one other : ConfigView) (same : LooksAlike one other) where
 
   request-same : (secret : List ℕ) (a : Arrival) (s : Side) (p : Packet) → request_admission one secret a s p ≡ request_admission other secret a s p
   request-same secret a s p =
-      ap (λ (required : Bool). asked secret p required one.max_hops (routed one secret a s p a.at)) (seal-same s)
-      ∙ ap (λ (most : Option ℕ). asked secret p (seal_required other s) most (routed one secret a s p a.at)) same.max_hops
-      ∙ ap (asked secret p (seal_required other s) other.max_hops) (routed-same secret a s p a.at)
+      ap (λ (required : Bool). asked secret p required one.max_hops (route_request one secret a s p a.at)) (seal-same s)
+      ∙ ap (λ (most : Option ℕ). asked secret p (seal_required other s) most (route_request one secret a s p a.at)) same.max_hops
+      ∙ ap (asked secret p (seal_required other s) other.max_hops) (route_request-same secret a s p a.at)
 
   -- a request of a peer
   pub peer-same : (a : Arrival) (i : ℕ) (p : Packet) → request_admission one (peer_secret one i) a (side.Peer i) p ≡ request_admission other (peer_secret other i) a (side.Peer i) p
@@ -167,7 +167,7 @@ module _ (one other : ConfigView) (realm : ℕ) (same : HaveSamePart one other r
   out-none config k from octets p None differs = refl
   out-none config k from octets p (Some s) differs =
       let a : Arrival = record { at = place.Out k; from = from; octets = octets } in
-      none-checked realm (is_taken (place.Out k) s p.code) refusal.WrongCode (given_to a s p k None) (none-given realm k a s p None differs)
+      none-checked realm (is_taken (place.Out k) s p.code) refusal.WrongCode (job_of a s p k None) (none-given realm k a s p None differs)
 
   reverse-none : (config : ConfigView) (k : ℕ) (from : Endpoint) (octets : List ℕ) (p : Packet) (o : Option ℕ) → (k == realm) ≡ false
       → own realm (sent_admission config (record { at = place.Reverse k; from = from; octets = octets }) p (option_map (λ i. side.Home i) o)) ≡ None

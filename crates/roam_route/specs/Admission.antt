@@ -120,8 +120,8 @@ abbrev pub has_few_hops : Option ℕ → Packet → Bool
 has_few_hops most p = p.code == ACCESS_REQUEST || not (has_too_many_hops most p)
 
 -- a packet that passed, as the event of a realm, with the realm that it names
-abbrev pub given_to : Arrival → Side → Packet → ℕ → Option ℕ → Admission
-given_to a s p realm names =
+abbrev pub job_of : Arrival → Side → Packet → ℕ → Option ℕ → Admission
+job_of a s p realm names =
     admitted (record {
       realm = realm;
       place = a.at;
@@ -134,7 +134,7 @@ given_to a s p realm names =
 -- a request of a realm, where its forwarded packet has at most 4096 octets
 abbrev pub forwarded_for : Arrival → Side → Packet → ℕ → Option ℕ → Admission
 forwarded_for a s p realm names =
-    checked (nat_le (forwarded_length p) MAX_PACKET_LENGTH) refusal.TooLong (given_to a s p realm names)
+    checked (nat_le (forwarded_length p) MAX_PACKET_LENGTH) refusal.TooLong (job_of a s p realm names)
 
 -- an answer of the broker itself: it carries no realm, and goes back to where the request came from
 abbrev pub answered_by : Arrival → Packet → Admission
@@ -147,19 +147,19 @@ rejected_for secret a p =
     checked (nat_le (answer_length p) MAX_PACKET_LENGTH) refusal.TooLong (answered_by a (local_reject secret p))
 
 -- a request that names its realm, or none
-abbrev pub named : Arrival → Side → Packet → Option ℕ → Admission
-named a s p None = refused refusal.NoRealm
-named a s p (Some realm) = forwarded_for a s p realm (Some realm)
+abbrev pub for_named_realm : Arrival → Side → Packet → Option ℕ → Admission
+for_named_realm a s p None = refused refusal.NoRealm
+for_named_realm a s p (Some realm) = forwarded_for a s p realm (Some realm)
 
 -- what a request that passed the checks of its signature and seal gives: to the realm of its place
 -- where it came from a home server; else to the realm that it names
-abbrev pub routed : ConfigView → List ℕ → Arrival → Side → Packet → Place → Admission
-routed config secret a s p (place.Reverse realm) =
+abbrev pub route_request : ConfigView → List ℕ → Arrival → Side → Packet → Place → Admission
+route_request config secret a s p (place.Reverse realm) =
     forwarded_for a s p realm (realm_of config p.attributes)
-routed config secret a s p place.Auth =
+route_request config secret a s p place.Auth =
     if is_rejected config p then rejected_for secret a p
-    else named a s p (realm_of config p.attributes)
-routed config secret a s p _ = named a s p (realm_of config p.attributes)
+    else for_named_realm a s p (realm_of config p.attributes)
+route_request config secret a s p _ = for_named_realm a s p (realm_of config p.attributes)
 
 -- what a request gives
 abbrev pub request_admission : ConfigView → List ℕ → Arrival → Side → Packet → Admission
@@ -168,12 +168,12 @@ request_admission config secret a s p =
     (checked (is_rightly_sealed secret p) refusal.BadMessageAuthenticator
     (checked (has_needed_seal (seal_required config s) p) refusal.MissingMessageAuthenticator
     (checked (has_few_hops config.max_hops p) refusal.TooManyHops
-    (routed config secret a s p a.at))))
+    (route_request config secret a s p a.at))))
 
 -- what a packet of a known sender and a code that is taken gives: a reply goes to the realm of its
 -- place as it is, and is judged there
 abbrev pub packet_admission : ConfigView → Arrival → Side → Packet → Place → Admission
-packet_admission config a s p (place.Out realm) = given_to a s p realm None
+packet_admission config a s p (place.Out realm) = job_of a s p realm None
 packet_admission config a (side.Peer i) p _ =
     request_admission config (peer_secret config i) a (side.Peer i) p
 packet_admission config a (side.Home i) p (place.Reverse realm) =

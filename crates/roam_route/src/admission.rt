@@ -3,8 +3,10 @@
 ghost use Rattle.std.specs.Prelude.{◌≡◌, ℕ, ◌<◌, Some, None, true, vec_len, IfOk, IsErrOf};
 ghost use Rattle.roam_wire.specs.Secret.{IsSecret};
 ghost use Rattle.roam_conf.specs.Shown.{shown};
-ghost use Rattle.roam_route.specs.Admission.{admission, forwarded_for, given_to, is_taken, named, packet_admission};
-ghost use Rattle.roam_route.specs.Admission.{rejected_for, request_admission, routed, sent_admission, status_admission};
+ghost use Rattle.roam_route.specs.Admission.{admission, forwarded_for, job_of, is_taken, for_named_realm};
+ghost use Rattle.roam_route.specs.Admission.{packet_admission};
+ghost use Rattle.roam_route.specs.Admission.{rejected_for, request_admission, route_request, sent_admission};
+ghost use Rattle.roam_route.specs.Admission.{status_admission};
 ghost use Rattle.roam_route.specs.Admission.{status_from};
 ghost use Rattle.roam_route.specs.Events.{IsPrepared};
 ghost use Rattle.roam_route.specs.Shown.{IsAdmission, IsHome, Prepares, WantsMemory, shown_arrival};
@@ -36,12 +38,12 @@ struct SentPacket<'a, A: Allocator> {
 
 /// A packet that passed, as the event of a realm, with the realm that it names: its octets are copied,
 /// without padding.
-fn given_to<A: Allocator + Copy>(
+fn job_of<A: Allocator + Copy>(
     packet: &SentPacket<'_, A>,
     realm: u16,
     names: Option<u16>,
 ) -> Result<Prepared<A>, Refusal>
-    ensures { Prepares result (given_to (shown_arrival packet.now.datagram.now) packet.now.side
+    ensures { Prepares result (job_of (shown_arrival packet.now.datagram.now) packet.now.side
         packet.now.view realm names) }
 {
     let octets = Octets::copy_of(packet.alloc, packet.view.octets())?;
@@ -67,15 +69,15 @@ fn forwarded_for<A: Allocator + Copy>(
     if forwarded_len(&packet.view) > MAX_PACKET_LENGTH {
         return Err(Refusal::TooLong);
     }
-    given_to(packet, realm, names)
+    job_of(packet, realm, names)
 }
 
 /// A request of the realm that it names, if it names one.
-fn named<A: Allocator + Copy>(
+fn for_named_realm<A: Allocator + Copy>(
     packet: &SentPacket<'_, A>,
     realm: Option<u16>,
 ) -> Result<Prepared<A>, Refusal>
-    ensures { Prepares result (named (shown_arrival packet.now.datagram.now) packet.now.side
+    ensures { Prepares result (for_named_realm (shown_arrival packet.now.datagram.now) packet.now.side
         packet.now.view realm) }
 {
     match realm {
@@ -105,13 +107,13 @@ fn rejected_for<A: Allocator + Copy>(
 /// What a request gives that is rightly signed and sealed: it goes to the realm of its place where
 /// it came from a home server, else to the one that it names. An Access-Request that names none, whose
 /// passwords can't be carried, or that has too many hops is answered by a local reject.
-fn routed<A: Allocator + Copy>(
+fn route_request<A: Allocator + Copy>(
     config: &Config,
     packet: &SentPacket<'_, A>,
     secret: &[u8],
 ) -> Result<Prepared<A>, Refusal>
     requires secret { IsSecret secret.now }
-    ensures { Prepares result (routed (shown config.now) secret.now
+    ensures { Prepares result (route_request (shown config.now) secret.now
         (shown_arrival packet.now.datagram.now) packet.now.side packet.now.view
         packet.now.datagram.now.at) }
 {
@@ -125,7 +127,7 @@ fn routed<A: Allocator + Copy>(
     {
         return rejected_for(packet, secret);
     }
-    named(packet, realm)
+    for_named_realm(packet, realm)
 }
 
 /// What a request gives: its signature is looked at, then its seal, its hops, and where it goes.
@@ -152,12 +154,12 @@ fn request<A: Allocator + Copy>(
     if !has_few_hops(view, config.max_hops) {
         return Err(Refusal::TooManyHops);
     }
-    routed(config, packet, secret)
+    route_request(config, packet, secret)
 }
 
 /// What a packet gives whose sender is known, and whose code is taken: a reply goes to the realm of
 /// its place as it is, and is judged there.
-fn taken<A: Allocator + Copy>(
+fn admit_packet<A: Allocator + Copy>(
     config: &Config,
     packet: &SentPacket<'_, A>,
 ) -> Result<Prepared<A>, Refusal>
@@ -169,7 +171,7 @@ fn taken<A: Allocator + Copy>(
         packet.now.datagram.now.at) }
 {
     if let Place::Out(realm) = packet.datagram.at {
-        return given_to(packet, realm, None);
+        return job_of(packet, realm, None);
     }
     match packet.side {
         Side::Peer(peer) => {
@@ -248,7 +250,7 @@ fn sent<A: Allocator + Copy>(
     if !is_taken(at, packet.side, code) {
         return Err(Refusal::WrongCode);
     }
-    taken(config, packet)
+    admit_packet(config, packet)
 }
 
 /// What an arrival gives: the event of a realm, with the packet's octets, or a local answer, or the

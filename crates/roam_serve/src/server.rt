@@ -23,11 +23,11 @@ use crate::run::kits::{Kits, make_kits, make_outboxes};
 use crate::run::losses::{CAUSES, SharedLosses};
 use crate::run::next::{Next, out_of_memory, widen_all};
 use crate::run::old_history::OldHistory;
-use crate::run::prepared::prepare_threads;
+use crate::run::ready_threads::prepare_threads;
 use crate::run::rest::TimerRest;
 use crate::run::shared::Shared;
 use crate::run::source::Source;
-use crate::run::start::{Turn, run_threads};
+use crate::run::start::{RunResult, run_threads};
 use crate::run::stopping::Stopping;
 use crate::system::bind::bind_all;
 use crate::system::listener::listen_at;
@@ -138,7 +138,8 @@ fn gather<N: Opened>(
     })
 }
 
-/// The threads of one configuration, from their start to their end, and the configuration that is to follow, where one is.
+/// The threads of one configuration, from their start to their end, and the configuration that is to follow, where one
+/// is.
 fn run<
     'c,
     R: Threads + Wait + Clock + Net + RandomSource + Log + Sync,
@@ -195,7 +196,7 @@ fn run<
         seat,
         now: 0,
     };
-    let Turn { ends, next } = run_threads(attendant, prepared, handover, parts.source)?;
+    let RunResult { ends, next } = run_threads(attendant, prepared, handover, parts.source)?;
     Ok((gather(ends, seats, outbox_room)?, next))
 }
 
@@ -332,8 +333,8 @@ fn means_for(kits: Kits, outboxes: Vec<Outbox<Global>>, reply: Reply, before: Co
     }
 }
 
-/// Has the server go on with the configuration that is to follow, or where memory is wanting with the one of before. Answers
-/// what its threads are made of.
+/// Has the server go on with the configuration that is to follow, or where memory is wanting with the one of before.
+/// Answers what its threads are made of.
 fn change<R, G, S>(
     parts: &ServerParts<'_, R, G, S>,
     configured: &mut Configured,

@@ -16,9 +16,9 @@ use Rattle.roam_book.specs.RealmConfig.{realm_config}
 use Rattle.roam_book.specs.RealmState.{RealmState}
 use Rattle.roam_book.specs.Rooms.{only_done_due}
 use Rattle.roam_book.specs.Turn.{Turn, refuses, sends, packets_of, refusal_of, state_after}
-use Rattle.roam_book.specs.declared.answer.Answer.{Answer}
-use Rattle.roam_book.specs.declared.answer.Twin.{Twin}
-use Rattle.roam_book.specs.declared.start.Start.{Start}
+use Rattle.roam_book.specs.declared.packets.answer.Answer.{Answer}
+use Rattle.roam_book.specs.declared.packets.answer.Twin.{Twin}
+use Rattle.roam_book.specs.declared.state.start.Start.{Start}
 use Rattle.roam_core.specs.BrokerView.{BrokerView}
 use Rattle.roam_core.specs.Events.{is_in_shard, ticks}
 use Rattle.roam_core.specs.ShardRooms.{only_done_from}
@@ -30,7 +30,7 @@ use Rattle.roam_core.proofs.TickLemmas.{tick_from-length, tick_states}
 use Rattle.roam_tables.proofs.RealmLemmas.{get-set_other, get-set_same}
 use Rattle.roam_shard.specs.Across.{IsSharded, IsShardOf, all_states, no_shard, own_state, states_across}
 use Rattle.roam_shard.specs.ShardView.{OpeningView, ShardView}
-use Rattle.roam_shard.specs.Lost.{IsFirst}
+use Rattle.roam_shard.specs.Private.Lost.{IsFirst}
 use Rattle.roam_shard.specs.Twins.{GivesTwin}
 use Rattle.roam_shard.proofs.ShardLemmas.{packets_one, states_one}
 

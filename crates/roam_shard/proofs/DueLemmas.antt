@@ -11,7 +11,7 @@ use Rattle.roam_book.specs.OnTick.{on_tick}
 use Rattle.roam_book.specs.RealmConfig.{RealmConfig, realm_config}
 use Rattle.roam_book.specs.RealmState.{RealmState}
 use Rattle.roam_book.specs.Turn.{sends}
-use Rattle.roam_book.specs.declared.numbers.Numbers.{Numbers}
+use Rattle.roam_book.specs.declared.state.realm_numbers.RealmNumbers.{RealmNumbers}
 use Rattle.roam_core.specs.Events.{is_in_shard}
 use Rattle.roam_core.specs.ManyRealms.{tick_from, tick_of}
 use Rattle.roam_shard.specs.ShardView.{OpeningView, states_from}
@@ -66,8 +66,8 @@ nothing_ticked config now shard first (s ∷ ss) early none =
     ) refl
 
 module _ {A : Type 0} (o : OpeningView) (now : ℕ) where
-  nothing_from : (E : ℕ → List PlainEntry) (r : ℕ) (ns : List (Option (Numbers A)))
-      → ((k : ℕ) (n : Numbers A) → slice_get ns k ≡ Some (Some n) → due_list now (E (r + k)) ≡ [])
+  nothing_from : (E : ℕ → List PlainEntry) (r : ℕ) (ns : List (Option (RealmNumbers A)))
+      → ((k : ℕ) (n : RealmNumbers A) → slice_get ns k ≡ Some (Some n) → due_list now (E (r + k)) ≡ [])
       → NothingDue now (states_from o E r ns)
   unfolding states_from
   nothing_from E r [] none = tt
@@ -85,15 +85,15 @@ module _ {A : Type 0} (o : OpeningView) (now : ℕ) where
         subst (λ (q : ℕ). due_list now (E q) ≡ []) e (none (suc k) n at))),
   )
 
-  pub nothing_due : (E : ℕ → List PlainEntry) (ns : List (Option (Numbers A)))
-      → ((k : ℕ) (n : Numbers A) → slice_get ns k ≡ Some (Some n) → due_list now (E k) ≡ [])
+  pub nothing_due : (E : ℕ → List PlainEntry) (ns : List (Option (RealmNumbers A)))
+      → ((k : ℕ) (n : RealmNumbers A) → slice_get ns k ≡ Some (Some n) → due_list now (E k) ≡ [])
       → NothingDue now (states_from o E 0 ns)
   nothing_due E ns none =
       nothing_from E 0 ns (λ k n at.
       (let e : k ≡ 0 + k = omega arith in
       subst (λ (q : ℕ). due_list now (E q) ≡ []) e (none k n at)))
 
-  due_within : (E : ℕ → List PlainEntry) (r k : ℕ) (ns : List (Option (Numbers A))) (n : Numbers A)
+  due_within : (E : ℕ → List PlainEntry) (r k : ℕ) (ns : List (Option (RealmNumbers A))) (n : RealmNumbers A)
       → slice_get ns k ≡ Some (Some n) → NothingDue now (states_from o E r ns)
       → due_list now (E (r + k)) ≡ []
   unfolding states_from
@@ -106,15 +106,15 @@ module _ {A : Type 0} (o : OpeningView) (now : ℕ) where
       (let e : r + 1 + k ≡ r + suc k = omega arith in
       subst (λ (q : ℕ). due_list now (E q) ≡ []) e (due_within E (r + 1) k ms n at none.1))
 
-  pub due_at_none : (E : ℕ → List PlainEntry) (k : ℕ) (ns : List (Option (Numbers A)))
-      (n : Numbers A) → slice_get ns k ≡ Some (Some n) → NothingDue now (states_from o E 0 ns)
+  pub due_at_none : (E : ℕ → List PlainEntry) (k : ℕ) (ns : List (Option (RealmNumbers A)))
+      (n : RealmNumbers A) → slice_get ns k ≡ Some (Some n) → NothingDue now (states_from o E 0 ns)
       → due_list now (E k) ≡ []
   due_at_none E k ns n at none =
       (let e : 0 + k ≡ k = omega arith in
       subst (λ (q : ℕ). due_list now (E q) ≡ []) e (due_within E 0 k ns n at none))
 
-  pub own_none : (E : ℕ → List PlainEntry) (k : ℕ) (ns : List (Option (Numbers A)))
-      (n : Option (Numbers A)) → slice_get ns k ≡ Some n → is_some n ≡ true
+  pub own_none : (E : ℕ → List PlainEntry) (k : ℕ) (ns : List (Option (RealmNumbers A)))
+      (n : Option (RealmNumbers A)) → slice_get ns k ≡ Some n → is_some n ≡ true
       → NothingDue now (states_from o E 0 ns) → due_list now (E k) ≡ []
   own_none E k ns None at own none = absurd (let bad : false ≡ true = own in cc)
   own_none E k ns (Some m) at own none = due_at_none E k ns m at none
@@ -126,12 +126,12 @@ within (y ∷ ys) (suc k) x at = let rest = within ys k x at in omega (arith, re
 
 -- one realm more of which nothing is due
 pub none_more : {A : Type 0}
-    → (now realm : ℕ) (E : ℕ → List PlainEntry) (ns : List (Option (Numbers A)))
-    (x : Option (Numbers A))
+    → (now realm : ℕ) (E : ℕ → List PlainEntry) (ns : List (Option (RealmNumbers A)))
+    (x : Option (RealmNumbers A))
     → slice_get ns realm ≡ Some x → (is_some x ≡ true → due_list now (E realm) ≡ [])
-    → ((k : ℕ) (n : Numbers A) → k < realm → slice_get ns k ≡ Some (Some n)
+    → ((k : ℕ) (n : RealmNumbers A) → k < realm → slice_get ns k ≡ Some (Some n)
     → due_list now (E k) ≡ [])
-    → (k : ℕ) (n : Numbers A) → k < realm + 1 → slice_get ns k ≡ Some (Some n)
+    → (k : ℕ) (n : RealmNumbers A) → k < realm + 1 → slice_get ns k ≡ Some (Some n)
     → due_list now (E k) ≡ []
 none_more {A = A} now realm E ns x here none earlier k n lt at =
     elim (cases_eq k realm) as (λ _. due_list now (E k) ≡ []) [
@@ -139,7 +139,7 @@ none_more {A = A} now realm E ns x here none earlier k n lt at =
           let same : Some x ≡ Some (Some n) =
           sym here ∙ ap (λ (q : ℕ). slice_get ns q) (sym is) ∙ at in
           let value : x ≡ Some n = cc in
-          let own : is_some x ≡ true = ap (λ (o : Option (Numbers A)). is_some o) value in
+          let own : is_some x ≡ true = ap (λ (o : Option (RealmNumbers A)). is_some o) value in
           subst (λ (q : ℕ). due_list now (E q) ≡ []) (sym is) (none own))
       | inr ne ↦ earlier k n (omega arith) at
     ]

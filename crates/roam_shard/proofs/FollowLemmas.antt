@@ -15,8 +15,8 @@ use Rattle.roam_book.specs.RealmConfig.{RealmConfig, link_count, realm_config}
 use Rattle.roam_book.specs.RealmState.{RealmState, opening}
 use Rattle.roam_book.specs.Reload.{carried}
 use Rattle.roam_book.specs.Sound.{AreOwnLanes, IsEntry, IsSound, LanesTell, cursors_of, marks_of, state_of}
-use Rattle.roam_book.specs.declared.numbers.Numbers.{Numbers}
-use Rattle.roam_book.specs.declared.start.Start.{Start}
+use Rattle.roam_book.specs.declared.state.realm_numbers.RealmNumbers.{RealmNumbers}
+use Rattle.roam_book.specs.declared.state.start.Start.{Start}
 use Rattle.roam_book.proofs.ReloadLemmas.{go_on, peers, servers}
 use Rattle.roam_core.specs.Events.{is_in_shard}
 use Rattle.roam_core.specs.ManyRealms.{no_state, state_at}
@@ -98,21 +98,21 @@ one_stays old new shard E F count is goes = record {
 -- The numbers of a realm
 
 -- where no numbers stand
-pub begin_nowhere : {A : Type 0} (ns : List (Option (Numbers A))) (r : ℕ) → NoneThere ns r → first_start ≡ begin_at ns r
+pub begin_nowhere : {A : Type 0} (ns : List (Option (RealmNumbers A))) (r : ℕ) → NoneThere ns r → first_start ≡ begin_at ns r
 begin_nowhere {A} ns r none = by (slice_get ns r) refl
   where
-    by : (x : Option (Option (Numbers A))) → slice_get ns r ≡ x → first_start ≡ begin_at ns r
+    by : (x : Option (Option (RealmNumbers A))) → slice_get ns r ≡ x → first_start ≡ begin_at ns r
     by None at = sym (ap start_in at)
     by (Some None) at = sym (ap start_in at)
     by (Some (Some n)) at = absurd (none n at)
 
 -- numbers that go over
-module _ {A : Type 0} (old new : ConfigView) (shard k : ℕ) (before : List (Option (Numbers A))) where
-  pub read_there : (x : Option (Numbers A)) (n : Numbers A) → k < length before → x ≡ slice_index_or before k x → x ≡ Some n
+module _ {A : Type 0} (old new : ConfigView) (shard k : ℕ) (before : List (Option (RealmNumbers A))) where
+  pub read_there : (x : Option (RealmNumbers A)) (n : RealmNumbers A) → k < length before → x ≡ slice_index_or before k x → x ≡ Some n
       → slice_get before k ≡ Some (Some n)
   read_there x n lt at is = get-read before k x lt at ∙ ap Some is
 
-  pub moved_over : (after : List (Option (Numbers A))) (c : RealmConfig) (n m : Numbers A) → GoesOn old new shard k
+  pub moved_over : (after : List (Option (RealmNumbers A))) (c : RealmConfig) (n m : RealmNumbers A) → GoesOn old new shard k
       → slice_get before k ≡ Some (Some n) → k < length after → c ≡ realm_config new k → CarriesOn c n m
       → IsMoved old new shard k before after (set after k (Some m))
   moved_over after c n m goes at lt is carries = inl (
@@ -123,12 +123,12 @@ module _ {A : Type 0} (old new : ConfigView) (shard k : ℕ) (before : List (Opt
         record {
           after = m;
           is = get-set_same after k (Some m) lt;
-          carries = subst (λ (y : Numbers A). CarriesOn (realm_config new k) y m) same (subst (λ (d : RealmConfig). CarriesOn d n m) is carries);
+          carries = subst (λ (y : RealmNumbers A). CarriesOn (realm_config new k) y m) same (subst (λ (d : RealmConfig). CarriesOn d n m) is carries);
         }),
   )
 
   -- or have gone already
-  pub moved_away : (after : List (Option (Numbers A))) (x : Option (Numbers A)) → GoesOn old new shard k → k < length before
+  pub moved_away : (after : List (Option (RealmNumbers A))) (x : Option (RealmNumbers A)) → GoesOn old new shard k → k < length before
       → x ≡ slice_index_or before k x → x ≡ None → IsMoved old new shard k before after after
   moved_away after x goes lt at is = inl (
     goes,
@@ -143,14 +143,14 @@ still_own old new shard shards r own = subst (λ (n : ℕ). (r % n == shard) ≡
 
 module _ {A : Type 0} where
   -- numbers that are the same but for their room
-  pub record AreSame (n m : Numbers A) : Type 0 where
+  pub record AreSame (n m : RealmNumbers A) : Type 0 where
     pub lanes : m.lanes.items ≡ n.lanes.items
     pub ticket : m.ticket ≡ n.ticket
     pub place : m.stream_position ≡ n.stream_position
     pub rests : m.rests.items ≡ n.rests.items
     pub sessions : m.sessions ≡ n.sessions
 
-  sound_same : (c : RealmConfig) (es : List PlainEntry) (n m : Numbers A) → AreSame n m → IsSound c es n → IsSound c es m
+  sound_same : (c : RealmConfig) (es : List PlainEntry) (n m : RealmNumbers A) → AreSame n m → IsSound c es n → IsSound c es m
   sound_same c es n m same s = record {
     each = subst (λ (t : ℕ). AllByRecursion (IsEntry c t) es) (sym same.ticket) s.each;
     ticket = subst (λ (t : ℕ). t ≤ 2 ^ 63) (sym same.ticket) s.ticket;
@@ -161,7 +161,7 @@ module _ {A : Type 0} where
     ledger = ap (λ x. x.limit) same.sessions ∙ s.ledger;
   }
 
-  state_same : (es : List PlainEntry) (n m : Numbers A) → AreSame n m → state_of es m ≡ state_of es n
+  state_same : (es : List PlainEntry) (n m : RealmNumbers A) → AreSame n m → state_of es m ≡ state_of es n
   state_same es n m same = λ j. record {
     entries = es;
     ticket = same.ticket j;
@@ -174,21 +174,21 @@ module _ {A : Type 0} where
 first_good : IsStart first_start
 first_good = record { place = omega arith; ticket = omega arith }
 
-module _ {A : Type 0} (o : OpeningView) (tables : List RealmView) (ns : List (Option (Numbers A)))
+module _ {A : Type 0} (o : OpeningView) (tables : List RealmView) (ns : List (Option (RealmNumbers A)))
     (are : IsShard o tables ns) where
   pub record HasNumbersAt (r : ℕ) : Type 0 where
-    pub numbers : Numbers A
+    pub numbers : RealmNumbers A
     pub at : slice_get ns r ≡ Some (Some numbers)
 
   pub own_numbers : (r : ℕ) → r < length o.config.realms → is_in_shard o.config o.shard r ≡ true → HasNumbersAt r
   own_numbers r lt own = by (slice_get ns r) refl
     where
-      by : (x : Option (Option (Numbers A))) → slice_get ns r ≡ x → HasNumbersAt r
+      by : (x : Option (Option (RealmNumbers A))) → slice_get ns r ≡ x → HasNumbersAt r
       by None at = absurd (let past = none_past ns r at in let count = are.count in omega (arith, lt, past, count))
       by (Some None) at = absurd (let no : false ≡ is_in_shard o.config o.shard r = are.own r None at in let bad : false ≡ true = no ∙ own in cc)
       by (Some (Some n)) at = record { numbers = n; at = at }
 
-  pub stands_at : (r : ℕ) (n : Numbers A) → slice_get ns r ≡ Some (Some n)
+  pub stands_at : (r : ℕ) (n : RealmNumbers A) → slice_get ns r ≡ Some (Some n)
       → state_at (states_in o tables ns) r ≡ state_of (entries_in tables r) n
   stands_at r n at = state-seen o (entries_in tables) r ns (Some n) at
 
@@ -196,7 +196,7 @@ module _ {A : Type 0} (o : OpeningView) (tables : List RealmView) (ns : List (Op
       → begin_at ns r ≡ next_start (state_at (states_in o tables ns) r)
   begins_where r own = by (slice_get ns r) refl
     where
-      by : (x : Option (Option (Numbers A))) → slice_get ns r ≡ x
+      by : (x : Option (Option (RealmNumbers A))) → slice_get ns r ≡ x
           → begin_at ns r ≡ next_start (state_at (states_in o tables ns) r)
       by None at =
           let past = none_past ns r at in
@@ -209,14 +209,14 @@ module _ {A : Type 0} (o : OpeningView) (tables : List RealmView) (ns : List (Op
   pub good_begin : (r : ℕ) → IsStart (begin_at ns r)
   good_begin r = by (slice_get ns r) refl
     where
-      by : (x : Option (Option (Numbers A))) → slice_get ns r ≡ x → IsStart (begin_at ns r)
+      by : (x : Option (Option (RealmNumbers A))) → slice_get ns r ≡ x → IsStart (begin_at ns r)
       by None at = subst IsStart (sym (ap start_in at)) first_good
       by (Some None) at = subst IsStart (sym (ap start_in at)) first_good
       by (Some (Some n)) at =
           let s = are.sound r n at in
           subst IsStart (sym (ap start_in at)) (record { place = s.stream_position; ticket = s.ticket })
 
-  module _ (k : ℕ) (n m : Numbers A) (at : slice_get ns k ≡ Some (Some n)) (same : AreSame n m) where
+  module _ (k : ℕ) (n m : RealmNumbers A) (at : slice_get ns k ≡ Some (Some n)) (same : AreSame n m) where
     pub reserved_shard : IsShard o tables (set ns k (Some m))
     reserved_shard =
         shard_written o tables ns are k n at (realm_config o.config k) refl tables m (realm_config o.config k) refl refl
@@ -238,7 +238,7 @@ module _ {A : Type 0} (o : OpeningView) (tables : List RealmView) (ns : List (Op
   within_numbers r lt = (let count = are.count in omega (arith, lt, count))
 
   -- a realm of the shard has numbers where they are read
-  pub not_none : (r : ℕ) (x : Option (Numbers A)) → r < length o.config.realms → is_in_shard o.config o.shard r ≡ true
+  pub not_none : (r : ℕ) (x : Option (RealmNumbers A)) → r < length o.config.realms → is_in_shard o.config o.shard r ≡ true
       → x ≡ slice_index_or ns r x → x ≡ None → ⊥
   not_none r x lt own at is =
       let count = are.count in
@@ -267,7 +267,7 @@ pub still_then : {A : Type 0} (config : ConfigView) (p q s : Paused A) → Stand
 still_then config p q s one two = record { stands = two.stands; states = two.states ∙ one.states; shard = two.shard ∙ one.shard }
 
 -- there is room for the lanes of a realm that goes on
-pub ready_lanes : {A : Type 0} (old new : ConfigView) (shard realm k : ℕ) (ns : List (Option (Numbers A))) (n m : Numbers A) (c : RealmConfig)
+pub ready_lanes : {A : Type 0} (old new : ConfigView) (shard realm k : ℕ) (ns : List (Option (RealmNumbers A))) (n m : RealmNumbers A) (c : RealmConfig)
     → k ≡ realm → GoesOn old new shard realm → slice_get ns k ≡ Some (Some n) → c ≡ realm_config new realm
     → link_count c ≤ vec_capacity m.lanes → IsReadyAt old new shard realm (set ns k (Some m)) None
 ready_lanes {A} old new shard realm k ns n m c is goes at settings room = record {
@@ -275,13 +275,13 @@ ready_lanes {A} old new shard realm k ns n m c is goes at settings room = record
       let both : Some (Some m) ≡ Some (Some x) =
       sym (get-set_same ns k (Some m) (some_within ns k (Some n) at)) ∙ ap (slice_get (set ns k (Some m))) is ∙ there in
       let same : m ≡ x = cc in
-      subst (λ (y : Numbers A). link_count (realm_config new realm) ≤ vec_capacity y.lanes) same
+      subst (λ (y : RealmNumbers A). link_count (realm_config new realm) ≤ vec_capacity y.lanes) same
       (subst (λ (d : RealmConfig). link_count d ≤ vec_capacity m.lanes) settings room));
   opened = λ away. absurd (away goes);
 }
 
 -- and numbers of one that begins anew
-pub ready_fresh : {A : Type 0} (old new : ConfigView) (shard realm : ℕ) (ns : List (Option (Numbers A))) (start : Start) (m : Option (Numbers A))
+pub ready_fresh : {A : Type 0} (old new : ConfigView) (shard realm : ℕ) (ns : List (Option (RealmNumbers A))) (start : Start) (m : Option (RealmNumbers A))
     → (GoesOn old new shard realm → ⊥) → start ≡ begin_at ns realm
     → IsOpened (realm_config new realm) start (is_in_shard new shard realm) m → IsReadyAt old new shard realm ns m
 ready_fresh old new shard realm ns start m away is one = record {
@@ -292,22 +292,22 @@ ready_fresh old new shard realm ns start m away is one = record {
 -- Memory is taken for one realm after the other
 
 module _ {A : Type 0} (old new : ConfigView) (shard : ℕ) where
-  pub record AreReady (ns fresh : List (Option (Numbers A))) (count : ℕ) : Type 0 where
+  pub record AreReady (ns fresh : List (Option (RealmNumbers A))) (count : ℕ) : Type 0 where
     pub number : length fresh ≡ count
-    pub each : (r : ℕ) (m : Option (Numbers A)) → slice_get fresh r ≡ Some m → IsReadyAt old new shard r ns m
+    pub each : (r : ℕ) (m : Option (RealmNumbers A)) → slice_get fresh r ≡ Some m → IsReadyAt old new shard r ns m
 
-  pub none_ready : (ns : List (Option (Numbers A))) → AreReady ns [] 0
+  pub none_ready : (ns : List (Option (RealmNumbers A))) → AreReady ns [] 0
   none_ready ns = record { number = refl; each = λ r m at. absurd (let bad : None ≡ Some m = at in cc) }
 
-  pub still_ready : (ns os : List (Option (Numbers A))) (r : ℕ) (m : Option (Numbers A)) → slice_get os r ≡ slice_get ns r
+  pub still_ready : (ns os : List (Option (RealmNumbers A))) (r : ℕ) (m : Option (RealmNumbers A)) → slice_get os r ≡ slice_get ns r
       → IsReadyAt old new shard r ns m → IsReadyAt old new shard r os m
   still_ready ns os r m same is = record {
     lanes = λ goes n at. is.lanes goes n (sym same ∙ at);
-    opened = λ away. subst (λ (x : Option (Option (Numbers A))).
+    opened = λ away. subst (λ (x : Option (Option (RealmNumbers A))).
         IsOpened (realm_config new r) (start_in x) (is_in_shard new shard r) m) (sym same) (is.opened away);
   }
 
-  pub one_ready : (ns os fresh : List (Option (Numbers A))) (m : Option (Numbers A)) (count : ℕ) → AreReady ns fresh count
+  pub one_ready : (ns os fresh : List (Option (RealmNumbers A))) (m : Option (RealmNumbers A)) (count : ℕ) → AreReady ns fresh count
       → ((r : ℕ) → r ≢ count → slice_get os r ≡ slice_get ns r) → IsReadyAt old new shard count os m
       → AreReady os (fresh ++ m ∷ []) (count + 1)
   one_ready ns os fresh m count are others one = record {
@@ -316,7 +316,7 @@ module _ {A : Type 0} (old new : ConfigView) (shard : ℕ) where
       | inl last ↦ (
           let is : count ≡ r = sym are.number ∙ sym last.0 in
           subst (λ (q : ℕ). IsReadyAt old new shard q os x) is
-          (subst (λ (y : Option (Numbers A)). IsReadyAt old new shard count os y) last.1 one))
+          (subst (λ (y : Option (RealmNumbers A)). IsReadyAt old new shard count os y) last.1 one))
       | inr there ↦ (
           let lt = there.0 in let number = are.number in
           still_ready ns os r x (others r (λ is. absurd (omega (arith, is, lt, number)))) (are.each r x there.1))
@@ -325,20 +325,20 @@ module _ {A : Type 0} (old new : ConfigView) (shard : ℕ) where
 
   -- Realms follow, one after the other: those of so many did
 
-  pub record IsFollowed (r : ℕ) (es : List PlainEntry) (before : RealmState) (m : Option (Numbers A)) : Type 0 where
+  pub record IsFollowed (r : ℕ) (es : List PlainEntry) (before : RealmState) (m : Option (RealmNumbers A)) : Type 0 where
     pub own : is_some m ≡ is_in_shard new shard r
-    pub sound : (n : Numbers A) → m ≡ Some n → IsSound (realm_config new r) es n
-    pub follows : (n : Numbers A) → m ≡ Some n → Follows old new r before (state_of es n)
+    pub sound : (n : RealmNumbers A) → m ≡ Some n → IsSound (realm_config new r) es n
+    pub follows : (n : RealmNumbers A) → m ≡ Some n → Follows old new r before (state_of es n)
 
   -- numbers go over one after the other: those of so many realms did
-  pub record AreMoved (ns fresh os after : List (Option (Numbers A))) (count : ℕ) : Type 0 where
+  pub record AreMoved (ns fresh os after : List (Option (RealmNumbers A))) (count : ℕ) : Type 0 where
     pub number : length after ≡ length fresh
     pub left : length os ≡ length ns
     pub rest : (r : ℕ) → count ≤ r → slice_get after r ≡ slice_get fresh r
     pub rest_before : (r : ℕ) → count ≤ r → slice_get os r ≡ slice_get ns r
     pub done : (r : ℕ) → r < count → IsMoved old new shard r ns fresh after
 
-  pub none_moved : (ns fresh : List (Option (Numbers A))) → AreMoved ns fresh ns fresh 0
+  pub none_moved : (ns fresh : List (Option (RealmNumbers A))) → AreMoved ns fresh ns fresh 0
   none_moved ns fresh = record {
     number = refl;
     left = refl;
@@ -348,15 +348,15 @@ module _ {A : Type 0} (old new : ConfigView) (shard : ℕ) where
   }
 
   -- what is said of a realm is said of what stands there
-  moved_same : (r : ℕ) (b b2 p p2 a a2 : List (Option (Numbers A))) → slice_get b2 r ≡ slice_get b r → slice_get p2 r ≡ slice_get p r
+  moved_same : (r : ℕ) (b b2 p p2 a a2 : List (Option (RealmNumbers A))) → slice_get b2 r ≡ slice_get b r → slice_get p2 r ≡ slice_get p r
       → slice_get a2 r ≡ slice_get a r → IsMoved old new shard r b p a → IsMoved old new shard r b2 p2 a2
   moved_same r b b2 p p2 a a2 same stays now (inl over) = inl (
     over.0,
-    λ n at. subst (λ (x : Option (Option (Numbers A))). HasGoneOver (realm_config new r) n x) (sym now) (over.1 n (sym same ∙ at)),
+    λ n at. subst (λ (x : Option (Option (RealmNumbers A))). HasGoneOver (realm_config new r) n x) (sym now) (over.1 n (sym same ∙ at)),
   )
   moved_same r b b2 p p2 a a2 same stays now (inr away) = inr (away.0, now ∙ away.1 ∙ sym stays)
 
-  pub one_moved : (ns fresh os after os2 after2 : List (Option (Numbers A))) (count : ℕ) → AreMoved ns fresh os after count
+  pub one_moved : (ns fresh os after os2 after2 : List (Option (RealmNumbers A))) (count : ℕ) → AreMoved ns fresh os after count
       → IsMoved old new shard count os after after2
       → ((r : ℕ) → r ≢ count → slice_get after2 r ≡ slice_get after r) → ((r : ℕ) → r ≢ count → slice_get os2 r ≡ slice_get os r)
       → length after2 ≡ length after → length os2 ≡ length os → AreMoved ns fresh os2 after2 (count + 1)
@@ -372,7 +372,7 @@ module _ {A : Type 0} (old new : ConfigView) (shard : ℕ) where
     ];
   }
 
-  module _ (starts : List Start) (tables : List RealmView) (ns fresh : List (Option (Numbers A)))
+  module _ (starts : List Start) (tables : List RealmView) (ns fresh : List (Option (RealmNumbers A)))
       (are : IsShard (record { shard = shard; config = old; starts = starts }) tables ns)
       (E : ℕ → List PlainEntry) (most : ℕ) (cleared : Cleared old new shard (entries_in tables) E most)
       (enough : length new.realms ≤ most)
@@ -391,7 +391,7 @@ module _ {A : Type 0} (old new : ConfigView) (shard : ℕ) where
     pub here_before : (r : ℕ) → GoesOn old new shard r → HasNumbersAt first tables ns are r
     here_before r goes = own_numbers first tables ns are r goes.carried.there (own_before r goes.own)
 
-    gone_over : (r : ℕ) (m : Option (Numbers A)) (goes : GoesOn old new shard r) (there : Option (Option (Numbers A)))
+    gone_over : (r : ℕ) (m : Option (RealmNumbers A)) (goes : GoesOn old new shard r) (there : Option (Option (RealmNumbers A)))
         → HasGoneOver (realm_config new r) (here_before r goes).numbers there → there ≡ Some m → IsFollowed r (E r) (state_at before r) m
     gone_over r m goes there over at =
         let h = here_before r goes in
@@ -408,15 +408,15 @@ module _ {A : Type 0} (old new : ConfigView) (shard : ℕ) where
           goes_on = λ is'. over.carries.state (E r) ∙ ap (carried c) stood;
           begins_anew = λ away. absurd (away goes.carried);
         } in
-        subst (λ (x : Option (Numbers A)). IsFollowed r (E r) (state_at before r) x) is (record {
+        subst (λ (x : Option (RealmNumbers A)). IsFollowed r (E r) (state_at before r) x) is (record {
           own = sym goes.own;
-          sound = λ n eq. (let same : over.after ≡ n = (let k : Some over.after ≡ Some n = eq in cc) in subst (λ (x : Numbers A). IsSound c (E r) x) same good);
+          sound = λ n eq. (let same : over.after ≡ n = (let k : Some over.after ≡ Some n = eq in cc) in subst (λ (x : RealmNumbers A). IsSound c (E r) x) same good);
           follows = λ n eq. (let same : over.after ≡ n = (let k : Some over.after ≡ Some n = eq in cc) in
-              subst (λ (x : Numbers A). Follows old new r (state_at before r) (state_of (E r) x)) same follows);
+              subst (λ (x : RealmNumbers A). Follows old new r (state_at before r) (state_of (E r) x)) same follows);
         })
 
     -- a realm that begins anew
-    begun : (r : ℕ) (m : Option (Numbers A)) → r < length new.realms → (GoesOn old new shard r → ⊥) → slice_get fresh r ≡ Some m
+    begun : (r : ℕ) (m : Option (RealmNumbers A)) → r < length new.realms → (GoesOn old new shard r → ⊥) → slice_get fresh r ≡ Some m
         → IsFollowed r (E r) (state_at before r) m
     begun r m lt away at =
         let c = realm_config new r in
@@ -430,19 +430,19 @@ module _ {A : Type 0} (old new : ConfigView) (shard : ℕ) where
               sound_fresh c start (E r) n (good_begin first tables ns are r) none one);
           follows = λ n eq. (
               let one : IsFresh c start n = fresh_one c start (is_in_shard new shard r) m n opened eq in
-              let own : is_in_shard new shard r ≡ true = sym opened.own ∙ ap (λ (x : Option (Numbers A)). is_some x) eq in
+              let own : is_in_shard new shard r ≡ true = sym opened.own ∙ ap (λ (x : Option (RealmNumbers A)). is_some x) eq in
               record {
                 goes_on = λ is. absurd (away (record { own = own; carried = is }));
                 begins_anew = λ not'. state_fresh c start (E r) n none one ∙ ap (opening c) (begins_where first tables ns are r (own_before r own));
               });
         }
       where
-        fresh_one : (c : RealmConfig) (start : Start) (own : Bool) (m : Option (Numbers A)) (n : Numbers A) → IsOpened c start own m → m ≡ Some n → IsFresh c start n
+        fresh_one : (c : RealmConfig) (start : Start) (own : Bool) (m : Option (RealmNumbers A)) (n : RealmNumbers A) → IsOpened c start own m → m ≡ Some n → IsFresh c start n
         fresh_one c start own None n is eq = absurd (let bad : None ≡ Some n = eq in cc)
-        fresh_one c start own (Some x) n is eq = (let some : Some x ≡ Some n = eq in let same : x ≡ n = cc in subst (λ (y : Numbers A). IsFresh c start y) same is.fresh)
+        fresh_one c start own (Some x) n is eq = (let some : Some x ≡ Some n = eq in let same : x ≡ n = cc in subst (λ (y : RealmNumbers A). IsFresh c start y) same is.fresh)
 
     -- there is room for its lanes
-    pub can_go : (r : ℕ) → r < length new.realms → GoesOn old new shard r → (n : Numbers A) → slice_get ns r ≡ Some (Some n)
+    pub can_go : (r : ℕ) → r < length new.realms → GoesOn old new shard r → (n : RealmNumbers A) → slice_get ns r ≡ Some (Some n)
         → CanGoOver (realm_config new r) n
     can_go r lt goes n at =
         let number = ready.number in
@@ -460,20 +460,20 @@ module _ {A : Type 0} (old new : ConfigView) (shard : ℕ) where
     -- all did
 
     module _ (tables2 : List RealmView) (is : E ≡ entries_in tables2) (as_many : length tables2 ≡ length tables)
-        (kept : length new.realms ≤ length tables) (after : List (Option (Numbers A)))
+        (kept : length new.realms ≤ length tables) (after : List (Option (RealmNumbers A)))
         (whole : length after ≡ length fresh)
         (moved : (r : ℕ) → r < length new.realms → IsMoved old new shard r ns fresh after) where
       abbrev pub last : OpeningView
       last = record { shard = shard; config = new; starts = starts }
 
-      here : (r : ℕ) (m : Option (Numbers A)) → r < length new.realms → slice_get after r ≡ Some m → IsMoved old new shard r ns fresh after
+      here : (r : ℕ) (m : Option (RealmNumbers A)) → r < length new.realms → slice_get after r ≡ Some m → IsMoved old new shard r ns fresh after
           → IsFollowed r (E r) (state_at before r) m
       here r m lt at (inl over) =
           let h = here_before r over.0 in
           gone_over r m over.0 (slice_get after r) (over.1 h.numbers h.at) at
       here r m lt at (inr stays) = begun r m lt stays.0 (sym stays.1 ∙ at)
 
-      done_at : (r : ℕ) (m : Option (Numbers A)) → slice_get after r ≡ Some m → IsFollowed r (entries_in tables2 r) (state_at before r) m
+      done_at : (r : ℕ) (m : Option (RealmNumbers A)) → slice_get after r ≡ Some m → IsFollowed r (entries_in tables2 r) (state_at before r) m
       done_at r m at =
           let lt = some_within after r m at in
           let within : r < length new.realms = (let number = ready.number in omega (arith, lt, number, whole)) in

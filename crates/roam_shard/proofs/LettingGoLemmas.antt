@@ -7,7 +7,7 @@ use Rattle.roam_tables.proofs.RealmLemmas.{get-read}
 use Rattle.roam_book.specs.RealmState.{RealmState}
 use Rattle.roam_book.specs.Rooms.{only_done_due}
 use Rattle.roam_book.specs.Turn.{sends}
-use Rattle.roam_book.specs.declared.numbers.Numbers.{Numbers}
+use Rattle.roam_book.specs.declared.state.realm_numbers.RealmNumbers.{RealmNumbers}
 use Rattle.roam_book.specs.OnTick.{on_tick}
 use Rattle.roam_book.specs.RealmConfig.{realm_config}
 use Rattle.roam_core.specs.Events.{is_in_shard}
@@ -19,7 +19,7 @@ use Rattle.roam_shard.specs.ShardView.{HaveNumbers, OpeningView, ShardView, stat
 -- Looking at what is due
 
 -- a realm that isn't the shard's own has no entry, so it doesn't matter which one is asked
-own-part : {A : Type 0} (o : OpeningView) (now r : ℕ) (es : List PlainEntry) (n : Option (Numbers A))
+own-part : {A : Type 0} (o : OpeningView) (now r : ℕ) (es : List PlainEntry) (n : Option (RealmNumbers A))
     → (own : Bool) → is_some n ≡ own
     → (not own || only_done_due now (state_seen o r es n).entries)
     ≡ only_done_due now (state_seen o r es n).entries
@@ -30,8 +30,8 @@ own-part o now r es (Some n) false is = absurd (let bad : true ≡ false = is in
 
 module _ {A : Type 0} (o : OpeningView) (now : ℕ) where
   -- the realms that are left decide
-  pub done-next : (E : ℕ → List PlainEntry) (r : ℕ) (ns : List (Option (Numbers A)))
-      (n : Option (Numbers A)) (b : Bool) → HaveNumbers o ns → r < length ns → n ≡ get_or ns r n
+  pub done-next : (E : ℕ → List PlainEntry) (r : ℕ) (ns : List (Option (RealmNumbers A)))
+      (n : Option (RealmNumbers A)) (b : Bool) → HaveNumbers o ns → r < length ns → n ≡ get_or ns r n
       → b ≡ only_done_due now (state_seen o r (E r) n).entries
       → only_done_from o.config now o.shard r (states_from o E r (drop r ns))
       ≡ (b && only_done_from o.config now o.shard (r + 1) (states_from o E (r + 1) (drop (r + 1) ns)))
@@ -40,19 +40,19 @@ module _ {A : Type 0} (o : OpeningView) (now : ℕ) where
       let next : suc r ≡ r + 1 = omega arith in
       let is : drop r ns ≡ n ∷ drop (r + 1) ns = drop-cons ns r n lt
       ∙ ap (λ (m : ℕ). get_or ns r n ∷ drop m ns) next
-      ∙ ap (λ (x : Option (Numbers A)). x ∷ drop (r + 1) ns) (sym here) in
+      ∙ ap (λ (x : Option (RealmNumbers A)). x ∷ drop (r + 1) ns) (sym here) in
       let part = own-part o now r (E r) n (is_in_shard o.config o.shard r)
       (own r n (get-read ns r n lt here)) in
-      ap (λ (l : List (Option (Numbers A))). only_done_from o.config now o.shard r (states_from o E r l)) is
+      ap (λ (l : List (Option (RealmNumbers A))). only_done_from o.config now o.shard r (states_from o E r l)) is
       ∙ ap (λ (t : Bool). t
       && only_done_from o.config now o.shard (r + 1) (states_from o E (r + 1) (drop (r + 1) ns)))
       (part ∙ sym one)
 
-  pub done-end : (E : ℕ → List PlainEntry) (r : ℕ) (ns : List (Option (Numbers A)))
+  pub done-end : (E : ℕ → List PlainEntry) (r : ℕ) (ns : List (Option (RealmNumbers A)))
       → length ns ≤ r → only_done_from o.config now o.shard r (states_from o E r (drop r ns)) ≡ true
   unfolding states_from
   done-end E r ns past =
-      ap (λ (l : List (Option (Numbers A))). only_done_from o.config now o.shard r (states_from o E r l))
+      ap (λ (l : List (Option (RealmNumbers A))). only_done_from o.config now o.shard r (states_from o E r l))
       (drop_all r ns past)
 
 -- Letting them go

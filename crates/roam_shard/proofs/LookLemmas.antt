@@ -5,34 +5,34 @@ use Rattle.std.proofs.lemmas.Option.{slice_get-get_or}
 use Rattle.std.proofs.Common.{get_or}
 use Rattle.roam_tables.specs.Stands.{RealmView, entries_in}
 use Rattle.roam_book.specs.RealmState.{RealmState}
-use Rattle.roam_book.specs.declared.numbers.Numbers.{Numbers}
+use Rattle.roam_book.specs.declared.state.realm_numbers.RealmNumbers.{RealmNumbers}
 use Rattle.roam_core.specs.Events.{is_in_shard}
 use Rattle.roam_core.specs.ManyRealms.{state_at}
 use Rattle.roam_shard.specs.Looks.{IsOwn, NoneThere}
 use Rattle.roam_shard.specs.ShardView.{IsShard, OpeningView, ShardView, states_in}
 use Rattle.roam_shard.proofs.ShardLemmas.{state-seen}
 
-module _ {A : Type 0} (o : OpeningView) (tables : List RealmView) (ns : List (Option (Numbers A)))
+module _ {A : Type 0} (o : OpeningView) (tables : List RealmView) (ns : List (Option (RealmNumbers A)))
     (view : ShardView) (is : record { opening = o; states = states_in o tables ns } ≡ view)
-    (ds : List (Option (Numbers A))) (same : ds ≡ ns) where
+    (ds : List (Option (RealmNumbers A))) (same : ds ≡ ns) where
   -- the entries and sessions of a realm that has numbers there
-  pub entries-seen : (r : ℕ) (n : Numbers A) → slice_get ds r ≡ Some (Some n)
+  pub entries-seen : (r : ℕ) (n : RealmNumbers A) → slice_get ds r ≡ Some (Some n)
       → entries_in tables r ≡ (state_at view.states r).entries
   entries-seen r n at =
       let there : slice_get ns r ≡ Some (Some n) =
-      ap (λ (xs : List (Option (Numbers A))). slice_get xs r) (sym same) ∙ at in
+      ap (λ (xs : List (Option (RealmNumbers A))). slice_get xs r) (sym same) ∙ at in
       sym (ap (λ (s : RealmState). s.entries) (state-seen o (entries_in tables) r ns (Some n) there))
       ∙ ap (λ (v : ShardView). (state_at v.states r).entries) is
 
-  pub sessions-seen : (r : ℕ) (n : Numbers A) → slice_get ds r ≡ Some (Some n)
+  pub sessions-seen : (r : ℕ) (n : RealmNumbers A) → slice_get ds r ≡ Some (Some n)
       → n.sessions.sessions ≡ (state_at view.states r).sessions
   sessions-seen r n at =
       let there : slice_get ns r ≡ Some (Some n) =
-      ap (λ (xs : List (Option (Numbers A))). slice_get xs r) (sym same) ∙ at in
+      ap (λ (xs : List (Option (RealmNumbers A))). slice_get xs r) (sym same) ∙ at in
       sym (ap (λ (s : RealmState). s.sessions) (state-seen o (entries_in tables) r ns (Some n) there))
       ∙ ap (λ (v : ShardView). (state_at v.states r).sessions) is
 
-  has_numbers : (are : IsShard o tables ns) (r : ℕ) (m : Option (Numbers A)) → slice_get ns r ≡ Some m
+  has_numbers : (are : IsShard o tables ns) (r : ℕ) (m : Option (RealmNumbers A)) → slice_get ns r ≡ Some m
       → is_in_shard o.config o.shard r ≡ true → NoneThere ns r → ⊥
   has_numbers are r None at own none =
       absurd (let bad : false ≡ true = are.own r None at ∙ own in cc)
@@ -46,5 +46,5 @@ module _ {A : Type 0} (o : OpeningView) (tables : List RealmView) (ns : List (Op
       ap (λ (v : ShardView). is_in_shard v.opening.config v.opening.shard r) is ∙ own.in_shard in
       let lt : r < length ns = omega (arith, count, own.configured, are.count) in
       let none_there : NoneThere ns r =
-      subst (λ (xs : List (Option (Numbers A))). NoneThere xs r) same none in
+      subst (λ (xs : List (Option (RealmNumbers A))). NoneThere xs r) same none in
       has_numbers are r (get_or ns r None) (slice_get-get_or ns r None lt) in_shard none_there

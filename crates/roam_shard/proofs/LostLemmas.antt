@@ -8,10 +8,10 @@ use Rattle.roam_conf.specs.Config.{ConfigView}
 use Rattle.roam_route.specs.Admission.{Admission, refused}
 use Rattle.roam_route.specs.Shown.{IsAdmission}
 use Rattle.roam_book.specs.RealmState.{RealmState}
-use Rattle.roam_book.specs.declared.answer.Answer.{Answer}
+use Rattle.roam_book.specs.declared.packets.answer.Answer.{Answer}
 use Rattle.roam_core.specs.ManyRealms.{to_arrival}
 use Rattle.roam_core.specs.Steps.{GivesAnswer}
-use Rattle.roam_shard.specs.Lost.{IsLostOrRefused}
+use Rattle.roam_shard.specs.Private.Lost.{IsLostOrRefused}
 
 -- it is refused, or memory was wanted
 pub refusal_gives : {A : Type 0} (r : Result (Answer A) NoMemory) (why : Refusal)

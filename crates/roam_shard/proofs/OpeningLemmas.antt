@@ -10,8 +10,8 @@ use Rattle.roam_tables.specs.Stands.{RealmView, entries_in}
 use Rattle.roam_book.specs.RealmConfig.{RealmConfig, realm_config}
 use Rattle.roam_book.specs.RealmState.{opening}
 use Rattle.roam_book.specs.Sound.{IsSound, state_of}
-use Rattle.roam_book.specs.declared.numbers.Numbers.{Numbers}
-use Rattle.roam_book.specs.declared.start.Start.{Start}
+use Rattle.roam_book.specs.declared.state.realm_numbers.RealmNumbers.{RealmNumbers}
+use Rattle.roam_book.specs.declared.state.start.Start.{Start}
 use Rattle.roam_core.specs.Events.{is_in_shard}
 use Rattle.roam_core.specs.Openings.{first_start, openings, openings_from, start_of}
 use Rattle.roam_shard.specs.NumbersView.{AreOpened, IsFresh, IsOpened}
@@ -25,7 +25,7 @@ start_at (s ∷ ss) zero each lt = each.0
 start_at (s ∷ ss) (suc k) each lt = start_at ss k each.1 (omega arith)
 
 module _ {A : Type 0} where
-  get-push : (ns : List (Option (Numbers A))) (n m : Option (Numbers A)) (k : ℕ)
+  get-push : (ns : List (Option (RealmNumbers A))) (n m : Option (RealmNumbers A)) (k : ℕ)
       → slice_get (ns ++ n ∷ []) k ≡ Some m
       → ((k ≡ length ns) × (n ≡ m)) ⊎ (slice_get ns k ≡ Some m)
   get-push [] n m zero at =
@@ -45,7 +45,7 @@ module _ {A : Type 0} where
       record { number = refl; each = λ k n at. absurd (let bad : None ≡ Some n = at in cc) }
 
   pub one_more_opened : (config : ConfigView) (shard : ℕ) (starts : List Start) (count : ℕ)
-      (ns : List (Option (Numbers A))) (n : Option (Numbers A)) (start : Start)
+      (ns : List (Option (RealmNumbers A))) (n : Option (RealmNumbers A)) (start : Start)
       → AreOpened config shard starts count ns
       → start ≡ start_of starts count
       → IsOpened (realm_config config count) start (is_in_shard config shard count) n
@@ -63,14 +63,14 @@ module _ {A : Type 0} where
               (is_in_shard config shard count) n) begins one in
               subst (λ (q : ℕ). IsOpened (realm_config config q) (start_of starts q)
               (is_in_shard config shard q) m) is
-              (subst (λ (z : Option (Numbers A)).
+              (subst (λ (z : Option (RealmNumbers A)).
               IsOpened (realm_config config count) (start_of starts count)
               (is_in_shard config shard count) z) last.1 here))
           | inr there ↦ are.each k m there
         ];
   }
 
-  pub sound_fresh : (c : RealmConfig) (start : Start) (es : List PlainEntry) (n : Numbers A)
+  pub sound_fresh : (c : RealmConfig) (start : Start) (es : List PlainEntry) (n : RealmNumbers A)
       → IsStart start → es ≡ [] → IsFresh c start n → IsSound c es n
   sound_fresh c start es n can none one = rw none (record {
     each = tt;
@@ -82,7 +82,7 @@ module _ {A : Type 0} where
     ledger = one.ledger;
   })
 
-  pub state_fresh : (c : RealmConfig) (start : Start) (es : List PlainEntry) (n : Numbers A) → es ≡ []
+  pub state_fresh : (c : RealmConfig) (start : Start) (es : List PlainEntry) (n : RealmNumbers A) → es ≡ []
       → IsFresh c start n → state_of es n ≡ opening c start
   state_fresh c start es n none one =
       λ j. record {
@@ -96,7 +96,7 @@ module _ {A : Type 0} where
       }
 
   seen_fresh : (o : OpeningView) (r : ℕ) (own : Bool) (es : List PlainEntry)
-      (n : Option (Numbers A)) → es ≡ []
+      (n : Option (RealmNumbers A)) → es ≡ []
       → IsOpened (realm_config o.config r) (start_of o.starts r) own n
       → state_seen o r es n ≡ opening (realm_config o.config r) (start_of o.starts r)
   seen_fresh o r own es None none one = refl
@@ -105,9 +105,9 @@ module _ {A : Type 0} where
 
   -- the starts from r on
   states_fresh : (o : OpeningView) (E : ℕ → List PlainEntry) (r : ℕ)
-      (ns : List (Option (Numbers A))) (starts : List Start) → length ns ≡ length starts
+      (ns : List (Option (RealmNumbers A))) (starts : List Start) → length ns ≡ length starts
       → ((k : ℕ) → start_of o.starts (r + k) ≡ start_of starts k) → ((q : ℕ) → E q ≡ [])
-      → ((k : ℕ) (n : Option (Numbers A)) → slice_get ns k ≡ Some n
+      → ((k : ℕ) (n : Option (RealmNumbers A)) → slice_get ns k ≡ Some n
       → IsOpened (realm_config o.config (r + k)) (start_of o.starts (r + k))
       (is_in_shard o.config o.shard (r + k)) n)
       → states_from o E r ns ≡ openings_from o.config r starts
@@ -134,7 +134,7 @@ module _ {A : Type 0} where
       (is_in_shard o.config o.shard q) m) e (each (suc k) m there))) in
       λ j. here j ∷ rest j
 
-  pub shard_opened : (o : OpeningView) (tables : List RealmView) (ns : List (Option (Numbers A)))
+  pub shard_opened : (o : OpeningView) (tables : List RealmView) (ns : List (Option (RealmNumbers A)))
       (count : ℕ) → AreOpened o.config o.shard o.starts count ns → count ≡ length o.starts
       → AreStarts o.config o.starts → length tables ≡ length o.config.realms
       → ((r : ℕ) → entries_in tables r ≡ []) → o.shard < o.config.shards → IsShard o tables ns
@@ -151,14 +151,14 @@ module _ {A : Type 0} where
     there = there;
   }
     where
-      within_opened : (xs : List (Option (Numbers A))) (k : ℕ) (x : Option (Numbers A))
+      within_opened : (xs : List (Option (RealmNumbers A))) (k : ℕ) (x : Option (RealmNumbers A))
           → slice_get xs k ≡ Some x → k < length xs
       within_opened [] k x at = absurd (let bad : None ≡ Some x = at in cc)
       within_opened (y ∷ ys) zero x at = omega arith
       within_opened (y ∷ ys) (suc k) x at =
           let rest = within_opened ys k x at in omega (arith, rest)
 
-  pub begins_opened : (o : OpeningView) (tables : List RealmView) (ns : List (Option (Numbers A)))
+  pub begins_opened : (o : OpeningView) (tables : List RealmView) (ns : List (Option (RealmNumbers A)))
       (count : ℕ) → AreOpened o.config o.shard o.starts count ns → count ≡ length o.starts
       → ((r : ℕ) → entries_in tables r ≡ []) → states_in o tables ns ≡ openings o.config o.starts
   begins_opened o tables ns count are all none =

@@ -5,12 +5,12 @@ use Rattle.std.proofs.lemmas.List.{length-append, take_more}
 use Rattle.roam_conf.specs.Config.{ConfigView}
 use Rattle.roam_pending.specs.PlainEntry.{PlainEntry}
 use Rattle.roam_book.specs.RealmState.{RealmState}
-use Rattle.roam_book.specs.declared.numbers.Numbers.{Numbers}
-use Rattle.roam_book.specs.declared.room.Room.{Room}
+use Rattle.roam_book.specs.declared.state.realm_numbers.RealmNumbers.{RealmNumbers}
+use Rattle.roam_book.specs.declared.packets.tick_memory.Room.{Room}
 use Rattle.roam_core.specs.Events.{is_in_shard}
 use Rattle.roam_core.specs.ManyRealms.{no_state, state_at}
 use Rattle.roam_core.specs.ShardRooms.{most_of, most_of_all, Fits, IsRealmRoom, AreRooms}
-use Rattle.roam_shard.specs.Rooms.{AllTwice, IsTwice}
+use Rattle.roam_shard.specs.Private.Rooms.{AllTwice, IsTwice}
 use Rattle.roam_shard.specs.ShardView.{OpeningView, state_seen, states_from}
 use Rattle.roam_shard.specs.Twins.{AreOwnRooms}
 use Rattle.roam_shard.proofs.ShardLemmas.{state-seen}
@@ -97,15 +97,15 @@ all-gathered config now shard count states rooms most are all =
 
 -- the room of a realm is that of its state: none where it isn't one of the shard's own
 fits_seen : {A : Type 0} → (o : OpeningView) (now r : ℕ) (entries : List PlainEntry)
-    (n : Option (Numbers A)) (room : Option (Room A)) → IsRealmRoom now (is_some n) entries room
+    (n : Option (RealmNumbers A)) (room : Option (Room A)) → IsRealmRoom now (is_some n) entries room
     → Fits now (state_seen o r entries n).entries room
 fits_seen o now r entries None None own = tt
 fits_seen o now r entries None (Some room) own = absurd (let bad : true ≡ false = own.part in cc)
 fits_seen o now r entries (Some m) room own = own.fits
 
 pub room_seen : {A : Type 0}
-    → (o : OpeningView) (now r : ℕ) (E : ℕ → List PlainEntry) (ns : List (Option (Numbers A)))
-    (n : Option (Numbers A)) (room : Option (Room A)) → slice_get ns r ≡ Some n
+    → (o : OpeningView) (now r : ℕ) (E : ℕ → List PlainEntry) (ns : List (Option (RealmNumbers A)))
+    (n : Option (RealmNumbers A)) (room : Option (Room A)) → slice_get ns r ≡ Some n
     → is_some n ≡ is_in_shard o.config o.shard r
     → IsRealmRoom now (is_some n) (E r) room
     → IsRealmRoom now (is_in_shard o.config o.shard r)

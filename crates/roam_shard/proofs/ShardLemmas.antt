@@ -16,9 +16,9 @@ use Rattle.roam_book.specs.RealmState.{RealmState}
 use Rattle.roam_book.specs.RealmTurn.{GivesTwice}
 use Rattle.roam_book.specs.Sound.{IsSound, OthersStay, state_of}
 use Rattle.roam_book.specs.Turn.{Turn, refuses, sends, packets_of, shown_outs, state_after, Answers}
-use Rattle.roam_book.specs.declared.answer.Answer.{Answer}
-use Rattle.roam_book.specs.declared.answer.Twin.{Twin}
-use Rattle.roam_book.specs.declared.numbers.Numbers.{Numbers}
+use Rattle.roam_book.specs.declared.packets.answer.Answer.{Answer}
+use Rattle.roam_book.specs.declared.packets.answer.Twin.{Twin}
+use Rattle.roam_book.specs.declared.state.realm_numbers.RealmNumbers.{RealmNumbers}
 use Rattle.roam_core.specs.Events.{is_in_shard}
 use Rattle.roam_core.specs.ManyRealms.{no_state, packets_in_turn, state_at, states_after, turn_of_one}
 use Rattle.roam_core.specs.Steps.{IsAnswer}
@@ -80,14 +80,14 @@ twin_one (Ok twin) states k new turn gives = (
 
 module _ {A : Type 0} (o : OpeningView) where
   -- the states of many realms
-  pub length-states : (E : ℕ → List PlainEntry) (r : ℕ) (ns : List (Option (Numbers A)))
+  pub length-states : (E : ℕ → List PlainEntry) (r : ℕ) (ns : List (Option (RealmNumbers A)))
       → length (states_from o E r ns) ≡ length ns
   unfolding states_from
   length-states E r [] = refl
   length-states E r (n ∷ ns) = ap suc (length-states E (r + 1) ns)
 
-  state-within : (E : ℕ → List PlainEntry) (r k : ℕ) (ns : List (Option (Numbers A)))
-      (n : Option (Numbers A)) → slice_get ns k ≡ Some n
+  state-within : (E : ℕ → List PlainEntry) (r k : ℕ) (ns : List (Option (RealmNumbers A)))
+      (n : Option (RealmNumbers A)) → slice_get ns k ≡ Some n
       → state_at (states_from o E r ns) k ≡ state_seen o (r + k) (E (r + k)) n
   unfolding states_from
   state-within E r k [] n at = absurd (let bad : None ≡ Some n = at in cc)
@@ -98,18 +98,18 @@ module _ {A : Type 0} (o : OpeningView) where
       (let e : r + 1 + k ≡ r + suc k = omega arith in
       state-within E (r + 1) k ms n at ∙ ap (λ (q : ℕ). state_seen o q (E q) n) e)
 
-  pub state-seen : (E : ℕ → List PlainEntry) (k : ℕ) (ns : List (Option (Numbers A)))
-      (n : Option (Numbers A)) → slice_get ns k ≡ Some n
+  pub state-seen : (E : ℕ → List PlainEntry) (k : ℕ) (ns : List (Option (RealmNumbers A)))
+      (n : Option (RealmNumbers A)) → slice_get ns k ≡ Some n
       → state_at (states_from o E 0 ns) k ≡ state_seen o k (E k) n
   state-seen E k ns n at =
       state-within E 0 k ns n at
       ∙ (let e : 0 + k ≡ k = omega arith in ap (λ (q : ℕ). state_seen o q (E q) n) e)
 
-  seen-same : (r : ℕ) (one two : List PlainEntry) (n : Option (Numbers A)) → one ≡ two
+  seen-same : (r : ℕ) (one two : List PlainEntry) (n : Option (RealmNumbers A)) → one ≡ two
       → state_seen o r one n ≡ state_seen o r two n
   seen-same r one two n is = ap (λ (es : List PlainEntry). state_seen o r es n) is
 
-  states-same : (E F : ℕ → List PlainEntry) (r : ℕ) (ns : List (Option (Numbers A)))
+  states-same : (E F : ℕ → List PlainEntry) (r : ℕ) (ns : List (Option (RealmNumbers A)))
       → ((q : ℕ) → r ≤ q → F q ≡ E q) → states_from o F r ns ≡ states_from o E r ns
   unfolding states_from
   states-same E F r [] same = refl
@@ -118,8 +118,8 @@ module _ {A : Type 0} (o : OpeningView) where
       let rest = states-same E F (r + 1) ns (λ q le. same q (omega arith)) in
       λ j. here j ∷ rest j
 
-  states-set_from : (E F : ℕ → List PlainEntry) (r k : ℕ) (ns : List (Option (Numbers A)))
-      (n : Numbers A) → ((q : ℕ) → q ≢ r + k → F q ≡ E q)
+  states-set_from : (E F : ℕ → List PlainEntry) (r k : ℕ) (ns : List (Option (RealmNumbers A)))
+      (n : RealmNumbers A) → ((q : ℕ) → q ≢ r + k → F q ≡ E q)
       → states_from o F r (set ns k (Some n))
       ≡ set (states_from o E r ns) k (state_of (F (r + k)) n)
   unfolding states_from
@@ -135,8 +135,8 @@ module _ {A : Type 0} (o : OpeningView) where
       ∙ ap (λ (q : ℕ). set (states_from o E (r + 1) ms) k (state_of (F q) n)) e in
       λ j. here j ∷ rest j)
 
-  pub states-set : (E F : ℕ → List PlainEntry) (k : ℕ) (ns : List (Option (Numbers A)))
-      (n : Numbers A) → ((q : ℕ) → q ≢ k → F q ≡ E q)
+  pub states-set : (E F : ℕ → List PlainEntry) (k : ℕ) (ns : List (Option (RealmNumbers A)))
+      (n : RealmNumbers A) → ((q : ℕ) → q ≢ k → F q ≡ E q)
       → states_from o F 0 (set ns k (Some n)) ≡ set (states_from o E 0 ns) k (state_of (F k) n)
   states-set E F k ns n others =
       (let e : 0 + k ≡ k = omega arith in
@@ -145,7 +145,7 @@ module _ {A : Type 0} (o : OpeningView) where
 
 module _ {A : Type 0} where
   -- there is a state for each realm
-  pub shard_whole : (o : OpeningView) (tables : List RealmView) (ns : List (Option (Numbers A)))
+  pub shard_whole : (o : OpeningView) (tables : List RealmView) (ns : List (Option (RealmNumbers A)))
       (view : ShardView) → IsShard o tables ns
       → record { opening = o; states = states_in o tables ns } ≡ view
       → length view.states ≡ length view.opening.config.realms
@@ -153,7 +153,7 @@ module _ {A : Type 0} where
       subst (λ (v : ShardView). length v.states ≡ length v.opening.config.realms) is
       (length-states o (entries_in tables) 0 ns ∙ are.count)
 
-  pub shard_count : (o : OpeningView) (tables : List RealmView) (ns : List (Option (Numbers A)))
+  pub shard_count : (o : OpeningView) (tables : List RealmView) (ns : List (Option (RealmNumbers A)))
       (view : ShardView)
       → record { opening = o; states = states_in o tables ns } ≡ view
       → length view.states ≡ length ns
@@ -161,13 +161,13 @@ module _ {A : Type 0} where
       ap (λ (v : ShardView). length v.states) (sym is) ∙ length-states o (entries_in tables) 0 ns
 
   -- the numbers of the shard's own realms are there
-  pub numbers_there : (n : Option (Numbers A)) → is_some n ≡ true → n ≡ None → ⊥
+  pub numbers_there : (n : Option (RealmNumbers A)) → is_some n ≡ true → n ≡ None → ⊥
   numbers_there n there none =
       absurd (let bad : is_some n ≡ false = rw none refl in let worse : false ≡ true = sym bad
       ∙ there in cc)
 
-  module _ (o : OpeningView) (tables : List RealmView) (ns : List (Option (Numbers A)))
-      (are : IsShard o tables ns) (k : ℕ) (n : Numbers A) (at : slice_get ns k ≡ Some (Some n))
+  module _ (o : OpeningView) (tables : List RealmView) (ns : List (Option (RealmNumbers A)))
+      (are : IsShard o tables ns) (k : ℕ) (n : RealmNumbers A) (at : slice_get ns k ≡ Some (Some n))
       (c : RealmConfig) (own : c ≡ realm_config o.config k) where
     -- what is lent is a realm
     pub realm_kept : k < length o.config.realms → IsTrue (keeps_in tables c.index)
@@ -222,7 +222,7 @@ module _ {A : Type 0} where
           ≡ sends [] (state_at new k)
       pub states : new ≡ set view.states k (state_at new k)
 
-    module _ (tables2 : List RealmView) (n2 : Numbers A) (c2 : RealmConfig) (stays : c2 ≡ c)
+    module _ (tables2 : List RealmView) (n2 : RealmNumbers A) (c2 : RealmConfig) (stays : c2 ≡ c)
         (keeps : keeps_in tables2 ≡ keeps_in tables)
         (others : OthersStay c.index (entries_in tables) (entries_in tables2)) where
       own_others : (q : ℕ) → q ≢ k → entries_in tables2 q ≡ entries_in tables q
@@ -234,7 +234,7 @@ module _ {A : Type 0} where
       is_own = stays ∙ own
 
       -- the numbers at a place, once those of one realm were written
-      written : (r : ℕ) (m : Option (Numbers A)) → k < length ns → r ≡ k
+      written : (r : ℕ) (m : Option (RealmNumbers A)) → k < length ns → r ≡ k
           → slice_get (set ns k (Some n2)) r ≡ Some m → Some n2 ≡ m
       written r m lt is there =
           let some : Some (Some n2) ≡ Some m = sym (get-set_same ns k (Some n2) lt)
@@ -247,7 +247,7 @@ module _ {A : Type 0} where
       shard_after lt sound list = record {
         own =
             λ r m there. elim (cases_eq r k) as (λ _. is_some m ≡ is_in_shard o.config o.shard r) [
-              | inl is ↦ ap (λ (x : Option (Numbers A)). is_some x) (sym (written r m lt is there))
+              | inl is ↦ ap (λ (x : Option (RealmNumbers A)). is_some x) (sym (written r m lt is there))
                   ∙ are.own k (Some n) at ∙ ap (λ (q : ℕ). is_in_shard o.config o.shard q) (sym is)
               | inr ne ↦ are.own r m (sym (get-set_other ns k r (Some n2) ne) ∙ there)
             ];
@@ -261,7 +261,7 @@ module _ {A : Type 0} where
                   sound in
                   subst (λ (q : ℕ). IsSound (realm_config o.config q) (entries_in tables2 q) m)
                   (sym is)
-                  (subst (λ (z : Numbers A).
+                  (subst (λ (z : RealmNumbers A).
                   IsSound (realm_config o.config k) (entries_in tables2 k) z) same here))
               | inr ne ↦ subst (λ (es : List PlainEntry). IsSound (realm_config o.config r) es m)
                   (sym (own_others r ne)) (are.sound r m
@@ -278,11 +278,11 @@ module _ {A : Type 0} where
       }
 
       -- whatever name the numbers have that are written back
-      pub shard_written : (m : Option (Numbers A)) → m ≡ Some n2 → k < length ns
+      pub shard_written : (m : Option (RealmNumbers A)) → m ≡ Some n2 → k < length ns
           → IsSound c2 (entries_in tables2 c2.index) n2 → IsEntryList (entries_in tables2 c2.index)
           → IsShard o tables2 (set ns k m)
       shard_written m same lt sound list =
-          subst (λ (z : Option (Numbers A)). IsShard o tables2 (set ns k z)) (sym same)
+          subst (λ (z : Option (RealmNumbers A)). IsShard o tables2 (set ns k z)) (sym same)
           (shard_after lt sound list)
 
       states_after_turn : states_in o tables2 (set ns k (Some n2))
@@ -322,7 +322,7 @@ module _ {A : Type 0} where
           (f (realm_config o.config k) (state_at (states_in o tables ns) k)) there)
 
       shard_gives_written : (f : RealmConfig → RealmState → Turn)
-          (result : Result (Twin A) NoMemory) (m : Option (Numbers A)) → m ≡ Some n2
+          (result : Result (Twin A) NoMemory) (m : Option (RealmNumbers A)) → m ≡ Some n2
           → GivesTwice result (state_of (entries_in tables c.index) n)
           (state_of (entries_in tables2 c2.index) n2)
           (f c (state_of (entries_in tables c.index) n))
@@ -330,7 +330,7 @@ module _ {A : Type 0} where
           (turn_of_one (states_in o tables ns) k
           (f (realm_config o.config k) (state_at (states_in o tables ns) k)))
       shard_gives_written f result m same gives =
-          subst (λ (z : Option (Numbers A)).
+          subst (λ (z : Option (RealmNumbers A)).
           GivesTwin result (states_in o tables ns) (states_in o tables2 (set ns k z))
           (turn_of_one (states_in o tables ns) k
           (f (realm_config o.config k) (state_at (states_in o tables ns) k)))) (sym same)
@@ -339,7 +339,7 @@ module _ {A : Type 0} where
       -- the same, as it is seen
       pub shard_seen : (f : RealmConfig → RealmState → Turn) (result : Result (Twin A) NoMemory)
           (view : ShardView) → record { opening = o; states = states_in o tables ns } ≡ view
-          → (j : ℕ) → k ≡ j → (m : Option (Numbers A)) → m ≡ Some n2
+          → (j : ℕ) → k ≡ j → (m : Option (RealmNumbers A)) → m ≡ Some n2
           → GivesTwice result (state_of (entries_in tables c.index) n)
           (state_of (entries_in tables2 c2.index) n2)
           (f c (state_of (entries_in tables c.index) n))
@@ -358,7 +358,7 @@ module _ {A : Type 0} where
 
       -- what a tick sends for it, twice, and how all states then stand
       pub ticks_seen : (now : ℕ) (twin : Twin A) (view : ShardView)
-          → record { opening = o; states = states_in o tables ns } ≡ view → (m : Option (Numbers A))
+          → record { opening = o; states = states_in o tables ns } ≡ view → (m : Option (RealmNumbers A))
           → m ≡ Some n2
           → GivesTwice (Ok twin) (state_of (entries_in tables c.index) n)
           (state_of (entries_in tables2 c2.index) n2)
@@ -376,7 +376,7 @@ module _ {A : Type 0} where
 
       -- its part of a tick that lets done entries go
       pub goes_seen : k < length ns → (now : ℕ) (view : ShardView)
-          → record { opening = o; states = states_in o tables ns } ≡ view → (m : Option (Numbers A))
+          → record { opening = o; states = states_in o tables ns } ≡ view → (m : Option (RealmNumbers A))
           → m ≡ Some n2
           → on_tick c now (state_of (entries_in tables c.index) n)
           ≡ sends [] (state_of (entries_in tables2 c2.index) n2)
@@ -385,7 +385,7 @@ module _ {A : Type 0} where
           let s2 : RealmState = state_of (entries_in tables2 k) n2 in
           let new : List RealmState = states_in o tables2 (set ns k m) in
           let new_is : new ≡ set view.states k s2 =
-          ap (λ (z : Option (Numbers A)). states_in o tables2 (set ns k z)) same
+          ap (λ (z : Option (RealmNumbers A)). states_in o tables2 (set ns k z)) same
           ∙ states_after_turn ∙ ap (λ (v : ShardView). set v.states k s2) is in
           let count = shard_count o tables ns view is in
           let within : k < length view.states = omega (arith, count, lt) in

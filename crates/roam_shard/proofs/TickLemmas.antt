@@ -10,15 +10,15 @@ use Rattle.roam_route.specs.Shown.{shown_out}
 use Rattle.roam_route.specs.declared.datagram.Out.{Out}
 use Rattle.roam_book.specs.RealmState.{RealmState}
 use Rattle.roam_book.specs.Turn.{shown_outs}
-use Rattle.roam_book.specs.declared.answer.Answer.{Answer}
-use Rattle.roam_book.specs.declared.room.Room.{Room}
+use Rattle.roam_book.specs.declared.packets.answer.Answer.{Answer}
+use Rattle.roam_book.specs.declared.packets.tick_memory.Room.{Room}
 use Rattle.roam_core.specs.ManyRealms.{to_tick}
 use Rattle.roam_core.specs.ShardRooms.{most_of_all}
 use Rattle.roam_core.specs.Steps.{IsAnswer}
-use Rattle.roam_shard.specs.Rooms.{AllTwice, HasPlaces, IsTwice}
+use Rattle.roam_shard.specs.Private.Rooms.{AllTwice, HasPlaces, IsTwice}
 use Rattle.roam_shard.specs.ShardView.{OpeningView}
 use Rattle.roam_shard.specs.Twins.{AreOwnRooms, IsOwnRoom}
-use Rattle.roam_shard.specs.declared.ticking.Both.{Both}
+use Rattle.roam_shard.specs.declared.answer_pair.AnswerPair.{AnswerPair}
 
 -- lists that show the same have as many packets
 pub as_many_shown : {A : Type 0} → (one two : List (Out A)) (packets : List PlainOut)
@@ -28,14 +28,14 @@ as_many_shown one two packets first second =
     omega (arith, length-map one shown_out, length-map two shown_out, same)
 
 -- what has places for some packets has them for fewer
-pub fewer_places : {A : Type 0} → (many few : ℕ) (b : Both A) → few ≤ many → HasPlaces many b
+pub fewer_places : {A : Type 0} → (many few : ℕ) (b : AnswerPair A) → few ≤ many → HasPlaces many b
     → HasPlaces few b
 fewer_places many few b le has =
     record { sent = omega (arith, has.sent, le); copies = omega (arith, has.copies, le) }
 
 -- the rooms that are left
 pub record AreLeft {A : Type 0} (o : OpeningView) (realm : ℕ) (left : List (Option (Room A)))
-    (b : Both A) : Type 0 where
+    (b : AnswerPair A) : Type 0 where
   pub own : AreOwnRooms o realm left
   pub twice : AllTwice left
   pub places : HasPlaces (most_of_all left) b

@@ -1,8 +1,8 @@
 -- What of a shard is looked at (ours).
 use Rattle.std.specs.Prelude.{◌≡◌, ℕ, ◌<◌, true, List, Option, Some, length, slice_get}
 use Rattle.roam_book.specs.RealmState.{RealmState}
-use Rattle.roam_book.specs.declared.looking.Gauges.{Gauges}
-use Rattle.roam_book.specs.declared.numbers.Numbers.{Numbers}
+use Rattle.roam_book.specs.declared.state.gauges.Gauges.{Gauges}
+use Rattle.roam_book.specs.declared.state.realm_numbers.RealmNumbers.{RealmNumbers}
 use Rattle.roam_core.specs.Events.{is_in_shard}
 use Rattle.roam_shard.specs.ShardView.{OpeningView}
 
@@ -12,7 +12,7 @@ pub record IsOwn (o : OpeningView) (realm : ℕ) : Type 0 where
   pub in_shard : is_in_shard o.config o.shard realm ≡ true
 
 -- no numbers stand there
-abbrev pub NoneThere : {A : Type 0} → List (Option (Numbers A)) → ℕ → Type 0
+abbrev pub NoneThere : {A : Type 0} → List (Option (RealmNumbers A)) → ℕ → Type 0
 NoneThere numbers realm = (n : _) → slice_get numbers realm ≡ Some (Some n) → ⊥
 
 -- the numbers of a state: how many entries it has, and how many sessions are open

@@ -7,8 +7,8 @@ use Rattle.roam_book.specs.RealmConfig.{RealmConfig, link_count, realm_config}
 use Rattle.roam_book.specs.RealmState.{RealmState}
 use Rattle.roam_book.specs.Reload.{Carries, carried}
 use Rattle.roam_book.specs.Sound.{IsSound, state_of}
-use Rattle.roam_book.specs.declared.numbers.Numbers.{Numbers}
-use Rattle.roam_book.specs.declared.start.Start.{Start}
+use Rattle.roam_book.specs.declared.state.realm_numbers.RealmNumbers.{RealmNumbers}
+use Rattle.roam_book.specs.declared.state.start.Start.{Start}
 use Rattle.roam_core.specs.Events.{is_in_shard}
 use Rattle.roam_core.specs.Openings.{first_start}
 use Rattle.roam_shard.specs.ShardView.{IsShard, OpeningView, states_in}
@@ -54,19 +54,19 @@ module _ {A : Type 0} where
     pub entries : new.entries ≡ old.entries
 
   -- where a realm begins anew: where its numbers stand, or where there are none, at the first start
-  abbrev pub start_in : Option (Option (Numbers A)) → Start
+  abbrev pub start_in : Option (Option (RealmNumbers A)) → Start
   start_in None = first_start
   start_in (Some None) = first_start
   start_in (Some (Some n)) = record { place = n.stream_position; ticket = n.ticket }
 
-  abbrev pub begin_at : List (Option (Numbers A)) → ℕ → Start
+  abbrev pub begin_at : List (Option (RealmNumbers A)) → ℕ → Start
   begin_at numbers realm = start_in (slice_get numbers realm)
 
   -- the memory of a realm is there: of further lanes where it goes on; else of numbers that nothing uses, where it is one
   -- of the shard's
-  pub record IsReadyAt (old new : ConfigView) (shard realm : ℕ) (numbers : List (Option (Numbers A)))
-      (fresh : Option (Numbers A)) : Type 0 where
-    pub lanes : GoesOn old new shard realm → (n : Numbers A) → slice_get numbers realm ≡ Some (Some n)
+  pub record IsReadyAt (old new : ConfigView) (shard realm : ℕ) (numbers : List (Option (RealmNumbers A)))
+      (fresh : Option (RealmNumbers A)) : Type 0 where
+    pub lanes : GoesOn old new shard realm → (n : RealmNumbers A) → slice_get numbers realm ≡ Some (Some n)
         → link_count (realm_config new realm) ≤ vec_capacity n.lanes
     pub opened : ¬ GoesOn old new shard realm → IsOpened (realm_config new realm) (begin_at numbers realm)
         (is_in_shard new shard realm) fresh
@@ -75,29 +75,29 @@ module _ {A : Type 0} where
   pub record IsReady (old new : ConfigView) (p : Paused A) (fresh : FreshNumbers A) : Type 0 where
     pub count : length fresh.numbers.items ≡ length new.realms
     pub kept : length new.realms ≤ length p.entries
-    pub each : (realm : ℕ) (n : Option (Numbers A)) → slice_get fresh.numbers.items realm ≡ Some n
+    pub each : (realm : ℕ) (n : Option (RealmNumbers A)) → slice_get fresh.numbers.items realm ≡ Some n
         → IsReadyAt old new p.shard realm p.numbers.items n
 
   -- numbers go on under other settings
-  pub record CarriesOn (c : RealmConfig) (before after : Numbers A) : Type 0 where
+  pub record CarriesOn (c : RealmConfig) (before after : RealmNumbers A) : Type 0 where
     pub state : (es : List PlainEntry) → state_of es after ≡ carried c (state_of es before)
     pub sound : (b : RealmConfig) (es : List PlainEntry) → Carries b c → IsSound b es before → IsSound c es after
 
   -- and then stand there
-  pub record HasGoneOver (c : RealmConfig) (before : Numbers A) (there : Option (Option (Numbers A))) : Type 0 where
-    pub after : Numbers A
+  pub record HasGoneOver (c : RealmConfig) (before : RealmNumbers A) (there : Option (Option (RealmNumbers A))) : Type 0 where
+    pub after : RealmNumbers A
     pub is : there ≡ Some (Some after)
     pub carries : CarriesOn c before after
 
   -- there is room for their lanes
-  pub record CanGoOver (c : RealmConfig) (n : Numbers A) : Type 0 where
+  pub record CanGoOver (c : RealmConfig) (n : RealmNumbers A) : Type 0 where
     pub few : length n.lanes.items ≤ link_count c
     pub room : link_count c ≤ vec_capacity n.lanes
 
   -- a realm's numbers went over, where it goes on; else what was made for it stays
-  abbrev pub IsMoved : ConfigView → ConfigView → ℕ → ℕ → List (Option (Numbers A)) → List (Option (Numbers A))
-      → List (Option (Numbers A)) → Type 0
+  abbrev pub IsMoved : ConfigView → ConfigView → ℕ → ℕ → List (Option (RealmNumbers A)) → List (Option (RealmNumbers A))
+      → List (Option (RealmNumbers A)) → Type 0
   IsMoved old new shard realm before prepared after =
-      (GoesOn old new shard realm × ((n : Numbers A) → slice_get before realm ≡ Some (Some n)
+      (GoesOn old new shard realm × ((n : RealmNumbers A) → slice_get before realm ≡ Some (Some n)
       → HasGoneOver (realm_config new realm) n (slice_get after realm)))
       ⊎ ((¬ GoesOn old new shard realm) × (slice_get after realm ≡ slice_get prepared realm))

@@ -9,8 +9,8 @@ use Rattle.roam_tables.specs.Stands.{RealmView, entries_in}
 use Rattle.roam_book.specs.RealmConfig.{realm_config}
 use Rattle.roam_book.specs.RealmState.{RealmState, opening}
 use Rattle.roam_book.specs.Sound.{IsSound, state_of}
-use Rattle.roam_book.specs.declared.numbers.Numbers.{Numbers}
-use Rattle.roam_book.specs.declared.start.Start.{Start}
+use Rattle.roam_book.specs.declared.state.realm_numbers.RealmNumbers.{RealmNumbers}
+use Rattle.roam_book.specs.declared.state.start.Start.{Start}
 use Rattle.roam_core.specs.Events.{is_in_shard}
 use Rattle.roam_core.specs.Openings.{openings, start_of}
 use Rattle.roam_shard.specs.declared.opening.Opening.{Opening}
@@ -46,30 +46,30 @@ opened o = openings o.config o.starts
 
 module _ {A : Type 0} where
   -- the state of a realm: that of its entries and numbers, where it is one of the shard's
-  abbrev pub state_seen : OpeningView → ℕ → List PlainEntry → Option (Numbers A) → RealmState
+  abbrev pub state_seen : OpeningView → ℕ → List PlainEntry → Option (RealmNumbers A) → RealmState
   state_seen o r entries None = opening (realm_config o.config r) (start_of o.starts r)
   state_seen o r entries (Some n) = state_of entries n
 
   -- the states of the realms from r on
   unfoldable pub states_from :
-      OpeningView → (ℕ → List PlainEntry) → ℕ → List (Option (Numbers A)) → List RealmState
+      OpeningView → (ℕ → List PlainEntry) → ℕ → List (Option (RealmNumbers A)) → List RealmState
   states_from o E r [] = []
   states_from o E r (n ∷ ns) = state_seen o r (E r) n ∷ states_from o E (r + 1) ns
 
-  abbrev pub states_in : OpeningView → List RealmView → List (Option (Numbers A)) → List RealmState
+  abbrev pub states_in : OpeningView → List RealmView → List (Option (RealmNumbers A)) → List RealmState
   states_in o tables numbers = states_from o (entries_in tables) 0 numbers
 
   -- each of the shard's own realms has numbers, and no other has
-  abbrev pub HaveNumbers : OpeningView → List (Option (Numbers A)) → Type 0
+  abbrev pub HaveNumbers : OpeningView → List (Option (RealmNumbers A)) → Type 0
   HaveNumbers o numbers =
-      (r : ℕ) (n : Option (Numbers A)) → slice_get numbers r ≡ Some n
+      (r : ℕ) (n : Option (RealmNumbers A)) → slice_get numbers r ≡ Some n
       → is_some n ≡ is_in_shard o.config o.shard r
 
   -- what is kept: the shard's own realms have numbers that their entries fit, and no other has any
-  pub record IsShard (o : OpeningView) (tables : List RealmView) (numbers : List (Option (Numbers A)))
+  pub record IsShard (o : OpeningView) (tables : List RealmView) (numbers : List (Option (RealmNumbers A)))
       : Type 0 where
     pub own : HaveNumbers o numbers
-    pub sound : (r : ℕ) (n : Numbers A) → slice_get numbers r ≡ Some (Some n)
+    pub sound : (r : ℕ) (n : RealmNumbers A) → slice_get numbers r ≡ Some (Some n)
         → IsSound (realm_config o.config r) (entries_in tables r) n
     pub lists : (r : ℕ) → IsEntryList (entries_in tables r)
     pub count : length numbers ≡ length o.config.realms

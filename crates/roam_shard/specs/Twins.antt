@@ -4,9 +4,9 @@ use Rattle.std.specs.List.{AllByRecursion}
 use Rattle.roam_wire.specs.declared.refusal.NoMemory.{NoMemory}
 use Rattle.roam_pending.specs.DueOrder.{due_list}
 use Rattle.roam_book.specs.RealmState.{RealmState}
-use Rattle.roam_book.specs.declared.answer.Twin.{Twin}
+use Rattle.roam_book.specs.declared.packets.answer.Twin.{Twin}
 use Rattle.roam_core.specs.ManyRealms.{BrokerTurn}
-use Rattle.roam_book.specs.declared.room.Room.{Room}
+use Rattle.roam_book.specs.declared.packets.tick_memory.Room.{Room}
 use Rattle.roam_core.specs.Events.{is_in_shard}
 use Rattle.roam_core.specs.Steps.{IsAnswer}
 use Rattle.roam_shard.specs.ShardView.{OpeningView}

@@ -4,18 +4,18 @@
 //! Nothing here touches a socket or a clock: datagrams, moments and packets are values.
 #![tactic(auto)]
 
-mod dues;
+mod answer_pair;
+mod answers;
+mod any_due;
 mod following;
+mod jobs;
 mod look;
-mod numbers;
 mod opening;
-mod packets;
 mod paused;
+mod realm_numbers;
 mod rooms;
 mod shard;
 mod shards;
-mod ticking;
-mod turns;
 
 pub use following::FreshNumbers;
 pub use opening::{Opening, first_starts};

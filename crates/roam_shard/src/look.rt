@@ -8,16 +8,16 @@ ghost use Rattle.roam_core.specs.ManyRealms.{state_at};
 ghost use Rattle.roam_shard.specs.Looks.{IsOwn, NoneThere, StandsAs};
 
 use crate::shard::Shard;
-use roam_book::{Gauges, Numbers, Settings, waiting_at};
+use roam_book::{Gauges, RealmNumbers, RealmSettings, waiting_at};
 use roam_conf::Link;
-use roam_pending::{Due, Entry, Key};
+use roam_pending::{Due, Entries, Entry, Key};
 use std::alloc::Allocator;
 
 /// The numbers of a realm, where it is one of the shard's own.
 pub(crate) fn numbers_at<A: Allocator>(
-    numbers: &[Option<Numbers<A>>],
+    numbers: &[Option<RealmNumbers<A>>],
     realm: u16,
-) -> Option<&Numbers<A>>
+) -> Option<&RealmNumbers<A>>
     ensures some { IfSome result (λ n. slice_get numbers.now realm ≡ Some (Some n.now)) }
     ensures none { IfNone result (NoneThere numbers.now realm) }
 {
@@ -39,7 +39,7 @@ impl<A: Allocator + Copy> Shard<'_, A> {
         let Some(numbers) = numbers_at(&self.numbers, realm) else {
             return None;
         };
-        let settings = Settings::new(self.opening.config, realm);
+        let settings = RealmSettings::new(self.opening.config, realm);
         waiting_at(&settings, &self.entries, numbers, link, id)
     }
 
@@ -65,8 +65,8 @@ impl<A: Allocator + Copy> Shard<'_, A> {
         self.entries.find_ticket(realm, ticket)
     }
 
-    /// Of a realm's entries that are due at a moment in milliseconds, the first, or where `last` is one of them, the next
-    /// one after it; none where the realm isn't one of the shard's own.
+    /// Of a realm's entries that are due at a moment in milliseconds, the first, or where `last` is one of them, the
+    /// next one after it; none where the realm isn't one of the shard's own.
     pub fn due_after(&self, realm: u16, now: u64, last: Option<Due>) -> Option<Due>
         ensures { IsOwn self.now.opening realm
             → result ≡ due_after now last (state_at self.now.states realm).entries }

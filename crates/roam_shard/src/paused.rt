@@ -6,7 +6,7 @@ ghost use Rattle.roam_shard.specs.Pausing.{StandsUnder, opening_under, states_un
 
 use crate::opening::Opening;
 use crate::shard::Shard;
-use roam_book::{Numbers, Start};
+use roam_book::{RealmNumbers, Start};
 use roam_conf::Config;
 use roam_tables::Tables;
 use std::alloc::Allocator;
@@ -20,7 +20,7 @@ pub struct Paused<A: Allocator> {
     pub(crate) starts: Vec<Start, A>,
     pub(crate) entries: Tables<A>,
     /// The numbers that each of the shard's own realms hands out, by the index of the realm.
-    pub(crate) numbers: Vec<Option<Numbers<A>>, A>,
+    pub(crate) numbers: Vec<Option<RealmNumbers<A>>, A>,
 }
 
 impl<'c, A: Allocator + Copy> Shard<'c, A> {

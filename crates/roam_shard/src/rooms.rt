@@ -4,21 +4,21 @@ ghost use Rattle.std.specs.Prelude.{◌≡◌, ◌+◌, ◌≤◌, [], false, tr
 ghost use Rattle.roam_conf.specs.Shown.{shown};
 ghost use Rattle.roam_tables.specs.Stands.{entries_in};
 ghost use Rattle.roam_core.specs.ShardRooms.{AreRooms, IsRealmRoom, most_of, most_of_all};
-ghost use Rattle.roam_shard.specs.Rooms.{AllTwice, HasPlaces, IsTwice};
+ghost use Rattle.roam_shard.specs.Private.Rooms.{AllTwice, HasPlaces, IsTwice};
 ghost use Rattle.roam_shard.specs.ShardView.{IsShard, shown_opening, states_in};
 
+use crate::answer_pair::AnswerPair;
 use crate::opening::Opening;
-use crate::ticking::Both;
-use roam_book::{Numbers, Room, room_for};
+use roam_book::{RealmNumbers, Room, room_for};
 use roam_tables::Tables;
 use roam_wire::NoMemory;
 use std::alloc::Allocator;
 
 /// The memory of a shard's tick: a room for each realm that belongs to the shard, in the order of all
 /// realms, and two places for each packet that may be sent.
-pub(crate) struct ShardRoom<A: Allocator> {
+pub(crate) struct TickRooms<A: Allocator> {
     pub rooms: Vec<Option<Room<A>>, A>,
-    pub both: Both<A>,
+    pub both: AnswerPair<A>,
 }
 
 /// The room of a realm, where it takes part.
@@ -61,9 +61,9 @@ pub(crate) fn room_of_shard<A: Allocator + Copy>(
     alloc: A,
     opening: &Opening<'_, A>,
     entries: &Tables<A>,
-    numbers: &[Option<Numbers<A>>],
+    numbers: &[Option<RealmNumbers<A>>],
     now: u64,
-) -> Result<ShardRoom<A>, NoMemory>
+) -> Result<TickRooms<A>, NoMemory>
     requires { IsShard (shown_opening opening.now) entries.now numbers.now }
     ensures rooms { IfOk result (λ room. AreRooms (shown opening.now.config.now) now opening.now.shard 0
         (states_in (shown_opening opening.now) entries.now numbers.now) room.rooms.items) }
@@ -79,6 +79,6 @@ pub(crate) fn room_of_shard<A: Allocator + Copy>(
         most = with_room(most, &room)?;
         rooms.push(room)?;
     }
-    let both = Both::new(alloc, most)?;
-    Ok(ShardRoom { rooms, both })
+    let both = AnswerPair::new(alloc, most)?;
+    Ok(TickRooms { rooms, both })
 }

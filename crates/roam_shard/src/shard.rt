@@ -1,6 +1,7 @@
 //! One shard of the broker: its realms' entries in shared tables.
 
-ghost use Rattle.std.specs.Prelude.{◌≡◌, ◌↔◌, ℕ, ◌+◌, ◌<◌, ◌≤◌, ◌^◌, ◌++◌, [], None, Some, false, true, length, slice_set, IfOk, IsOk, vec_len};
+ghost use Rattle.std.specs.Prelude.{◌≡◌, ◌↔◌, ℕ, ◌+◌, ◌<◌, ◌≤◌, ◌^◌, ◌++◌, [], None, Some, false, true, length};
+ghost use Rattle.std.specs.Prelude.{slice_set, IfOk, IsOk, vec_len};
 ghost use Rattle.roam_conf.specs.Shown.{shown};
 ghost use Rattle.roam_route.specs.Admission.{admitted};
 ghost use Rattle.roam_route.specs.Events.{IsEvent};
@@ -13,18 +14,19 @@ ghost use Rattle.roam_book.specs.Turn.{packets_of, sends, shown_outs, state_afte
 ghost use Rattle.roam_core.specs.Events.{is_in_shard};
 ghost use Rattle.roam_core.specs.ManyRealms.{state_at, tick_from, tick_of, to_arrival, to_tick};
 ghost use Rattle.roam_core.specs.Openings.{openings};
-ghost use Rattle.roam_core.specs.ShardRooms.{AllFit, Fits, most_of, most_of_all, only_done_from, tick_in, turn_in};
-ghost use Rattle.roam_shard.specs.Rooms.{AllTwice, HasPlaces, IsTwice};
+ghost use Rattle.roam_core.specs.ShardRooms.{AllFit, Fits, most_of, most_of_all, only_done_from, tick_in};
+ghost use Rattle.roam_core.specs.ShardRooms.{turn_in};
+ghost use Rattle.roam_shard.specs.Private.Rooms.{AllTwice, HasPlaces, IsTwice};
 ghost use Rattle.roam_shard.specs.ShardView.{AreStarts, IsStart, shown_opening};
 ghost use Rattle.roam_shard.specs.Twins.{AreOwnRooms, GivesTwin, IsOwnRoom, NothingDue};
 
-use crate::dues::{all_done, any_due};
-use crate::numbers::opened_numbers;
+use crate::answer_pair::AnswerPair;
+use crate::any_due::{all_done, any_due};
+use crate::jobs::handle_job;
 use crate::opening::Opening;
-use crate::rooms::{ShardRoom, room_of_shard};
-use crate::ticking::Both;
-use crate::turns::given;
-use roam_book::{LATEST, Numbers, Realm, Room, Settings, Start, Twin, refused};
+use crate::realm_numbers::opened_numbers;
+use crate::rooms::{TickRooms, room_of_shard};
+use roam_book::{LATEST, RealmBroker, RealmNumbers, RealmSettings, Room, Start, Twin, refused};
 use roam_conf::Config;
 use roam_route::Job;
 use roam_tables::Tables;
@@ -41,7 +43,7 @@ pub struct Shard<'c, A: Allocator> {
     pub(crate) opening: Opening<'c, A>,
     pub(crate) entries: Tables<A>,
     /// The numbers that each of the shard's own realms hands out, by the index of the realm.
-    pub(crate) numbers: Vec<Option<Numbers<A>>, A>,
+    pub(crate) numbers: Vec<Option<RealmNumbers<A>>, A>,
 }
 
 impl<'c, A: Allocator> Model for Shard<'c, A> {
@@ -144,17 +146,17 @@ impl<'c, A: Allocator + Copy> Shard<'c, A> {
             → IsOk result }
         ensures opening { self.new.opening ≡ self.old.opening }
     {
-        let settings = Settings::new(self.opening.config, job.realm);
+        let settings = RealmSettings::new(self.opening.config, job.realm);
         let octets = job.octets.as_slice();
         let Some(numbers) = &mut self.numbers[usize::from(job.realm)] else {
             unreachable!();
         };
-        let mut realm = Realm {
+        let mut realm = RealmBroker {
             settings: &settings,
             entries: &mut self.entries,
             numbers,
         };
-        given(&mut realm, now, job, octets)
+        handle_job(&mut realm, now, job, octets)
     }
 
     /// A tick of one realm, in the room that was made for it. Takes no memory.
@@ -173,11 +175,11 @@ impl<'c, A: Allocator + Copy> Shard<'c, A> {
         ensures opening { self.new.opening ≡ self.old.opening }
         ensures most { length result.answer.outs.items ≤ length room.slots.items }
     {
-        let settings = Settings::new(self.opening.config, realm as u16);
+        let settings = RealmSettings::new(self.opening.config, realm as u16);
         let Some(numbers) = &mut self.numbers[realm] else {
             unreachable!();
         };
-        let mut one = Realm {
+        let mut one = RealmBroker {
             settings: &settings,
             entries: &mut self.entries,
             numbers,
@@ -186,7 +188,7 @@ impl<'c, A: Allocator + Copy> Shard<'c, A> {
     }
 
     /// A realm's part of a tick, in the room that was made for it, if one was. Takes no memory.
-    fn tick_one(&mut self, now: u64, realm: usize, room: Option<Room<A>>, both: &mut Both<A>)
+    fn tick_one(&mut self, now: u64, realm: usize, room: Option<Room<A>>, both: &mut AnswerPair<A>)
         requires there { realm < length self.old.states }
         requires own { IsOwnRoom self.old.opening realm room }
         requires room { Fits now (state_at self.old.states realm).entries room }
@@ -210,7 +212,7 @@ impl<'c, A: Allocator + Copy> Shard<'c, A> {
     }
 
     /// A tick of the realms that have a room, in rising index. Takes no memory.
-    fn tick_in(&mut self, now: u64, room: ShardRoom<A>) -> Twin<A>
+    fn tick_in(&mut self, now: u64, room: TickRooms<A>) -> Twin<A>
         requires rooms { AllFit now self.old.states room.rooms.items }
         requires own { AreOwnRooms self.old.opening 0 room.rooms.items }
         requires twice { AllTwice room.rooms.items }
@@ -227,7 +229,7 @@ impl<'c, A: Allocator + Copy> Shard<'c, A> {
             ≡ (tick_in self.old.opening.config now 0 self.old.states room.rooms.items).states }
         ensures opening { self.new.opening ≡ self.old.opening }
     {
-        let ShardRoom { rooms, mut both } = room;
+        let TickRooms { rooms, mut both } = room;
         let mut realm = 0;
         for room in rooms {
             self.tick_one(now, realm, room, &mut both);
@@ -251,11 +253,11 @@ impl<'c, A: Allocator + Copy> Shard<'c, A> {
         if self.numbers[realm].is_none() {
             return;
         }
-        let settings = Settings::new(self.opening.config, realm as u16);
+        let settings = RealmSettings::new(self.opening.config, realm as u16);
         let Some(numbers) = &mut self.numbers[realm] else {
             unreachable!();
         };
-        let mut one = Realm {
+        let mut one = RealmBroker {
             settings: &settings,
             entries: &mut self.entries,
             numbers,
@@ -299,11 +301,11 @@ impl<'c, A: Allocator + Copy> Shard<'c, A> {
             return Ok(refused_twice(self.alloc, Refusal::Moment));
         }
         if !any_due(&self.entries, &self.numbers, now) {
-            return Ok(Both::none(self.alloc).into_twin());
+            return Ok(AnswerPair::none(self.alloc).into_twin());
         }
         if all_done(&self.entries, &self.numbers, now) {
             self.let_go(now);
-            return Ok(Both::none(self.alloc).into_twin());
+            return Ok(AnswerPair::none(self.alloc).into_twin());
         }
         let room = room_of_shard(self.alloc, &self.opening, &self.entries, &self.numbers, now)?;
         Ok(self.tick_in(now, room))

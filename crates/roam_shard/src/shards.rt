@@ -12,8 +12,8 @@ ghost use Rattle.roam_core.specs.Steps.{GivesAnswer, StepsTo};
 ghost use Rattle.roam_shard.specs.Across.{IsSharded};
 ghost use Rattle.roam_shard.specs.ShardView.{AreStarts};
 
+use crate::answers::{first, lost_or_refused, rejected};
 use crate::opening::first_starts;
-use crate::packets::{first, lost_or_refused, rejected};
 use crate::shard::Shard;
 use roam_book::{Answer, LATEST, Start, refused};
 use roam_conf::Config;

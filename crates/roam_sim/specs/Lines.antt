@@ -1,8 +1,9 @@
 -- The lines that a run prints: one for each packet that leaves. Ours.
-use Rattle.std.specs.Prelude.{ℕ, List, ◌++◌, codes, Option, Some, None, slice_index}
+use Rattle.std.specs.Prelude.{ℕ, List, ◌++◌, codes, Option, Some, None}
 use Rattle.std.specs.Fmt.{decimal}
 use Rattle.std.specs.List.{flat_map}
 use Rattle.hex.specs.Hex.{encode_lower}
+use Rattle.roam_conf.specs.Texts.{endpoint_text}
 use Rattle.roam_conf.specs.declared.endpoint.Endpoint.{Endpoint}
 use Rattle.roam_conf.specs.declared.place.Place.{Place}
 use Rattle.roam_conf.specs.declared.place.Place.TheVariants as place
@@ -19,12 +20,6 @@ place_text place.Auth = codes "auth"
 place_text place.Acct = codes "acct"
 place_text (place.Out realm) = codes "out:" ++ decimal realm
 place_text (place.Reverse realm) = codes "reverse:" ++ decimal realm
-
--- four decimal numbers joined by dots, a colon and the port
-abbrev pub endpoint_text : Endpoint → List ℕ
-endpoint_text e =
-    decimal (slice_index e.ip 0) ++ codes "." ++ decimal (slice_index e.ip 1) ++ codes "." ++
-    decimal (slice_index e.ip 2) ++ codes "." ++ decimal (slice_index e.ip 3) ++ codes ":" ++ decimal e.port
 
 -- the line of a packet: for which realm it leaves, from which place, where to, and its octets in
 -- hexadecimal digits, with a line feed

@@ -6,7 +6,8 @@
 ghost use Rattle.std.specs.Prelude.{◌≤◌, length, OnOk};
 ghost use Rattle.std.specs.Io.KnownBytes.{Appends};
 ghost use Rattle.hex.specs.Hex.{encode_lower};
-ghost use Rattle.roam_sim.specs.Lines.{realm_text, place_text, endpoint_text, packet_line};
+ghost use Rattle.roam_conf.specs.Texts.{endpoint_text};
+ghost use Rattle.roam_sim.specs.Lines.{realm_text, place_text, packet_line};
 
 use roam_conf::{Endpoint, Place};
 use std::io;
@@ -41,9 +42,7 @@ pub fn print_endpoint<W: Write>(writer: &mut W, endpoint: Endpoint) -> io::Resul
     ensures { OnOk result
         (Appends (W.contents writer.old) (W.contents writer.new) (endpoint_text endpoint)) }
 {
-    let [a, b, c, d] = endpoint.ip;
-    let port = endpoint.port;
-    write!(writer, "{a}.{b}.{c}.{d}:{port}")
+    write!(writer, "{endpoint}")
 }
 
 /// How many octets are printed at a time.

@@ -1,6 +1,7 @@
 //! Reading a script: an event a line.
 
-ghost use Rattle.std.specs.Prelude.{◌≡◌, ◌↔◌, Ok, Err, IfOk, OnErr, IsOk, IsErrOf, IsSome, IsTrue, MatchOption, None, ℕ, [], ◌∷◌, option_map};
+ghost use Rattle.std.specs.Prelude.{◌≡◌, ◌↔◌, Ok, Err, IfOk, OnErr, IsOk, IsErrOf, IsSome, IsTrue, MatchOption, None};
+ghost use Rattle.std.specs.Prelude.{ℕ, [], ◌∷◌, option_map};
 ghost use Rattle.std.specs.List.{AllPass};
 ghost use Rattle.std.specs.Result.{result_ok};
 ghost use Rattle.hex.specs.Hex.{decode_of, is_hex_digit};
@@ -9,7 +10,7 @@ ghost use Rattle.roam_sim.specs.Script as spec;
 ghost use Rattle.roam_core.specs.Shown.{shown_event, shown_events};
 ghost use Rattle.roam_sim.specs.Shown.{shown_line};
 
-use crate::script::{Line, ScriptFault};
+use crate::script::{ScriptFault, ScriptLine};
 use roam_conf::{Endpoint, Place, decimal};
 use roam_core::Event;
 use roam_route::Datagram;
@@ -210,16 +211,16 @@ fn event<A: Allocator>(alloc: A, line: &str) -> Result<Option<Event<A>>, NoMemor
 
 /// What a line is, without its line feed. Memory is wanted for a line that states an event alone.
 #[tactic(auto, unfolding(crate::specs::Script::line_states))]
-fn read_line<A: Allocator>(alloc: A, line: &str) -> Result<Line<A>, NoMemory>
+fn read_line<A: Allocator>(alloc: A, line: &str) -> Result<ScriptLine<A>, NoMemory>
     ensures ok { IfOk result (λ l. shown_line l ≡ spec.line_states line.now) }
     ensures memory { OnErr result (spec.StatesEvent (spec.line_states line.now)) }
 {
     if line.is_empty() || line.as_bytes()[0] == b'#' {
-        return Ok(Line::Skipped);
+        return Ok(ScriptLine::Skipped);
     }
     match event(alloc, line)? {
-        Some(event) => Ok(Line::Event(event)),
-        None => Ok(Line::Faulty),
+        Some(event) => Ok(ScriptLine::Event(event)),
+        None => Ok(ScriptLine::Faulty),
     }
 }
 
@@ -246,13 +247,13 @@ pub fn read_script<A: Allocator + Copy>(
     for line in text.split('\n') {
         number += 1;
         match read_line(alloc, line) {
-            Ok(Line::Skipped) => {}
-            Ok(Line::Event(event)) => {
+            Ok(ScriptLine::Skipped) => {}
+            Ok(ScriptLine::Event(event)) => {
                 if events.push(event).is_err() {
                     is_short = true;
                 }
             }
-            Ok(Line::Faulty) => return Err(ScriptFault::Line(number)),
+            Ok(ScriptLine::Faulty) => return Err(ScriptFault::Line(number)),
             Err(NoMemory) => is_short = true,
         }
     }

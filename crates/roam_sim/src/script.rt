@@ -5,7 +5,7 @@ use std::alloc::Allocator;
 
 /// What a line of a script is.
 #[derive(Drop)]
-pub(crate) enum Line<A: Allocator> {
+pub(crate) enum ScriptLine<A: Allocator> {
     /// Empty, or begins with `#`.
     Skipped,
     /// States an event.

@@ -64,7 +64,7 @@ fn print_outcome<A: Allocator, W: Write>(
 ///
 /// # Errors
 ///
-/// `Line` for the script's first faulty line, whether memory is wanting or not, before anything is
+/// `ScriptLine` for the script's first faulty line, whether memory is wanting or not, before anything is
 /// written; `Write` where a write is refused, and then some of the lines may have been written; `Memory`
 /// for want of memory: either nothing was written, or events were lost, and the lines of the packets for
 /// the other events were written.

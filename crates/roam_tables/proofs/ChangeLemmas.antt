@@ -6,10 +6,10 @@ use Rattle.roam_pending.specs.PlainEntry.{PlainEntry, has_ticket}
 use Rattle.roam_pending.specs.EntryList.{find_ticket}
 use Rattle.roam_pending.proofs.TestLemmas.{same, differs}
 use Rattle.roam_pending.proofs.ChangeLemmas.{length-without}
-use Rattle.roam_tables.specs.declared.mark.Mark.{Mark}
-use Rattle.roam_tables.specs.declared.runs.Runs.{Runs}
+use Rattle.roam_tables.specs.declared.due_mark.DueMark.{DueMark}
+use Rattle.roam_tables.specs.declared.realm_queues.RealmQueues.{RealmQueues}
 use Rattle.roam_wire.specs.Numbered.{listed, tickets_end}
-use Rattle.roam_tables.specs.Marks.{mark_of, waits_part, holds_part, tickets_part, part_at, held, Holds, SameRuns, CanEnter, Leaves, Changes, IsRunsOf}
+use Rattle.roam_tables.specs.Private.Marks.{mark_of, waits_part, holds_part, tickets_part, part_at, held, Holds, SameRuns, CanEnter, Leaves, Changes, IsRunsOf}
 use Rattle.roam_tables.proofs.ListedLemmas.{IsNumbered, order-listed, find-listed, listed-without}
 use Rattle.roam_tables.proofs.MarkLemmas.{tells-same, can_enter, runs_enter, runs_leave, holds_more}
 
@@ -54,7 +54,7 @@ except-numbered t f num = record {
 }
 
 -- the runs of the same entries
-pub runs_same : {A : Type 0} (f : ℕ → Option PlainEntry) (q p : Runs A) → IsRunsOf f q
+pub runs_same : {A : Type 0} (f : ℕ → Option PlainEntry) (q p : RealmQueues A) → IsRunsOf f q
     → SameRuns q p → IsRunsOf f p
 runs_same f q p runs same = record {
   waits = rw same.waits runs.waits;
@@ -70,28 +70,28 @@ runs_same f q p runs same = record {
 
 module _ {A : Type 0} (f g : ℕ → Option PlainEntry) (numf : IsNumbered f) (numg : IsNumbered g)
     (t : ℕ) (below : t < tickets_end) (e x : PlainEntry) (at : f t ≡ Some e)
-    (q : Runs A) (runs : IsRunsOf f q) where
+    (q : RealmQueues A) (runs : IsRunsOf f q) where
   -- once the entry went, one of its ticket may come in
-  after_leaving : (p : Runs A) → Leaves (mark_of e) q p → IsRunsOf (except_at t f) p
+  after_leaving : (p : RealmQueues A) → Leaves (mark_of e) q p → IsRunsOf (except_at t f) p
   after_leaving p leaves =
       runs_leave f numf q runs (except_at t f) t e p (λ u ne. except-other t f u ne)
       at (except-here t f) leaves
       (one_fewer f numf t below (except_at t f) e at (except-here t f)
       (λ u ne. except-other t f u ne))
 
-  room_left : (p : Runs A) → Leaves (mark_of e) q p → Holds p (held p + 1)
+  room_left : (p : RealmQueues A) → Leaves (mark_of e) q p → Holds p (held p + 1)
   room_left p leaves =
       holds_more q p (held q) (held p + 1) leaves.as_many runs.room
       (let b = leaves.held in omega arith)
 
-  pub can_come_back : x.ticket ≡ t → (p : Runs A) → Leaves (mark_of e) q p → CanEnter (mark_of x) p
+  pub can_come_back : x.ticket ≡ t → (p : RealmQueues A) → Leaves (mark_of e) q p → CanEnter (mark_of x) p
   can_come_back own p leaves =
       can_enter (except_at t f) (except-numbered t f numf) p (after_leaving p leaves) t (mark_of x)
       (except-here t f) own (room_left p leaves)
 
   module _ (now : g t ≡ Some x) (others : (u : ℕ) → u ≢ t → g u ≡ f u)
       (same_length : length (listed g 0 tickets_end) ≡ length (listed f 0 tickets_end)) where
-    same_part : {X : Type 0} (part : Mark → Option X) → mark_of e ≡ mark_of x → (u : ℕ)
+    same_part : {X : Type 0} (part : DueMark → Option X) → mark_of e ≡ mark_of x → (u : ℕ)
         → part_at part g u ≡ part_at part f u
     same_part part is u = elim (cases_eq u t) as (λ _. part_at part g u ≡ part_at part f u) [
       | inl here ↦ (
@@ -102,9 +102,9 @@ module _ {A : Type 0} (f g : ℕ → Option PlainEntry) (numf : IsNumbered f) (n
           (others u ne)
     ]
 
-    pub runs_change : (p : Runs A) → Changes (mark_of e) (mark_of x) q p → IsRunsOf g p
+    pub runs_change : (p : RealmQueues A) → Changes (mark_of e) (mark_of x) q p → IsRunsOf g p
     runs_change p changes = elim changes as (λ _. IsRunsOf g p) [
-      | inl stays ↦ subst (λ (z : Runs A). IsRunsOf g z) (sym stays.1) (record {
+      | inl stays ↦ subst (λ (z : RealmQueues A). IsRunsOf g z) (sym stays.1) (record {
         waits = tells-same _ _ _ q.waits.items runs.waits (same_part waits_part stays.0);
         holds = tells-same _ _ _ q.holds.items runs.holds (same_part holds_part stays.0);
         tickets = tells-same _ _ _ q.tickets.items runs.tickets (same_part tickets_part stays.0);

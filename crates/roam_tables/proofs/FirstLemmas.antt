@@ -11,10 +11,10 @@ use Rattle.roam_pending.specs.ListLaws.{IsIn, AreInDueOrder}
 use Rattle.roam_pending.specs.PlainEntry.{PlainEntry, is_done}
 use Rattle.roam_pending.proofs.DueListLemmas.{strict-due, due-in, in-due}
 use Rattle.roam_pending.proofs.FindLemmas.{first_done-besides}
-use Rattle.roam_tables.specs.declared.runs.Runs.{Runs}
-use Rattle.roam_tables.specs.Rising.{AmongBoth, IsNext, NoneNext, IsFirstBesides}
+use Rattle.roam_tables.specs.declared.realm_queues.RealmQueues.{RealmQueues}
+use Rattle.roam_tables.specs.Private.Rising.{AmongBoth, IsNext, NoneNext, IsFirstBesides}
 use Rattle.roam_wire.specs.Numbered.{listed, tickets_end}
-use Rattle.roam_tables.specs.Marks.{mark_of, waits_part, holds_part, tickets_part, IsRunsOf}
+use Rattle.roam_tables.specs.Private.Marks.{mark_of, waits_part, holds_part, tickets_part, IsRunsOf}
 use Rattle.roam_tables.proofs.RisingLemmas.{All-in, due_less_before}
 use Rattle.roam_tables.proofs.ListedLemmas.{IsNumbered, order-listed, find-listed, find-listed_none, in-listed, from-listed}
 
@@ -99,7 +99,7 @@ module _ (last : Option Due) (now : ℕ) (es : List PlainEntry) (order : IsInOrd
         ])
 
 module _ {A : Type 0} (f : ℕ → Option PlainEntry) (num : IsNumbered f)
-    (small : (t : ℕ) (e : PlainEntry) → f t ≡ Some e → t < tickets_end) (q : Runs A)
+    (small : (t : ℕ) (e : PlainEntry) → f t ≡ Some e → t < tickets_end) (q : RealmQueues A)
     (runs : IsRunsOf f q) where
   told_due : (t : ℕ) (e : PlainEntry) → f t ≡ Some e → (b : Bool) → is_done e ≡ b
       → AmongBoth q.waits.items q.holds.items (due_at e)

@@ -5,10 +5,10 @@ use Rattle.std.proofs.lemmas.Bool.{cases_eq}
 use Rattle.slab.specs.Slab.{Slab}
 use Rattle.indexmap.specs.IndexMap.{IndexMap, spare}
 use Rattle.roam_tables.specs.declared.slots.Slot.{Slot}
-use Rattle.roam_tables.specs.declared.index.TicketKey.{TicketKey}
-use Rattle.roam_tables.specs.declared.index.ClientKey.{ClientKey}
-use Rattle.roam_tables.specs.declared.runs.Runs.{Runs}
-use Rattle.roam_tables.specs.Marks.{SameRuns}
+use Rattle.roam_tables.specs.declared.entry_index.TicketKey.{TicketKey}
+use Rattle.roam_tables.specs.declared.entry_index.ClientKey.{ClientKey}
+use Rattle.roam_tables.specs.declared.realm_queues.RealmQueues.{RealmQueues}
+use Rattle.roam_tables.specs.Private.Marks.{SameRuns}
 use Rattle.roam_tables.specs.Stands.{AtRealm, RealmView, Sound, Stored, client_at, entries_at, entries_in, place, room_at, room_in, slab_room, tables_view, ticket_at}
 use Rattle.roam_tables.proofs.RoomLemmas.{at_realm_fewer, four_fewer}
 use Rattle.roam_tables.proofs.StepLemmas.{same_sound}
@@ -24,7 +24,7 @@ on_err P (Ok x) p = tt
 on_err P (Err e) p = p
 
 module _ {A H : Type 0} (s : Slab (Slot A)) (t : IndexMap TicketKey ℕ H)
-    (c : IndexMap ClientKey ℕ H) (rs : List (Runs A))
+    (c : IndexMap ClientKey ℕ H) (rs : List (RealmQueues A))
     (sound : Sound (place s) (ticket_at t) (client_at c) rs)
     (v : List RealmView) (is : tables_view s t c rs ≡ v) where
   pub kept_within : (r : ℕ) → r < length v → r < length rs
@@ -34,7 +34,7 @@ module _ {A H : Type 0} (s : Slab (Slot A)) (t : IndexMap TicketKey ℕ H)
   grow_room_was r h = (let k = seen_room s t c rs sound v is r in omega arith)
 
   module _ (r : ℕ) (s2 : Slab (Slot A)) (t2 : IndexMap TicketKey ℕ H) (c2 : IndexMap ClientKey ℕ H)
-      (rs2 : List (Runs A))
+      (rs2 : List (RealmQueues A))
       (slots : place s2 ≡ place s) (tickets : ticket_at t2 ≡ ticket_at t)
       (clients : client_at c2 ≡ client_at c) (runs : AtRealm SameRuns rs rs2 r) where
     pub grow_sound : Sound (place s2) (ticket_at t2) (client_at c2) rs2

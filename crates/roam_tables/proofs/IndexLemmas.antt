@@ -2,7 +2,7 @@
 use Rattle.std.proofs.Common.{◌≡◌, ◌≢◌, ◌⊎◌, ℕ, Bool, true, false, Option, Some, None, refl, ap, sym, ◌∙◌, subst, inl, inr}
 use Rattle.std.specs.Prelude.{option_and_then, option_map}
 use Rattle.std.proofs.lemmas.Bool.{cases_Bool, cases_eq}
-use Rattle.roam_tables.specs.Indexes.{IsIndex, Puts, look}
+use Rattle.roam_tables.specs.Private.Indexes.{IsIndex, Puts, look}
 use Rattle.roam_wire.specs.Numbered.{PutsAt}
 
 -- a test that says which keys are equal

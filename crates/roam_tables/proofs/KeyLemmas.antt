@@ -11,7 +11,7 @@ use Rattle.roam_pending.specs.PlainEntry.{same_key, same_place}
 use Rattle.roam_conf.specs.Duplicates.{same_endpoint}
 use Rattle.roam_pending.proofs.TestLemmas.{same, key_is_same}
 use Rattle.roam_pending.proofs.ClientLemmas.{key-equal}
-use Rattle.roam_tables.specs.declared.index.ClientKey.{ClientKey}
+use Rattle.roam_tables.specs.declared.entry_index.ClientKey.{ClientKey}
 use Rattle.roam_tables.specs.Stands.{ticket_eq, client_eq}
 use Rattle.roam_tables.proofs.IndexLemmas.{IsEquality}
 

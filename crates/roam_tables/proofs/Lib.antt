@@ -12,6 +12,7 @@ pub mod StepLemmas
 pub mod RealmLemmas
 pub mod ViewLemmas
 pub mod TablesLemmas
+pub mod KeptLemmas
 pub mod UpdateLemmas
 pub mod GrowthLemmas
 pub mod OpeningLemmas

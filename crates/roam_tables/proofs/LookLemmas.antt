@@ -7,16 +7,16 @@ use Rattle.roam_pending.specs.PlainEntry.{PlainEntry, has_key, has_ticket, same_
 use Rattle.roam_pending.specs.EntryList.{IsEntryList, find_client, find_ticket}
 use Rattle.roam_pending.proofs.TestLemmas.{same, differs, key_is_same}
 use Rattle.roam_pending.proofs.ClientLemmas.{key-equal}
-use Rattle.roam_tables.specs.declared.index.TicketKey.{TicketKey}
-use Rattle.roam_tables.specs.declared.index.ClientKey.{ClientKey}
-use Rattle.roam_tables.specs.declared.runs.Runs.{Runs}
-use Rattle.roam_tables.specs.Indexes.{look}
+use Rattle.roam_tables.specs.declared.entry_index.TicketKey.{TicketKey}
+use Rattle.roam_tables.specs.declared.entry_index.ClientKey.{ClientKey}
+use Rattle.roam_tables.specs.declared.realm_queues.RealmQueues.{RealmQueues}
+use Rattle.roam_tables.specs.Private.Indexes.{look}
 use Rattle.roam_wire.specs.Numbered.{tickets_end}
 use Rattle.roam_tables.specs.Stands.{Stored, entry_at, entries_at, Sound}
 use Rattle.roam_tables.proofs.ListedLemmas.{IsNumbered, HasOwnKeys, list-listed, find-listed, find-listed_none, listed_nobody}
 
 module _ {A : Type 0} (S : ℕ → Option Stored) (T : TicketKey → Option ℕ) (C : ClientKey → Option ℕ)
-    (rs : List (Runs A)) (sound : Sound S T C rs) where
+    (rs : List (RealmQueues A)) (sound : Sound S T C rs) where
   -- where an entry of a realm lies
   pub record LiesAt (r t : ℕ) (e : PlainEntry) : Type 0 where
     pub slot : ℕ

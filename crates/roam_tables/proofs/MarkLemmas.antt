@@ -6,11 +6,11 @@ use Rattle.std.proofs.lemmas.Bool.{cases_eq}
 use Rattle.roam_pending.specs.declared.due.Due.{Due}
 use Rattle.roam_pending.specs.ListLaws.{IsIn}
 use Rattle.roam_pending.specs.PlainEntry.{PlainEntry}
-use Rattle.roam_tables.specs.declared.mark.Mark.{Mark}
-use Rattle.roam_tables.specs.declared.runs.Runs.{Runs}
-use Rattle.roam_tables.specs.Rising.{Rises, due_cmp}
+use Rattle.roam_tables.specs.declared.due_mark.DueMark.{DueMark}
+use Rattle.roam_tables.specs.declared.realm_queues.RealmQueues.{RealmQueues}
+use Rattle.roam_tables.specs.Private.Rising.{Rises, due_cmp}
 use Rattle.roam_wire.specs.Numbered.{listed, tickets_end}
-use Rattle.roam_tables.specs.Marks.{mark_of, waits_part, holds_part, tickets_part, part_at, Tells, Gains, Loses, IsAbsent, IsPresent, held, Holds, HoldsAsMany, AllRise, CanEnter, Enters, CanLeave, Leaves, IsRunsOf}
+use Rattle.roam_tables.specs.Private.Marks.{mark_of, waits_part, holds_part, tickets_part, part_at, Tells, Gains, Loses, IsAbsent, IsPresent, held, Holds, HoldsAsMany, AllRise, CanEnter, Enters, CanLeave, Leaves, IsRunsOf}
 use Rattle.roam_tables.proofs.ListedLemmas.{IsNumbered}
 
 module _ {X : Type 0} (cmp : X → X → Ordering) (P Q : ℕ → Option X) (xs ys : List X) (t : ℕ)
@@ -109,8 +109,8 @@ cond_some_not false y x n of h at =
 cond_some_not true y x n of h at = absurd (let k : None ≡ Some x = at in cc)
 
 -- a part that names the ticket of its entry
-pub record Names {X : Type 0} (part : Mark → Option X) (of : X → ℕ) : Type 0 where
-  pub named : (m : Mark) (x : X) → part m ≡ Some x → of x ≡ m.due.ticket
+pub record Names {X : Type 0} (part : DueMark → Option X) (of : X → ℕ) : Type 0 where
+  pub named : (m : DueMark) (x : X) → part m ≡ Some x → of x ≡ m.due.ticket
 
 abbrev pub due_ticket : Due → ℕ
 due_ticket d = d.ticket
@@ -130,7 +130,7 @@ pub names-tickets : Names tickets_part own_ticket
 names-tickets =
     record { named = λ m x at. cond_some m.is_done m.due.ticket x m.due.ticket own_ticket refl at }
 
-module _ {X : Type 0} (part : Mark → Option X) (of : X → ℕ) (names : Names part of)
+module _ {X : Type 0} (part : DueMark → Option X) (of : X → ℕ) (names : Names part of)
     (f : ℕ → Option PlainEntry) (num : IsNumbered f) where
   pub part_names : (t : ℕ) (x : X) → part_at part f t ≡ Some x → of x ≡ t
   part_names t x at = by (f t) refl at
@@ -143,7 +143,7 @@ module _ {X : Type 0} (part : Mark → Option X) (of : X → ℕ) (names : Names
   part_own : (t u : ℕ) (x : X) → part_at part f u ≡ Some x → part_at part f t ≡ Some x → u ≡ t
   part_own t u x a b = sym (part_names u x a) ∙ part_names t x b
 
-  absent : (cmp : X → X → Ordering) (xs : List X) (t : ℕ) (m : Mark) → Tells cmp (part_at part f) xs
+  absent : (cmp : X → X → Ordering) (xs : List X) (t : ℕ) (m : DueMark) → Tells cmp (part_at part f) xs
       → f t ≡ None → m.due.ticket ≡ t → (o : Option X) → part m ≡ o → IsAbsent xs o
   absent cmp xs t m tells none at None is = tt
   absent cmp xs t m tells none at (Some x) is = λ held. (
@@ -159,7 +159,7 @@ module _ {X : Type 0} (part : Mark → Option X) (of : X → ℕ) (names : Names
   present cmp xs t e tells at (Some x) is = (
       let here : part_at part f t ≡ Some x = rw at is in tells.told t x here)
 
-module _ {X : Type 0} (cmp : X → X → Ordering) (part : Mark → Option X)
+module _ {X : Type 0} (cmp : X → X → Ordering) (part : DueMark → Option X)
     (f g : ℕ → Option PlainEntry) (xs ys : List X) (t : ℕ) (e : PlainEntry)
     (tells : Tells cmp (part_at part f) xs) (rises : Rises cmp ys)
     (others : (u : ℕ) → u ≢ t → g u ≡ f u) where
@@ -180,7 +180,7 @@ module _ {X : Type 0} (cmp : X → X → Ordering) (part : Mark → Option X)
       (part (mark_of e)) (λ u x a b. part_own part of names f num t u x a b) (rw some refl)
       (rw none refl) loses
 
-pub holds_more : {A : Type 0} (old new : Runs A) (n m : ℕ) → HoldsAsMany old new → Holds old n
+pub holds_more : {A : Type 0} (old new : RealmQueues A) (n m : ℕ) → HoldsAsMany old new → Holds old n
     → m ≤ n → Holds new m
 holds_more old new n m many h le =
     record {
@@ -190,13 +190,13 @@ holds_more old new n m many h le =
       tickets = omega (arith, many.tickets, h.tickets);
     }
 
-module _ {A : Type 0} (f : ℕ → Option PlainEntry) (num : IsNumbered f) (q : Runs A)
+module _ {A : Type 0} (f : ℕ → Option PlainEntry) (num : IsNumbered f) (q : RealmQueues A)
     (runs : IsRunsOf f q) where
   pub all_rise : AllRise q
   all_rise =
       record { waits = runs.waits.rises; holds = runs.holds.rises; tickets = runs.tickets.rises }
 
-  pub can_enter : (t : ℕ) (m : Mark) → f t ≡ None → m.due.ticket ≡ t → Holds q (held q + 1)
+  pub can_enter : (t : ℕ) (m : DueMark) → f t ≡ None → m.due.ticket ≡ t → Holds q (held q + 1)
       → CanEnter m q
   can_enter t m none at room = record {
     rise = all_rise;
@@ -228,7 +228,7 @@ module _ {A : Type 0} (f : ℕ → Option PlainEntry) (num : IsNumbered f) (q : 
     paired = runs.paired;
   }
 
-  module _ (g : ℕ → Option PlainEntry) (t : ℕ) (e : PlainEntry) (p : Runs A)
+  module _ (g : ℕ → Option PlainEntry) (t : ℕ) (e : PlainEntry) (p : RealmQueues A)
       (others : (u : ℕ) → u ≢ t → g u ≡ f u) where
     pub runs_enter : f t ≡ None → g t ≡ Some e → Enters (mark_of e) q p → Holds q (held q + 1)
         → length (listed g 0 tickets_end) ≡ length (listed f 0 tickets_end) + 1 → IsRunsOf g p

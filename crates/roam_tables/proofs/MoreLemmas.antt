@@ -17,10 +17,10 @@ use Rattle.roam_pending.proofs.ChangeLemmas.{length-without}
 use Rattle.roam_pending.proofs.DueListLemmas.{due-in}
 use Rattle.roam_pending.proofs.TestLemmas.{same, differs}
 use Rattle.roam_tables.specs.declared.slots.Slot.{Slot}
-use Rattle.roam_tables.specs.declared.index.TicketKey.{TicketKey}
-use Rattle.roam_tables.specs.declared.index.ClientKey.{ClientKey}
-use Rattle.roam_tables.specs.declared.runs.Runs.{Runs}
-use Rattle.roam_tables.specs.Marks.{AreEmpty, IsRunsOf}
+use Rattle.roam_tables.specs.declared.entry_index.TicketKey.{TicketKey}
+use Rattle.roam_tables.specs.declared.entry_index.ClientKey.{ClientKey}
+use Rattle.roam_tables.specs.declared.realm_queues.RealmQueues.{RealmQueues}
+use Rattle.roam_tables.specs.Private.Marks.{AreEmpty, IsRunsOf}
 use Rattle.roam_tables.specs.Stands.{AreMore, HasTicket, RealmView, Sound, client_at, entries_in, entry_at, place, tables_view, ticket_at}
 use Rattle.roam_tables.proofs.LookLemmas.{nobody_past}
 use Rattle.roam_tables.proofs.OpeningLemmas.{runs_of_nothing}
@@ -59,15 +59,15 @@ all-behind P (x ∷ xs) ys zero y le all at = absurd (omega arith)
 all-behind P (x ∷ xs) ys (suc k) y le all at = all-behind P xs ys k y (omega arith) all at
 
 module _ {A H : Type 0} (s : Slab (Slot A)) (t : IndexMap TicketKey ℕ H)
-    (c : IndexMap ClientKey ℕ H) (rs new : List (Runs A))
+    (c : IndexMap ClientKey ℕ H) (rs new : List (RealmQueues A))
     (sound : Sound (place s) (ticket_at t) (client_at c) rs)
     (v : List RealmView) (is : tables_view s t c rs ≡ v) (are : AreMore AreEmpty rs new) where
   pub longer : length rs ≤ length new
   longer = (let len = ap length are.behind in let both = length-append rs are.more in omega (arith, len, both))
 
-  runs_at : (r : ℕ) (q : Runs A) → slice_get new r ≡ Some q → IsRunsOf (entry_at (place s) (ticket_at t) r) q
+  runs_at : (r : ℕ) (q : RealmQueues A) → slice_get new r ≡ Some q → IsRunsOf (entry_at (place s) (ticket_at t) r) q
   runs_at r q at =
-      let there : slice_get (rs ++ are.more) r ≡ Some q = ap (λ (l : List (Runs A)). slice_get l r) (sym are.behind) ∙ at in
+      let there : slice_get (rs ++ are.more) r ≡ Some q = ap (λ (l : List (RealmQueues A)). slice_get l r) (sym are.behind) ∙ at in
       elim (cases_lt r (length rs)) as (λ _. IsRunsOf (entry_at (place s) (ticket_at t) r) q) [
         | inl lt ↦ sound.runs r q (sym (get-append rs are.more r lt) ∙ there)
         | inr past ↦ runs_of_nothing (entry_at (place s) (ticket_at t) r) q

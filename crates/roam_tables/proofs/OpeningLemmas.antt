@@ -4,13 +4,13 @@ use Rattle.std.specs.Prelude.{slice_get}
 use Rattle.std.specs.List.{AllByRecursion}
 use Rattle.std.specs.Ordering.{nat_cmp}
 use Rattle.roam_pending.specs.PlainEntry.{PlainEntry}
-use Rattle.roam_tables.specs.declared.index.TicketKey.{TicketKey}
-use Rattle.roam_tables.specs.declared.index.ClientKey.{ClientKey}
-use Rattle.roam_tables.specs.declared.mark.Mark.{Mark}
-use Rattle.roam_tables.specs.declared.runs.Runs.{Runs}
-use Rattle.roam_tables.specs.Rising.{due_cmp}
+use Rattle.roam_tables.specs.declared.entry_index.TicketKey.{TicketKey}
+use Rattle.roam_tables.specs.declared.entry_index.ClientKey.{ClientKey}
+use Rattle.roam_tables.specs.declared.due_mark.DueMark.{DueMark}
+use Rattle.roam_tables.specs.declared.realm_queues.RealmQueues.{RealmQueues}
+use Rattle.roam_tables.specs.Private.Rising.{due_cmp}
 use Rattle.roam_wire.specs.Numbered.{tickets_end}
-use Rattle.roam_tables.specs.Marks.{AreEmpty, IsRunsOf, Tells, part_at, waits_part, holds_part, tickets_part}
+use Rattle.roam_tables.specs.Private.Marks.{AreEmpty, IsRunsOf, Tells, part_at, waits_part, holds_part, tickets_part}
 use Rattle.roam_tables.specs.Stands.{Sound, Stored, entries_at, entry_at}
 use Rattle.roam_tables.proofs.ListedLemmas.{listed_nobody}
 
@@ -21,7 +21,7 @@ all_get P (y ∷ ys) zero x all at =
     (let some : Some y ≡ Some x = at in let is : y ≡ x = cc in subst P is all.0)
 all_get P (y ∷ ys) (suc k) x all at = all_get P ys k x all.1 at
 
-tells_nothing : {X : Type 0} (cmp : X → X → Ordering) (part : Mark → Option X)
+tells_nothing : {X : Type 0} (cmp : X → X → Ordering) (part : DueMark → Option X)
     (f : ℕ → Option PlainEntry) (xs : List X) → ((t : ℕ) → f t ≡ None) → xs ≡ []
     → Tells cmp (part_at part f) xs
 tells_nothing cmp part f xs none empty = rw empty (record {
@@ -32,7 +32,7 @@ tells_nothing cmp part f xs none empty = rw empty (record {
   only = λ x held. absurd held;
 })
 
-pub runs_of_nothing : {A : Type 0} (f : ℕ → Option PlainEntry) (q : Runs A) → ((t : ℕ) → f t ≡ None)
+pub runs_of_nothing : {A : Type 0} (f : ℕ → Option PlainEntry) (q : RealmQueues A) → ((t : ℕ) → f t ≡ None)
     → AreEmpty q → IsRunsOf f q
 runs_of_nothing f q none empty = record {
   waits = tells_nothing due_cmp waits_part f q.waits.items none empty.waits;
@@ -46,7 +46,7 @@ runs_of_nothing f q none empty = record {
 }
 
 module _ {A : Type 0} (S : ℕ → Option Stored) (T : TicketKey → Option ℕ) (C : ClientKey → Option ℕ)
-    (rs : List (Runs A))
+    (rs : List (RealmQueues A))
     (slots : (i : ℕ) → S i ≡ None) (tickets : (k : TicketKey) → T k ≡ None)
     (clients : (k : ClientKey) → C k ≡ None) where
   nobody : (r t : ℕ) → entry_at S T r t ≡ None

@@ -17,7 +17,7 @@ use Rattle.roam_pending.specs.declared.due.Due.{Due}
 use Rattle.roam_pending.specs.DueOrder.{is_after, is_before}
 use Rattle.roam_pending.specs.EntryList.{is_beside}
 use Rattle.roam_pending.specs.ListLaws.{IsIn}
-use Rattle.roam_tables.specs.Rising.{due_cmp, Rises, IsGap, IsAt, IsPlaceOf, Adds, Drops, IsNext, NoneNext, IsNextOf, AmongRun, AmongBoth, IsLeastBesides, IsStart}
+use Rattle.roam_tables.specs.Private.Rising.{due_cmp, Rises, IsGap, IsAt, IsPlaceOf, Adds, Drops, IsNext, NoneNext, IsNextOf, AmongRun, AmongBoth, IsLeastBesides, IsStart}
 
 pub due_total : IsTotalOrder due_cmp
 due_total =

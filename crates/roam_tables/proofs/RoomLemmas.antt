@@ -3,8 +3,8 @@ use Rattle.std.proofs.Common.{◌≡◌, ℕ, ◌+◌, ◌-◌, ◌<◌, ◌≤�
 use Rattle.std.specs.Prelude.{min, slice_get}
 use Rattle.std.proofs.lemmas.Option.{slice_get_within}
 use Rattle.std.specs.VecDeque.{deque_capacity}
-use Rattle.roam_tables.specs.declared.runs.Runs.{Runs}
-use Rattle.roam_tables.specs.Marks.{held, Holds, HoldsAsMany}
+use Rattle.roam_tables.specs.declared.realm_queues.RealmQueues.{RealmQueues}
+use Rattle.roam_tables.specs.Private.Marks.{held, Holds, HoldsAsMany}
 use Rattle.roam_tables.specs.Stands.{AtRealm, least_room, runs_room}
 
 less_of_three : (a b c h : ℕ) → h + 1 ≤ a → h + 1 ≤ b → h + 1 ≤ c → 0 < min a (min b c) - h
@@ -33,41 +33,41 @@ four_fewer a b c d a2 b2 c2 d2 n x y z w =
     (two_fewer c d c2 d2 n z w)
 
 module _ {A : Type 0} where
-  pub holds_room : (q : Runs A) → Holds q (held q + 1) → 0 < runs_room (Some q)
+  pub holds_room : (q : RealmQueues A) → Holds q (held q + 1) → 0 < runs_room (Some q)
   holds_room q h =
       less_of_three (deque_capacity q.waits) (deque_capacity q.holds) (deque_capacity q.tickets)
       (held q) h.waits h.holds h.tickets
 
-  pub room_holds : (q : Runs A) → 0 < runs_room (Some q) → Holds q (held q + 1)
+  pub room_holds : (q : RealmQueues A) → 0 < runs_room (Some q) → Holds q (held q + 1)
   room_holds q h = (
       let k = least_three (deque_capacity q.waits) (deque_capacity q.holds)
       (deque_capacity q.tickets) (held q) h in
       record { waits = k.0; holds = k.1; tickets = k.2 })
 
   -- there is a realm where there is room for its entries
-  pub room_within : (rs : List (Runs A)) (r : ℕ) → 0 < runs_room (slice_get rs r) → r < length rs
+  pub room_within : (rs : List (RealmQueues A)) (r : ℕ) → 0 < runs_room (slice_get rs r) → r < length rs
   room_within rs r h = by (slice_get rs r) refl h
     where
-      by : (o : Option (Runs A)) → slice_get rs r ≡ o → 0 < runs_room o → r < length rs
+      by : (o : Option (RealmQueues A)) → slice_get rs r ≡ o → 0 < runs_room o → r < length rs
       by None at k = absurd (omega arith)
       by (Some q) at k = slice_get_within rs r q at
 
-  pub room_of : (rs : List (Runs A)) (r : ℕ) → 0 < runs_room (slice_get rs r) → (q : Runs A)
+  pub room_of : (rs : List (RealmQueues A)) (r : ℕ) → 0 < runs_room (slice_get rs r) → (q : RealmQueues A)
       → slice_get rs r ≡ Some q → Holds q (held q + 1)
-  room_of rs r h q at = room_holds q (subst (λ (o : Option (Runs A)). 0 < runs_room o) at h)
+  room_of rs r h q at = room_holds q (subst (λ (o : Option (RealmQueues A)). 0 < runs_room o) at h)
 
-  pub runs_fewer : (old new : Runs A) (n : ℕ) → HoldsAsMany old new → held new ≤ held old + n
+  pub runs_fewer : (old new : RealmQueues A) (n : ℕ) → HoldsAsMany old new → held new ≤ held old + n
       → runs_room (Some old) ≤ runs_room (Some new) + n
   runs_fewer old new n many le =
       three_fewer _ _ _ (held old) _ _ _ (held new) n many.waits many.holds many.tickets le
 
   -- how much room is left at the realm of a change
-  pub at_realm_fewer : (Becomes : Runs A → Runs A → Type 0) (rs rs2 : List (Runs A)) (r n : ℕ)
+  pub at_realm_fewer : (Becomes : RealmQueues A → RealmQueues A → Type 0) (rs rs2 : List (RealmQueues A)) (r n : ℕ)
       (c : AtRealm Becomes rs rs2 r)
       → HoldsAsMany c.before c.after → held c.after ≤ held c.before + n
       → runs_room (slice_get rs r) ≤ runs_room (slice_get rs2 r) + n
   at_realm_fewer Becomes rs rs2 r n c many le =
-      subst (λ (o : Option (Runs A)). runs_room o ≤ runs_room (slice_get rs2 r) + n)
+      subst (λ (o : Option (RealmQueues A)). runs_room o ≤ runs_room (slice_get rs2 r) + n)
       (sym c.before_is)
-      (subst (λ (o : Option (Runs A)). runs_room (Some c.before) ≤ runs_room o + n) (sym c.after_is)
+      (subst (λ (o : Option (RealmQueues A)). runs_room (Some c.before) ≤ runs_room o + n) (sym c.after_is)
       (runs_fewer c.before c.after n many le))

@@ -5,13 +5,13 @@ use Rattle.std.proofs.lemmas.Bool.{cases_eq}
 use Rattle.roam_pending.specs.PlainEntry.{PlainEntry}
 use Rattle.roam_pending.specs.EntryList.{IsNew, put, without}
 use Rattle.roam_pending.specs.Realms.{RealmBecomes}
-use Rattle.roam_tables.specs.declared.index.TicketKey.{TicketKey}
-use Rattle.roam_tables.specs.declared.index.ClientKey.{ClientKey}
-use Rattle.roam_tables.specs.declared.runs.Runs.{Runs}
-use Rattle.roam_tables.specs.Indexes.{Puts}
+use Rattle.roam_tables.specs.declared.entry_index.TicketKey.{TicketKey}
+use Rattle.roam_tables.specs.declared.entry_index.ClientKey.{ClientKey}
+use Rattle.roam_tables.specs.declared.realm_queues.RealmQueues.{RealmQueues}
+use Rattle.roam_tables.specs.Private.Indexes.{Puts}
 use Rattle.roam_wire.specs.Numbered.{PutsAt}
 use Rattle.roam_wire.specs.Numbered.{listed, tickets_end}
-use Rattle.roam_tables.specs.Marks.{mark_of, held, Holds, SameRuns, Enters, Leaves, Changes, IsRunsOf}
+use Rattle.roam_tables.specs.Private.Marks.{mark_of, held, Holds, SameRuns, Enters, Leaves, Changes, IsRunsOf}
 use Rattle.roam_tables.specs.Stands.{Stored, ticket_key, client_key, ticket_eq, client_eq, entry_at, entries_at, Sound, AtRealm}
 use Rattle.roam_tables.proofs.IndexLemmas.{puts_here, puts_other, index-new, index-change, index-clear, look-other, look-none}
 use Rattle.roam_tables.proofs.KeyLemmas.{ticket_equality, client_equality}
@@ -60,18 +60,18 @@ module _ (E F : ℕ → ℕ → Option PlainEntry) (r t : ℕ)
     ];
   }
 
-  module _ {A : Type 0} (rs rs2 : List (Runs A))
-      (runs : (q : ℕ) (p : Runs A) → slice_get rs q ≡ Some p → IsRunsOf (E q) p) where
+  module _ {A : Type 0} (rs rs2 : List (RealmQueues A))
+      (runs : (q : ℕ) (p : RealmQueues A) → slice_get rs q ≡ Some p → IsRunsOf (E q) p) where
     -- the runs of every other realm are those of its entries
-    all_runs : (Becomes : Runs A → Runs A → Type 0) (c : AtRealm Becomes rs rs2 r)
-        → IsRunsOf (F r) c.after → (q : ℕ) (p : Runs A) → slice_get rs2 q ≡ Some p
+    all_runs : (Becomes : RealmQueues A → RealmQueues A → Type 0) (c : AtRealm Becomes rs rs2 r)
+        → IsRunsOf (F r) c.after → (q : ℕ) (p : RealmQueues A) → slice_get rs2 q ≡ Some p
         → IsRunsOf (F q) p
     all_runs Becomes c here q p at = elim (cases_eq q r) as (λ _. IsRunsOf (F q) p) [
       | inl is ↦ (
           let k : Some c.after ≡ Some p = sym c.after_is ∙ ap (slice_get rs2) (sym is) ∙ at in
           let same : c.after ≡ p = cc in
           subst (λ (n : ℕ). IsRunsOf (F n) p) (sym is)
-          (subst (λ (z : Runs A). IsRunsOf (F r) z) same here))
+          (subst (λ (z : RealmQueues A). IsRunsOf (F r) z) same here))
       | inr ne ↦ (
           let old = runs q p (sym (c.others q ne) ∙ at) in
           let same : E q ≡ F q = λ j u. sym (others q u (inl ne)) j in
@@ -80,8 +80,8 @@ module _ (E F : ℕ → ℕ → Option PlainEntry) (r t : ℕ)
 
     pub runs_new : (e : PlainEntry) (c : AtRealm (Enters (mark_of e)) rs rs2 r) → E r t ≡ None
         → F r t ≡ Some e → e.ticket ≡ t
-        → ((q : Runs A) → slice_get rs r ≡ Some q → Holds q (held q + 1))
-        → (q : ℕ) (p : Runs A) → slice_get rs2 q ≡ Some p → IsRunsOf (F q) p
+        → ((q : RealmQueues A) → slice_get rs r ≡ Some q → Holds q (held q + 1))
+        → (q : ℕ) (p : RealmQueues A) → slice_get rs2 q ≡ Some p → IsRunsOf (F q) p
     runs_new e c none now own room =
         let more = one_fewer (F r) (numbered_with e now own) t small (E r) e now none
         (λ u ne. sym (here_others u ne)) in
@@ -90,7 +90,7 @@ module _ (E F : ℕ → ℕ → Option PlainEntry) (r t : ℕ)
         here_others none now c.becomes (room c.before c.before_is) (sym more))
 
     pub runs_gone : (e : PlainEntry) (c : AtRealm (Leaves (mark_of e)) rs rs2 r) → E r t ≡ Some e
-        → F r t ≡ None → (q : ℕ) (p : Runs A) → slice_get rs2 q ≡ Some p → IsRunsOf (F q) p
+        → F r t ≡ None → (q : ℕ) (p : RealmQueues A) → slice_get rs2 q ≡ Some p → IsRunsOf (F q) p
     runs_gone e c was gone =
         let fewer = one_fewer (E r) num t small (F r) e was gone here_others in
         all_runs (Leaves (mark_of e)) c
@@ -98,7 +98,7 @@ module _ (E F : ℕ → ℕ → Option PlainEntry) (r t : ℕ)
         here_others was gone c.becomes fewer)
 
     pub runs_other : (e x : PlainEntry) (c : AtRealm (Changes (mark_of e) (mark_of x)) rs rs2 r)
-        → E r t ≡ Some e → F r t ≡ Some x → x.ticket ≡ t → (q : ℕ) (p : Runs A)
+        → E r t ≡ Some e → F r t ≡ Some x → x.ticket ≡ t → (q : ℕ) (p : RealmQueues A)
         → slice_get rs2 q ≡ Some p → IsRunsOf (F q) p
     runs_other e x c was now own =
         let numF = numbered_with x now own in
@@ -119,7 +119,7 @@ other_ticket q u r t h is = elim h as (λ _. ⊥) [
 ]
 
 module _ {A : Type 0} (S : ℕ → Option Stored) (T : TicketKey → Option ℕ) (C : ClientKey → Option ℕ)
-    (rs : List (Runs A)) (sound : Sound S T C rs) where
+    (rs : List (RealmQueues A)) (sound : Sound S T C rs) where
   -- another realm's or ticket's entry stays
   stays : (S2 : ℕ → Option Stored) (T2 : TicketKey → Option ℕ) (i : ℕ) (w : Option Stored) (r t : ℕ)
       → PutsAt S S2 i w
@@ -136,7 +136,7 @@ module _ {A : Type 0} (S : ℕ → Option Stored) (T : TicketKey → Option ℕ)
 
   -- A new entry
   module _ (r : ℕ) (e : PlainEntry) (i : ℕ) (S2 : ℕ → Option Stored) (T2 : TicketKey → Option ℕ)
-      (C2 : ClientKey → Option ℕ) (rs2 : List (Runs A))
+      (C2 : ClientKey → Option ℕ) (rs2 : List (RealmQueues A))
       (new : IsNew e (entries_at S T r)) (lt : r < length rs) (small : e.ticket < tickets_end)
       (free : S i ≡ None)
       (at : PutsAt S S2 i (Some (record { realm = r; entry = e })))
@@ -185,7 +185,7 @@ module _ {A : Type 0} (S : ℕ → Option Stored) (T : TicketKey → Option ℕ)
     ]
 
     pub new_sound : (c : AtRealm (Enters (mark_of e)) rs rs2 r)
-        → ((q : Runs A) → slice_get rs r ≡ Some q → Holds q (held q + 1)) → Sound S2 T2 C2 rs2
+        → ((q : RealmQueues A) → slice_get rs r ≡ Some q → Holds q (held q + 1)) → Sound S2 T2 C2 rs2
     new_sound c room = record {
       tickets =
           index-new ticket_key ticket_eq ticket_equality S S2 T T2 sound.tickets i
@@ -207,7 +207,7 @@ module _ {A : Type 0} (S : ℕ → Option Stored) (T : TicketKey → Option ℕ)
 
   -- An entry that goes
   module _ (i : ℕ) (x : Stored) (S2 : ℕ → Option Stored) (T2 : TicketKey → Option ℕ)
-      (C2 : ClientKey → Option ℕ) (rs2 : List (Runs A))
+      (C2 : ClientKey → Option ℕ) (rs2 : List (RealmQueues A))
       (was : S i ≡ Some x) (at : PutsAt S S2 i None)
       (notes : Puts ticket_eq T T2 (ticket_key x) None)
       (names : Puts client_eq C C2 (client_key x) None) where
@@ -254,7 +254,7 @@ module _ {A : Type 0} (S : ℕ → Option Stored) (T : TicketKey → Option ℕ)
     }
 
   -- An entry that changes
-  module _ (i : ℕ) (x : Stored) (e : PlainEntry) (S2 : ℕ → Option Stored) (rs2 : List (Runs A))
+  module _ (i : ℕ) (x : Stored) (e : PlainEntry) (S2 : ℕ → Option Stored) (rs2 : List (RealmQueues A))
       (was : S i ≡ Some x) (at : PutsAt S S2 i (Some (record { realm = x.realm; entry = e })))
       (ticket : e.ticket ≡ x.entry.ticket) (key : e.request.key ≡ x.entry.request.key) where
     changed_mine : (y : Stored) → S i ≡ Some y → ticket_key y ≡ ticket_key x
@@ -319,7 +319,7 @@ module _ {A : Type 0} (S : ℕ → Option Stored) (T : TicketKey → Option ℕ)
     }
 
   -- More room
-  pub same_sound : (rs2 : List (Runs A)) (r : ℕ) → AtRealm SameRuns rs rs2 r → Sound S T C rs2
+  pub same_sound : (rs2 : List (RealmQueues A)) (r : ℕ) → AtRealm SameRuns rs rs2 r → Sound S T C rs2
   same_sound rs2 r c = record {
     tickets = sound.tickets;
     clients = sound.clients;
@@ -332,7 +332,7 @@ module _ {A : Type 0} (S : ℕ → Option Stored) (T : TicketKey → Option ℕ)
           let here = runs_same (entry_at S T r) c.before c.after (sound.runs r c.before c.before_is)
           c.becomes in
           subst (λ (n : ℕ). IsRunsOf (entry_at S T n) p) (sym is)
-          (subst (λ (z : Runs A). IsRunsOf (entry_at S T r) z) same here))
+          (subst (λ (z : RealmQueues A). IsRunsOf (entry_at S T r) z) same here))
       | inr ne ↦ sound.runs q p (sym (c.others q ne) ∙ there)
     ];
   }

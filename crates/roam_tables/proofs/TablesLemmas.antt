@@ -10,11 +10,11 @@ use Rattle.roam_pending.specs.EntryList.{IsEntryList, besides, find_client, find
 use Rattle.roam_pending.specs.PlainEntry.{PlainEntry}
 use Rattle.roam_pending.specs.Realms.{RealmBecomes}
 use Rattle.roam_tables.specs.declared.slots.Slot.{Slot}
-use Rattle.roam_tables.specs.declared.index.TicketKey.{TicketKey}
-use Rattle.roam_tables.specs.declared.index.ClientKey.{ClientKey}
-use Rattle.roam_tables.specs.declared.runs.Runs.{Runs}
-use Rattle.roam_tables.specs.Rising.{AmongBoth, IsFirstBesides, IsNext, NoneNext}
-use Rattle.roam_tables.specs.Marks.{held}
+use Rattle.roam_tables.specs.declared.entry_index.TicketKey.{TicketKey}
+use Rattle.roam_tables.specs.declared.entry_index.ClientKey.{ClientKey}
+use Rattle.roam_tables.specs.declared.realm_queues.RealmQueues.{RealmQueues}
+use Rattle.roam_tables.specs.Private.Rising.{AmongBoth, IsFirstBesides, IsNext, NoneNext}
+use Rattle.roam_tables.specs.Private.Marks.{held}
 use Rattle.roam_tables.specs.Stands.{RealmView, Sound, Stored, client_at, entries_at, entries_in, place, room_at, room_in, tables_view, ticket_at}
 use Rattle.roam_tables.proofs.FirstLemmas.{runs-due, runs-first_done, runs-none_due, runs-not_due}
 use Rattle.roam_tables.proofs.LookLemmas.{below_end, client_found, list_at, none_past, numbered, ticket_found}
@@ -26,7 +26,7 @@ past_none (x ∷ xs) zero h = absurd (let k : Some x ≡ None = h in cc)
 past_none (x ∷ xs) (suc i) h = (let rest = past_none xs i h in omega arith)
 
 module _ {A H : Type 0} (s : Slab (Slot A)) (t : IndexMap TicketKey ℕ H)
-    (c : IndexMap ClientKey ℕ H) (rs : List (Runs A))
+    (c : IndexMap ClientKey ℕ H) (rs : List (RealmQueues A))
     (sound : Sound (place s) (ticket_at t) (client_at c) rs)
     (v : List RealmView) (is : tables_view s t c rs ≡ v) where
   pub tables_list : (r : ℕ) → IsEntryList (entries_in v r)
@@ -39,7 +39,7 @@ module _ {A H : Type 0} (s : Slab (Slot A)) (t : IndexMap TicketKey ℕ H)
       seen_at s t c rs sound v is r
       ∙ none_past (place s) (ticket_at t) (client_at c) rs sound r (past_none rs r none)
 
-  pub tables_len : (r : ℕ) (q : Runs A) → slice_get rs r ≡ Some q → held q ≡ length (entries_in v r)
+  pub tables_len : (r : ℕ) (q : RealmQueues A) → slice_get rs r ≡ Some q → held q ≡ length (entries_in v r)
   tables_len r q at =
       sym (sound.runs r q at).count ∙ ap length (sym (seen_at s t c rs sound v is r))
 
@@ -62,7 +62,7 @@ module _ {A H : Type 0} (s : Slab (Slot A)) (t : IndexMap TicketKey ℕ H)
       ∙ client_found (place s) (ticket_at t) (client_at c) rs sound r k
       ∙ ap (find_client k) (sym (seen_at s t c rs sound v is r))
 
-  pub tables_first : (r : ℕ) (q : Runs A) (except o : Option ℕ) → slice_get rs r ≡ Some q
+  pub tables_first : (r : ℕ) (q : RealmQueues A) (except o : Option ℕ) → slice_get rs r ≡ Some q
       → IsFirstBesides except q.tickets.items o → o ≡ first_done (besides except (entries_in v r))
   tables_first r q except o at first =
       runs-first_done _ (numbered (place s) (ticket_at t) (client_at c) rs sound r)
@@ -79,7 +79,7 @@ module _ {A H : Type 0} (s : Slab (Slot A)) (t : IndexMap TicketKey ℕ H)
       nobody None = refl
       nobody (Some n) = refl
 
-  module _ (r : ℕ) (q : Runs A) (last : Option Due) (now : ℕ) (at : slice_get rs r ≡ Some q) where
+  module _ (r : ℕ) (q : RealmQueues A) (last : Option Due) (now : ℕ) (at : slice_get rs r ≡ Some q) where
     shown_due : (o : Option Due) → o ≡ due_after now last (entries_at (place s) (ticket_at t) r)
         → o ≡ due_after now last (entries_in v r)
     shown_due o h = h ∙ ap (due_after now last) (sym (seen_at s t c rs sound v is r))
@@ -112,7 +112,7 @@ module _ {A H : Type 0} (s : Slab (Slot A)) (t : IndexMap TicketKey ℕ H)
   -- A change
 
   module _ {A2 H2 : Type 0} (s2 : Slab (Slot A2)) (t2 : IndexMap TicketKey ℕ H2)
-      (c2 : IndexMap ClientKey ℕ H2) (rs2 : List (Runs A2))
+      (c2 : IndexMap ClientKey ℕ H2) (rs2 : List (RealmQueues A2))
       (sound2 : Sound (place s2) (ticket_at t2) (client_at c2) rs2)
       (v2 : List RealmView) (is2 : tables_view s2 t2 c2 rs2 ≡ v2) where
     pub tables_become : (r : ℕ) (h : List PlainEntry → List PlainEntry)

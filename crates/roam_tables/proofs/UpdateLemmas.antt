@@ -1,23 +1,24 @@
 -- What the calls that change the tables leave.
 use Rattle.std.proofs.Common.{◌≡◌, ℕ, ◌+◌, ◌<◌, ◌≤◌, List, length, Option, Some, None, refl, ap, sym, ◌∙◌, subst, inl, inr, arith}
-use Rattle.std.specs.Prelude.{option_map, slice_get, if◌then◌else◌, IsSomeAnd}
+use Rattle.std.specs.Prelude.{option_map, slice_get, if◌then◌else◌, IfSome, MatchOption}
 use Rattle.slab.specs.Slab.{Slab, HasRoomFor}
 use Rattle.indexmap.specs.IndexMap.{IndexMap, spare}
-use Rattle.roam_pending.specs.PlainEntry.{PlainEntry}
-use Rattle.roam_pending.specs.EntryList.{HasPlaceOf, IsNew, find_ticket, put, without}
-use Rattle.roam_pending.specs.Realms.{RealmBecomes}
+use Rattle.roam_pending.specs.PlainEntry.{PlainEntry, PlainStanding}
+use Rattle.roam_pending.specs.EntryList.{IsNew, find_ticket, put, without}
+use Rattle.roam_pending.specs.Realms.{RealmBecomes, PutsChanged}
 use Rattle.roam_pending.proofs.OrderLemmas.{without-absent}
 use Rattle.roam_tables.specs.declared.slots.Slot.{Slot}
-use Rattle.roam_tables.specs.declared.index.TicketKey.{TicketKey}
-use Rattle.roam_tables.specs.declared.index.ClientKey.{ClientKey}
-use Rattle.roam_tables.specs.declared.mark.Mark.{Mark}
-use Rattle.roam_tables.specs.declared.runs.Runs.{Runs}
-use Rattle.roam_tables.specs.Indexes.{Puts}
+use Rattle.roam_tables.specs.declared.entry_index.TicketKey.{TicketKey}
+use Rattle.roam_tables.specs.declared.entry_index.ClientKey.{ClientKey}
+use Rattle.roam_tables.specs.declared.due_mark.DueMark.{DueMark}
+use Rattle.roam_tables.specs.declared.realm_queues.RealmQueues.{RealmQueues}
+use Rattle.roam_tables.specs.Private.Indexes.{Puts}
 use Rattle.roam_wire.specs.Numbered.{PutsAt}
 use Rattle.roam_wire.specs.Numbered.{tickets_end}
-use Rattle.roam_tables.specs.Marks.{CanEnter, CanLeave, Changes, Enters, HoldsAsMany, Leaves, mark_of, held}
-use Rattle.roam_tables.specs.Stands.{AtRealm, RealmView, Sound, Stored, client_at, client_eq, entries_at, entries_in, entry_at, place, room_in, runs_room, slab_room, tables_view, ticket_at, ticket_eq, ticket_key_of, with_entry}
+use Rattle.roam_tables.specs.Private.Marks.{CanEnter, CanLeave, Changes, Enters, HoldsAsMany, Leaves, mark_of, held}
+use Rattle.roam_tables.specs.Stands.{AtRealm, RealmView, Sound, Stored, client_at, client_eq, entries_at, entries_in, entry_at, place, room_in, runs_room, slab_room, tables_view, ticket_at, ticket_eq, ticket_key, ticket_key_of, changed, keeps_in}
 use Rattle.roam_tables.proofs.ChangeLemmas.{can_come_back}
+use Rattle.roam_tables.proofs.KeptLemmas.{keeps_same}
 use Rattle.roam_tables.proofs.LookLemmas.{below_end, numbered, ticket_found}
 use Rattle.roam_tables.proofs.MarkLemmas.{can_enter, can_leave}
 use Rattle.roam_tables.proofs.RoomLemmas.{at_realm_fewer, each_positive, four_fewer, room_of, room_within}
@@ -26,7 +27,7 @@ use Rattle.roam_tables.proofs.TablesLemmas.{tables_become, tables_realms, tables
 use Rattle.roam_tables.proofs.ViewLemmas.{seen_at, seen_room}
 
 module _ {A H : Type 0} (s : Slab (Slot A)) (t : IndexMap TicketKey ℕ H)
-    (c : IndexMap ClientKey ℕ H) (rs : List (Runs A))
+    (c : IndexMap ClientKey ℕ H) (rs : List (RealmQueues A))
     (sound : Sound (place s) (ticket_at t) (client_at c) rs)
     (v : List RealmView) (is : tables_view s t c rs ≡ v) where
   stored_at : (r n i : ℕ) (x : Stored) → ticket_at t (ticket_key_of r n) ≡ Some i
@@ -60,19 +61,19 @@ module _ {A H : Type 0} (s : Slab (Slot A)) (t : IndexMap TicketKey ℕ H)
 
   -- A new entry
 
-  pub insert_can : (r : ℕ) (e : PlainEntry) (m : Mark) → m ≡ mark_of e → IsNew e (entries_in v r)
-      → 0 < room_in v r → (q : Runs A) → slice_get rs r ≡ Some q → CanEnter m q
+  pub insert_can : (r : ℕ) (e : PlainEntry) (m : DueMark) → m ≡ mark_of e → IsNew e (entries_in v r)
+      → 0 < room_in v r → (q : RealmQueues A) → slice_get rs r ≡ Some q → CanEnter m q
   insert_can r e m mark new room q at =
       let none : entry_at (place s) (ticket_at t) r e.ticket ≡ None =
       ticket_found (place s) (ticket_at t) (client_at c) rs sound r e.ticket
       ∙ (fresh r e new).ticket in
       can_enter (entry_at (place s) (ticket_at t) r)
       (numbered (place s) (ticket_at t) (client_at c) rs sound r) q (sound.runs r q at) e.ticket
-      m none (ap (λ (z : Mark). z.due.ticket) mark)
+      m none (ap (λ (z : DueMark). z.due.ticket) mark)
       (room_of rs r (room_positive r room).3 q at)
 
-  module _ (r n i : ℕ) (e : PlainEntry) (m : Mark) (mark : m ≡ mark_of e) (s2 : Slab (Slot A))
-      (t2 : IndexMap TicketKey ℕ H) (c2 : IndexMap ClientKey ℕ H) (rs2 : List (Runs A))
+  module _ (r n i : ℕ) (e : PlainEntry) (m : DueMark) (mark : m ≡ mark_of e) (s2 : Slab (Slot A))
+      (t2 : IndexMap TicketKey ℕ H) (c2 : IndexMap ClientKey ℕ H) (rs2 : List (RealmQueues A))
       (new : IsNew e (entries_in v r)) (room : 0 < room_in v r) (ticket : n ≡ e.ticket)
       (small : n < tickets_end) (free : place s i ≡ None)
       (at : PutsAt (place s) (place s2) i (Some (record { realm = r; entry = e })))
@@ -87,7 +88,7 @@ module _ {A H : Type 0} (s : Slab (Slot A)) (t : IndexMap TicketKey ℕ H)
         ticket notes
 
     own_runs : AtRealm (Enters (mark_of e)) rs rs2 r
-    own_runs = subst (λ (z : Mark). AtRealm (Enters z) rs rs2 r) mark runs
+    own_runs = subst (λ (z : DueMark). AtRealm (Enters z) rs rs2 r) mark runs
 
     pub insert_sound : Sound (place s2) (ticket_at t2) (client_at c2) rs2
     insert_sound =
@@ -130,7 +131,7 @@ module _ {A H : Type 0} (s : Slab (Slot A)) (t : IndexMap TicketKey ℕ H)
     others = λ q ne. refl;
   }
 
-  module _ (r n i : ℕ) (slot : Slot A) (e : PlainEntry) (m : Mark) (mark : m ≡ mark_of e)
+  module _ (r n i : ℕ) (slot : Slot A) (e : PlainEntry) (m : DueMark) (mark : m ≡ mark_of e)
       (noted : ticket_at t (ticket_key_of r n) ≡ Some i)
       (was : place s i ≡ Some (record { realm = slot.realm; entry = e })) where
     remove_own : (slot.realm ≡ r) × (e.ticket ≡ n)
@@ -149,15 +150,15 @@ module _ {A H : Type 0} (s : Slab (Slot A)) (t : IndexMap TicketKey ℕ H)
         ticket_found (place s) (ticket_at t) (client_at c) rs sound r n
         ∙ ap (find_ticket n) (sym (seen_at s t c rs sound v is r)) ∙ sym remove_found
 
-    pub remove_can : (q : Runs A) → slice_get rs r ≡ Some q → CanLeave m q
+    pub remove_can : (q : RealmQueues A) → slice_get rs r ≡ Some q → CanLeave m q
     remove_can q at =
-        subst (λ (z : Mark). CanLeave z q) (sym mark)
+        subst (λ (z : DueMark). CanLeave z q) (sym mark)
         (can_leave (entry_at (place s) (ticket_at t) r)
         (numbered (place s) (ticket_at t) (client_at c) rs sound r) q (sound.runs r q at) n e
         remove_at)
 
     module _ (s2 : Slab (Slot A)) (t2 : IndexMap TicketKey ℕ H) (c2 : IndexMap ClientKey ℕ H)
-        (rs2 : List (Runs A))
+        (rs2 : List (RealmQueues A))
         (at : PutsAt (place s) (place s2) i None)
         (notes : Puts ticket_eq (ticket_at t) (ticket_at t2) (ticket_key_of r n) None)
         (names : Puts client_eq (client_at c) (client_at c2)
@@ -170,7 +171,7 @@ module _ {A H : Type 0} (s : Slab (Slot A)) (t : IndexMap TicketKey ℕ H)
             (sym remove_own.1) notes
 
         left_runs : AtRealm (Leaves (mark_of e)) rs rs2 r
-        left_runs = subst (λ (z : Mark). AtRealm (Leaves z) rs rs2 r) mark runs
+        left_runs = subst (λ (z : DueMark). AtRealm (Leaves z) rs rs2 r) mark runs
 
         pub remove_sound : Sound (place s2) (ticket_at t2) (client_at c2) rs2
         remove_sound =
@@ -201,113 +202,154 @@ module _ {A H : Type 0} (s : Slab (Slot A)) (t : IndexMap TicketKey ℕ H)
             (let k = runs.becomes.held in omega arith))) in
             omega arith
 
-        pub remove_realms : length (tables_view s2 t2 c2 rs2) ≡ length v
-        remove_realms =
-            tables_realms s t c rs sound v is s2 t2 c2 rs2 remove_sound (tables_view s2 t2 c2 rs2)
-            refl runs.same_length
+        pub remove_keeps : keeps_in (tables_view s2 t2 c2 rs2) ≡ keeps_in v
+        remove_keeps =
+            keeps_same v (tables_view s2 t2 c2 rs2)
+            (tables_realms s t c rs sound v is s2 t2 c2 rs2 remove_sound
+            (tables_view s2 t2 c2 rs2) refl runs.same_length)
 
   -- An entry that changes
 
-  pub swap_nowhere : (r : ℕ) (e : PlainEntry) → ticket_at t (ticket_key_of r e.ticket) ≡ None
-      → HasPlaceOf e (entries_in v r) → ⊥
-  swap_nowhere r e none place_of =
-      subst (λ (o : Option PlainEntry). IsSomeAnd o (λ old. old.request.key ≡ e.request.key))
-      (sym (tables_ticket s t c rs sound v is r e.ticket None none)) place_of
+  pub change_nothing : (r n : ℕ) (change : PlainEntry → PlainEntry)
+      → ticket_at t (ticket_key_of r n) ≡ None
+      → PutsChanged change r n (entries_in v) (entries_in v)
+  change_nothing r n change none =
+      subst (λ (o : Option PlainEntry).
+      MatchOption o (entries_in v ≡ entries_in v)
+      (λ e. RealmBecomes r (put (change e) (entries_in v r)) (entries_in v) (entries_in v)))
+      (tables_ticket s t c rs sound v is r n None none) refl
 
-  module _ (r i : ℕ) (e old : PlainEntry) (from to : Mark) (mark_from : from ≡ mark_of old)
-      (mark_to : to ≡ mark_of e) (place_of : HasPlaceOf e (entries_in v r))
-      (noted : ticket_at t (ticket_key_of r e.ticket) ≡ Some i)
-      (was : option_map (λ (x : Stored). x.entry) (place s i) ≡ Some old) where
-    swap_was : place s i ≡ Some (record { realm = r; entry = old })
-    swap_was =
-        let p = sound.tickets.points (ticket_key_of r e.ticket) i noted in
-        let own = stored_at r e.ticket i p.0 noted p.1 in
-        let some : Some p.0.entry ≡ Some old =
-        sym (ap (option_map (λ (x : Stored). x.entry)) p.1) ∙ was in
-        let same : p.0.entry ≡ old = cc in
-        p.1 ∙ λ j. Some (record { realm = own.0 j; entry = same j })
+  pub nothing_exchanged : (r n : ℕ) (standing : PlainStanding)
+      → ticket_at t (ticket_key_of r n) ≡ None
+      → IfSome (find_ticket n (entries_in v r)) (λ e. standing ≡ e.standing)
+  nothing_exchanged r n standing none =
+      subst (λ (o : Option PlainEntry). IfSome o (λ e. standing ≡ e.standing))
+      (tables_ticket s t c rs sound v is r n None none) tt
 
-    swap_ticket : e.ticket ≡ old.ticket
-    swap_ticket = sym (stored_at r e.ticket i (record { realm = r; entry = old }) noted swap_was).1
+  module _ (r n i : ℕ) (noted : ticket_at t (ticket_key_of r n) ≡ Some i) where
+    abbrev point : (x : Stored) × (place s i ≡ Some x) × (ticket_key x ≡ ticket_key_of r n)
+    point = sound.tickets.points (ticket_key_of r n) i noted
 
-    pub swap_found : Some old ≡ find_ticket e.ticket (entries_in v r)
-    swap_found = sym was ∙ tables_ticket s t c rs sound v is r e.ticket (Some i) noted
+    -- the entry as it stood
+    abbrev stood : PlainEntry
+    stood = point.0.entry
 
-    swap_key : e.request.key ≡ old.request.key
-    swap_key =
-        sym (subst (λ (o : Option PlainEntry). IsSomeAnd o (λ x. x.request.key ≡ e.request.key))
-        (sym swap_found) place_of)
+    stood_there : place s i ≡ Some (record { realm = r; entry = stood })
+    stood_there =
+        point.1
+        ∙ λ j. Some (record { realm = (stored_at r n i point.0 noted point.1).0 j; entry = stood })
 
-    swap_at : entry_at (place s) (ticket_at t) r e.ticket ≡ Some old
-    swap_at =
-        ticket_found (place s) (ticket_at t) (client_at c) rs sound r e.ticket
-        ∙ ap (find_ticket e.ticket) (sym (seen_at s t c rs sound v is r)) ∙ sym swap_found
+    stood_ticket : stood.ticket ≡ n
+    stood_ticket = (stored_at r n i point.0 noted point.1).1
 
-    pub swap_leaves : (q : Runs A) → slice_get rs r ≡ Some q → CanLeave from q
-    swap_leaves q at =
-        subst (λ (z : Mark). CanLeave z q) (sym mark_from)
-        (can_leave (entry_at (place s) (ticket_at t) r)
-        (numbered (place s) (ticket_at t) (client_at c) rs sound r) q (sound.runs r q at) e.ticket
-        old swap_at)
+    stood_found : Some stood ≡ find_ticket n (entries_in v r)
+    stood_found =
+        sym (ap (option_map (λ (x : Stored). x.entry)) point.1)
+        ∙ tables_ticket s t c rs sound v is r n (Some i) noted
 
-    pub swap_enters : (q p : Runs A) → slice_get rs r ≡ Some q → Leaves from q p → CanEnter to p
-    swap_enters q p at leaves =
-        let num = numbered (place s) (ticket_at t) (client_at c) rs sound r in
-        subst (λ (z : Mark). CanEnter z p) (sym mark_to)
-        (can_come_back (entry_at (place s) (ticket_at t) r) (entry_at (place s) (ticket_at t) r) num
-        num e.ticket (below_end (place s) (ticket_at t) (client_at c) rs sound r e.ticket old
-        swap_at) old e swap_at
-        q (sound.runs r q at) refl p (subst (λ (z : Mark). Leaves z q p) mark_from leaves))
+    stood_at : entry_at (place s) (ticket_at t) r stood.ticket ≡ Some stood
+    stood_at =
+        ap (entry_at (place s) (ticket_at t) r) stood_ticket
+        ∙ ticket_found (place s) (ticket_at t) (client_at c) rs sound r n
+        ∙ ap (find_ticket n) (sym (seen_at s t c rs sound v is r)) ∙ sym stood_found
 
-    module _ (s2 : Slab (Slot A)) (rs2 : List (Runs A))
-        (at : PutsAt (place s) (place s2) i (with_entry e (place s i)))
-        (runs : AtRealm (Changes from to) rs rs2 r) where
-      swap_puts : PutsAt (place s) (place s2) i (Some (record { realm = r; entry = e }))
-      swap_puts = record { changed = at.changed ∙ ap (with_entry e) swap_was; others = at.others }
+    pub one_exchanged : (standing : PlainStanding)
+        → IfSome (place s i) (λ x. standing ≡ x.entry.standing)
+        → IfSome (find_ticket n (entries_in v r)) (λ e. standing ≡ e.standing)
+    one_exchanged standing was =
+        subst (λ (o : Option PlainEntry). IfSome o (λ e. standing ≡ e.standing)) stood_found
+        (subst (λ (o : Option Stored). IfSome o (λ x. standing ≡ x.entry.standing)) point.1 was)
 
-      swap_runs : AtRealm (Changes (mark_of old) (mark_of e)) rs rs2 r
-      swap_runs =
-          subst (λ (z : Mark). AtRealm (Changes (mark_of old) z) rs rs2 r) mark_to
-          (subst (λ (z : Mark). AtRealm (Changes z to) rs rs2 r) mark_from runs)
+    module _ (change : PlainEntry → PlainEntry)
+        (ticket : (e : PlainEntry) → (change e).ticket ≡ e.ticket)
+        (key : (e : PlainEntry) → (change e).request.key ≡ e.request.key) (from to : DueMark)
+        (was : IfSome (place s i) (λ x. from ≡ mark_of x.entry))
+        (now : IfSome (place s i) (λ x. to ≡ mark_of (change x.entry))) where
+      mark_from : from ≡ mark_of stood
+      mark_from = subst (λ (o : Option Stored). IfSome o (λ x. from ≡ mark_of x.entry)) point.1 was
 
-      pub swap_sound : Sound (place s2) (ticket_at t) (client_at c) rs2
-      swap_sound =
-          changed_sound (place s) (ticket_at t) (client_at c) rs sound i
-          (record { realm = r; entry = old }) e (place s2) rs2 swap_was swap_puts swap_ticket
-          swap_key swap_runs
+      mark_to : to ≡ mark_of (change stood)
+      mark_to =
+          subst (λ (o : Option Stored). IfSome o (λ x. to ≡ mark_of (change x.entry))) point.1 now
 
-      pub swap_becomes : RealmBecomes r (put e (entries_in v r)) (entries_in v)
-          (entries_in (tables_view s2 t c rs2))
-      swap_becomes =
-          tables_become s t c rs sound v is s2 t c rs2 swap_sound (tables_view s2 t c rs2) refl r
-          (put e)
-          (changed_becomes (place s) (ticket_at t) (client_at c) rs sound i
-          (record { realm = r; entry = old }) e (place s2) rs2 swap_was swap_puts swap_ticket
-          swap_key)
+      pub change_leaves : (q : RealmQueues A) → slice_get rs r ≡ Some q → CanLeave from q
+      change_leaves q at =
+          subst (λ (z : DueMark). CanLeave z q) (sym mark_from)
+          (can_leave (entry_at (place s) (ticket_at t) r)
+          (numbered (place s) (ticket_at t) (client_at c) rs sound r) q (sound.runs r q at)
+          stood.ticket stood stood_at)
 
-      swap_many : HoldsAsMany runs.before runs.after
-      swap_many = elim runs.becomes as (λ _. HoldsAsMany runs.before runs.after) [
-        | inl stays ↦ subst (λ (z : Runs A). HoldsAsMany runs.before z) (sym stays.1)
-            (record { waits = omega arith; holds = omega arith; tickets = omega arith })
-        | inr moves ↦ (let a = moves.leaves.as_many in let b = moves.enters.as_many in
-            record { waits = omega arith; holds = omega arith; tickets = omega arith })
-      ]
+      pub change_enters : (q p : RealmQueues A) → slice_get rs r ≡ Some q → Leaves from q p
+          → CanEnter to p
+      change_enters q p at leaves =
+          let num = numbered (place s) (ticket_at t) (client_at c) rs sound r in
+          subst (λ (z : DueMark). CanEnter z p) (sym mark_to)
+          (can_come_back (entry_at (place s) (ticket_at t) r) (entry_at (place s) (ticket_at t) r)
+          num num stood.ticket
+          (below_end (place s) (ticket_at t) (client_at c) rs sound r stood.ticket stood stood_at)
+          stood (change stood) stood_at q (sound.runs r q at) (ticket stood) p
+          (subst (λ (z : DueMark). Leaves z q p) mark_from leaves))
 
-      swap_held : held runs.after ≤ held runs.before + 0
-      swap_held = elim runs.becomes as (λ _. held runs.after ≤ held runs.before + 0) [
-        | inl stays ↦ (let k = ap held stays.1 in omega arith)
-        | inr moves ↦ (let a = moves.leaves.held in let b = moves.enters.held in omega arith)
-      ]
+      module _ (s2 : Slab (Slot A)) (rs2 : List (RealmQueues A))
+          (at : PutsAt (place s) (place s2) i (changed change (place s i)))
+          (runs : AtRealm (Changes from to) rs rs2 r) where
+        change_puts : PutsAt (place s) (place s2) i
+            (Some (record { realm = r; entry = change stood }))
+        change_puts = record {
+          changed = at.changed ∙ ap (changed change) stood_there;
+          others = at.others;
+        }
 
-      pub swap_room : slab_room s ≤ slab_room s2 → room_in v r ≤ room_in (tables_view s2 t c rs2) r
-      swap_room x =
-          let k = tables_room s t c rs sound v is s2 t c rs2 swap_sound (tables_view s2 t c rs2)
-          refl r 0
-          (four_fewer _ _ _ _ _ _ _ _ 0 (omega arith) (omega arith) (omega arith)
-          (at_realm_fewer (Changes from to) rs rs2 r 0 runs swap_many swap_held)) in
-          omega arith
+        change_runs : AtRealm (Changes (mark_of stood) (mark_of (change stood))) rs rs2 r
+        change_runs =
+            subst (λ (z : DueMark). AtRealm (Changes (mark_of stood) z) rs rs2 r) mark_to
+            (subst (λ (z : DueMark). AtRealm (Changes z to) rs rs2 r) mark_from runs)
 
-      pub swap_realms : length (tables_view s2 t c rs2) ≡ length v
-      swap_realms =
-          tables_realms s t c rs sound v is s2 t c rs2 swap_sound (tables_view s2 t c rs2) refl
-          runs.same_length
+        pub change_sound : Sound (place s2) (ticket_at t) (client_at c) rs2
+        change_sound =
+            changed_sound (place s) (ticket_at t) (client_at c) rs sound i
+            (record { realm = r; entry = stood }) (change stood) (place s2) rs2 stood_there
+            change_puts (ticket stood) (key stood) change_runs
+
+        pub change_becomes : PutsChanged change r n (entries_in v)
+            (entries_in (tables_view s2 t c rs2))
+        change_becomes =
+            subst (λ (o : Option PlainEntry).
+            MatchOption o (entries_in (tables_view s2 t c rs2) ≡ entries_in v)
+            (λ e. RealmBecomes r (put (change e) (entries_in v r)) (entries_in v)
+            (entries_in (tables_view s2 t c rs2))))
+            stood_found
+            (tables_become s t c rs sound v is s2 t c rs2 change_sound (tables_view s2 t c rs2)
+            refl r (put (change stood))
+            (changed_becomes (place s) (ticket_at t) (client_at c) rs sound i
+            (record { realm = r; entry = stood }) (change stood) (place s2) rs2 stood_there
+            change_puts (ticket stood) (key stood)))
+
+        change_many : HoldsAsMany runs.before runs.after
+        change_many = elim runs.becomes as (λ _. HoldsAsMany runs.before runs.after) [
+          | inl stays ↦ subst (λ (z : RealmQueues A). HoldsAsMany runs.before z) (sym stays.1)
+              (record { waits = omega arith; holds = omega arith; tickets = omega arith })
+          | inr moves ↦ (let a = moves.leaves.as_many in let b = moves.enters.as_many in
+              record { waits = omega arith; holds = omega arith; tickets = omega arith })
+        ]
+
+        change_held : held runs.after ≤ held runs.before + 0
+        change_held = elim runs.becomes as (λ _. held runs.after ≤ held runs.before + 0) [
+          | inl stays ↦ (let k = ap held stays.1 in omega arith)
+          | inr moves ↦ (let a = moves.leaves.held in let b = moves.enters.held in omega arith)
+        ]
+
+        pub change_room : slab_room s ≤ slab_room s2
+            → room_in v r ≤ room_in (tables_view s2 t c rs2) r
+        change_room x =
+            let k = tables_room s t c rs sound v is s2 t c rs2 change_sound
+            (tables_view s2 t c rs2) refl r 0
+            (four_fewer _ _ _ _ _ _ _ _ 0 (omega arith) (omega arith) (omega arith)
+            (at_realm_fewer (Changes from to) rs rs2 r 0 runs change_many change_held)) in
+            omega arith
+
+        pub change_keeps : keeps_in (tables_view s2 t c rs2) ≡ keeps_in v
+        change_keeps =
+            keeps_same v (tables_view s2 t c rs2)
+            (tables_realms s t c rs sound v is s2 t c rs2 change_sound
+            (tables_view s2 t c rs2) refl runs.same_length)

@@ -8,9 +8,9 @@ use Rattle.slab.specs.Slab.{Slab}
 use Rattle.indexmap.specs.IndexMap.{IndexMap, spare}
 use Rattle.roam_pending.specs.PlainEntry.{PlainEntry}
 use Rattle.roam_tables.specs.declared.slots.Slot.{Slot}
-use Rattle.roam_tables.specs.declared.index.TicketKey.{TicketKey}
-use Rattle.roam_tables.specs.declared.index.ClientKey.{ClientKey}
-use Rattle.roam_tables.specs.declared.runs.Runs.{Runs}
+use Rattle.roam_tables.specs.declared.entry_index.TicketKey.{TicketKey}
+use Rattle.roam_tables.specs.declared.entry_index.ClientKey.{ClientKey}
+use Rattle.roam_tables.specs.declared.realm_queues.RealmQueues.{RealmQueues}
 use Rattle.roam_tables.specs.Stands.{RealmView, Sound, client_at, entries_at, entries_in, place, realm_in, room_at, room_in, runs_room, slab_room, tables_view, ticket_at, views_from}
 use Rattle.roam_tables.proofs.LookLemmas.{none_past}
 
@@ -35,7 +35,7 @@ no_room : (a b c : ℕ) → 0 ≡ min (min a b) (min c 0)
 no_room a b c = omega arith
 
 module _ {A H : Type 0} (s : Slab (Slot A)) (t : IndexMap TicketKey ℕ H)
-    (c : IndexMap ClientKey ℕ H) (rs : List (Runs A))
+    (c : IndexMap ClientKey ℕ H) (rs : List (RealmQueues A))
     (sound : Sound (place s) (ticket_at t) (client_at c) rs)
     (v : List RealmView) (is : tables_view s t c rs ≡ v) where
   pub seen_length : length v ≡ length rs
@@ -82,7 +82,7 @@ module _ {A H : Type 0} (s : Slab (Slot A)) (t : IndexMap TicketKey ℕ H)
             ap (λ (w : RealmView). w.room)
             (get_or_past (tables_view s t c rs) r (record { entries = []; room = 0 }) le)
             ∙ no_room (slab_room s) (spare t) (spare c)
-            ∙ ap (λ (o : Option (Runs A)).
+            ∙ ap (λ (o : Option (RealmQueues A)).
             min (min (slab_room s) (spare t)) (min (spare c) (runs_room o)))
             (sym (slice_get_past rs r past)))
       ]

@@ -10,14 +10,14 @@ use Rattle.roam_pending.specs.PlainEntry.{PlainEntry}
 use Rattle.roam_pending.specs.EntryList.{find_ticket}
 use Rattle.roam_pending.specs.Shown.{shown}
 use Rattle.roam_tables.specs.declared.slots.Slot.{Slot}
-use Rattle.roam_tables.specs.declared.index.TicketKey.{TicketKey}
-use Rattle.roam_tables.specs.declared.index.ClientKey.{ClientKey}
-use Rattle.roam_tables.specs.contracts.index.TicketKeyPartialEq.TheImpl as ticket_keys
-use Rattle.roam_tables.specs.contracts.index.ClientKeyPartialEq.TheImpl as client_keys
-use Rattle.roam_tables.specs.declared.runs.Runs.{Runs}
-use Rattle.roam_tables.specs.Indexes.{IsIndex, look}
+use Rattle.roam_tables.specs.declared.entry_index.TicketKey.{TicketKey}
+use Rattle.roam_tables.specs.declared.entry_index.ClientKey.{ClientKey}
+use Rattle.roam_tables.specs.contracts.entry_index.TicketKeyPartialEq.TheImpl as ticket_keys
+use Rattle.roam_tables.specs.contracts.entry_index.ClientKeyPartialEq.TheImpl as client_keys
+use Rattle.roam_tables.specs.declared.realm_queues.RealmQueues.{RealmQueues}
+use Rattle.roam_tables.specs.Private.Indexes.{IsIndex, look}
 use Rattle.roam_wire.specs.Numbered.{listed, tickets_end}
-use Rattle.roam_tables.specs.Marks.{IsRunsOf, held}
+use Rattle.roam_tables.specs.Private.Marks.{IsRunsOf, held}
 
 -- an entry with its realm
 pub record Stored : Type 0 where
@@ -66,7 +66,7 @@ entries_at S T r = listed (entry_at S T r) 0 tickets_end
 abbrev pub slab_room : {X : Type 0} → Slab X → ℕ
 slab_room s = s.capacity - slab_len s
 
-abbrev pub runs_room : {A : Type 0} → Option (Runs A) → ℕ
+abbrev pub runs_room : {A : Type 0} → Option (RealmQueues A) → ℕ
 runs_room None = 0
 runs_room (Some q) = min (deque_capacity q.waits) (min (deque_capacity q.holds) (deque_capacity q.tickets)) - held q
 
@@ -74,12 +74,12 @@ abbrev pub least_room : ℕ → ℕ → ℕ → ℕ → ℕ
 least_room a b c d = min (min a b) (min c d)
 
 -- the tables agree
-pub record Sound {A : Type 0} (S : ℕ → Option Stored) (T : TicketKey → Option ℕ) (C : ClientKey → Option ℕ) (rs : List (Runs A)) : Type 0 where
+pub record Sound {A : Type 0} (S : ℕ → Option Stored) (T : TicketKey → Option ℕ) (C : ClientKey → Option ℕ) (rs : List (RealmQueues A)) : Type 0 where
   pub tickets : IsIndex ticket_key S T
   pub clients : IsIndex client_key S C
   pub within : (i : ℕ) (x : Stored) → S i ≡ Some x → x.realm < length rs
   pub below_end : (i : ℕ) (x : Stored) → S i ≡ Some x → x.entry.ticket < tickets_end
-  pub runs : (r : ℕ) (q : Runs A) → slice_get rs r ≡ Some q → IsRunsOf (entry_at S T r) q
+  pub runs : (r : ℕ) (q : RealmQueues A) → slice_get rs r ≡ Some q → IsRunsOf (entry_at S T r) q
 
 -- the runs of one realm became these, and every other realm's are as they were
 pub record AtRealm {X : Type 0} (Becomes : X → X → Type 0) (old new : List X) (r : ℕ) : Type 0 where
@@ -98,7 +98,7 @@ pub record AreMore {X : Type 0} (Each : X → Type 0) (old new : List X) : Type 
   pub each : AllByRecursion Each more
 
 -- for how many entries more of a realm there is room without memory
-abbrev pub room_at : {A H : Type 0} → Slab (Slot A) → IndexMap TicketKey ℕ H → IndexMap ClientKey ℕ H → List (Runs A) → ℕ → ℕ
+abbrev pub room_at : {A H : Type 0} → Slab (Slot A) → IndexMap TicketKey ℕ H → IndexMap ClientKey ℕ H → List (RealmQueues A) → ℕ → ℕ
 room_at s t c rs r = least_room (slab_room s) (spare t) (spare c) (runs_room (slice_get rs r))
 
 -- a realm's entries, and for how many more of it there is room
@@ -112,7 +112,7 @@ views_from E room r zero = []
 views_from E room r (suc n) = record { entries = E r; room = room r } ∷ views_from E room (r + 1) n
 
 -- what the tables show: each realm that is kept here
-abbrev pub tables_view : {A H : Type 0} → Slab (Slot A) → IndexMap TicketKey ℕ H → IndexMap ClientKey ℕ H → List (Runs A) → List RealmView
+abbrev pub tables_view : {A H : Type 0} → Slab (Slot A) → IndexMap TicketKey ℕ H → IndexMap ClientKey ℕ H → List (RealmQueues A) → List RealmView
 tables_view s t c rs = views_from (entries_at (place s) (ticket_at t)) (room_at s t c rs) 0 (length rs)
 
 -- the realm of an index there: one that isn't kept has no entries and no room
@@ -134,6 +134,6 @@ pub record HasTicket (es : List PlainEntry) (ticket : ℕ) : Type 0 where
 abbrev pub keeps_in : List RealmView → ℕ → Bool
 keeps_in v r = nat_lt r (length v)
 
--- the entry that a slot holds changes
-abbrev pub with_entry : PlainEntry → Option Stored → Option Stored
-with_entry e o = option_map (λ (x : Stored). record { realm = x.realm; entry = e }) o
+-- the entry that a slot holds, changed
+abbrev pub changed : (PlainEntry → PlainEntry) → Option Stored → Option Stored
+changed change o = option_map (λ (x : Stored). record { realm = x.realm; entry = change x.entry }) o

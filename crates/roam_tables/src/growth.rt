@@ -2,12 +2,12 @@
 
 ghost use Rattle.std.specs.Prelude.{◌≡◌, ◌<◌, ◌≤◌, OnOk, IsOk, length};
 ghost use Rattle.indexmap.specs.IndexMap.{spare};
-ghost use Rattle.roam_tables.specs.Marks.{SameRuns};
+ghost use Rattle.roam_tables.specs.Private.Marks.{SameRuns};
 ghost use Rattle.roam_tables.specs.Stands.{AtRealm, client_at, place, room_at, slab_room, ticket_at};
 
-use crate::index::{ClientKey, Index, TicketKey};
+use crate::entry_index::{ClientKey, EntryIndex, TicketKey};
+use crate::realm_queues::RealmQueues;
 use crate::realms::make_room_at;
-use crate::runs::Runs;
 use crate::slots::Slot;
 use roam_wire::NoMemory;
 use slab::Slab;
@@ -16,9 +16,9 @@ use std::alloc::Allocator;
 /// Makes room for one entry more of a realm in each table. No entry changes.
 pub(crate) fn grow<A: Allocator + Copy>(
     slots: &mut Slab<Slot<A>, A>,
-    by_ticket: &mut Index<TicketKey, A>,
-    by_client: &mut Index<ClientKey, A>,
-    realms: &mut Vec<Runs<A>, A>,
+    by_ticket: &mut EntryIndex<TicketKey, A>,
+    by_client: &mut EntryIndex<ClientKey, A>,
+    realms: &mut Vec<RealmQueues<A>, A>,
     realm: u16,
 ) -> Result<(), NoMemory>
     requires within { realm < length realms.old.items }

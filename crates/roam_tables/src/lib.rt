@@ -8,13 +8,12 @@
 //! Nothing here builds or reads a packet, looks at a clock or chooses a target.
 #![tactic(auto)]
 
-mod all_realms;
+mod due_mark;
+mod entry_index;
 mod growth;
-mod index;
-mod mark;
+mod queue;
+mod realm_queues;
 mod realms;
-mod run;
-mod runs;
 mod slots;
 mod tables;
 

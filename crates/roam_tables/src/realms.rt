@@ -3,11 +3,11 @@
 ghost use Rattle.std.specs.Prelude.{◌≡◌, ◌<◌, ◌≤◌, Some, IfOk, OnErr, OnOk, IsOk, length};
 ghost use Rattle.std.specs.Prelude.{option_copied, slice_get};
 ghost use Rattle.std.specs.List.{AllByRecursion};
-ghost use Rattle.roam_tables.specs.Marks.{AreEmpty, CanEnter, CanLeave, Changes, Enters, Leaves, SameRuns};
+ghost use Rattle.roam_tables.specs.Private.Marks.{AreEmpty, CanEnter, CanLeave, Changes, Enters, Leaves, SameRuns};
 ghost use Rattle.roam_tables.specs.Stands.{AreMore, AtRealm, runs_room};
 
-use crate::mark::Mark;
-use crate::runs::Runs;
+use crate::due_mark::DueMark;
+use crate::realm_queues::RealmQueues;
 use roam_wire::NoMemory;
 use std::alloc::Allocator;
 
@@ -15,13 +15,13 @@ use std::alloc::Allocator;
 pub(crate) fn no_entries<A: Allocator + Copy>(
     alloc: A,
     count: usize,
-) -> Result<Vec<Runs<A>, A>, NoMemory>
+) -> Result<Vec<RealmQueues<A>, A>, NoMemory>
     ensures count { IfOk result (λ realms. length realms.items ≡ count) }
     ensures empty { IfOk result (λ realms. AllByRecursion AreEmpty realms.items) }
 {
     let mut realms = Vec::with_capacity(alloc, count).map_err(|_| NoMemory)?;
     for _ in 0..count {
-        realms.push_reserved(Runs::new(alloc));
+        realms.push_reserved(RealmQueues::new(alloc));
     }
     Ok(realms)
 }
@@ -30,7 +30,7 @@ pub(crate) fn no_entries<A: Allocator + Copy>(
 /// before.
 pub(crate) fn add_empty<A: Allocator + Copy>(
     alloc: A,
-    realms: &mut Vec<Runs<A>, A>,
+    realms: &mut Vec<RealmQueues<A>, A>,
     count: usize,
 ) -> Result<(), NoMemory>
     ensures ok { OnOk result (count ≤ length realms.new.items) }
@@ -43,13 +43,16 @@ pub(crate) fn add_empty<A: Allocator + Copy>(
     }
     realms.reserve(count - len).map_err(|_| NoMemory)?;
     for _ in len..count {
-        realms.push_reserved(Runs::new(alloc));
+        realms.push_reserved(RealmQueues::new(alloc));
     }
     Ok(())
 }
 
 /// The runs of a realm, if it is kept here.
-pub(crate) fn runs_of<A: Allocator>(realms: &Vec<Runs<A>, A>, realm: u16) -> Option<&Runs<A>>
+pub(crate) fn runs_of<A: Allocator>(
+    realms: &Vec<RealmQueues<A>, A>,
+    realm: u16,
+) -> Option<&RealmQueues<A>>
     ensures { option_copied result ≡ slice_get realms.now.items realm }
 {
     realms.get(usize::from(realm))
@@ -57,7 +60,7 @@ pub(crate) fn runs_of<A: Allocator>(realms: &Vec<Runs<A>, A>, realm: u16) -> Opt
 
 /// Makes room in a realm's runs for one entry more. Nothing comes in or goes.
 pub(crate) fn make_room_at<A: Allocator>(
-    realms: &mut Vec<Runs<A>, A>,
+    realms: &mut Vec<RealmQueues<A>, A>,
     realm: u16,
 ) -> Result<(), NoMemory>
     requires within { realm < length realms.old.items }
@@ -69,7 +72,7 @@ pub(crate) fn make_room_at<A: Allocator>(
 }
 
 /// An entry of a realm comes in. Takes no memory.
-pub(crate) fn add_at<A: Allocator>(realms: &mut Vec<Runs<A>, A>, realm: u16, mark: Mark)
+pub(crate) fn add_at<A: Allocator>(realms: &mut Vec<RealmQueues<A>, A>, realm: u16, mark: DueMark)
     requires within { realm < length realms.old.items }
     requires can { (q : _) → slice_get realms.old.items realm ≡ Some q → CanEnter mark q }
     ensures { AtRealm (Enters mark) realms.old.items realms.new.items realm }
@@ -78,7 +81,7 @@ pub(crate) fn add_at<A: Allocator>(realms: &mut Vec<Runs<A>, A>, realm: u16, mar
 }
 
 /// An entry of a realm goes.
-pub(crate) fn take_at<A: Allocator>(realms: &mut Vec<Runs<A>, A>, realm: u16, mark: Mark)
+pub(crate) fn take_at<A: Allocator>(realms: &mut Vec<RealmQueues<A>, A>, realm: u16, mark: DueMark)
     requires within { realm < length realms.old.items }
     requires can { (q : _) → slice_get realms.old.items realm ≡ Some q → CanLeave mark q }
     ensures { AtRealm (Leaves mark) realms.old.items realms.new.items realm }
@@ -88,10 +91,10 @@ pub(crate) fn take_at<A: Allocator>(realms: &mut Vec<Runs<A>, A>, realm: u16, ma
 
 /// An entry of a realm has another mark now. Takes no memory.
 pub(crate) fn change_at<A: Allocator>(
-    realms: &mut Vec<Runs<A>, A>,
+    realms: &mut Vec<RealmQueues<A>, A>,
     realm: u16,
-    from: Mark,
-    to: Mark,
+    from: DueMark,
+    to: DueMark,
 )
     requires within { realm < length realms.old.items }
     requires leaves { (q : _) → slice_get realms.old.items realm ≡ Some q → CanLeave from q }

@@ -1,12 +1,15 @@
 //! The slots in which the entries lie.
 
-ghost use Rattle.std.specs.Prelude.{◌≡◌, ◌≤◌, ◌+◌, None, Some, IsSome, option_map};
+ghost use Rattle.std.specs.Prelude.{◌≡◌, ◌≤◌, ◌+◌, None, Some, IfSome, IsSome, option_map};
 ghost use Rattle.slab.specs.Slab.{HasRoomFor};
-ghost use Rattle.roam_pending.specs.Shown.{seen, shown};
+ghost use Rattle.roam_pending.specs.Realms.{sent_again, with_standing};
+ghost use Rattle.roam_pending.specs.Shown.{seen, shown_standing};
 ghost use Rattle.roam_wire.specs.Numbered.{PutsAt};
-ghost use Rattle.roam_tables.specs.Stands.{place, slab_room, stored, with_entry};
+ghost use Rattle.roam_tables.specs.Private.Marks.{mark_of};
+ghost use Rattle.roam_tables.specs.Stands.{changed, place, slab_room, stored};
 
-use roam_pending::Entry;
+use crate::due_mark::{DueMark, mark_of};
+use roam_pending::{Entry, Standing};
 use slab::Slab;
 use std::alloc::Allocator;
 use std::mem;
@@ -38,16 +41,53 @@ pub(crate) fn take<A: Allocator>(slots: &mut Slab<Slot<A>, A>, at: usize) -> Slo
     slots.remove(at)
 }
 
-/// Changes the entry of a slot with another one.
-pub(crate) fn exchange<A: Allocator>(slots: &mut Slab<Slot<A>, A>, at: usize, entry: &mut Entry<A>)
+/// Exchanges how the entry of a slot stands with another standing. Says the entry's mark before and
+/// after.
+pub(crate) fn exchange<A: Allocator>(
+    slots: &mut Slab<Slot<A>, A>,
+    at: usize,
+    standing: &mut Standing<A>,
+) -> (DueMark, DueMark)
     requires { IsSome (place slots.old at) }
-    ensures was { option_map (λ x. x.entry) (place slots.old at) ≡ Some (shown entry.new) }
+    ensures exchanged { IfSome (place slots.old at)
+        (λ x. shown_standing standing.new ≡ x.entry.standing) }
     ensures puts { PutsAt (place slots.old) (place slots.new) at
-        (with_entry (shown entry.old) (place slots.old at)) }
+        (changed (with_standing (shown_standing standing.old)) (place slots.old at)) }
+    ensures from { IfSome (place slots.old at) (λ x. result.0 ≡ mark_of x.entry) }
+    ensures to { IfSome (place slots.old at)
+        (λ x. result.1 ≡ mark_of (with_standing (shown_standing standing.old) x.entry)) }
     ensures room { slab_room slots.old ≤ slab_room slots.new }
 {
     match slots.get_mut(at) {
-        Some(slot) => mem::swap(&mut slot.entry, entry),
+        Some(slot) => {
+            let from = mark_of(&slot.entry);
+            mem::swap(&mut slot.entry.standing, standing);
+            (from, mark_of(&slot.entry))
+        }
+        None => unreachable!(),
+    }
+}
+
+/// Notes that the forwarded packet of a slot's entry was sent once more. Says the entry's mark before
+/// and after.
+pub(crate) fn send_again<A: Allocator>(
+    slots: &mut Slab<Slot<A>, A>,
+    at: usize,
+    deadline: u64,
+) -> (DueMark, DueMark)
+    requires { IsSome (place slots.old at) }
+    ensures puts { PutsAt (place slots.old) (place slots.new) at
+        (changed (sent_again deadline) (place slots.old at)) }
+    ensures from { IfSome (place slots.old at) (λ x. result.0 ≡ mark_of x.entry) }
+    ensures to { IfSome (place slots.old at) (λ x. result.1 ≡ mark_of (sent_again deadline x.entry)) }
+    ensures room { slab_room slots.old ≤ slab_room slots.new }
+{
+    match slots.get_mut(at) {
+        Some(slot) => {
+            let from = mark_of(&slot.entry);
+            slot.entry.standing.wait_on(deadline);
+            (from, mark_of(&slot.entry))
+        }
         None => unreachable!(),
     }
 }

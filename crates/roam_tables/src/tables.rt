@@ -1,27 +1,22 @@
 //! The entries of all realms of a shard in one slab, with indexes and runs beside it.
 
-ghost use Rattle.std.specs.Prelude.{◌≡◌, ℕ, ◌<◌, ◌≤◌, ◌+◌, [], Some, OnErr, OnOk, IsOk, IfNone};
-ghost use Rattle.std.specs.Prelude.{IfOk, IfSome, length};
-ghost use Rattle.indexmap.specs.IndexMap.{spare};
-ghost use Rattle.roam_pending.specs.DueOrder.{due_after};
-ghost use Rattle.roam_pending.specs.EntryList.{HasPlaceOf, IsEntryList, IsNew, besides, find_client, find_ticket};
-ghost use Rattle.roam_pending.specs.EntryList.{first_done, put, without};
+ghost use Rattle.std.specs.Prelude.{◌≡◌, ℕ, ◌<◌, ◌≤◌, ◌+◌, [], OnOk, IfNone, IfOk, IfSome, length};
+ghost use Rattle.roam_pending.specs.EntryList.{IsEntryList, IsNew, put};
 ghost use Rattle.roam_pending.specs.Realms.{RealmBecomes};
-ghost use Rattle.roam_pending.specs.Shown.{seen, shown, taken};
-ghost use Rattle.roam_tables.specs.Stands.{AtRealm, HasTicket, client_at, entries_in, place, room_in, runs_room};
-ghost use Rattle.roam_tables.specs.Stands.{slab_room, ticket_at};
+ghost use Rattle.roam_pending.specs.Shown.{shown};
+ghost use Rattle.roam_tables.specs.Stands.{HasTicket, entries_in, room_in};
 
-use crate::growth::grow;
-use crate::index::{
-    ClientKey, Index, TicketKey, client_slot, forget_client, forget_ticket, note_client,
+use crate::due_mark::mark_of;
+use crate::entry_index::{
+    ClientKey, EntryIndex, TicketKey, client_slot, forget_client, forget_ticket, note_client,
     note_ticket, ticket_slot,
 };
-use crate::mark::mark_of;
+use crate::growth::grow;
+use crate::realm_queues::RealmQueues;
 use crate::realms::{add_at, add_empty, change_at, no_entries, runs_of, take_at};
-use crate::runs::Runs;
-use crate::slots::{Slot, entry_in, exchange, put, take};
+use crate::slots::{Slot, entry_in, exchange, put, send_again, take};
 use indexmap::IndexMap;
-use roam_pending::{Due, Entry, Key};
+use roam_pending::{Due, Entries, Entry, Key, Standing};
 use roam_wire::NoMemory;
 use slab::Slab;
 use std::alloc::Allocator;
@@ -36,10 +31,10 @@ use std::marker::Model;
 pub struct Tables<A: Allocator> {
     slots: Slab<Slot<A>, A>,
     /// The slot of each realm's ticket.
-    by_ticket: Index<TicketKey, A>,
+    by_ticket: EntryIndex<TicketKey, A>,
     /// The slot of each realm's request, by its key.
-    by_client: Index<ClientKey, A>,
-    realms: Vec<Runs<A>, A>,
+    by_client: EntryIndex<ClientKey, A>,
+    realms: Vec<RealmQueues<A>, A>,
 }
 
 impl<A: Allocator> Model for Tables<A> {
@@ -69,87 +64,6 @@ impl<A: Allocator + Copy> Tables<A> {
         })
     }
 
-    /// How many entries a realm has.
-    pub fn len(&self, realm: u16) -> usize
-        ensures len { result ≡ length (entries_in self.now realm) }
-        ensures list { IsEntryList (entries_in self.now realm) }
-    {
-        match runs_of(&self.realms, realm) {
-            None => 0,
-            Some(runs) => runs.len(),
-        }
-    }
-
-    /// The entry of a ticket.
-    pub fn find_ticket(&self, realm: u16, ticket: u64) -> Option<&Entry<A>>
-        ensures found { seen result ≡ find_ticket ticket (entries_in self.now realm) }
-        ensures list { IsEntryList (entries_in self.now realm) }
-    {
-        match ticket_slot(&self.by_ticket, TicketKey { realm, ticket }) {
-            None => None,
-            Some(at) => entry_in(&self.slots, at),
-        }
-    }
-
-    /// The entry of a key.
-    pub fn find_client(&self, realm: u16, key: &Key) -> Option<&Entry<A>>
-        ensures found { seen result ≡ find_client key.now (entries_in self.now realm) }
-        ensures list { IsEntryList (entries_in self.now realm) }
-    {
-        match client_slot(&self.by_client, ClientKey { realm, key: *key }) {
-            None => None,
-            Some(at) => entry_in(&self.slots, at),
-        }
-    }
-
-    /// The ticket of the done entry of least ticket, besides one that counts as gone.
-    pub fn first_done(&self, realm: u16, except: Option<u64>) -> Option<u64>
-        ensures { result ≡ first_done (besides except (entries_in self.now realm)) }
-    {
-        match runs_of(&self.realms, realm) {
-            None => None,
-            Some(runs) => runs.first_done(except),
-        }
-    }
-
-    /// Of the realm's entries whose deadline is at most `now`, the one of least deadline and ticket,
-    /// or where `last` is one of them, the next one after it.
-    pub fn due_after(&self, realm: u16, now: u64, last: Option<Due>) -> Option<Due>
-        ensures found { result ≡ due_after now last (entries_in self.now realm) }
-        ensures list { IsEntryList (entries_in self.now realm) }
-    {
-        match runs_of(&self.realms, realm) {
-            None => None,
-            Some(runs) => {
-                match runs.next(last) {
-                    None => None,
-                    Some(due) => { if due.deadline <= now { Some(due) } else { None } }
-                }
-            }
-        }
-    }
-
-    /// Makes room for one entry more of a realm that is kept here. No entry changes. `NoMemory` comes
-    /// where there was no room and a growth was refused; all is then as it was, but for room that was
-    /// gained.
-    pub fn reserve(&mut self, realm: u16) -> Result<(), NoMemory>
-        requires kept { realm < length self.old }
-        ensures ok { OnOk result (0 < room_in self.new realm) }
-        ensures err { OnErr result ((r : ℕ) → room_in self.old r ≤ room_in self.new r) }
-        ensures succeeds { 0 < room_in self.old realm → IsOk result }
-        ensures entries { entries_in self.new ≡ entries_in self.old }
-        ensures room { room_in self.old realm ≤ room_in self.new realm }
-        ensures realms { length self.new ≡ length self.old }
-    {
-        grow(
-            &mut self.slots,
-            &mut self.by_ticket,
-            &mut self.by_client,
-            &mut self.realms,
-            realm,
-        )
-    }
-
     /// Puts a new entry of a realm in order of ticket, where there is room. Takes no memory.
     pub fn insert_reserved(&mut self, realm: u16, entry: Entry<A>)
         requires new { IsNew (shown entry) (entries_in self.old realm) }
@@ -169,31 +83,6 @@ impl<A: Allocator + Copy> Tables<A> {
         note_ticket(&mut self.by_ticket, realm, mark.due.ticket, at);
         note_client(&mut self.by_client, client, at);
         add_at(&mut self.realms, realm, mark);
-    }
-
-    /// Takes out the entry of a ticket. Its place is room for another one. Takes no memory.
-    pub fn remove(&mut self, realm: u16, ticket: u64) -> Option<Entry<A>>
-        ensures found { taken result ≡ find_ticket ticket (entries_in self.old realm) }
-        ensures entries { RealmBecomes realm
-            (without ticket (entries_in self.old realm))
-            (entries_in self.old) (entries_in self.new) }
-        ensures room { room_in self.old realm ≤ room_in self.new realm }
-        ensures realms { length self.new ≡ length self.old }
-    {
-        match ticket_slot(&self.by_ticket, TicketKey { realm, ticket }) {
-            None => None,
-            Some(at) => {
-                let slot = take(&mut self.slots, at);
-                let client = ClientKey {
-                    realm,
-                    key: slot.entry.request.key,
-                };
-                forget_ticket(&mut self.by_ticket, TicketKey { realm, ticket });
-                forget_client(&mut self.by_client, client);
-                take_at(&mut self.realms, realm, mark_of(&slot.entry));
-                Some(slot.entry)
-            }
-        }
     }
 
     /// Keeps so many realms at least: the further ones have no entries. What was kept stays as it was, refused or not.
@@ -233,29 +122,101 @@ impl<A: Allocator + Copy> Tables<A> {
             }
         }
     }
+}
 
-    /// Changes an entry with the one that has its key and ticket. Takes no memory.
-    pub fn swap(&mut self, realm: u16, entry: &mut Entry<A>)
-        requires { HasPlaceOf (shown entry.old) (entries_in self.old realm) }
-        ensures found { Some (shown entry.new)
-            ≡ find_ticket entry.old.ticket (entries_in self.old realm) }
-        ensures entries { RealmBecomes realm
-            (put (shown entry.old) (entries_in self.old realm))
-            (entries_in self.old) (entries_in self.new) }
-        ensures room { room_in self.old realm ≤ room_in self.new realm }
-        ensures realms { length self.new ≡ length self.old }
-    {
-        let to = mark_of(entry);
-        let ticket = TicketKey {
-            realm,
-            ticket: entry.ticket,
-        };
-        match ticket_slot(&self.by_ticket, ticket) {
-            None => unreachable!(),
-            Some(at) => {
-                exchange(&mut self.slots, at, entry);
-                change_at(&mut self.realms, realm, mark_of(entry), to);
+impl<A: Allocator + Copy> Entries<A> for Tables<A> {
+    ghost use Rattle.roam_tables.specs.Stands.{keeps_in, entries_in, room_in};
+
+    ghost keeps = { keeps_in };
+
+    ghost entries_of = { entries_in };
+
+    ghost room_for = { room_in };
+
+    fn len(&self, realm: u16) -> usize {
+        match runs_of(&self.realms, realm) {
+            None => 0,
+            Some(runs) => runs.len(),
+        }
+    }
+
+    fn find_ticket(&self, realm: u16, ticket: u64) -> Option<&Entry<A>> {
+        match ticket_slot(&self.by_ticket, TicketKey { realm, ticket }) {
+            None => None,
+            Some(at) => entry_in(&self.slots, at),
+        }
+    }
+
+    fn find_client(&self, realm: u16, key: &Key) -> Option<&Entry<A>> {
+        match client_slot(&self.by_client, ClientKey { realm, key: *key }) {
+            None => None,
+            Some(at) => entry_in(&self.slots, at),
+        }
+    }
+
+    fn first_done(&self, realm: u16, except: Option<u64>) -> Option<u64> {
+        match runs_of(&self.realms, realm) {
+            None => None,
+            Some(runs) => runs.first_done(except),
+        }
+    }
+
+    fn due_after(&self, realm: u16, now: u64, last: Option<Due>) -> Option<Due> {
+        match runs_of(&self.realms, realm) {
+            None => None,
+            Some(runs) => {
+                match runs.next(last) {
+                    None => None,
+                    Some(due) => { if due.deadline <= now { Some(due) } else { None } }
+                }
             }
+        }
+    }
+
+    fn reserve(&mut self, realm: u16) -> Result<(), NoMemory> {
+        grow(
+            &mut self.slots,
+            &mut self.by_ticket,
+            &mut self.by_client,
+            &mut self.realms,
+            realm,
+        )
+    }
+
+    fn insert_from(&mut self, realm: u16, entry: &mut Option<Entry<A>>) {
+        if let Some(entry) = entry.take() {
+            self.insert_reserved(realm, entry);
+        }
+    }
+
+    fn remove(&mut self, realm: u16, ticket: u64) -> Option<Entry<A>> {
+        match ticket_slot(&self.by_ticket, TicketKey { realm, ticket }) {
+            None => None,
+            Some(at) => {
+                let slot = take(&mut self.slots, at);
+                let client = ClientKey {
+                    realm,
+                    key: slot.entry.request.key,
+                };
+                forget_ticket(&mut self.by_ticket, TicketKey { realm, ticket });
+                forget_client(&mut self.by_client, client);
+                take_at(&mut self.realms, realm, mark_of(&slot.entry));
+                Some(slot.entry)
+            }
+        }
+    }
+
+    fn exchange_standing(&mut self, realm: u16, ticket: u64, standing: &mut Standing<A>) {
+        if let Some(at) = ticket_slot(&self.by_ticket, TicketKey { realm, ticket }) {
+            let marks = exchange(&mut self.slots, at, standing);
+            change_at(&mut self.realms, realm, marks.0, marks.1);
+        }
+    }
+
+    fn send_again(&mut self, realm: u16, ticket: u64, deadline: u64) {
+        if let Some(at) = ticket_slot(&self.by_ticket, TicketKey { realm, ticket }) {
+            let marks = send_again(&mut self.slots, at, deadline);
+            change_at(&mut self.realms, realm, marks.0, marks.1);
         }
     }
 }

@@ -5,8 +5,8 @@ use Rattle.roam_conf.specs.Config.{ConfigView}
 use Rattle.roam_route.specs.Admission.{Admission, PlainJob, admitted}
 use Rattle.roam_route.specs.Events.{IsEvent, arrival_of}
 use Rattle.roam_book.specs.RealmState.{RealmState}
-use Rattle.roam_book.specs.declared.answer.Answer.{Answer}
-use Rattle.roam_book.specs.declared.answer.Twin.{Twin}
+use Rattle.roam_book.specs.declared.packets.answer.Answer.{Answer}
+use Rattle.roam_book.specs.declared.packets.answer.Twin.{Twin}
 use Rattle.roam_core.specs.Events.{PlainEvent, arrives, is_in_shard}
 use Rattle.roam_core.specs.ManyRealms.{BrokerTurn, answer_to, to_arrival}
 use Rattle.roam_core.specs.Steps.{IsAnswer}

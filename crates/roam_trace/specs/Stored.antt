@@ -5,12 +5,12 @@ use Rattle.roam_conf.specs.declared.place.Place.{Place}
 use Rattle.roam_route.specs.Admission.{PlainOut}
 use Rattle.roam_core.specs.Events.{PlainEvent, arrives, ticks}
 use Rattle.roam_trace.specs.Steps.{PlainAnswer, shown_answer}
-use Rattle.roam_trace.specs.declared.came.Came.{Came}
-use Rattle.roam_trace.specs.declared.came.Came.TheVariants as came
-use Rattle.roam_trace.specs.declared.sent.Sent.{Sent}
-use Rattle.roam_trace.specs.declared.sent.Sent.TheVariants as sent
+use Rattle.roam_trace.specs.declared.stored_event.StoredEvent.{StoredEvent}
+use Rattle.roam_trace.specs.declared.stored_event.StoredEvent.TheVariants as came
+use Rattle.roam_trace.specs.declared.stored_answer.StoredAnswer.{StoredAnswer}
+use Rattle.roam_trace.specs.declared.stored_answer.StoredAnswer.TheVariants as sent
 
-abbrev pub shown_came : {A : Type 0} → Came A → PlainEvent
+abbrev pub shown_came : {A : Type 0} → StoredEvent A → PlainEvent
 shown_came (came.Arrived at from now octets) =
     arrives now (record { at = at; from = from; octets = octets })
 shown_came (came.Ticked shard now) = ticks now shard
@@ -23,7 +23,7 @@ packet_of_parts realm from to bytes =
 abbrev pub only_packet : PlainOut → PlainAnswer
 only_packet out = record { packets = out ∷ []; refusal = None }
 
-abbrev pub shown_sent : {A : Type 0} → Sent A → PlainAnswer
+abbrev pub shown_sent : {A : Type 0} → StoredAnswer A → PlainAnswer
 shown_sent (sent.Nothing refusal) = record { packets = []; refusal = refusal }
 shown_sent (sent.One realm from to bytes) =
     only_packet (packet_of_parts realm from to bytes)

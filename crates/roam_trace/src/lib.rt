@@ -3,14 +3,14 @@
 //! Nothing here touches a socket, a clock or a lock: events, moments and packets are values.
 #![tactic(auto)]
 
-mod came;
 mod event;
 mod fault;
 mod look;
 mod octets;
 mod same;
-mod sent;
 mod step;
+mod stored_answer;
+mod stored_event;
 mod traced;
 
 pub use event::{copy_of, job_event};

@@ -3,8 +3,8 @@
 ghost use Rattle.std.specs.Prelude.{◌≡◌};
 ghost use Rattle.roam_trace.specs.Happened.{shown_happened};
 
-use crate::came::Came;
 use crate::step::Step;
+use crate::stored_event::StoredEvent;
 use crate::traced::Traced;
 use roam_conf::{Endpoint, Place};
 use roam_shard::Shard;
@@ -45,7 +45,7 @@ impl<A: Allocator> Step<A> {
         ensures { shown_happened result ≡ self.now.event }
     {
         match &self.came {
-            Came::Arrived {
+            StoredEvent::Arrived {
                 at,
                 from,
                 now,
@@ -56,7 +56,7 @@ impl<A: Allocator> Step<A> {
                 from: *from,
                 octets: octets.as_slice(),
             },
-            Came::Ticked { shard, now } => Happened::Ticked {
+            StoredEvent::Ticked { shard, now } => Happened::Ticked {
                 now: *now,
                 shard: *shard,
             },

@@ -4,8 +4,8 @@ ghost use Rattle.std.specs.Prelude.{◌≡◌, ◌↔◌, IsTrue};
 ghost use Rattle.roam_core.specs.Shown.{shown_event};
 ghost use Rattle.roam_trace.specs.Steps.{shown_answer};
 
-use crate::came::Came;
-use crate::sent::Sent;
+use crate::stored_answer::StoredAnswer;
+use crate::stored_event::StoredEvent;
 use roam_book::Answer;
 use roam_core::Event;
 use std::alloc::{Allocator, Global};
@@ -18,8 +18,8 @@ use std::mem::size_of;
 /// and of the packet, which lie in a block each. Further packets take 40 octets each, in a list.
 #[derive(Drop)]
 pub struct Step<A: Allocator> {
-    pub(crate) came: Came<A>,
-    sent: Sent<A>,
+    pub(crate) came: StoredEvent<A>,
+    sent: StoredAnswer<A>,
 }
 
 const _: () = prove!(size_of::<Step<Global>>() == 88);
@@ -40,8 +40,8 @@ impl<A: Allocator> Step<A> {
         ensures answer { result.answer ≡ shown_answer answer }
     {
         Step {
-            came: Came::new(event),
-            sent: Sent::new(answer),
+            came: StoredEvent::new(event),
+            sent: StoredAnswer::new(answer),
         }
     }
 

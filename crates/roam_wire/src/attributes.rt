@@ -3,7 +3,7 @@
 ghost use Rattle.std.specs.Prelude.{◌≡◌, IsSome, Some};
 ghost use Rattle.roam_wire.specs.Reading.{attributes_of};
 
-use crate::walk::split_attribute;
+use crate::attribute_grammar::split_attribute;
 use std::marker::Model;
 
 /// An attribute of a packet, looked at where it lies (RFC 2865, section 5).

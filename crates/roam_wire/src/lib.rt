@@ -5,6 +5,7 @@
 //! lies in it. What reads takes no memory and copies no octets.
 #![tactic(auto)]
 
+mod attribute_grammar;
 pub mod attribute_type;
 mod attributes;
 pub mod code;
@@ -14,7 +15,6 @@ mod packet_buf;
 mod packet_size;
 mod refusal;
 mod view;
-mod walk;
 pub mod writing;
 
 pub use attributes::{Attr, Attrs};

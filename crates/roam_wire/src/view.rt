@@ -7,10 +7,10 @@ ghost use Rattle.roam_wire.specs.Packet.{Packet, IsPacket, packet_text};
 ghost use Rattle.roam_wire.specs.Reading.{length_field, HasLength, IsPacketText, ReadsAs, Reads, packet_of, reading};
 ghost use Rattle.roam_wire.specs.Attributes.{first_value, count_of};
 
+use crate::attribute_grammar::are_attributes;
 use crate::attributes::Attrs;
 use crate::packet_size::MAX_PACKET_LENGTH;
 use crate::refusal::Refusal;
-use crate::walk::are_attributes;
 use std::marker::Model;
 
 /// A packet that was read, looked at where it lies in the datagram (RFC 2865, section 3). Holding one

@@ -4,12 +4,12 @@
 //! Their secret is `xyzzy5461`, and the Access-Requests' Request Authenticator that of RFC 2865,
 //! section 7.1.
 
-use crate::octets::{octets, octets_mut};
 use md5::{Digest, Md5};
 use roam_auth::{
     hmac_md5, message_auth, message_ok, request_auth, request_ok, response_auth, response_ok,
 };
 use roam_wire::View;
+use test_fixtures::{octets, octets_mut};
 
 const SECRET: [u8; 9] = *b"xyzzy5461";
 

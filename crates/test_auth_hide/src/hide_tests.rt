@@ -3,11 +3,11 @@
 //! ChaCha20 under the zero key. Where no RFC is named, both sides were computed apart, with
 //! Python's hashlib, from a plain text that the comment tells.
 
-use crate::octets::{octets, octets_mut};
 use roam_hide::{
     HidingKey, password_fits, rehide_password, rehide_salted, rehide_tunnel, rehide_vendor, salted,
 };
 use roam_wire::View;
+use test_fixtures::{octets, octets_mut};
 
 const P_AUTHENTICATOR: [u8; 16] = [
     0x0f, 0x40, 0x3f, 0x94, 0x73, 0x97, 0x80, 0x57, 0xbd, 0x83, 0xd5, 0xcb, 0x98, 0xf4, 0x22, 0x7a,

@@ -5,5 +5,3 @@
 mod auth_tests;
 #[cfg(test)]
 mod hide_tests;
-#[cfg(test)]
-mod octets;

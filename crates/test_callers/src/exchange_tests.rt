@@ -17,34 +17,7 @@ use roam_wire::{NoMemory, Octets, Refusal, View};
 use std::alloc::Global;
 use std::process::Abort;
 use std::test::Fail;
-
-/// One peer, and one realm with one home server.
-const CONFIG: &str = "shards = 1
-seed = \"0000000000000000000000000000000000000000000000000000000000000000\"
-auth = \"127.0.0.1:1812\"
-acct = \"127.0.0.1:1813\"
-trace_limit = 1000
-
-[[peer]]
-name = \"nas1\"
-ip = \"192.0.2.1\"
-secret = \"xyzzy5461\"
-
-[[realm]]
-name = \"a.example\"
-out = \"127.0.0.1:2000\"
-reverse = \"127.0.0.1:3000\"
-tries = 2
-wait = 1000
-hold = 5000
-max_pending = 300
-max_sessions = 100
-
-[[realm.server]]
-auth = \"198.51.100.1:1812\"
-acct = \"198.51.100.1:1813\"
-secret = \"h1\"
-";
+use test_fixtures::configuration::{PLAIN_PEER, REALM, SERVER, TOP};
 
 /// An Accounting-Request of `u@a.example`: Acct-Status-Type Start, Acct-Session-Id `01`.
 const START: &str =
@@ -72,6 +45,13 @@ const HOME_SERVER: Endpoint = Endpoint {
 /// The octets that a text of hexadecimal digits spells.
 fn octets(rt: &impl Abort, alloc: Global, text: &str) -> Vec<u8> {
     hex::decode(alloc, text).expect(rt, "hexadecimal digits")
+}
+
+/// One peer, and one realm with one home server.
+fn one_realm(rt: &impl Abort, alloc: Global) -> Config {
+    let parts = [TOP, PLAIN_PEER, REALM, SERVER];
+    let text = parts.concat(alloc).expect(rt, "memory");
+    read_config(alloc, &text).expect(rt, "a configuration")
 }
 
 /// The job of an arrival, if it gives one.
@@ -129,7 +109,7 @@ fn parties(config: &Config) -> Option<(&Peer, &Server)> {
 #[test]
 fn a_request_goes_to_the_home_server(rt: HostRuntime) -> Result<(), Fail> {
     let alloc = rt.alloc();
-    let config = read_config(alloc, CONFIG)?;
+    let config = one_realm(&rt, alloc);
     let start = octets(&rt, alloc, START);
     let job = job_of(alloc, &config, Place::Acct, ACCESS_SERVER, start).ok_or("a job")?;
     assert!(rt; job.realm == 0 && job.side == Side::Peer(0));
@@ -146,7 +126,7 @@ fn a_request_goes_to_the_home_server(rt: HostRuntime) -> Result<(), Fail> {
 #[test]
 fn its_reply_goes_to_the_access_server(rt: HostRuntime) -> Result<(), Fail> {
     let alloc = rt.alloc();
-    let config = read_config(alloc, CONFIG)?;
+    let config = one_realm(&rt, alloc);
     let response = octets(&rt, alloc, RESPONSE);
     let job = job_of(alloc, &config, Place::Out(0), HOME_SERVER, response).ok_or("a job")?;
     assert!(rt; job.realm == 0 && job.side == Side::Link(Link::Acct(0)));
@@ -170,7 +150,7 @@ fn its_reply_goes_to_the_access_server(rt: HostRuntime) -> Result<(), Fail> {
 
 #[test]
 fn the_request_names_its_user_and_is_signed(rt: HostRuntime) -> Result<(), Fail> {
-    let config = read_config(rt.alloc(), CONFIG)?;
+    let config = one_realm(&rt, rt.alloc());
     let start = octets(&rt, rt.alloc(), START);
     assert!(rt; user_name(&start) == Some(b"u@a.example".as_slice()));
     let view = View::read(&start)?;

@@ -1,34 +1,16 @@
 //! The configuration of the tests.
 
+use roam_conf::Config;
+use roam_conf_reader::read_config;
+use std::alloc::Global;
+use std::process::Abort;
+use test_fixtures::configuration::{PLAIN_PEER, REALM, SECOND_SERVER, SERVER, TOP};
+
 /// One realm with two servers.
-pub(crate) const TWO_SERVERS: &str = "shards = 1
-seed = \"0000000000000000000000000000000000000000000000000000000000000000\"
-auth = \"127.0.0.1:1812\"
-acct = \"127.0.0.1:1813\"
-trace_limit = 1000
+pub(crate) const TWO_SERVERS: [&str; 5] = [TOP, PLAIN_PEER, REALM, SERVER, SECOND_SERVER];
 
-[[peer]]
-name = \"nas1\"
-ip = \"192.0.2.1\"
-secret = \"xyzzy5461\"
-
-[[realm]]
-name = \"a.example\"
-out = \"127.0.0.1:2000\"
-reverse = \"127.0.0.1:3000\"
-tries = 2
-wait = 1000
-hold = 5000
-max_pending = 300
-max_sessions = 100
-
-[[realm.server]]
-auth = \"198.51.100.1:1812\"
-acct = \"198.51.100.1:1813\"
-secret = \"h1\"
-
-[[realm.server]]
-auth = \"198.51.100.2:1812\"
-acct = \"198.51.100.2:1813\"
-secret = \"h2\"
-";
+/// What it says.
+pub(crate) fn two_servers(rt: &impl Abort, alloc: Global) -> Config {
+    let text = TWO_SERVERS.concat(alloc).expect(rt, "memory");
+    read_config(alloc, &text).expect(rt, "a configuration")
+}

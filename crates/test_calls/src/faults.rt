@@ -4,6 +4,7 @@ use crate::configuration::TWO_SERVERS;
 use roam_conf_reader::ConfFault;
 use roam_sim::{SimFault, sim};
 use std::alloc::Global;
+use std::process::Abort;
 
 /// An Accounting-Request (Start, `u@a.example`) and its response: two lines, of 134 and 66 octets. The digests are
 /// computed apart from the program (RFC 2866 section 3, RFC 2865 section 3).
@@ -15,14 +16,14 @@ A 5 out:0 198.51.100.1:1813 0500001ea1e81fcd91eda44683d85e49b2655719210a00000000
 T 6 0
 ";
 
-/// Texts that are at fault, and the fault.
-const FAULTS: &[(&str, &str, SimFault)] = &[
-    ("=", SCRIPT, SimFault::Config(ConfFault::Syntax)),
-    ("", "", SimFault::Config(ConfFault::Missing)),
+/// The parts of a configuration and a script, one of which is at fault, and the fault.
+const FAULTS: &[(&[&str], &str, SimFault)] = &[
+    (&["="], SCRIPT, SimFault::Config(ConfFault::Syntax)),
+    (&[], "", SimFault::Config(ConfFault::Missing)),
     // The configuration is judged first.
-    ("=", "T", SimFault::Config(ConfFault::Syntax)),
-    (TWO_SERVERS, "T", SimFault::Line(1)),
-    (TWO_SERVERS, "# late\n\nT 0 0\nT 0", SimFault::Line(4)),
+    (&["="], "T", SimFault::Config(ConfFault::Syntax)),
+    (&TWO_SERVERS, "T", SimFault::Line(1)),
+    (&TWO_SERVERS, "# late\n\nT 0 0\nT 0", SimFault::Line(4)),
 ];
 
 /// The texts of faults.
@@ -34,16 +35,23 @@ const TEXTS: &[(SimFault, &str)] = &[
 ];
 
 /// Whether a simulation ends with a fault and writes nothing.
-fn is_found(alloc: Global, configuration: &str, script: &str, fault: SimFault) -> bool {
+fn is_found(
+    rt: &impl Abort,
+    alloc: Global,
+    configuration: &[&str],
+    script: &str,
+    fault: SimFault,
+) -> bool {
+    let configuration = configuration.concat(alloc).expect(rt, "memory");
     let mut text = Vec::new(alloc);
-    sim(alloc, configuration, script, &mut text) == Err(fault) && text.is_empty()
+    sim(alloc, &configuration, script, &mut text) == Err(fault) && text.is_empty()
 }
 
 #[test]
 fn texts_at_fault_are_found_in_order(rt: HostRuntime) {
     for (configuration, script, fault) in FAULTS {
         assert!(rt;
-            is_found(rt.alloc(), configuration, script, *fault),
+            is_found(&rt, rt.alloc(), configuration, script, *fault),
             "{script:?}"
         );
     }
@@ -65,13 +73,14 @@ fn faults_have_texts(rt: HostRuntime) {
 }
 
 /// Whether a simulation tells a refused write: there is room for the first line and a part of the second.
-fn is_write_told(alloc: Global) -> bool {
+fn is_write_told(rt: &impl Abort, alloc: Global) -> bool {
+    let configuration = TWO_SERVERS.concat(alloc).expect(rt, "memory");
     let mut room = [0u8; 150];
     let mut writer = room.as_mut_slice();
-    sim(alloc, TWO_SERVERS, SCRIPT, &mut writer) == Err(SimFault::Write)
+    sim(alloc, &configuration, SCRIPT, &mut writer) == Err(SimFault::Write)
 }
 
 #[test]
 fn a_refused_write_is_told(rt: HostRuntime) {
-    assert!(rt; is_write_told(rt.alloc()));
+    assert!(rt; is_write_told(&rt, rt.alloc()));
 }

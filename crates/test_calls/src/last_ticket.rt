@@ -1,11 +1,10 @@
 //! The last ticket of a realm. What is expected was said by hand and spelled by the RFCs' formulas, with Python's
 //! hashlib, and a broker written apart from the program answers the same.
 
-use crate::configuration::TWO_SERVERS;
+use crate::configuration::two_servers;
 use crate::realm::Realm;
 use roam_book::Answer;
 use roam_conf::Config;
-use roam_conf_reader::read_config;
 use roam_sim::{print_packet, read_script};
 use std::alloc::{Allocator, Global};
 use std::io;
@@ -103,7 +102,7 @@ fn answered(rt: &impl Abort, alloc: Global, over: &Refusing<Global>, config: &Co
 }
 
 fn is_answered(rt: &impl Abort, alloc: Global) -> bool {
-    let config = read_config(alloc, TWO_SERVERS).expect(rt, "a configuration");
+    let config = two_servers(rt, alloc);
     let over = Refusing::new(alloc);
     answered(rt, alloc, &over, &config).as_slice() == LAST_TICKET.as_bytes()
 }

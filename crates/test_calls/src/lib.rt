@@ -15,5 +15,3 @@ mod realm;
 mod scripts;
 #[cfg(test)]
 mod tick_room;
-#[cfg(test)]
-mod twins;

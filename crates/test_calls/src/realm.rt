@@ -5,7 +5,7 @@ ghost use Rattle.roam_conf.specs.Shown.{shown};
 ghost use Rattle.roam_route.specs.Events.{IsEvent};
 ghost use Rattle.roam_route.specs.Shown.{shown_job};
 
-use roam_book::{Answer, Book, Start, Twin};
+use roam_book::{Answer, Book, Start};
 use roam_conf::Config;
 use roam_core::Event;
 use roam_route::{Datagram, Job, Prepared, Side, prepare};
@@ -58,17 +58,6 @@ impl<'c, A: Allocator + Copy> Realm<'c, A> {
         }
     }
 
-    /// The same, with the answer twice.
-    fn takes_twice(&mut self, now: u64, job: &Job<A>) -> Result<Twin<A>, NoMemory>
-        requires event { IsEvent (shown self.old.config.now) (shown_job job.now) }
-        requires own { job.now.realm ≡ 0 }
-    {
-        match job.side {
-            Side::Link(_) => self.book.reply_twice(now, job),
-            Side::Peer(_) | Side::Home(_) => self.book.request_twice(now, job),
-        }
-    }
-
     /// What an event gives.
     pub(crate) fn meets(&mut self, alloc: A, event: &Event<A>) -> Result<Answer<A>, Refusal> {
         match event {
@@ -77,17 +66,6 @@ impl<'c, A: Allocator + Copy> Realm<'c, A> {
                 Ok(self.takes(*now, &job)?)
             }
             Event::Tick { now, .. } => Ok(self.book.tick(*now)?),
-        }
-    }
-
-    /// What an event gives, twice.
-    pub(crate) fn meets_twice(&mut self, alloc: A, event: &Event<A>) -> Result<Twin<A>, Refusal> {
-        match event {
-            Event::Arrive { now, datagram } => {
-                let job = self.job_of(alloc, datagram)?;
-                Ok(self.takes_twice(*now, &job)?)
-            }
-            Event::Tick { now, .. } => Ok(self.book.tick_twice(*now)?),
         }
     }
 }

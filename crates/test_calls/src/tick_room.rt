@@ -1,8 +1,7 @@
 //! A tick in the room that was made for it.
 
-use crate::configuration::TWO_SERVERS;
+use crate::configuration::two_servers;
 use crate::realm::Realm;
-use roam_conf_reader::read_config;
 use roam_sim::read_script;
 use std::alloc::Global;
 use std::process::Abort;
@@ -37,7 +36,7 @@ fn ticks_in_room<'r>(
 
 /// Two ticks behind the events.
 fn counts(rt: &impl Abort, alloc: Global) -> [[u64; 3]; 2] {
-    let config = read_config(alloc, TWO_SERVERS).expect(rt, "a configuration");
+    let config = two_servers(rt, alloc);
     let over = Refusing::new(alloc);
     let mut realm = Realm::new(&over, &config, 0).expect(rt, "memory");
     for event in read_script(&over, EVENTS).expect(rt, "a script").iter() {

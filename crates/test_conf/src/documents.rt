@@ -5,46 +5,11 @@ use roam_conf_reader::{ConfFault, read_config};
 use std::alloc::Global;
 use std::process::Abort;
 use std::test::Fail;
+use test_fixtures::configuration::{PEER, REALM, SERVER, TOP};
 
 /// The seed's line in `TOP`.
 pub const SEED: &str =
     "seed = \"0000000000000000000000000000000000000000000000000000000000000000\"\n";
-
-pub const TOP: &str = "shards = 1
-seed = \"0000000000000000000000000000000000000000000000000000000000000000\"
-auth = \"127.0.0.1:1812\"
-acct = \"127.0.0.1:1813\"
-trace_limit = 1000
-";
-
-pub const PEER: &str = "
-[[peer]]
-name = \"nas1\"
-ip = \"192.0.2.1\"
-secret = \"xyzzy5461\"
-coa = \"192.0.2.1:3799\"
-nas_ip = \"192.0.2.1\"
-nas_id = \"nas1\"
-";
-
-pub const REALM: &str = "
-[[realm]]
-name = \"a.example\"
-out = \"127.0.0.1:2000\"
-reverse = \"127.0.0.1:3000\"
-tries = 2
-wait = 1000
-hold = 5000
-max_pending = 300
-max_sessions = 100
-";
-
-pub const SERVER: &str = "
-[[realm.server]]
-auth = \"198.51.100.1:1812\"
-acct = \"198.51.100.1:1813\"
-secret = \"h1\"
-";
 
 pub const SECOND_PEER: &str = "
 [[peer]]
@@ -58,37 +23,6 @@ pub const THIRD_PEER: &str = "
 name = \"nas3\"
 ip = \"192.0.2.3\"
 secret = \"s\"
-";
-
-pub const SECOND_REALM: &str = "
-[[realm]]
-name = \"b.example\"
-out = \"127.0.0.1:2001\"
-reverse = \"127.0.0.1:3001\"
-tries = 2
-wait = 1000
-hold = 5000
-max_pending = 300
-max_sessions = 100
-";
-
-pub const THIRD_REALM: &str = "
-[[realm]]
-name = \"c.example\"
-out = \"127.0.0.1:2002\"
-reverse = \"127.0.0.1:3002\"
-tries = 2
-wait = 1000
-hold = 5000
-max_pending = 300
-max_sessions = 100
-";
-
-pub const SECOND_SERVER: &str = "
-[[realm.server]]
-auth = \"198.51.100.2:1812\"
-acct = \"198.51.100.2:1813\"
-secret = \"h2\"
 ";
 
 /// The sample configuration, whose peer, realm and server are one each.

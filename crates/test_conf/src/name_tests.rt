@@ -1,11 +1,12 @@
 //! Which realm a name means, where realms have patterns, and which of these may not stand twice.
 
-use crate::documents::{PEER, REALM, SECOND_REALM, SERVER, TOP, fault_of, joined};
+use crate::documents::{fault_of, joined};
 use roam_conf::Config;
 use roam_conf_reader::{ConfFault, read_config};
 use std::alloc::Global;
 use std::process::Abort;
 use std::test::Fail;
+use test_fixtures::configuration::{PEER, REALM, SECOND_REALM, SERVER, TOP};
 
 /// The document of two realms, `a.example` and `b.example`, with a line of patterns in each.
 fn with_patterns(alloc: Global, first: &str, second: &str) -> Result<String, Fail> {

@@ -1,13 +1,13 @@
 //! What may not stand twice, and which of two faults at once is the answer.
 
 use crate::documents::{
-    Change, Document, PEER, REALM, SAMPLE, SECOND_PEER, SECOND_REALM, SECOND_SERVER, SERVER,
-    THIRD_PEER, TOP, expect_changes, expect_documents,
+    Change, Document, SAMPLE, SECOND_PEER, THIRD_PEER, expect_changes, expect_documents,
 };
 use roam_conf_reader::ConfFault;
 use std::alloc::Global;
 use std::process::Abort;
 use std::test::Fail;
+use test_fixtures::configuration::{PEER, REALM, SECOND_REALM, SECOND_SERVER, SERVER, TOP};
 
 /// Endpoints of the sample that are made equal.
 const ENDPOINTS_TWICE: [Change; 7] = [

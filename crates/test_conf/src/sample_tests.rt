@@ -1,14 +1,12 @@
 //! What is read from documents that are accepted, and what is found in it.
 
-use crate::documents::{
-    PEER, REALM, SAMPLE, SECOND_PEER, SECOND_REALM, SECOND_SERVER, SERVER, TOP, changed, config_of,
-    home_server,
-};
+use crate::documents::{SAMPLE, SECOND_PEER, changed, config_of, home_server};
 use roam_conf::{Config, Endpoint, Link, Peer, Realm};
 use roam_conf_reader::read_config;
 use std::alloc::Global;
 use std::process::Abort;
 use std::test::Fail;
+use test_fixtures::configuration::{PEER, REALM, SECOND_REALM, SECOND_SERVER, SERVER, TOP};
 
 /// An endpoint of the broker's own.
 fn own(port: u16) -> Endpoint {

@@ -1,10 +1,11 @@
 //! The ends of the ranges of lengths and counts, and one past each.
 
-use crate::documents::{SAMPLE, TOP, changed, fault_of};
+use crate::documents::{SAMPLE, changed, fault_of};
 use roam_conf_reader::ConfFault;
 use std::alloc::Global;
 use std::process::Abort;
 use std::test::Fail;
+use test_fixtures::configuration::TOP;
 
 /// The sample's text, what stands before a text of `x` in its place, how many, and the fault.
 type Length = (&'static str, &'static str, usize, Option<ConfFault>);

@@ -1,8 +1,9 @@
 //! Changes of the sample in one value or key, and the fault of each.
 
-use crate::documents::{Change, PEER, SEED, SERVER, expect_changes};
+use crate::documents::{Change, SEED, expect_changes};
 use roam_conf_reader::ConfFault;
 use std::test::Fail;
+use test_fixtures::configuration::{PEER, SERVER};
 
 const MISSING: Option<ConfFault> = Some(ConfFault::Missing);
 

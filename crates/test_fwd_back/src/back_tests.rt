@@ -3,7 +3,6 @@
 use crate::exchanges::{
     ACCESS_SERVER, COA, COA_FORWARDED, HOME_SERVER, SEALED, SEALED_OVER_ZEROS, SEALED_RETURNED,
 };
-use crate::octets::octets;
 use crate::reply_tests::refusal;
 use roam_auth::has_one_message_authenticator;
 use roam_back::back;
@@ -13,6 +12,7 @@ use roam_wire::{Refusal, View};
 use std::alloc::Allocator;
 use std::test::Fail;
 use test_allocator::Refusing;
+use test_fixtures::octets;
 
 /// Returns a reply of one link to the requester. The Authenticator and the secret of the link from
 /// which it came count in Access replies alone.

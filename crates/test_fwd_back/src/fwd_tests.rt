@@ -3,12 +3,12 @@
 //! formulas of RFC 2865 (sections 2.3 and 5.33), RFC 2866 (section 3) and RFC 3579 (section 3.2).
 
 use crate::exchanges::{ACCESS_SERVER, HOME_SERVER, SEALED, START};
-use crate::octets::octets;
 use roam_fwd::{can_be_forwarded, forward, forwarded_len};
 use roam_wire::{NoMemory, View, code};
 use std::alloc::Allocator;
 use std::test::Fail;
 use test_allocator::Refusing;
+use test_fixtures::octets;
 
 /// An Authenticator that counts for no request but an Access-Request.
 const UNUSED: [u8; 16] = [0xff; 16];

@@ -12,6 +12,4 @@ mod fwd_tests;
 #[cfg(test)]
 mod nak_tests;
 #[cfg(test)]
-mod octets;
-#[cfg(test)]
 mod reply_tests;

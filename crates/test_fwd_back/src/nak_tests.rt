@@ -1,12 +1,12 @@
 //! What a reverse request is refused with, against octets from outside.
 
 use crate::exchanges::{COA, HOME_SERVER};
-use crate::octets::octets;
 use roam_back::{nak, nak_len, nak_reserved};
 use roam_wire::code::{COA_REQUEST, DISCONNECT_REQUEST};
 use roam_wire::{Refusal, View};
 use std::alloc::Allocator;
 use test_allocator::Refusing;
+use test_fixtures::octets;
 
 /// What a request shows, the request, the cause, and the NAK.
 type Nak = (&'static str, &'static str, u32, &'static str);

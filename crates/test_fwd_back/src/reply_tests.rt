@@ -4,9 +4,9 @@ use crate::exchanges::{
     ACCESS_FORWARDED, ACCESS_FORWARDED_SEALED, ACCESS_SERVER, COA_FORWARDED, HOME_SERVER,
     START_FORWARDED,
 };
-use crate::octets::octets;
 use roam_back::check_reply;
 use roam_wire::View;
+use test_fixtures::octets;
 
 /// The number of a reply's refusal, where a seal is required or not: 0 where it is taken.
 fn number(reply: &View<'_>, forwarded: &View<'_>, secret: &[u8], seal_required: bool) -> u8 {

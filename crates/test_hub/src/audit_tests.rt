@@ -8,7 +8,7 @@ ghost use Rattle.roam_history.specs.HubOpening.{fresh_opening};
 ghost use Rattle.roam_history.specs.Books.{books_of, count_of};
 
 use crate::at_once::{Ended, called_at_once};
-use crate::configuration::{SECOND_REALM, config_of};
+use crate::configuration::config_of;
 use roam_book::{Answer, Start};
 use roam_conf::Config;
 use roam_core::Event;
@@ -22,6 +22,7 @@ use std::process::Abort;
 use std::sync::Wait;
 use std::thread::Threads;
 use std::time::Clock;
+use test_fixtures::configuration::{SECOND_REALM, SERVER};
 
 /// An equal receipt, of a call for which nothing was sent.
 fn equal<N: Opened>(
@@ -138,7 +139,7 @@ fn audits<N: Opened + Send + Sync, R: Abort + Threads + Wait + Clock + Sync>(
 
 /// Those of a hub.
 fn audits_of_a_hub<R: Abort + Threads + Wait + Clock + Sync>(rt: &R, alloc: Global) -> Found {
-    let config = config_of(rt, alloc, 2, 1000, SECOND_REALM);
+    let config = config_of(rt, alloc, 2, 1000, &[SECOND_REALM, SERVER]);
     let starts = first_starts(alloc, &config).expect(rt, "memory");
     let blanks = Blanks::new(alloc, config.shards).expect(rt, "memory");
     audits::<Brand, R>(rt, alloc, &config, &starts, blanks)

@@ -9,7 +9,7 @@ ghost use Rattle.roam_history.specs.Books.{books_of, count_of};
 ghost use Rattle.roam_hub.specs.Pausing.{ArePaused, opening_over};
 
 use crate::caller::{NAS, OTHER_FIRST, OTHER_REQUEST_7, datagram, sends};
-use crate::configuration::{SECOND_REALM, config_of};
+use crate::configuration::config_of;
 use roam_book::Start;
 use roam_conf::{Config, Endpoint, Place};
 use roam_hub::{Blanks, Hub, Open, Opened, Paused, PausedHub, Seat, follow};
@@ -20,6 +20,7 @@ use std::alloc::{Allocator, Global};
 use std::marker::Brand;
 use std::process::Abort;
 use std::sync::Wait;
+use test_fixtures::configuration::{SECOND_REALM, SERVER};
 
 /// What comes in, in hexadecimal digits, and the one packet that is sent for it.
 pub(crate) struct Exchange {
@@ -30,7 +31,7 @@ pub(crate) struct Exchange {
 }
 
 /// The home server of `a.example`, for accounting.
-const SERVER: Endpoint = Endpoint {
+const HOME_SERVER: Endpoint = Endpoint {
     ip: [198, 51, 100, 1],
     port: 1813,
 };
@@ -69,23 +70,15 @@ const THIRD_REQUEST: &str = "010700210f403f9473978057bd83d5cb98f4227a010d7540632
 const THIRD_FIRST: &str =
     "0100003dd0c5b9b7442870728d812f034c635e815012cd71591c81ff4ce8754497b8e3332498010d7540632e6578616d706c65210a0000000000000000";
 
-/// The second realm with another secret of its server, a third realm, and a second peer.
-const CHANGED: &str = "
-[[realm]]
-name = \"b.example\"
-out = \"127.0.0.1:2001\"
-reverse = \"127.0.0.1:3001\"
-tries = 2
-wait = 1000
-hold = 5000
-max_pending = 300
-max_sessions = 100
-
+/// The same home server with another secret.
+const SERVER_WITH_OTHER_SECRET: &str = "
 [[realm.server]]
 auth = \"198.51.100.1:1812\"
 acct = \"198.51.100.1:1813\"
 secret = \"h9\"
+";
 
+const THIRD_REALM: &str = "
 [[realm]]
 name = \"c.example\"
 out = \"127.0.0.1:2002\"
@@ -95,12 +88,9 @@ wait = 1000
 hold = 5000
 max_pending = 300
 max_sessions = 100
+";
 
-[[realm.server]]
-auth = \"198.51.100.1:1812\"
-acct = \"198.51.100.1:1813\"
-secret = \"h1\"
-
+const SECOND_PEER: &str = "
 [[peer]]
 name = \"nas2\"
 ip = \"192.0.2.2\"
@@ -109,6 +99,15 @@ coa = \"192.0.2.2:3799\"
 nas_ip = \"192.0.2.2\"
 nas_id = \"nas2\"
 ";
+
+/// The second realm with another secret of its server, a third realm, and a second peer.
+const CHANGED: [&str; 5] = [
+    SECOND_REALM,
+    SERVER_WITH_OTHER_SECRET,
+    THIRD_REALM,
+    SERVER,
+    SECOND_PEER,
+];
 
 /// Before the change: a request of each realm, and none is answered yet.
 pub(crate) const BEFORE: [Exchange; 2] = [
@@ -130,7 +129,7 @@ pub(crate) const BEFORE: [Exchange; 2] = [
 pub(crate) const GOES_ON: [Exchange; 3] = [
     Exchange {
         at: Place::Out(0),
-        from: SERVER,
+        from: HOME_SERVER,
         octets: STARTED,
         sent: RETURNED,
     },
@@ -235,8 +234,8 @@ pub(crate) fn goes_on<A: Allocator + Copy, N: Opened + Send + Sync, R: Abort + W
 pub(crate) fn two_configurations(rt: &impl Abort, alloc: Global) -> (Config, Config)
     ensures { MayFollow (shown result.0) (shown result.1) }
 {
-    let old = config_of(rt, alloc, 1, 1000, SECOND_REALM);
-    let new = config_of(rt, alloc, 1, 1000, CHANGED);
+    let old = config_of(rt, alloc, 1, 1000, &[SECOND_REALM, SERVER]);
+    let new = config_of(rt, alloc, 1, 1000, &CHANGED);
     assert!(rt; hindrance_of(&old, &new).is_none());
     (old, new)
 }

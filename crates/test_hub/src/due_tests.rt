@@ -72,7 +72,7 @@ fn due<N: Opened + Send + Sync, R: Abort + Wait>(
 
 /// Those of a hub.
 fn due_in_a_hub<R: Abort + Wait>(rt: &R, alloc: Global) -> Due {
-    let config = config_of(rt, alloc, 1, 1000, "");
+    let config = config_of(rt, alloc, 1, 1000, &[]);
     let starts = first_starts(alloc, &config).expect(rt, "memory");
     let blanks = Blanks::new(alloc, config.shards).expect(rt, "memory");
     due::<Brand, R>(rt, alloc, &config, &starts, blanks)

@@ -202,7 +202,7 @@ fn close_is_refused<'r, R: Abort + Wait>(
 
 /// Whether that holds of histories, of a hub's opening over one realm, of its calls and of its end.
 fn are_refused<R: Abort + Wait>(rt: &R, alloc: Global) -> [bool; 4] {
-    let config = config_of(rt, alloc, 1, 1000, "");
+    let config = config_of(rt, alloc, 1, 1000, &[]);
     let starts = first_starts(alloc, &config).expect(rt, "memory");
     let over = Refusing::new(alloc);
     let blanks = blanks(rt, &over, config.shards);

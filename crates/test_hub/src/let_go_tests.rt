@@ -124,7 +124,7 @@ fn full<N: Opened + Send + Sync, R: Abort + Wait>(
 
 /// That hub.
 fn full_hub<R: Abort + Wait>(rt: &R, alloc: Global) -> Full {
-    let config = config_of(rt, alloc, 1, 1, "");
+    let config = config_of(rt, alloc, 1, 1, &[]);
     let starts = first_starts(alloc, &config).expect(rt, "memory");
     let blanks = Blanks::new(alloc, config.shards).expect(rt, "memory");
     full::<Brand, R>(rt, alloc, &config, &starts, blanks)
@@ -177,7 +177,7 @@ fn session<N: Opened + Send + Sync, R: Abort + Wait>(
 
 /// That hub.
 fn session_of_a_hub<R: Abort + Wait>(rt: &R, alloc: Global) -> Held {
-    let config = config_of(rt, alloc, 1, 1, "");
+    let config = config_of(rt, alloc, 1, 1, &[]);
     let starts = first_starts(alloc, &config).expect(rt, "memory");
     let blanks = Blanks::new(alloc, config.shards).expect(rt, "memory");
     session::<Brand, R>(rt, alloc, &config, &starts, blanks)

@@ -65,7 +65,7 @@ fn goes_on<N: Opened + Send + Sync, R: Abort + Wait>(
 /// Why the second call of a hub isn't recorded that stores one step, how many steps it has at its
 /// end, and whether another hub goes on from there.
 fn full<R: Abort + Wait>(rt: &R, alloc: Global) -> (Option<HubFault>, Option<usize>, bool) {
-    let config = config_of(rt, alloc, 1, 1, "");
+    let config = config_of(rt, alloc, 1, 1, &[]);
     let starts = first_starts(alloc, &config).expect(rt, "memory");
     let blanks = Blanks::new(alloc, config.shards).expect(rt, "memory");
     let (fault, steps, next) = called_twice::<Brand, _>(rt, alloc, &config, &starts, blanks);

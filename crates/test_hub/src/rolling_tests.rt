@@ -103,7 +103,7 @@ fn roll_both<N: Opened + Send + Sync, R: Abort + Threads + Wait + Sync>(
 
 /// That hub.
 fn roll_hub<R: Abort + Threads + Wait + Sync>(rt: &R, alloc: Global) -> End {
-    let config = config_of(rt, alloc, 1, LIMIT, "");
+    let config = config_of(rt, alloc, 1, LIMIT, &[]);
     let starts = first_starts(alloc, &config).expect(rt, "memory");
     let blanks = Blanks::new(alloc, config.shards).expect(rt, "memory");
     roll_both::<Brand, R>(rt, alloc, &config, &starts, blanks)

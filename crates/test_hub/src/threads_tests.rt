@@ -8,7 +8,7 @@ ghost use Rattle.roam_history.specs.Books.{books_of, count_of};
 
 use crate::at_once::{ANSWERED, IN_VAIN, called_at_once};
 use crate::caller::{FIRST, OTHER_FIRST, sends};
-use crate::configuration::{SECOND_REALM, config_of};
+use crate::configuration::config_of;
 use roam_book::Start;
 use roam_conf::Config;
 use roam_hub::{Blanks, Opened, Receipt, Report};
@@ -19,6 +19,7 @@ use std::process::Abort;
 use std::sync::Wait;
 use std::thread::Threads;
 use std::time::Clock;
+use test_fixtures::configuration::{SECOND_REALM, SERVER};
 
 /// What is seen of a hub's end: the last stage; the shards that the gate was told, each one more than
 /// its number, added up; of each receipt its shard, its number, how many packets go with it, and
@@ -98,7 +99,7 @@ fn seen_over<R: Abort + Threads + Wait + Clock + Sync>(
     rt: &R,
     alloc: Global,
     shards: u16,
-    added: &str,
+    added: &[&str],
     second: Second,
 ) -> Seen {
     let config = config_of(rt, alloc, shards, 1000, added);
@@ -127,7 +128,7 @@ fn a_held_shard_holds_up_its_own_calls(rt: HostRuntime) {
         turns: 5_000,
         packet: FIRST,
     };
-    assert!(rt; seen_over(&rt, rt.alloc(), 1, "", second) == expected);
+    assert!(rt; seen_over(&rt, rt.alloc(), 1, &[], second) == expected);
 }
 
 #[test]
@@ -149,5 +150,5 @@ fn a_held_shard_holds_up_no_call_of_another(rt: HostRuntime) {
         turns: 1_000_000,
         packet: OTHER_FIRST,
     };
-    assert!(rt; seen_over(&rt, rt.alloc(), 2, SECOND_REALM, second) == expected);
+    assert!(rt; seen_over(&rt, rt.alloc(), 2, &[SECOND_REALM, SERVER], second) == expected);
 }

@@ -7,7 +7,7 @@ ghost use Rattle.roam_history.specs.HubOpening.{fresh_opening};
 ghost use Rattle.roam_history.specs.Books.{books_of, count_of};
 
 use crate::caller::{Caller, FIRST, REQUEST_7, sends};
-use crate::configuration::{SECOND_SERVER, config_of};
+use crate::configuration::config_of;
 use roam_book::Start;
 use roam_conf::Config;
 use roam_hub::{Blanks, Hub, HubFault, Open, Opened};
@@ -16,6 +16,7 @@ use std::alloc::Global;
 use std::marker::Brand;
 use std::process::Abort;
 use std::sync::Wait;
+use test_fixtures::configuration::SECOND_SERVER;
 
 /// The number of a tick's receipt, whether it sends the request again, why the tick of a shard that
 /// isn't there isn't recorded; and at the end how many steps the first shard has, and where its realm
@@ -55,7 +56,7 @@ fn ticked<N: Opened + Send + Sync, R: Abort + Wait>(
 
 /// The same, of a realm of two servers.
 fn two_servers<R: Abort + Wait>(rt: &R, alloc: Global) -> Ticked {
-    let config = config_of(rt, alloc, 1, 1000, SECOND_SERVER);
+    let config = config_of(rt, alloc, 1, 1000, &[SECOND_SERVER]);
     let starts = first_starts(alloc, &config).expect(rt, "memory");
     let blanks = Blanks::new(alloc, config.shards).expect(rt, "memory");
     ticked::<Brand, _>(rt, alloc, &config, &starts, blanks)

@@ -14,23 +14,10 @@ use roam_wire::{NoMemory, View};
 use std::alloc::Global;
 use std::process::Abort;
 use std::test::Fail;
+use test_fixtures::configuration::{PEER, REALM, SECOND_REALM, SERVER, TOP};
 
-/// Three peers, of which the second takes no reverse requests and the third has no identifier, and
-/// two realms.
-const CONFIG: &str = "shards = 1
-seed = \"0000000000000000000000000000000000000000000000000000000000000000\"
-auth = \"127.0.0.1:1812\"
-acct = \"127.0.0.1:1813\"
-trace_limit = 1000
-
-[[peer]]
-name = \"nas1\"
-ip = \"192.0.2.1\"
-secret = \"xyzzy5461\"
-coa = \"192.0.2.1:3799\"
-nas_ip = \"192.0.2.1\"
-nas_id = \"nas1\"
-
+/// A second peer, which takes no reverse requests, and a third one, which has no identifier.
+const OTHER_PEERS: &str = "
 [[peer]]
 name = \"nas2\"
 ip = \"192.0.2.2\"
@@ -44,37 +31,10 @@ ip = \"192.0.2.3\"
 secret = \"s3\"
 coa = \"192.0.2.3:3799\"
 nas_ip = \"192.0.2.3\"
-
-[[realm]]
-name = \"a.example\"
-out = \"127.0.0.1:2000\"
-reverse = \"127.0.0.1:3000\"
-tries = 2
-wait = 1000
-hold = 5000
-max_pending = 300
-max_sessions = 100
-
-[[realm.server]]
-auth = \"198.51.100.1:1812\"
-acct = \"198.51.100.1:1813\"
-secret = \"h1\"
-
-[[realm]]
-name = \"b.example\"
-out = \"127.0.0.1:2001\"
-reverse = \"127.0.0.1:3001\"
-tries = 2
-wait = 1000
-hold = 5000
-max_pending = 300
-max_sessions = 100
-
-[[realm.server]]
-auth = \"198.51.100.1:1812\"
-acct = \"198.51.100.1:1813\"
-secret = \"h1\"
 ";
+
+/// Three peers, and two realms.
+const PARTS: [&str; 7] = [TOP, PEER, OTHER_PEERS, REALM, SERVER, SECOND_REALM, SERVER];
 
 /// What a request holds, its octets, the peer that it is for, and its cause in the first realm.
 type Row = (&'static str, &'static str, Option<u16>, Option<u32>);
@@ -352,7 +312,8 @@ fn judged(
 
 /// Each request has this target and this cause.
 fn check_rows(rt: &impl Abort, alloc: Global, rows: &[Row]) -> Result<(), Fail> {
-    let config = read_config(alloc, CONFIG).expect(rt, "a configuration");
+    let text = PARTS.concat(alloc).expect(rt, "memory");
+    let config = read_config(alloc, &text).expect(rt, "a configuration");
     for (what, request, peer, cause) in rows {
         assert!(rt;
             judged(rt, alloc, &config, request) == (*peer, *cause),

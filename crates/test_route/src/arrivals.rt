@@ -6,57 +6,15 @@ use roam_route::Side;
 use std::alloc::Global;
 use std::process::Abort;
 use std::test::Fail;
+use test_fixtures::configuration::{PEER, REALM, SECOND_REALM, SERVER, TOP};
 
-/// Two realms share one home server; of two peers the second must seal its Access-Requests.
-const CONFIG: &str = "shards = 1
-seed = \"0000000000000000000000000000000000000000000000000000000000000000\"
-auth = \"127.0.0.1:1812\"
-acct = \"127.0.0.1:1813\"
-trace_limit = 1000
-
-[[peer]]
-name = \"nas1\"
-ip = \"192.0.2.1\"
-secret = \"xyzzy5461\"
-coa = \"192.0.2.1:3799\"
-nas_ip = \"192.0.2.1\"
-nas_id = \"nas1\"
-
+/// A second peer, which must seal its Access-Requests.
+const SEALING_PEER: &str = "
 [[peer]]
 name = \"nas2\"
 ip = \"192.0.2.2\"
 secret = \"xyzzy5461\"
 require_seal = true
-
-[[realm]]
-name = \"a.example\"
-out = \"127.0.0.1:2000\"
-reverse = \"127.0.0.1:3000\"
-tries = 2
-wait = 1000
-hold = 5000
-max_pending = 300
-max_sessions = 100
-
-[[realm.server]]
-auth = \"198.51.100.1:1812\"
-acct = \"198.51.100.1:1813\"
-secret = \"h1\"
-
-[[realm]]
-name = \"b.example\"
-out = \"127.0.0.1:2001\"
-reverse = \"127.0.0.1:3001\"
-tries = 2
-wait = 1000
-hold = 5000
-max_pending = 300
-max_sessions = 100
-
-[[realm.server]]
-auth = \"198.51.100.1:1812\"
-acct = \"198.51.100.1:1813\"
-secret = \"h1\"
 ";
 
 /// An Accounting-Request of `u@a.example`: Acct-Status-Type Start, Acct-Session-Id `01`.
@@ -320,10 +278,18 @@ pub fn spelled(rt: &impl Abort, alloc: Global, digits: &str) -> Vec<u8> {
     all
 }
 
-/// The configuration, with these keys before the others.
+/// The configuration, with these keys before the others: two realms share one home server.
 pub fn config(alloc: Global, keys: &str) -> Result<Config, Fail> {
-    let mut text = String::new(alloc);
-    text.push_str(keys)?;
-    text.push_str(CONFIG)?;
+    let parts = [
+        keys,
+        TOP,
+        PEER,
+        SEALING_PEER,
+        REALM,
+        SERVER,
+        SECOND_REALM,
+        SERVER,
+    ];
+    let text = parts.concat(alloc)?;
     Ok(read_config(alloc, &text).map_err(|_| "the configuration isn't accepted")?)
 }

@@ -2,7 +2,7 @@
 
 use crate::exchange::Verdict;
 use crate::row::Row;
-use roam_counters::{Event, Process, ReplyKind, RequestKind, Subject};
+use roam_counters::{CountedEvent, Process, ReplyKind, RequestKind, Subject};
 use roam_metrics::Counts;
 use roam_serve::Counters;
 use roam_wire::Refusal;
@@ -15,7 +15,7 @@ const SERVER: Subject = Subject::Server(0, 0);
 const PEER: Subject = Subject::Peer(0);
 
 /// How often an event was counted of the realm, of the home server and of the peer.
-fn of_each(counters: &Counters, event: Event) -> [u64; 3] {
+fn of_each(counters: &Counters, event: CountedEvent) -> [u64; 3] {
     [
         counters.event(REALM, event),
         counters.event(SERVER, event),
@@ -25,25 +25,25 @@ fn of_each(counters: &Counters, event: Event) -> [u64; 3] {
 
 /// How many arrivals were counted to be refused under this number, of all.
 fn refused(counters: &Counters, refusal: Refusal) -> u64 {
-    counters.event(Subject::All, Event::Refused(refusal))
+    counters.event(Subject::All, CountedEvent::Refused(refusal))
 }
 
 /// An accounting exchange: one request is forwarded and its reply returned; each that came before it was sent once
 /// more, or waited.
 fn accounting(counters: &Counters) -> Verdict {
-    let [realm, server, peer] = of_each(counters, Event::Forwarded(RequestKind::Accounting));
+    let [realm, server, peer] = of_each(counters, CountedEvent::Forwarded(RequestKind::Accounting));
     if [realm, server, peer] != [1, 1, 1] {
         return Err("the requests that were forwarded aren't counted as they are");
     }
     let kind = ReplyKind::AccountingResponse;
-    if of_each(counters, Event::Returned(kind)) != [1, 1, 1]
-        || of_each(counters, Event::Reply(kind)) != [1, 1, 0]
+    if of_each(counters, CountedEvent::Returned(kind)) != [1, 1, 1]
+        || of_each(counters, CountedEvent::Reply(kind)) != [1, 1, 0]
     {
         return Err("the replies aren't counted as they are");
     }
-    let [requests, _, asked] = of_each(counters, Event::Request(RequestKind::Accounting));
-    let [waiting, _, _] = of_each(counters, Event::Waiting);
-    let [held, _, _] = of_each(counters, Event::Answered(kind));
+    let [requests, _, asked] = of_each(counters, CountedEvent::Request(RequestKind::Accounting));
+    let [waiting, _, _] = of_each(counters, CountedEvent::Waiting);
+    let [held, _, _] = of_each(counters, CountedEvent::Answered(kind));
     if requests != asked || requests != waiting.saturating_add(held).saturating_add(1) {
         return Err("the requests aren't counted as they are");
     }
@@ -64,10 +64,10 @@ fn hostile(counters: &Counters) -> Verdict {
             return Err("refusals aren't counted as they are");
         }
     }
-    if counters.event(PEER, Event::Refused(Refusal::BadAuthenticator)) != 6
-        || counters.event(REALM, Event::Refused(Refusal::UnknownSource)) != 3
-        || counters.event(SERVER, Event::Refused(Refusal::WrongCode)) != 3
-        || counters.event(PEER, Event::Refused(Refusal::WrongCode)) != 3
+    if counters.event(PEER, CountedEvent::Refused(Refusal::BadAuthenticator)) != 6
+        || counters.event(REALM, CountedEvent::Refused(Refusal::UnknownSource)) != 3
+        || counters.event(SERVER, CountedEvent::Refused(Refusal::WrongCode)) != 3
+        || counters.event(PEER, CountedEvent::Refused(Refusal::WrongCode)) != 3
     {
         return Err("refusals aren't counted where they are");
     }
@@ -91,10 +91,10 @@ fn crowd(counters: &Counters) -> Verdict {
     let kind = RequestKind::Access;
     let mut sent = 0u64;
     for realm in 0..5 {
-        let forwarded = counters.event(Subject::Realm(realm), Event::Forwarded(kind));
-        let again = counters.event(Subject::Realm(realm), Event::SentAgain(kind));
+        let forwarded = counters.event(Subject::Realm(realm), CountedEvent::Forwarded(kind));
+        let again = counters.event(Subject::Realm(realm), CountedEvent::SentAgain(kind));
         if forwarded != 256
-            || again != counters.event(Subject::Server(realm, 0), Event::SentAgain(kind))
+            || again != counters.event(Subject::Server(realm, 0), CountedEvent::SentAgain(kind))
         {
             return Err("what is sent again isn't counted as it is");
         }

@@ -66,16 +66,23 @@ fn main(rt: HostRuntime) -> io::Result<()> {
                         served
                     });
                     let mut acted = row.act(stage, &ends, alloc);
-                    if let Some(config) = second {
-                        let none = &mut NoSource { alloc };
-                        let options = ServeOptions {
-                            watch: None,
-                            are_exchanges_told: true,
-                            milliseconds: Some(row.milliseconds()),
-                            gate: &stage.turnstile,
-                        };
-                        if serve(stage, alloc, config, options, none) != TAKEN {
-                            acted = Err("a second server has the ports too");
+                    match second {
+                        Some(config) => {
+                            let none = &mut NoSource { alloc };
+                            let options = ServeOptions {
+                                watch: None,
+                                are_exchanges_told: true,
+                                milliseconds: Some(row.milliseconds()),
+                                gate: &stage.turnstile,
+                            };
+                            if serve(stage, alloc, config, options, none) != TAKEN {
+                                acted = Err("a second server has the ports too");
+                            }
+                        }
+                        None => {
+                            if row.has_second() {
+                                acted = Err("the second server's configuration can't be had");
+                            }
                         }
                     }
                     if row.ends_early() {

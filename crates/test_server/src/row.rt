@@ -211,17 +211,22 @@ impl Row {
         }
     }
 
-    /// The configuration of a second server, where one is to begin beside the first.
+    /// Whether a second server is to begin beside the first.
+    pub(crate) fn has_second(self) -> bool {
+        matches!(self, Row::Accounting | Row::Spread)
+    }
+
+    /// The configuration of a second server, where one is to begin beside the first; none too where it can't be read.
     pub(crate) fn second<R: Files + RandomSource>(
         self,
         stage: &Stage<'_, R>,
         rt: &R,
         alloc: Global,
     ) -> Option<Config> {
-        match self {
-            Row::Accounting | Row::Spread => self.config(stage, rt, alloc)?.ok(),
-            _ => None,
+        if !self.has_second() {
+            return None;
         }
+        self.config(stage, rt, alloc)?.ok()
     }
 
     /// What happens while the server runs.

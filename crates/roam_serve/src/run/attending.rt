@@ -3,9 +3,9 @@
 use crate::run::counters::ThreadCounts;
 use crate::run::desk::{Course, Desk, Order, Reply, done};
 use crate::run::next::{Next, prepare_next};
+use crate::run::overview::Overview;
 use crate::run::shared::Shared;
 use crate::run::source::Source;
-use crate::run::standing::Standing;
 use crate::run::stopping::grace;
 use crate::system::bind::BoundSocket;
 use crate::system::clock::now;
@@ -13,7 +13,7 @@ use crate::threads::script::script_of;
 use log::Log;
 use roam_counters::Process;
 use roam_hub::{HubFault, Opened, Seat};
-use roam_metrics::{Form, page, status};
+use roam_metrics::{StatusForm, page, status};
 use std::alloc::{AllocError, Global};
 use std::net::Net;
 use std::sync::Wait;
@@ -49,17 +49,10 @@ impl<R: Wait + Clock + Net + Log, G, N: Opened> Attendant<'_, '_, R, G, N> {
     }
 
     /// What was counted, and how all stands; none where nothing is counted.
-    fn look(&self) -> Result<Option<Standing<'_>>, AllocError> {
+    fn look(&self) -> Result<Option<Overview<'_>>, AllocError> {
         let shared = self.shared;
         match shared.counters {
-            Some(counters) => Ok(Some(Standing::look(
-                self.rt,
-                self.shared.alloc,
-                shared.hub,
-                shared.config,
-                counters,
-                self.now,
-            )?)),
+            Some(counters) => Ok(Some(Overview::look(self.rt, shared, counters, self.now)?)),
             None => Ok(None),
         }
     }
@@ -76,7 +69,7 @@ impl<R: Wait + Clock + Net + Log, G, N: Opened> Attendant<'_, '_, R, G, N> {
     }
 
     /// How the server stands.
-    fn status(&self, form: Form) -> Result<Reply, AllocError> {
+    fn status(&self, form: StatusForm) -> Result<Reply, AllocError> {
         let Some(standing) = self.look()? else {
             return Ok(bare(self.shared.alloc, Course::Unknown));
         };

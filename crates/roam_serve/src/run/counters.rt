@@ -4,7 +4,7 @@ ghost use Rattle.std.specs.Prelude.{◌≡◌, IfOk, vec_len};
 
 use crate::system::control_socket::ControlSocket;
 use roam_conf::{Config, Endpoint, Realm};
-use roam_counters::{EVENTS, Event, Layout, Process, RequestKind, Subject};
+use roam_counters::{CountedEvent, EVENTS, Layout, Process, RequestKind, Subject};
 use roam_metrics::{Counts, Gauge};
 use std::alloc::{AllocError, Global};
 use std::sync::atomic::{AtomicU64, Ordering};
@@ -29,7 +29,7 @@ fn zeros(alloc: Global, count: usize) -> Result<Vec<AtomicU64>, AllocError> {
 
 /// Where the counts of a subject begin.
 fn first_cell(layout: Layout, subject: Subject) -> usize {
-    layout.cell(subject, Event::Request(RequestKind::Access))
+    layout.cell(subject, CountedEvent::Request(RequestKind::Access))
 }
 
 impl Counters {
@@ -138,7 +138,7 @@ impl Counters {
 }
 
 impl Counts for Counters {
-    fn event(&self, subject: Subject, event: Event) -> u64 {
+    fn event(&self, subject: Subject, event: CountedEvent) -> u64 {
         self.sum(self.layout.cell(subject, event))
     }
 
@@ -178,12 +178,12 @@ impl ThreadCounts<'_> {
     }
 
     /// One more of this of a subject.
-    pub fn event(&self, subject: Subject, event: Event) {
+    pub fn event(&self, subject: Subject, event: CountedEvent) {
         self.add(self.layout.cell(subject, event), 1);
     }
 
     /// So many more of this of a subject.
-    pub fn more(&self, subject: Subject, event: Event, more: u64) {
+    pub fn more(&self, subject: Subject, event: CountedEvent, more: u64) {
         self.add(self.layout.cell(subject, event), more);
     }
 

@@ -3,7 +3,7 @@
 
 ghost use Rattle.std.specs.Prelude.{◌≡◌};
 
-use roam_metrics::Form;
+use roam_metrics::StatusForm;
 use std::sync::atomic::{AtomicBool, Ordering};
 use std::sync::{Mutex, Wait};
 use std::thread::Parker;
@@ -15,7 +15,7 @@ pub enum Order {
     /// The counts, as the page of metrics.
     Metrics,
     /// How the server stands.
-    Status(Form),
+    Status(StatusForm),
     /// To stop.
     Stop,
     /// The stored steps of a shard, as a script.

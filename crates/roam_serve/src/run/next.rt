@@ -82,7 +82,8 @@ fn is_stopping(alloc: Global) -> Reply {
     declined_with(alloc, b"roam: asked to stop\n")
 }
 
-/// All that the server needs for a configuration that follows the one that is served. Sockets that both want are the same.
+/// All that the server needs for a configuration that follows the one that is served. Sockets that both want are the
+/// same.
 fn make_next<R: Net + Log, G, N: Opened>(
     rt: &R,
     shared: &Shared<'_, '_, G, N>,
@@ -116,8 +117,8 @@ fn make_next<R: Net + Log, G, N: Opened>(
     })
 }
 
-/// Has a configuration come that is to follow the one that is served, and makes all that the server needs for it. Nothing
-/// changes yet.
+/// Has a configuration come that is to follow the one that is served, and makes all that the server needs for it.
+/// Nothing changes yet.
 ///
 /// # Errors
 ///

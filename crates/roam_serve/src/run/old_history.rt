@@ -16,12 +16,14 @@ pub type Steps = Vec<Step<Global>>;
 /// How many steps are freed while the others are kept from everybody else.
 const AT_ONCE: usize = 20;
 
-/// How often the thread beside does that in a row, and how long it leaves the others to the workers then, in milliseconds.
+/// How often the thread beside does that in a row, and how long it leaves the others to the workers then, in
+/// milliseconds.
 const IN_A_ROW: u32 = 10;
 
 const PAUSE: u64 = 10;
 
-/// How many steps a worker frees when it has stored so many: more, so that all are freed before as many are stored again.
+/// How many steps a worker frees when it has stored so many: more, so that all are freed before as many are stored
+/// again.
 const FREED: usize = 5;
 
 const STORED: u64 = 4;
@@ -100,7 +102,8 @@ impl OldHistory {
         }
     }
 
-    /// Frees some of the steps that wait, for a worker that stored the step of this number, unless another thread is at it.
+    /// Frees some of the steps that wait, for a worker that stored the step of this number, unless another thread is at
+    /// it.
     pub fn free_beside(&self, number: u64) {
         if number % STORED == 0 {
             if let Some(mut waiting) = self.waiting.try_lock() {

@@ -8,7 +8,7 @@ use crate::run::attending::Attendant;
 use crate::run::configured::Handover;
 use crate::run::ending::WorkerEnd;
 use crate::run::next::Next;
-use crate::run::prepared::Prepared;
+use crate::run::ready_threads::ReadyThreads;
 use crate::run::shared::Shared;
 use crate::run::source::Source;
 use crate::threads::logger::{log_notices, tell_or_drop};
@@ -64,10 +64,10 @@ fn start_all<
     scope: &Scope<'s, E>,
     rt: &'s R,
     shared: &'s Shared<'w, 'c, G, N>,
-    prepared: Prepared<'w, 'c, G, N>,
+    prepared: ReadyThreads<'w, 'c, G, N>,
     handles: &mut Vec<JoinHandle<WorkerEnd<N>>>,
 ) -> bool {
-    let Prepared {
+    let ReadyThreads {
         workers,
         timer,
         logger,
@@ -96,8 +96,8 @@ fn tell_start<R: Wait + Log, G, N: Opened>(
     }
 }
 
-/// Where all threads have started, tells that the configuration is served, and answers who asks for something until they end
-/// or another one is to follow.
+/// Where all threads have started, tells that the configuration is served, and answers who asks for something until
+/// they end or another one is to follow.
 fn attend<R: Wait + Clock + Net + Log, G, N: Opened, S: Source>(
     have_started: bool,
     attendant: Attendant<'_, '_, R, G, N>,
@@ -113,7 +113,7 @@ fn attend<R: Wait + Clock + Net + Log, G, N: Opened, S: Source>(
 
 /// What the threads gave back that served one configuration, and the one that follows it.
 #[derive(Drop)]
-pub struct Turn<N: Opened> {
+pub struct RunResult<N: Opened> {
     pub ends: Vec<WorkerEnd<N>>,
     /// None where the server ends.
     pub next: Option<Next>,
@@ -121,21 +121,21 @@ pub struct Turn<N: Opened> {
 
 /// Room for what the workers and the timer give back.
 #[derive(Drop)]
-struct Room<N: Opened> {
+struct ResultRoom<N: Opened> {
     handles: Vec<JoinHandle<WorkerEnd<N>>>,
     ends: Vec<WorkerEnd<N>>,
 }
 
 /// Room for so many.
-fn room_for<N: Opened>(alloc: Global, count: usize) -> Result<Room<N>, AllocError> {
-    Ok(Room {
+fn room_for<N: Opened>(alloc: Global, count: usize) -> Result<ResultRoom<N>, AllocError> {
+    Ok(ResultRoom {
         handles: Vec::with_capacity(alloc, count)?,
         ends: Vec::with_capacity(alloc, count)?,
     })
 }
 
-/// Runs the threads until they have ended, or until a configuration comes that is to follow. Once all run it is told that
-/// this one is served, also to who asked for it. Until the end this thread answers who asks for something.
+/// Runs the threads until they have ended, or until a configuration comes that is to follow. Once all run it is told
+/// that this one is served, also to who asked for it. Until the end this thread answers who asks for something.
 ///
 /// # Errors
 ///
@@ -149,10 +149,10 @@ pub fn run_threads<
     S: Source,
 >(
     attendant: Attendant<'s, 'c, R, G, N>,
-    prepared: Prepared<'s, 'c, G, N>,
+    prepared: ReadyThreads<'s, 'c, G, N>,
     handover: Handover,
     source: &mut S,
-) -> Result<Turn<N>, ServeFault>
+) -> Result<RunResult<N>, ServeFault>
     ensures { IfErr result IsAfterBinding }
 {
     let rt = attendant.rt;
@@ -161,7 +161,7 @@ pub fn run_threads<
     let Ok(room) = room_for(shared.alloc, count) else {
         return Err(ServeFault::Memory);
     };
-    let Room {
+    let ResultRoom {
         mut handles,
         mut ends,
     } = room;
@@ -177,7 +177,7 @@ pub fn run_threads<
         have_started
     });
     if have_started {
-        Ok(Turn { ends, next })
+        Ok(RunResult { ends, next })
     } else {
         Err(ServeFault::Thread)
     }

@@ -196,8 +196,8 @@ fn fault_of_copy(config: &Config, error: &io::Error) -> ServeFault
 }
 
 impl Sockets {
-    /// Takes the sockets of an endpoint that are open, by a second descriptor each: what lies in their buffers stays there.
-    /// Answers whether there are any.
+    /// Takes the sockets of an endpoint that are open, by a second descriptor each: what lies in their buffers stays
+    /// there. Answers whether there are any.
     fn take_open(
         &mut self,
         config: &Config,
@@ -252,13 +252,13 @@ impl Sockets {
     }
 }
 
-/// The sockets of a configuration that follows another one, in order of their numbers. Those of endpoints that both have are
-/// the same; the others are bound.
+/// The sockets of a configuration that follows another one, in order of their numbers. Those of endpoints that both
+/// have are the same; the others are bound.
 ///
 /// # Errors
 ///
-/// `Bind` with the first endpoint that can't be bound; `Descriptors`; `Wait` where the system gives no second descriptor
-/// for another reason; `Memory`.
+/// `Bind` with the first endpoint that can't be bound; `Descriptors`; `Wait` where the system gives no second
+/// descriptor for another reason; `Memory`.
 pub fn bind_following<R: Net>(
     rt: &R,
     alloc: Global,

@@ -5,7 +5,7 @@ use bytes::{BufMut, Bytes};
 use http::{HeaderValue, Method, Request, StatusCode, header};
 use http_server::{Response, Service};
 use roam_conf::decimal;
-use roam_metrics::Form;
+use roam_metrics::StatusForm;
 use std::alloc::AllocError;
 use std::sync::Wait;
 
@@ -28,49 +28,49 @@ pub struct Asker<'d, R> {
 
 /// What a path asks for.
 #[derive(Clone, Copy, PartialEq, Eq)]
-enum Asked {
+enum ControlRequest {
     Metrics,
-    Status(Form),
+    Status(StatusForm),
     Trace,
     Stop,
     Reload,
 }
 
 /// What a path asks for at the control socket.
-fn asked_by(path: &str) -> Option<Asked> {
+fn asked_by(path: &str) -> Option<ControlRequest> {
     match path {
-        "/metrics" => Some(Asked::Metrics),
-        "/status" => Some(Asked::Status(Form::Text)),
-        "/status.json" => Some(Asked::Status(Form::Json)),
-        "/stop" => Some(Asked::Stop),
-        "/reload" => Some(Asked::Reload),
-        "/trace" => Some(Asked::Trace),
+        "/metrics" => Some(ControlRequest::Metrics),
+        "/status" => Some(ControlRequest::Status(StatusForm::Text)),
+        "/status.json" => Some(ControlRequest::Status(StatusForm::Json)),
+        "/stop" => Some(ControlRequest::Stop),
+        "/reload" => Some(ControlRequest::Reload),
+        "/trace" => Some(ControlRequest::Trace),
         _ => None,
     }
 }
 
 /// What a path asks for at a door.
-fn asked_at(door: Door, path: &str) -> Option<Asked> {
+fn asked_at(door: Door, path: &str) -> Option<ControlRequest> {
     match door {
         Door::Control => asked_by(path),
-        Door::Metrics if path == "/metrics" => Some(Asked::Metrics),
+        Door::Metrics if path == "/metrics" => Some(ControlRequest::Metrics),
         Door::Metrics => None,
     }
 }
 
 /// The methods by which it can be asked for.
-fn methods(door: Door, asked: Asked) -> HeaderValue {
+fn methods(door: Door, asked: ControlRequest) -> HeaderValue {
     match (door, asked) {
-        (_, Asked::Stop | Asked::Reload) => HeaderValue::from_static("POST"),
+        (_, ControlRequest::Stop | ControlRequest::Reload) => HeaderValue::from_static("POST"),
         (Door::Metrics, _) => HeaderValue::from_static("GET, HEAD"),
         (Door::Control, _) => HeaderValue::from_static("GET"),
     }
 }
 
 /// Whether a method is the right one.
-fn is_right(door: Door, asked: Asked, method: &Method) -> bool {
+fn is_right(door: Door, asked: ControlRequest, method: &Method) -> bool {
     match (door, asked) {
-        (_, Asked::Stop | Asked::Reload) => *method == Method::POST,
+        (_, ControlRequest::Stop | ControlRequest::Reload) => *method == Method::POST,
         (Door::Metrics, _) => *method == Method::GET || *method == Method::HEAD,
         (Door::Control, _) => *method == Method::GET,
     }
@@ -83,13 +83,13 @@ fn shard_of(query: Option<&str>) -> Option<u16> {
 }
 
 /// The order that a path and its query give.
-fn order_of(asked: Asked, query: Option<&str>) -> Option<Order> {
+fn order_of(asked: ControlRequest, query: Option<&str>) -> Option<Order> {
     match asked {
-        Asked::Metrics => Some(Order::Metrics),
-        Asked::Status(form) => Some(Order::Status(form)),
-        Asked::Stop => Some(Order::Stop),
-        Asked::Reload => Some(Order::Reload),
-        Asked::Trace => match shard_of(query) {
+        ControlRequest::Metrics => Some(Order::Metrics),
+        ControlRequest::Status(form) => Some(Order::Status(form)),
+        ControlRequest::Stop => Some(Order::Stop),
+        ControlRequest::Reload => Some(Order::Reload),
+        ControlRequest::Trace => match shard_of(query) {
             Some(shard) => Some(Order::Trace(shard)),
             None => None,
         },
@@ -97,10 +97,10 @@ fn order_of(asked: Asked, query: Option<&str>) -> Option<Order> {
 }
 
 /// In which form the body of an answer is.
-fn kind_of(asked: Asked) -> HeaderValue {
+fn kind_of(asked: ControlRequest) -> HeaderValue {
     match asked {
-        Asked::Metrics => HeaderValue::from_static("text/plain; version=0.0.4"),
-        Asked::Status(Form::Json) => HeaderValue::from_static("application/json"),
+        ControlRequest::Metrics => HeaderValue::from_static("text/plain; version=0.0.4"),
+        ControlRequest::Status(StatusForm::Json) => HeaderValue::from_static("application/json"),
         _ => HeaderValue::from_static("text/plain; charset=utf-8"),
     }
 }
@@ -117,7 +117,11 @@ fn status_of(course: Course) -> StatusCode {
 }
 
 /// Writes an answer.
-fn write_reply(response: &mut Response, asked: Asked, reply: &Reply) -> Result<(), AllocError> {
+fn write_reply(
+    response: &mut Response,
+    asked: ControlRequest,
+    reply: &Reply,
+) -> Result<(), AllocError> {
     response.status = status_of(reply.course);
     response.add_header(header::CONTENT_TYPE, kind_of(asked))?;
     response.body.put_slice(reply.body.as_slice())
@@ -135,7 +139,7 @@ impl<R: Wait> Asker<'_, R> {
     /// Has an order be answered.
     fn answer(
         &self,
-        asked: Asked,
+        asked: ControlRequest,
         query: Option<&str>,
         response: &mut Response,
     ) -> Result<(), AllocError> {

@@ -62,14 +62,14 @@ impl Listener for UnixListener {
 
 /// A connection, and when it is closed at the latest.
 #[derive(Drop)]
-struct Open<T> {
+struct OpenConnection<T> {
     stream: T,
     connection: Connection,
     until: u64,
 }
 
 /// Moves octets once. Answers whether any were moved.
-fn move_once<T: Read + Write>(open: &mut Open<T>) -> io::Result<bool> {
+fn move_once<T: Read + Write>(open: &mut OpenConnection<T>) -> io::Result<bool> {
     if open.connection.wants_write() {
         let count = open.connection.write_to(&mut open.stream)?;
         Ok(count > 0)
@@ -80,7 +80,7 @@ fn move_once<T: Read + Write>(open: &mut Open<T>) -> io::Result<bool> {
 }
 
 /// Reads, answers and writes as far as that goes without waiting. Answers whether the connection is to be closed.
-fn step<T: Read + Write, S: Service>(open: &mut Open<T>, service: &mut S) -> bool {
+fn step<T: Read + Write, S: Service>(open: &mut OpenConnection<T>, service: &mut S) -> bool {
     for _ in 0..TURNS {
         open.connection.advance(service);
         if open.connection.is_done() {
@@ -104,7 +104,7 @@ fn accept_all<R: RandomSource, L: Listener>(
     rt: &R,
     alloc: Global,
     listener: &L,
-    open: &mut Vec<Open<L::Stream>>,
+    open: &mut Vec<OpenConnection<L::Stream>>,
     now: u64,
 ) {
     for _ in 0..CONNECTIONS {
@@ -119,7 +119,7 @@ fn accept_all<R: RandomSource, L: Listener>(
             ..Limits::default()
         };
         let _is_open = open
-            .push(Open {
+            .push(OpenConnection {
                 stream,
                 connection: Connection::new(alloc, keys, limits),
                 until: now.saturating_add(TIME),
@@ -130,7 +130,7 @@ fn accept_all<R: RandomSource, L: Listener>(
 
 /// Goes on with each connection, and closes those that are done or whose time is over.
 fn step_all<T: Read + Write + Drop, S: Service>(
-    open: &mut Vec<Open<T>>,
+    open: &mut Vec<OpenConnection<T>>,
     service: &mut S,
     now: u64,
 ) {
@@ -138,7 +138,7 @@ fn step_all<T: Read + Write + Drop, S: Service>(
 }
 
 /// Waits until a connection comes, or one of those that are open can go on, for a short time at most.
-fn wait<R: Clock, L: Listener>(rt: &R, listener: &L, open: &[Open<L::Stream>]) {
+fn wait<R: Clock, L: Listener>(rt: &R, listener: &L, open: &[OpenConnection<L::Stream>]) {
     let mut fds = [pollfd {
         fd: -1,
         events: 0,

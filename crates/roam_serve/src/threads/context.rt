@@ -3,7 +3,6 @@
 ghost use Rattle.std.specs.Prelude.{◌≡◌};
 ghost use Rattle.roam_route.specs.Events.{IsEvent};
 ghost use Rattle.roam_route.specs.Shown.{shown_job};
-ghost use Rattle.roam_serve.specs.Notices as spec;
 ghost use Rattle.roam_serve.specs.Requests as requests;
 ghost use Rattle.roam_serve.specs.Remedies as remedies;
 
@@ -16,9 +15,9 @@ use crate::threads::exchanges::Exchanges;
 use crate::threads::notice::Notices;
 use crate::threads::outgoing::Outgoing;
 use roam_book::Answer;
-use roam_counters::{Event, Process, Turn};
+use roam_counters::{CountedEvent, CountedTurn, Process};
 use roam_hub::{Answered, Gate, HubFault, Opened, Past, Refused, Seat, Stood};
-use roam_notices::{Exchange, Origin, Outcome};
+use roam_notices::{Exchange, ExchangeEnd, Origin};
 use roam_route::{Datagram, Job, Prepared, prepare};
 use roam_wire::Refusal;
 use roam_wire::code::{
@@ -40,18 +39,6 @@ pub struct WorkerContext<'s, 'c, G, N: Opened> {
     pub counting: Counting<'s>,
     /// The last moment, in milliseconds since the server's start.
     pub now: u64,
-}
-
-/// The refusal that a hub's fault is told as.
-fn refusal_of(fault: HubFault) -> Refusal
-    ensures { result ≡ spec.refusal_of fault }
-{
-    match fault {
-        HubFault::NoShard => Refusal::NoShard,
-        HubFault::Misplaced => Refusal::Misplaced,
-        HubFault::TraceFull => Refusal::TraceFull,
-        HubFault::NoMemory => Refusal::NoMemory,
-    }
 }
 
 /// Whether a datagram is a request, by its code (RFC 2865 section 3, RFC 5997 section 3, RFC 5176 section 2.3).
@@ -99,8 +86,8 @@ impl<G: Gate, N: Opened> WorkerContext<'_, '_, G, N> {
         self.now = now(rt, self.shared.start, self.now);
     }
 
-    /// Takes a datagram: hands its packets to the sockets, or tells why it is refused. A server that is asked to stop takes
-    /// no request.
+    /// Takes a datagram: hands its packets to the sockets, or tells why it is refused. A server that is asked to stop
+    /// takes no request.
     pub fn arrive<R: Wait>(&mut self, rt: &R, alloc: Global, datagram: &Datagram<Global>) {
         let origin = Origin::Datagram(datagram.at, datagram.from);
         self.counting.received(datagram.at);
@@ -160,7 +147,7 @@ impl<G: Gate, N: Opened> WorkerContext<'_, '_, G, N> {
                 Ok(answered) => return Ok(answered),
                 Err(Refused { fault, job: same }) => {
                     if !self.remedy(rt, shard, fault, is_second) {
-                        return Err(refusal_of(fault));
+                        return Err(fault.refusal());
                     }
                     job = same;
                     is_second = true;
@@ -187,8 +174,8 @@ impl<G: Gate, N: Opened> WorkerContext<'_, '_, G, N> {
                 Ok(None) => return,
                 Err(fault) => {
                     if !self.remedy(rt, shard, fault, is_second) {
-                        self.counting.refused_here(refusal_of(fault));
-                        return self.refuse(refusal_of(fault), Origin::Tick(shard));
+                        self.counting.refused_here(fault.refusal());
+                        return self.refuse(fault.refusal(), Origin::Tick(shard));
                     }
                     is_second = true;
                 }
@@ -217,7 +204,7 @@ impl<G: Gate, N: Opened> WorkerContext<'_, '_, G, N> {
     }
 
     /// Tells and counts what ends by an arrival that gave this answer.
-    fn end_by(&mut self, turn: Turn, datagram: &Datagram<Global>, answer: &Answer<Global>) {
+    fn end_by(&mut self, turn: CountedTurn, datagram: &Datagram<Global>, answer: &Answer<Global>) {
         let past = match self.exchanges.notes.pasts() {
             [past] => Some(*past),
             _ => None,
@@ -225,8 +212,8 @@ impl<G: Gate, N: Opened> WorkerContext<'_, '_, G, N> {
         match end_of(turn.side, past, answer) {
             End::Replied(past) => self.end_by_reply(past, answer),
             End::Replaced(past) => {
-                self.counting.ended(past, Event::Replaced);
-                self.tell_past(past, Outcome::Replaced);
+                self.counting.ended(past, CountedEvent::Replaced);
+                self.tell_past(past, ExchangeEnd::Replaced);
             }
             End::AnsweredAgain => self.counting.answered_again(turn),
             End::Nak => {
@@ -238,7 +225,7 @@ impl<G: Gate, N: Opened> WorkerContext<'_, '_, G, N> {
     }
 
     /// Tells a request that was noted, where requests are told.
-    fn tell_past(&mut self, past: Past, outcome: Outcome) {
+    fn tell_past(&mut self, past: Past, outcome: ExchangeEnd) {
         if !self.exchanges.are_told() {
             return;
         }
@@ -255,7 +242,7 @@ impl<G: Gate, N: Opened> WorkerContext<'_, '_, G, N> {
             None => None,
         };
         if let Some(code) = code {
-            if let Some(outcome) = Outcome::of(*code) {
+            if let Some(outcome) = ExchangeEnd::of(*code) {
                 self.tell_past(past, outcome);
             }
         }
@@ -280,11 +267,11 @@ impl<G: Gate, N: Opened> WorkerContext<'_, '_, G, N> {
     /// Tells and counts a request of which no send was left: it is given up, or another server is asked.
     fn end_or_go_on(&mut self, past: Past) {
         match past.stands {
-            Stood::Waiting { .. } => self.counting.ended(past, Event::FailedOver),
+            Stood::Waiting { .. } => self.counting.ended(past, CountedEvent::FailedOver),
             Stood::Held | Stood::Gone => {
-                self.counting.ended(past, Event::GivenUp);
+                self.counting.ended(past, CountedEvent::GivenUp);
                 self.counting.unanswered(past);
-                self.tell_past(past, Outcome::GivenUp);
+                self.tell_past(past, ExchangeEnd::GivenUp);
             }
         }
     }

@@ -8,8 +8,8 @@ use crate::threads::ended::cause_of;
 use roam_book::Answer;
 use roam_conf::{Config, Endpoint, Link, Place};
 use roam_counters::{
-    Delay, Event, NakCause, Process, ReplyKind, RequestKind, Subject, Turn, end_at, subject_of,
-    tick_event,
+    CountedEvent, CountedTurn, Delay, NakCause, Process, ReplyKind, RequestKind, Subject, end_at,
+    subject_of, tick_event,
 };
 use roam_hub::{Past, Requester, Stood};
 use roam_port::Losses;
@@ -35,12 +35,12 @@ fn code_of(octets: &[u8]) -> u8
 }
 
 /// A job, as what comes of it is counted.
-pub fn turn_of(job: &Job<Global>) -> Turn
+pub fn turn_of(job: &Job<Global>) -> CountedTurn
     ensures realm { result.realm ≡ job.now.realm }
     ensures side { result.side ≡ job.now.side }
     ensures code { result.code ≡ spec.code_of job.now.octets }
 {
-    Turn {
+    CountedTurn {
         realm: job.realm,
         side: job.side,
         code: code_of(job.octets.as_slice()),
@@ -81,16 +81,16 @@ fn is_taken_over(config: &Config, out: &Out<Global>, past: Option<&Past>) -> boo
 }
 
 /// That a request of this code was sent to another server.
-fn taken_over(code: u8) -> Option<Event> {
+fn taken_over(code: u8) -> Option<CountedEvent> {
     match RequestKind::of(code) {
-        Some(kind) => Some(Event::TakenOver(kind)),
+        Some(kind) => Some(CountedEvent::TakenOver(kind)),
         None => None,
     }
 }
 
 impl ThreadCounts<'_> {
     /// Counts an event, if it is one, of its subjects.
-    fn event_of(&self, subjects: &[Option<Subject>], event: Option<Event>) {
+    fn event_of(&self, subjects: &[Option<Subject>], event: Option<CountedEvent>) {
         let Some(event) = event else {
             return;
         };
@@ -111,7 +111,7 @@ impl Counting<'_> {
     }
 
     /// A packet came that is for a realm.
-    pub fn came(&self, turn: Turn) {
+    pub fn came(&self, turn: CountedTurn) {
         if let Some(counts) = &self.counts {
             let subjects = [Some(Subject::Realm(turn.realm)), Some(turn.sender())];
             counts.event_of(&subjects, turn.arrival());
@@ -120,7 +120,7 @@ impl Counting<'_> {
 
     /// What came of a packet: it is counted of the realm, of who sent it and, where a packet leaves to another one, of
     /// that one.
-    pub fn gave(&self, turn: Turn, answer: &Answer<Global>) {
+    pub fn gave(&self, turn: CountedTurn, answer: &Answer<Global>) {
         let Some(counts) = &self.counts else {
             return;
         };
@@ -139,19 +139,19 @@ impl Counting<'_> {
             }
         }
         if let Some(refusal) = answer.refusal {
-            counts.event(Subject::All, Event::Refused(refusal));
+            counts.event(Subject::All, CountedEvent::Refused(refusal));
         }
     }
 
     /// A call for a packet isn't recorded.
-    pub fn failed(&self, turn: Turn, refusal: Refusal) {
+    pub fn failed(&self, turn: CountedTurn, refusal: Refusal) {
         if let Some(counts) = &self.counts {
             let subjects = [
                 Some(Subject::All),
                 Some(Subject::Realm(turn.realm)),
                 Some(turn.sender()),
             ];
-            counts.event_of(&subjects, Some(Event::Refused(refusal)));
+            counts.event_of(&subjects, Some(CountedEvent::Refused(refusal)));
         }
     }
 
@@ -165,7 +165,7 @@ impl Counting<'_> {
             let sender = end_at(self.config, place, from);
             counts.event_of(
                 &[Some(Subject::All), realm, sender],
-                Some(Event::Refused(refusal)),
+                Some(CountedEvent::Refused(refusal)),
             );
         }
     }
@@ -173,7 +173,7 @@ impl Counting<'_> {
     /// Something was refused of which no more is known.
     pub fn refused_here(&self, refusal: Refusal) {
         if let Some(counts) = &self.counts {
-            counts.event(Subject::All, Event::Refused(refusal));
+            counts.event(Subject::All, CountedEvent::Refused(refusal));
         }
     }
 
@@ -181,7 +181,7 @@ impl Counting<'_> {
     pub fn answered(&self, out: &Out<Global>) {
         if let Some(counts) = &self.counts {
             let event = match ReplyKind::of(code_of(out.bytes.as_slice())) {
-                Some(kind) => Some(Event::Answered(kind)),
+                Some(kind) => Some(CountedEvent::Answered(kind)),
                 None => None,
             };
             counts.event_of(&[end_at(self.config, out.from, out.to)], event);
@@ -210,12 +210,12 @@ impl Counting<'_> {
             }
         }
         if let Some(refusal) = answer.refusal {
-            counts.event(Subject::All, Event::Refused(refusal));
+            counts.event(Subject::All, CountedEvent::Refused(refusal));
         }
     }
 
     /// Something became of a request that waited: it is counted of its realm, of where it waited and of who sent it.
-    pub fn ended(&self, past: Past, event: Event) {
+    pub fn ended(&self, past: Past, event: CountedEvent) {
         let Some(counts) = &self.counts else {
             return;
         };
@@ -237,7 +237,7 @@ impl Counting<'_> {
         };
         if let Requester::Home(_) = past.requester {
             let subjects = [Some(Subject::Realm(past.realm)), Some(requester_of(past))];
-            let event = Event::Nak(NakCause::OtherProxyProcessingError);
+            let event = CountedEvent::Nak(NakCause::OtherProxyProcessingError);
             counts.event_of(&subjects, Some(event));
         }
     }
@@ -257,21 +257,21 @@ impl Counting<'_> {
             let sent = deadline.saturating_sub(u64::from(realm.wait));
             let time = now.saturating_sub(sent);
             let server = subject_of(past.realm, link);
-            counts.event(server, Event::AnswerWithin(Delay::of(time)));
-            counts.more(server, Event::AnswerTime, time);
+            counts.event(server, CountedEvent::AnswerWithin(Delay::of(time)));
+            counts.more(server, CountedEvent::AnswerTime, time);
         }
     }
 
     /// A request that was answered came again, and its reply was sent once more.
-    pub fn answered_again(&self, turn: Turn) {
+    pub fn answered_again(&self, turn: CountedTurn) {
         if let Some(counts) = &self.counts {
             let subjects = [Some(Subject::Realm(turn.realm)), Some(turn.sender())];
-            counts.event_of(&subjects, Some(Event::AnsweredAgain));
+            counts.event_of(&subjects, Some(CountedEvent::AnsweredAgain));
         }
     }
 
     /// A reverse request was answered by a NAK at once.
-    pub fn denied(&self, turn: Turn, answer: &Answer<Global>) {
+    pub fn denied(&self, turn: CountedTurn, answer: &Answer<Global>) {
         let Some(counts) = &self.counts else {
             return;
         };
@@ -281,7 +281,7 @@ impl Counting<'_> {
         };
         if let Some(cause) = cause {
             let subjects = [Some(Subject::Realm(turn.realm)), Some(turn.sender())];
-            counts.event_of(&subjects, Some(Event::Nak(cause)));
+            counts.event_of(&subjects, Some(CountedEvent::Nak(cause)));
         }
     }
 
@@ -289,7 +289,7 @@ impl Counting<'_> {
     pub fn rejected(&self, place: Place, from: Endpoint) {
         if let Some(counts) = &self.counts {
             let sender = end_at(self.config, place, from);
-            counts.event_of(&[sender], Some(Event::LocalReject));
+            counts.event_of(&[sender], Some(CountedEvent::LocalReject));
         }
     }
 

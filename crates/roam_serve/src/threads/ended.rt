@@ -5,7 +5,7 @@ use roam_book::Answer;
 use roam_conf::{Config, Endpoint, Link, Place};
 use roam_counters::NakCause;
 use roam_hub::{Notes, Past, Requester, Stood};
-use roam_notices::{Asked, Exchange, Outcome, Value};
+use roam_notices::{Exchange, ExchangeEnd, RequestWord, Value};
 use roam_route::{Datagram, Side};
 use roam_wire::View;
 use roam_wire::attribute_type::{ERROR_CAUSE, USER_NAME};
@@ -68,10 +68,10 @@ fn value_of(octets: Option<&[u8]>) -> Option<Value> {
 }
 
 /// What of an exchange a request says: nothing of who it is for and how it ended.
-fn said_by(octets: &[u8], outcome: Outcome) -> Exchange {
+fn said_by(octets: &[u8], outcome: ExchangeEnd) -> Exchange {
     let mut exchange = Exchange {
         outcome,
-        asked: Asked::Other,
+        asked: RequestWord::Other,
         realm: None,
         peer: None,
         server: None,
@@ -81,7 +81,7 @@ fn said_by(octets: &[u8], outcome: Outcome) -> Exchange {
         tries: 0,
     };
     if let Ok(view) = View::read(octets) {
-        exchange.asked = Asked::of(view.code());
+        exchange.asked = RequestWord::of(view.code());
         exchange.user = value_of(view.first(USER_NAME));
         exchange.station = value_of(view.first(CALLING_STATION_ID));
     }
@@ -101,13 +101,13 @@ fn tries_of(config: &Config, realm: u16, sends_left: u8) -> u8 {
     }
 }
 
-/// What is told of a request that was noted, and whose exchange ended so at this moment; nothing where its octets found no
-/// room, or where it didn't wait.
+/// What is told of a request that was noted, and whose exchange ended so at this moment; nothing where its octets found
+/// no room, or where it didn't wait.
 pub fn exchange_of(
     config: &Config,
     notes: &Notes<Global>,
     past: Past,
-    outcome: Outcome,
+    outcome: ExchangeEnd,
     now: u64,
 ) -> Option<Exchange> {
     let Stood::Waiting {
@@ -136,7 +136,7 @@ pub fn exchange_of(
 
 /// What is told of a reverse request that is answered by a NAK at once.
 pub fn nak_of(datagram: &Datagram<Global>, realm: u16) -> Exchange {
-    let mut exchange = said_by(datagram.octets.as_slice(), Outcome::Nak);
+    let mut exchange = said_by(datagram.octets.as_slice(), ExchangeEnd::Nak);
     exchange.realm = Some(realm);
     exchange.server = Some(datagram.from);
     exchange
@@ -144,7 +144,7 @@ pub fn nak_of(datagram: &Datagram<Global>, realm: u16) -> Exchange {
 
 /// What is told of a request that the broker rejects by itself.
 pub fn local_reject_of(config: &Config, datagram: &Datagram<Global>) -> Exchange {
-    let mut exchange = said_by(datagram.octets.as_slice(), Outcome::LocalReject);
+    let mut exchange = said_by(datagram.octets.as_slice(), ExchangeEnd::LocalReject);
     exchange.peer = config.peer_by_ip(datagram.from.ip);
     exchange
 }

@@ -106,8 +106,8 @@ impl Exchanges {
         is_due
     }
 
-    /// In how many milliseconds the logger is to be woken that is woken so long after a line was put; 2^64 - 1 where no line
-    /// waits for that.
+    /// In how many milliseconds the logger is to be woken that is woken so long after a line was put; 2^64 - 1 where no
+    /// line waits for that.
     pub fn time_left(&self, now: u64, within: u64) -> u64 {
         match self.waits_since {
             Some(since) => since.saturating_add(within).saturating_sub(now),

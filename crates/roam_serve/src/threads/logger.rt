@@ -17,8 +17,8 @@ use std::thread::Parker;
 /// The descriptor of standard error.
 const STANDARD_ERROR: i32 = 2;
 
-/// How many octets of lines are written at once: a pipe that has room has it for 4,096 (pipe(7), `PIPE_BUF`), and before the
-/// first line stands its module's name.
+/// How many octets of lines are written at once: a pipe that has room has it for 4,096 (pipe(7), `PIPE_BUF`), and
+/// before the first line stands its module's name.
 const OCTETS_AT_ONCE: usize = 4000;
 
 /// How many lines are written at once.
@@ -56,8 +56,8 @@ fn empty<R: Wait + Log>(rt: &R, config: &Config, queue: &mut Consumer<Notice>) -
     unreachable!()
 }
 
-/// Adds the line of an exchange. Before it, where another one stands there, a line break and what the logger writes before
-/// each line. Answers whether there was memory for it.
+/// Adds the line of an exchange. Before it, where another one stands there, a line break and what the logger writes
+/// before each line. Answers whether there was memory for it.
 fn push_line<R: Log>(rt: &R, text: &mut Vec<u8>, config: &Config, exchange: &Exchange) -> bool {
     if !text.is_empty() {
         let metadata = Metadata::new(Level::Info, target_or(rt, module_path!()));
@@ -147,7 +147,7 @@ fn empty_all_lines<R: Wait + Log>(
     rt: &R,
     config: &Config,
     line: &mut Vec<u8>,
-    lines: &mut Lines<'_>,
+    lines: &mut ExchangeQueues<'_>,
 ) {
     for queue in lines.queues.iter_mut() {
         let dropped = empty_lines(rt, config, line, queue);
@@ -163,7 +163,7 @@ fn empty_all_lines<R: Wait + Log>(
 
 /// The queues of lines of exchanges.
 #[derive(Drop)]
-pub struct Lines<'s> {
+pub struct ExchangeQueues<'s> {
     pub queues: Vec<Consumer<Exchange>>,
     /// Where it is counted what is dropped.
     pub counts: Option<ThreadCounts<'s>>,
@@ -184,7 +184,7 @@ fn are_abandoned(queues: &mut [Consumer<Notice>]) -> bool {
 #[derive(Drop)]
 pub struct Logger<'s> {
     pub queues: Vec<Consumer<Notice>>,
-    pub lines: Lines<'s>,
+    pub lines: ExchangeQueues<'s>,
     /// Lines of exchanges are built in it.
     pub line: Vec<u8>,
 }

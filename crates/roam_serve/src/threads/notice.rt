@@ -1,6 +1,7 @@
 //! What is told on standard error, and a thread's end of its queue of it.
 
-ghost use Rattle.std.specs.Prelude.{◌≡◌, ◌≢◌, ℕ, ◌+◌, ◌-◌, ◌^◌, ◌<◌, ◌≤◌, [], ◌∷◌, ◌++◌, Some, None, IsTrue, IsFalse, IfSome, MatchOption, min, unwrap_or};
+ghost use Rattle.std.specs.Prelude.{◌≡◌, ◌≢◌, ℕ, ◌+◌, ◌-◌, ◌^◌, ◌<◌, ◌≤◌, [], ◌∷◌, ◌++◌, Some, None, IsTrue, IsFalse};
+ghost use Rattle.std.specs.Prelude.{IfSome, MatchOption, min, unwrap_or};
 ghost use Rattle.std.specs.Option.{ForSome};
 ghost use Rattle.rtrb.specs.Ring.{sent};
 ghost use Rattle.roam_notices.specs.Repeats.{all_tallies, row_at, row_of};
@@ -10,7 +11,7 @@ ghost use Rattle.roam_serve.specs.Notices.{notices_in, notices_among};
 use crate::fault::Reason;
 use log::{Log, info, warn};
 use roam_conf::{Config, Endpoint, Link, Realm};
-use roam_notices::{EndpointText, Origin, RefusedText, Repeats, Tally};
+use roam_notices::{Origin, RefusalCount, RefusedText, Repeats};
 use roam_port::LossCause;
 use roam_wire::Refusal;
 use rtrb::{Consumer, Producer, RingBuffer};
@@ -28,7 +29,7 @@ pub const NOTICES: usize = 1024;
 #[derive(Clone, Copy, Debug, PartialEq, Eq)]
 pub enum Notice {
     /// Arrivals or ticks were refused.
-    Refused(Tally),
+    Refused(RefusalCount),
     /// So many notices were dropped.
     Dropped(u64),
     /// So many packets were lost, for this cause.
@@ -103,20 +104,18 @@ pub fn tell<R: Log>(rt: &R, config: &Config, notice: Notice) {
         Notice::Refused(tally) => warn!(rt; "{}", RefusedText::new(config, tally)),
         Notice::Dropped(count) => warn!(rt; "{} notices dropped", count),
         Notice::Lost(cause, count) => warn!(rt; "{} packets lost {}", count, words_of(cause)),
-        Notice::Narrow(at, octets) => {
-            warn!(rt; "{} has room for {} octets alone", EndpointText(at), octets)
-        }
+        Notice::Narrow(at, octets) => { warn!(rt; "{} has room for {} octets alone", at, octets) }
         Notice::NoMetrics(at, Reason(number)) => {
-            warn!(rt; "no metrics at {} (errno {})", EndpointText(at), number)
+            warn!(rt; "no metrics at {} (errno {})", at, number)
         }
         Notice::LinesDropped(count) => warn!(rt; "{} lines of exchanges dropped", count),
         Notice::Silent(realm, link) => {
             let LinkText { at, realm } = link_text(config, realm, link);
-            warn!(rt; "home server {} of {} keeps silent: it rests", EndpointText(at), realm)
+            warn!(rt; "home server {} of {} keeps silent: it rests", at, realm)
         }
         Notice::Answers(realm, link) => {
             let LinkText { at, realm } = link_text(config, realm, link);
-            info!(rt; "home server {} of {} answers again", EndpointText(at), realm)
+            info!(rt; "home server {} of {} answers again", at, realm)
         }
         Notice::Stopping => info!(rt; "asked to stop: no request is taken any more"),
         Notice::Serving(realms, peers, shards) => {
@@ -196,8 +195,8 @@ impl Notices {
         self.put(Notice::Lost(cause, count))
     }
 
-    /// Says that so many lines of exchanges were dropped, once a second at most. Never waits. Answers whether it will be
-    /// told.
+    /// Says that so many lines of exchanges were dropped, once a second at most. Never waits. Answers whether it will
+    /// be told.
     pub fn lines_dropped(&mut self, count: u64, now: u64) -> bool
         ensures put { IsTrue result → sent self.new.queue ≡ sent self.old.queue ++ Notice.LinesDropped count ∷ [] }
         ensures full { IsFalse result → sent self.new.queue ≡ sent self.old.queue }

@@ -23,15 +23,11 @@ fn push_hex(script: &mut Vec<u8>, octets: &[u8]) -> Result<(), AllocError> {
 
 /// The words of an arrival's line before its octets: when, at which place, and from where.
 fn words_of(alloc: Global, now: u64, at: Place, from: Endpoint) -> Result<String, AllocError> {
-    let [a, b, c, d] = from.ip;
-    let port = from.port;
     match at {
-        Place::Auth => format!(in alloc; "A {now} auth {a}.{b}.{c}.{d}:{port} "),
-        Place::Acct => format!(in alloc; "A {now} acct {a}.{b}.{c}.{d}:{port} "),
-        Place::Out(realm) => format!(in alloc; "A {now} out:{realm} {a}.{b}.{c}.{d}:{port} "),
-        Place::Reverse(realm) => {
-            format!(in alloc; "A {now} reverse:{realm} {a}.{b}.{c}.{d}:{port} ")
-        }
+        Place::Auth => format!(in alloc; "A {now} auth {from} "),
+        Place::Acct => format!(in alloc; "A {now} acct {from} "),
+        Place::Out(realm) => format!(in alloc; "A {now} out:{realm} {from} "),
+        Place::Reverse(realm) => { format!(in alloc; "A {now} reverse:{realm} {from} ") }
     }
 }
 

@@ -2,7 +2,7 @@ use Rattle.std.proofs.Common.{◌≡◌, ◌∙◌, ◌+◌, take, length, ap, s
 use Rattle.roam_wire.specs.Packet.{Packet, attributes_text}
 use Rattle.roam_wire.specs.Reading.{packet_of}
 use Rattle.roam_fwd.specs.Forwarded.{added_challenge}
-use Rattle.roam_fwd.specs.Arranged.{challenge_of, IsSealStart}
+use Rattle.roam_fwd.specs.Private.Arranged.{challenge_of, IsSealStart}
 use Rattle.roam_fwd.proofs.ArrangedLemmas.{HoldsAccess, access_held, access_within, movable, carried_front, moved_text, arranged_text}
 use Rattle.roam_fwd.proofs.access.arrange.Goals as goal
 

@@ -1,6 +1,6 @@
 use Rattle.std.proofs.Common.{◌≡◌, ◌++◌, ◌∷◌, [], List, length, map, refl, ap, sym, ◌∙◌, arith}
 use Rattle.std.proofs.lemmas.List.{map-append}
-use Rattle.roam_history.specs.Entries.{Entry, stored_of}
+use Rattle.roam_history.specs.Entries.{HistoryEntry, stored_of}
 use Rattle.roam_history.specs.Fronts.{FrontView, entries_of}
 use Rattle.roam_audit.specs.Shown.{all_in, items_of}
 use Rattle.roam_hub.specs.Closing.{all_steps, stored_steps}
@@ -54,7 +54,7 @@ loop-lock-preserved g c =
     let stored = ap (λ l. stored_steps l) c.push_reserved-in-loop-lock.ensures.items ∙ map-append items_of c.loop-lock.steps.items (c.in_ok-shard.its_steps ∷ []) in
     let entries : entries_of (fronts ++ front ∷ []) ≡ entries_of fronts ++ front.entries ∷ [] = map-append (λ (f : FrontView). f.entries) fronts (front ∷ []) in
     let all : map stored_of (entries_of (fronts ++ front ∷ [])) ≡ map stored_of (entries_of fronts) ++ stored_of front.entries ∷ [] =
-    ap (λ (l : List (List Entry)). map stored_of l) entries ∙ map-append stored_of (entries_of fronts) (front.entries ∷ []) in
+    ap (λ (l : List (List HistoryEntry)). map stored_of l) entries ∙ map-append stored_of (entries_of fronts) (front.entries ∷ []) in
     record {
       closed = rw (c.push_reserved.ensures.items, more) (one_more_closed g.N.Opened.opening c.loop-lock.number c.loop-lock.shards.items (all_steps fronts)
           c.in_ok-shard.shard (all_in front) inv.closed (record { shard = one.its_shard; config = one.config; states = one.states; history = one.history }));

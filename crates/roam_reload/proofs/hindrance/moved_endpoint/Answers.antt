@@ -6,13 +6,13 @@ use Rattle.roam_conf.specs.declared.endpoint.Endpoint.{Endpoint}
 use Rattle.roam_reload.specs.Differences.{HasMoved}
 use Rattle.roam_reload.specs.Moves.{is_moved}
 use Rattle.roam_reload.specs.Reload.{KeepsKinds, endpoints_of}
-use Rattle.roam_reload.specs.declared.kind.Kind.{Kind}
-use Rattle.roam_reload.specs.declared.kind.Kind.TheVariants.{Auth, Acct, Out, Reverse}
+use Rattle.roam_reload.specs.declared.kind.PlaceKind.{PlaceKind}
+use Rattle.roam_reload.specs.declared.kind.PlaceKind.TheVariants.{Auth, Acct, Out, Reverse}
 use Rattle.roam_reload.proofs.KindLemmas.{all_stay, found, moves}
 use Rattle.roam_reload.proofs.hindrance.moved_endpoint.Goals as goal
 
 -- what is found among those of a kind has moved
-found_moved : (old new : ConfigView) (kind : Kind) (o : Option Endpoint) → o ≡ find (is_moved new kind) (endpoints_of old kind) → IfSome o (HasMoved old new)
+found_moved : (old new : ConfigView) (kind : PlaceKind) (o : Option Endpoint) → o ≡ find (is_moved new kind) (endpoints_of old kind) → IfSome o (HasMoved old new)
 found_moved old new kind None is = tt
 found_moved old new kind (Some e) is =
     let both = found (is_moved new kind) (endpoints_of old kind) e (sym is) in

@@ -4,7 +4,7 @@ use Rattle.roam_conf.specs.Config.{RealmView}
 use Rattle.roam_conf.specs.Parts.{shown_realm}
 use Rattle.roam_conf.specs.Shown.{shown}
 use Rattle.roam_reload.specs.Moves.{is_moved}
-use Rattle.roam_reload.specs.declared.kind.Kind.TheVariants as kind
+use Rattle.roam_reload.specs.declared.kind.PlaceKind.TheVariants as kind
 use Rattle.roam_reload.proofs.hindrance.moved_out.Given as goal
 
 abbrev pub invariant-loop-realm : goal.invariant-loop-realm

@@ -5,11 +5,11 @@ use Rattle.roam_shard.proofs.FollowLemmas.{none_moved, one_moved}
 use Rattle.roam_shard.proofs.following.all_over.Goals as goal
 
 pub loop-realm-init : goal.loop-realm-init
-loop-realm-init g c = none_moved (shown c.args.old.now) (shown c.args.new.now) c.args.shard c.args.before.now.items c.args.after.items
+loop-realm-init g c = none_moved (shown c.args.change.from.now) (shown c.args.change.to.now) c.args.change.shard c.args.before.now.items c.args.after.items
 
 pub loop-realm-preserved : goal.loop-realm-preserved
 loop-realm-preserved g c =
-    one_moved (shown c.args.old.now) (shown c.args.new.now) c.args.shard c.args.before.now.items c.args.after.items
+    one_moved (shown c.args.change.from.now) (shown c.args.change.to.now) c.args.change.shard c.args.before.now.items c.args.after.items
     c.loop-realm.before.items c.loop-realm.after.items c.go_over.new.before.items c.go_over.new.after.items c.loop-realm.realm
     c.loop-realm.invariant c.go_over.ensures.moved c.go_over.ensures.others c.go_over.ensures.before c.go_over.ensures.count c.go_over.ensures.before_count
 

@@ -1,4 +1,4 @@
-use Rattle.roam_tables.specs.Marks.{Enters}
+use Rattle.roam_tables.specs.Private.Marks.{Enters}
 use Rattle.roam_tables.proofs.RealmLemmas.{at_set}
 use Rattle.roam_tables.proofs.realms.add_at.Goals as goal
 

@@ -1,5 +1,5 @@
 use Rattle.std.proofs.Common.{◌≡◌, ◌≤◌, vec_len, vec_capacity}
-use Rattle.roam_tables.specs.Marks.{AreEmpty}
+use Rattle.roam_tables.specs.Private.Marks.{AreEmpty}
 use Rattle.roam_tables.specs.Stands.{AreMore}
 use Rattle.roam_tables.proofs.realms.add_empty.Given as goal
 

@@ -1,6 +1,6 @@
 use Rattle.std.proofs.Common.{arith, ap, sym, ◌∙◌}
 use Rattle.std.specs.Prelude.{slice_get}
-use Rattle.roam_tables.specs.Marks.{Changes}
+use Rattle.roam_tables.specs.Private.Marks.{Changes}
 use Rattle.roam_tables.proofs.RealmLemmas.{at_set, get-read}
 use Rattle.roam_tables.proofs.realms.change_at.Goals as goal
 

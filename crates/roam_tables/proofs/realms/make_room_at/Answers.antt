@@ -1,4 +1,4 @@
-use Rattle.roam_tables.specs.Marks.{SameRuns}
+use Rattle.roam_tables.specs.Private.Marks.{SameRuns}
 use Rattle.roam_tables.proofs.RealmLemmas.{at_set}
 use Rattle.roam_tables.proofs.realms.make_room_at.Goals as goal
 

@@ -1,6 +1,6 @@
 use Rattle.std.proofs.Common.{◌≡◌, ◌≤◌, vec_len, vec_capacity}
 use Rattle.std.specs.List.{AllByRecursion}
-use Rattle.roam_tables.specs.Marks.{AreEmpty}
+use Rattle.roam_tables.specs.Private.Marks.{AreEmpty}
 use Rattle.roam_tables.proofs.realms.no_entries.Given as goal
 
 abbrev pub invariant-loop : goal.invariant-loop

@@ -1,4 +1,4 @@
-use Rattle.roam_tables.specs.Marks.{Leaves}
+use Rattle.roam_tables.specs.Private.Marks.{Leaves}
 use Rattle.roam_tables.proofs.RealmLemmas.{at_set}
 use Rattle.roam_tables.proofs.realms.take_at.Goals as goal
 

@@ -1,7 +1,7 @@
 -- One front more was seen.
 use Rattle.std.proofs.Common.{◌≡◌, ℕ, List, slice_set, ap, ◌∙◌}
 use Rattle.std.proofs.lemmas.List.{map-set}
-use Rattle.roam_history.specs.Entries.{Entry}
+use Rattle.roam_history.specs.Entries.{HistoryEntry}
 use Rattle.roam_history.specs.Fronts.{FrontView, entries_of}
 use Rattle.roam_audit.specs.Seats.{SeatView, having_seen}
 use Rattle.roam_audit.proofs.seat.Seat.learn.Goals as goal

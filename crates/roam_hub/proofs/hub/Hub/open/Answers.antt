@@ -3,7 +3,7 @@ use Rattle.std.proofs.Common.{◌≡◌, ◌+◌, ◌++◌, ◌∷◌, [], ℕ, 
 use Rattle.std.specs.Vec.Iter.{into_iter_items}
 use Rattle.std.proofs.lemmas.List.{map-append, replicate-append-replicate}
 use Rattle.roam_history.specs.Books.{book_of}
-use Rattle.roam_history.specs.Entries.{Entry}
+use Rattle.roam_history.specs.Entries.{HistoryEntry}
 use Rattle.roam_history.specs.Fronts.{FrontView, entries_of}
 use Rattle.roam_history.specs.declared.blank.Blank.{Blank}
 use Rattle.roam_hub.proofs.HubLemmas.{no_shards, push_shards}
@@ -52,7 +52,7 @@ loop-blank-preserved g c =
           subst (λ (n : ℕ). b.seen.book ≡ g.N.Opened.books n) same more);
       locks = (let len = c.in_ok-push.ensures.len in omega (arith, len, inv.locks));
       fronts = (let len = c.in_ok-push-2.ensures.len in omega (arith, len, inv.fronts));
-      unseen = rw more (entries ∙ (ap (λ (l : List (List Entry)). l ++ [] ∷ []) inv.unseen ∙ replicate-append-replicate c.loop-blank.shard 1 []));
+      unseen = rw more (entries ∙ (ap (λ (l : List (List HistoryEntry)). l ++ [] ∷ []) inv.unseen ∙ replicate-append-replicate c.loop-blank.shard 1 []));
       of_shards = rw more (push_shards fronts front inv.of_shards (let n = c.loop-blank.fronts.ok.0 in let s = ap (λ (f : FrontView). f.shard) is in omega (arith, n, s, inv.fronts)));
       left = omega (arith, short, steps.1, inv.left);
       count = omega (arith, short, inv.count);

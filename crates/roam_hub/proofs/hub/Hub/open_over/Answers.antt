@@ -4,7 +4,7 @@ use Rattle.std.specs.Vec.Iter.{into_iter_items}
 use Rattle.std.proofs.lemmas.List.{map-append, replicate-append-replicate}
 use Rattle.roam_conf.specs.Shown.{shown}
 use Rattle.roam_history.specs.Books.{book_of}
-use Rattle.roam_history.specs.Entries.{Entry}
+use Rattle.roam_history.specs.Entries.{HistoryEntry}
 use Rattle.roam_history.specs.Fronts.{FrontView, entries_of}
 use Rattle.roam_history.specs.HubOpening.{HubOpening}
 use Rattle.roam_history.specs.declared.blank.Blank.{Blank}
@@ -92,7 +92,7 @@ loop-blank-preserved g c =
       fronts = (let len = c.push_reserved-in-loop-blank.ensures.len in omega (arith, len, inv.fronts));
       lock_room = (let same = c.push_reserved.ensures.capacity in omega (arith, same, inv.lock_room));
       front_room = (let same = c.push_reserved-in-loop-blank.ensures.capacity in omega (arith, same, inv.front_room));
-      unseen = rw more (entries ∙ (ap (λ (l : List (List Entry)). l ++ [] ∷ []) inv.unseen ∙ replicate-append-replicate k 1 []));
+      unseen = rw more (entries ∙ (ap (λ (l : List (List HistoryEntry)). l ++ [] ∷ []) inv.unseen ∙ replicate-append-replicate k 1 []));
       of_shards = rw more (push_shards fronts front inv.of_shards (let n = c.loop-blank.fronts.ok.0 in let s = ap (λ (f : FrontView). f.shard) is in omega (arith, n, s, inv.fronts)));
       left = omega (arith, short, steps.1, inv.left);
       count = omega (arith, short, inv.count);

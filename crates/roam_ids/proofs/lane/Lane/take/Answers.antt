@@ -1,5 +1,5 @@
 use Rattle.std.proofs.Common.{ℕ, Bool, ◌∙◌, get_or, rules}
-use Rattle.roam_ids.specs.declared.place.Place.TheVariants.{Free}
+use Rattle.roam_ids.specs.declared.id_state.IdState.TheVariants.{Free}
 use Rattle.roam_ids.specs.Standing.{is_in_use}
 use Rattle.roam_ids.specs.Marks.{is_marked}
 use Rattle.roam_ids.proofs.NextIdentifierLemmas.{next_identifier-same}

@@ -1,5 +1,5 @@
 use Rattle.std.proofs.Common.{◌∙◌, sym, ap, subst, arith}
-use Rattle.roam_ids.specs.declared.place.Place.TheVariants.{Free}
+use Rattle.roam_ids.specs.declared.id_state.IdState.TheVariants.{Free}
 use Rattle.roam_ids.specs.LaneState.{LaneState, HasIdentifiers, place_at, put_at}
 use Rattle.roam_ids.specs.Making.{with_memory}
 use Rattle.roam_ids.proofs.LazyLemmas.{kept-out, kept-first, kept-put}

@@ -1,5 +1,5 @@
 use Rattle.std.proofs.Common.{◌≡◌, List, length, refl, ap}
-use Rattle.roam_ids.specs.declared.place.Place.TheVariants.{Free}
+use Rattle.roam_ids.specs.declared.id_state.IdState.TheVariants.{Free}
 use Rattle.roam_ids.specs.LaneState.{LaneState, HasIdentifiers, place_at}
 use Rattle.roam_ids.specs.Making.{kept_or_fresh}
 use Rattle.roam_ids.proofs.LazyLemmas.{unmade, fresh-free, fresh-whole}

@@ -1,6 +1,6 @@
 use Rattle.std.proofs.Common.{◌∙◌, refl, arith}
 use Rattle.roam_reverse.specs.Stands.{chain_of}
-use Rattle.roam_reverse.specs.Tickets.{session_at}
+use Rattle.roam_reverse.specs.Private.Tickets.{session_at}
 use Rattle.roam_reverse.proofs.PeerLemmas.{node-goes, node-stays, walk-ends}
 use Rattle.roam_reverse.proofs.chain.Chain.remove_peer.Goals as goal
 

@@ -2,7 +2,7 @@ use Rattle.std.proofs.Common.{◌≡◌, ◌≤◌, ◌==◌}
 use Rattle.std.specs.Prelude.{not}
 use Rattle.roam_reverse.specs.Sessions.{Session}
 use Rattle.roam_reverse.specs.Stands.{IsSound, chain_of}
-use Rattle.roam_reverse.specs.Tickets.{session_at}
+use Rattle.roam_reverse.specs.Private.Tickets.{session_at}
 use Rattle.roam_reverse.proofs.PeerLemmas.{IsWalked, tickets_left}
 use Rattle.roam_reverse.proofs.chain.Chain.remove_peer.Given as goal
 

@@ -4,8 +4,8 @@ use Rattle.std.specs.Map.{lookup}
 use Rattle.std.specs.Cmp.Lexicographic.{pointwise}
 use Rattle.std.specs.declared.vec.Vec.{Vec}
 use Rattle.indexmap.specs.IndexMap.{IndexMap}
-use Rattle.roam_reverse.specs.Row.{session_row}
-use Rattle.roam_reverse.specs.Tickets.{IsChain}
+use Rattle.roam_reverse.specs.Private.Row.{session_row}
+use Rattle.roam_reverse.specs.Private.Tickets.{IsChain}
 use Rattle.roam_wire.specs.Numbered.{tickets_end}
 use Rattle.roam_reverse.specs.Stands.{chain_of, node_at, shown_node, ticket_at}
 use Rattle.roam_reverse.specs.declared.chain.Chain.{Chain}

@@ -1,7 +1,7 @@
 use Rattle.std.proofs.Common.{List, length, ap, arith}
 use Rattle.roam_reverse.specs.Sessions.{Session}
 use Rattle.roam_reverse.specs.Stands.{chain_of}
-use Rattle.roam_reverse.specs.Tickets.{session_at}
+use Rattle.roam_reverse.specs.Private.Tickets.{session_at}
 use Rattle.roam_wire.specs.Numbered.{tickets_end}
 use Rattle.roam_reverse.proofs.ListedLemmas.{listed-none}
 use Rattle.roam_reverse.proofs.ledger.Sessions.new.Goals as goal

@@ -2,7 +2,7 @@
 use Rattle.std.proofs.Common.{◌∙◌, List, ap, sym, subst}
 use Rattle.std.proofs.lemmas.Result.{IfOk-weaker}
 use Rattle.roam_conf.specs.Shown.{shown}
-use Rattle.roam_book.specs.declared.start.Start.{Start}
+use Rattle.roam_book.specs.declared.state.start.Start.{Start}
 use Rattle.roam_shard.specs.Pausing.{GoesOn, begin_at, opening_under}
 use Rattle.roam_shard.specs.ShardView.{IsStart}
 use Rattle.roam_shard.proofs.FollowLemmas.{good_begin, ready_fresh}

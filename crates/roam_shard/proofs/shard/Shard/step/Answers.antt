@@ -50,8 +50,8 @@ unreachable-requires g c =
     numbers_there c.index_mut.result.now
     (c.self.invariant.own c.from.result c.index_mut.result.now at ∙ own) c.in_default.is
 
-pub given-requires-clause-realm : goal.given-requires-clause-realm
-given-requires-clause-realm g c =
+pub handle_job-requires-clause-realm : goal.handle_job-requires-clause-realm
+handle_job-requires-clause-realm g c =
     let i = c.self.inside in
     let realms =
     event_realm c.args.self.now.opening.config (shown_job c.args.job.now) c.requires.event in
@@ -76,8 +76,8 @@ given-requires-clause-realm g c =
     }
 
 -- an event of the configuration is a job that the realm takes
-pub given-requires-clause-taken : goal.given-requires-clause-taken
-given-requires-clause-taken g c =
+pub handle_job-requires-clause-taken : goal.handle_job-requires-clause-taken
+handle_job-requires-clause-taken g c =
     let job = shown_job c.args.job.now in
     let config : ConfigView = shown c.self.inside.opening.config.now in
     let octets : AreOctets job.octets =
@@ -100,8 +100,8 @@ invariant_of-self g c =
     c.index_mut.ensures.value ∙ ap Some c.in-Some.is in
     let own = c.new-settings.ensures
     ∙ ap (realm_config (shown i.opening.config.now)) (sym c.from.ensures) in
-    let rest = c.given.ensures.turn.rest in
-    let new = c.given.new.realm in
+    let rest = c.handle_job.ensures.turn.rest in
+    let new = c.handle_job.new.realm in
     shard_written (shown_opening i.opening) i.entries i.numbers.items c.self.invariant c.from.result
     c.in-Some.numbers at c.new-settings.result own
     new.entries.now new.numbers.now new.settings.now rest.loans.settings rest.loans.keeps
@@ -119,13 +119,13 @@ returns-clause-turn g c =
     c.index_mut.ensures.value ∙ ap Some c.in-Some.is in
     let own = c.new-settings.ensures
     ∙ ap (realm_config (shown i.opening.config.now)) (sym c.from.ensures) in
-    let turn = c.given.ensures.turn in
-    let new = c.given.new.realm in
+    let turn = c.handle_job.ensures.turn in
+    let new = c.handle_job.new.realm in
     let job = shown_job c.args.job.now in
     shard_seen (shown_opening i.opening) i.entries i.numbers.items c.self.invariant c.from.result
     c.in-Some.numbers at c.new-settings.result own
     new.entries.now new.numbers.now new.settings.now turn.rest.loans.settings turn.rest.loans.keeps
-    turn.rest.others (λ x s. on_event x s (event_of c.args.now job)) c.given.result
+    turn.rest.others (λ x s. on_event x s (event_of c.args.now job)) c.handle_job.result
     c.args.self.now c.self.view_is c.args.job.now.realm c.from.ensures _ refl turn.gives
 
 -- where its turn sends nothing no memory is wanted
@@ -146,4 +146,4 @@ returns-clause-succeeds g c = λ none.
     c.from.result c.in-Some.numbers at c.new-settings.result own
     (λ x s. on_event x s (event_of c.args.now job)) c.args.self.now c.self.view_is
     c.args.job.now.realm c.from.ensures in
-    c.given.ensures.turn.succeeds (ap (λ (t : Turn). packets_of t) turn ∙ none)
+    c.handle_job.ensures.turn.succeeds (ap (λ (t : Turn). packets_of t) turn ∙ none)

@@ -7,7 +7,7 @@ use Rattle.roam_core.specs.ManyRealms.{state_at}
 use Rattle.roam_core.specs.ShardRooms.{most_of_all, turn_in}
 use Rattle.roam_core.proofs.ShardLemmas.{ticking-start, ticking-next, ticking-turn, ticking-end, nothing-left}
 use Rattle.roam_shard.specs.ShardView.{OpeningView}
-use Rattle.roam_shard.specs.Rooms.{HasPlaces}
+use Rattle.roam_shard.specs.Private.Rooms.{HasPlaces}
 use Rattle.roam_shard.proofs.TickLemmas.{next_own, next_twice}
 use Rattle.roam_shard.proofs.shard.Shard.tick_in.Goals as goal
 

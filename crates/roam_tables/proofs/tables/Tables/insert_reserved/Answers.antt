@@ -1,6 +1,6 @@
 use Rattle.std.proofs.Common.{ap}
 use Rattle.roam_pending.specs.Shown.{shown}
-use Rattle.roam_tables.specs.declared.mark.Mark.{Mark}
+use Rattle.roam_tables.specs.declared.due_mark.DueMark.{DueMark}
 use Rattle.roam_tables.proofs.UpdateLemmas.{insert_becomes, insert_can, insert_realms, insert_room, insert_sound, room_for_one, room_positive, within_realms}
 use Rattle.roam_tables.proofs.tables.Tables.insert_reserved.Goals as goal
 
@@ -42,7 +42,7 @@ invariant_of-self g c =
     c.self.view_is c.args.realm c.mark_of-mark.result.due.ticket c.put-at.result
     (shown c.args.entry) c.mark_of-mark.result c.mark_of-mark.ensures c.put-at.new.slots
     c.note_ticket.new.index c.note_client.new.index c.add_at.new.realms.items c.requires.new
-    c.requires.room (ap (λ (m : Mark). m.due.ticket) c.mark_of-mark.ensures)
+    c.requires.room (ap (λ (m : DueMark). m.due.ticket) c.mark_of-mark.ensures)
     c.note_ticket.ensures.range c.put-at.ensures.free c.put-at.ensures.puts
     c.note_ticket.ensures.puts c.note_client.ensures.puts c.add_at.ensures
 
@@ -53,7 +53,7 @@ returns-clause-entries g c =
     c.self.view_is c.args.realm c.mark_of-mark.result.due.ticket c.put-at.result
     (shown c.args.entry) c.mark_of-mark.result c.mark_of-mark.ensures c.put-at.new.slots
     c.note_ticket.new.index c.note_client.new.index c.add_at.new.realms.items c.requires.new
-    c.requires.room (ap (λ (m : Mark). m.due.ticket) c.mark_of-mark.ensures)
+    c.requires.room (ap (λ (m : DueMark). m.due.ticket) c.mark_of-mark.ensures)
     c.note_ticket.ensures.range c.put-at.ensures.free c.put-at.ensures.puts
     c.note_ticket.ensures.puts c.note_client.ensures.puts c.add_at.ensures
 
@@ -64,7 +64,7 @@ returns-clause-room g c =
     c.self.view_is c.args.realm c.mark_of-mark.result.due.ticket c.put-at.result
     (shown c.args.entry) c.mark_of-mark.result c.mark_of-mark.ensures c.put-at.new.slots
     c.note_ticket.new.index c.note_client.new.index c.add_at.new.realms.items c.requires.new
-    c.requires.room (ap (λ (m : Mark). m.due.ticket) c.mark_of-mark.ensures)
+    c.requires.room (ap (λ (m : DueMark). m.due.ticket) c.mark_of-mark.ensures)
     c.note_ticket.ensures.range c.put-at.ensures.free c.put-at.ensures.puts
     c.note_ticket.ensures.puts c.note_client.ensures.puts c.add_at.ensures c.put-at.ensures.room
     c.note_ticket.ensures.room c.note_client.ensures.room
@@ -76,6 +76,6 @@ returns-clause-realms g c =
     c.self.view_is c.args.realm c.mark_of-mark.result.due.ticket c.put-at.result
     (shown c.args.entry) c.mark_of-mark.result c.mark_of-mark.ensures c.put-at.new.slots
     c.note_ticket.new.index c.note_client.new.index c.add_at.new.realms.items c.requires.new
-    c.requires.room (ap (λ (m : Mark). m.due.ticket) c.mark_of-mark.ensures)
+    c.requires.room (ap (λ (m : DueMark). m.due.ticket) c.mark_of-mark.ensures)
     c.note_ticket.ensures.range c.put-at.ensures.free c.put-at.ensures.puts
     c.note_ticket.ensures.puts c.note_client.ensures.puts c.add_at.ensures

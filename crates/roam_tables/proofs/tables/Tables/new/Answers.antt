@@ -1,6 +1,6 @@
 use Rattle.std.proofs.Common.{◌≡◌, ℕ, None, refl, ◌∙◌}
-use Rattle.roam_tables.specs.declared.index.TicketKey.{TicketKey}
-use Rattle.roam_tables.specs.declared.index.ClientKey.{ClientKey}
+use Rattle.roam_tables.specs.declared.entry_index.TicketKey.{TicketKey}
+use Rattle.roam_tables.specs.declared.entry_index.ClientKey.{ClientKey}
 use Rattle.roam_tables.specs.Stands.{client_at, entries_at, place, room_at, ticket_at}
 use Rattle.roam_tables.proofs.OpeningLemmas.{no_entries_at, sound_empty}
 use Rattle.roam_tables.proofs.ViewLemmas.{length-views, seen_at}

@@ -1,0 +1,116 @@
+//! The octets of a returned packet, appended to a buffer, before its salted strings are hidden anew and
+//! it is sealed and signed.
+
+ghost use Rattle.std.specs.Prelude.{◌≡◌, ◌+◌, ◌≤◌, ◌++◌, length, filter, vec_len, vec_capacity};
+ghost use Rattle.roam_wire.specs.Packet.{IsPacket, attributes_text, packet_length, packet_text};
+ghost use Rattle.roam_wire.specs.Shown.{shown};
+ghost use Rattle.roam_back.specs.Returned.{Returning, returned_length};
+ghost use Rattle.roam_back.specs.Private.Plain.{is_carried, first_seal, plain_packet};
+
+use roam_wire::attribute_type::{MESSAGE_AUTHENTICATOR, PROXY_STATE};
+use roam_wire::code::is_access_reply;
+use roam_wire::writing::{
+    EMPTY_MESSAGE_AUTHENTICATOR, append_attribute, append_header, append_octets,
+    append_proxy_states, proxy_states_len,
+};
+use roam_wire::{Attr, View};
+use std::alloc::Allocator;
+
+/// Whether an attribute of a reply is returned: no Proxy-State is, and no Message-Authenticator of an
+/// Access reply.
+#[tactic(auto, unfolding(crate::specs::Private::Plain::is_carried))]
+fn is_carried(attribute: &Attr<'_>, access: bool) -> bool
+    ensures { result ≡ is_carried access (shown attribute.now) }
+{
+    attribute.kind != PROXY_STATE && !(access && attribute.kind == MESSAGE_AUTHENTICATOR)
+}
+
+/// How many octets the Message-Authenticator takes that stands first in an Access reply.
+fn seal_len(access: bool) -> usize
+    ensures { result ≡ length (attributes_text (first_seal access)) }
+{
+    if access {
+        EMPTY_MESSAGE_AUTHENTICATOR.len()
+    } else {
+        0
+    }
+}
+
+/// How many octets the attributes of a reply take that are returned. One pass.
+fn carried_len(reply: &View<'_>, access: bool) -> usize
+    ensures all { result ≡ length (attributes_text (filter (is_carried access) reply.now.attributes)) }
+    ensures few { result ≤ 4076 }
+    ensures packet { IsPacket reply.now }
+{
+    let mut size = 0;
+    for attribute in reply.attributes() {
+        if is_carried(&attribute, access) {
+            size += 2 + attribute.value.len();
+        }
+    }
+    size
+}
+
+/// The size of the packet that is returned, in octets: the header, a Message-Authenticator in an Access
+/// reply, the reply's attributes that are returned, the request's Proxy-States.
+pub(crate) fn returned_len(reply: &View<'_>, request: &View<'_>) -> usize
+    ensures plain { result ≡ packet_length (plain_packet reply.now request.now) }
+    ensures returned { (r : Returning) → result ≡ returned_length r reply.now request.now }
+    ensures reply { IsPacket reply.now }
+    ensures request { IsPacket request.now }
+{
+    let access = is_access_reply(reply.code());
+    20 + seal_len(access) + carried_len(reply, access) + proxy_states_len(request)
+}
+
+/// Appends a Message-Authenticator that is still to be filled in, to an Access reply.
+fn append_seal<A: Allocator>(out: &mut Vec<u8, A>, access: bool)
+    requires { vec_len out.old + length (attributes_text (first_seal access)) ≤ vec_capacity out.old }
+    ensures items { out.new.items ≡ out.old.items ++ attributes_text (first_seal access) }
+    ensures capacity { vec_capacity out.new ≡ vec_capacity out.old }
+{
+    if access {
+        append_octets(out, &EMPTY_MESSAGE_AUTHENTICATOR);
+    }
+}
+
+/// Appends the attributes of a reply that are returned.
+fn append_carried<A: Allocator>(out: &mut Vec<u8, A>, reply: &View<'_>, access: bool)
+    requires { vec_len out.old + length (attributes_text (filter (is_carried access) reply.now.attributes))
+        ≤ vec_capacity out.old }
+    ensures items { out.new.items
+        ≡ out.old.items ++ attributes_text (filter (is_carried access) reply.now.attributes) }
+    ensures capacity { vec_capacity out.new ≡ vec_capacity out.old }
+{
+    for next in reply.attributes() {
+        if is_carried(&next, access) {
+            append_attribute(out, next);
+        }
+    }
+}
+
+/// Appends the packet that is returned, before its salted strings are hidden anew and it is sealed and
+/// signed.
+pub(crate) fn append_plain<A: Allocator>(
+    out: &mut Vec<u8, A>,
+    reply: &View<'_>,
+    request: &View<'_>,
+    size: usize,
+)
+    requires size { size ≡ packet_length (plain_packet reply.now request.now) }
+    requires short { size ≤ 4096 }
+    requires room { vec_len out.old + size ≤ vec_capacity out.old }
+    ensures { out.new.items ≡ out.old.items ++ packet_text (plain_packet reply.now request.now) }
+{
+    let access = is_access_reply(reply.code());
+    append_header(
+        out,
+        reply.code(),
+        request.id(),
+        size,
+        &request.authenticator(),
+    );
+    append_seal(out, access);
+    append_carried(out, reply, access);
+    append_proxy_states(out, request);
+}

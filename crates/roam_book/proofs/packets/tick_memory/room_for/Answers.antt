@@ -1,0 +1,29 @@
+use Rattle.std.proofs.Common.{◌≡◌, ℕ, Bool, [], length, ap, sym, subst, arith}
+use Rattle.std.proofs.lemmas.List.{length-map}
+use Rattle.roam_book.specs.Private.Memory.{IsOuts}
+use Rattle.roam_book.proofs.RoomLemmas.{due-few}
+use Rattle.roam_book.proofs.packets.tick_memory.room_for.Goals as goal
+
+-- there is a place for each slot's packet
+pub returns-clause-room : goal.returns-clause-room
+returns-clause-room g c =
+    let slots = c.in_ok-slots.slots in
+    let es = g.E.Entries.entries_of c.args.entries.now c.args.realm in
+    let outs = c.in_ok-outs.outs in
+    let wanted : outs.twice ≡ c.args.twice = c.in_ok-outs.ensures.outs.wanted in
+    let count : c.len.result ≡ length slots.items = omega (arith, slots.ok.0, c.len.ensures) in
+    record {
+      dues = c.in_ok-slots.ensures.dues;
+      buffers = rw wanted c.in_ok-slots.ensures.buffers;
+      outs = subst (λ (n : ℕ). IsOuts n outs.twice [] outs) count
+          (subst (λ (b : Bool). IsOuts c.len.result b [] outs) (sym wanted) c.in_ok-outs.ensures.outs);
+    }
+
+-- at most as many are due as there are entries
+pub returns-clause-few : goal.returns-clause-few
+returns-clause-few g c =
+    let es = g.E.Entries.entries_of c.args.entries.now c.args.realm in
+    let slots = c.in_ok-slots.slots.items in
+    let all = ap length c.in_ok-slots.ensures.dues in
+    let count = length-map slots (λ s. s.due) in
+    omega (arith, all, count, due-few c.args.now es)

@@ -1,0 +1,68 @@
+use Rattle.std.proofs.Common.{◌≡◌, true, [], ◌∷◌, ap, ◌∙◌, refl, subst, sym}
+use Rattle.roam_route.specs.Shown.{shown_out}
+use Rattle.roam_book.specs.RealmConfig.{RealmConfig}
+use Rattle.roam_book.specs.RealmTurn.{state}
+use Rattle.roam_book.specs.Turn.{packets_of, state_after}
+use Rattle.roam_book.specs.Private.NewEntry.{IsWay, admits, cleared}
+use Rattle.roam_book.specs.Private.Memory.{IsCopied}
+use Rattle.roam_book.specs.Sound.{lane_of, shown_request}
+use Rattle.roam_book.proofs.LinkLaneLemmas.{made-same}
+use Rattle.roam_book.proofs.MemoryLemmas.{has-place, told-tells}
+use Rattle.roam_book.proofs.RealmLemmas.{keeps-both}
+use Rattle.roam_book.proofs.state.realm_broker.RealmBroker.admit_reserved.Goals as goal
+
+-- the way is clear
+pub forward_new-sent-requires-clause-way : goal.forward_new-sent-requires-clause-way
+forward_new-sent-requires-clause-way g c =
+    let mid = c.make_way.new.self in
+    let q = shown_request c.args.asked in
+    subst (λ (k : RealmConfig). IsWay k (state g.E.Entries mid) q (cleared c.args.way))
+    (sym c.make_way.ensures.keeps.loans.settings) (c.make_way.ensures.way q c.requires.way)
+
+-- the memory of the link's lane is there
+pub forward_new-sent-requires-clause-made : goal.forward_new-sent-requires-clause-made
+forward_new-sent-requires-clause-made g c =
+    let mid = c.make_way.new.self.numbers.now.lanes.items in
+    subst (λ (k : RealmConfig). (lane_of k mid c.args.way.link).made ≡ true)
+    (sym c.make_way.ensures.keeps.loans.settings)
+    (made-same c.args.self.now.settings.now c.args.self.now.numbers.now.lanes.items mid
+    c.args.way.link c.make_way.ensures.marks c.requires.made)
+
+-- there is a place for the one packet, and it has its copy
+pub push-requires-clause-place : goal.push-requires-clause-place
+push-requires-clause-place g c =
+    has-place 0 c.args.supplies.outs.twice [] c.args.supplies.outs c.requires.supplies.outs
+
+pub push-requires-clause-copied : goal.push-requires-clause-copied
+push-requires-clause-copied g c =
+    subst (λ b. IsCopied b c.forward_new-sent.result) c.requires.supplies.copy
+    c.forward_new-sent.ensures.copied
+
+-- the one packet is sent, and the state is that of an admission to the entries that are left
+pub returns-clause-turn : goal.returns-clause-turn
+returns-clause-turn g c =
+    let config = c.args.self.now.settings.now in
+    let old = state g.E.Entries c.args.self.now in
+    let mid = state g.E.Entries c.make_way.new.self in
+    let new = state g.E.Entries c.forward_new-sent.new.self in
+    let q = shown_request c.args.asked in
+    let at = c.make_way.ensures.keeps.loans.settings in
+    let same = c.make_way.ensures.turn c.args.now q c.requires.way in
+    let out = shown_out c.forward_new-sent.result.out in
+    let packets : out ∷ [] ≡ packets_of (admits config c.args.now mid q (cleared c.args.way)) =
+    subst (λ (k : RealmConfig). out ∷ [] ≡ packets_of (admits k c.args.now mid q (cleared c.args.way)))
+    at c.forward_new-sent.ensures.out in
+    let after : new ≡ state_after mid (admits config c.args.now mid q (cleared c.args.way)) =
+    subst (λ (k : RealmConfig). new ≡ state_after mid (admits k c.args.now mid q (cleared c.args.way)))
+    at c.forward_new-sent.ensures.state in
+    let twice = c.args.supplies.outs.twice in
+    let gathered = c.push.ensures.outs 0 twice [] c.requires.supplies.outs in
+    told-tells 0 twice (out ∷ []) c.push.new.self c.finish.result old new
+    (admits config c.args.now old q c.args.way) gathered c.finish.ensures.packets c.finish.ensures.refusal
+    c.finish.ensures.wanted c.finish.ensures.copies c.finish.ensures.copied_refusal
+    (packets ∙ ap packets_of same) refl (after ∙ ap (state_after mid) same)
+
+pub returns-clause-keeps : goal.returns-clause-keeps
+returns-clause-keeps g c =
+    keeps-both g.E.Entries c.args.self.now c.make_way.new.self c.forward_new-sent.new.self
+    c.make_way.ensures.keeps c.forward_new-sent.ensures.keeps

@@ -1,0 +1,134 @@
+use Rattle.std.proofs.Common.{◌≡◌, ◌++◌, Bool, List, Some, ap, sym, ◌∙◌, subst}
+use Rattle.roam_pending.specs.PlainEntry.{PlainEntry}
+use Rattle.roam_pending.specs.EntryList.{IsEntryList, find_ticket}
+use Rattle.roam_pending.specs.Realms.{RealmBecomes}
+use Rattle.roam_pending.specs.Shown.{shown}
+use Rattle.roam_route.specs.Admission.{PlainOut}
+use Rattle.roam_book.specs.RealmTurn.{entries, state}
+use Rattle.roam_book.specs.OnTick.{Progress, due_standing, due_one}
+use Rattle.roam_book.specs.Private.Memory.{IsOuts}
+use Rattle.roam_book.specs.Sound.{IsSound, state_of}
+use Rattle.roam_book.specs.Private.Fates.{IsFate, IsFateCopied, fate_entries}
+use Rattle.roam_book.proofs.SoundLemmas.{kept-ticket}
+use Rattle.roam_book.proofs.FateListLemmas.{list-after, size-after}
+use Rattle.roam_book.proofs.TickLemmas.{due_one-found, own-ticket, becomes-found}
+use Rattle.roam_book.proofs.state.realm_broker.RealmBroker.due_one.Goals as goal
+
+-- the entry of the ticket is sound
+pub act_on_due-fate-requires-clause-entry : goal.act_on_due-fate-requires-clause-entry
+act_on_due-fate-requires-clause-entry g c =
+    let r = c.args.self.now in
+    let found = rw c.index.ensures at c.in-Some.ensures.found in
+    kept-ticket r.settings.now r.numbers.now.ticket c.args.slot.due.ticket (shown c.in-Some.entry.now)
+    (entries g.E.Entries r) (sym found) c.requires.realm.sound.each
+
+-- the realm's entries before, and the entry that was found
+abbrev held : (g : _) → goal.After-apply_action g → List PlainEntry
+held g c = entries g.E.Entries c.args.self.now
+
+abbrev entry : (g : _) → goal.After-apply_action g → PlainEntry
+entry g c = shown c.in-Some.entry.now
+
+found :
+    (g : _) (c : goal.After-apply_action g)
+    → Some (entry g c) ≡ find_ticket c.args.slot.due.ticket (held g c)
+found g c = rw c.index.ensures at c.in-Some.ensures.found
+
+own : (g : _) (c : goal.After-apply_action g)
+    → find_ticket (entry g c).ticket (held g c) ≡ Some (entry g c)
+own g c = own-ticket c.args.slot.due.ticket (entry g c) (held g c) (found g c)
+
+-- what became of it, by the definition's step
+abbrev step : (g : _) → goal.After-apply_action g → Progress
+step g c =
+    due_standing c.args.self.now.settings.now c.args.now (state g.E.Entries c.args.self.now)
+    (entry g c) (entry g c).standing
+
+fate :
+    (g : _) (c : goal.After-apply_action g)
+    → IsFate c.args.self.now.settings.now c.args.now (held g c) (entry g c)
+    c.act_on_due-fate.new.numbers c.act_on_due-fate.result (step g c)
+fate g c =
+    c.act_on_due-fate.ensures.fate (held g c) (record {
+      sound = c.requires.realm.sound;
+      list = c.requires.realm.list;
+      found = own g c;
+    })
+
+one :
+    (g : _) (c : goal.After-apply_action g)
+    → step g c ≡ due_one c.args.self.now.settings.now c.args.now (state g.E.Entries c.args.self.now)
+    c.args.slot.due
+one g c =
+    due_one-found c.args.self.now.settings.now c.args.now (state g.E.Entries c.args.self.now)
+    c.args.slot.due (entry g c) (found g c)
+
+-- and what the entries are then
+becomes :
+    (g : _) (c : goal.After-apply_action g)
+    → RealmBecomes c.args.self.now.settings.now.index
+    (fate_entries c.args.self.now.settings.now c.args.now (entry g c) (held g c) c.act_on_due-fate.result)
+    (g.E.Entries.entries_of c.args.self.now.entries.now)
+    (g.E.Entries.entries_of c.apply_action.new.self.entries.now)
+becomes g c =
+    let r = c.args.self.now in
+    let all = g.E.Entries.entries_of in
+    becomes-found r.settings.now c.args.now r.settings.now.index c.args.slot.due.ticket
+    (entry g c) (held g c) (all r.entries.now) (all c.apply_action.new.self.entries.now)
+    c.act_on_due-fate.result (found g c) c.apply_action.ensures.entries
+
+-- the realm's entries then, under the settings that it has then
+here :
+    (g : _) (c : goal.After-apply_action g)
+    → entries g.E.Entries c.apply_action.new.self
+    ≡ fate_entries c.args.self.now.settings.now c.args.now (entry g c) (held g c) c.act_on_due-fate.result
+here g c =
+    ap (λ k. g.E.Entries.entries_of c.apply_action.new.self.entries.now k.index)
+    c.apply_action.ensures.loans.settings ∙ (becomes g c).here
+
+pub apply_action-requires-clause-copied : goal.apply_action-requires-clause-copied
+apply_action-requires-clause-copied g c =
+    subst (λ (b : Bool). IsFateCopied b c.act_on_due-fate.result) c.requires.copy
+    c.act_on_due-fate.ensures.copied
+
+pub returns-clause-outs : goal.returns-clause-outs
+returns-clause-outs g c = λ places twice packets h.
+    let sent = (fate g c).packets ∙ ap (λ (p : Progress). p.packets) (one g c) in
+    subst (λ (ps : List PlainOut). IsOuts places twice (packets ++ ps) c.apply_action.new.outs) sent
+    (c.apply_action.ensures.outs places twice packets h)
+
+pub returns-clause-state : goal.returns-clause-state
+returns-clause-state g c =
+    let stands = (fate g c).state ∙ ap (λ (p : Progress). p.state) (one g c) in
+    let numbers = c.apply_action.ensures.numbers in
+    ap (λ n. state_of (entries g.E.Entries c.apply_action.new.self) n) numbers
+    ∙ ap (λ (es : List PlainEntry). state_of es c.act_on_due-fate.new.numbers) (here g c) ∙ stands
+
+-- no entry grew
+pub returns-clause-sizes : goal.returns-clause-sizes
+returns-clause-sizes g c =
+    λ t. rw (here g c) (size-after c.args.self.now.settings.now c.args.now t (entry g c) (held g c)
+    c.act_on_due-fate.result c.requires.realm.list.in_order (own g c))
+
+pub returns-clause-keeps : goal.returns-clause-keeps
+returns-clause-keeps g c =
+    let config = c.args.self.now.settings.now in
+    let new = c.apply_action.new.self in
+    let loans = c.apply_action.ensures.loans in
+    let kept = c.requires.realm in
+    let list : IsEntryList (entries g.E.Entries new) = rw (here g c) (list-after config c.args.now (entry g c) (held g c) c.act_on_due-fate.result kept.list (own g c)) in
+    let sound : IsSound config (entries g.E.Entries new) new.numbers.now = rw (here g c, c.apply_action.ensures.numbers) ((fate g c).sound) in
+    record {
+      realm = record {
+        kept_here = rw (loans.keeps, loans.settings) kept.kept_here;
+        sound = subst (λ k. IsSound k (entries g.E.Entries new) new.numbers.now) (sym loans.settings) sound;
+        list = list;
+      };
+      loans = record {
+        settings = loans.settings;
+        same_entries = loans.same_entries;
+        same_numbers = loans.same_numbers;
+        keeps = loans.keeps;
+      };
+      others = (becomes g c).others;
+    }

@@ -1,0 +1,29 @@
+use Rattle.roam_book.specs.OnReply.{on_reply}
+use Rattle.roam_book.proofs.TurnLemmas.{not-ok, turns-lost, turns-settled}
+use Rattle.roam_book.proofs.state.realm_broker.RealmBroker.on_reply.Goals as goal
+
+-- no memory for the ledger, so that a packet would have been sent
+pub returns-in_err-change : goal.returns-in_err-change
+returns-in_err-change g c =
+    let plan = c.in_ok-answer.ensures.plan in
+    let made = c.prepare_ledger.ensures in
+    record {
+      turn = turns-lost g.E.Entries c.args.self.now c.prepare_ledger.new.self
+          c.from_residual-in_err-change.result _ c.from_residual-in_err-change.ensures.0 made.state
+          (λ none. not-ok c.prepare_ledger.result _ c.in_err-change.was
+          (made.succeeds (plan.silent none)))
+          made.keeps;
+    }
+
+-- the entry is settled
+pub returns : goal.returns
+returns g c =
+    let made = c.prepare_ledger.ensures in
+    let settled = c.settle.ensures in
+    record {
+      turn = turns-settled g.E.Entries c.args.self.now c.prepare_ledger.new.self c.settle.new.self
+          c.in_ok-answer.field-0.answer c.in_ok-answer.field-0.settled
+          (λ s. on_reply c.args.self.now.settings.now c.args.now s c.args.link c.args.octets.now)
+          c.in_ok-answer.ensures.plan made.state
+          made.keeps settled.state settled.keeps;
+    }

@@ -1,0 +1,98 @@
+-- How a new request is admitted, in steps: words of private functions alone (ours).
+use Rattle.std.specs.Prelude.{◌≡◌, ℕ, ◌<◌, ◌^◌, List, [], Option, Some, None, Result, Ok, Err, option_map, unwrap_or, is_some, true}
+use Rattle.roam_wire.specs.Reading.{packet_of}
+use Rattle.roam_wire.specs.declared.refusal.Refusal.{Refusal}
+use Rattle.roam_conf.specs.declared.place.Link.{Link}
+use Rattle.roam_fwd.specs.Forwarded.{forwarded_length}
+use Rattle.roam_pending.specs.PlainEntry.{PlainEntry, PlainRequest}
+use Rattle.roam_pending.specs.EntryList.{besides, find_client, first_done}
+use Rattle.roam_book.specs.RealmConfig.{RealmConfig, IsLink}
+use Rattle.roam_book.specs.RealmState.{RealmState, Target, next_toward}
+use Rattle.roam_book.specs.Turn.{Turn, Answers, refuses}
+use Rattle.roam_book.specs.OnRequest.{admit}
+use Rattle.roam_book.specs.Sound.{CountsAsGone, IsRequest, gone_ticket}
+use Rattle.roam_book.specs.Private.Memory.{HasBuffers, IsOuts}
+use Rattle.roam_book.specs.declared.rules.admit.Supplies.{Supplies}
+use Rattle.roam_book.specs.declared.rules.replaced.Replaced.{Replaced}
+use Rattle.roam_book.specs.declared.rules.requests.RequestPlan.{RequestPlan}
+use Rattle.roam_book.specs.declared.rules.requests.RequestPlan.TheVariants as plan
+use Rattle.roam_book.specs.declared.rules.admit_plan.AdmitPlan.{AdmitPlan}
+
+-- a link with its next free Identifier (0 where it has none)
+abbrev pub target_at : RealmConfig → List ℕ → List PlainEntry → Link → Target
+target_at c cursors entries l =
+    record { link = l; id = unwrap_or (next_toward c cursors entries l) 0 }
+
+-- a link has a free Identifier
+abbrev pub HasNext : RealmConfig → List ℕ → List PlainEntry → Link → Type 0
+HasNext c cursors entries l = is_some (next_toward c cursors entries l) ≡ true
+
+-- the link where an Identifier becomes free, if one does
+abbrev pub freed_link : Option Replaced → Option Link
+freed_link None = None
+freed_link (Some g) = option_map (λ p. p.0) g.waits_at
+
+-- the done entry of least ticket makes way, or none does
+abbrev pub MakesWay : Option ℕ → List PlainEntry → Type 0
+MakesWay None entries = Unit {0}
+MakesWay (Some ticket) entries = first_done entries ≡ Some ticket
+
+-- the entries once the one that counts as gone is gone, and once the done one that makes way is too
+abbrev pub once_gone : Option Replaced → List PlainEntry → List PlainEntry
+once_gone gone entries = besides (gone_ticket gone) entries
+
+abbrev pub left_by : AdmitPlan → List PlainEntry → List PlainEntry
+left_by way entries = besides way.done (once_gone way.gone entries)
+
+-- a way to a link where no entry has to go, or the one that counts as gone alone; a way once those
+-- that had to go are gone
+abbrev pub straight_to : Link → AdmitPlan
+straight_to link = record { gone = None; done = None; link = link }
+
+abbrev pub straight_after : Option Replaced → Link → AdmitPlan
+straight_after gone link = record { gone = gone; done = None; link = link }
+
+abbrev pub cleared : AdmitPlan → AdmitPlan
+cleared way = straight_to way.link
+
+-- a new request can go this way: what counts as gone and what makes way are there, the request's
+-- key is free then, and its link has a free Identifier
+pub record IsWay (c : RealmConfig) (s : RealmState) (q : PlainRequest) (way : AdmitPlan) : Type 0 where
+  pub request : IsRequest c q
+  pub ticket : s.ticket < 2 ^ 63
+  pub gone : CountsAsGone way.gone s.entries
+  pub key : find_client q.key (once_gone way.gone s.entries) ≡ None
+  pub done : MakesWay way.done (once_gone way.gone s.entries)
+  pub link : IsLink c way.link
+  pub free : HasNext c s.cursors (once_gone way.gone s.entries) way.link
+
+-- what a new request does that goes this way
+abbrev pub admits : RealmConfig → ℕ → RealmState → PlainRequest → AdmitPlan → Turn
+admits c now s q way =
+    admit c now s (left_by way s.entries) q
+    (target_at c s.cursors (once_gone way.gone s.entries) way.link)
+
+-- the way that was chosen for a new request at a moment does this turn; or it is refused in it
+pub record IsChosen (c : RealmConfig) (now : ℕ) (s : RealmState) (q : PlainRequest) (chosen : AdmitPlan)
+    (turn : Turn) : Type 0 where
+  pub way : IsWay c s q chosen
+  pub does : turn ≡ admits c now s q chosen
+
+abbrev pub Chooses :
+    RealmConfig → ℕ → RealmState → PlainRequest → Result AdmitPlan Refusal → Turn → Type 0
+Chooses c now s q (Ok way) turn = IsChosen c now s q way turn
+Chooses c now s q (Err why) turn = turn ≡ refuses why
+
+-- what a request is to do: it is answered, and nothing changes, or it is admitted on a way
+abbrev pub IsRequestPlan :
+    {A : Type 0} → RealmConfig → ℕ → RealmState → PlainRequest → RequestPlan A → Turn → Type 0
+IsRequestPlan c now s q (plan.Answered answer) turn = Answers answer s s turn
+IsRequestPlan c now s q (plan.Admitted way) turn = IsChosen c now s q way turn
+
+-- all the memory of a new request, besides its place among the entries: buffers of the size of the
+-- packet that is forwarded for it
+pub record AreSupplies {A : Type 0} (request : List ℕ) (s : Supplies A) : Type 0 where
+  pub octets : s.octets ≡ request
+  pub buffers : HasBuffers (forwarded_length (packet_of request)) s.buffers
+  pub copy : is_some s.buffers.copy ≡ s.outs.twice
+  pub outs : IsOuts 1 s.outs.twice [] s.outs

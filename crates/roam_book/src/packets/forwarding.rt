@@ -1,0 +1,256 @@
+//! A request as it is forwarded (RFC 2865, section 2.3).
+
+ghost use Rattle.std.specs.Prelude.{◌≡◌, ℕ, ◌<◌, ◌≤◌, ◌==◌, ◌+◌, ◌%◌, ◌^◌, ◌++◌};
+ghost use Rattle.std.specs.Prelude.{List, [], ◌∷◌, Some, None, true, IfSome, is_some, length, slice_set, vec_len};
+ghost use Rattle.std.specs.Prelude.{vec_capacity};
+ghost use Rattle.roam_wire.specs.Reading.{IsPacketText, packet_of};
+ghost use Rattle.roam_wire.specs.declared.code.TheConstants.{ACCESS_REQUEST};
+ghost use Rattle.roam_fwd.specs.Forwarded.{forwarded_length};
+ghost use Rattle.roam_pending.specs.PlainEntry.{PlainEntry, PlainRequest};
+ghost use Rattle.roam_pending.specs.EntryList.{IsEntryList, find_ticket, put};
+ghost use Rattle.roam_pending.specs.Shown.{shown_standing};
+ghost use Rattle.roam_pending.specs.declared.entry.Standing.TheVariants as standing;
+ghost use Rattle.roam_route.specs.Shown.{shown_out};
+ghost use Rattle.roam_book.specs.RealmConfig.{IsLink, link_place, link_count};
+ghost use Rattle.roam_book.specs.RealmState.{next_toward};
+ghost use Rattle.roam_book.specs.Rests.{after_choice};
+ghost use Rattle.roam_book.specs.OnRequest.{packet_to_link, packet_to_requester, drawn_at, position_after};
+ghost use Rattle.roam_book.specs.OnRequest.{forwarded_octets};
+ghost use Rattle.roam_book.specs.OnRequest.{forwarded_entry};
+ghost use Rattle.roam_book.specs.Private.Memory.{HasBuffers, HasRoom, IsCopied};
+ghost use Rattle.roam_book.specs.Sound.{shown_request, IsRequest, LanesTell, IsWaiting, lane_of, cursors_of, has_free};
+ghost use Rattle.roam_book.specs.Sound.{marks_of};
+
+use crate::packets::buffers::{Buffers, copied_into};
+use crate::state::realm_numbers::RealmNumbers;
+use crate::state::realm_settings::RealmSettings;
+use roam_conf::{Link, Place};
+use roam_fwd::forward_reserved;
+use roam_pending::{Key, Requester, Waiting};
+use roam_random::{next_position, request_authenticator};
+use roam_route::Out;
+use roam_wire::code::ACCESS_REQUEST;
+use roam_wire::{Octets, View};
+use std::alloc::Allocator;
+
+/// A request of a realm: what tells it from others, who sent it, and its octets up to Length.
+#[derive(Clone, Copy)]
+pub struct RequestRef<'a> {
+    pub key: Key,
+    pub requester: Requester,
+    /// The realm that its first User-Name names, if it names one. Only of a reverse request that is
+    /// new it is asked; of one that goes on to another link it is left out.
+    pub named: Option<u16>,
+    pub octets: &'a [u8],
+}
+
+/// A request that is forwarded: the ticket that it has, and the link to which it goes.
+#[derive(Clone, Copy)]
+pub(crate) struct Hop<'a> {
+    pub asked: RequestRef<'a>,
+    pub ticket: u64,
+    pub link: Link,
+}
+
+/// A packet that is sent, and an equal one where it is wanted twice.
+#[derive(Drop)]
+pub(crate) struct PacketCopies<A: Allocator> {
+    pub out: Out<A>,
+    pub copy: Option<Out<A>>,
+}
+
+/// A packet of the realm toward a link.
+pub(crate) fn packet_to_link<A: Allocator>(
+    settings: &RealmSettings<'_>,
+    link: Link,
+    bytes: Octets<A>,
+) -> Out<A>
+    requires { IsLink settings.now link }
+    ensures { shown_out result ≡ packet_to_link settings.now link bytes }
+{
+    Out {
+        realm: Some(settings.index()),
+        from: Place::Out(settings.index()),
+        to: settings.endpoint_of(link),
+        bytes,
+    }
+}
+
+/// A packet of the realm back to the sender of a request.
+pub(crate) fn packet_to_requester<A: Allocator>(
+    settings: &RealmSettings<'_>,
+    key: Key,
+    bytes: Octets<A>,
+) -> Out<A>
+    ensures { shown_out result ≡ packet_to_requester settings.now key bytes }
+{
+    Out {
+        realm: Some(settings.index()),
+        from: key.place,
+        to: key.from,
+        bytes,
+    }
+}
+
+impl<A: Allocator> PacketCopies<A> {
+    /// A packet, and its copy where there is a buffer for one.
+    pub(crate) fn new(out: Out<A>, copy: Option<Vec<u8, A>>) -> PacketCopies<A>
+        requires copy { IfSome copy (λ v. HasRoom (length out.bytes) v) }
+        ensures out { result.out ≡ out }
+        ensures copied { IsCopied (is_some copy) result }
+    {
+        let copy = match copy {
+            None => None,
+            Some(buffer) => {
+                Some(Out {
+                    realm: out.realm,
+                    from: out.from,
+                    to: out.to,
+                    bytes: copied_into(buffer, out.bytes.as_slice()),
+                })
+            }
+        };
+        PacketCopies { out, copy }
+    }
+}
+
+/// Whether random words are drawn for a request: its octets are a packet's.
+fn draws(octets: &[u8]) -> bool
+    requires { IsPacketText octets.now }
+    ensures { (packet_of octets.now).code == ACCESS_REQUEST ≡ result }
+{
+    View::of_packet(octets).code() == ACCESS_REQUEST
+}
+
+/// The Authenticator that is drawn for a forwarded packet: the four words of the realm's stream from
+/// this position on (RFC 2865, section 3), and zeros where none is drawn.
+fn drawn_at(settings: &RealmSettings<'_>, asked: RequestRef<'_>, position: u128) -> [u8; 16]
+    requires { IsPacketText asked.octets.now }
+    ensures { result ≡ drawn_at settings.now (shown_request asked.entry) position }
+{
+    if draws(asked.octets) {
+        request_authenticator(settings.seed(), u64::from(settings.index()), position)
+    } else {
+        [0; 16]
+    }
+}
+
+/// The position of the realm's stream after it.
+fn position_after(asked: RequestRef<'_>, position: u128) -> u128
+    requires { IsPacketText asked.octets.now }
+    ensures { result ≡ position_after (shown_request asked.entry) position }
+{
+    if draws(asked.octets) {
+        next_position(position)
+    } else {
+        position
+    }
+}
+
+/// Writes the forwarded packet of a request into an empty buffer that has room for it, with what is
+/// drawn from this position on.
+fn forward_into<A: Allocator>(
+    settings: &RealmSettings<'_>,
+    hop: Hop<'_>,
+    position: u128,
+    id: u8,
+    out: &mut Vec<u8, A>,
+)
+    requires request { IsRequest settings.now (shown_request hop.asked) }
+    requires link { IsLink settings.now hop.link }
+    requires room { HasRoom (forwarded_length (packet_of hop.asked.octets.now)) out.old }
+    ensures octets { out.new.items
+        ≡ forwarded_octets settings.now (shown_request hop.entry.asked) position hop.entry.ticket
+        (record { link = hop.entry.link; id = id }) }
+    ensures waiting { IsWaiting settings.now (shown_request hop.entry.asked) hop.entry.link id out.new.items }
+    ensures size { length out.new.items
+        ≡ forwarded_length (packet_of (shown_request hop.entry.asked).octets) }
+{
+    let request = View::of_packet(hop.asked.octets);
+    let from_secret = settings.secret_of_requester(hop.asked.requester);
+    let to_secret = settings.secret_of_link(hop.link);
+    let authenticator = drawn_at(settings, hop.asked, position);
+    forward_reserved(
+        &request,
+        from_secret,
+        to_secret,
+        id,
+        authenticator,
+        hop.ticket,
+        out,
+    );
+}
+
+/// Forwards a request to a link that has a free Identifier: the next one is its Identifier there,
+/// and belongs to its ticket from now on, the words that it draws are spent, and where the link rests,
+/// its rest is put off. Gives the packet that is sent, and how the request then waits. Takes no memory.
+pub(crate) fn send_new<A: Allocator + Copy>(
+    settings: &RealmSettings<'_>,
+    numbers: &mut RealmNumbers<A>,
+    now: u64,
+    hop: Hop<'_>,
+    buffers: Buffers<A>,
+) -> (PacketCopies<A>, Waiting<A>)
+    requires moment { now ≤ 2 ^ 62 }
+    requires request { IsRequest settings.now (shown_request hop.asked) }
+    requires link { IsLink settings.now hop.link }
+    requires count { length numbers.old.lanes.items ≡ link_count settings.now }
+    requires free { has_free (lane_of settings.now numbers.old.lanes.items hop.link) ≡ true }
+    requires made { (lane_of settings.now numbers.old.lanes.items hop.link).made ≡ true }
+    requires buffers { HasBuffers (forwarded_length (packet_of hop.asked.octets.now)) buffers }
+    ensures next { (es : List PlainEntry) → IsEntryList es
+        → LanesTell settings.now es numbers.old.lanes.items
+        → next_toward settings.now (cursors_of numbers.old.lanes.items) es hop.entry.link ≡ Some result.1.id }
+    ensures out { shown_out result.0.out ≡ packet_to_link settings.now hop.entry.link
+        (forwarded_octets settings.now
+        (shown_request hop.entry.asked) numbers.old.stream_position hop.entry.ticket
+        (record { link = hop.entry.link; id = result.1.id })) }
+    ensures copied { IsCopied (is_some buffers.copy) result.0 }
+    ensures standing { shown_standing (standing.Waiting result.1)
+        ≡ (forwarded_entry settings.now now (shown_request hop.entry.asked)
+        numbers.old.stream_position hop.entry.ticket (record { link = hop.entry.link; id = result.1.id })).standing }
+    ensures waiting { IsWaiting settings.now (shown_request hop.entry.asked) hop.entry.link result.1.id
+        result.1.forwarded }
+    ensures cursors { cursors_of numbers.new.lanes.items
+        ≡ slice_set (cursors_of numbers.old.lanes.items) (link_place settings.now hop.entry.link)
+        ((result.1.id + 1) % 256) }
+
+    // The lanes then tell the entry that waits there too.
+    ensures tells { (es : List PlainEntry) → LanesTell settings.now es numbers.old.lanes.items
+        → find_ticket hop.entry.ticket es ≡ None
+        → LanesTell settings.now
+        (put (forwarded_entry settings.now now (shown_request hop.entry.asked)
+        numbers.old.stream_position hop.entry.ticket (record { link = hop.entry.link; id = result.1.id })) es)
+        numbers.new.lanes.items }
+    ensures marks { marks_of numbers.new.lanes.items ≡ marks_of numbers.old.lanes.items }
+    ensures count { length numbers.new.lanes.items ≡ length numbers.old.lanes.items }
+    ensures ticket { numbers.new.ticket ≡ numbers.old.ticket }
+    ensures stream_position { numbers.new.stream_position
+        ≡ position_after (shown_request hop.entry.asked) numbers.old.stream_position }
+    ensures sessions { numbers.new.sessions ≡ numbers.old.sessions }
+    ensures rests { numbers.new.rests.items
+        ≡ after_choice settings.now now numbers.old.rests.items hop.entry.link }
+{
+    let Some(id) = numbers.take_next(settings, hop.link, hop.ticket) else {
+        unreachable!();
+    };
+    let Buffers {
+        mut sent,
+        kept,
+        copy,
+    } = buffers;
+    let position = numbers.stream_position;
+    forward_into(settings, hop, position, id, &mut sent);
+    numbers.stream_position = position_after(hop.asked, position);
+    numbers.put_off(settings, now, hop.link);
+    let forwarded = copied_into(kept, sent.as_slice());
+    let waiting = Waiting {
+        link: hop.link,
+        id,
+        forwarded,
+        sends_left: settings.tries().saturating_sub(1),
+        deadline: now + u64::from(settings.wait()),
+    };
+    let out = packet_to_link(settings, hop.link, Octets::from_vec(sent));
+    (PacketCopies::new(out, copy), waiting)
+}

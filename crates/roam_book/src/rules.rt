@@ -1,0 +1,12 @@
+//! What a request, a reply, a tick and a changed configuration do to a realm.
+
+pub mod admit;
+pub mod admit_plan;
+pub mod due_action;
+pub mod evict_done;
+pub mod reload;
+pub mod replaced;
+pub mod replies;
+pub mod reply_outcome;
+pub mod requests;
+pub mod ticks;

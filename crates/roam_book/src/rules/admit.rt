@@ -1,0 +1,236 @@
+//! How a new request is admitted, once its way is chosen: memory is taken, way is made, and the
+//! request is forwarded.
+
+ghost use Rattle.std.specs.Prelude.{◌≡◌, ℕ, ◌+◌, ◌<◌, ◌≤◌, ◌^◌, ◌∷◌, [], true, IfErr};
+ghost use Rattle.std.specs.Prelude.{IfOk, OnOk, is_some};
+ghost use Rattle.roam_wire.specs.Reading.{IsPacketText, packet_of};
+ghost use Rattle.roam_fwd.specs.Forwarded.{forwarded_length};
+ghost use Rattle.roam_pending.specs.PlainEntry.{PlainRequest};
+ghost use Rattle.roam_pending.specs.EntryList.{besides};
+ghost use Rattle.roam_route.specs.Shown.{shown_out};
+ghost use Rattle.roam_book.specs.Private.Memory.{HasBuffers, IsCopied, Tells};
+ghost use Rattle.roam_book.specs.RealmConfig.{IsLink};
+ghost use Rattle.roam_book.specs.Private.NewEntry.{AreSupplies, IsWay, MakesWay, admits, cleared, straight_to};
+ghost use Rattle.roam_book.specs.RealmTurn.{IsRealm, Keeps, entries, room, state};
+ghost use Rattle.roam_book.specs.Sound.{CountsAsGone, IsSameButSlots, gone_ticket, lane_of, marks_of, shown_request};
+ghost use Rattle.roam_book.specs.Turn.{packets_of, state_after};
+
+use crate::packets::answer::AnswerCopies;
+use crate::packets::answer_builder::AnswerBuilder;
+use crate::packets::buffers::Buffers;
+use crate::packets::forwarding::{Hop, PacketCopies, RequestRef, send_new};
+use crate::rules::admit_plan::AdmitPlan;
+use crate::rules::replaced::Replaced;
+use crate::state::realm_broker::RealmBroker;
+use roam_conf::Link;
+use roam_fwd::forwarded_len;
+use roam_pending::{Entries, Entry, Request, Standing, insert_entry};
+use roam_wire::{NoMemory, Octets, View};
+use std::alloc::Allocator;
+
+/// All memory that a new request may want, besides its place among the entries.
+#[derive(Drop)]
+pub(crate) struct Supplies<A: Allocator> {
+    pub octets: Octets<A>,
+    pub buffers: Buffers<A>,
+    pub outs: AnswerBuilder<A>,
+}
+
+impl<A: Allocator + Copy> Supplies<A> {
+    /// All the memory that a new request of these octets may want: the buffers have the size of the
+    /// packet that is forwarded for it.
+    fn new(alloc: A, octets: &[u8], twice: bool) -> Result<Supplies<A>, NoMemory>
+        requires { IsPacketText octets.now }
+        ensures supplies { IfOk result (λ s. AreSupplies octets.now s) }
+        ensures twice { IfOk result (λ s. s.outs.twice ≡ twice) }
+    {
+        let size = forwarded_len(&View::of_packet(octets));
+        let buffers = Buffers::new(alloc, size, twice)?;
+        let outs = AnswerBuilder::new(alloc, 1, twice)?;
+        let octets = Octets::copy_of(alloc, octets)?;
+        Ok(Supplies {
+            octets,
+            buffers,
+            outs,
+        })
+    }
+}
+
+impl<A: Allocator + Copy, E: Entries<A>> RealmBroker<'_, '_, '_, '_, A, E> {
+    /// Takes away the entry that counts as gone: the Identifier with which it waits is free again.
+    fn take_away_gone(&mut self, gone: Option<Replaced>)
+        requires realm { IsRealm E.Entries self.old }
+        requires gone { CountsAsGone gone (entries E.Entries self.old) }
+        ensures entries { entries E.Entries self.new
+            ≡ besides (gone_ticket gone) (entries E.Entries self.old) }
+        ensures numbers { IsSameButSlots self.old.numbers.now self.new.numbers.now }
+        ensures room { room E.Entries self.old ≤ room E.Entries self.new }
+        ensures keeps { Keeps E.Entries self.old self.new }
+    {
+        let Some(gone) = gone else {
+            return;
+        };
+        let _gone = self.entries.remove(self.settings.index(), gone.ticket);
+        if let Some((link, id)) = gone.waits_at {
+            self.numbers.give_back(self.settings, link, id);
+        }
+    }
+
+    /// Takes away the done entry that makes way, if one does: it holds no Identifier.
+    fn take_away_done(&mut self, done: Option<u64>)
+        requires realm { IsRealm E.Entries self.old }
+        requires done { MakesWay done (entries E.Entries self.old) }
+        ensures entries { entries E.Entries self.new ≡ besides done (entries E.Entries self.old) }
+        ensures numbers { self.new.numbers.now ≡ self.old.numbers.now }
+        ensures room { room E.Entries self.old ≤ room E.Entries self.new }
+        ensures keeps { Keeps E.Entries self.old self.new }
+    {
+        if let Some(ticket) = done {
+            let _done = self.entries.remove(self.settings.index(), ticket);
+        }
+    }
+
+    /// Makes way for a new request: the entry that counts as gone goes, and the done one that makes
+    /// way, where there are such.
+    fn make_way(&mut self, way: AdmitPlan)
+        requires realm { IsRealm E.Entries self.old }
+        requires gone { CountsAsGone way.gone (entries E.Entries self.old) }
+        requires done { MakesWay way.done
+            (besides (gone_ticket way.gone) (entries E.Entries self.old)) }
+        ensures way { (q : PlainRequest)
+            → IsWay self.old.settings.now (state E.Entries self.old) q way
+            → IsWay self.old.settings.now (state E.Entries self.new) q (cleared way) }
+        ensures turn { (now : ℕ) (q : PlainRequest)
+            → IsWay self.old.settings.now (state E.Entries self.old) q way
+            → admits self.old.settings.now now (state E.Entries self.new) q (cleared way)
+            ≡ admits self.old.settings.now now (state E.Entries self.old) q way }
+        ensures marks { marks_of self.new.numbers.now.lanes.items
+            ≡ marks_of self.old.numbers.now.lanes.items }
+        ensures room { room E.Entries self.old ≤ room E.Entries self.new }
+        ensures keeps { Keeps E.Entries self.old self.new }
+    {
+        self.take_away_gone(way.gone);
+        self.take_away_done(way.done);
+    }
+
+    /// Takes the memory of a link's lane, where that isn't there. The realm is as it was.
+    fn make_lane(&mut self, link: Link) -> Result<(), NoMemory>
+        requires realm { IsRealm E.Entries self.old }
+        requires link { IsLink self.old.settings.now link }
+        ensures made { OnOk result
+            ((lane_of self.old.settings.now self.new.numbers.now.lanes.items link).made ≡ true) }
+        ensures state { state E.Entries self.new ≡ state E.Entries self.old }
+        ensures room { room E.Entries self.new ≡ room E.Entries self.old }
+        ensures keeps { Keeps E.Entries self.old self.new }
+    {
+        self.numbers.make_lane(self.settings, link)
+    }
+
+    /// Forwards a new request to a link that has a free Identifier, under the next ticket. Its
+    /// entry is put where there is room. Gives the packet that is sent. Takes no memory.
+    fn forward_new(
+        &mut self,
+        now: u64,
+        asked: RequestRef<'_>,
+        link: Link,
+        octets: Octets<A>,
+        buffers: Buffers<A>,
+    ) -> PacketCopies<A>
+        requires realm { IsRealm E.Entries self.old }
+        requires moment { now ≤ 2 ^ 62 }
+        requires way { IsWay self.old.settings.now (state E.Entries self.old) (shown_request asked)
+            (straight_to link) }
+        requires made { (lane_of self.old.settings.now self.old.numbers.now.lanes.items link).made
+            ≡ true }
+        requires room { 0 < room E.Entries self.old }
+        requires octets { octets ≡ asked.octets.now }
+        requires buffers { HasBuffers (forwarded_length (packet_of asked.octets.now)) buffers }
+        ensures out { shown_out result.out ∷ [] ≡ packets_of (admits self.old.settings.now now
+            (state E.Entries self.old) (shown_request asked.entry) (straight_to link)) }
+        ensures copied { IsCopied (is_some buffers.copy) result }
+        ensures state { state E.Entries self.new ≡ state_after (state E.Entries self.old)
+            (admits self.old.settings.now now (state E.Entries self.old) (shown_request asked.entry)
+            (straight_to link)) }
+        ensures keeps { Keeps E.Entries self.old self.new }
+    {
+        let ticket = self.numbers.ticket;
+        let hop = Hop {
+            asked,
+            ticket,
+            link,
+        };
+        let (sent, waiting) = send_new(self.settings, self.numbers, now, hop, buffers);
+        let request = Request {
+            key: asked.key,
+            requester: asked.requester,
+            octets,
+            came: now,
+        };
+        let entry = Entry {
+            request,
+            ticket,
+            standing: Standing::Waiting(waiting),
+        };
+        insert_entry(self.entries, self.settings.index(), entry);
+        self.numbers.ticket += 1;
+        sent
+    }
+
+    /// Admits a new request where all memory is there: way is made for it, and it is forwarded.
+    fn admit_reserved(
+        &mut self,
+        now: u64,
+        asked: RequestRef<'_>,
+        way: AdmitPlan,
+        supplies: Supplies<A>,
+    ) -> AnswerCopies<A>
+        requires realm { IsRealm E.Entries self.old }
+        requires moment { now ≤ 2 ^ 62 }
+        requires way { IsWay self.old.settings.now (state E.Entries self.old)
+            (shown_request asked) way }
+        requires made { (lane_of self.old.settings.now self.old.numbers.now.lanes.items way.link).made
+            ≡ true }
+        requires room { 0 < room E.Entries self.old }
+        requires supplies { AreSupplies asked.octets.now supplies }
+        ensures turn { Tells supplies.outs.twice result (state E.Entries self.old)
+            (state E.Entries self.new) (admits self.old.settings.now now (state E.Entries self.old)
+            (shown_request asked.entry) way) }
+        ensures keeps { Keeps E.Entries self.old self.new }
+    {
+        self.make_way(way);
+        let Supplies {
+            octets,
+            buffers,
+            mut outs,
+        } = supplies;
+        let sent = self.forward_new(now, asked, way.link, octets, buffers);
+        outs.push(sent);
+        outs.finish()
+    }
+
+    /// Admits a new request on the way that was chosen. First all memory is taken: where a growth
+    /// is refused, the realm is as it was.
+    pub(crate) fn admit(
+        &mut self,
+        now: u64,
+        asked: RequestRef<'_>,
+        way: AdmitPlan,
+        twice: bool,
+    ) -> Result<AnswerCopies<A>, NoMemory>
+        requires realm { IsRealm E.Entries self.old }
+        requires moment { now ≤ 2 ^ 62 }
+        requires way { IsWay self.old.settings.now (state E.Entries self.old)
+            (shown_request asked) way }
+        ensures turn { IfOk result (λ told. Tells twice told (state E.Entries self.old)
+            (state E.Entries self.new) (admits self.old.settings.now now (state E.Entries self.old)
+            (shown_request asked.entry) way)) }
+        ensures no_memory { IfErr result (λ e.
+            state E.Entries self.new ≡ state E.Entries self.old) }
+        ensures keeps { Keeps E.Entries self.old self.new }
+    {
+        let supplies = Supplies::new(self.numbers.alloc, asked.octets, twice)?;
+        self.make_lane(way.link)?;
+        self.entries.reserve(self.settings.index())?;
+        Ok(self.admit_reserved(now, asked, way, supplies))
+    }
+}

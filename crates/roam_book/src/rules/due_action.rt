@@ -1,0 +1,256 @@
+//! What becomes of an entry that is due.
+
+ghost use Rattle.std.specs.Prelude.{◌≡◌, ◌≤◌, ◌+◌, ◌^◌, List, true, IfSome, is_some, length};
+ghost use Rattle.roam_pending.specs.PlainEntry.{PlainEntry, waits_at};
+ghost use Rattle.roam_pending.specs.EntryList.{without};
+ghost use Rattle.roam_pending.specs.Shown.{shown};
+ghost use Rattle.roam_route.specs.Shown.{shown_out};
+ghost use Rattle.roam_book.specs.RealmConfig.{IsLink, link_count, later_targets};
+ghost use Rattle.roam_book.specs.RealmState.{chosen_target};
+ghost use Rattle.roam_book.specs.Rests.{after_silence};
+ghost use Rattle.roam_book.specs.OnRequest.{is_reverse, packet_to_link};
+ghost use Rattle.roam_book.specs.OnTick.{due_standing, fail_over, given_up_at};
+ghost use Rattle.roam_book.specs.Sound.{AreOwnLanes, IsEntry, IsRequest, cursors_of, chosen_link, has_free, lane_of};
+ghost use Rattle.roam_book.specs.Sound.{marks_of, state_of};
+ghost use Rattle.roam_book.specs.Private.Fates.{GivesUp, held_for, IsHeld, IsFate, IsFateCopied};
+ghost use Rattle.roam_book.specs.Private.Memory.{HasBuffers, IsCopied};
+
+use crate::packets::buffers::{Buffers, copied_into};
+use crate::packets::forwarding::{
+    Hop, PacketCopies, RequestRef, packet_to_link, packet_to_requester, send_new,
+};
+use crate::state::realm_numbers::RealmNumbers;
+use crate::state::realm_settings::RealmSettings;
+use crate::state::service::{ServersFrom, Service};
+use roam_back::nak_reserved;
+use roam_conf::Link;
+use roam_pending::{Done, Entry, Standing, Waiting};
+use roam_reverse::error_cause::OTHER_PROXY_PROCESSING_ERROR;
+use roam_route::is_reverse_request;
+use roam_wire::{Octets, View};
+use std::alloc::Allocator;
+
+/// What becomes of an entry that is due.
+#[derive(Drop)]
+pub(crate) enum DueAction<A: Allocator> {
+    /// It goes.
+    Expired,
+    /// Its packet is sent to its link again.
+    SentAgain(PacketCopies<A>),
+    /// Its request is forwarded to another link, where it then waits.
+    Forwarded(PacketCopies<A>, Waiting<A>),
+    /// Its request, a reverse one, is answered by a NAK, which is then held, or it goes.
+    Refused(PacketCopies<A>, Option<Done<A>>),
+}
+
+/// The forwarded packet of a waiting request, once more.
+fn packet_again<A: Allocator>(
+    settings: &RealmSettings<'_>,
+    waiting: &Waiting<A>,
+    buffers: Buffers<A>,
+) -> PacketCopies<A>
+    requires link { IsLink settings.now waiting.now.link }
+    requires buffers { HasBuffers (length waiting.now.forwarded) buffers }
+    ensures out { shown_out result.out
+        ≡ packet_to_link settings.now waiting.now.link waiting.now.forwarded }
+    ensures copied { IsCopied (is_some buffers.copy) result }
+{
+    let Buffers {
+        sent,
+        kept: _,
+        copy,
+    } = buffers;
+    let bytes = copied_into(sent, waiting.forwarded.as_slice());
+    PacketCopies::new(packet_to_link(settings, waiting.link, bytes), copy)
+}
+
+/// The target that is chosen at a moment among those after a link.
+fn later_target<A: Allocator + Copy>(
+    settings: &RealmSettings<'_>,
+    numbers: &RealmNumbers<A>,
+    now: u64,
+    link: Link,
+) -> Option<Link>
+    requires count { length numbers.now.lanes.items ≡ link_count settings.now }
+    requires lanes { AreOwnLanes settings.now (marks_of numbers.now.lanes.items) }
+    ensures chosen { result ≡ chosen_link settings.now now numbers.now.rests.items
+        numbers.now.lanes.items None (later_targets settings.now link) }
+    ensures link { IfSome result (λ l. IsLink settings.now l) }
+    ensures free { IfSome result (λ l. has_free (lane_of settings.now numbers.now.lanes.items l)
+        ≡ true) }
+    ensures made { IfSome result (λ l. (lane_of settings.now numbers.now.lanes.items l).made
+        ≡ true) }
+{
+    match link {
+        Link::Auth(server) => {
+            let servers = ServersFrom {
+                service: Service::Authentication,
+                first: usize::from(server) + 1,
+            };
+            numbers.chosen(settings, now, servers, None)
+        }
+        Link::Acct(server) => {
+            let servers = ServersFrom {
+                service: Service::Accounting,
+                first: usize::from(server) + 1,
+            };
+            numbers.chosen(settings, now, servers, None)
+        }
+        Link::Coa(_) => None,
+    }
+}
+
+/// How a reply is held from a moment on: until `now + hold`, where replies are held.
+fn held_for<A: Allocator>(
+    settings: &RealmSettings<'_>,
+    now: u64,
+    reply: Octets<A>,
+) -> Option<Done<A>>
+    requires { now ≤ 2 ^ 62 }
+    ensures { result ≡ held_for settings.now now reply }
+{
+    if settings.hold() == 0 {
+        return None;
+    }
+    Some(Done {
+        reply,
+        deadline: now + u64::from(settings.hold()),
+    })
+}
+
+/// The NAK of a reverse request that no access server answered (RFC 5176, section 3.5): it is sent,
+/// and held until `now + hold` where replies are held.
+fn refuse<A: Allocator>(
+    settings: &RealmSettings<'_>,
+    now: u64,
+    entry: &Entry<A>,
+    buffers: Buffers<A>,
+) -> DueAction<A>
+    requires moment { now ≤ 2 ^ 62 }
+    requires request { IsRequest settings.now (shown entry.now).request }
+    requires reverse { is_reverse (shown entry.now).request ≡ true }
+    requires buffers { HasBuffers (length entry.now.request.octets + 46) buffers }
+    ensures fate { GivesUp settings.now now (shown entry.now) result }
+    ensures copied { IsFateCopied (is_some buffers.copy) result }
+{
+    let request = View::of_packet(entry.request.octets.as_slice());
+    let secret = settings.secret_of_requester(entry.request.requester);
+    let Buffers {
+        mut sent,
+        kept,
+        copy,
+    } = buffers;
+    nak_reserved(&request, OTHER_PROXY_PROCESSING_ERROR, secret, &mut sent);
+    let held = held_for(settings, now, copied_into(kept, sent.as_slice()));
+    let out = packet_to_requester(settings, entry.request.key, Octets::from_vec(sent));
+    DueAction::Refused(PacketCopies::new(out, copy), held)
+}
+
+/// A request that no target answers: a reverse request is answered by a NAK, any other just goes.
+fn give_up<A: Allocator>(
+    settings: &RealmSettings<'_>,
+    now: u64,
+    entry: &Entry<A>,
+    buffers: Buffers<A>,
+) -> DueAction<A>
+    requires moment { now ≤ 2 ^ 62 }
+    requires request { IsRequest settings.now (shown entry.now).request }
+    requires buffers { HasBuffers (length entry.now.request.octets + 46) buffers }
+    ensures fate { GivesUp settings.now now (shown entry.now) result }
+    ensures copied { IsFateCopied (is_some buffers.copy) result }
+{
+    let request = View::of_packet(entry.request.octets.as_slice());
+    if is_reverse_request(request.code()) {
+        refuse(settings, now, entry, buffers)
+    } else {
+        DueAction::Expired
+    }
+}
+
+/// Gives back the Identifier of an entry that isn't sent to its link again, counts that silence there,
+/// and forwards the request to the target that is then chosen, where there is one.
+fn fail_over<A: Allocator + Copy>(
+    settings: &RealmSettings<'_>,
+    numbers: &mut RealmNumbers<A>,
+    now: u64,
+    entry: &Entry<A>,
+    link: Link,
+    id: u8,
+    buffers: Buffers<A>,
+) -> DueAction<A>
+    requires moment { now ≤ 2 ^ 62 }
+    requires count { length numbers.old.lanes.items ≡ link_count settings.now }
+    requires lanes { AreOwnLanes settings.now (marks_of numbers.old.lanes.items) }
+    requires entry { IsEntry settings.now numbers.old.ticket (shown entry.now) }
+    requires link { IsLink settings.now link }
+    requires waits { waits_at link id (shown entry.now) ≡ true }
+    requires buffers { HasBuffers (length entry.now.request.octets + 46) buffers }
+    ensures fate { (es : List PlainEntry) → IsHeld settings.now es (shown entry.now) numbers.old
+        → IsFate settings.now now es (shown entry.now) numbers.new result
+        (fail_over settings.now now
+        (given_up_at settings.now now link (state_of es numbers.old) (shown entry.now))
+        (shown entry.now)
+        (chosen_target settings.now now
+        (after_silence settings.now now numbers.old.rests.items link)
+        (cursors_of numbers.old.lanes.items) (without entry.now.ticket es)
+        (later_targets settings.now link))) }
+    ensures copied { IsFateCopied (is_some buffers.copy) result }
+{
+    numbers.give_back(settings, link, id);
+    numbers.count_silence(settings, now, link);
+    let Some(target) = later_target(settings, numbers, now, link) else {
+        return give_up(settings, now, entry, buffers);
+    };
+    let asked = RequestRef {
+        key: entry.request.key,
+        requester: entry.request.requester,
+        named: None,
+        octets: entry.request.octets.as_slice(),
+    };
+    let hop = Hop {
+        asked,
+        ticket: entry.ticket,
+        link: target,
+    };
+    let (sent, waiting) = send_new(settings, numbers, now, hop, buffers);
+    DueAction::Forwarded(sent, waiting)
+}
+
+/// What becomes of a due entry, by how it stands.
+pub(crate) fn act_on_due<A: Allocator + Copy>(
+    settings: &RealmSettings<'_>,
+    numbers: &mut RealmNumbers<A>,
+    now: u64,
+    entry: &Entry<A>,
+    buffers: Buffers<A>,
+) -> DueAction<A>
+    requires moment { now ≤ 2 ^ 62 }
+    requires count { length numbers.old.lanes.items ≡ link_count settings.now }
+    requires lanes { AreOwnLanes settings.now (marks_of numbers.old.lanes.items) }
+    requires entry { IsEntry settings.now numbers.old.ticket (shown entry.now) }
+    requires buffers { HasBuffers (length entry.now.request.octets + 46) buffers }
+    ensures fate { (es : List PlainEntry) → IsHeld settings.now es (shown entry.now) numbers.old
+        → IsFate settings.now now es (shown entry.now) numbers.new result
+        (due_standing settings.now now (state_of es numbers.old) (shown entry.now)
+        (shown entry.now).standing) }
+    ensures copied { IsFateCopied (is_some buffers.copy) result }
+{
+    match &entry.standing {
+        Standing::Done(_) => DueAction::Expired,
+        Standing::Waiting(waiting) => {
+            if waiting.sends_left > 0 {
+                DueAction::SentAgain(packet_again(settings, waiting, buffers))
+            } else {
+                fail_over(
+                    settings,
+                    numbers,
+                    now,
+                    entry,
+                    waiting.link,
+                    waiting.id,
+                    buffers,
+                )
+            }
+        }
+    }
+}

@@ -1,0 +1,215 @@
+//! What a reply does to its realm (RFC 2865, section 2.3).
+//!
+//! First it is decided what the answer is and which entry is done then, and all memory is taken, that
+//! of the ledger of sessions too; that changes nothing. Then the entry is settled.
+
+ghost use Rattle.std.specs.Prelude.{◌≡◌, ◌≤◌, ◌^◌, [], None, IfOk, IsOk};
+ghost use Rattle.roam_wire.specs.Reading.{IsPacketText};
+ghost use Rattle.roam_pending.specs.EntryList.{find_link};
+ghost use Rattle.roam_pending.specs.Shown.{seen};
+ghost use Rattle.roam_book.specs.RealmConfig.{RealmConfig};
+ghost use Rattle.roam_book.specs.RealmState.{RealmState};
+ghost use Rattle.roam_book.specs.Turn.{packets_of, refuses};
+ghost use Rattle.roam_book.specs.OnReply.{on_reply, to_entry};
+ghost use Rattle.roam_book.specs.RealmTurn.{IsRealm, Keeps, Turns, TurnsTwice, entries, state};
+ghost use Rattle.roam_book.specs.Private.ReplyPlans.{CanSettle, IsPrepared, IsReplyPlan, once_settled};
+
+use crate::packets::answer::{Answer, Twin, refused};
+use crate::rules::reply_outcome::{ReplyOutcome, to_standing};
+use crate::rules::requests::LATEST;
+use crate::state::realm_broker::RealmBroker;
+use roam_conf::Link;
+use roam_pending::{Done, Entries, Entry, Standing, set_standing};
+use roam_reverse::PreparedChange;
+use roam_wire::{NoMemory, Refusal, View};
+use std::alloc::Allocator;
+
+/// An entry that is to be done: its ticket, and where it waits so far.
+#[derive(Drop)]
+pub(crate) struct Settled<A: Allocator> {
+    pub ticket: u64,
+    pub link: Link,
+    pub id: u8,
+    pub done: Done<A>,
+    /// The peer whose sessions change then, if any do.
+    pub counted: Option<u16>,
+}
+
+/// What a reply does: its answer, and the entry that is then done, if one is.
+#[derive(Drop)]
+pub(crate) struct ReplyPlan<A: Allocator> {
+    pub answer: Answer<A>,
+    pub settled: Option<Settled<A>>,
+}
+
+/// A reply that is refused before an entry is looked at. Takes no memory.
+fn refused_reply<A: Allocator>(alloc: A, why: Refusal) -> ReplyPlan<A>
+    ensures { (c : RealmConfig) (s : RealmState) → IsReplyPlan c s result (refuses why) }
+{
+    ReplyPlan {
+        answer: refused(alloc, why),
+        settled: None,
+    }
+}
+
+impl<A: Allocator + Copy, E: Entries<A>> RealmBroker<'_, '_, '_, '_, A, E> {
+    /// The entry that waits on a link with an Identifier: the link's lane has its ticket.
+    fn waiting_at(&self, link: Link, id: u8) -> Option<&Entry<A>>
+        requires realm { IsRealm E.Entries self.now }
+        ensures found { seen result ≡ find_link link id (entries E.Entries self.now) }
+    {
+        let ticket = self.numbers.holder(self.settings, link, id)?;
+        self.entries.find_ticket(self.settings.index(), ticket)
+    }
+
+    /// What a reply from a link does, for the entry that waits there with its Identifier, if there
+    /// is one.
+    fn reply_to_entry(
+        &self,
+        now: u64,
+        link: Link,
+        reply: &View<'_>,
+    ) -> Result<ReplyPlan<A>, NoMemory>
+        requires realm { IsRealm E.Entries self.now }
+        requires moment { now ≤ 2 ^ 62 }
+        ensures plan { IfOk result (λ p. IsReplyPlan self.now.settings.now
+            (state E.Entries self.now) p
+            (to_entry self.now.settings.now now (state E.Entries self.now) reply.now
+            (find_link link reply.now.id (entries E.Entries self.now)))) }
+        ensures succeeds { packets_of (to_entry self.now.settings.now now (state E.Entries self.now)
+            reply.now (find_link link reply.now.id (entries E.Entries self.now))) ≡ []
+            → IsOk result }
+    {
+        let id = reply.id();
+        let Some(entry) = self.waiting_at(link, id) else {
+            return Ok(refused_reply(self.numbers.alloc, Refusal::NoEntry));
+        };
+        let ReplyOutcome {
+            answer,
+            done,
+            counted,
+        } = to_standing(self.numbers.alloc, self.settings, now, entry, reply)?;
+        let settled = match done {
+            None => None,
+            Some(done) => {
+                Some(Settled {
+                    ticket: entry.ticket,
+                    link,
+                    id,
+                    done,
+                    counted,
+                })
+            }
+        };
+        Ok(ReplyPlan { answer, settled })
+    }
+
+    /// What a reply that came from a link does. Nothing changes yet.
+    fn plan_reply(&self, now: u64, link: Link, octets: &[u8]) -> Result<ReplyPlan<A>, NoMemory>
+        requires realm { IsRealm E.Entries self.now }
+        requires packet { IsPacketText octets.now }
+        ensures plan { IfOk result (λ p. IsReplyPlan self.now.settings.now
+            (state E.Entries self.now) p
+            (on_reply self.now.settings.now now (state E.Entries self.now) link octets.now)) }
+        ensures succeeds { packets_of (on_reply self.now.settings.now now (state E.Entries self.now)
+            link octets.now) ≡ [] → IsOk result }
+    {
+        if now > LATEST {
+            return Ok(refused_reply(self.numbers.alloc, Refusal::Moment));
+        }
+        self.reply_to_entry(now, link, &View::of_packet(octets))
+    }
+
+    /// Makes all growth of the ledger that an entry wants which is to be done, and changes no
+    /// session. Gives the change, if there is one.
+    fn prepare_ledger(
+        &mut self,
+        settled: &Option<Settled<A>>,
+    ) -> Result<Option<PreparedChange<A>>, NoMemory>
+        requires realm { IsRealm E.Entries self.old }
+        ensures change { IfOk result (λ change. IsPrepared self.new.numbers.now.sessions change
+            (once_settled self.old.settings.now (state E.Entries self.old) settled.now).sessions) }
+        ensures succeeds { settled.now ≡ None → IsOk result }
+        ensures entries { entries E.Entries self.new ≡ entries E.Entries self.old }
+        ensures state { state E.Entries self.new ≡ state E.Entries self.old }
+        ensures keeps { Keeps E.Entries self.old self.new }
+    {
+        let Some(settled) = settled else {
+            return Ok(None);
+        };
+        let Some(peer) = settled.counted else {
+            return Ok(None);
+        };
+        let realm = self.settings.index();
+        let Some(entry) = self.entries.find_ticket(realm, settled.ticket) else {
+            return Ok(None);
+        };
+        let request = View::of_packet(entry.request.octets.as_slice());
+        let change = self.numbers.prepare_ledger(peer, &request)?;
+        Ok(Some(change))
+    }
+
+    /// The entry that is to be done, if one is, is done: its Identifier is then free, the change of the
+    /// ledger, if there is one, is made, and its link is awake. Takes no memory.
+    fn settle(&mut self, settled: Option<Settled<A>>, change: Option<PreparedChange<A>>)
+        requires realm { IsRealm E.Entries self.old }
+        requires settled { CanSettle self.old.settings.now (entries E.Entries self.old) settled }
+        requires change { IsPrepared self.old.numbers.now.sessions change
+            (once_settled self.old.settings.now (state E.Entries self.old) settled).sessions }
+        ensures state { state E.Entries self.new
+            ≡ once_settled self.old.settings.now (state E.Entries self.old) settled }
+        ensures keeps { Keeps E.Entries self.old self.new }
+    {
+        let Some(settled) = settled else {
+            return;
+        };
+        set_standing(
+            self.numbers.alloc,
+            self.entries,
+            self.settings.index(),
+            settled.ticket,
+            Standing::Done(settled.done),
+        );
+        self.numbers
+            .give_back(self.settings, settled.link, settled.id);
+        self.numbers.change_ledger(change);
+        self.numbers.wake(self.settings, settled.link);
+    }
+
+    /// A reply that came from a link: it is returned, and held until `now + hold`, where the
+    /// request waits on that link with the reply's Identifier, and the reply is taken.
+    ///
+    /// Refused in this order: `Moment`, `NoEntry`, `WrongReply`, `BadReply`,
+    /// `BadReplyMessageAuthenticator`, `ReplyTooLong`. `NoMemory` comes where a growth was refused;
+    /// the realm is then as it was. A refused reply wants no memory.
+    pub fn on_reply(&mut self, now: u64, link: Link, octets: &[u8]) -> Result<Answer<A>, NoMemory>
+        requires realm { IsRealm E.Entries self.old }
+        requires packet { IsPacketText octets.now }
+        ensures turn { Turns E.Entries self.old self.new result
+            (λ s. on_reply self.old.settings.now now s link octets.now) }
+    {
+        let ReplyPlan { answer, settled } = self.plan_reply(now, link, octets)?;
+        let change = self.prepare_ledger(&settled)?;
+        self.settle(settled, change);
+        Ok(answer)
+    }
+
+    /// The same, with the answer twice.
+    pub fn on_reply_twice(
+        &mut self,
+        now: u64,
+        link: Link,
+        octets: &[u8],
+    ) -> Result<Twin<A>, NoMemory>
+        requires realm { IsRealm E.Entries self.old }
+        requires packet { IsPacketText octets.now }
+        ensures turn { TurnsTwice E.Entries self.old self.new result
+            (λ s. on_reply self.old.settings.now now s link octets.now) }
+    {
+        let ReplyPlan { answer, settled } = self.plan_reply(now, link, octets)?;
+        let copy = answer.copy(self.numbers.alloc)?;
+        let change = self.prepare_ledger(&settled)?;
+        self.settle(settled, change);
+        Ok(Twin { answer, copy })
+    }
+}

@@ -1,0 +1,239 @@
+//! What comes of a reply for the entry that it is for (RFC 2865, section 2.3).
+
+ghost use Rattle.std.specs.Prelude.{◌≡◌, ◌⊎◌, ◌↔◌, ℕ, ◌<◌, ◌≤◌, ◌^◌, [], true, IfErr};
+ghost use Rattle.std.specs.Prelude.{IfNone, IfOk, IsErrOf, IsOk};
+ghost use Rattle.roam_wire.specs.Reading.{packet_of};
+ghost use Rattle.roam_wire.specs.Secret.{IsSecret};
+ghost use Rattle.roam_back.specs.ReplyCheck.{IsTaken};
+ghost use Rattle.roam_back.specs.Returned.{returned_length};
+ghost use Rattle.roam_pending.specs.PlainEntry.{PlainEntry, waits_at};
+ghost use Rattle.roam_pending.specs.Shown.{shown, shown_request};
+ghost use Rattle.roam_book.specs.RealmConfig.{IsLink, RealmConfig, link_secret, seal_required};
+ghost use Rattle.roam_book.specs.RealmState.{RealmState};
+ghost use Rattle.roam_book.specs.Turn.{packets_of, refuses};
+ghost use Rattle.roam_book.specs.OnReply.{counted_peer, judge, reply_fault, return_reply, returned_octets, returning};
+ghost use Rattle.roam_book.specs.OnReply.{to_standing};
+ghost use Rattle.roam_book.specs.Sound.{IsRequest, IsWaiting, StandsWell};
+ghost use Rattle.roam_book.specs.Private.Judged.{IsVerdict, returns_octets};
+
+use crate::packets::answer::{Answer, one_packet, refused};
+use crate::packets::forwarding::packet_to_requester;
+use crate::state::realm_settings::RealmSettings;
+use roam_back::{back, check_reply};
+use roam_conf::Link;
+use roam_pending::{Done, Entry, Key, Request, Requester, Standing, Waiting};
+use roam_wire::code::ACCOUNTING_RESPONSE;
+use roam_wire::{NoMemory, Octets, Refusal, View};
+use std::alloc::Allocator;
+
+/// What comes of a reply for an entry.
+#[derive(Drop)]
+pub(crate) struct ReplyOutcome<A: Allocator> {
+    pub answer: Answer<A>,
+    /// How the entry is done from now on. `None` where the reply isn't taken.
+    pub done: Option<Done<A>>,
+    /// The peer whose sessions change, if any do.
+    pub counted: Option<u16>,
+}
+
+/// A reply that isn't taken. Takes no memory.
+fn not_taken<A: Allocator>(alloc: A, why: Refusal) -> ReplyOutcome<A>
+    ensures { (c : RealmConfig) (e : PlainEntry) (l : Link)
+        → IsVerdict c result e l (λ s. refuses why) }
+{
+    ReplyOutcome {
+        answer: refused(alloc, why),
+        done: None,
+        counted: None,
+    }
+}
+
+/// Why a reply to a forwarded packet isn't taken, if it isn't. Takes no memory.
+fn fault_of(
+    reply: &View<'_>,
+    forwarded: &View<'_>,
+    secret: &[u8],
+    seal_required: bool,
+) -> Option<Refusal>
+    requires secret { IsSecret secret.now }
+    ensures fault { result ≡ reply_fault secret.now seal_required reply.now forwarded.now }
+    ensures taken { IfNone result (IsTaken secret.now seal_required reply.now forwarded.now) }
+{
+    check_reply(reply, forwarded, secret, seal_required).err()
+}
+
+/// A reply, and with what it is judged.
+#[derive(Drop)]
+struct Judging<'s, 'c, 'r, 'd, A: Allocator> {
+    alloc: A,
+    settings: &'s RealmSettings<'c>,
+    moment: u64,
+    reply: &'r View<'d>,
+}
+
+/// The packet that is returned for a reply that was taken.
+///
+/// Refused in this order: `ReplyTooLong`, looked at before memory is asked for; `NoMemory`.
+fn returned_packet<A: Allocator + Copy>(
+    judging: &Judging<'_, '_, '_, '_, A>,
+    request: &Request<A>,
+    link: Link,
+    forwarded: &View<'_>,
+) -> Result<Vec<u8, A>, Refusal>
+    requires request { IsRequest judging.now.settings.now (shown_request request.now) }
+    requires link { IsLink judging.now.settings.now link }
+    requires taken { IsTaken (link_secret judging.now.settings.now link)
+        (seal_required judging.now.settings.now link) judging.now.reply.now forwarded.now }
+    ensures octets { IfOk result (λ packet. packet.items
+        ≡ returned_octets judging.now.settings.now (shown_request request.now) link forwarded.now
+        judging.now.reply.now) }
+    ensures too_long { IsErrOf result Refusal.ReplyTooLong ↔ (4096 < returned_length
+        (returning judging.now.settings.now (shown_request request.now) link forwarded.now)
+        judging.now.reply.now (packet_of request.now.octets)) }
+    ensures causes { IfErr result (λ e. (e ≡ Refusal.ReplyTooLong) ⊎ (e ≡ Refusal.NoMemory)) }
+{
+    let mut packet = Vec::new(judging.alloc);
+    match back(
+        judging.reply,
+        &View::of_packet(request.octets.as_slice()),
+        forwarded.authenticator(),
+        judging.settings.secret_of_link(link),
+        judging.settings.secret_of_requester(request.requester),
+        &mut packet,
+    ) {
+        Ok(()) => Ok(packet),
+        Err(why) => Err(why),
+    }
+}
+
+/// Whose sessions change when a reply was returned: those of the peer that sent the Accounting-Request
+/// which an Accounting-Response answers (RFC 2866, section 2).
+fn counted_peer(requester: Requester, reply: &View<'_>) -> Option<u16>
+    ensures { result ≡ counted_peer requester reply.now }
+{
+    match requester {
+        Requester::Peer(peer) => {
+            if reply.code() == ACCOUNTING_RESPONSE {
+                Some(peer)
+            } else {
+                None
+            }
+        }
+        Requester::Home(_) => None,
+    }
+}
+
+/// A packet goes back to the sender of a request, and is held until `hold` after the moment.
+fn return_packet<A: Allocator + Copy>(
+    judging: &Judging<'_, '_, '_, '_, A>,
+    key: Key,
+    counted: Option<u16>,
+    packet: Vec<u8, A>,
+) -> Result<ReplyOutcome<A>, NoMemory>
+    requires moment { judging.now.moment ≤ 2 ^ 62 }
+    ensures { IfOk result (λ v. (e : PlainEntry) (l : Link)
+        → IsVerdict judging.now.settings.now v e l (λ s. returns_octets judging.now.settings.now
+        judging.now.moment key counted packet.items e l s)) }
+{
+    let reply = Octets::copy_of(judging.alloc, packet.as_slice())?;
+    let deadline = judging.moment + u64::from(judging.settings.hold());
+    let out = packet_to_requester(judging.settings, key, Octets::from_vec(packet));
+    let answer = one_packet(judging.alloc, out)?;
+    Ok(ReplyOutcome {
+        answer,
+        done: Some(Done { reply, deadline }),
+        counted,
+    })
+}
+
+/// A reply that was taken, for the entry that waits for it.
+fn return_reply<A: Allocator + Copy>(
+    judging: &Judging<'_, '_, '_, '_, A>,
+    entry: &Entry<A>,
+    link: Link,
+    forwarded: &View<'_>,
+) -> Result<ReplyOutcome<A>, NoMemory>
+    requires moment { judging.now.moment ≤ 2 ^ 62 }
+    requires request { IsRequest judging.now.settings.now (shown entry.now).request }
+    requires link { IsLink judging.now.settings.now link }
+    requires taken { IsTaken (link_secret judging.now.settings.now link)
+        (seal_required judging.now.settings.now link) judging.now.reply.now forwarded.now }
+    ensures turn { IfOk result (λ v. IsVerdict judging.now.settings.now v (shown entry.now) link
+        (λ s. return_reply judging.now.settings.now judging.now.moment s (shown entry.now) link
+        forwarded.now judging.now.reply.now)) }
+    ensures succeeds { (s : RealmState) → packets_of (return_reply judging.now.settings.now
+        judging.now.moment s (shown entry.now) link forwarded.now judging.now.reply.now) ≡ []
+        → IsOk result }
+{
+    match returned_packet(judging, &entry.request, link, forwarded) {
+        Ok(packet) => {
+            let counted = counted_peer(entry.request.requester, judging.reply);
+            return_packet(judging, entry.request.key, counted, packet)
+        }
+        Err(Refusal::ReplyTooLong) => Ok(not_taken(judging.alloc, Refusal::ReplyTooLong)),
+        Err(_) => Err(NoMemory),
+    }
+}
+
+/// A reply to an entry that waits.
+fn outcome_of<A: Allocator + Copy>(
+    judging: &Judging<'_, '_, '_, '_, A>,
+    entry: &Entry<A>,
+    waiting: &Waiting<A>,
+) -> Result<ReplyOutcome<A>, NoMemory>
+    requires moment { judging.now.moment ≤ 2 ^ 62 }
+    requires request { IsRequest judging.now.settings.now (shown entry.now).request }
+    requires waiting { IsWaiting judging.now.settings.now (shown entry.now).request waiting.now.link
+        waiting.now.id waiting.now.forwarded }
+    ensures turn { IfOk result (λ v.
+        IsVerdict judging.now.settings.now v (shown entry.now) waiting.now.link
+        (λ s. judge judging.now.settings.now judging.now.moment s (shown entry.now)
+        waiting.now.link (packet_of waiting.now.forwarded) judging.now.reply.now
+        (reply_fault (link_secret judging.now.settings.now waiting.now.link)
+        (seal_required judging.now.settings.now waiting.now.link) judging.now.reply.now
+        (packet_of waiting.now.forwarded)))) }
+    ensures succeeds { (s : RealmState) → packets_of (judge judging.now.settings.now
+        judging.now.moment s (shown entry.now) waiting.now.link (packet_of waiting.now.forwarded)
+        judging.now.reply.now (reply_fault (link_secret judging.now.settings.now waiting.now.link)
+        (seal_required judging.now.settings.now waiting.now.link) judging.now.reply.now
+        (packet_of waiting.now.forwarded))) ≡ [] → IsOk result }
+{
+    let link = waiting.link;
+    let forwarded = View::of_packet(waiting.forwarded.as_slice());
+    let secret = judging.settings.secret_of_link(link);
+    let seal_required = judging.settings.seal_required(link);
+    if let Some(why) = fault_of(judging.reply, &forwarded, secret, seal_required) {
+        return Ok(not_taken(judging.alloc, why));
+    }
+    return_reply(judging, entry, link, &forwarded)
+}
+
+/// A reply to an entry, as it stands. A reply that isn't taken wants no memory.
+pub(crate) fn to_standing<A: Allocator + Copy>(
+    alloc: A,
+    settings: &RealmSettings<'_>,
+    now: u64,
+    entry: &Entry<A>,
+    reply: &View<'_>,
+) -> Result<ReplyOutcome<A>, NoMemory>
+    requires moment { now ≤ 2 ^ 62 }
+    requires request { IsRequest settings.now (shown entry.now).request }
+    requires standing { StandsWell settings.now (shown entry.now).request (shown entry.now).standing }
+    ensures turn { IfOk result (λ v. (l : Link) (i : ℕ) → waits_at l i (shown entry.now) ≡ true
+        → IsVerdict settings.now v (shown entry.now) l
+        (λ s. to_standing settings.now now s (shown entry.now) reply.now
+        (shown entry.now).standing)) }
+    ensures succeeds { (s : RealmState) → packets_of (to_standing settings.now now s
+        (shown entry.now) reply.now (shown entry.now).standing) ≡ [] → IsOk result }
+{
+    let judging = Judging {
+        alloc,
+        settings,
+        moment: now,
+        reply,
+    };
+    match &entry.standing {
+        Standing::Waiting(waiting) => outcome_of(&judging, entry, waiting),
+        Standing::Done(_) => Ok(not_taken(alloc, Refusal::NoEntry)),
+    }
+}

@@ -1,0 +1,337 @@
+//! What a request does to its realm (RFC 2865, section 2.3).
+//!
+//! First it is decided whether it is a duplicate, answered by a NAK, refused or admitted, and which
+//! entries make way; that changes nothing. Then a new request is admitted.
+
+ghost use Rattle.std.specs.Prelude.{◌≡◌, ◌≢◌, ℕ, ◌<◌, ◌≤◌, ◌^◌, ◌∷◌, [], true, None};
+ghost use Rattle.std.specs.Prelude.{Some, IfOk, IfSome, IsOk, length};
+ghost use Rattle.roam_wire.specs.Reading.{IsPacketText};
+ghost use Rattle.roam_pending.specs.EntryList.{besides, find_client, without_client};
+ghost use Rattle.roam_pending.specs.PlainEntry.{PlainRequest};
+ghost use Rattle.roam_pending.specs.Shown.{shown_standing};
+ghost use Rattle.roam_book.specs.Private.NewEntry.{Chooses, IsRequestPlan, IsWay, freed_link, once_gone};
+ghost use Rattle.roam_book.specs.Private.NewEntry.{straight_after};
+ghost use Rattle.roam_book.specs.Private.NewEntry.{target_at};
+ghost use Rattle.roam_book.specs.OnRequest.{at_target, first_seen, held_reply, is_reverse, nak_octets, new_request};
+ghost use Rattle.roam_book.specs.OnRequest.{of_key, on_request, packet_to_requester, reverse_cause, targets};
+ghost use Rattle.roam_book.specs.RealmConfig.{IsLink};
+ghost use Rattle.roam_book.specs.RealmTurn.{IsRealm, Turns, TurnsTwice, entries, state};
+ghost use Rattle.roam_book.specs.Sound.{CountsAsGone, IsRequest, chosen_link, gone_ticket, shown_request};
+ghost use Rattle.roam_book.specs.Turn.{packets_of, shown_outs};
+
+use crate::packets::answer::{Answer, Twin, nothing, one_packet, refused};
+use crate::packets::forwarding::{RequestRef, packet_to_requester};
+use crate::rules::admit_plan::AdmitPlan;
+use crate::rules::replaced::Replaced;
+use crate::state::realm_broker::RealmBroker;
+use crate::state::realm_settings::RealmSettings;
+use crate::state::service::{ServersFrom, Service};
+use roam_back::nak;
+use roam_conf::Link;
+use roam_pending::{Entries, Entry, Standing};
+use roam_route::is_reverse_request;
+use roam_wire::{NoMemory, Octets, Refusal, View};
+use std::alloc::Allocator;
+
+/// The latest moment, in milliseconds: an event of a later one is refused.
+pub const LATEST: u64 = 1 << 62;
+
+/// What a request is to do.
+#[derive(Drop)]
+pub(crate) enum RequestPlan<A: Allocator> {
+    /// It is a duplicate, answered by a NAK, or refused: nothing changes.
+    Answered(Answer<A>),
+    /// It is admitted.
+    Admitted(AdmitPlan),
+}
+
+/// The reply that a duplicate gets: none while its request waits, else the one that is held, again.
+fn held_reply<A: Allocator + Copy>(
+    alloc: A,
+    settings: &RealmSettings<'_>,
+    entry: &Entry<A>,
+) -> Result<Answer<A>, NoMemory>
+    ensures outs { IfOk result (λ a. shown_outs a.outs.items
+        ≡ held_reply settings.now entry.now.request.key (shown_standing entry.now.standing)) }
+    ensures refusal { IfOk result (λ a. a.refusal ≡ None) }
+    ensures succeeds { held_reply settings.now entry.now.request.key
+        (shown_standing entry.now.standing) ≡ [] → IsOk result }
+{
+    match &entry.standing {
+        Standing::Waiting(_) => Ok(nothing(alloc)),
+        Standing::Done(done) => {
+            let reply = Octets::copy_of(alloc, done.reply.as_slice())?;
+            one_packet(
+                alloc,
+                packet_to_requester(settings, entry.request.key, reply),
+            )
+        }
+    }
+}
+
+/// The NAK that answers a reverse request which isn't forwarded (RFC 5176, sections 2.3 and 3.5).
+fn refused_by_nak<A: Allocator + Copy>(
+    alloc: A,
+    settings: &RealmSettings<'_>,
+    asked: RequestRef<'_>,
+    cause: u32,
+) -> Result<Answer<A>, NoMemory>
+    requires request { IsRequest settings.now (shown_request asked) }
+    requires reverse { is_reverse (shown_request asked) ≡ true }
+    ensures outs { IfOk result (λ a. shown_outs a.outs.items
+        ≡ packet_to_requester settings.now asked.entry.key
+        (nak_octets settings.now (shown_request asked.entry) cause) ∷ []) }
+    ensures refusal { IfOk result (λ a. a.refusal ≡ None) }
+{
+    let request = View::of_packet(asked.octets);
+    let secret = settings.secret_of_requester(asked.requester);
+    let octets = Octets::from_vec(nak(alloc, &request, cause, secret)?);
+    one_packet(alloc, packet_to_requester(settings, asked.key, octets))
+}
+
+/// The link where an Identifier becomes free once an entry is gone.
+fn freed_link(gone: Option<Replaced>) -> Option<Link>
+    ensures { result ≡ freed_link gone }
+{
+    let (link, _) = gone?.waits_at?;
+    Some(link)
+}
+
+/// The ticket of the entry that counts as gone.
+fn gone_ticket(gone: Option<Replaced>) -> Option<u64>
+    ensures { result ≡ gone_ticket gone }
+{
+    match gone {
+        None => None,
+        Some(gone) => Some(gone.ticket),
+    }
+}
+
+impl<A: Allocator + Copy, E: Entries<A>> RealmBroker<'_, '_, '_, '_, A, E> {
+    /// How many entries there are, besides one that counts as gone.
+    fn held_besides(&self, gone: Option<Replaced>) -> usize
+        requires { CountsAsGone gone (entries E.Entries self.now) }
+        ensures { result ≡ length (once_gone gone (entries E.Entries self.now)) }
+    {
+        let held = self.entries.len(self.settings.index());
+        match gone {
+            None => held,
+            Some(_) => held - 1,
+        }
+    }
+
+    /// A new request for which a link has a free Identifier: it is admitted where there is a place,
+    /// or where a done entry makes way.
+    fn plan_at(&self, gone: Option<Replaced>, link: Link) -> Result<AdmitPlan, Refusal>
+        requires { CountsAsGone gone (entries E.Entries self.now) }
+        ensures { (now : ℕ) (q : PlainRequest)
+            → IsWay self.now.settings.now (state E.Entries self.now) q (straight_after gone link)
+            → Chooses self.now.settings.now now (state E.Entries self.now) q result
+            (at_target self.now.settings.now now (state E.Entries self.now)
+            (once_gone gone (entries E.Entries self.now)) q
+            (Some (target_at self.now.settings.now (state E.Entries self.now).cursors
+            (once_gone gone (entries E.Entries self.now)) link))) }
+    {
+        let most = usize::from(self.settings.max_pending());
+        if self.held_besides(gone) < most {
+            return Ok(AdmitPlan {
+                gone,
+                done: None,
+                link,
+            });
+        }
+        match self
+            .entries
+            .first_done(self.settings.index(), gone_ticket(gone))
+        {
+            None => Err(Refusal::Busy),
+            Some(ticket) => {
+                Ok(AdmitPlan {
+                    gone,
+                    done: Some(ticket),
+                    link,
+                })
+            }
+        }
+    }
+
+    /// The target of a request that is chosen at a moment, where the Identifiers of `freed` count as
+    /// free.
+    fn chosen_target(&self, now: u64, asked: RequestRef<'_>, freed: Option<Link>) -> Option<Link>
+        requires realm { IsRealm E.Entries self.now }
+        requires request { IsRequest self.now.settings.now (shown_request asked) }
+        ensures chosen { result ≡ chosen_link self.now.settings.now now
+            self.now.numbers.now.rests.items self.now.numbers.now.lanes.items freed
+            (targets self.now.settings.now (shown_request asked.entry)) }
+        ensures link { IfSome result (λ l. IsLink self.now.settings.now l) }
+    {
+        let request = View::of_packet(asked.octets);
+        if is_reverse_request(request.code()) {
+            let peer = self.settings.target_of(&request)?;
+            return self.numbers.if_open(self.settings, Link::Coa(peer), freed);
+        }
+        let servers = ServersFrom {
+            service: Service::of_code(request.code()),
+            first: 0,
+        };
+        self.numbers.chosen(self.settings, now, servers, freed)
+    }
+
+    /// A new request: there must be a ticket for it, and a target with a free Identifier. The entry
+    /// of its key, if there is one, counts as gone.
+    fn plan_admit(
+        &self,
+        now: u64,
+        asked: RequestRef<'_>,
+        gone: Option<Replaced>,
+    ) -> Result<AdmitPlan, Refusal>
+        requires realm { IsRealm E.Entries self.now }
+        requires request { IsRequest self.now.settings.now (shown_request asked) }
+        requires gone { CountsAsGone gone (entries E.Entries self.now) }
+        requires key { find_client asked.key (once_gone gone (entries E.Entries self.now)) ≡ None }
+        ensures { Chooses self.now.settings.now now (state E.Entries self.now)
+            (shown_request asked.entry) result
+            (new_request self.now.settings.now now (state E.Entries self.now)
+            (once_gone gone (entries E.Entries self.now)) (shown_request asked.entry)) }
+    {
+        if self.numbers.ticket == 1 << 63 {
+            return Err(Refusal::Exhausted);
+        }
+        match self.chosen_target(now, asked, freed_link(gone)) {
+            None => Err(Refusal::NoIdentifier),
+            Some(link) => self.plan_at(gone, link),
+        }
+    }
+
+    /// A new request is refused or admitted, while an entry counts as gone.
+    fn plan_new(&self, now: u64, asked: RequestRef<'_>, gone: Option<Replaced>) -> RequestPlan<A>
+        requires realm { IsRealm E.Entries self.now }
+        requires request { IsRequest self.now.settings.now (shown_request asked) }
+        requires gone { CountsAsGone gone (entries E.Entries self.now) }
+        requires key { find_client asked.key (once_gone gone (entries E.Entries self.now)) ≡ None }
+        ensures { IsRequestPlan self.now.settings.now now (state E.Entries self.now)
+            (shown_request asked.entry) result
+            (new_request self.now.settings.now now (state E.Entries self.now)
+            (once_gone gone (entries E.Entries self.now)) (shown_request asked.entry)) }
+    {
+        match self.plan_admit(now, asked, gone) {
+            Ok(way) => RequestPlan::Admitted(way),
+            Err(why) => RequestPlan::Answered(refused(self.numbers.alloc, why)),
+        }
+    }
+
+    /// Why a reverse request isn't forwarded, if it isn't; of other requests nothing is asked.
+    fn reverse_cause(&self, asked: RequestRef<'_>) -> Option<u32>
+        requires { IsPacketText asked.octets.now }
+        ensures cause { result ≡ reverse_cause self.now.settings.now (state E.Entries self.now)
+            asked.entry.named (shown_request asked.entry) }
+        ensures reverse { IfSome result (λ cause. is_reverse (shown_request asked.entry) ≡ true) }
+    {
+        let request = View::of_packet(asked.octets);
+        if is_reverse_request(request.code()) {
+            self.settings
+                .cause_of(asked.named, &request, &self.numbers.sessions)
+        } else {
+            None
+        }
+    }
+
+    /// A request that is no duplicate: a reverse request that can't be forwarded is answered by a
+    /// NAK, and any other is new.
+    fn plan_first_seen(
+        &self,
+        now: u64,
+        asked: RequestRef<'_>,
+        gone: Option<Replaced>,
+    ) -> Result<RequestPlan<A>, NoMemory>
+        requires realm { IsRealm E.Entries self.now }
+        requires request { IsRequest self.now.settings.now (shown_request asked) }
+        requires gone { CountsAsGone gone (entries E.Entries self.now) }
+        requires key { find_client asked.key (once_gone gone (entries E.Entries self.now)) ≡ None }
+        requires rest { once_gone gone (entries E.Entries self.now)
+            ≡ without_client asked.key (entries E.Entries self.now) }
+        ensures plan { IfOk result (λ p. IsRequestPlan self.now.settings.now now
+            (state E.Entries self.now) (shown_request asked.entry) p
+            (first_seen self.now.settings.now now (state E.Entries self.now) asked.entry.named
+            (shown_request asked.entry))) }
+        ensures succeeds { packets_of (first_seen self.now.settings.now now
+            (state E.Entries self.now) asked.entry.named (shown_request asked.entry)) ≡ []
+            → IsOk result }
+    {
+        match self.reverse_cause(asked) {
+            Some(cause) => {
+                let answer = refused_by_nak(self.numbers.alloc, self.settings, asked, cause)?;
+                Ok(RequestPlan::Answered(answer))
+            }
+            None => Ok(self.plan_new(now, asked, gone)),
+        }
+    }
+
+    /// A request in time: a duplicate where the entry of its key has its octets too, else a new
+    /// one.
+    fn plan_of_key(&self, now: u64, asked: RequestRef<'_>) -> Result<RequestPlan<A>, NoMemory>
+        requires realm { IsRealm E.Entries self.now }
+        requires request { IsRequest self.now.settings.now (shown_request asked) }
+        ensures plan { IfOk result (λ p. IsRequestPlan self.now.settings.now now
+            (state E.Entries self.now) (shown_request asked.entry) p
+            (of_key self.now.settings.now now (state E.Entries self.now) asked.entry.named
+            (shown_request asked.entry)
+            (find_client asked.entry.key (entries E.Entries self.now)))) }
+        ensures succeeds { packets_of (of_key self.now.settings.now now
+            (state E.Entries self.now) asked.entry.named (shown_request asked.entry)
+            (find_client asked.entry.key (entries E.Entries self.now))) ≡ [] → IsOk result }
+    {
+        match self.entries.find_client(self.settings.index(), &asked.key) {
+            None => self.plan_first_seen(now, asked, None),
+            Some(entry) => {
+                if entry.request.octets.as_slice() == asked.octets {
+                    let answer = held_reply(self.numbers.alloc, self.settings, entry)?;
+                    return Ok(RequestPlan::Answered(answer));
+                }
+                self.plan_first_seen(now, asked, Some(Replaced::of(entry)))
+            }
+        }
+    }
+
+    /// A request of the realm: a duplicate, a reverse request that is answered by a NAK, or a new one
+    /// that is forwarded.
+    ///
+    /// Refused in this order: `Moment`, `Exhausted`, `NoIdentifier`, `Busy`. `NoMemory` comes where
+    /// a growth was refused; the realm is then as it was. A refused request and a duplicate of one
+    /// that waits want no memory.
+    pub fn on_request(&mut self, now: u64, asked: RequestRef<'_>) -> Result<Answer<A>, NoMemory>
+        requires realm { IsRealm E.Entries self.old }
+        requires request { IsRequest self.old.settings.now (shown_request asked) }
+        ensures turn { Turns E.Entries self.old self.new result
+            (λ s. on_request self.old.settings.now now s asked.entry.named
+            (shown_request asked.entry)) }
+    {
+        if now > LATEST {
+            return Ok(refused(self.numbers.alloc, Refusal::Moment));
+        }
+        match self.plan_of_key(now, asked)? {
+            RequestPlan::Answered(answer) => Ok(answer),
+            RequestPlan::Admitted(way) => Ok(self.admit(now, asked, way, false)?.answer),
+        }
+    }
+
+    /// The same, with the answer twice.
+    pub fn on_request_twice(&mut self, now: u64, asked: RequestRef<'_>) -> Result<Twin<A>, NoMemory>
+        requires realm { IsRealm E.Entries self.old }
+        requires request { IsRequest self.old.settings.now (shown_request asked) }
+        ensures turn { TurnsTwice E.Entries self.old self.new result
+            (λ s. on_request self.old.settings.now now s asked.entry.named
+            (shown_request asked.entry)) }
+    {
+        let alloc = self.numbers.alloc;
+        if now > LATEST {
+            let answer = refused(alloc, Refusal::Moment);
+            let copy = refused(alloc, Refusal::Moment);
+            return Ok(Twin { answer, copy });
+        }
+        match self.plan_of_key(now, asked)? {
+            RequestPlan::Answered(answer) => answer.twice(alloc),
+            RequestPlan::Admitted(way) => Ok(self.admit(now, asked, way, true)?.into_twin()),
+        }
+    }
+}

@@ -1,0 +1,162 @@
+//! What a tick does to a realm: each due entry is taken once, in order of deadline and ticket.
+
+ghost use Rattle.std.specs.Prelude.{◌≡◌, ℕ, ◌≤◌, ◌++◌, ◌+◌, ◌^◌, Bool, List, true, Ok};
+ghost use Rattle.std.specs.Prelude.{IfSome, is_some, length};
+ghost use Rattle.roam_pending.specs.EntryList.{find_ticket};
+ghost use Rattle.roam_pending.specs.Realms.{RealmBecomes};
+ghost use Rattle.roam_route.specs.Admission.{PlainOut};
+ghost use Rattle.roam_book.specs.Turn.{Answers};
+ghost use Rattle.roam_book.specs.OnTick.{on_tick, due_one};
+ghost use Rattle.roam_book.specs.Private.Memory.{HasBuffers, HasPlace, IsOuts, Tells};
+ghost use Rattle.roam_book.specs.RealmTurn.{IsRealm, Keeps, KeepsLoans, Turns, TurnsTwice, entries, state};
+ghost use Rattle.roam_book.specs.Rooms.{IsRoomFor, size_of};
+ghost use Rattle.roam_book.specs.Private.Fates.{IsFateCopied, fate_packets, fate_entries, once_held};
+
+use crate::packets::answer::{Answer, AnswerCopies, Twin};
+use crate::packets::answer_builder::AnswerBuilder;
+use crate::packets::tick_memory::{Room, TickSlot};
+use crate::rules::due_action::{DueAction, act_on_due};
+use crate::rules::requests::LATEST;
+use crate::state::realm_broker::RealmBroker;
+use roam_pending::{Done, Entries, Standing, send_again, set_standing};
+use roam_wire::Refusal;
+use std::alloc::Allocator;
+
+impl<A: Allocator + Copy, E: Entries<A>> RealmBroker<'_, '_, '_, '_, A, E> {
+    /// An entry is done, and its reply is held, or it goes.
+    fn hold(&mut self, ticket: u64, held: Option<Done<A>>)
+        ensures entries { IfSome (find_ticket ticket (entries E.Entries self.old))
+            (λ e. RealmBecomes self.old.settings.now.index
+            (once_held e (entries E.Entries self.old) held)
+            (E.entries_of self.old.entries.now) (E.entries_of self.new.entries.now)) }
+        ensures numbers { self.new.numbers.now ≡ self.old.numbers.now }
+        ensures loans { KeepsLoans E.Entries self.old self.new }
+    {
+        let realm = self.settings.index();
+        match held {
+            None => {
+                let _gone = self.entries.remove(realm, ticket);
+            }
+            Some(done) => {
+                let standing = Standing::Done(done);
+                set_standing(self.numbers.alloc, self.entries, realm, ticket, standing);
+            }
+        }
+    }
+
+    /// Lets an entry have its fate: what is sent for it goes to the packets, where there is a
+    /// place.
+    fn apply_action(
+        &mut self,
+        now: u64,
+        ticket: u64,
+        fate: DueAction<A>,
+        outs: &mut AnswerBuilder<A>,
+    )
+        requires moment { now ≤ 2 ^ 62 }
+        requires place { HasPlace outs.old }
+        requires copied { IsFateCopied outs.old.twice fate }
+        ensures outs { (places : ℕ) (twice : Bool) (packets : List PlainOut)
+            → IsOuts (places + 1) twice packets outs.old
+            → IsOuts places twice (packets ++ fate_packets fate) outs.new }
+        ensures entries { IfSome (find_ticket ticket (entries E.Entries self.old))
+            (λ e. RealmBecomes self.old.settings.now.index
+            (fate_entries self.old.settings.now now e (entries E.Entries self.old) fate)
+            (E.entries_of self.old.entries.now) (E.entries_of self.new.entries.now)) }
+        ensures count { length outs.new.sent.items ≤ length outs.old.sent.items + 1 }
+        ensures numbers { self.new.numbers.now ≡ self.old.numbers.now }
+        ensures loans { KeepsLoans E.Entries self.old self.new }
+    {
+        let realm = self.settings.index();
+        let alloc = self.numbers.alloc;
+        match fate {
+            DueAction::Expired => self.hold(ticket, None),
+            DueAction::SentAgain(sent) => {
+                outs.push(sent);
+                let deadline = now + u64::from(self.settings.wait());
+                send_again(alloc, self.entries, realm, ticket, deadline);
+            }
+            DueAction::Forwarded(sent, waiting) => {
+                outs.push(sent);
+                let standing = Standing::Waiting(waiting);
+                set_standing(alloc, self.entries, realm, ticket, standing);
+            }
+            DueAction::Refused(sent, held) => {
+                outs.push(sent);
+                self.hold(ticket, held);
+            }
+        }
+    }
+
+    /// Takes one entry that is due, in the slot that was made for it.
+    fn due_one(&mut self, now: u64, slot: TickSlot<A>, outs: &mut AnswerBuilder<A>)
+        requires realm { IsRealm E.Entries self.old }
+        requires moment { now ≤ 2 ^ 62 }
+        requires buffers { HasBuffers
+            (size_of (find_ticket slot.due.ticket (entries E.Entries self.old))) slot.buffers }
+        requires copy { is_some slot.buffers.copy ≡ outs.old.twice }
+        requires place { HasPlace outs.old }
+        ensures outs { (places : ℕ) (twice : Bool) (packets : List PlainOut)
+            → IsOuts (places + 1) twice packets outs.old
+            → IsOuts places twice (packets ++ (due_one self.old.settings.now now
+            (state E.Entries self.old) slot.due).packets) outs.new }
+        ensures state { state E.Entries self.new
+            ≡ (due_one self.old.settings.now now (state E.Entries self.old) slot.due).state }
+        ensures count { length outs.new.sent.items ≤ length outs.old.sent.items + 1 }
+
+        // The slots of the other entries stay large enough.
+        ensures sizes { (t : ℕ) → size_of (find_ticket t (entries E.Entries self.new))
+            ≤ size_of (find_ticket t (entries E.Entries self.old)) }
+        ensures keeps { Keeps E.Entries self.old self.new }
+    {
+        let TickSlot { due, buffers } = slot;
+        let Some(entry) = self.entries.find_ticket(self.settings.index(), due.ticket) else {
+            return;
+        };
+        let fate = act_on_due(self.settings, self.numbers, now, entry, buffers);
+        self.apply_action(now, due.ticket, fate, outs);
+    }
+
+    /// A tick, in the room that was made for this state and this moment.
+    fn tick(&mut self, now: u64, room: Room<A>) -> AnswerCopies<A>
+        requires realm { IsRealm E.Entries self.old }
+        requires room { IsRoomFor now (entries E.Entries self.old) room }
+        ensures turn { Tells room.outs.twice result (state E.Entries self.old)
+            (state E.Entries self.new)
+            (on_tick self.old.settings.now now (state E.Entries self.old)) }
+        ensures most { length result.answer.outs.items ≤ length room.slots.items }
+        ensures keeps { Keeps E.Entries self.old self.new }
+    {
+        let Room { slots, mut outs } = room;
+        if now > LATEST {
+            return outs.refused(self.numbers.alloc, Refusal::Moment);
+        }
+        for slot in slots {
+            self.due_one(now, slot, &mut outs);
+        }
+        outs.finish()
+    }
+
+    /// A tick, in the room that was made for this state and this moment. Takes no memory.
+    pub fn on_tick(&mut self, now: u64, room: Room<A>) -> Answer<A>
+        requires realm { IsRealm E.Entries self.old }
+        requires room { IsRoomFor now (entries E.Entries self.old) room }
+        ensures turn { Turns E.Entries self.old self.new (Ok result)
+            (λ s. on_tick self.old.settings.now now s) }
+        ensures most { length result.outs.items ≤ length room.slots.items }
+    {
+        self.tick(now, room).answer
+    }
+
+    /// The same, with the answer twice, in a room that was made for two.
+    pub fn on_tick_twice(&mut self, now: u64, room: Room<A>) -> Twin<A>
+        requires realm { IsRealm E.Entries self.old }
+        requires room { IsRoomFor now (entries E.Entries self.old) room }
+        requires twice { room.outs.twice ≡ true }
+        ensures turn { TurnsTwice E.Entries self.old self.new (Ok result)
+            (λ s. on_tick self.old.settings.now now s) }
+        ensures most { length result.answer.outs.items ≤ length room.slots.items }
+    {
+        self.tick(now, room).into_twin()
+    }
+}

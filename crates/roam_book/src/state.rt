@@ -1,0 +1,9 @@
+//! What the broker of one realm keeps, and what it reads of its configuration.
+
+pub mod gauges;
+pub mod realm_broker;
+pub mod realm_numbers;
+pub mod realm_settings;
+pub mod rest;
+pub mod service;
+pub mod start;

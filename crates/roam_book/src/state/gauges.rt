@@ -1,0 +1,113 @@
+//! What a realm's entries and numbers tell who looks at them. Nothing changes by it.
+
+ghost use Rattle.std.specs.Prelude.{◌≡◌, ◌≤◌, length, if◌then◌else◌};
+ghost use Rattle.roam_pending.specs.EntryList.{IsEntryList, find_link};
+ghost use Rattle.roam_pending.specs.Shown.{seen};
+ghost use Rattle.roam_book.specs.Private.Looking.{used_below};
+ghost use Rattle.roam_book.specs.Sound.{IsSound};
+
+use crate::state::realm_numbers::RealmNumbers;
+use crate::state::realm_settings::RealmSettings;
+use crate::state::rest::Rest;
+use roam_conf::Link;
+use roam_ids::LazyLane;
+use roam_pending::{Entries, Entry};
+use std::alloc::Allocator;
+
+/// How many links to home servers a realm has at most: two to each of eight.
+pub const SERVER_LINKS: usize = 16;
+
+/// How a realm stands, in numbers.
+#[derive(Clone, Copy)]
+pub struct Gauges {
+    /// How many entries it has: requests that wait for a reply, and answered ones whose reply is held.
+    pub entries: usize,
+    /// How many Identifiers are in use toward all its links: one for each request that waits.
+    pub in_use: usize,
+    /// How many sessions are open in its ledger.
+    pub sessions: usize,
+    /// How many Identifiers are in use toward each of its servers' links: in the order of the servers their `auth`,
+    /// and then their `acct`. What is behind these is 0.
+    pub in_use_at: [u16; SERVER_LINKS],
+    /// How each of these links rests.
+    pub rests: [Rest; SERVER_LINKS],
+}
+
+/// The entry that waits on a link with an Identifier: the link's lane has its ticket. Takes no memory.
+pub fn waiting_at<'e, A: Allocator + Copy, E: Entries<A>>(
+    settings: &RealmSettings<'_>,
+    entries: &'e E,
+    numbers: &RealmNumbers<A>,
+    link: Link,
+    id: u8,
+) -> Option<&'e Entry<A>>
+    requires sound { IsSound settings.now (E.entries_of entries.now settings.now.index) numbers.now }
+    requires list { IsEntryList (E.entries_of entries.now settings.now.index) }
+    ensures { seen result ≡ find_link link id (E.entries_of entries.now settings.now.index) }
+{
+    let ticket = numbers.holder(settings, link, id)?;
+    entries.find_ticket(settings.index(), ticket)
+}
+
+/// One, where that is so.
+fn one_if(is_so: bool) -> u16
+    ensures value { result ≡ if is_so then 1 else 0 }
+    ensures small { result ≤ 1 }
+{
+    if is_so { 1 } else { 0 }
+}
+
+/// How many Identifiers of a lane are in use: under so many a request waits.
+fn in_use<A: Allocator>(lane: &LazyLane<A>) -> u16
+    ensures { result ≡ used_below lane.now 256 }
+{
+    if lane.is_unmade() {
+        return 0;
+    }
+    let mut count = 0;
+    for id in 0..256u16 {
+        count += one_if(lane.holder(id as u8).is_some());
+    }
+    count
+}
+
+impl<A: Allocator + Copy> RealmNumbers<A> {
+    /// How many sessions are open. Takes no memory.
+    fn session_count(&self) -> usize
+        ensures { result ≡ length self.now.sessions.sessions }
+    {
+        self.sessions.len()
+    }
+
+    /// How a link rests, by its place among those of the servers. One that isn't there is awake.
+    fn rest_at(&self, place: usize) -> Rest {
+        match self.rests.get(place) {
+            Some(rest) => *rest,
+            None => Rest::awake(),
+        }
+    }
+
+    /// How a realm stands that has so many entries. Takes no memory.
+    pub fn gauges(&self, entries: usize) -> Gauges
+        ensures entries { result.entries ≡ entries }
+        ensures sessions { result.sessions ≡ length self.now.sessions.sessions }
+    {
+        let mut gauges = Gauges {
+            entries,
+            in_use: 0,
+            sessions: self.session_count(),
+            in_use_at: [0; SERVER_LINKS],
+            rests: [Rest::awake(); SERVER_LINKS],
+        };
+        let servers = self.rests.len().min(SERVER_LINKS);
+        for (place, lane) in self.lanes.iter().enumerate() {
+            let count = in_use(lane);
+            gauges.in_use = gauges.in_use.saturating_add(usize::from(count));
+            if place < servers {
+                gauges.in_use_at[place] = count;
+                gauges.rests[place] = self.rest_at(place);
+            }
+        }
+        gauges
+    }
+}

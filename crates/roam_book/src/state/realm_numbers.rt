@@ -1,0 +1,445 @@
+//! What a realm keeps besides its entries: the numbers that it hands out, and the ledger of sessions.
+
+ghost use Rattle.std.specs.Prelude.{◌≡◌, ℕ, ◌<◌, ◌≤◌, ◌+◌, ◌^◌, ◌*◌, ◌%◌, List, []};
+ghost use Rattle.std.specs.Prelude.{◌∷◌, true, Some, None, length, replicate, drop, slice_set, IfSome, IfNone};
+ghost use Rattle.std.specs.Prelude.{IfOk, IsOk, OnOk, is_some};
+ghost use Rattle.std.specs.List.{find};
+ghost use Rattle.roam_ids.specs.LaneState.{place_at, ticket_at};
+ghost use Rattle.roam_ids.specs.declared.id_state.IdState.TheVariants.{Free};
+ghost use Rattle.roam_pending.specs.PlainEntry.{PlainEntry, waits_at};
+ghost use Rattle.roam_pending.specs.EntryList.{IsEntryList, find_ticket, put, without};
+ghost use Rattle.roam_reverse.specs.Sessions.{Session, applied};
+ghost use Rattle.roam_reverse.specs.Shown.{HasRoomFor};
+ghost use Rattle.roam_book.specs.Private.ReplyPlans.{IsPrepared};
+ghost use Rattle.roam_book.specs.RealmConfig.{IsLink, link_place, link_count, server_links};
+ghost use Rattle.roam_book.specs.RealmState.{next_toward};
+ghost use Rattle.roam_book.specs.Rests.{after_choice, after_reply, after_silence, all_awake, rest_of, with_rest};
+ghost use Rattle.roam_book.specs.Stays.{IsStarted, RestsBecome, KeepsButLanes, KeepsButSessions};
+ghost use Rattle.roam_book.specs.Sound.{AreOwnLanes, LanesTell, lane_of, cursors_of, has_free, is_freed, is_open};
+ghost use Rattle.roam_book.specs.Sound.{marks_of, WaitsJustAt, chosen_link, is_ready, stands_back_at};
+
+use crate::state::realm_settings::RealmSettings;
+use crate::state::rest::Rest;
+use crate::state::service::ServersFrom;
+use crate::state::start::Start;
+use roam_conf::Link;
+use roam_ids::LazyLane;
+use roam_reverse::{PreparedChange, Sessions};
+use roam_wire::{NoMemory, View};
+use std::alloc::Allocator;
+
+/// What a realm keeps besides its entries: the numbers that it hands out (Identifiers toward its
+/// links, tickets, and random words), the ledger of the sessions that are open, and how its servers'
+/// links rest.
+#[derive(Drop)]
+pub struct RealmNumbers<A: Allocator> {
+    /// Whence the memory of entries and packets comes.
+    pub(crate) alloc: A,
+    /// A lane for each link, in the order of their places. Toward a peer it is made when a reverse
+    /// request first needs it.
+    pub(crate) lanes: Vec<LazyLane<A>, A>,
+    /// The next ticket.
+    pub(crate) ticket: u64,
+    /// The place of the next random word in the realm's stream.
+    pub(crate) stream_position: u128,
+    /// The sessions that are open.
+    pub(crate) sessions: Sessions<A>,
+    /// How the servers' links rest that keep silent, in the order of their places.
+    pub(crate) rests: Vec<Rest, A>,
+}
+
+/// The tag of a lane: its realm's index, and the place of its link.
+pub(crate) fn tag_of(settings: &RealmSettings<'_>, place: usize) -> u32
+    requires { place < 1040 }
+    ensures { result ≡ settings.now.index * 65536 + place }
+{
+    u32::from(settings.index()) * 65536 + place as u32
+}
+
+/// The lane of the link at a place, of which nothing is in use. Toward a server its memory is there;
+/// toward a peer it is taken when a reverse request first needs it.
+fn new_lane<A: Allocator>(
+    alloc: A,
+    settings: &RealmSettings<'_>,
+    place: usize,
+) -> Result<LazyLane<A>, NoMemory>
+    requires { place < 1040 }
+    ensures tag { IfOk result (λ lane. lane.tag ≡ settings.now.index * 65536 + place) }
+    ensures cursor { IfOk result (λ lane. lane.cursor ≡ 0) }
+    ensures free { IfOk result (λ lane. (id : ℕ) → place_at lane id ≡ Free) }
+    ensures made { IfOk result (λ lane. place < 2 * length settings.now.realm.servers
+        → lane.made ≡ true) }
+{
+    let mut lane = LazyLane::new(alloc, tag_of(settings, place));
+    if place < 2 * settings.server_count() {
+        lane.make()?;
+    }
+    Ok(lane)
+}
+
+/// A lane for each link, of which nothing is in use.
+fn new_lanes<A: Allocator + Copy>(
+    alloc: A,
+    settings: &RealmSettings<'_>,
+) -> Result<Vec<LazyLane<A>, A>, NoMemory>
+    ensures count { IfOk result (λ lanes. length lanes.items ≡ link_count settings.now) }
+    ensures cursors { IfOk result (λ lanes. cursors_of lanes.items ≡ replicate (link_count settings.now) 0) }
+    ensures free { IfOk result (λ lanes. LanesTell settings.now [] lanes.items) }
+    ensures lanes { IfOk result (λ lanes. AreOwnLanes settings.now (marks_of lanes.items)) }
+{
+    let count = settings.link_count();
+    let mut lanes = Vec::with_capacity(alloc, count).map_err(|_| NoMemory)?;
+    for place in 0..count {
+        lanes.push_reserved(new_lane(alloc, settings, place)?);
+    }
+    Ok(lanes)
+}
+
+/// All servers' links of a realm, awake.
+fn new_rests<A: Allocator + Copy>(
+    alloc: A,
+    settings: &RealmSettings<'_>,
+) -> Result<Vec<Rest, A>, NoMemory>
+    ensures { IfOk result (λ rests. rests.items ≡ all_awake settings.now) }
+{
+    let count = 2 * settings.server_count();
+    let mut rests = Vec::with_capacity(alloc, count).map_err(|_| NoMemory)?;
+    for _place in 0..count {
+        rests.push_reserved(Rest::awake());
+    }
+    Ok(rests)
+}
+
+/// Whether a link is the one where an Identifier becomes free.
+fn is_freed(freed: Option<Link>, link: Link) -> bool
+    ensures { result ≡ is_freed freed link }
+{
+    match freed {
+        Some(freed) => freed == link,
+        None => false,
+    }
+}
+
+impl<A: Allocator + Copy> RealmNumbers<A> {
+    /// Nothing is in use yet, and the place and the next ticket are those given.
+    pub fn new(
+        alloc: A,
+        settings: &RealmSettings<'_>,
+        start: Start,
+    ) -> Result<RealmNumbers<A>, NoMemory>
+        ensures { IfOk result (IsStarted settings.now start) }
+    {
+        let lanes = new_lanes(alloc, settings)?;
+        let rests = new_rests(alloc, settings)?;
+        Ok(RealmNumbers {
+            alloc,
+            lanes,
+            ticket: start.ticket,
+            stream_position: start.place,
+            sessions: Sessions::new(alloc, settings.max_sessions()),
+            rests,
+        })
+    }
+
+    /// The place in the stream of random words and the next ticket, as a start. Takes no memory.
+    pub fn start(&self) -> Start
+        ensures place { result.place ≡ self.now.stream_position }
+        ensures ticket { result.ticket ≡ self.now.ticket }
+    {
+        Start {
+            place: self.stream_position,
+            ticket: self.ticket,
+        }
+    }
+
+    /// Whether an Identifier is free toward a link.
+    fn has_free(&self, settings: &RealmSettings<'_>, link: Link) -> bool
+        requires link { IsLink settings.now link }
+        requires count { length self.now.lanes.items ≡ link_count settings.now }
+        ensures { result ≡ has_free (lane_of settings.now self.now.lanes.items link) }
+    {
+        !self.lanes[settings.place_of(link)].is_full()
+    }
+
+    /// The ticket of the request that waits on a link with an Identifier, by the link's lane. `None`
+    /// also where the link isn't the realm's.
+    pub(crate) fn holder(&self, settings: &RealmSettings<'_>, link: Link, id: u8) -> Option<u64>
+        requires count { length self.now.lanes.items ≡ link_count settings.now }
+        ensures ticket { IsLink settings.now link
+            → result ≡ ticket_at (lane_of settings.now self.now.lanes.items link) id }
+        ensures link { IfSome result (λ ticket. IsLink settings.now link) }
+    {
+        if !settings.has_link(link) {
+            return None;
+        }
+        self.lanes[settings.place_of(link)].holder(id)
+    }
+
+    /// Whether a link stands back at a moment, if one is given.
+    fn stands_back(&self, settings: &RealmSettings<'_>, at: Option<u64>, link: Link) -> bool
+        requires link { IsLink settings.now link }
+        ensures { result ≡ stands_back_at settings.now at self.now.rests.items link }
+    {
+        let Some(now) = at else {
+            return false;
+        };
+        self.rest_of(settings, link).is_resting(now)
+    }
+
+    /// Whether a link has a free Identifier, or is `freed`, and doesn't stand back at a moment, if one
+    /// is given.
+    fn is_ready(
+        &self,
+        settings: &RealmSettings<'_>,
+        at: Option<u64>,
+        freed: Option<Link>,
+        link: Link,
+    ) -> bool
+        requires link { IsLink settings.now link }
+        requires count { length self.now.lanes.items ≡ link_count settings.now }
+        ensures { result ≡ is_ready settings.now at self.now.rests.items self.now.lanes.items freed
+            link }
+    {
+        !self.stands_back(settings, at, link)
+            && (is_freed(freed, link) || self.has_free(settings, link))
+    }
+
+    /// The first of the servers' links, from a place on, that has a free Identifier, or that is `freed`,
+    /// and that doesn't stand back at a moment, if one is given.
+    fn first_ready(
+        &self,
+        settings: &RealmSettings<'_>,
+        at: Option<u64>,
+        servers: ServersFrom,
+        freed: Option<Link>,
+    ) -> Option<Link>
+        requires count { length self.now.lanes.items ≡ link_count settings.now }
+        requires lanes { AreOwnLanes settings.now (marks_of self.now.lanes.items) }
+        ensures first { result ≡ find (is_ready settings.now at self.now.rests.items
+            self.now.lanes.items freed) (server_links servers.service servers.first
+            (drop servers.first settings.now.realm.servers)) }
+        ensures link { IfSome result (λ l. IsLink settings.now l) }
+        ensures made { IfSome result (λ l.
+            (lane_of settings.now self.now.lanes.items l).made ≡ true) }
+    {
+        for server in servers.first..settings.server_count() {
+            let link = servers.service.link(server as u8);
+            if self.is_ready(settings, at, freed, link) {
+                return Some(link);
+            }
+        }
+        None
+    }
+
+    /// The one of the servers' links, from a place on, that is chosen at a moment: of those that have a
+    /// free Identifier, or are `freed`, the first that doesn't stand back; where all of these stand
+    /// back, the first of them.
+    pub(crate) fn chosen(
+        &self,
+        settings: &RealmSettings<'_>,
+        now: u64,
+        servers: ServersFrom,
+        freed: Option<Link>,
+    ) -> Option<Link>
+        requires count { length self.now.lanes.items ≡ link_count settings.now }
+        requires lanes { AreOwnLanes settings.now (marks_of self.now.lanes.items) }
+        ensures chosen { result ≡ chosen_link settings.now now self.now.rests.items
+            self.now.lanes.items freed (server_links servers.service servers.first
+            (drop servers.first settings.now.realm.servers)) }
+        ensures link { IfSome result (λ l. IsLink settings.now l) }
+        ensures made { IfSome result (λ l.
+            (lane_of settings.now self.now.lanes.items l).made ≡ true) }
+    {
+        match self.first_ready(settings, Some(now), servers, freed) {
+            None => self.first_ready(settings, None, servers, freed),
+            ready => ready,
+        }
+    }
+
+    /// A link, which alone is to be chosen from, where it has a free Identifier, or is `freed`.
+    pub(crate) fn if_open(
+        &self,
+        settings: &RealmSettings<'_>,
+        link: Link,
+        freed: Option<Link>,
+    ) -> Option<Link>
+        requires link { IsLink settings.now link }
+        requires count { length self.now.lanes.items ≡ link_count settings.now }
+        ensures chosen { (now : ℕ) → result ≡ chosen_link settings.now now self.now.rests.items
+            self.now.lanes.items freed (link ∷ []) }
+        ensures link { IfSome result (λ l. IsLink settings.now l) }
+    {
+        if self.is_ready(settings, None, freed, link) {
+            Some(link)
+        } else {
+            None
+        }
+    }
+
+    /// Writes how a link rests: a peer's `coa` never does, and the rests stay.
+    fn set_rest(&mut self, settings: &RealmSettings<'_>, link: Link, rest: Rest)
+        requires link { IsLink settings.now link }
+        ensures { RestsBecome (with_rest settings.now self.old.rests.items link rest)
+            self.old self.new }
+    {
+        let place = settings.place_of(link);
+        if place < self.rests.len() {
+            self.rests[place] = rest;
+        }
+    }
+
+    /// How a link rests: a peer's `coa` never does.
+    fn rest_of(&self, settings: &RealmSettings<'_>, link: Link) -> Rest
+        requires link { IsLink settings.now link }
+        ensures { result ≡ rest_of settings.now self.now.rests.items link }
+    {
+        let place = settings.place_of(link);
+        if place < self.rests.len() {
+            self.rests[place]
+        } else {
+            Rest::awake()
+        }
+    }
+
+    /// A link was chosen as a target: where it has a moment until which it rests, in the past or not,
+    /// that is `now + rest` from now on.
+    pub(crate) fn put_off(&mut self, settings: &RealmSettings<'_>, now: u64, link: Link)
+        requires moment { now ≤ 2 ^ 62 }
+        requires link { IsLink settings.now link }
+        ensures { RestsBecome (after_choice settings.now now self.old.rests.items link)
+            self.old self.new }
+    {
+        let rest = self.rest_of(settings, link).once_chosen(settings, now);
+        self.set_rest(settings, link, rest);
+    }
+
+    /// A request was given up at a link: that is counted there, and where it was so often enough, the
+    /// link rests. Where the realm's `rest` is 0 nothing is counted.
+    pub(crate) fn count_silence(&mut self, settings: &RealmSettings<'_>, now: u64, link: Link)
+        requires moment { now ≤ 2 ^ 62 }
+        requires link { IsLink settings.now link }
+        ensures { RestsBecome (after_silence settings.now now self.old.rests.items link)
+            self.old self.new }
+    {
+        if settings.rest() > 0 {
+            let rest = self.rest_of(settings, link).once_silent(settings, now);
+            self.set_rest(settings, link, rest);
+        }
+    }
+
+    /// A reply from a link was taken: it doesn't rest, and no request counts as given up there.
+    pub(crate) fn wake(&mut self, settings: &RealmSettings<'_>, link: Link)
+        requires link { IsLink settings.now link }
+        ensures { RestsBecome (after_reply settings.now self.old.rests.items link)
+            self.old self.new }
+    {
+        self.set_rest(settings, link, Rest::awake());
+    }
+
+    /// Takes the memory of a link's lane, where that isn't there. What the numbers stand for stays,
+    /// refused or not.
+    pub(crate) fn make_lane(
+        &mut self,
+        settings: &RealmSettings<'_>,
+        link: Link,
+    ) -> Result<(), NoMemory>
+        requires link { IsLink settings.now link }
+        requires count { length self.old.lanes.items ≡ link_count settings.now }
+        ensures made { OnOk result ((lane_of settings.now self.new.lanes.items link).made ≡ true) }
+        ensures cursors { cursors_of self.new.lanes.items ≡ cursors_of self.old.lanes.items }
+        ensures tells { (es : List PlainEntry) → LanesTell settings.now es self.old.lanes.items
+            → LanesTell settings.now es self.new.lanes.items }
+        ensures lanes { AreOwnLanes settings.now (marks_of self.old.lanes.items)
+            → AreOwnLanes settings.now (marks_of self.new.lanes.items) }
+        ensures keeps { KeepsButLanes self.old self.new }
+        ensures succeeds { (lane_of settings.now self.old.lanes.items link).made ≡ true
+            → IsOk result }
+    {
+        let lane = &mut self.lanes[settings.place_of(link)];
+        lane.make()?;
+        Ok(())
+    }
+
+    /// Takes the next free Identifier toward a link for a ticket, whose request then waits for its
+    /// reply. `None` where all are in use.
+    pub(crate) fn take_next(
+        &mut self,
+        settings: &RealmSettings<'_>,
+        link: Link,
+        ticket: u64,
+    ) -> Option<u8>
+        requires link { IsLink settings.now link }
+        requires count { length self.old.lanes.items ≡ link_count settings.now }
+        requires made { (lane_of settings.now self.old.lanes.items link).made ≡ true }
+        ensures next { (es : List PlainEntry) → IsEntryList es → LanesTell settings.now es self.old.lanes.items
+            → result ≡ next_toward settings.now (cursors_of self.old.lanes.items) es link }
+        ensures free { is_some result ≡ has_free (lane_of settings.now self.old.lanes.items link) }
+        ensures none { IfNone result (self.new.lanes.items ≡ self.old.lanes.items) }
+        ensures cursors { IfSome result (λ id. cursors_of self.new.lanes.items
+            ≡ slice_set (cursors_of self.old.lanes.items) (link_place settings.now link) ((id + 1) % 256)) }
+        ensures range { IfSome result (λ id. id < 256) }
+
+        // An entry of the ticket that waits there with the Identifier is what the lane then tells.
+        ensures tells { IfSome result (λ id. (e : PlainEntry) (es : List PlainEntry)
+            → LanesTell settings.now es self.old.lanes.items
+            → find_ticket ticket es ≡ None → e.ticket ≡ ticket
+            → WaitsJustAt link id e
+            → LanesTell settings.now (put e es) self.new.lanes.items) }
+        ensures marks { marks_of self.new.lanes.items ≡ marks_of self.old.lanes.items }
+        ensures keeps { KeepsButLanes self.old self.new }
+    {
+        let lane = &mut self.lanes[settings.place_of(link)];
+        let slot = lane.take()?;
+        let id = slot.id();
+        lane.park(slot, ticket);
+        Some(id)
+    }
+
+    /// Gives the Identifier of a waiting entry back: it is free again.
+    pub(crate) fn give_back(&mut self, settings: &RealmSettings<'_>, link: Link, id: u8)
+        requires link { IsLink settings.now link }
+        requires count { length self.old.lanes.items ≡ link_count settings.now }
+        ensures cursors { cursors_of self.new.lanes.items ≡ cursors_of self.old.lanes.items }
+
+        // Once the entry that waits there is gone, the lanes tell the others.
+        ensures tells { (e : PlainEntry) (es : List PlainEntry)
+            → LanesTell settings.now es self.old.lanes.items
+            → find_ticket e.ticket es ≡ Some e → waits_at link id e ≡ true
+            → LanesTell settings.now (without e.ticket es) self.new.lanes.items }
+        ensures marks { marks_of self.new.lanes.items ≡ marks_of self.old.lanes.items }
+        ensures keeps { KeepsButLanes self.old self.new }
+    {
+        let lane = &mut self.lanes[settings.place_of(link)];
+        if let Some((slot, _)) = lane.claim(id) {
+            lane.free(slot);
+        }
+    }
+
+    /// Makes all growth of the ledger that an Accounting-Request of a peer wants, and changes no
+    /// session.
+    pub(crate) fn prepare_ledger(
+        &mut self,
+        peer: u16,
+        request: &View<'_>,
+    ) -> Result<PreparedChange<A>, NoMemory>
+        ensures change { IfOk result (λ change. IsPrepared self.new.sessions (Some change)
+            (applied self.old.sessions.limit peer request.now.attributes
+            self.old.sessions.sessions)) }
+        ensures sessions { self.new.sessions.sessions ≡ self.old.sessions.sessions }
+        ensures keeps { KeepsButSessions self.old self.new }
+    {
+        self.sessions.prepare(peer, request)
+    }
+
+    /// Makes a change of the ledger that was prepared, if one was. Takes no memory.
+    pub(crate) fn change_ledger(&mut self, change: Option<PreparedChange<A>>)
+        requires { IfSome change (λ made. HasRoomFor made self.old.sessions) }
+        ensures sessions { (sessions : List Session) → IsPrepared self.old.sessions change sessions
+            → self.new.sessions.sessions ≡ sessions }
+        ensures keeps { KeepsButSessions self.old self.new }
+    {
+        if let Some(change) = change {
+            self.sessions.apply_prepared(change);
+        }
+    }
+}

@@ -1,0 +1,281 @@
+//! What the rules of a realm read of the configuration.
+
+ghost use Rattle.std.specs.Prelude.{◌≡◌, ◌↔◌, ℕ, ◌<◌, ◌≤◌, ◌+◌, IfSome, IsTrue, length};
+ghost use Rattle.std.specs.Prelude.{unwrap_or, vec_len};
+ghost use Rattle.roam_wire.specs.Secret.{IsSecret};
+ghost use Rattle.roam_conf.specs.Shown.{shown};
+ghost use Rattle.roam_conf.specs.Parts.{shown_realm, shown_peer, shown_server};
+ghost use Rattle.roam_reverse.specs.Causes.{cause};
+ghost use Rattle.roam_reverse.specs.Target.{target};
+ghost use Rattle.roam_book.specs.RealmConfig.{realm_config, server_secret, peer_secret, link_secret, requester_secret};
+ghost use Rattle.roam_book.specs.RealmConfig.{seal_required, link_endpoint, link_place, link_count, nowhere, IsLink};
+ghost use Rattle.roam_book.specs.RealmConfig.{IsRequester};
+
+use roam_conf::{Config, Endpoint, Link, Peer, Realm, Server};
+use roam_pending::Requester;
+use roam_reverse::{Sessions, target, verdict};
+use roam_wire::View;
+use std::alloc::Allocator;
+use std::marker::Model;
+
+/// What the rules of one realm read of a configuration: the seed, the realm's index and entry, and
+/// all peers. Contracts see just that.
+#[derive(Drop)]
+pub struct RealmSettings<'c> {
+    config: &'c Config,
+    realm: u16,
+}
+
+impl<'c> Model for RealmSettings<'c> {
+    ghost use Rattle.std.specs.Prelude.{◌<◌, vec_len};
+    ghost use Rattle.roam_conf.specs.Shown.{shown};
+    ghost use Rattle.roam_book.specs.RealmConfig.{RealmConfig, realm_config};
+
+    ghost Value = { RealmConfig };
+
+    ghost view = { λ s. realm_config (shown s.config.now) s.realm };
+
+    ghost invariant = { λ s. s.realm < vec_len s.config.now.realms };
+}
+
+impl<'c> RealmSettings<'c> {
+    /// Those of the realm of this index, which is configured.
+    pub fn new(config: &'c Config, realm: u16) -> RealmSettings<'c>
+        requires { realm < vec_len config.now.realms }
+        ensures { result ≡ realm_config (shown config.now) realm }
+    {
+        RealmSettings { config, realm }
+    }
+
+    /// The realm's index.
+    pub fn index(&self) -> u16
+        ensures { result ≡ self.now.index }
+    {
+        self.realm
+    }
+
+    /// The realm's entry of the configuration.
+    fn realm(&self) -> &Realm
+        ensures { shown_realm result.now ≡ self.now.realm }
+    {
+        &self.config.realms[usize::from(self.realm)]
+    }
+
+    /// The seed of the random words.
+    pub(crate) fn seed(&self) -> [u8; 32]
+        ensures { result ≡ self.now.seed }
+    {
+        self.config.seed
+    }
+
+    /// How often a packet is sent to one server.
+    pub(crate) fn tries(&self) -> u8
+        ensures { result ≡ self.now.realm.tries }
+    {
+        self.realm().tries
+    }
+
+    /// The time from one sending to the next, in milliseconds.
+    pub(crate) fn wait(&self) -> u32
+        ensures { result ≡ self.now.realm.wait }
+    {
+        self.realm().wait
+    }
+
+    /// The time for which a reply is held, in milliseconds.
+    pub(crate) fn hold(&self) -> u32
+        ensures { result ≡ self.now.realm.hold }
+    {
+        self.realm().hold
+    }
+
+    /// The time for which a link rests that keeps silent, in milliseconds.
+    pub(crate) fn rest(&self) -> u32
+        ensures { result ≡ self.now.realm.rest }
+    {
+        self.realm().rest
+    }
+
+    /// How many requests have to be given up at a link before it rests.
+    pub(crate) fn rest_after(&self) -> u16
+        ensures { result ≡ self.now.realm.rest_after }
+    {
+        self.realm().rest_after
+    }
+
+    /// How many sessions the ledger holds at most.
+    pub(crate) fn max_sessions(&self) -> u32
+        ensures { result ≡ self.now.realm.max_sessions }
+    {
+        self.realm().max_sessions
+    }
+
+    /// How many requests may be pending.
+    pub(crate) fn max_pending(&self) -> u16
+        ensures { result ≡ self.now.realm.max_pending }
+    {
+        self.realm().max_pending
+    }
+
+    /// How many home servers the realm has: at most 8.
+    pub(crate) fn server_count(&self) -> usize
+        ensures count { result ≡ length self.now.realm.servers }
+        ensures few { result ≤ 8 }
+    {
+        self.realm().servers.len()
+    }
+
+    /// How many peers are configured: at most 1,024.
+    pub(crate) fn peer_count(&self) -> usize
+        ensures count { result ≡ length self.now.peers }
+        ensures few { result ≤ 1024 }
+    {
+        self.config.peers.len()
+    }
+
+    /// The home server of a place.
+    fn server(&self, server: u8) -> &Server
+        requires { server < length self.now.realm.servers }
+        ensures secret { server_secret self.now server ≡ (shown_server result.now).secret }
+        ensures auth { link_endpoint self.now (Link.Auth server) ≡ result.now.auth }
+        ensures seal { seal_required self.now (Link.Auth server) ≡ result.now.require_seal }
+        ensures acct { link_endpoint self.now (Link.Acct server) ≡ result.now.acct }
+    {
+        &self.realm().servers[usize::from(server)]
+    }
+
+    /// The peer of an index.
+    fn peer(&self, peer: u16) -> &Peer
+        requires { peer < length self.now.peers }
+        ensures secret { peer_secret self.now peer ≡ (shown_peer result.now).secret }
+        ensures coa { link_endpoint self.now (Link.Coa peer) ≡ unwrap_or result.now.coa nowhere }
+    {
+        &self.config.peers[usize::from(peer)]
+    }
+
+    /// The secret shared with a home server, of 1 to 64 octets.
+    fn secret_of_server(&self, server: u8) -> &[u8]
+        requires { server < length self.now.realm.servers }
+        ensures text { result.now ≡ server_secret self.now server }
+        ensures secret { IsSecret result.now }
+    {
+        self.server(server).secret.as_bytes()
+    }
+
+    /// The secret shared with a peer, of 1 to 64 octets.
+    fn secret_of_peer(&self, peer: u16) -> &[u8]
+        requires { peer < length self.now.peers }
+        ensures text { result.now ≡ peer_secret self.now peer }
+        ensures secret { IsSecret result.now }
+    {
+        self.peer(peer).secret.as_bytes()
+    }
+
+    /// The secret shared with a link of the realm, of 1 to 64 octets.
+    pub(crate) fn secret_of_link(&self, link: Link) -> &[u8]
+        requires { IsLink self.now link }
+        ensures text { result.now ≡ link_secret self.now link }
+        ensures secret { IsSecret result.now }
+    {
+        match link {
+            Link::Auth(server) | Link::Acct(server) => self.secret_of_server(server),
+            Link::Coa(peer) => self.secret_of_peer(peer),
+        }
+    }
+
+    /// Whether a reply from a link has to have a Message-Authenticator, where its code may have one.
+    pub(crate) fn seal_required(&self, link: Link) -> bool
+        requires { IsLink self.now link }
+        ensures { result ≡ seal_required self.now link }
+    {
+        match link {
+            Link::Auth(server) => self.server(server).require_seal,
+            Link::Acct(_) | Link::Coa(_) => false,
+        }
+    }
+
+    /// The secret shared with the sender of a request, of 1 to 64 octets.
+    pub(crate) fn secret_of_requester(&self, requester: Requester) -> &[u8]
+        requires { IsRequester self.now requester }
+        ensures text { result.now ≡ requester_secret self.now requester }
+        ensures secret { IsSecret result.now }
+    {
+        match requester {
+            Requester::Peer(peer) => self.secret_of_peer(peer),
+            Requester::Home(server) => self.secret_of_server(server),
+        }
+    }
+
+    /// The peer that a reverse request is for, if there is one.
+    pub(crate) fn target_of(&self, request: &View<'_>) -> Option<u16>
+        ensures target { result ≡ target self.now.peers request.now.attributes }
+        ensures there { IfSome result (λ peer. peer < length self.now.peers) }
+    {
+        target(self.config, request)
+    }
+
+    /// Why a reverse request that names a realm, or none, isn't forwarded, as an Error-Cause, if it
+    /// isn't (RFC 5176, section 3.5).
+    pub(crate) fn cause_of<A: Allocator + Copy>(
+        &self,
+        named: Option<u16>,
+        request: &View<'_>,
+        sessions: &Sessions<A>,
+    ) -> Option<u32>
+        ensures { result ≡ cause self.now.peers self.now.index named request.now.attributes
+            sessions.now.sessions }
+    {
+        verdict(self.config, self.realm, named, request, sessions)
+    }
+
+    /// The endpoint of a link of the realm.
+    pub(crate) fn endpoint_of(&self, link: Link) -> Endpoint
+        requires { IsLink self.now link }
+        ensures { result ≡ link_endpoint self.now link }
+    {
+        match link {
+            Link::Auth(server) => self.server(server).auth,
+            Link::Acct(server) => self.server(server).acct,
+            Link::Coa(peer) => self.peer(peer).coa.unwrap_or(NOWHERE),
+        }
+    }
+
+    /// How many places there are for links.
+    pub(crate) fn link_count(&self) -> usize
+        ensures count { result ≡ link_count self.now }
+        ensures few { result ≤ 1040 }
+    {
+        2 * self.server_count() + self.peer_count()
+    }
+
+    /// Whether a link is the realm's.
+    pub(crate) fn has_link(&self, link: Link) -> bool
+        ensures { IsTrue result ↔ IsLink self.now link }
+    {
+        match link {
+            Link::Auth(server) | Link::Acct(server) => usize::from(server) < self.server_count(),
+            Link::Coa(peer) => usize::from(peer) < self.peer_count(),
+        }
+    }
+
+    /// The place of a link among the realm's links.
+    pub(crate) fn place_of(&self, link: Link) -> usize
+        requires { IsLink self.now link }
+        ensures place { result ≡ link_place self.now link }
+        ensures below { result < link_count self.now }
+    {
+        let servers = self.server_count();
+        let _peers = self.peer_count();
+        match link {
+            Link::Auth(server) => usize::from(server),
+            Link::Acct(server) => servers + usize::from(server),
+            Link::Coa(peer) => 2 * servers + usize::from(peer),
+        }
+    }
+}
+
+/// The endpoint of a peer that takes no reverse requests.
+const NOWHERE: Endpoint = Endpoint {
+    ip: [0; 4],
+    port: 0,
+};

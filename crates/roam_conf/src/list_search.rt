@@ -1,0 +1,84 @@
+//! The place of what is looked for, in a list of the configuration.
+
+ghost use Rattle.std.specs.Prelude.{◌≡◌, ◌<◌, ◌^◌, IfSome, length, map, option_map};
+ghost use Rattle.roam_conf.specs.Duplicates.{same_endpoint};
+ghost use Rattle.roam_conf.specs.Lookup.{server_with_ip, first_place, is_there, is_coa};
+ghost use Rattle.roam_conf.specs.Parts.{shown_server, shown_peer};
+
+use crate::comparison::is_same_endpoint;
+use crate::{Endpoint, Link, Peer, Server};
+
+/// The first server that has the address in one of its endpoints.
+#[tactic(auto, unfolding(crate::specs::Lookup::server_with_ip))]
+pub(crate) fn server_with_ip(servers: &[Server], ip: [u8; 4]) -> Option<usize>
+    ensures value { result ≡ server_with_ip (map shown_server servers.now) ip }
+    ensures bound { IfSome result (λ i. i < length servers.now) }
+{
+    for place in 0..servers.len() {
+        if servers[place].auth.ip == ip || servers[place].acct.ip == ip {
+            return Some(place);
+        }
+    }
+    None
+}
+
+/// The first server that takes Access-Requests at the endpoint.
+pub(crate) fn auth_at(servers: &[Server], endpoint: Endpoint) -> Option<usize>
+    ensures value { result ≡ first_place (λ server. same_endpoint server.auth endpoint)
+        (map shown_server servers.now) }
+    ensures bound { IfSome result (λ i. i < length servers.now) }
+{
+    for (i, server) in servers.iter().enumerate() {
+        if is_same_endpoint(server.auth, endpoint) {
+            return Some(i);
+        }
+    }
+    None
+}
+
+/// The first server that takes Accounting-Requests at the endpoint.
+pub(crate) fn acct_at(servers: &[Server], endpoint: Endpoint) -> Option<usize>
+    ensures value { result ≡ first_place (λ server. same_endpoint server.acct endpoint)
+        (map shown_server servers.now) }
+    ensures bound { IfSome result (λ i. i < length servers.now) }
+{
+    for (i, server) in servers.iter().enumerate() {
+        if is_same_endpoint(server.acct, endpoint) {
+            return Some(i);
+        }
+    }
+    None
+}
+
+fn is_there(endpoint: Endpoint, other: Option<Endpoint>) -> bool
+    ensures { result ≡ is_there endpoint other }
+{
+    match other {
+        Some(other) => is_same_endpoint(other, endpoint),
+        None => false,
+    }
+}
+
+/// The first peer that takes reverse requests at the endpoint.
+pub(crate) fn coa_at(peers: &[Peer], endpoint: Endpoint) -> Option<usize>
+    ensures value { result ≡ first_place (is_coa endpoint) (map shown_peer peers.now) }
+    ensures bound { IfSome result (λ i. i < length peers.now) }
+{
+    for (i, peer) in peers.iter().enumerate() {
+        if is_there(endpoint, peer.coa) {
+            return Some(i);
+        }
+    }
+    None
+}
+
+/// The link to a peer of this index.
+pub(crate) fn link_to_peer(peer: Option<usize>) -> Option<Link>
+    requires { IfSome peer (λ i. i < 2 ^ 16) }
+    ensures { result ≡ option_map (λ i. Link.Coa i) peer }
+{
+    match peer {
+        Some(peer) => Some(Link::Coa(peer as u16)),
+        None => None,
+    }
+}

@@ -1,0 +1,37 @@
+-- Something was due where the shard stands, at the end of its history, or nothing.
+use Rattle.std.proofs.Common.{◌≡◌, ◌↔◌, ℕ, ◌++◌, ◌∷◌, [], false, ap, sym, subst, ◌∙◌}
+use Rattle.roam_shard.specs.Twins.{NothingDue}
+use mathlib.Core.List.{IsPrefix}
+use Rattle.roam_history.specs.Entries.{steps_in}
+use Rattle.roam_history.specs.Fronts.{FrontView}
+use Rattle.roam_audit.specs.Seats.{front_of, having_seen}
+use Rattle.roam_hub.specs.Keeping.{KeptView}
+use Rattle.roam_core.specs.Events.{ticks}
+use Rattle.roam_hub.specs.Calls.{answered_step}
+use Rattle.roam_hub.proofs.KeptLemmas.{due_call, look}
+use Rattle.roam_hub.proofs.locked_trace.LockedTrace.tick_if_due.Goals as goal
+
+pub returns-clause-tick : goal.returns-clause-tick
+returns-clause-tick g c =
+    let i = c.self.inside in
+    let k : KeptView = record { trace = i.traced; front = i.front } in
+    let old = c.args.seat.now in
+    let here : i.front.shard ≡ c.args.shard = ap (λ (v : KeptView). v.front.shard) c.self.view_is ∙ c.in_ok-check.ensures.shard in
+    let begins : IsPrefix (front_of old c.args.shard) i.front.entries =
+    subst (λ (v : KeptView). IsPrefix (front_of old c.args.shard) v.front.entries) (sym c.self.view_is) c.in_ok-check.ensures.begins in
+    let seen : c.learn.new.self ≡ having_seen old c.args.shard i.front.entries =
+    c.learn.ensures ∙ (ap (λ (f : FrontView). having_seen old f.shard f.entries) c.again.ensures ∙ ap (λ (n : ℕ). having_seen old n i.front.entries) here) in
+    let due = subst (λ b. b ≡ false ↔ NothingDue c.args.now i.traced.states) c.if-is_due.false c.is_due.ensures in
+    (look g.N.Opened.opening k c.args.shard c.args.now old c.learn.new.self false c.self.invariant.0 here c.in_ok-check.ensures.there begins
+    due seen).0
+
+pub returns-then-is_due-clause-tick : goal.returns-then-is_due-clause-tick
+returns-then-is_due-clause-tick g c =
+    let i = c.self.inside in
+    let k : KeptView = record { trace = i.traced; front = i.front } in
+    let a = c.in_ok-tick.field-0 in
+    let s = answered_step (ticks c.args.now c.args.shard) a in
+    let here : i.front.shard ≡ c.args.shard = ap (λ (v : KeptView). v.front.shard) c.self.view_is ∙ c.in_ok-check.ensures.shard in
+    due_call g.N.Opened.opening k c.args.shard c.args.now c.args.seat.now c.tick.new.seat a.number s c.self.invariant.0 here
+    (λ none. absurd (let not = c.is_due.ensures.1 none in cc)) c.in_ok-tick.ensures.call
+    (c.in_ok-tick.ensures.more ∙ ap (λ (v : KeptView). steps_in v.front.entries ++ s ∷ []) (sym c.self.view_is))

@@ -1,0 +1,329 @@
+//! The threads of a server, before they start.
+
+ghost use Rattle.std.specs.Prelude.{◌≡◌, ◌≤◌, IfErr};
+ghost use Rattle.roam_serve.specs.Faults.{IsAfterBinding};
+
+use crate::fault::{ServeFault, reason_of};
+use crate::run::kits::{Kit, ThreadKits};
+use crate::run::shared::Shared;
+use crate::system::bind::BoundSocket;
+use crate::system::socket::Socket;
+use crate::threads::context::WorkerContext;
+use crate::threads::counting::Counting;
+use crate::threads::exchanges::Exchanges;
+use crate::threads::logger::{ExchangeQueues, Logger};
+use crate::threads::notice::{Notice, Notices};
+use crate::threads::outgoing::Outgoing;
+use crate::threads::receiver::Receiver;
+use crate::threads::rests::Rests;
+use crate::threads::timer::Timer;
+use crate::threads::worker::Worker;
+use mio::unix::SourceFd;
+use mio::{Events, Interest, Poll, Token};
+use roam_hub::{Opened, Seat, split};
+use roam_notices::Exchange;
+use roam_port::Outbox;
+use rtrb::Consumer;
+use std::alloc::Global;
+
+/// For how many octets of a line room is made at the start.
+const LINE: usize = 4096;
+
+/// The threads of a configuration, before they start: those that take part in the hub, and the logger.
+#[derive(Drop)]
+pub struct ReadyThreads<'s, 'c, G, N: Opened> {
+    pub workers: Vec<Worker<'s, 'c, G, N>>,
+    pub timer: Timer<'s, 'c, G, N>,
+    pub logger: Logger<'s>,
+}
+
+/// What a worker or the timer has that it owns.
+#[derive(Drop)]
+struct Parts<N: Opened> {
+    number: usize,
+    seat: Seat<Global, N>,
+    outbox: Outbox<Global>,
+    room: Poll,
+    events: Events<Global>,
+    notices: Notices,
+    exchanges: Exchanges,
+}
+
+/// The sockets that one worker receives from.
+fn receivers<'s>(
+    alloc: Global,
+    sockets: &'s [BoundSocket],
+    worker: usize,
+) -> Result<Vec<Receiver<'s>>, ServeFault>
+    ensures { IfErr result IsAfterBinding }
+{
+    let mut receivers: Vec<Receiver<'s>> = Vec::new(alloc);
+    for bound in sockets {
+        if bound.worker == worker {
+            receivers.push(Receiver::new(Socket::new(&bound.socket), bound.place))?;
+        }
+    }
+    Ok(receivers)
+}
+
+/// Registers the receivers, each by its place in the list.
+fn register(poll: &Poll, receivers: &[Receiver<'_>]) -> Result<(), ServeFault>
+    ensures { IfErr result IsAfterBinding }
+{
+    for (at, receiver) in receivers.iter().enumerate() {
+        let fd = receiver.socket.descriptor();
+        let registry = poll.registry();
+        if let Err(error) = registry.register(&mut SourceFd(&fd), Token(at), Interest::READABLE) {
+            return Err(ServeFault::Wait(reason_of(&error)));
+        }
+    }
+    Ok(())
+}
+
+/// The sockets from which a worker sends, in the order of their numbers: of a place that has several, its own.
+/// The timer, whose number is above those of the workers, has those of the first one.
+fn ports(
+    alloc: Global,
+    sockets: &[BoundSocket],
+    number: usize,
+    workers: usize,
+) -> Result<Vec<Socket<'_>>, ServeFault>
+    requires { 1 ≤ workers }
+    ensures { IfErr result IsAfterBinding }
+{
+    let mut ports = Vec::new(alloc);
+    for bound in sockets {
+        if !bound.is_spread || bound.worker == number % workers {
+            ports.push(Socket::new(&bound.socket))?;
+        }
+    }
+    Ok(ports)
+}
+
+/// The logger's ends of all queues.
+#[derive(Drop)]
+struct Queues<'s> {
+    notices: Vec<Consumer<Notice>>,
+    lines: ExchangeQueues<'s>,
+}
+
+impl Queues<'_> {
+    /// Takes the logger's ends of one thread's queues.
+    fn take(
+        &mut self,
+        notices: Consumer<Notice>,
+        lines: Option<Consumer<Exchange>>,
+    ) -> Result<(), ServeFault>
+        ensures { IfErr result IsAfterBinding }
+    {
+        self.notices.push(notices)?;
+        if let Some(lines) = lines {
+            self.lines.queues.push(lines)?;
+        }
+        Ok(())
+    }
+}
+
+/// Makes the threads of a configuration.
+#[derive(Drop)]
+struct Builder<'s, 'c, G, N: Opened> {
+    sockets: &'s [BoundSocket],
+    shared: &'s Shared<'s, 'c, G, N>,
+    queues: Queues<'s>,
+}
+
+impl<'s, 'c, G, N: Opened> Builder<'s, 'c, G, N> {
+    /// Has made no thread yet.
+    fn new(sockets: &'s [BoundSocket], shared: &'s Shared<'s, 'c, G, N>) -> Builder<'s, 'c, G, N> {
+        let alloc = shared.alloc;
+        Builder {
+            sockets,
+            shared,
+            queues: Queues {
+                notices: Vec::new(alloc),
+                lines: ExchangeQueues {
+                    queues: Vec::new(alloc),
+                    counts: match shared.counters {
+                        Some(counters) => counters.of_thread(usize::from(shared.config.shards)),
+                        None => None,
+                    },
+                    dropped: 0,
+                },
+            },
+        }
+    }
+
+    /// What a worker or the timer has. The packets that still wait in its outbox are sent, where there is room for them
+    /// now.
+    fn context(&self, parts: Parts<N>) -> Result<WorkerContext<'s, 'c, G, N>, ServeFault>
+        ensures { IfErr result IsAfterBinding }
+    {
+        let shared = self.shared;
+        let Parts {
+            number,
+            seat,
+            outbox,
+            room,
+            events,
+            notices,
+            exchanges,
+        } = parts;
+        let workers = usize::from(shared.config.shards);
+        let counting = Counting {
+            config: shared.config,
+            counts: match shared.counters {
+                Some(counters) => counters.of_thread(number),
+                None => None,
+            },
+        };
+        let mut outgoing = Outgoing {
+            outbox,
+            ports: ports(shared.alloc, self.sockets, number, workers)?,
+            losses: shared.losses,
+            counting,
+            room,
+            events,
+            is_blocked: false,
+        };
+        outgoing.send();
+        Ok(WorkerContext {
+            shared,
+            seat,
+            outgoing,
+            notices,
+            exchanges,
+            counting,
+            now: 0,
+        })
+    }
+
+    /// A worker of this number, made of its kit. Two events more than it has sockets may come: that it is woken, and
+    /// that sockets have room again.
+    fn worker(
+        &mut self,
+        number: usize,
+        seat: Seat<Global, N>,
+        outbox: Outbox<Global>,
+        kit: Kit,
+    ) -> Result<Worker<'s, 'c, G, N>, ServeFault>
+        ensures { IfErr result IsAfterBinding }
+    {
+        let Kit {
+            polls,
+            notices,
+            queue,
+            exchanges,
+            lines,
+            room_events,
+            buffer,
+        } = kit;
+        self.queues.take(queue, lines)?;
+        let context = self.context(Parts {
+            number,
+            seat,
+            outbox,
+            room: polls.room,
+            events: room_events,
+            notices,
+            exchanges,
+        })?;
+        let alloc = self.shared.alloc;
+        let receivers = receivers(alloc, self.sockets, number)?;
+        register(&polls.arrivals, receivers.as_slice())?;
+        let events = Events::with_capacity(alloc, receivers.len().saturating_add(2))?;
+        let ready = Vec::with_capacity(alloc, receivers.len())?;
+        Ok(Worker {
+            context,
+            receivers,
+            ready,
+            poll: polls.arrivals,
+            events,
+            buffer,
+        })
+    }
+
+    /// The timer, made of its kit.
+    fn timer(
+        &mut self,
+        seat: Seat<Global, N>,
+        outbox: Outbox<Global>,
+        kit: Kit,
+    ) -> Result<Timer<'s, 'c, G, N>, ServeFault>
+        ensures { IfErr result IsAfterBinding }
+    {
+        let Kit {
+            polls,
+            notices,
+            queue,
+            exchanges,
+            lines,
+            room_events,
+            ..
+        } = kit;
+        self.queues.take(queue, lines)?;
+        let shared = self.shared;
+        let context = self.context(Parts {
+            number: usize::from(shared.config.shards),
+            seat,
+            outbox,
+            room: polls.room,
+            events: room_events,
+            notices,
+            exchanges,
+        })?;
+        Ok(Timer {
+            context,
+            poll: polls.arrivals,
+            events: Events::with_capacity(shared.alloc, 2)?,
+            told: [None; 4],
+            is_stop_told: false,
+            rests: Rests::new(shared.alloc, shared.config)?,
+            quiet_since: None,
+        })
+    }
+}
+
+/// The threads of a configuration: a worker for each shard, the timer and the logger; and the seat of the server's own
+/// thread. Each that takes part in the hub has its kit, an outbox, in which packets may wait that others left there,
+/// and a seat that is split off this one.
+pub fn prepare_threads<'s, 'c, G, N: Opened>(
+    sockets: &'s [BoundSocket],
+    shared: &'s Shared<'s, 'c, G, N>,
+    seat: Seat<Global, N>,
+    kits: ThreadKits,
+    outboxes: Vec<Outbox<Global>>,
+) -> Result<(ReadyThreads<'s, 'c, G, N>, Seat<Global, N>), ServeFault>
+    ensures { IfErr result IsAfterBinding }
+{
+    let alloc = shared.alloc;
+    let mut builder = Builder::new(sockets, shared);
+    let mut workers = Vec::with_capacity(alloc, kits.workers.len())?;
+    let mut rest = seat;
+    let mut outboxes = outboxes.into_iter();
+    for kit in kits.workers {
+        let (Ok((first, seat)), Some(outbox)) = (split(rest), outboxes.next()) else {
+            return Err(ServeFault::Memory);
+        };
+        rest = first;
+        let worker = builder.worker(workers.len(), seat, outbox, kit)?;
+        workers.push(worker)?;
+    }
+    let (Ok((rest, seat)), Some(outbox)) = (split(rest), outboxes.next()) else {
+        return Err(ServeFault::Memory);
+    };
+    let timer = builder.timer(rest, outbox, kits.timer)?;
+    let Queues { notices, lines } = builder.queues;
+    let logger = Logger {
+        queues: notices,
+        lines,
+        line: Vec::with_capacity(alloc, LINE)?,
+    };
+    Ok((
+        ReadyThreads {
+            workers,
+            timer,
+            logger,
+        },
+        seat,
+    ))
+}

@@ -1,0 +1,26 @@
+-- What is handed on of a shard's answers, and what an arrival is answered with that isn't prepared:
+-- words of private functions alone (ours).
+use Rattle.std.specs.Prelude.{◌≡◌, ◌≢◌, [], Some, Result, Ok, Err}
+use Rattle.roam_wire.specs.declared.refusal.NoMemory.{NoMemory}
+use Rattle.roam_wire.specs.declared.refusal.Refusal.{Refusal}
+use Rattle.roam_wire.specs.declared.refusal.Refusal.TheVariants as refusal
+use Rattle.roam_book.specs.Turn.{shown_outs}
+use Rattle.roam_book.specs.declared.packets.answer.Answer.{Answer}
+use Rattle.roam_book.specs.declared.packets.answer.Twin.{Twin}
+
+-- an answer is this refusal, which isn't want of memory
+pub record IsRefusal {A : Type 0} (a : Answer A) (why : Refusal) : Type 0 where
+  pub outs : shown_outs a.outs.items ≡ []
+  pub cause : a.refusal ≡ Some why
+  pub differs : why ≢ refusal.NoMemory
+
+-- it is refused, or lost for want of memory
+abbrev pub IsLostOrRefused : {A : Type 0} → Result (Answer A) NoMemory → Refusal → Type 0
+IsLostOrRefused (Ok a) why = IsRefusal a why
+IsLostOrRefused (Err e) why = why ≡ refusal.NoMemory
+
+-- the first of two answers, or want of memory
+abbrev pub IsFirst : {A : Type 0} → Result (Twin A) NoMemory → Result (Answer A) NoMemory → Type 0
+IsFirst (Ok twin) (Ok answer) = twin.answer ≡ answer
+IsFirst (Err e) (Err f) = Unit {0}
+IsFirst _ _ = ⊥

@@ -1,0 +1,54 @@
+//! The numbers of a shard's own realms.
+
+ghost use Rattle.std.specs.Prelude.{◌≡◌, ◌<◌, IfOk, length, vec_len};
+ghost use Rattle.roam_conf.specs.Shown.{shown};
+ghost use Rattle.roam_book.specs.RealmConfig.{realm_config};
+ghost use Rattle.roam_core.specs.Events.{is_in_shard};
+ghost use Rattle.roam_core.specs.Openings.{start_of};
+ghost use Rattle.roam_shard.specs.NumbersView.{AreOpened, IsOpened};
+ghost use Rattle.roam_shard.specs.ShardView.{AreStarts, IsStart};
+
+use roam_book::{RealmNumbers, RealmSettings, Start};
+use roam_conf::Config;
+use roam_wire::NoMemory;
+use std::alloc::Allocator;
+
+/// The numbers of a realm at its start, where it is one of the shard's own.
+pub(crate) fn opened_at<A: Allocator + Copy>(
+    alloc: A,
+    config: &Config,
+    shard: u16,
+    realm: u16,
+    start: Start,
+) -> Result<Option<RealmNumbers<A>>, NoMemory>
+    requires configured { realm < vec_len config.now.realms }
+    requires start { IsStart start }
+    ensures { IfOk result (IsOpened (realm_config (shown config.now) realm) start
+        (is_in_shard (shown config.now) shard realm)) }
+{
+    if config.shard_of(realm) != shard {
+        return Ok(None);
+    }
+    let settings = RealmSettings::new(config, realm);
+    let numbers = RealmNumbers::new(alloc, &settings, start)?;
+    Ok(Some(numbers))
+}
+
+/// The numbers of a shard's own realms, each at its start, in the order of all realms.
+pub(crate) fn opened_numbers<A: Allocator + Copy>(
+    alloc: A,
+    config: &Config,
+    shard: u16,
+    starts: &[Start],
+) -> Result<Vec<Option<RealmNumbers<A>>, A>, NoMemory>
+    requires { AreStarts (shown config.now) starts.now }
+    ensures { IfOk result (λ numbers.
+        AreOpened (shown config.now) shard starts.now (length starts.now) numbers.items) }
+{
+    let mut numbers = Vec::with_capacity(alloc, starts.len())?;
+    for realm in 0..starts.len() {
+        let start = starts[realm];
+        numbers.push(opened_at(alloc, config, shard, realm as u16, start)?)?;
+    }
+    Ok(numbers)
+}

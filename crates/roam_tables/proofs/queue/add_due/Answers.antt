@@ -1,0 +1,25 @@
+use Rattle.std.proofs.Common.{◌≡◌, rules}
+use Rattle.std.specs.List as list
+use Rattle.roam_tables.specs.Private.Rising.{due_cmp}
+use Rattle.roam_tables.proofs.RisingLemmas.{due_total, adds-insert, in_place, rises_added}
+use Rattle.roam_tables.proofs.queue.add_due.Goals as goal
+
+-- it isn't there yet
+pub unreachable-requires : goal.unreachable-requires
+unreachable-requires g c =
+    c.requires.absent (in_place due_cmp due_total c.args.run.now.items c.args.due c.in-Ok.field-0
+    c.in-Ok.ensures)
+
+inserted : (g : _) (c : goal.After-unwrap g)
+    → c.insert.new.self.items ≡ list.insert c.args.run.now.items c.in-Err.place c.args.due
+inserted g c = search rules
+
+pub returns-clause-rises : goal.returns-clause-rises
+returns-clause-rises g c =
+    rises_added due_cmp due_total c.args.run.now.items c.insert.new.self.items c.in-Err.place
+    c.args.due (inserted g c) c.requires.rises c.in-Err.ensures
+
+pub returns-clause-adds : goal.returns-clause-adds
+returns-clause-adds g c =
+    adds-insert c.args.run.now.items c.insert.new.self.items c.in-Err.place c.args.due
+    (inserted g c) c.in-Err.ensures.within

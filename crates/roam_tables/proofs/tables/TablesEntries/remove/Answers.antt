@@ -1,0 +1,78 @@
+use Rattle.std.proofs.Common.{◌∙◌, None, sym}
+use Rattle.roam_pending.specs.Shown.{shown}
+use Rattle.roam_tables.proofs.TablesLemmas.{tables_ticket}
+use Rattle.roam_tables.proofs.UpdateLemmas.{remove_becomes, remove_can, remove_found, remove_nothing, remove_keeps, remove_room, remove_sound}
+use Rattle.roam_tables.proofs.tables.TablesEntries.remove.Goals as goal
+
+pub take_at-requires-clause-can : goal.take_at-requires-clause-can
+take_at-requires-clause-can g c =
+    let i = c.self.inside in
+    remove_can i.slots i.by_ticket i.by_client i.realms.items c.self.invariant c.args.self.now
+    c.self.view_is c.args.realm c.args.ticket c.in-Some.at c.take-slot.result
+    (shown c.take-slot.result.entry) c.mark_of.result c.mark_of.ensures
+    (sym c.ticket_slot.ensures ∙ c.in-Some.is) c.take-slot.ensures.was
+
+pub invariant_of-self : goal.invariant_of-self
+invariant_of-self g c =
+    let i = c.self.inside in
+    remove_sound i.slots i.by_ticket i.by_client i.realms.items c.self.invariant c.args.self.now
+    c.self.view_is c.args.realm c.args.ticket c.in-Some.at c.take-slot.result
+    (shown c.take-slot.result.entry) c.mark_of.result c.mark_of.ensures
+    (sym c.ticket_slot.ensures ∙ c.in-Some.is) c.take-slot.ensures.was c.take-slot.new.slots
+    c.forget_ticket.new.index c.forget_client.new.index c.take_at.new.realms.items
+    c.take-slot.ensures.puts c.forget_ticket.ensures.puts c.forget_client.ensures.puts
+    c.take_at.ensures
+
+pub returns-in-None-clause-found : goal.returns-in-None-clause-found
+returns-in-None-clause-found g c =
+    let i = c.self.inside in
+    tables_ticket i.slots i.by_ticket i.by_client i.realms.items c.self.invariant c.args.self.now
+    c.self.view_is c.args.realm c.args.ticket None (sym c.ticket_slot.ensures ∙ c.in-None.is)
+
+pub returns-in-None-clause-entries : goal.returns-in-None-clause-entries
+returns-in-None-clause-entries g c =
+    let i = c.self.inside in
+    remove_nothing i.slots i.by_ticket i.by_client i.realms.items c.self.invariant c.args.self.now
+    c.self.view_is c.args.realm c.args.ticket (sym c.ticket_slot.ensures ∙ c.in-None.is)
+
+pub returns-in-Some-clause-found : goal.returns-in-Some-clause-found
+returns-in-Some-clause-found g c =
+    let i = c.self.inside in
+    remove_found i.slots i.by_ticket i.by_client i.realms.items c.self.invariant c.args.self.now
+    c.self.view_is c.args.realm c.args.ticket c.in-Some.at c.take-slot.result
+    (shown c.take-slot.result.entry) c.mark_of.result c.mark_of.ensures
+    (sym c.ticket_slot.ensures ∙ c.in-Some.is) c.take-slot.ensures.was
+
+pub returns-in-Some-clause-entries : goal.returns-in-Some-clause-entries
+returns-in-Some-clause-entries g c =
+    let i = c.self.inside in
+    remove_becomes i.slots i.by_ticket i.by_client i.realms.items c.self.invariant c.args.self.now
+    c.self.view_is c.args.realm c.args.ticket c.in-Some.at c.take-slot.result
+    (shown c.take-slot.result.entry) c.mark_of.result c.mark_of.ensures
+    (sym c.ticket_slot.ensures ∙ c.in-Some.is) c.take-slot.ensures.was c.take-slot.new.slots
+    c.forget_ticket.new.index c.forget_client.new.index c.take_at.new.realms.items
+    c.take-slot.ensures.puts c.forget_ticket.ensures.puts c.forget_client.ensures.puts
+    c.take_at.ensures
+
+pub returns-in-Some-clause-room : goal.returns-in-Some-clause-room
+returns-in-Some-clause-room g c =
+    let i = c.self.inside in
+    remove_room i.slots i.by_ticket i.by_client i.realms.items c.self.invariant c.args.self.now
+    c.self.view_is c.args.realm c.args.ticket c.in-Some.at c.take-slot.result
+    (shown c.take-slot.result.entry) c.mark_of.result c.mark_of.ensures
+    (sym c.ticket_slot.ensures ∙ c.in-Some.is) c.take-slot.ensures.was c.take-slot.new.slots
+    c.forget_ticket.new.index c.forget_client.new.index c.take_at.new.realms.items
+    c.take-slot.ensures.puts c.forget_ticket.ensures.puts c.forget_client.ensures.puts
+    c.take_at.ensures c.take-slot.ensures.room c.forget_ticket.ensures.room
+    c.forget_client.ensures.room
+
+pub returns-in-Some-clause-keeps : goal.returns-in-Some-clause-keeps
+returns-in-Some-clause-keeps g c =
+    let i = c.self.inside in
+    remove_keeps i.slots i.by_ticket i.by_client i.realms.items c.self.invariant c.args.self.now
+    c.self.view_is c.args.realm c.args.ticket c.in-Some.at c.take-slot.result
+    (shown c.take-slot.result.entry) c.mark_of.result c.mark_of.ensures
+    (sym c.ticket_slot.ensures ∙ c.in-Some.is) c.take-slot.ensures.was c.take-slot.new.slots
+    c.forget_ticket.new.index c.forget_client.new.index c.take_at.new.realms.items
+    c.take-slot.ensures.puts c.forget_ticket.ensures.puts c.forget_client.ensures.puts
+    c.take_at.ensures

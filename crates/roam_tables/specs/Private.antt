@@ -1,0 +1,4 @@
+-- Words of private functions and of invariants: no contract of a public call names one.
+pub mod Rising
+pub mod Marks
+pub mod Indexes

@@ -1,0 +1,84 @@
+//! What happened, as a trace keeps it.
+
+ghost use Rattle.std.specs.Prelude.{◌≡◌, ◌↔◌, IsTrue};
+ghost use Rattle.roam_core.specs.Shown.{shown_event};
+ghost use Rattle.roam_trace.specs.Stored.{shown_came};
+
+use roam_conf::{Endpoint, Place};
+use roam_core::Event;
+use roam_route::Datagram;
+use roam_wire::Octets;
+use std::alloc::Allocator;
+
+/// What happened. The small fields stand first, beside the enum's own tag, so that it takes 48 octets,
+/// 8 fewer than an `Event`.
+#[derive(Drop)]
+pub(crate) enum StoredEvent<A: Allocator> {
+    /// A datagram arrived.
+    Arrived {
+        at: Place,
+        from: Endpoint,
+        /// In milliseconds.
+        now: u64,
+        octets: Octets<A>,
+    },
+    /// A shard's timer fired.
+    Ticked {
+        shard: u16,
+        /// In milliseconds.
+        now: u64,
+    },
+}
+
+impl<A: Allocator> StoredEvent<A> {
+    /// The same event. Takes no memory.
+    pub(crate) fn new(event: Event<A>) -> StoredEvent<A>
+        ensures { shown_came result ≡ shown_event event }
+    {
+        match event {
+            Event::Arrive { now, datagram } => {
+                let Datagram { at, from, octets } = datagram;
+                StoredEvent::Arrived {
+                    at,
+                    from,
+                    now,
+                    octets,
+                }
+            }
+            Event::Tick { now, shard } => StoredEvent::Ticked { shard, now },
+        }
+    }
+
+    /// Whether it is this event. Takes no memory.
+    pub(crate) fn is(&self, event: &Event<A>) -> bool
+        ensures { IsTrue result ↔ (shown_came self.now ≡ shown_event event.now) }
+    {
+        match (self, event) {
+            (
+                StoredEvent::Arrived {
+                    at,
+                    from,
+                    now,
+                    octets,
+                },
+                Event::Arrive {
+                    now: other,
+                    datagram,
+                },
+            ) => {
+                now == other
+                    && *at == datagram.at
+                    && *from == datagram.from
+                    && octets.as_slice() == datagram.octets.as_slice()
+            }
+            (
+                StoredEvent::Ticked { shard, now },
+                Event::Tick {
+                    now: other,
+                    shard: also,
+                },
+            ) => now == other && shard == also,
+            _ => false,
+        }
+    }
+}
