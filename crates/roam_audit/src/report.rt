@@ -26,8 +26,8 @@ pub struct Report<A: Allocator, N: Opened> {
 }
 
 impl<A: Allocator, N: Opened> Report<A, N> {
-    ghost use Rattle.std.specs.Prelude.{◌≡◌, ◌↔◌, ℕ, Err, IsOk};
-    ghost use Rattle.roam_audit.specs.Shown.{recorded, shown_receipts};
+    ghost use Rattle.std.specs.Prelude.{◌≡◌, ◌↔◌, ◌-◌, ◌^◌, ℕ, Err, IsOk, min};
+    ghost use Rattle.roam_audit.specs.Shown.{count_of_steps, recorded, shown_receipts};
     ghost use Rattle.roam_audit.specs.Audit.{IsInOrder, IsFirstUneven, AreOfFirstWrong};
 
     /// Compares what was recorded with what the callers have. Takes no memory.
@@ -47,5 +47,16 @@ impl<A: Allocator, N: Opened> Report<A, N> {
             Ok(()) => self.check_receipts(receipts),
             Err(fault) => Err(fault),
         }
+    }
+
+    /// How many steps were recorded of all shards, those that were let go of too; as many as 64 bits hold.
+    pub fn count_steps(&self) -> u64
+        ensures { result ≡ min (count_of_steps self.now.fronts.items) (2 ^ 64 - 1) }
+    {
+        let mut count = 0u64;
+        for front in self.fronts.iter() {
+            count = count.saturating_add(front.len());
+        }
+        count
     }
 }

@@ -16,4 +16,5 @@ pub use laws::{
     isolated_ledgers, isolated_realms, one_realm, own_part, provenance, realms_open, two_worlds,
 };
 pub use runs::{Outcome, run};
+pub use shard_room::with_room;
 pub use stepper::Stepper;

@@ -46,8 +46,8 @@ fn most_of<A: Allocator>(room: &Option<Room<A>>) -> usize
     }
 }
 
-/// Adds how many packets a realm sends at most. A sum that isn't a size can't be had either.
-fn with_room<A: Allocator>(most: usize, room: &Option<Room<A>>) -> Result<usize, NoMemory>
+/// Adds how many packets a realm sends at most at a tick. A sum that isn't a size can't be had either.
+pub fn with_room<A: Allocator>(most: usize, room: &Option<Room<A>>) -> Result<usize, NoMemory>
     ensures { IfOk result (λ sum. sum ≡ most + most_of room.now) }
 {
     most.checked_add(most_of(room)).ok_or(NoMemory)

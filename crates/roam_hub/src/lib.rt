@@ -36,5 +36,5 @@ pub use roam_audit::{AuditFault, Audited, Receipt, Report, Seat, split};
 pub use roam_book::{Gauges, Rest, SERVER_LINKS};
 pub use roam_history::{Blanks, Front, Opened};
 pub use roam_pending::Requester;
-pub use roam_ring::{Intake, Outlet, ring};
+pub use roam_port::{Intake, Outlet, ring};
 pub use roam_shard::Paused;

@@ -183,6 +183,21 @@ fn comma(at: usize) -> &'static str {
     if at == 0 { "" } else { "," }
 }
 
+/// Adds which realm or peer of its list is told, by its name, and what was counted of it.
+fn write_named(
+    out: &mut String,
+    word: &str,
+    at: usize,
+    name: &str,
+    totals: TotalsText,
+) -> Result<(), AllocError> {
+    let comma = comma(at);
+    match totals.1 {
+        StatusForm::Text => write!(out, "{word} {name}: {totals}"),
+        StatusForm::Json => write!(out, "{comma}{{\"name\":\"{name}\",{totals}"),
+    }
+}
+
 /// Adds the home servers of a realm.
 fn write_servers<C: Counts>(
     out: &mut String,
@@ -224,14 +239,7 @@ fn write_realms<C: Counts>(
     for (at, realm) in config.realms.iter().enumerate() {
         let number = u16::try_from(at).unwrap_or(u16::MAX);
         let totals = TotalsText(Totals::of(counts, Subject::Realm(number)), form);
-        let name = realm.name.as_str();
-        match form {
-            StatusForm::Text => write!(out, "realm {name}: {totals}")?,
-            StatusForm::Json => {
-                let comma = comma(at);
-                write!(out, "{comma}{{\"name\":\"{name}\",{totals}")?;
-            }
-        }
+        write_named(out, "realm", at, realm.name.as_str(), totals)?;
         let gauges = [
             ("waiting", Gauge::Waiting(number)),
             ("held", Gauge::Held(number)),
@@ -261,14 +269,8 @@ fn write_peers<C: Counts>(
     for (at, peer) in config.peers.iter().enumerate() {
         let number = u16::try_from(at).unwrap_or(u16::MAX);
         let totals = TotalsText(Totals::of(counts, Subject::Peer(number)), form);
-        let name = peer.name.as_str();
-        match form {
-            StatusForm::Text => writeln!(out, "peer {name}: {totals}")?,
-            StatusForm::Json => {
-                let comma = comma(at);
-                write!(out, "{comma}{{\"name\":\"{name}\",{totals}}}")?;
-            }
-        }
+        write_named(out, "peer", at, peer.name.as_str(), totals)?;
+        out.push_str(if form == StatusForm::Json { "}" } else { "\n" })?;
     }
     Ok(())
 }

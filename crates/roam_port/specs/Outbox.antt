@@ -1,8 +1,8 @@
 -- The packets of a thread that are to leave: those that wait, the oldest first, and those that are lost (ours).
 use Rattle.std.specs.Prelude.{◌≡◌, ◌⊎◌, List, [], ◌∷◌, ◌++◌, Option, Result, Ok, Err, length}
 use Rattle.roam_route.specs.declared.datagram.Out.{Out}
-use Rattle.roam_ring.specs.Ring.{known_packets}
-use Rattle.roam_ring.specs.declared.making.TheConstants.{RING_CAPACITY}
+use Rattle.roam_port.specs.Ring.{known_packets}
+use Rattle.roam_port.specs.declared.making.TheConstants.{RING_CAPACITY}
 use Rattle.roam_port.specs.Losses.{counted, counted_if, cause_of}
 use Rattle.roam_port.specs.Port.{PortCall}
 use Rattle.roam_port.specs.Sending.{SendsFrom}

@@ -1,12 +1,11 @@
 //! The packets of a thread that are to leave.
 
 ghost use Rattle.std.specs.Prelude.{◌≡◌, ◌≤◌, ◌+◌, length};
-ghost use Rattle.roam_ring.specs.Ring.{AreOneRing, IsFirstInFirstOut, put_packets, taken_packets};
-ghost use Rattle.roam_ring.specs.declared.making.TheConstants.{RING_CAPACITY};
+ghost use Rattle.roam_port.specs.Ring.{AreOneRing, IsFirstInFirstOut, put_packets, taken_packets};
+ghost use Rattle.roam_port.specs.declared.making.TheConstants.{RING_CAPACITY};
 ghost use Rattle.roam_port.specs.Losses as spec;
 
-use crate::{LossCause, Losses, Port, SendFault, send_packet};
-use roam_ring::{Intake, Outlet, RING_CAPACITY, ring};
+use crate::{Intake, LossCause, Losses, Outlet, Port, RING_CAPACITY, SendFault, ring, send_packet};
 use roam_route::Out;
 use roam_wire::NoMemory;
 use std::alloc::Allocator;
@@ -67,7 +66,7 @@ impl<A: Allocator + Copy> Outbox<A> {
 
 impl<A: Allocator> Outbox<A> {
     ghost use Rattle.std.specs.Prelude.{◌⊎◌, ◌↔◌, ◌<◌, ◌∷◌, [], IsTrue, IfSome, IfNone};
-    ghost use Rattle.roam_ring.specs.Ring.{known_room};
+    ghost use Rattle.roam_port.specs.Ring.{known_room};
     ghost use Rattle.roam_port.specs.Losses.{no_losses, counted_if};
     ghost use Rattle.roam_port.specs.Outbox.{waiting_packets, IsPut, IsLostBehind, IsLeft, SendsNext};
 

@@ -36,7 +36,7 @@ use crate::threads::notice::Notice;
 use log::Log;
 use roam_book::Start;
 use roam_conf::Config;
-use roam_hub::{Audited, Blanks, Gate, Hub, Opened, Seat};
+use roam_hub::{Blanks, Gate, Hub, Opened, Seat};
 use roam_port::Outbox;
 use roam_shard::{Paused, first_starts};
 use std::alloc::Global;
@@ -210,15 +210,6 @@ fn tell_losses<R: Log>(rt: &R, config: &Config, losses: &SharedLosses) {
     }
 }
 
-/// How many steps an audited hub recorded.
-fn count_steps<N: Opened>(audited: &Audited<Global, N>) -> u64 {
-    let mut count = 0u64;
-    for front in audited.report().fronts.iter() {
-        count = count.saturating_add(front.len());
-    }
-    count
-}
-
 /// What is left of a hub that was closed.
 #[derive(Drop)]
 struct Left {
@@ -264,7 +255,7 @@ fn run_hub<
         next,
         outboxes,
         shards,
-        steps: count_steps(&audited),
+        steps: audited.report().count_steps(),
     })
 }
 

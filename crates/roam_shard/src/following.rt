@@ -105,7 +105,8 @@ fn clear_others<A: Allocator + Copy>(entries: &mut Tables<A>, change: Succession
     ensures stay { (r : ℕ) → GoesOn (shown change.entry.from.now) (shown change.entry.to.now) change.entry.shard r
         → entries_in entries.new r ≡ entries_in entries.old r }
     ensures gone { (r : ℕ) → r < vec_len change.entry.to.now.realms
-        → ¬ GoesOn (shown change.entry.from.now) (shown change.entry.to.now) change.entry.shard r → entries_in entries.new r ≡ [] }
+        → ¬ GoesOn (shown change.entry.from.now) (shown change.entry.to.now) change.entry.shard r
+        → entries_in entries.new r ≡ [] }
     ensures lists { ((r : ℕ) → IsEntryList (entries_in entries.old r))
         → (r : ℕ) → IsEntryList (entries_in entries.new r) }
     ensures realms { length entries.new ≡ length entries.old }
@@ -133,8 +134,8 @@ fn go_over<A: Allocator + Copy>(
     requires can { GoesOn (shown change.from.now) (shown change.to.now) change.shard realm → (n : RealmNumbers A)
         → slice_get before.old.items realm ≡ Some (Some n)
         → CanGoOver (realm_config (shown change.to.now) realm) n }
-    ensures moved { IsMoved (shown change.entry.from.now) (shown change.entry.to.now) change.entry.shard realm before.old.items
-        after.old.items after.new.items }
+    ensures moved { IsMoved (shown change.entry.from.now) (shown change.entry.to.now) change.entry.shard realm
+        before.old.items after.old.items after.new.items }
     ensures others { (r : ℕ) → r ≢ realm
         → slice_get after.new.items r ≡ slice_get after.old.items r }
     ensures before { (r : ℕ) → r ≢ realm
@@ -166,8 +167,8 @@ fn all_over<A: Allocator + Copy>(
         → slice_get before.old.items r ≡ Some (Some n)
         → CanGoOver (realm_config (shown change.to.now) r) n }
     ensures moved { (r : ℕ) → r < vec_len change.entry.to.now.realms
-        → IsMoved (shown change.entry.from.now) (shown change.entry.to.now) change.entry.shard r before.old.items after.items
-        result.items }
+        → IsMoved (shown change.entry.from.now) (shown change.entry.to.now) change.entry.shard r before.old.items
+        after.items result.items }
     ensures count { length result.items ≡ length after.items }
 {
     for realm in 0..change.to.realms.len() {

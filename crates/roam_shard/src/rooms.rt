@@ -1,15 +1,16 @@
 //! The memory of a shard's tick, taken before anything changes.
 
-ghost use Rattle.std.specs.Prelude.{◌≡◌, ◌+◌, ◌≤◌, [], false, true, is_some, length, IfOk, IfSome, vec_len};
+ghost use Rattle.std.specs.Prelude.{◌≡◌, ◌≤◌, [], false, true, is_some, length, IfOk, IfSome, vec_len};
 ghost use Rattle.roam_conf.specs.Shown.{shown};
 ghost use Rattle.roam_tables.specs.Stands.{entries_in};
-ghost use Rattle.roam_core.specs.ShardRooms.{AreRooms, IsRealmRoom, most_of, most_of_all};
+ghost use Rattle.roam_core.specs.ShardRooms.{AreRooms, IsRealmRoom, most_of_all};
 ghost use Rattle.roam_shard.specs.Private.Rooms.{AllTwice, HasPlaces, IsTwice};
 ghost use Rattle.roam_shard.specs.ShardView.{IsShard, shown_opening, states_in};
 
 use crate::answer_pair::AnswerPair;
 use crate::opening::Opening;
 use roam_book::{RealmNumbers, Room, room_for};
+use roam_core::with_room;
 use roam_tables::Tables;
 use roam_wire::NoMemory;
 use std::alloc::Allocator;
@@ -37,23 +38,6 @@ fn room_at<A: Allocator + Copy>(
     }
     let room = room_for(alloc, realm, entries, now, true)?;
     Ok(Some(room))
-}
-
-/// How many packets a realm sends at most.
-fn most_of<A: Allocator>(room: &Option<Room<A>>) -> usize
-    ensures { result ≡ most_of room.now }
-{
-    match room {
-        Some(room) => room.most(),
-        None => 0,
-    }
-}
-
-/// Adds how many packets a realm sends at most. A sum that isn't a size can't be had either.
-fn with_room<A: Allocator>(most: usize, room: &Option<Room<A>>) -> Result<usize, NoMemory>
-    ensures { IfOk result (λ sum. sum ≡ most + most_of room.now) }
-{
-    most.checked_add(most_of(room)).ok_or(NoMemory)
 }
 
 /// All the memory of a shard's tick, for all its realms.

@@ -10,9 +10,8 @@ use crate::system::bind::BoundSocket;
 use crate::system::socket::Socket;
 use crate::threads::context::WorkerContext;
 use crate::threads::counting::Counting;
-use crate::threads::exchanges::Exchanges;
 use crate::threads::logger::{ExchangeQueues, Logger};
-use crate::threads::notice::{Notice, Notices};
+use crate::threads::notice::Notice;
 use crate::threads::outgoing::Outgoing;
 use crate::threads::receiver::Receiver;
 use crate::threads::rests::Rests;
@@ -37,16 +36,12 @@ pub struct ReadyThreads<'s, 'c, G, N: Opened> {
     pub logger: Logger<'s>,
 }
 
-/// What a worker or the timer has that it owns.
+/// What a worker or the timer has, with what its kit leaves it: where it waits for what comes, and room for a datagram.
 #[derive(Drop)]
-struct Parts<N: Opened> {
-    number: usize,
-    seat: Seat<Global, N>,
-    outbox: Outbox<Global>,
-    room: Poll,
-    events: Events<Global>,
-    notices: Notices,
-    exchanges: Exchanges,
+struct Equipped<'s, 'c, G, N: Opened> {
+    context: WorkerContext<'s, 'c, G, N>,
+    arrivals: Poll,
+    buffer: Vec<u8>,
 }
 
 /// The sockets that one worker receives from.
@@ -153,21 +148,28 @@ impl<'s, 'c, G, N: Opened> Builder<'s, 'c, G, N> {
         }
     }
 
-    /// What a worker or the timer has. The packets that still wait in its outbox are sent, where there is room for them
-    /// now.
-    fn context(&self, parts: Parts<N>) -> Result<WorkerContext<'s, 'c, G, N>, ServeFault>
+    /// What the thread of this number has, a worker or the timer, made of its kit. The packets that still wait in its
+    /// outbox are sent, where there is room for them now.
+    fn equip(
+        &mut self,
+        number: usize,
+        seat: Seat<Global, N>,
+        outbox: Outbox<Global>,
+        kit: Kit,
+    ) -> Result<Equipped<'s, 'c, G, N>, ServeFault>
         ensures { IfErr result IsAfterBinding }
     {
         let shared = self.shared;
-        let Parts {
-            number,
-            seat,
-            outbox,
-            room,
-            events,
+        let Kit {
+            polls,
             notices,
+            queue,
             exchanges,
-        } = parts;
+            lines,
+            room_events,
+            buffer,
+        } = kit;
+        self.queues.take(queue, lines)?;
         let workers = usize::from(shared.config.shards);
         let counting = Counting {
             config: shared.config,
@@ -181,12 +183,12 @@ impl<'s, 'c, G, N: Opened> Builder<'s, 'c, G, N> {
             ports: ports(shared.alloc, self.sockets, number, workers)?,
             losses: shared.losses,
             counting,
-            room,
-            events,
+            room: polls.room,
+            events: room_events,
             is_blocked: false,
         };
         outgoing.send();
-        Ok(WorkerContext {
+        let context = WorkerContext {
             shared,
             seat,
             outgoing,
@@ -194,6 +196,11 @@ impl<'s, 'c, G, N: Opened> Builder<'s, 'c, G, N> {
             exchanges,
             counting,
             now: 0,
+        };
+        Ok(Equipped {
+            context,
+            arrivals: polls.arrivals,
+            buffer,
         })
     }
 
@@ -208,35 +215,21 @@ impl<'s, 'c, G, N: Opened> Builder<'s, 'c, G, N> {
     ) -> Result<Worker<'s, 'c, G, N>, ServeFault>
         ensures { IfErr result IsAfterBinding }
     {
-        let Kit {
-            polls,
-            notices,
-            queue,
-            exchanges,
-            lines,
-            room_events,
+        let Equipped {
+            context,
+            arrivals,
             buffer,
-        } = kit;
-        self.queues.take(queue, lines)?;
-        let context = self.context(Parts {
-            number,
-            seat,
-            outbox,
-            room: polls.room,
-            events: room_events,
-            notices,
-            exchanges,
-        })?;
+        } = self.equip(number, seat, outbox, kit)?;
         let alloc = self.shared.alloc;
         let receivers = receivers(alloc, self.sockets, number)?;
-        register(&polls.arrivals, receivers.as_slice())?;
+        register(&arrivals, receivers.as_slice())?;
         let events = Events::with_capacity(alloc, receivers.len().saturating_add(2))?;
         let ready = Vec::with_capacity(alloc, receivers.len())?;
         Ok(Worker {
             context,
             receivers,
             ready,
-            poll: polls.arrivals,
+            poll: arrivals,
             events,
             buffer,
         })
@@ -251,29 +244,16 @@ impl<'s, 'c, G, N: Opened> Builder<'s, 'c, G, N> {
     ) -> Result<Timer<'s, 'c, G, N>, ServeFault>
         ensures { IfErr result IsAfterBinding }
     {
-        let Kit {
-            polls,
-            notices,
-            queue,
-            exchanges,
-            lines,
-            room_events,
-            ..
-        } = kit;
-        self.queues.take(queue, lines)?;
         let shared = self.shared;
-        let context = self.context(Parts {
-            number: usize::from(shared.config.shards),
-            seat,
-            outbox,
-            room: polls.room,
-            events: room_events,
-            notices,
-            exchanges,
-        })?;
+        let number = usize::from(shared.config.shards);
+        let Equipped {
+            context,
+            arrivals,
+            ..
+        } = self.equip(number, seat, outbox, kit)?;
         Ok(Timer {
             context,
-            poll: polls.arrivals,
+            poll: arrivals,
             events: Events::with_capacity(shared.alloc, 2)?,
             told: [None; 4],
             is_stop_told: false,

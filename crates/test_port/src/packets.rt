@@ -1,7 +1,7 @@
 //! Packets that are known by their numbers.
 
 use roam_conf::{Endpoint, Place};
-use roam_ring::Intake;
+use roam_port::Intake;
 use roam_route::Out;
 use roam_wire::{NoMemory, Octets};
 use std::alloc::Allocator;

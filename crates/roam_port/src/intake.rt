@@ -14,8 +14,8 @@ pub struct Intake<A: Allocator> {
 impl<A: Allocator> Intake<A> {
     ghost use Rattle.std.specs.Prelude.{◌≡◌, ◌+◌, ◌<◌, ◌≤◌, ◌↔◌, [], ◌∷◌, ◌++◌, length, IsTrue, IsSome, IfSome, IfNone};
     ghost use mathlib.Core.List.{IsPrefix};
-    ghost use Rattle.roam_ring.specs.Ring.{AreOneRing, IsSameIntake, LooksIntoRing, SeesIntoRing, IsFirstInFirstOut};
-    ghost use Rattle.roam_ring.specs.Ring.{taken_packets, known_packets};
+    ghost use Rattle.roam_port.specs.Ring.{AreOneRing, IsSameIntake, LooksIntoRing, SeesIntoRing, IsFirstInFirstOut};
+    ghost use Rattle.roam_port.specs.Ring.{taken_packets, known_packets};
 
     /// Takes the oldest packet of the ring, or answers that it has seen none there.
     pub fn take(&mut self) -> Option<Out<A>>

@@ -2,7 +2,7 @@
 
 ghost use Rattle.std.specs.Prelude.{◌≡◌, IfOk};
 
-use roam_ring::ring;
+use roam_port::ring;
 use roam_route::Out;
 use roam_wire::NoMemory;
 use std::alloc::Allocator;

@@ -2,7 +2,7 @@
 
 use crate::callers::through;
 use crate::packets::{number, packet, taken_in_order};
-use roam_ring::{Outlet, ring};
+use roam_port::{Outlet, ring};
 use roam_wire::NoMemory;
 use std::alloc::Allocator;
 use std::test::Fail;

@@ -4,8 +4,8 @@ use Rattle.std.specs.Prelude.{◌≡◌, ◌≤◌, ℕ, List, ◌++◌}
 use mathlib.Core.List.{IsPrefix}
 use Rattle.rtrb.specs.Ring.{sent, known_free, received, known_items, IsPair, SameProducer, SameConsumer}
 use Rattle.roam_route.specs.declared.datagram.Out.{Out}
-use Rattle.roam_ring.specs.declared.outlet.Outlet.{Outlet}
-use Rattle.roam_ring.specs.declared.intake.Intake.{Intake}
+use Rattle.roam_port.specs.declared.outlet.Outlet.{Outlet}
+use Rattle.roam_port.specs.declared.intake.Intake.{Intake}
 
 -- every packet that was put so far
 abbrev pub put_packets : {A : Type 0} → Outlet A → List (Out A)

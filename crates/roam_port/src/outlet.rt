@@ -2,7 +2,7 @@
 
 ghost use Rattle.std.specs.Prelude.{◌≡◌};
 ghost use Rattle.rtrb.specs.Ring.{producer_capacity};
-ghost use Rattle.roam_ring.specs.declared.making.TheConstants.{RING_CAPACITY};
+ghost use Rattle.roam_port.specs.declared.making.TheConstants.{RING_CAPACITY};
 
 use crate::Intake;
 use roam_route::Out;
@@ -18,8 +18,8 @@ pub struct Outlet<A: Allocator> {
 
 impl<A: Allocator> Outlet<A> {
     ghost use Rattle.std.specs.Prelude.{◌≡◌, ◌+◌, ◌<◌, ◌≤◌, [], ◌∷◌, ◌++◌, length, IsOk, OnOk, OnErr, IfErr};
-    ghost use Rattle.roam_ring.specs.Ring.{AreOneRing, IsSameOutlet, LooksIntoRing, SeesIntoRing, put_packets};
-    ghost use Rattle.roam_ring.specs.Ring.{known_room, taken_packets};
+    ghost use Rattle.roam_port.specs.Ring.{AreOneRing, IsSameOutlet, LooksIntoRing, SeesIntoRing, put_packets};
+    ghost use Rattle.roam_port.specs.Ring.{known_room, taken_packets};
 
     /// Puts a packet behind all that lie in the ring, or hands it back where the ring is full.
     pub fn put(&mut self, out: Out<A>) -> Result<(), Out<A>>

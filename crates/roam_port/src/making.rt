@@ -1,7 +1,7 @@
 //! A ring, by its two ends.
 
 ghost use Rattle.std.specs.Prelude.{◌≡◌, [], IfOk};
-ghost use Rattle.roam_ring.specs.Ring.{AreOneRing, put_packets, known_room, taken_packets, known_packets};
+ghost use Rattle.roam_port.specs.Ring.{AreOneRing, put_packets, known_room, taken_packets, known_packets};
 
 use crate::{Intake, Outlet};
 use roam_wire::NoMemory;
