@@ -1,5 +1,5 @@
 #!/usr/bin/env python3
-"""The quick pass over crates: syntax, names, types and borrows, and no proof.
+"""The quick pass over crates: layout, syntax, names, types and borrows, and no proof.
 
     tools/quick.py CRATE ..     (or: all)
 
@@ -20,6 +20,9 @@ import rtlib  # noqa: E402
 
 def passes(crate) -> bool:
     """Whether the quick pass finds nothing; what it finds is printed."""
+    if rtlib.fmt(crate.folder, "--check", sys.stdout):
+        print(f"{crate.name}: run rt fmt in its folder", flush=True)
+        return False
     words = crate.words(["--jobs", "1", "--only", ""], as_source=True)
     ran = subprocess.run([rtlib.RATTLE, "check", *words], cwd=crate.folder, stdout=subprocess.PIPE,
                          stderr=subprocess.STDOUT, errors="replace", check=False)

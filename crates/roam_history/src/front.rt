@@ -57,7 +57,9 @@ fn added<N: Opened, X, M: Plain<X, HistoryEntry, u64>>(
     ensures book { IfSome result (λ s. s.book ≡ seen.now.book) }
 {
     let mut seen = seen.again();
-    let mut offer: Offer<HistoryEntry, u64, OneHistory, Nothing> = seen.plain::<Nothing, X, M>(about);
+    let mut offer: Offer<HistoryEntry, u64, OneHistory, Nothing> = seen.plain::<Nothing, X, M>(
+        about,
+    );
     let mut pen = seen.no_pen();
     let found = head
         .word
