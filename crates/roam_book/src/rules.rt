@@ -9,4 +9,5 @@ pub mod replaced;
 pub mod replies;
 pub mod reply_outcome;
 pub mod requests;
+pub mod targets;
 pub mod ticks;

@@ -1,9 +1,11 @@
-//! Why a reverse request can't be forwarded (RFC 5176, section 3.5).
+//! Where a reverse request is forwarded to, or why it can't be (RFC 5176, section 3.5).
 
-ghost use Rattle.std.specs.Prelude.{◌≡◌};
+ghost use Rattle.std.specs.Prelude.{◌≡◌, ◌<◌, IfOk, Some, vec_len};
+ghost use Rattle.std.specs.Result.{result_err};
 ghost use Rattle.roam_wire.specs.Attributes.{first_value};
 ghost use Rattle.roam_conf.specs.Shown.{shown};
 ghost use Rattle.roam_reverse.specs.Causes.{cause, cause_by_name, cause_by_salt, is_realm};
+ghost use Rattle.roam_reverse.specs.Target.{target};
 
 use crate::ledger::Sessions;
 use crate::nas_target::target;
@@ -76,14 +78,41 @@ fn cause_by_salt(request: &View<'_>) -> Option<u32>
     }
 }
 
-/// The Error-Cause of a reverse request that can't be forwarded, of the first cause that holds;
-/// none where it can be. Takes no memory.
+/// The peer that a reverse request is forwarded to, or the Error-Cause of one that can't be forwarded,
+/// of the first cause that holds. Takes no memory.
 ///
 /// 502 where no peer is found for it, where its User-Name doesn't name this realm, or where it has
 /// neither a User-Name nor an Acct-Session-Id; 503 where it has no User-Name, and its session isn't
 /// an open one of that peer; 401 where it holds a salted string. Which realm its first User-Name names
 /// is said by who looked it up; here nothing of other realms is looked at.
 #[tactic(auto, unfolding(crate::specs::Causes::cause))]
+pub fn route_of<A: Allocator + Copy>(
+    config: &Config,
+    realm: u16,
+    named: Option<u16>,
+    request: &View<'_>,
+    sessions: &Sessions<A>,
+) -> Result<u16, u32>
+    ensures cause { result_err result ≡ cause (shown config.now).peers realm named
+        request.now.attributes sessions.now.sessions }
+    ensures target { IfOk result (λ peer. Some peer
+        ≡ target (shown config.now).peers request.now.attributes) }
+    ensures bound { IfOk result (λ peer. peer < vec_len config.now.peers) }
+{
+    let Some(peer) = target(config, request) else {
+        return Err(REQUEST_NOT_ROUTABLE);
+    };
+    if let Some(cause) = cause_by_name(realm, named, peer, request, sessions) {
+        return Err(cause);
+    }
+    match cause_by_salt(request) {
+        Some(cause) => Err(cause),
+        None => Ok(peer),
+    }
+}
+
+/// The Error-Cause of a reverse request that can't be forwarded, none where it can be: as `route_of`
+/// says it. Takes no memory.
 pub fn verdict<A: Allocator + Copy>(
     config: &Config,
     realm: u16,
@@ -94,11 +123,5 @@ pub fn verdict<A: Allocator + Copy>(
     ensures { result ≡ cause (shown config.now).peers realm named request.now.attributes
         sessions.now.sessions }
 {
-    let Some(peer) = target(config, request) else {
-        return Some(REQUEST_NOT_ROUTABLE);
-    };
-    match cause_by_name(realm, named, peer, request, sessions) {
-        Some(cause) => Some(cause),
-        None => cause_by_salt(request),
-    }
+    route_of(config, realm, named, request, sessions).err()
 }

@@ -17,7 +17,7 @@ mod open_session;
 mod session;
 mod session_index;
 
-pub use error_cause::verdict;
+pub use error_cause::{route_of, verdict};
 pub use laws::{
     closed_sessions, forwarded_has_target, ledgers_stay_ledgers, named_requests_need_no_session,
     numbers_of_statuses_and_causes, opened_sessions, sessions_of_a_peer, target_is_the_first,

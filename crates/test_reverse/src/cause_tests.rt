@@ -8,7 +8,7 @@ use roam_conf_reader::read_config;
 use roam_reverse::error_cause::{
     REQUEST_NOT_ROUTABLE, SESSION_CONTEXT_NOT_FOUND, UNSUPPORTED_ATTRIBUTE,
 };
-use roam_reverse::{Sessions, target, verdict};
+use roam_reverse::{Sessions, route_of, target, verdict};
 use roam_route::realm_of;
 use roam_wire::{NoMemory, View};
 use std::alloc::Global;
@@ -293,13 +293,13 @@ fn ledger(rt: &impl Abort, alloc: Global) -> Result<Sessions<Global>, NoMemory> 
     Ok(sessions)
 }
 
-/// Target and cause of a request to the first realm.
+/// Target and cause of a request to the first realm, and the peer that it is forwarded to.
 fn judged(
     rt: &impl Abort,
     alloc: Global,
     config: &Config,
     request: &str,
-) -> (Option<u16>, Option<u32>) {
+) -> (Option<u16>, Option<u32>, Option<u16>) {
     let sessions = ledger(rt, alloc).expect(rt, "memory");
     let octets = octets(rt, alloc, request);
     let view = View::read(&octets).expect(rt, "a packet");
@@ -307,16 +307,18 @@ fn judged(
     (
         target(config, &view),
         verdict(config, 0, named, &view, &sessions),
+        route_of(config, 0, named, &view, &sessions).ok(),
     )
 }
 
-/// Each request has this target and this cause.
+/// Each request has this target and this cause, and without a cause it is forwarded to its target.
 fn check_rows(rt: &impl Abort, alloc: Global, rows: &[Row]) -> Result<(), Fail> {
     let text = PARTS.concat(alloc).expect(rt, "memory");
     let config = read_config(alloc, &text).expect(rt, "a configuration");
     for (what, request, peer, cause) in rows {
+        let route = if cause.is_none() { *peer } else { None };
         assert!(rt;
-            judged(rt, alloc, &config, request) == (*peer, *cause),
+            judged(rt, alloc, &config, request) == (*peer, *cause, route),
             "{what}"
         );
     }

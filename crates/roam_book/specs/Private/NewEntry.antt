@@ -1,15 +1,16 @@
 -- How a new request is admitted, in steps: words of private functions alone (ours).
-use Rattle.std.specs.Prelude.{◌≡◌, ℕ, ◌<◌, ◌^◌, List, [], Option, Some, None, Result, Ok, Err, option_map, unwrap_or, is_some, true}
+use Rattle.std.specs.Prelude.{◌≡◌, ℕ, ◌<◌, ◌^◌, List, [], ◌∷◌, Option, Some, None, Result, Ok, Err, option_map, unwrap_or, is_some, true}
 use Rattle.roam_wire.specs.Reading.{packet_of}
 use Rattle.roam_wire.specs.declared.refusal.Refusal.{Refusal}
 use Rattle.roam_conf.specs.declared.place.Link.{Link}
+use Rattle.roam_conf.specs.declared.place.Link.TheVariants as link
 use Rattle.roam_fwd.specs.Forwarded.{forwarded_length}
 use Rattle.roam_pending.specs.PlainEntry.{PlainEntry, PlainRequest}
 use Rattle.roam_pending.specs.EntryList.{besides, find_client, first_done}
-use Rattle.roam_book.specs.RealmConfig.{RealmConfig, IsLink}
+use Rattle.roam_book.specs.RealmConfig.{RealmConfig, IsLink, links_from}
 use Rattle.roam_book.specs.RealmState.{RealmState, Target, next_toward}
 use Rattle.roam_book.specs.Turn.{Turn, Answers, refuses}
-use Rattle.roam_book.specs.OnRequest.{admit}
+use Rattle.roam_book.specs.OnRequest.{admit, targets}
 use Rattle.roam_book.specs.Sound.{CountsAsGone, IsRequest, gone_ticket}
 use Rattle.roam_book.specs.Private.Memory.{HasBuffers, IsOuts}
 use Rattle.roam_book.specs.declared.rules.admit.Supplies.{Supplies}
@@ -17,6 +18,8 @@ use Rattle.roam_book.specs.declared.rules.replaced.Replaced.{Replaced}
 use Rattle.roam_book.specs.declared.rules.requests.RequestPlan.{RequestPlan}
 use Rattle.roam_book.specs.declared.rules.requests.RequestPlan.TheVariants as plan
 use Rattle.roam_book.specs.declared.rules.admit_plan.AdmitPlan.{AdmitPlan}
+use Rattle.roam_book.specs.declared.rules.targets.Targets.{Targets}
+use Rattle.roam_book.specs.declared.rules.targets.Targets.TheVariants as kind
 
 -- a link with its next free Identifier (0 where it has none)
 abbrev pub target_at : RealmConfig → List ℕ → List PlainEntry → Link → Target
@@ -71,6 +74,23 @@ abbrev pub admits : RealmConfig → ℕ → RealmState → PlainRequest → Admi
 admits c now s q way =
     admit c now s (left_by way s.entries) q
     (target_at c s.cursors (once_gone way.gone s.entries) way.link)
+
+-- the links of targets, in the order of their use
+abbrev pub links_of : RealmConfig → Targets → List Link
+links_of c (kind.HomeServers service) = links_from c service 0
+links_of c (kind.AccessServer peer) = link.Coa peer ∷ []
+
+-- the access server among targets is a configured peer
+abbrev pub AreConfigured : RealmConfig → Targets → Type 0
+AreConfigured c (kind.HomeServers service) = Unit {0}
+AreConfigured c (kind.AccessServer peer) = IsLink c (link.Coa peer)
+
+-- a request is new that has these targets, while an entry counts as gone: no entry has its key then
+pub record IsNew (c : RealmConfig) (entries : List PlainEntry) (gone : Option Replaced) (found : Targets)
+    (q : PlainRequest) : Type 0 where
+  pub request : IsRequest c q
+  pub key : find_client q.key (once_gone gone entries) ≡ None
+  pub targets : links_of c found ≡ targets c q
 
 -- the way that was chosen for a new request at a moment does this turn; or it is refused in it
 pub record IsChosen (c : RealmConfig) (now : ℕ) (s : RealmState) (q : PlainRequest) (chosen : AdmitPlan)

@@ -4,14 +4,14 @@
 //! entries make way; that changes nothing. Then a new request is admitted.
 
 ghost use Rattle.std.specs.Prelude.{◌≡◌, ◌≢◌, ℕ, ◌<◌, ◌≤◌, ◌^◌, ◌∷◌, [], true, None};
-ghost use Rattle.std.specs.Prelude.{Some, IfOk, IfSome, IsOk, length};
+ghost use Rattle.std.specs.Prelude.{Some, IfErr, IfOk, IfSome, IsOk, length};
+ghost use Rattle.std.specs.Result.{result_err};
 ghost use Rattle.roam_wire.specs.Reading.{IsPacketText};
 ghost use Rattle.roam_pending.specs.EntryList.{besides, find_client, without_client};
 ghost use Rattle.roam_pending.specs.PlainEntry.{PlainRequest};
 ghost use Rattle.roam_pending.specs.Shown.{shown_standing};
-ghost use Rattle.roam_book.specs.Private.NewEntry.{Chooses, IsRequestPlan, IsWay, freed_link, once_gone};
-ghost use Rattle.roam_book.specs.Private.NewEntry.{straight_after};
-ghost use Rattle.roam_book.specs.Private.NewEntry.{target_at};
+ghost use Rattle.roam_book.specs.Private.NewEntry.{AreConfigured, Chooses, IsNew, IsRequestPlan, IsWay, freed_link};
+ghost use Rattle.roam_book.specs.Private.NewEntry.{links_of, once_gone, straight_after, target_at};
 ghost use Rattle.roam_book.specs.OnRequest.{at_target, first_seen, held_reply, is_reverse, nak_octets, new_request};
 ghost use Rattle.roam_book.specs.OnRequest.{of_key, on_request, packet_to_requester, reverse_cause, targets};
 ghost use Rattle.roam_book.specs.RealmConfig.{IsLink};
@@ -23,6 +23,7 @@ use crate::packets::answer::{Answer, Twin, nothing, one_packet, refused};
 use crate::packets::forwarding::{RequestRef, packet_to_requester};
 use crate::rules::admit_plan::AdmitPlan;
 use crate::rules::replaced::Replaced;
+use crate::rules::targets::Targets;
 use crate::state::realm_broker::RealmBroker;
 use crate::state::realm_settings::RealmSettings;
 use crate::state::service::{ServersFrom, Service};
@@ -155,85 +156,87 @@ impl<A: Allocator + Copy, E: Entries<A>> RealmBroker<'_, '_, '_, '_, A, E> {
         }
     }
 
-    /// The target of a request that is chosen at a moment, where the Identifiers of `freed` count as
-    /// free.
-    fn chosen_target(&self, now: u64, asked: RequestRef<'_>, freed: Option<Link>) -> Option<Link>
+    /// The one of a request's targets that is chosen at a moment, where the Identifiers of `freed` count
+    /// as free.
+    fn chosen_target(&self, now: u64, targets: Targets, freed: Option<Link>) -> Option<Link>
         requires realm { IsRealm E.Entries self.now }
-        requires request { IsRequest self.now.settings.now (shown_request asked) }
+        requires targets { AreConfigured self.now.settings.now targets }
         ensures chosen { result ≡ chosen_link self.now.settings.now now
             self.now.numbers.now.rests.items self.now.numbers.now.lanes.items freed
-            (targets self.now.settings.now (shown_request asked.entry)) }
+            (links_of self.now.settings.now targets) }
         ensures link { IfSome result (λ l. IsLink self.now.settings.now l) }
     {
-        let request = View::of_packet(asked.octets);
-        if is_reverse_request(request.code()) {
-            let peer = self.settings.target_of(&request)?;
-            return self.numbers.if_open(self.settings, Link::Coa(peer), freed);
+        match targets {
+            Targets::HomeServers(service) => {
+                let servers = ServersFrom { service, first: 0 };
+                self.numbers.chosen(self.settings, now, servers, freed)
+            }
+            Targets::AccessServer(peer) => {
+                self.numbers.if_open(self.settings, Link::Coa(peer), freed)
+            }
         }
-        let servers = ServersFrom {
-            service: Service::of_code(request.code()),
-            first: 0,
-        };
-        self.numbers.chosen(self.settings, now, servers, freed)
     }
 
-    /// A new request: there must be a ticket for it, and a target with a free Identifier. The entry
-    /// of its key, if there is one, counts as gone.
+    /// A new request with these targets: there must be a ticket for it, and a target with a free
+    /// Identifier. The entry of its key, if there is one, counts as gone.
     fn plan_admit(
         &self,
         now: u64,
-        asked: RequestRef<'_>,
         gone: Option<Replaced>,
+        targets: Targets,
     ) -> Result<AdmitPlan, Refusal>
         requires realm { IsRealm E.Entries self.now }
-        requires request { IsRequest self.now.settings.now (shown_request asked) }
         requires gone { CountsAsGone gone (entries E.Entries self.now) }
-        requires key { find_client asked.key (once_gone gone (entries E.Entries self.now)) ≡ None }
-        ensures { Chooses self.now.settings.now now (state E.Entries self.now)
-            (shown_request asked.entry) result
+        requires targets { AreConfigured self.now.settings.now targets }
+        ensures { (q : PlainRequest)
+            → IsNew self.now.settings.now (entries E.Entries self.now) gone targets q
+            → Chooses self.now.settings.now now (state E.Entries self.now) q result
             (new_request self.now.settings.now now (state E.Entries self.now)
-            (once_gone gone (entries E.Entries self.now)) (shown_request asked.entry)) }
+            (once_gone gone (entries E.Entries self.now)) q) }
     {
         if self.numbers.ticket == 1 << 63 {
             return Err(Refusal::Exhausted);
         }
-        match self.chosen_target(now, asked, freed_link(gone)) {
+        match self.chosen_target(now, targets, freed_link(gone)) {
             None => Err(Refusal::NoIdentifier),
             Some(link) => self.plan_at(gone, link),
         }
     }
 
-    /// A new request is refused or admitted, while an entry counts as gone.
-    fn plan_new(&self, now: u64, asked: RequestRef<'_>, gone: Option<Replaced>) -> RequestPlan<A>
+    /// A new request with these targets is refused or admitted, while an entry counts as gone.
+    fn plan_new(&self, now: u64, gone: Option<Replaced>, targets: Targets) -> RequestPlan<A>
         requires realm { IsRealm E.Entries self.now }
-        requires request { IsRequest self.now.settings.now (shown_request asked) }
         requires gone { CountsAsGone gone (entries E.Entries self.now) }
-        requires key { find_client asked.key (once_gone gone (entries E.Entries self.now)) ≡ None }
-        ensures { IsRequestPlan self.now.settings.now now (state E.Entries self.now)
-            (shown_request asked.entry) result
+        requires targets { AreConfigured self.now.settings.now targets }
+        ensures { (q : PlainRequest)
+            → IsNew self.now.settings.now (entries E.Entries self.now) gone targets q
+            → IsRequestPlan self.now.settings.now now (state E.Entries self.now) q result
             (new_request self.now.settings.now now (state E.Entries self.now)
-            (once_gone gone (entries E.Entries self.now)) (shown_request asked.entry)) }
+            (once_gone gone (entries E.Entries self.now)) q) }
     {
-        match self.plan_admit(now, asked, gone) {
+        match self.plan_admit(now, gone, targets) {
             Ok(way) => RequestPlan::Admitted(way),
             Err(why) => RequestPlan::Answered(refused(self.numbers.alloc, why)),
         }
     }
 
-    /// Why a reverse request isn't forwarded, if it isn't; of other requests nothing is asked.
-    fn reverse_cause(&self, asked: RequestRef<'_>) -> Option<u32>
+    /// The targets of a request, or why it is a reverse request that can't be forwarded.
+    fn targets_of(&self, asked: RequestRef<'_>) -> Result<Targets, u32>
         requires { IsPacketText asked.octets.now }
-        ensures cause { result ≡ reverse_cause self.now.settings.now (state E.Entries self.now)
-            asked.entry.named (shown_request asked.entry) }
-        ensures reverse { IfSome result (λ cause. is_reverse (shown_request asked.entry) ≡ true) }
+        ensures cause { result_err result ≡ reverse_cause self.now.settings.now
+            (state E.Entries self.now) asked.entry.named (shown_request asked.entry) }
+        ensures reverse { IfErr result (λ cause. is_reverse (shown_request asked.entry) ≡ true) }
+        ensures targets { IfOk result (λ found. links_of self.now.settings.now found
+            ≡ targets self.now.settings.now (shown_request asked.entry)) }
+        ensures configured { IfOk result (λ found. AreConfigured self.now.settings.now found) }
     {
         let request = View::of_packet(asked.octets);
         if is_reverse_request(request.code()) {
-            self.settings
-                .cause_of(asked.named, &request, &self.numbers.sessions)
-        } else {
-            None
+            let sessions = &self.numbers.sessions;
+            let peer = self.settings.route_of(asked.named, &request, sessions)?;
+            return Ok(Targets::AccessServer(peer));
         }
+        Ok(Targets::HomeServers(Service::of_code(request.code())))
     }
 
     /// A request that is no duplicate: a reverse request that can't be forwarded is answered by a
@@ -258,12 +261,12 @@ impl<A: Allocator + Copy, E: Entries<A>> RealmBroker<'_, '_, '_, '_, A, E> {
             (state E.Entries self.now) asked.entry.named (shown_request asked.entry)) ≡ []
             → IsOk result }
     {
-        match self.reverse_cause(asked) {
-            Some(cause) => {
+        match self.targets_of(asked) {
+            Err(cause) => {
                 let answer = refused_by_nak(self.numbers.alloc, self.settings, asked, cause)?;
                 Ok(RequestPlan::Answered(answer))
             }
-            None => Ok(self.plan_new(now, asked, gone)),
+            Ok(targets) => Ok(self.plan_new(now, gone, targets)),
         }
     }
 

@@ -1,7 +1,8 @@
 //! What the rules of a realm read of the configuration.
 
-ghost use Rattle.std.specs.Prelude.{◌≡◌, ◌↔◌, ℕ, ◌<◌, ◌≤◌, ◌+◌, IfSome, IsTrue, length};
+ghost use Rattle.std.specs.Prelude.{◌≡◌, ◌↔◌, ℕ, ◌<◌, ◌≤◌, ◌+◌, IfOk, IsTrue, Some, length};
 ghost use Rattle.std.specs.Prelude.{unwrap_or, vec_len};
+ghost use Rattle.std.specs.Result.{result_err};
 ghost use Rattle.roam_wire.specs.Secret.{IsSecret};
 ghost use Rattle.roam_conf.specs.Shown.{shown};
 ghost use Rattle.roam_conf.specs.Parts.{shown_realm, shown_peer, shown_server};
@@ -13,7 +14,7 @@ ghost use Rattle.roam_book.specs.RealmConfig.{IsRequester};
 
 use roam_conf::{Config, Endpoint, Link, Peer, Realm, Server};
 use roam_pending::Requester;
-use roam_reverse::{Sessions, target, verdict};
+use roam_reverse::{Sessions, route_of};
 use roam_wire::View;
 use std::alloc::Allocator;
 use std::marker::Model;
@@ -206,26 +207,21 @@ impl<'c> RealmSettings<'c> {
         }
     }
 
-    /// The peer that a reverse request is for, if there is one.
-    pub(crate) fn target_of(&self, request: &View<'_>) -> Option<u16>
-        ensures target { result ≡ target self.now.peers request.now.attributes }
-        ensures there { IfSome result (λ peer. peer < length self.now.peers) }
-    {
-        target(self.config, request)
-    }
-
-    /// Why a reverse request that names a realm, or none, isn't forwarded, as an Error-Cause, if it
-    /// isn't (RFC 5176, section 3.5).
-    pub(crate) fn cause_of<A: Allocator + Copy>(
+    /// The peer that a reverse request is forwarded to, or the Error-Cause of one that can't be forwarded,
+    /// by the realm that it names, if it names one (RFC 5176, section 3.5).
+    pub(crate) fn route_of<A: Allocator + Copy>(
         &self,
         named: Option<u16>,
         request: &View<'_>,
         sessions: &Sessions<A>,
-    ) -> Option<u32>
-        ensures { result ≡ cause self.now.peers self.now.index named request.now.attributes
-            sessions.now.sessions }
+    ) -> Result<u16, u32>
+        ensures cause { result_err result ≡ cause self.now.peers self.now.index named
+            request.now.attributes sessions.now.sessions }
+        ensures target { IfOk result (λ peer. Some peer
+            ≡ target self.now.peers request.now.attributes) }
+        ensures there { IfOk result (λ peer. peer < length self.now.peers) }
     {
-        verdict(self.config, self.realm, named, request, sessions)
+        route_of(self.config, self.realm, named, request, sessions)
     }
 
     /// The endpoint of a link of the realm.

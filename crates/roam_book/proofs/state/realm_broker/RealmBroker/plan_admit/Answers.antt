@@ -1,28 +1,32 @@
+use Rattle.std.proofs.Common.{ap, ◌∙◌}
 use Rattle.roam_book.specs.RealmTurn.{entries, state}
-use Rattle.roam_book.specs.Sound.{shown_request}
+use Rattle.roam_book.specs.Sound.{chosen_link}
 use Rattle.roam_book.proofs.RequestLemmas.{at-none, at-open}
 use Rattle.roam_book.proofs.WayLemmas.{chosen-same, straight-way}
 use Rattle.roam_book.proofs.state.realm_broker.RealmBroker.plan_admit.Goals as goal
 
 -- no link has a free Identifier
 pub returns-in-None : goal.returns-in-None
-returns-in-None g c =
+returns-in-None g c = λ q new.
     let r = c.args.self.now in
-    at-none r.settings.now c.args.now (entries g.E.Entries r) r.numbers.now c.args.gone
-    (shown_request c.args.asked) c.freed_link.result
-    c.requires.realm.sound c.requires.realm.list c.requires.gone c.if-self.false
-    c.freed_link.ensures c.in-None.ensures.chosen
+    let n = r.numbers.now in
+    at-none r.settings.now c.args.now (entries g.E.Entries r) n c.args.gone q c.freed_link.result
+    c.requires.realm.sound c.requires.realm.list c.requires.gone c.if-self.false c.freed_link.ensures
+    (c.in-None.ensures.chosen
+    ∙ ap (chosen_link r.settings.now c.args.now n.rests.items n.lanes.items c.freed_link.result) new.targets)
 
 -- the link that is chosen is the target's
 pub returns-in-Some : goal.returns-in-Some
-returns-in-Some g c =
+returns-in-Some g c = λ q new.
     let r = c.args.self.now in
-    let q = shown_request c.args.asked in
+    let n = r.numbers.now in
     let s = state g.E.Entries r in
-    let at = at-open r.settings.now c.args.now (entries g.E.Entries r) r.numbers.now c.args.gone q
+    let at = at-open r.settings.now c.args.now (entries g.E.Entries r) n c.args.gone q
     c.freed_link.result c.in-Some.link c.requires.realm.sound c.requires.realm.list c.requires.gone
-    c.if-self.false c.freed_link.ensures c.in-Some.ensures.chosen in
-    let way = straight-way r.settings.now s q c.args.gone c.in-Some.link c.requires.request
-    c.requires.realm.sound.ticket c.if-self.false c.requires.gone c.requires.key c.in-Some.ensures.link
+    c.if-self.false c.freed_link.ensures
+    (c.in-Some.ensures.chosen
+    ∙ ap (chosen_link r.settings.now c.args.now n.rests.items n.lanes.items c.freed_link.result) new.targets) in
+    let way = straight-way r.settings.now s q c.args.gone c.in-Some.link new.request
+    c.requires.realm.sound.ticket c.if-self.false c.requires.gone new.key c.in-Some.ensures.link
     (at.1) in
     chosen-same r.settings.now c.args.now s q c.plan_at.result _ _ at.0 (c.plan_at.ensures c.args.now q way)
