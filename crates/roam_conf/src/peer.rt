@@ -30,3 +30,14 @@ pub struct Peer {
         (λ s. (1 ≤ length (string_bytes s)) × (length (string_bytes s) ≤ 253)) },
     ghost coa_port: { ForSome coa (λ e. 1 ≤ e.port) },
 }
+
+impl Peer {
+    /// The octets of the shared secret: 1 to 64.
+    pub fn secret(&self) -> &[u8]
+        ensures text { result.now ≡ string_bytes self.now.secret }
+        ensures at_least_one { 1 ≤ length result.now }
+        ensures at_most_64 { length result.now ≤ 64 }
+    {
+        self.secret.as_bytes()
+    }
+}

@@ -1,6 +1,6 @@
 //! A home server of a realm.
 
-ghost use Rattle.std.specs.Prelude.{◌≤◌, length, string_bytes};
+ghost use Rattle.std.specs.Prelude.{◌≡◌, ◌≤◌, length, string_bytes};
 
 use crate::Endpoint;
 
@@ -17,4 +17,15 @@ pub struct Server {
     pub require_seal: bool,
     ghost secret_length: { (1 ≤ length (string_bytes secret)) × (length (string_bytes secret) ≤ 64) },
     ghost ports: { (1 ≤ auth.port) × (1 ≤ acct.port) },
+}
+
+impl Server {
+    /// The octets of the shared secret: 1 to 64.
+    pub fn secret(&self) -> &[u8]
+        ensures text { result.now ≡ string_bytes self.now.secret }
+        ensures at_least_one { 1 ≤ length result.now }
+        ensures at_most_64 { length result.now ≤ 64 }
+    {
+        self.secret.as_bytes()
+    }
 }

@@ -48,7 +48,7 @@ pub(crate) fn secret_of_peer(config: &Config, peer: u16) -> &[u8]
     ensures text { result.now ≡ peer_secret (shown config.now) peer }
     ensures secret { IsSecret result.now }
 {
-    config.peers[usize::from(peer)].secret.as_bytes()
+    config.peers[usize::from(peer)].secret()
 }
 
 /// The secret shared with a home server of a realm.
@@ -57,9 +57,7 @@ pub(crate) fn secret_of_home(config: &Config, realm: u16, server: u8) -> &[u8]
     ensures text { result.now ≡ home_secret (shown config.now) realm server }
     ensures secret { IsSecret result.now }
 {
-    config.realms[usize::from(realm)].servers[usize::from(server)]
-        .secret
-        .as_bytes()
+    config.realms[usize::from(realm)].servers[usize::from(server)].secret()
 }
 
 /// Whether a sender is a peer that is required to seal its Access-Requests.

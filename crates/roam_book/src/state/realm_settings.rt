@@ -154,24 +154,6 @@ impl<'c> RealmSettings<'c> {
         &self.config.peers[usize::from(peer)]
     }
 
-    /// The secret shared with a home server, of 1 to 64 octets.
-    fn secret_of_server(&self, server: u8) -> &[u8]
-        requires { server < length self.now.realm.servers }
-        ensures text { result.now ≡ server_secret self.now server }
-        ensures secret { IsSecret result.now }
-    {
-        self.server(server).secret.as_bytes()
-    }
-
-    /// The secret shared with a peer, of 1 to 64 octets.
-    fn secret_of_peer(&self, peer: u16) -> &[u8]
-        requires { peer < length self.now.peers }
-        ensures text { result.now ≡ peer_secret self.now peer }
-        ensures secret { IsSecret result.now }
-    {
-        self.peer(peer).secret.as_bytes()
-    }
-
     /// The secret shared with a link of the realm, of 1 to 64 octets.
     pub(crate) fn secret_of_link(&self, link: Link) -> &[u8]
         requires { IsLink self.now link }
@@ -179,8 +161,8 @@ impl<'c> RealmSettings<'c> {
         ensures secret { IsSecret result.now }
     {
         match link {
-            Link::Auth(server) | Link::Acct(server) => self.secret_of_server(server),
-            Link::Coa(peer) => self.secret_of_peer(peer),
+            Link::Auth(server) | Link::Acct(server) => self.server(server).secret(),
+            Link::Coa(peer) => self.peer(peer).secret(),
         }
     }
 
@@ -202,8 +184,8 @@ impl<'c> RealmSettings<'c> {
         ensures secret { IsSecret result.now }
     {
         match requester {
-            Requester::Peer(peer) => self.secret_of_peer(peer),
-            Requester::Home(server) => self.secret_of_server(server),
+            Requester::Peer(peer) => self.peer(peer).secret(),
+            Requester::Home(server) => self.server(server).secret(),
         }
     }
 
