@@ -1,15 +1,22 @@
 -- What a hub's calls do to a caller's seat (ours). A seat has seen a beginning of the one history of each
 -- shard; where a call is recorded its step stands in what the seat has then seen.
-use Rattle.std.specs.Prelude.{◌≡◌, ◌↔◌, ℕ, ◌+◌, ◌≤◌, Bool, false, List, [], ◌∷◌, ◌++◌, Option, Some, None, length, slice_get}
+use Rattle.std.specs.Prelude.{◌≡◌, ◌≢◌, ◌↔◌, ℕ, ◌+◌, ◌-◌, ◌^◌, ◌≤◌, min, Bool, false, List, [], ◌∷◌, ◌++◌, length}
+use Rattle.std.specs.Prelude.{Option, Some, None, slice_get, Result, IfErr, IfOk, IsErrOf, OnErr}
 use mathlib.Core.List.{IsPrefix}
-use Rattle.roam_core.specs.Events.{PlainEvent}
+use Rattle.roam_route.specs.Admission.{PlainJob}
+use Rattle.roam_route.specs.Events.{arrival_of}
+use Rattle.roam_route.specs.Shown.{shown_job}
+use Rattle.roam_core.specs.Events.{PlainEvent, arrives, ticks}
 use Rattle.roam_shard.specs.Twins.{NothingDue}
 use Rattle.roam_trace.specs.History.{IsHistory, end_of}
-use Rattle.roam_trace.specs.Steps.{PlainStep, shown_answer}
+use Rattle.roam_trace.specs.Steps.{PlainStep, octets_in, shown_answer}
 use Rattle.roam_history.specs.Entries.{HistoryEntry, steps_in, stored_of}
 use Rattle.roam_history.specs.HubOpening.{HubOpening, opening_at}
 use Rattle.roam_audit.specs.Seats.{SeatView, front_of, noted}
 use Rattle.roam_hub.specs.declared.answered.Answered.{Answered}
+use Rattle.roam_hub.specs.declared.answered.Refused.{Refused}
+use Rattle.roam_hub.specs.declared.fault.HubFault.{HubFault}
+use Rattle.roam_hub.specs.declared.fault.HubFault.TheVariants as hub
 
 -- whatever a call of a shard gives: all that the seat had seen of that shard begins what it has then seen.
 -- Of other shards it has seen what it had
@@ -71,3 +78,30 @@ module _ {A : Type 0} where
   IsTick o shard now event old new (Some a) =
       IsDueCall o shard now old new a.number (answered_step event a)
   IsTick o shard now event old new None = IsLook o shard now old new false
+
+  -- what a call with a job does. Where it was recorded, its step stands in the history of its shard with the answer
+  -- that is returned, and the octets are those of the steps that are then stored. Whatever it gives, of that shard's
+  -- history alone the seat has seen more. Where it wasn't recorded the seat counts nothing and the job comes back; it
+  -- is full only where as many steps are stored as the trace can hold, and its shard is there
+  pub record Calls (o : HubOpening) (shard now : ℕ) (job : PlainJob) (old new : SeatView)
+      (result : Result (Answered A) (Refused A)) : Type 0 where
+    pub call : IfOk result
+        (λ a. IsCall o a.shard old new a.number (answered_step (arrives now (arrival_of job)) a))
+    pub shard_is : IfOk result (λ a. a.shard ≡ shard)
+    pub octets : IfOk result
+        (λ a. a.octets ≡ min (octets_in (stored_of (front_of new a.shard))) (2 ^ 64 - 1))
+    pub seen : Sees shard old new
+    pub err : OnErr result (new.tallies ≡ old.tallies)
+    pub back : IfErr result (λ e. shown_job e.job ≡ job)
+    pub full : IfErr result (λ e. e.fault ≡ hub.TraceFull → IsFull o shard new)
+    pub no_shard : IfErr result (λ e. e.fault ≢ hub.NoShard)
+
+  -- what a tick does where something is due, and else a look. Whatever it gives, of that shard's history alone the seat
+  -- has seen more. With an error the seat counts nothing, and it is full only where as many steps are stored as the
+  -- trace can hold
+  pub record TicksIfDue (o : HubOpening) (shard now : ℕ) (old new : SeatView)
+      (result : Result (Option (Answered A)) HubFault) : Type 0 where
+    pub tick : IfOk result (IsTick o shard now (ticks now shard) old new)
+    pub seen : Sees shard old new
+    pub err : OnErr result (new.tallies ≡ old.tallies)
+    pub full : IsErrOf result hub.TraceFull → IsFull o shard new

@@ -1,15 +1,12 @@
 //! Calls of a hub that note which exchanges may end by them.
 
-ghost use Rattle.std.specs.Prelude.{◌≡◌, ◌≢◌, ◌<◌, ◌≤◌, ◌-◌, ◌%◌, ◌^◌, ◌↔◌, min, IfErr, IfOk, IsErrOf, OnErr};
-ghost use Rattle.roam_route.specs.Events.{IsEvent, arrival_of};
+ghost use Rattle.std.specs.Prelude.{◌≤◌, ◌%◌, ◌↔◌, IsErrOf};
+ghost use Rattle.roam_route.specs.Events.{IsEvent};
 ghost use Rattle.roam_route.specs.Shown.{shown_job};
-ghost use Rattle.roam_core.specs.Events.{arrives, ticks};
-ghost use Rattle.roam_trace.specs.Steps.{octets_in};
-ghost use Rattle.roam_history.specs.Entries.{stored_of};
-ghost use Rattle.roam_audit.specs.Seats.{front_of};
-ghost use Rattle.roam_hub.specs.Calls.{IsCall, IsFull, IsTick, Sees, answered_step};
+ghost use Rattle.roam_hub.specs.Calls.{Calls, TicksIfDue};
 
 use crate::answered::{Answered, Refused};
+use crate::call::Call;
 use crate::fault::HubFault;
 use crate::gate::Gate;
 use crate::hub::Hub;
@@ -113,32 +110,21 @@ impl<'c, A: Allocator + Copy, N: Opened> Hub<'c, A, N> {
     /// As `answer`.
     pub fn answer_noting<R: Wait, G: Gate>(
         &self,
-        rt: &R,
+        call: Call<'_, R, G>,
         seat: &mut Seat<A, N>,
-        now: u64,
         job: Job<A>,
-        gate: &G,
         notes: &mut Notes<A>,
     ) -> Result<Answered<A>, Refused<A>>
         requires { IsEvent N.opening.config (shown_job job) }
-        ensures call { IfOk result (λ a. IsCall N.opening a.shard seat.old seat.new a.number
-            (answered_step (arrives now (arrival_of (shown_job job))) a)) }
-        ensures shard { IfOk result (λ a. a.shard ≡ job.realm % N.opening.config.shards) }
-        ensures octets { IfOk result (λ a. a.octets
-            ≡ min (octets_in (stored_of (front_of seat.new a.shard))) (2 ^ 64 - 1)) }
-        ensures seen { Sees (job.realm % N.opening.config.shards) seat.old seat.new }
-        ensures err { OnErr result (seat.new.tallies ≡ seat.old.tallies) }
-        ensures back { IfErr result (λ e. shown_job e.job ≡ shown_job job) }
-        ensures full { IfErr result (λ e. e.fault ≡ HubFault.TraceFull
-            → IsFull N.opening (job.realm % N.opening.config.shards) seat.new) }
-        ensures no_shard { IfErr result (λ e. e.fault ≢ HubFault.NoShard) }
+        ensures { Calls N.opening (job.realm % N.opening.config.shards) call.entry.moment (shown_job job)
+            seat.old seat.new result }
     {
         let shard = self.config.shard_of(job.realm);
-        let mut kept = wait_for(rt, &self.locks[usize::from(shard)]);
-        gate.inside(shard);
+        let mut kept = wait_for(call.rt, &self.locks[usize::from(shard)]);
+        call.gate.inside(shard);
         notes.clear();
         note_job(kept.traced.shard(), &job, notes);
-        kept.take(rt, seat, shard, now, job)
+        kept.take(call, seat, shard, job)
     }
 
     /// As `tick_if_due`; and it notes of the entries that are due those that wait and aren't sent to their link again,
@@ -149,28 +135,22 @@ impl<'c, A: Allocator + Copy, N: Opened> Hub<'c, A, N> {
     /// As `tick_if_due`.
     pub fn tick_noting<R: Wait, G: Gate>(
         &self,
-        rt: &R,
+        call: Call<'_, R, G>,
         seat: &mut Seat<A, N>,
-        now: u64,
         shard: u16,
-        gate: &G,
         notes: &mut Notes<A>,
     ) -> Result<Option<Answered<A>>, HubFault>
-        ensures tick { IfOk result
-            (IsTick N.opening shard now (ticks now shard) seat.old seat.new) }
-        ensures seen { Sees shard seat.old seat.new }
-        ensures err { OnErr result (seat.new.tallies ≡ seat.old.tallies) }
-        ensures full { IsErrOf result HubFault.TraceFull → IsFull N.opening shard seat.new }
+        ensures tick { TicksIfDue N.opening shard call.entry.moment seat.old seat.new result }
         ensures no_shard { IsErrOf result HubFault.NoShard ↔ N.opening.config.shards ≤ shard }
     {
         if usize::from(shard) >= self.locks.len() {
             return Err(HubFault::NoShard);
         }
-        let mut kept = wait_for(rt, &self.locks[usize::from(shard)]);
-        gate.inside(shard);
+        let mut kept = wait_for(call.rt, &self.locks[usize::from(shard)]);
+        call.gate.inside(shard);
         notes.clear();
-        kept.note_due(rt, self.config.realms.len() as u16, now, notes);
-        let answered = kept.tick_if_due(rt, seat, shard, now)?;
+        kept.note_due(call.rt, self.config.realms.len() as u16, call.moment, notes);
+        let answered = kept.tick_if_due(call, seat, shard)?;
         note_after(kept.traced.shard(), notes);
         Ok(answered)
     }

@@ -1,19 +1,19 @@
 //! A lock for each shard.
 
-ghost use Rattle.std.specs.Prelude.{◌≡◌, ◌≢◌, ◌<◌, ◌≤◌, ◌-◌, ◌%◌, ◌^◌, ◌↔◌, Some, min, slice_get, vec_len, IfErr, IfOk};
+ghost use Rattle.std.specs.Prelude.{◌≡◌, ◌≢◌, ◌<◌, ◌≤◌, ◌%◌, ◌↔◌, Some, slice_get, vec_len, IfErr, IfOk};
 ghost use Rattle.std.specs.Prelude.{IsErrOf, OnErr};
 ghost use Rattle.roam_conf.specs.Shown.{shown};
 ghost use Rattle.roam_route.specs.Events.{IsEvent, arrival_of};
 ghost use Rattle.roam_route.specs.Shown.{shown_job};
 ghost use Rattle.roam_core.specs.Events.{arrives, ticks};
 ghost use Rattle.roam_core.specs.Shown.{shown_event};
-ghost use Rattle.roam_trace.specs.Steps.{octets_in};
-ghost use Rattle.roam_history.specs.Entries.{steps_in, stored_of};
+ghost use Rattle.roam_history.specs.Entries.{steps_in};
 ghost use Rattle.roam_audit.specs.Seats.{front_of};
 ghost use Rattle.roam_audit.specs.Shown.{shown_step};
-ghost use Rattle.roam_hub.specs.Calls.{AreGone, IsCall, IsFull, IsLook, IsTick, Sees, answered_step};
+ghost use Rattle.roam_hub.specs.Calls.{AreGone, Calls, IsCall, IsFull, IsLook, Sees, TicksIfDue, answered_step};
 
 use crate::answered::{Answered, Refused};
+use crate::call::Call;
 use crate::fault::HubFault;
 use crate::gate::Gate;
 use crate::locked_trace::LockedTrace;
@@ -39,9 +39,8 @@ pub struct Hub<'c, A: Allocator, N: Opened> {
 }
 
 impl<'c, A: Allocator + Copy, N: Opened> Hub<'c, A, N> {
-    /// Gives a job to the shard of its realm, at a moment in milliseconds, and waits for that shard's
-    /// lock. The job's octets go into the stored step, so nothing is copied but what is answered. The seat
-    /// counts the call.
+    /// Gives a job to the shard of its realm, at the call's moment, and waits for that shard's lock. The job's
+    /// octets go into the stored step, so nothing is copied but what is answered. The seat counts the call.
     ///
     /// # Errors
     ///
@@ -49,29 +48,18 @@ impl<'c, A: Allocator + Copy, N: Opened> Hub<'c, A, N> {
     /// `NoMemory`. Nothing is recorded then, and the job comes back as it was.
     pub fn answer<R: Wait, G: Gate>(
         &self,
-        rt: &R,
+        call: Call<'_, R, G>,
         seat: &mut Seat<A, N>,
-        now: u64,
         job: Job<A>,
-        gate: &G,
     ) -> Result<Answered<A>, Refused<A>>
         requires { IsEvent N.opening.config (shown_job job) }
-        ensures call { IfOk result (λ a. IsCall N.opening a.shard seat.old seat.new a.number
-            (answered_step (arrives now (arrival_of (shown_job job))) a)) }
-        ensures shard { IfOk result (λ a. a.shard ≡ job.realm % N.opening.config.shards) }
-        ensures octets { IfOk result (λ a. a.octets
-            ≡ min (octets_in (stored_of (front_of seat.new a.shard))) (2 ^ 64 - 1)) }
-        ensures seen { Sees (job.realm % N.opening.config.shards) seat.old seat.new }
-        ensures err { OnErr result (seat.new.tallies ≡ seat.old.tallies) }
-        ensures back { IfErr result (λ e. shown_job e.job ≡ shown_job job) }
-        ensures full { IfErr result (λ e. e.fault ≡ HubFault.TraceFull
-            → IsFull N.opening (job.realm % N.opening.config.shards) seat.new) }
-        ensures no_shard { IfErr result (λ e. e.fault ≢ HubFault.NoShard) }
+        ensures { Calls N.opening (job.realm % N.opening.config.shards) call.entry.moment (shown_job job)
+            seat.old seat.new result }
     {
         let shard = self.config.shard_of(job.realm);
-        let mut kept = wait_for(rt, &self.locks[usize::from(shard)]);
-        gate.inside(shard);
-        kept.take(rt, seat, shard, now, job)
+        let mut kept = wait_for(call.rt, &self.locks[usize::from(shard)]);
+        call.gate.inside(shard);
+        kept.take(call, seat, shard, job)
     }
 
     /// The same, of a job that stays the caller's: its octets are copied before the lock is taken, for the
@@ -102,7 +90,13 @@ impl<'c, A: Allocator + Copy, N: Opened> Hub<'c, A, N> {
         ensures no_shard { IfErr result (λ f. f ≢ HubFault.NoShard) }
     {
         let event = job_event(self.alloc, now, job)?;
-        match self.answer(rt, seat, now, copy_of(self.alloc, job)?, gate) {
+        let copy = copy_of(self.alloc, job)?;
+        let call = Call {
+            rt,
+            gate,
+            moment: now,
+        };
+        match self.answer(call, seat, copy) {
             Ok(answered) => Ok(receipt_of(seat, event, answered)),
             Err(refused) => Err(refused.fault),
         }
@@ -136,37 +130,36 @@ impl<'c, A: Allocator + Copy, N: Opened> Hub<'c, A, N> {
         }
         let mut kept = wait_for(rt, &self.locks[usize::from(shard)]);
         gate.inside(shard);
-        let answered = kept.tick(rt, seat, shard, now)?;
+        let call = Call {
+            rt,
+            gate,
+            moment: now,
+        };
+        let answered = kept.tick(call, seat, shard)?;
         Ok(receipt_of(seat, Event::Tick { now, shard }, answered))
     }
 
-    /// A tick of a shard where something is due in it, and no receipt. None where nothing is due: nothing
-    /// is stored then, and no memory is wanted.
+    /// A tick of a shard where something is due in it at the call's moment, and no receipt. None where nothing is
+    /// due: nothing is stored then, and no memory is wanted.
     ///
     /// # Errors
     ///
     /// As `tick`.
     pub fn tick_if_due<R: Wait, G: Gate>(
         &self,
-        rt: &R,
+        call: Call<'_, R, G>,
         seat: &mut Seat<A, N>,
-        now: u64,
         shard: u16,
-        gate: &G,
     ) -> Result<Option<Answered<A>>, HubFault>
-        ensures tick { IfOk result
-            (IsTick N.opening shard now (ticks now shard) seat.old seat.new) }
-        ensures seen { Sees shard seat.old seat.new }
-        ensures err { OnErr result (seat.new.tallies ≡ seat.old.tallies) }
-        ensures full { IsErrOf result HubFault.TraceFull → IsFull N.opening shard seat.new }
+        ensures tick { TicksIfDue N.opening shard call.entry.moment seat.old seat.new result }
         ensures no_shard { IsErrOf result HubFault.NoShard ↔ N.opening.config.shards ≤ shard }
     {
         if usize::from(shard) >= self.locks.len() {
             return Err(HubFault::NoShard);
         }
-        let mut kept = wait_for(rt, &self.locks[usize::from(shard)]);
-        gate.inside(shard);
-        kept.tick_if_due(rt, seat, shard, now)
+        let mut kept = wait_for(call.rt, &self.locks[usize::from(shard)]);
+        call.gate.inside(shard);
+        kept.tick_if_due(call, seat, shard)
     }
 
     /// Whether anything of a shard is due at a moment in milliseconds, as it stands. Waits for the shard's

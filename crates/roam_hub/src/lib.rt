@@ -6,6 +6,7 @@
 #![tactic(auto)]
 
 mod answered;
+mod call;
 mod closing;
 mod ended;
 mod fault;
@@ -22,6 +23,7 @@ mod pause_room;
 mod pausing;
 
 pub use answered::{Answered, Refused};
+pub use call::Call;
 pub use fault::HubFault;
 pub use following::follow;
 pub use gate::{Gate, Open};

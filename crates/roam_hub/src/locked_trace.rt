@@ -1,22 +1,22 @@
 //! What lies under a shard's lock.
 
-ghost use Rattle.std.specs.Prelude.{◌≡◌, ◌≢◌, ◌↔◌, ◌+◌, ◌<◌, ◌-◌, ◌^◌, ◌++◌, ◌∷◌, [], None, Some, length, min, true};
+ghost use Rattle.std.specs.Prelude.{◌≡◌, ◌≢◌, ◌+◌, ◌<◌, ◌-◌, ◌^◌, ◌++◌, ◌∷◌, [], None, Some, length, min, true};
 ghost use Rattle.std.specs.Prelude.{IfErr, IfOk, IsErrOf, OnErr, OnOk};
 ghost use mathlib.Core.List.{IsPrefix};
-ghost use Rattle.roam_route.specs.Events.{IsEvent, arrival_of};
+ghost use Rattle.roam_route.specs.Events.{IsEvent};
 ghost use Rattle.roam_route.specs.Shown.{shown_job};
-ghost use Rattle.roam_core.specs.Events.{arrives, is_in_shard, ticks};
+ghost use Rattle.roam_core.specs.Events.{is_in_shard, ticks};
 ghost use Rattle.roam_trace.specs.History.{IsHistory, end_of};
 ghost use Rattle.roam_trace.specs.Steps.{PlainStep, octets_in};
 ghost use Rattle.roam_history.specs.Entries.{last_of, steps_in, stored_of};
 ghost use Rattle.roam_history.specs.HubOpening.{opening_at};
 ghost use Rattle.roam_audit.specs.Seats.{after_call, front_of};
-ghost use Rattle.roam_hub.specs.Calls.{AreGone, IsCall, IsFull, IsLook, IsTick, Sees, answered_step};
+ghost use Rattle.roam_hub.specs.Calls.{AreGone, Calls, IsCall, IsFull, IsLook, Sees, TicksIfDue, answered_step};
 
 use crate::answered::{Answered, Refused};
+use crate::call::Call;
 use crate::fault::HubFault;
 use roam_audit::Seat;
-use roam_book::Answer;
 use roam_history::{Front, Head, Opened};
 use roam_route::Job;
 use roam_shard::Shard;
@@ -89,15 +89,14 @@ fn without_steps<R: Wait, N: Opened>(rt: &R, head: &Head<N>, front: &Front<N>) -
 }
 
 /// The last step of a trace becomes the last of the whole history, which the seat has then seen; the seat
-/// counts the call. What the caller gets of it, with this answer.
+/// counts the call. The number under which it does.
 fn recorded<R: Wait, A: Allocator + Copy, N: Opened>(
     rt: &R,
     seat: &mut Seat<A, N>,
     head: &Head<N>,
     front: &mut Front<N>,
     traced: &Traced<'_, A>,
-    answer: Answer<A>,
-) -> Answered<A>
+) -> u64
     requires head { head.now.shard ≡ front.old.shard }
     requires shard { front.old.shard < N.opening.config.shards }
     requires room { length front.old.entries < 2 ^ 64 - 1 }
@@ -107,23 +106,14 @@ fn recorded<R: Wait, A: Allocator + Copy, N: Opened>(
       entries = front.old.entries ++ last_of traced.now.steps ∷ [];
     } }
     ensures seat { seat.new
-        ≡ after_call seat.old front.old.shard result.number front.new.entries }
-    ensures number { result.number ≡ length (steps_in front.old.entries) }
-    ensures shard { result.shard ≡ front.old.shard }
-    ensures answer { result.answer ≡ answer }
-    ensures octets { result.octets ≡ min (octets_in traced.now.steps) (2 ^ 64 - 1) }
+        ≡ after_call seat.old front.old.shard result front.new.entries }
+    ensures number { result ≡ length (steps_in front.old.entries) }
 {
-    let shard = front.shard();
     let number = front.len();
     let more = with_step(rt, head, front, traced);
     seat.note(number, more.again());
     *front = more;
-    Answered {
-        shard,
-        number,
-        answer,
-        octets: traced.octets(),
-    }
+    number
 }
 
 impl<'c, A: Allocator + Copy, N: Opened> LockedTrace<'c, A, N> {
@@ -179,34 +169,32 @@ impl<'c, A: Allocator + Copy, N: Opened> LockedTrace<'c, A, N> {
     ///
     /// `Misplaced` where this isn't the shard's trace; else `TraceFull` just where as many steps as its
     /// limit are stored; else `NoMemory` where a growth was refused. Nothing is recorded then.
-    pub(crate) fn take<R: Wait>(
+    pub(crate) fn take<R: Wait, G>(
         &mut self,
-        rt: &R,
+        call: Call<'_, R, G>,
         seat: &mut Seat<A, N>,
         shard: u16,
-        now: u64,
         job: Job<A>,
     ) -> Result<Answered<A>, Refused<A>>
         requires shard { shard < N.opening.config.shards }
         requires event { IsEvent N.opening.config (shown_job job) }
         requires own { is_in_shard N.opening.config shard job.realm ≡ true }
-        ensures call { IfOk result (λ a. IsCall N.opening shard seat.old seat.new a.number
-            (answered_step (arrives now (arrival_of (shown_job job))) a)) }
-        ensures shard { IfOk result (λ a. a.shard ≡ shard) }
-        ensures octets { IfOk result (λ a. a.octets
-            ≡ min (octets_in (stored_of (front_of seat.new shard))) (2 ^ 64 - 1)) }
-        ensures seen { Sees shard seat.old seat.new }
-        ensures err { OnErr result (seat.new.tallies ≡ seat.old.tallies) }
-        ensures back { IfErr result (λ e. shown_job e.job ≡ shown_job job) }
-        ensures full { IfErr result (λ e. e.fault ≡ HubFault.TraceFull
-            → IsFull N.opening shard seat.new) }
-        ensures no_shard { IfErr result (λ e. e.fault ≢ HubFault.NoShard) }
+        ensures { Calls N.opening shard call.entry.moment (shown_job job) seat.old seat.new result }
     {
         if let Err(fault) = self.check(seat, shard) {
             return Err(Refused { fault, job });
         }
-        match self.traced.take(now, job) {
-            Ok(answer) => Ok(recorded(rt, seat, &self.head, &mut self.front, &self.traced, answer)),
+        match self.traced.take(call.moment, job) {
+            Ok(answer) => {
+                let octets = self.traced.octets();
+                let number = recorded(call.rt, seat, &self.head, &mut self.front, &self.traced);
+                Ok(Answered {
+                    shard,
+                    number,
+                    answer,
+                    octets,
+                })
+            }
             Err((fault, job)) => {
                 seat.learn(self.front.again());
                 let fault = HubFault::from(fault);
@@ -221,18 +209,17 @@ impl<'c, A: Allocator + Copy, N: Opened> LockedTrace<'c, A, N> {
     /// # Errors
     ///
     /// As `take`.
-    pub(crate) fn tick<R: Wait>(
+    pub(crate) fn tick<R: Wait, G>(
         &mut self,
-        rt: &R,
+        call: Call<'_, R, G>,
         seat: &mut Seat<A, N>,
         shard: u16,
-        now: u64,
     ) -> Result<Answered<A>, HubFault>
         requires { shard < N.opening.config.shards }
         ensures call { IfOk result (λ a. IsCall N.opening shard seat.old seat.new a.number
-            (answered_step (ticks now shard) a)) }
+            (answered_step (ticks call.entry.moment shard) a)) }
         ensures more { IfOk result (λ a. steps_in (front_of seat.new shard)
-            ≡ steps_in self.old.front.entries ++ answered_step (ticks now shard) a ∷ []) }
+            ≡ steps_in self.old.front.entries ++ answered_step (ticks call.entry.moment shard) a ∷ []) }
         ensures shard { IfOk result (λ a. a.shard ≡ shard) }
         ensures octets { IfOk result (λ a. a.octets
             ≡ min (octets_in (stored_of (front_of seat.new shard))) (2 ^ 64 - 1)) }
@@ -242,8 +229,17 @@ impl<'c, A: Allocator + Copy, N: Opened> LockedTrace<'c, A, N> {
         ensures no_shard { IfErr result (λ f. f ≢ HubFault.NoShard) }
     {
         self.check(seat, shard)?;
-        match self.traced.tick(now) {
-            Ok(answer) => Ok(recorded(rt, seat, &self.head, &mut self.front, &self.traced, answer)),
+        match self.traced.tick(call.moment) {
+            Ok(answer) => {
+                let octets = self.traced.octets();
+                let number = recorded(call.rt, seat, &self.head, &mut self.front, &self.traced);
+                Ok(Answered {
+                    shard,
+                    number,
+                    answer,
+                    octets,
+                })
+            }
             Err(fault) => {
                 seat.learn(self.front.again());
                 Err(HubFault::from(fault))
@@ -252,24 +248,19 @@ impl<'c, A: Allocator + Copy, N: Opened> LockedTrace<'c, A, N> {
     }
 
     /// A tick of this shard where something is due in it. None where nothing is: nothing is stored then.
-    pub(crate) fn tick_if_due<R: Wait>(
+    pub(crate) fn tick_if_due<R: Wait, G>(
         &mut self,
-        rt: &R,
+        call: Call<'_, R, G>,
         seat: &mut Seat<A, N>,
         shard: u16,
-        now: u64,
     ) -> Result<Option<Answered<A>>, HubFault>
         requires { shard < N.opening.config.shards }
-        ensures tick { IfOk result
-            (IsTick N.opening shard now (ticks now shard) seat.old seat.new) }
-        ensures seen { Sees shard seat.old seat.new }
-        ensures err { OnErr result (seat.new.tallies ≡ seat.old.tallies) }
-        ensures full { IsErrOf result HubFault.TraceFull → IsFull N.opening shard seat.new }
+        ensures tick { TicksIfDue N.opening shard call.entry.moment seat.old seat.new result }
         ensures no_shard { IfErr result (λ f. f ≢ HubFault.NoShard) }
     {
         self.check(seat, shard)?;
-        if self.traced.is_due(now) {
-            return Ok(Some(self.tick(rt, seat, shard, now)?));
+        if self.traced.is_due(call.moment) {
+            return Ok(Some(self.tick(call, seat, shard)?));
         }
         seat.learn(self.front.again());
         Ok(None)

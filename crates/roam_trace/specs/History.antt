@@ -1,12 +1,14 @@
 -- Histories of one shard: the written answers, one after the other (ours).
-use Rattle.std.specs.Prelude.{◌≡◌, ℕ, ◌+◌, ◌<◌, ◌≤◌, ◌^◌, true, List, [], ◌∷◌, ◌++◌, length}
+use Rattle.std.specs.Prelude.{◌≡◌, ◌↔◌, ℕ, ◌+◌, ◌<◌, ◌≤◌, ◌^◌, true, List, [], ◌∷◌, ◌++◌, length}
+use Rattle.std.specs.Prelude.{Result, IfOk, OnErr, OnOk}
 use Rattle.roam_conf.specs.Config.{ConfigView}
 use Rattle.roam_route.specs.Admission.{PlainJob, admission, admitted}
 use Rattle.roam_book.specs.RealmState.{RealmState}
+use Rattle.roam_book.specs.declared.packets.answer.Answer.{Answer}
 use Rattle.roam_core.specs.Events.{PlainEvent, arrives, ticks, is_in_shard}
 use Rattle.roam_core.specs.ManyRealms.{BrokerTurn, answer_to, packets_in_turn, refusal_given, states_after}
 use Rattle.roam_shard.specs.ShardView.{OpeningView, opened}
-use Rattle.roam_trace.specs.Steps.{PlainAnswer, PlainStep}
+use Rattle.roam_trace.specs.Steps.{PlainAnswer, PlainStep, shown_answer}
 
 -- what is answered, as a turn of the broker says
 abbrev pub answer_in : BrokerTurn → PlainAnswer
@@ -107,3 +109,13 @@ pub record IsTrace (t : TraceView) : Type 0 where
 abbrev pub GoesOn : TraceView → TraceView → Type 0
 GoesOn old new =
     (states : List RealmState) (before : List PlainStep) → Ends old states before → Ends new states before
+
+-- what a call does to a trace: the step of this event is stored with the answer that is returned, and the trace goes
+-- on; with an error it is as it was. The call says that the trace is full just where as many steps as the limit were
+-- stored
+pub record Stores {A E : Type 0} (old new : TraceView) (event : PlainEvent) (result : Result (Answer A) E)
+    (says_full : Type 0) : Type 0 where
+  pub ok : IfOk result (λ a. new ≡ with_step old (record { event = event; answer = shown_answer a }))
+  pub err : OnErr result (new ≡ old)
+  pub full : says_full ↔ (length old.steps ≡ old.limit)
+  pub history : OnOk result (GoesOn old new)

@@ -1,8 +1,7 @@
 //! A shard with its history, of which the last steps are stored.
 
-ghost use Rattle.std.specs.Prelude.{List, ◌≡◌, ◌≢◌, ◌↔◌, ◌+◌, ◌-◌, ◌<◌, ◌≤◌, ◌/◌, ◌^◌, ◌++◌, [], ◌∷◌, false, true};
-ghost use Rattle.std.specs.Prelude.{length, max, min, vec_capacity, vec_len, IfErr, IfOk, IsErrOf, IsOk, OnErr, OnOk};
-ghost use Rattle.roam_conf.specs.Shown.{shown};
+ghost use Rattle.std.specs.Prelude.{List, ◌≡◌, ◌↔◌, ◌+◌, ◌-◌, ◌<◌, ◌≤◌, ◌/◌, ◌^◌, ◌++◌, [], ◌∷◌, false, true};
+ghost use Rattle.std.specs.Prelude.{length, max, min, vec_capacity, vec_len, IfErr, IsErrAnd, IsErrOf, IsOk, OnOk};
 ghost use Rattle.roam_route.specs.Events.{IsEvent, arrival_of};
 ghost use Rattle.roam_route.specs.Shown.{shown_job};
 ghost use Rattle.roam_core.specs.Events.{arrives, is_in_shard, ticks};
@@ -10,7 +9,7 @@ ghost use Rattle.roam_core.specs.Shown.{shown_event};
 ghost use Rattle.roam_book.specs.RealmState.{RealmState};
 ghost use Rattle.roam_shard.specs.ShardView.{shown_opening};
 ghost use Rattle.roam_shard.specs.Twins.{NothingDue};
-ghost use Rattle.roam_trace.specs.History.{Ends, GoesOn, IsHistory, TraceView, with_step, without_steps};
+ghost use Rattle.roam_trace.specs.History.{Ends, Stores, TraceView, without_steps};
 ghost use Rattle.roam_trace.specs.Steps.{PlainStep, octets_in, octets_of, shown_answer};
 
 use crate::event::{copy_of, event_of};
@@ -203,12 +202,8 @@ impl<'c, A: Allocator + Copy> Traced<'c, A> {
     pub fn step(&mut self, now: u64, job: &Job<A>) -> Result<Answer<A>, TraceFault>
         requires event { IsEvent self.old.opening.config (shown_job job.now) }
         requires own { is_in_shard self.old.opening.config self.old.opening.shard job.now.realm ≡ true }
-        ensures ok { IfOk result (λ a. self.new ≡ with_step self.old
-            (record { event = arrives now (arrival_of (shown_job job.now)); answer = shown_answer a })) }
-        ensures err { OnErr result (self.new ≡ self.old) }
-        ensures full { IsErrOf result TraceFault.TraceFull
-            ↔ (length self.old.steps ≡ self.old.limit) }
-        ensures history { OnOk result (GoesOn self.old self.new) }
+        ensures { Stores self.old self.new (arrives now (arrival_of (shown_job job.now)))
+            result (IsErrOf result TraceFault.TraceFull) }
     {
         if self.is_full() {
             return Err(TraceFault::TraceFull);
@@ -224,14 +219,9 @@ impl<'c, A: Allocator + Copy> Traced<'c, A> {
     pub fn take(&mut self, now: u64, job: Job<A>) -> Result<Answer<A>, (TraceFault, Job<A>)>
         requires event { IsEvent self.old.opening.config (shown_job job) }
         requires own { is_in_shard self.old.opening.config self.old.opening.shard job.realm ≡ true }
-        ensures ok { IfOk result (λ a. self.new ≡ with_step self.old
-            (record { event = arrives now (arrival_of (shown_job job)); answer = shown_answer a })) }
-        ensures err { OnErr result (self.new ≡ self.old) }
+        ensures stores { Stores self.old self.new (arrives now (arrival_of (shown_job job)))
+            result (IsErrAnd result (λ e. e.0 ≡ TraceFault.TraceFull)) }
         ensures back { IfErr result (λ e. shown_job e.1 ≡ shown_job job) }
-        ensures full { IfErr result (λ e. (e.0 ≡ TraceFault.TraceFull)
-            ↔ (length self.old.steps ≡ self.old.limit)) }
-        ensures room { OnOk result (length self.old.steps ≢ self.old.limit) }
-        ensures history { OnOk result (GoesOn self.old self.new) }
     {
         if let Err(fault) = self.check() {
             return Err((fault, job));
@@ -252,12 +242,8 @@ impl<'c, A: Allocator + Copy> Traced<'c, A> {
     ///
     /// As `step`.
     pub fn tick(&mut self, now: u64) -> Result<Answer<A>, TraceFault>
-        ensures ok { IfOk result (λ a. self.new ≡ with_step self.old
-            (record { event = ticks now self.old.opening.shard; answer = shown_answer a })) }
-        ensures err { OnErr result (self.new ≡ self.old) }
-        ensures full { IsErrOf result TraceFault.TraceFull
-            ↔ (length self.old.steps ≡ self.old.limit) }
-        ensures history { OnOk result (GoesOn self.old self.new) }
+        ensures { Stores self.old self.new (ticks now self.old.opening.shard)
+            result (IsErrOf result TraceFault.TraceFull) }
     {
         self.check()?;
         reserve_one(&mut self.steps, self.limit)?;

@@ -7,7 +7,7 @@ ghost use Rattle.roam_route.specs.Shown.{shown_job};
 
 use roam_book::Answer;
 use roam_conf::{Config, Endpoint, Place};
-use roam_hub::{Answered, Gate, Hub, HubFault, Open, Opened, Receipt, Seat};
+use roam_hub::{Answered, Call, Gate, Hub, HubFault, Open, Opened, Receipt, Seat};
 use roam_route::{Datagram, Job, Prepared, prepare};
 use roam_wire::Octets;
 use std::alloc::Allocator;
@@ -115,7 +115,12 @@ impl<'h, 'c, A: Allocator + Copy, N: Opened> Caller<'h, 'c, A, N> {
         now: u64,
         shard: u16,
     ) -> Result<Option<Answered<A>>, HubFault> {
-        self.hub.tick_if_due(rt, &mut self.seat, now, shard, &Open)
+        let call = Call {
+            rt,
+            gate: &Open,
+            moment: now,
+        };
+        self.hub.tick_if_due(call, &mut self.seat, shard)
     }
 
     /// Asks whether anything is due at a moment.

@@ -12,7 +12,7 @@ use crate::caller::{NAS, OTHER_FIRST, OTHER_REQUEST_7, datagram, sends};
 use crate::configuration::config_of;
 use roam_book::Start;
 use roam_conf::{Config, Endpoint, Place};
-use roam_hub::{Blanks, Hub, Open, Opened, Paused, PausedHub, Seat, follow};
+use roam_hub::{Blanks, Call, Hub, Open, Opened, Paused, PausedHub, Seat, follow};
 use roam_reload::hindrance_of;
 use roam_route::{Prepared, prepare};
 use roam_shard::first_starts;
@@ -179,7 +179,12 @@ pub(crate) fn are_answered<A: Allocator + Copy, N: Opened, R: Abort + Wait>(
         let Ok(Prepared::Job(job)) = prepare(alloc, config, &datagram) else {
             return false;
         };
-        let Ok(answered) = hub.answer(rt, seat, 0, job, &Open) else {
+        let call = Call {
+            rt,
+            gate: &Open,
+            moment: 0,
+        };
+        let Ok(answered) = hub.answer(call, seat, job) else {
             return false;
         };
         if !sends(rt, alloc, &answered.answer, exchange.sent) {

@@ -10,7 +10,7 @@ use crate::caller::{NAS, REQUEST_7, REQUEST_8, datagram, sends};
 use crate::configuration::config_of;
 use roam_book::Start;
 use roam_conf::{Config, Endpoint, Place};
-use roam_hub::{Answered, Blanks, Hub, HubFault, Open, Opened, Seat};
+use roam_hub::{Answered, Blanks, Call, Hub, HubFault, Open, Opened, Seat};
 use roam_route::{Datagram, Prepared, prepare};
 use roam_shard::first_starts;
 use std::alloc::Global;
@@ -55,6 +55,15 @@ const SECOND_OF_HUB: &str =
 /// How often steps are let go of between a session's start and its end.
 const OFTEN: u32 = 50;
 
+/// A call at moment 0.
+fn at_start<'t, R>(rt: &'t R, gate: &'t Open) -> Call<'t, R, Open> {
+    Call {
+        rt,
+        gate,
+        moment: 0,
+    }
+}
+
 /// Hands an arrival in; where its trace is full, once more, when its stored steps were let go of. What was
 /// answered, and how many steps were let go of.
 fn arrive<N: Opened, R: Abort + Wait>(
@@ -70,13 +79,13 @@ fn arrive<N: Opened, R: Abort + Wait>(
     let Ok(Prepared::Job(job)) = prepare(alloc, config, datagram) else {
         panic!(rt; "no job");
     };
-    let refused = match hub.answer(rt, seat, 0, job, &Open) {
+    let refused = match hub.answer(at_start(rt, &Open), seat, job) {
         Ok(answered) => return (answered, 0),
         Err(refused) => refused,
     };
     assert!(rt; refused.fault == HubFault::TraceFull);
     let steps = hub.let_go(rt, seat, 0).expect(rt, "steps");
-    match hub.answer(rt, seat, 0, refused.job, &Open) {
+    match hub.answer(at_start(rt, &Open), seat, refused.job) {
         Ok(answered) => (answered, steps.len()),
         Err(_) => panic!(rt; "no answer"),
     }

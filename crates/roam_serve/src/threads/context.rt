@@ -16,7 +16,7 @@ use crate::threads::notice::Notices;
 use crate::threads::outgoing::Outgoing;
 use roam_book::Answer;
 use roam_counters::{CountedEvent, CountedTurn, Process};
-use roam_hub::{Answered, Gate, HubFault, Opened, Past, Refused, Seat, Stood};
+use roam_hub::{Answered, Call, Gate, HubFault, Opened, Past, Refused, Seat, Stood};
 use roam_notices::{Exchange, ExchangeEnd, Origin};
 use roam_route::{Datagram, Job, Prepared, prepare};
 use roam_wire::Refusal;
@@ -140,10 +140,12 @@ impl<G: Gate, N: Opened> WorkerContext<'_, '_, G, N> {
         let mut is_second = false;
         for _ in rt.forever() {
             let notes = &mut self.exchanges.notes;
-            match shared
-                .hub
-                .answer_noting(rt, &mut self.seat, self.now, job, shared.gate, notes)
-            {
+            let call = Call {
+                rt,
+                gate: shared.gate,
+                moment: self.now,
+            };
+            match shared.hub.answer_noting(call, &mut self.seat, job, notes) {
                 Ok(answered) => return Ok(answered),
                 Err(Refused { fault, job: same }) => {
                     if !self.remedy(rt, shard, fault, is_second) {
@@ -163,10 +165,12 @@ impl<G: Gate, N: Opened> WorkerContext<'_, '_, G, N> {
         let mut is_second = false;
         for _ in rt.forever() {
             let notes = &mut self.exchanges.notes;
-            match shared
-                .hub
-                .tick_noting(rt, &mut self.seat, self.now, shard, shared.gate, notes)
-            {
+            let call = Call {
+                rt,
+                gate: shared.gate,
+                moment: self.now,
+            };
+            match shared.hub.tick_noting(call, &mut self.seat, shard, notes) {
                 Ok(Some(answered)) => {
                     self.end_by_tick(&answered.answer);
                     return self.finish(rt, answered, Origin::Tick(shard));

@@ -1,5 +1,5 @@
 -- The call is the last step of the shard's one history.
-use Rattle.std.proofs.Common.{◌≡◌, ℕ, ◌-◌, ◌^◌, List, min, ap, sym, subst, ◌∙◌}
+use Rattle.std.proofs.Common.{◌≡◌, ℕ, ◌-◌, ◌^◌, List, min, refl, ap, sym, subst, ◌∙◌}
 use mathlib.Core.List.{IsPrefix}
 use Rattle.roam_route.specs.Events.{arrival_of}
 use Rattle.roam_route.specs.Shown.{shown_job}
@@ -15,45 +15,48 @@ use Rattle.roam_hub.proofs.KeptLemmas.{Recorded, recorded}
 use Rattle.roam_hub.proofs.locked_trace.LockedTrace.take.Given.{Over}
 use Rattle.roam_hub.proofs.locked_trace.LockedTrace.take.Goals as goal
 
-all : (g : Over) (c : goal.After-recorded g)
-    → Recorded g.N.Opened.opening (record { trace = c.take.new.self; front = c.recorded.new.front }) c.args.shard c.args.seat.now c.recorded.new.seat
-    c.recorded.result.number (record { event = arrives c.args.now (arrival_of (shown_job c.args.job)); answer = shown_answer c.recorded.result.answer })
+all : (g : Over) (c : goal.After-recorded-number g)
+    → Recorded g.N.Opened.opening (record { trace = c.take.new.self; front = c.recorded-number.new.front }) c.args.shard c.args.seat.now c.recorded-number.new.seat
+    c.recorded-number.result (record { event = arrives c.args.call.moment (arrival_of (shown_job c.args.job)); answer = shown_answer c.in-Ok.answer })
 all g c =
     let i = c.self.inside in
     let k : KeptView = record { trace = i.traced; front = i.front } in
-    let s : PlainStep = record { event = arrives c.args.now (arrival_of (shown_job c.args.job)); answer = shown_answer c.recorded.result.answer } in
-    let told = ap (λ a. shown_answer a) (sym c.recorded.ensures.answer) in
-    let trace = c.in-Ok.ensures.ok ∙ ap (λ (x : PlainStep). with_step i.traced x) (λ j. record { event = arrives c.args.now (arrival_of (shown_job c.args.job)); answer = told j }) in
+    let s : PlainStep = record { event = arrives c.args.call.moment (arrival_of (shown_job c.args.job)); answer = shown_answer c.in-Ok.answer } in
+    let trace : c.take.new.self ≡ with_step i.traced s = c.in-Ok.ensures.stores.ok in
     let here : i.front.shard ≡ c.args.shard = ap (λ (v : KeptView). v.front.shard) c.self.view_is ∙ c.in_default.ensures.shard in
     let begins : IsPrefix (front_of c.args.seat.now c.args.shard) i.front.entries =
     subst (λ (v : KeptView). IsPrefix (front_of c.args.seat.now c.args.shard) v.front.entries) (sym c.self.view_is) c.in_default.ensures.begins in
-    recorded g.N.Opened.opening k c.take.new.self c.recorded.new.front s c.args.shard c.recorded.result.number c.args.seat.now c.recorded.new.seat c.self.invariant.0
+    recorded g.N.Opened.opening k c.take.new.self c.recorded-number.new.front s c.args.shard c.recorded-number.result c.args.seat.now c.recorded-number.new.seat c.self.invariant.0
     (record {
       trace = trace;
-      more = c.in-Ok.ensures.history;
-      front = c.recorded.ensures.front;
+      more = c.in-Ok.ensures.stores.history;
+      front = c.recorded-number.ensures.front;
       here = here;
       there = c.in_default.ensures.there;
       begins = begins;
-      number_is = c.recorded.ensures.number;
-      noted = c.recorded.ensures.seat ∙ ap (λ (n : ℕ). after_call c.args.seat.now n c.recorded.result.number c.recorded.new.front.entries) here;
+      number_is = c.recorded-number.ensures.number;
+      noted = c.recorded-number.ensures.seat ∙ ap (λ (n : ℕ). after_call c.args.seat.now n c.recorded-number.result c.recorded-number.new.front.entries) here;
     })
 
-pub returns-in-Ok-clause-call : goal.returns-in-Ok-clause-call
-returns-in-Ok-clause-call g c = (all g c).call
-
-pub recorded-requires-clause-step : goal.recorded-requires-clause-step
-recorded-requires-clause-step g c =
-    let s : PlainStep = record { event = arrives c.args.now (arrival_of (shown_job c.args.job)); answer = shown_answer c.in-Ok.answer } in
-    (s, ap (λ (v : TraceView). last_of v.steps) c.in-Ok.ensures.ok ∙ last-push c.self.inside.traced.steps s)
+pub recorded-number-requires-clause-step : goal.recorded-number-requires-clause-step
+recorded-number-requires-clause-step g c =
+    let s : PlainStep = record { event = arrives c.args.call.moment (arrival_of (shown_job c.args.job)); answer = shown_answer c.in-Ok.answer } in
+    (s, ap (λ (v : TraceView). last_of v.steps) c.in-Ok.ensures.stores.ok ∙ last-push c.self.inside.traced.steps s)
 
 pub invariant_of-self : goal.invariant_of-self
-invariant_of-self g c = ((all g c).kept, c.self.invariant.1 ∙ sym (ap (λ (f : FrontView). f.shard) c.recorded.ensures.front))
+invariant_of-self g c = ((all g c).kept, c.self.invariant.1 ∙ sym (ap (λ (f : FrontView). f.shard) c.recorded-number.ensures.front))
 
-pub returns-in-Ok-clause-octets : goal.returns-in-Ok-clause-octets
-returns-in-Ok-clause-octets g c =
-    let are = (all g c).kept.stored ∙ sym (ap (λ (l : List HistoryEntry). stored_of l) (all g c).front) in
-    c.recorded.ensures.octets ∙ ap (λ (l : List PlainStep). min (octets_in l) (2 ^ 64 - 1)) are
-
-pub returns-in-Ok-clause-seen : goal.returns-in-Ok-clause-seen
-returns-in-Ok-clause-seen g c = (all g c).sees
+pub returns-in-Ok : goal.returns-in-Ok
+returns-in-Ok g c =
+    let it = all g c in
+    let are = it.kept.stored ∙ sym (ap (λ (l : List HistoryEntry). stored_of l) it.front) in
+    record {
+      call = it.call;
+      shard_is = refl;
+      octets = c.octets-octets.ensures ∙ ap (λ (l : List PlainStep). min (octets_in l) (2 ^ 64 - 1)) are;
+      seen = it.sees;
+      err = tt;
+      back = tt;
+      full = tt;
+      no_shard = tt;
+    }

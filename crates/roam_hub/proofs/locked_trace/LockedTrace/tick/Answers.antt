@@ -13,29 +13,28 @@ use Rattle.roam_hub.proofs.KeptLemmas.{Recorded, recorded}
 use Rattle.roam_hub.proofs.locked_trace.LockedTrace.tick.Given.{Over}
 use Rattle.roam_hub.proofs.locked_trace.LockedTrace.tick.Goals as goal
 
-all : (g : Over) (c : goal.After-recorded g)
-    → Recorded g.N.Opened.opening (record { trace = c.tick.new.self; front = c.recorded.new.front }) c.args.shard c.args.seat.now c.recorded.new.seat
-    c.recorded.result.number (record { event = ticks c.args.now c.args.shard; answer = shown_answer c.recorded.result.answer })
+all : (g : Over) (c : goal.After-recorded-number g)
+    → Recorded g.N.Opened.opening (record { trace = c.tick.new.self; front = c.recorded-number.new.front }) c.args.shard c.args.seat.now c.recorded-number.new.seat
+    c.recorded-number.result (record { event = ticks c.args.call.moment c.args.shard; answer = shown_answer c.in-Ok.answer })
 all g c =
     let i = c.self.inside in
     let k : KeptView = record { trace = i.traced; front = i.front } in
-    let s : PlainStep = record { event = ticks c.args.now c.args.shard; answer = shown_answer c.recorded.result.answer } in
-    let told = ap (λ a. shown_answer a) (sym c.recorded.ensures.answer) in
+    let s : PlainStep = record { event = ticks c.args.call.moment c.args.shard; answer = shown_answer c.in-Ok.answer } in
     let here : i.front.shard ≡ c.args.shard = ap (λ (v : KeptView). v.front.shard) c.self.view_is ∙ c.in_ok-check.ensures.shard in
     let opened : i.traced.opening.shard ≡ c.args.shard = c.self.invariant.0.shard ∙ here in
-    let trace : c.tick.new.self ≡ with_step i.traced s = c.in-Ok.ensures.ok ∙ (λ j. with_step i.traced (record { event = ticks c.args.now (opened j); answer = told j })) in
+    let trace : c.tick.new.self ≡ with_step i.traced s = c.in-Ok.ensures.ok ∙ (λ j. with_step i.traced (record { event = ticks c.args.call.moment (opened j); answer = shown_answer c.in-Ok.answer })) in
     let begins : IsPrefix (front_of c.args.seat.now c.args.shard) i.front.entries =
     subst (λ (v : KeptView). IsPrefix (front_of c.args.seat.now c.args.shard) v.front.entries) (sym c.self.view_is) c.in_ok-check.ensures.begins in
-    recorded g.N.Opened.opening k c.tick.new.self c.recorded.new.front s c.args.shard c.recorded.result.number c.args.seat.now c.recorded.new.seat c.self.invariant.0
+    recorded g.N.Opened.opening k c.tick.new.self c.recorded-number.new.front s c.args.shard c.recorded-number.result c.args.seat.now c.recorded-number.new.seat c.self.invariant.0
     (record {
       trace = trace;
       more = c.in-Ok.ensures.history;
-      front = c.recorded.ensures.front;
+      front = c.recorded-number.ensures.front;
       here = here;
       there = c.in_ok-check.ensures.there;
       begins = begins;
-      number_is = c.recorded.ensures.number;
-      noted = c.recorded.ensures.seat ∙ ap (λ (n : ℕ). after_call c.args.seat.now n c.recorded.result.number c.recorded.new.front.entries) here;
+      number_is = c.recorded-number.ensures.number;
+      noted = c.recorded-number.ensures.seat ∙ ap (λ (n : ℕ). after_call c.args.seat.now n c.recorded-number.result c.recorded-number.new.front.entries) here;
     })
 
 pub returns-in-Ok-clause-call : goal.returns-in-Ok-clause-call
@@ -44,23 +43,23 @@ returns-in-Ok-clause-call g c = (all g c).call
 pub returns-in-Ok-clause-more : goal.returns-in-Ok-clause-more
 returns-in-Ok-clause-more g c =
     let es = c.self.inside.front.entries in
-    let s : PlainStep = record { event = ticks c.args.now c.args.shard; answer = shown_answer c.recorded.result.answer } in
+    let s : PlainStep = record { event = ticks c.args.call.moment c.args.shard; answer = shown_answer c.in-Ok.answer } in
     let last = (all g c).last in
-    let whole = (all g c).front ∙ (ap (λ (f : FrontView). f.entries) c.recorded.ensures.front ∙ ap (λ (e : HistoryEntry). es ++ e ∷ []) last) in
+    let whole = (all g c).front ∙ (ap (λ (f : FrontView). f.entries) c.recorded-number.ensures.front ∙ ap (λ (e : HistoryEntry). es ++ e ∷ []) last) in
     ap (λ (l : List HistoryEntry). steps_in l) whole ∙ (one-step es s ∙ ap (λ (v : KeptView). steps_in v.front.entries ++ s ∷ []) c.self.view_is)
 
-pub recorded-requires-clause-step : goal.recorded-requires-clause-step
-recorded-requires-clause-step g c =
-    let s : PlainStep = record { event = ticks c.args.now c.self.inside.traced.opening.shard; answer = shown_answer c.in-Ok.answer } in
+pub recorded-number-requires-clause-step : goal.recorded-number-requires-clause-step
+recorded-number-requires-clause-step g c =
+    let s : PlainStep = record { event = ticks c.args.call.moment c.self.inside.traced.opening.shard; answer = shown_answer c.in-Ok.answer } in
     (s, ap (λ (v : TraceView). last_of v.steps) c.in-Ok.ensures.ok ∙ last-push c.self.inside.traced.steps s)
 
 pub invariant_of-self : goal.invariant_of-self
-invariant_of-self g c = ((all g c).kept, c.self.invariant.1 ∙ sym (ap (λ (f : FrontView). f.shard) c.recorded.ensures.front))
+invariant_of-self g c = ((all g c).kept, c.self.invariant.1 ∙ sym (ap (λ (f : FrontView). f.shard) c.recorded-number.ensures.front))
 
 pub returns-in-Ok-clause-octets : goal.returns-in-Ok-clause-octets
 returns-in-Ok-clause-octets g c =
     let are = (all g c).kept.stored ∙ sym (ap (λ (l : List HistoryEntry). stored_of l) (all g c).front) in
-    c.recorded.ensures.octets ∙ ap (λ (l : List PlainStep). min (octets_in l) (2 ^ 64 - 1)) are
+    c.octets-octets.ensures ∙ ap (λ (l : List PlainStep). min (octets_in l) (2 ^ 64 - 1)) are
 
 pub returns-in-Ok-clause-seen : goal.returns-in-Ok-clause-seen
 returns-in-Ok-clause-seen g c = (all g c).sees

@@ -1,5 +1,5 @@
 -- Something was due where the shard stands, at the end of its history, or nothing.
-use Rattle.std.proofs.Common.{◌≡◌, ◌↔◌, ℕ, ◌++◌, ◌∷◌, [], false, ap, sym, subst, ◌∙◌}
+use Rattle.std.proofs.Common.{◌≡◌, ◌↔◌, ℕ, ◌++◌, ◌∷◌, [], false, Ok, Err, ap, sym, subst, ◌∙◌}
 use Rattle.roam_shard.specs.Twins.{NothingDue}
 use mathlib.Core.List.{IsPrefix}
 use Rattle.roam_history.specs.Entries.{steps_in}
@@ -21,17 +21,19 @@ returns-clause-tick g c =
     subst (λ (v : KeptView). IsPrefix (front_of old c.args.shard) v.front.entries) (sym c.self.view_is) c.in_ok-check.ensures.begins in
     let seen : c.learn.new.self ≡ having_seen old c.args.shard i.front.entries =
     c.learn.ensures ∙ (ap (λ (f : FrontView). having_seen old f.shard f.entries) c.again.ensures ∙ ap (λ (n : ℕ). having_seen old n i.front.entries) here) in
-    let due = subst (λ b. b ≡ false ↔ NothingDue c.args.now i.traced.states) c.if-is_due.false c.is_due.ensures in
-    (look g.N.Opened.opening k c.args.shard c.args.now old c.learn.new.self false c.self.invariant.0 here c.in_ok-check.ensures.there begins
-    due seen).0
+    let due = subst (λ b. b ≡ false ↔ NothingDue c.args.call.moment i.traced.states) c.if-is_due.false c.is_due.ensures in
+    let both = look g.N.Opened.opening k c.args.shard c.args.call.moment old c.learn.new.self false c.self.invariant.0 here c.in_ok-check.ensures.there begins
+    due seen in
+    record { tick = both.0; seen = both.1; err = tt; full = λ is. absurd (let bad : Ok _ ≡ Err _ = is in cc) }
 
 pub returns-then-is_due-clause-tick : goal.returns-then-is_due-clause-tick
 returns-then-is_due-clause-tick g c =
     let i = c.self.inside in
     let k : KeptView = record { trace = i.traced; front = i.front } in
     let a = c.in_ok-tick.field-0 in
-    let s = answered_step (ticks c.args.now c.args.shard) a in
+    let s = answered_step (ticks c.args.call.moment c.args.shard) a in
     let here : i.front.shard ≡ c.args.shard = ap (λ (v : KeptView). v.front.shard) c.self.view_is ∙ c.in_ok-check.ensures.shard in
-    due_call g.N.Opened.opening k c.args.shard c.args.now c.args.seat.now c.tick.new.seat a.number s c.self.invariant.0 here
+    let call = due_call g.N.Opened.opening k c.args.shard c.args.call.moment c.args.seat.now c.tick.new.seat a.number s c.self.invariant.0 here
     (λ none. absurd (let not = c.is_due.ensures.1 none in cc)) c.in_ok-tick.ensures.call
-    (c.in_ok-tick.ensures.more ∙ ap (λ (v : KeptView). steps_in v.front.entries ++ s ∷ []) (sym c.self.view_is))
+    (c.in_ok-tick.ensures.more ∙ ap (λ (v : KeptView). steps_in v.front.entries ++ s ∷ []) (sym c.self.view_is)) in
+    record { tick = call; seen = c.in_ok-tick.ensures.seen; err = tt; full = λ is. absurd (let bad : Ok _ ≡ Err _ = is in cc) }

@@ -1,13 +1,12 @@
 -- The step is one more of the shard's history.
-use Rattle.std.proofs.Common.{◌≡◌, ℕ, ◌+◌, ◌-◌, ◌<◌, ◌^◌, ◌++◌, ◌∷◌, [], true, List, length, min, ap, refl, sym, subst, ◌∙◌}
+use Rattle.std.proofs.Common.{◌≡◌, ◌+◌, ◌-◌, ◌<◌, ◌^◌, true, List, length, min, ap, sym, subst, arith, ◌∙◌}
 use Rattle.roam_route.specs.Events.{IsEvent, arrival_of}
 use Rattle.roam_route.specs.Shown.{shown_job}
-use Rattle.roam_core.specs.Events.{arrives, is_in_shard, ticks}
+use Rattle.roam_core.specs.Events.{arrives, is_in_shard}
 use Rattle.roam_core.specs.Shown.{shown_event}
-use Rattle.roam_shard.specs.ShardView.{OpeningView}
 use Rattle.roam_trace.specs.History.{Ends, IsTrace, TraceView, with_step}
 use Rattle.roam_trace.specs.Steps.{PlainStep, octets_in, shown_answer}
-use Rattle.roam_trace.proofs.HistoryLemmas.{is_trace, job_answer, job_of_shard, stepped}
+use Rattle.roam_trace.proofs.HistoryLemmas.{is_trace, job_answer, job_of_shard, same_shown, stepped}
 use Rattle.roam_trace.proofs.OctetLemmas.{octets_more}
 use Rattle.roam_trace.proofs.traced.Traced.take.Goals as goal
 
@@ -33,8 +32,8 @@ invariant_of-self-2 g c =
           ∙ ap (λ (l : List PlainStep). min (octets_in l) (2 ^ 64 - 1)) (sym stored)),
     )
 
-pub returns-clause-history : goal.returns-clause-history
-returns-clause-history g c = λ first before ends. (
+pub returns-clause-stores : goal.returns-clause-stores
+returns-clause-stores g c =
     let i = c.self.inside in
     let t : TraceView = record { opening = i.shard.opening; states = i.shard.states; gone = i.gone; steps = i.steps.items; limit = i.limit } in
     let job = shown_job c.args.job in
@@ -46,4 +45,13 @@ returns-clause-history g c = λ first before ends. (
     let all = stepped twin.copy t c.step.new.self.opening c.step.new.self.states c.reserve_one.new.steps.items c.store.new.steps.items (arrives c.args.now (arrival_of job)) s
     c.step.ensures.opening c.reserve_one.ensures.items c.store.ensures.items is (job_of_shard t.opening.config t.opening.shard c.args.now job event own)
     (job_answer twin.copy t.opening.config t.states c.step.new.self.states c.args.now job event c.in-Ok.ensures.turn.1) in
-    subst (λ (v : TraceView). Ends v first before) (sym all.same) (all.more first before (subst (λ (v : TraceView). Ends v first before) (sym c.self.view_is) ends)))
+    let turn = c.in-Ok.ensures.turn in
+    let told = same_shown twin t.states c.step.new.self.states _ turn.0 turn.1 ∙ ap (λ a. shown_answer a) (sym c.store.ensures.answer) in
+    let below = c.in_default.ensures.below in
+    record {
+      ok = all.same ∙ (λ j. with_step (c.self.view_is j) (record { event = c.event_of-event.ensures j; answer = told j }));
+      err = tt;
+      full = (λ no. absurd no, λ all. absurd (omega (arith, below, all)));
+      history = λ first before ends.
+          subst (λ (v : TraceView). Ends v first before) (sym all.same) (all.more first before (subst (λ (v : TraceView). Ends v first before) (sym c.self.view_is) ends));
+    }

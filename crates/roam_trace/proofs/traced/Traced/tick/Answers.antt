@@ -1,13 +1,10 @@
 -- The step is one more of the shard's history.
-use Rattle.std.proofs.Common.{◌≡◌, ℕ, ◌+◌, ◌-◌, ◌<◌, ◌^◌, ◌++◌, ◌∷◌, [], true, List, length, min, ap, refl, sym, subst, ◌∙◌}
-use Rattle.roam_route.specs.Events.{IsEvent, arrival_of}
-use Rattle.roam_route.specs.Shown.{shown_job}
-use Rattle.roam_core.specs.Events.{arrives, is_in_shard, ticks}
-use Rattle.roam_core.specs.Shown.{shown_event}
+use Rattle.std.proofs.Common.{◌≡◌, Ok, Err, ℕ, ◌+◌, ◌-◌, ◌<◌, ◌^◌, List, length, min, ap, refl, sym, subst, arith, ◌∙◌}
+use Rattle.roam_core.specs.Events.{ticks}
 use Rattle.roam_shard.specs.ShardView.{OpeningView}
 use Rattle.roam_trace.specs.History.{Ends, IsTrace, TraceView, with_step}
 use Rattle.roam_trace.specs.Steps.{PlainStep, octets_in, shown_answer}
-use Rattle.roam_trace.proofs.HistoryLemmas.{is_trace, job_answer, job_of_shard, stepped}
+use Rattle.roam_trace.proofs.HistoryLemmas.{is_trace, same_shown, stepped}
 use Rattle.roam_trace.proofs.OctetLemmas.{octets_more}
 use Rattle.roam_trace.proofs.traced.Traced.tick.Goals as goal
 
@@ -30,8 +27,8 @@ invariant_of-self-2 g c =
           ∙ ap (λ (l : List PlainStep). min (octets_in l) (2 ^ 64 - 1)) (sym stored)),
     )
 
-pub returns-clause-history : goal.returns-clause-history
-returns-clause-history g c = λ first before ends. (
+pub returns : goal.returns
+returns g c =
     let i = c.self.inside in
     let t : TraceView = record { opening = i.shard.opening; states = i.shard.states; gone = i.gone; steps = i.steps.items; limit = i.limit } in
     let twin = c.in_ok-twin.twin in
@@ -40,4 +37,14 @@ returns-clause-history g c = λ first before ends. (
     let is : s ≡ record { event = ticks c.args.now t.opening.shard; answer = shown_answer twin.copy } = ap (λ (n : ℕ). record { event = ticks c.args.now n; answer = shown_answer twin.copy }) shard in
     let all = stepped twin.copy t c.tick.new.self.opening c.tick.new.self.states c.reserve_one.new.steps.items c.store.new.steps.items (ticks c.args.now t.opening.shard) s
     c.tick.ensures.opening c.reserve_one.ensures.items c.store.ensures.items is refl c.in_ok-twin.ensures.turn.1 in
-    subst (λ (v : TraceView). Ends v first before) (sym all.same) (all.more first before (subst (λ (v : TraceView). Ends v first before) (sym c.self.view_is) ends)))
+    let shard_is = shard ∙ ap (λ (v : TraceView). v.opening.shard) c.self.view_is in
+    let turn = c.in_ok-twin.ensures.turn in
+    let told = same_shown twin t.states c.tick.new.self.states _ turn.0 turn.1 ∙ ap (λ a. shown_answer a) (sym c.store.ensures.answer) in
+    let below = c.in_ok-check.ensures.below in
+    record {
+      ok = all.same ∙ (λ j. with_step (c.self.view_is j) (record { event = ticks c.args.now (shard_is j); answer = told j }));
+      err = tt;
+      full = (λ no. absurd (let bad : Ok _ ≡ Err _ = no in cc), λ all. absurd (omega (arith, below, all)));
+      history = λ first before ends.
+          subst (λ (v : TraceView). Ends v first before) (sym all.same) (all.more first before (subst (λ (v : TraceView). Ends v first before) (sym c.self.view_is) ends));
+    }
