@@ -3,4 +3,5 @@ pub mod Receipts
 pub mod Shown
 pub mod Audit
 pub mod Findings
+pub mod StepCounts
 pub mod Texts

@@ -1,5 +1,5 @@
 -- What the code's receipts and reports are seen as.
-use Rattle.std.specs.Prelude.{ℕ, List, [], length, map, slice_index_or, sum_by}
+use Rattle.std.specs.Prelude.{ℕ, List, [], map, slice_index_or}
 use Rattle.std.specs.declared.vec.Vec.{Vec}
 use Rattle.roam_core.specs.Shown.{shown_event}
 use Rattle.roam_trace.specs.Steps.{PlainStep, shown_answer}
@@ -35,10 +35,6 @@ all_in front = steps_in front.entries
 -- what was recorded of each shard: all its steps
 abbrev pub recorded : {A N : Type 0} {g : Ghosts N} → Report A N g → List (List PlainStep)
 recorded report = map all_in report.fronts.items
-
--- how many steps were recorded of all shards
-abbrev pub count_of_steps : List FrontView → ℕ
-count_of_steps fronts = sum_by (λ front. length (all_in front)) fronts
 
 -- the whole history of a shard
 abbrev pub whole_of : {A N : Type 0} {g : Ghosts N} → Report A N g → ℕ → List HistoryEntry

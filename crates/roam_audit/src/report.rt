@@ -1,7 +1,8 @@
 //! What was recorded of all shards, and its audit.
 
-ghost use Rattle.std.specs.Prelude.{◌≡◌, ◌<◌, ◌^◌, vec_len};
+ghost use Rattle.std.specs.Prelude.{◌≡◌, ◌-◌, ◌<◌, ◌^◌, min, vec_len};
 ghost use Rattle.roam_history.specs.Fronts.{AreOfShards};
+ghost use Rattle.roam_audit.specs.StepCounts.{count_of_steps};
 
 use crate::audit_fault::AuditFault;
 use crate::receipt::Receipt;
@@ -25,9 +26,20 @@ pub struct Report<A: Allocator, N: Opened> {
     ghost of_shards: { AreOfShards fronts.items },
 }
 
+/// How many steps these histories have together; as many as 64 bits hold.
+fn count_in<N: Opened>(fronts: &[Front<N>]) -> u64
+    ensures { result ≡ min (count_of_steps fronts.now) (2 ^ 64 - 1) }
+{
+    let mut count = 0u64;
+    for front in fronts {
+        count = count.saturating_add(front.len());
+    }
+    count
+}
+
 impl<A: Allocator, N: Opened> Report<A, N> {
     ghost use Rattle.std.specs.Prelude.{◌≡◌, ◌↔◌, ◌-◌, ◌^◌, ℕ, Err, IsOk, min};
-    ghost use Rattle.roam_audit.specs.Shown.{count_of_steps, recorded, shown_receipts};
+    ghost use Rattle.roam_audit.specs.Shown.{recorded, shown_receipts};
     ghost use Rattle.roam_audit.specs.Audit.{IsInOrder, IsFirstUneven, AreOfFirstWrong};
 
     /// Compares what was recorded with what the callers have. Takes no memory.
@@ -53,10 +65,6 @@ impl<A: Allocator, N: Opened> Report<A, N> {
     pub fn count_steps(&self) -> u64
         ensures { result ≡ min (count_of_steps self.now.fronts.items) (2 ^ 64 - 1) }
     {
-        let mut count = 0u64;
-        for front in self.fronts.iter() {
-            count = count.saturating_add(front.len());
-        }
-        count
+        count_in(self.fronts.as_slice())
     }
 }
