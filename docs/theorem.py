@@ -1,11 +1,12 @@
 #!/usr/bin/env python3
-"""Writes docs/THEOREM.md from the sources: what `run` promises, and each definition under it, in order of use.
+"""Writes docs/THEOREM.md from the sources: what `run` promises, and each definition under it, chapter by chapter.
 
   python3 docs/theorem.py           writes the page
   python3 docs/theorem.py --check   says whether the page is what the sources give; ends with 1 where it isn't
 
 It reads the clauses in crates/roam_core/src/runs.rt, the definitions in crates/*/specs, and the types and
-constants in crates/*/src that these name. Nothing of the proofs is read.
+constants in crates/*/src that these name. Nothing of the proofs is read. A name of a crate of the repository
+that it can't find is an error.
 """
 import os
 import re
@@ -15,32 +16,41 @@ ROOT = os.path.dirname(os.path.dirname(os.path.abspath(__file__)))
 PAGE = os.path.join(ROOT, "docs", "THEOREM.md")
 RUN = ("roam_core", "src/runs.rt")
 
-# The parts of the page: what each is called, what it says, and the clauses of `run` that it follows.
-PARTS = [
-    ("Each realm is isolated", "isolated_from_start",
-     "The headline. For every list of arrivals and timer events, and for every realm: the packets for that "
-     "realm are, in order and octet for octet, those that the written broker of that one realm sends when it "
-     "is given that realm's own events alone."),
-    ("Where each packet comes from", "provenance",
-     "Each of those packets is the forwarded packet, the returned packet or the NAK of one of the realm's own "
-     "events."),
-    ("What is lost", "given wanted",
-     "The events are given in their order, each once, and those that are lost wanted memory."),
+# Functions under the headline for which a law says which relation they decide or answer: the page has the law
+# and the relation in their place, and the functions at its end. A function, and its law.
+TIES = [
+    (("roam_wire", "Reading", "reading"), ("roam_wire", "Laws", "ReadingIsRight")),
+    (("roam_auth", "Deciding", "is_signed_reply"), ("roam_auth", "DecidingLaws", "SignedReplyIsDecided")),
+    (("roam_auth", "Deciding", "is_signed_request"), ("roam_auth", "DecidingLaws", "SignedRequestIsDecided")),
+    (("roam_auth", "Deciding", "is_well_sealed"), ("roam_auth", "DecidingLaws", "WellSealedIsDecided")),
+    (("roam_hide", "Hiding", "hidden_anew"), ("roam_hide", "HidingLaws", "OneTextAnew")),
+    (("roam_hide", "SaltedFunctions", "tunnel_anew"), ("roam_hide", "SaltedLaws", "OneTunnelAnew")),
+    (("roam_hide", "SaltedFunctions", "vendor_anew"), ("roam_hide", "SaltedLaws", "OneVendorAnew")),
+    (("roam_hide", "Salted", "is_salted"), ("roam_hide", "SaltedLaws", "SaltedIsDecided")),
+    (("roam_ids", "NextIdentifier", "next_identifier"), ("roam_ids", "Laws", "AnswersTheNext")),
+    (("roam_back", "ReplyCheck", "reply_fault"), ("roam_back", "ReplyCheck", "TakenHasNoFault")),
 ]
 
-# Laws that tie a function under the headline to a relation that an RFC's words are easier to compare with.
-LAWS = [
-    ("roam_wire", "Laws", "ReadingIsRight"),
-    ("roam_auth", "DecidingLaws", "SignedReplyIsDecided"),
-    ("roam_auth", "DecidingLaws", "SignedRequestIsDecided"),
-    ("roam_auth", "DecidingLaws", "WellSealedIsDecided"),
-    ("roam_hide", "HidingLaws", "OneTextAnew"),
-    ("roam_hide", "SaltedLaws", "OneTunnelAnew"),
-    ("roam_hide", "SaltedLaws", "OneVendorAnew"),
-    ("roam_hide", "SaltedLaws", "SaltedIsDecided"),
-    ("roam_ids", "Laws", "AnswersTheNext"),
-    ("roam_back", "ReplyCheck", "TakenHasNoFault"),
+# What the first chapter leaves closed, and the crates whose functions each later one opens.
+FIRST_BOXES = {"on_event", "event_of", "opening", "admission"}
+CHAPTERS = [
+    ("What one realm does",
+     "`on_event` and `opening`: the rules of one realm, as one broker for it alone would have them. Octets, look-ups "
+     "of the configuration and the tests of a reply stay closed.",
+     {"roam_book", "roam_pending", "roam_ids", "roam_random", "roam_reverse"}),
+    ("What comes to a realm",
+     "`admission`: which arrival is refused, which is answered on the spot, and to which realm any other one goes.",
+     {"roam_route", "roam_conf"}),
+    ("Octets",
+     "How packets are read and written, signed, sealed and hidden.",
+     {"roam_wire", "roam_auth", "roam_hide", "roam_fwd", "roam_back"}),
 ]
+
+# The chapter of the second promise.
+ORIGIN = "Where each packet comes from"
+
+# Values for a place that isn't there, in functions that have to answer something: no premise reaches them.
+FILLERS = {"no_realm", "nowhere", "first_start", "no_state", "no_entry"}
 
 WORD = re.compile(r"[A-Za-z_][A-Za-z0-9_'-]*")
 
@@ -265,7 +275,10 @@ def uses_of(sources, one):
         elif file.local(word):
             target = file.local(word)
         elif word in file.names:
-            target = sources.resolve(*file.names[word])
+            module, own = file.names[word]
+            target = sources.resolve(module, own)
+            if target is None and module.startswith("roam_"):
+                raise SystemExit("%s/%s: %s of %s isn't found" % (one.crate, one.path, own, module))
         else:
             target = None
         if target is not None and target is not one and target not in uses:
@@ -320,164 +333,298 @@ def roots_of(sources, lines, clause):
     return sorted(roots, key=lambda one: not re.match(r"(Is|Has|Were|Each)[A-Z]", one.name))
 
 
-def in_order(sources, roots, seen):
-    """The definitions under some others, each where it is first used: a definition, then what it uses."""
-    order = []
-
-    def visit(one):
-        if one in seen:
-            return
-        seen.add(one)
-        order.append(one)
-        one.uses = uses_of(sources, one)
-        for other in one.uses:
-            visit(other)
-
-    for root in roots:
-        visit(root)
-    return order
+def key_of(one):
+    """Where a definition stands."""
+    return one.crate, one.path, one.name
 
 
-def rings(sources, roots):
-    """How far each definition is from the clause."""
-    ring, now, far = 1, list(roots), {}
-    while now:
-        for one in now:
-            far.setdefault(one, ring)
-        following = []
-        for one in now:
-            for other in uses_of(sources, one):
-                if other not in far and other not in following:
-                    following.append(other)
-        ring, now = ring + 1, following
-    return far
+def is_function(one):
+    """Whether a definition is a function, and not data, a record, a type or a constant."""
+    return one.path.startswith("specs/") and not re.match(r"(?:abbrev |unfoldable )?pub (record|data) ", one.text[0])
 
 
-def deepest(order):
-    """The length of the longest chain of uses. A recursion counts once."""
-    memory = {}
-
-    def depth(one, path):
-        if one in memory:
-            return memory[one]
-        if one in path:
-            return 0
-        here = 1 + max([depth(other, path | {one}) for other in one.uses] or [0])
-        memory[one] = here
-        return here
-
-    sys.setrecursionlimit(10000)
-    return max(depth(one, frozenset()) for one in order)
+def head_of(one):
+    """A function's name and type, without what it answers."""
+    text = [one.text[0]]
+    for line in one.text[1:]:
+        if line.startswith(one.name + " "):
+            break
+        text.append(line)
+    return text
 
 
-def print_block(page, block):
-    first = block[0]
+class Chapter:
+    """What a chapter has, in the order in which a reader comes to it: breadth first."""
+
+    def __init__(self, title, says):
+        self.title, self.says = title, says
+        self.order, self.closed, self.laws = [], [], []
+
+    def words(self):
+        """How many words it has to read, with comments."""
+        shown = [line for one in self.order for line in one.comment + one.text]
+        shown += [line for one in self.closed for line in one.comment + head_of(one)]
+        return sum(len(line.split()) for line in shown)
+
+    def definitions(self):
+        return sum(1 for one in self.order if one.path.startswith("specs/"))
+
+
+class Book:
+    """The chapters so far: what was opened, and what is still closed."""
+
+    def __init__(self, sources):
+        self.sources, self.seen, self.chapters = sources, set(), []
+        self.closed, self.appendix = {}, []
+        self.ties = {}
+        for (crate, module, name), (law_crate, law_module, law) in TIES:
+            tied = sources.resolve("%s.specs.%s" % (crate, module), name)
+            law = sources.resolve("%s.specs.%s" % (law_crate, law_module), law)
+            if tied is None or law is None:
+                raise SystemExit("a law that ties %s isn't found" % name)
+            self.ties[key_of(tied)] = law
+
+    def read(self, title, says, roots, is_open):
+        """A chapter: these definitions, and all that they use, where `is_open` opens it."""
+        chapter = Chapter(title, says)
+        queue = list(roots)
+        while queue:
+            one = queue.pop(0)
+            if key_of(one) in self.seen or one.name in FILLERS:
+                continue
+            if is_function(one) and not is_open(one):
+                if one not in chapter.closed and key_of(one) not in self.closed:
+                    chapter.closed.append(one)
+                    self.closed[key_of(one)] = one
+                continue
+            self.seen.add(key_of(one))
+            self.closed.pop(key_of(one), None)
+            law = self.ties.get(key_of(one))
+            if law is not None:
+                self.appendix.append(one)
+                chapter.laws.append((one, law))
+                self.seen.add(key_of(law))
+                chapter.order.append(law)
+                queue.extend(it for it in uses_of(self.sources, law) if it is not one)
+                continue
+            chapter.order.append(one)
+            queue.extend(uses_of(self.sources, one))
+        self.chapters.append(chapter)
+        return chapter
+
+    def closed_of(self, crates):
+        """What is closed of these crates."""
+        return [one for one in self.closed.values() if one.crate in crates]
+
+
+def unread_fields(chapters):
+    """The fields of records that nothing on the page reads, by record."""
+    every = [one for chapter in chapters for one in chapter.order]
+    text = "\n".join(re.sub(r"--.*$", "", line) for one in every for line in one.text)
+    unread = {}
+    for one in every:
+        if not one.text[0].startswith("pub record ") or "Type 0 where" not in "\n".join(one.text):
+            continue
+        for line in one.text:
+            found = re.match(r"  pub ([a-z_]+) :", line)
+            if found and one.name.endswith(("View", "Config")):
+                field = found.group(1)
+                if not re.search(r"\.%s\b" % field, text) and not re.search(r"\b%s =" % field, text):
+                    unread.setdefault(key_of(one), set()).add(field)
+    return unread
+
+
+def print_text(page, one, text, unread):
+    """One definition: its comment and its text, without the fields that nothing reads."""
+    page.extend(one.comment)
+    left_out = unread.get(key_of(one), set())
+    for line in text:
+        found = re.match(r"  pub ([a-z_]+) :", line)
+        if found and found.group(1) in left_out:
+            continue
+        if one.path.startswith("src/") and line.strip().startswith("///") and one.name == "Refusal":
+            continue
+        page.append(line)
+    if left_out:
+        page.append("  -- (%s: read by nothing under the headline)" % ", ".join(sorted(left_out)))
+
+
+def print_group(page, group, unread, is_closed=False):
+    """Definitions of one file."""
+    first = group[0]
     path = "%s/%s" % (first.crate, first.path)
     page.append("[`%s`](../crates/%s)\n" % (path, path))
-    language = "rust" if first.path.startswith("src/") else "text"
-    page.append("```" + language)
-    last = None
-    for one in block:
-        if last is not None:
+    page.append("```" + ("rust" if first.path.startswith("src/") else "text"))
+    for place, one in enumerate(group):
+        if place:
             page.append("")
-        if one.comment and one.comment != last:
-            page.extend(one.comment)
-        last = one.comment
-        page.extend(one.text)
+        print_text(page, one, head_of(one) if is_closed else one.text, unread)
     page.append("```\n")
 
 
-def print_definitions(page, order):
-    block = []
+def in_rows(order):
+    """Definitions as they come, those of one file that follow each other together."""
+    groups = []
     for one in order:
-        if block and (block[-1].crate, block[-1].path) != (one.crate, one.path):
-            print_block(page, block)
-            block = []
-        block.append(one)
-    if block:
-        print_block(page, block)
+        if groups and (groups[-1][0].crate, groups[-1][0].path) == (one.crate, one.path):
+            groups[-1].append(one)
+        else:
+            groups.append([one])
+    return groups
 
 
-def size(order):
-    """How many definitions there are, in how many files, of how many lines, and how many types and constants."""
-    own = [one for one in order if one.path.startswith("specs/")]
-    files = {(one.crate, one.path) for one in own}
-    count = sum(len([l for l in one.text if l.strip() and not l.strip().startswith("--")]) for one in own)
-    return len(own), len(files), count, len(order) - len(own)
+def by_file(order):
+    """Definitions file by file, the files as they are first come to, each in its own order."""
+    files = {}
+    for one in order:
+        files.setdefault((one.crate, one.path), []).append(one)
+    for (crate, path), group in files.items():
+        lines = lines_of(crate, path)
+        place = {line: at for at, line in reversed(list(enumerate(lines)))}
+        group.sort(key=lambda one: place.get(one.text[0], 0))
+    return list(files.values())
 
 
-def introduction(page, first, every):
-    """What the page is, how much stands under the headline, and how to read it."""
-    order, far = first
-    number, files, count, types = size(order)
-    page.append("# The theorem, with each definition under it\n")
-    page.append("This page is made from the sources by `docs/theorem.py`; `python3 docs/theorem.py --check` says "
-                "whether it still is what they give. It is meant to be read from top to bottom: what `run` "
-                "promises, then each definition that the promise rests on, in order of use, as it stands in "
-                "`specs/`, with its comment. A comment names the RFC's section that the definition follows, or "
-                "says \"ours\" where no RFC decides.\n")
-    page.append("Under the headline stand **%d definitions in %d files, %d lines without comments**, and %d types and "
-                "constants of the program that they name. The longest chain of uses has %d of them. With the "
-                "parts after it, but for the last, they are %d.\n"
-                % (number, files, count, types, deepest(order), every))
-    page.append("| steps from the clause | definitions, types and constants |\n|---|---|")
-    for ring in sorted(set(far.values())):
-        page.append("| %d | %d |" % (ring, sum(1 for r in far.values() if r == ring)))
-    page.append("")
-    page.append("How to read it: a definition comes where it is first used, and what it uses comes after it. "
-                "`abbrev` and `unfoldable` begin a function, with its type on the line of its name and then an "
-                "equation for each case; `record` is a statement of several parts, or plain data; `data` lists "
-                "the cases of a value. `A → Type 0` is a statement about an `A`. A block in another type is a "
-                "type or a constant of the program itself, which definitions name.\n")
-    page.append("Left out: lists, numbers, options and other words of the core library (`map`, `filter`, "
-                "`slice_index_or` ..), MD5 (crate `md5`, RFC 1321) and ChaCha20 (crate `rand_chacha`, RFC 8439), "
-                "which come with the toolchain; and all proofs, and every definition that only they or private "
-                "functions use, since the promise doesn't rest on them.\n")
+def print_chapter(page, number, chapter, unread, groups, clause=()):
+    """A chapter's definitions, behind the clause of `run` that it is about, and what stays closed in it."""
+    page.append("## %s. %s\n" % (number, chapter.title))
+    page.append(chapter.says + "\n")
+    if clause:
+        print_clause(page, clause)
+    page.append("%d definitions, some %d words.\n" % (chapter.definitions(), round(chapter.words(), -2)))
+    if chapter.laws:
+        page.append("By a law: %s. The law and its relation stand here, the function at the page's end.\n"
+                    % ", ".join("`%s`" % one.name for one, _ in chapter.laws))
+    for group in groups(chapter.order):
+        print_group(page, group, unread)
+    if chapter.closed:
+        page.append("**Closed in this chapter**: what is said of these functions here holds whatever they answer.\n")
+        for group in by_file(chapter.closed):
+            print_group(page, group, unread, is_closed=True)
 
 
-def print_part(page, place, title, says, clause, order):
-    """A promise of `run`, and the definitions under it that aren't there yet."""
-    page.append("## %d. %s\n" % (place, title))
-    page.append(says + "\n")
+def source_block(page, crate, path, head, end):
+    """A piece of the code, from the line that begins so to the one that is this."""
+    lines = lines_of(crate, path)
+    at = next((n for n, line in enumerate(lines) if line.startswith(head)), None)
+    if at is None:
+        raise SystemExit("%s/%s: no line begins with `%s`" % (crate, path, head))
+    above = at
+    while lines[above - 1].strip().startswith("///"):
+        above -= 1
+    text = []
+    for line in lines[above:]:
+        if line == end:
+            break
+        text.append(line)
+    while all(line.startswith("    ") or not line for line in text):
+        text = [line[4:] for line in text]
+    page.append("[`%s/%s`](../crates/%s/%s)\n" % (crate, path, crate, path))
+    page.append("```rust")
+    page.extend(text)
+    page.append("```\n")
+
+
+def print_clause(page, clause):
     page.append("[`%s/%s`](../crates/%s/%s), of `run`:\n" % (RUN * 2))
     page.append("```rust")
     page.extend(line[4:] if line.startswith("    ") else line for line in clause)
     page.append("```\n")
-    if place > 1:
-        page.append("What it rests on beyond the part%s above: %d definitions.\n"
-                    % ("s" if place > 2 else "", len(order)))
-    print_definitions(page, order)
 
 
-def print_laws(page, place, sources, seen):
-    """The laws that tie functions to relations, and the relations."""
-    laws = [sources.spec(crate, module).definitions[name] for crate, module, name in LAWS]
-    order = in_order(sources, laws, seen)
-    page.append("## %d. Functions that a law ties to a relation\n" % place)
-    page.append("Some definitions above are functions, since a promise of equal octets needs a value. An RFC's words "
-                "are easier to compare with a relation. Each of these laws is proved, as the contract of a function "
-                "that does nothing, and says that a function above gives what a relation asks for; the relations "
-                "follow, %d definitions with the laws themselves.\n" % len(order))
-    print_definitions(page, order)
+def clauses(lines, names):
+    """Clauses of `run`, one after the other."""
+    text = []
+    for name in names:
+        text += ([""] if text else []) + clause_of(lines, name)
+    return text
+
+
+def print_introduction(page, book):
+    """What the page is, what has to be believed, and how long each chapter is."""
+    page.append("# The theorem, with each definition under it\n")
+    page.append("Made from the sources by `docs/theorem.py`; the gate says whether it still is what they give.\n")
+    page.append("**To be believed**: that the definitions on this page say what RADIUS and the promise say; the toolchain "
+                "(prover, compiler, core library); MD5 (crate `md5`, RFC 1321) and ChaCha20 (`rand_chacha`, RFC 8439); the "
+                "core library's words on lists, numbers and options (`map`, `filter`, ..). **Not to be believed**: any code of "
+                "the broker, and any proof; and of the chapters after the first nothing, if all that is asked is whether "
+                "realms are isolated: chapter 1 holds whatever the closed functions answer.\n")
+    page.append("| chapter | definitions | words |\n|---|---|---|")
+    for number, chapter in enumerate(book.chapters, 1):
+        page.append("| %d. %s | %d | %d |" % (number, chapter.title, chapter.definitions(), chapter.words()))
+    page.append("")
+    page.append("How to read it: `abbrev` and `unfoldable` begin a function, with its type on the line of its name and then an "
+                "equation for each case; `record` is a statement of several parts, or plain data; `data` lists the cases of a "
+                "value. `A → Type 0` is a statement about an `A`. A block in Rust is a type, a constant or a contract of the "
+                "program itself. A comment names the RFC's section that a definition follows, or says \"ours\". Left out are "
+                "values for a place that isn't there (%s), which no premise reaches.\n"
+                % ", ".join("`%s`" % it for it in sorted(FILLERS)))
+
+
+def print_bridge(page, book, number, chapter, lines, unread):
+    """What ties the page's words to the program."""
+    page.append("## %d. %s\n" % (number, chapter.title))
+    page.append(chapter.says + "\n")
+    source_block(page, "roam_core", "src/stepper.rt", "pub trait Stepper", "never")
+    page.append("A broker over shared tables is one, which `roam sim` runs, and this is how it begins:\n")
+    source_block(page, "roam_shard", "src/shards.rt", "    pub fn fresh(", "    {")
+    print_clause(page, clauses(lines, ["given", "lost", "wanted"]))
+    page.append("And of the program's words `roam sim`:\n")
+    source_block(page, "roam_sim", "src/simulation.rt", "pub fn simulate<", "{")
+    for group in in_rows(chapter.order):
+        print_group(page, group, unread)
 
 
 def written():
     """The page."""
-    sources, lines, seen, parts = Sources(), lines_of(*RUN), set(), []
-    for title, clauses, says in PARTS:
-        clause = []
-        for name in clauses.split():
-            if clause:
-                clause.append("")
-            clause.extend(clause_of(lines, name))
-        roots = roots_of(sources, lines, clause)
-        parts.append((title, says, clause, in_order(sources, roots, seen), rings(sources, roots)))
+    sources, lines = Sources(), lines_of(*RUN)
+    book = Book(sources)
+    headline = clauses(lines, ["isolated_from_start"])
+    book.read("Each realm is isolated", "For every list of arrivals and timer events, and for every realm: the packets for that "
+              "realm are, in order and octet for octet, those that the written broker of that one realm sends when it is given "
+              "that realm's own events alone.", roots_of(sources, lines, headline),
+              lambda one: one.name not in FIRST_BOXES)
+    bridge = roots_of(sources, lines, clauses(lines, ["given", "lost", "wanted"]))
+    bridge += [sources.resolve("roam_core.specs.Steps", "StepsTo"), sources.resolve("roam_core.specs.Openings", "fresh"),
+               sources.resolve("roam_core.specs.Steps", "GivesAnswer"), sources.resolve("roam_sim.specs.Simulation", "IsSimulated")]
+    book.read("How this is said of the program", "`run` is generic over a `Stepper`, whose configuration and states are the ones "
+              "that the headline names. Each event is given to it once and in order, and one is lost only where it wanted "
+              "memory.", bridge, lambda one: one.crate in {"roam_core"} and one.name not in FIRST_BOXES
+              and one.name not in {"HasProvenance"})
+    for title, says, crates in CHAPTERS:
+        book.read(title, says, book.closed_of(crates), lambda one, own=crates: one.crate in own)
+    origin = clauses(lines, ["provenance"])
+    book.read(ORIGIN, "Each packet is the forwarded packet, the returned packet or the NAK of one of the "
+              "realm's own events.", roots_of(sources, lines, origin), lambda one: True)
+    book.read("Scripts, and the lines that are printed", "What `roam sim` reads and writes; and what else the chapters before left "
+              "closed.", list(book.closed.values()), lambda one: True)
+    unread = unread_fields(book.chapters)
     page = []
-    introduction(page, parts[0][3:], sum(len(part[3]) for part in parts))
-    for place, (title, says, clause, order, _) in enumerate(parts, 1):
-        print_part(page, place, title, says, clause, order)
-    print_laws(page, len(parts) + 1, sources, seen)
+    print_introduction(page, book)
+    for number, chapter in enumerate(book.chapters, 1):
+        if number == 1:
+            print_chapter(page, number, chapter, unread, in_rows, headline)
+        elif number == 2:
+            print_bridge(page, book, number, chapter, lines, unread)
+        else:
+            clause = origin if chapter.title == ORIGIN else ()
+            print_chapter(page, number, chapter, unread, by_file, clause)
+    page.append("## The functions that laws tie to relations\n")
+    for group in by_file(in_order(sources, book)):
+        print_group(page, group, unread)
     return "\n".join(page).rstrip("\n") + "\n"
+
+
+def in_order(sources, book):
+    """The functions that laws tie, and what they use that isn't on the page yet."""
+    order, queue = [], list(book.appendix)
+    while queue:
+        one = queue.pop(0)
+        if one in order or (key_of(one) in book.seen and one not in book.appendix):
+            continue
+        order.append(one)
+        queue.extend(uses_of(sources, one))
+    return order
 
 
 def main():
