@@ -1,0 +1,88 @@
+#!/usr/bin/env python3
+"""Says which names on the pages aren't there: files, functions written as `Type::function`, and laws.
+
+    tools/names.py          prints each of them with its page and line; ends with 1 where there is one
+
+It looks at README.md and docs/*.md: at paths in backticks and in links, at `Type::function` and `crate::function` in
+backticks, and at names behind "the law" or "the laws".
+"""
+import pathlib
+import re
+import sys
+
+ROOT = pathlib.Path(__file__).resolve().parent.parent
+# Names of the toolchain and of the language, and forms that stand for a name.
+KNOWN_TYPES = {"Option", "Result", "Vec", "String", "Hash", "UdpSocket", "Scope", "Process", "Refusal", "Self", "Rattle", "std", "self"}
+OWN_FOLDERS = ("crates", "docs", "rows", "bench", "packaging", "mistakes", "tools", "examples")
+
+
+def names_of_code() -> tuple[set[str], set[str], set[str]]:
+    """The functions, the types, traits and enum's cases, and the modules and crates of the repository."""
+    functions, types, modules = set(), set(), set()
+    for path in ROOT.glob("crates/*/src/**/*.rt"):
+        text = path.read_text(encoding="utf-8")
+        functions |= set(re.findall(r"\bfn ([a-z_0-9]+)", text))
+        types |= set(re.findall(r"\b(?:struct|enum|trait|type) ([A-Za-z0-9]+)", text))
+        types |= set(re.findall(r"^\s+([A-Z][A-Za-z0-9]*)\b", text, re.M))
+        functions |= set(re.findall(r"\bconst ([A-Z_0-9]+)", text)) | set(re.findall(r"^\s+(?:pub )?([a-z_0-9]+):", text, re.M))
+        modules |= {path.stem, path.relative_to(ROOT / "crates").parts[0]}
+    return functions, types, modules
+
+
+def spec_names() -> set[str]:
+    """The definitions in specs."""
+    found = set()
+    for path in ROOT.glob("crates/*/specs/**/*.antt"):
+        found |= set(re.findall(r"^(?:abbrev |unfoldable )?pub (?:record |data )?([A-Za-z_][A-Za-z0-9_'-]*)",
+                                path.read_text(encoding="utf-8"), re.M))
+    return found
+
+
+def missing_file(name: str, page: pathlib.Path) -> bool:
+    """Whether a path is one of the repository, and isn't there."""
+    name = name.split("#")[0].rstrip("/")
+    if not name or any(it in name for it in "*<>{} ") or name.isupper() or "NAME" in name or "/out/" in name:
+        return False
+    if name.split("/")[0] in OWN_FOLDERS:
+        return not (ROOT / name).exists() and not (page.parent / name).exists()
+    return False
+
+
+def faults_of(page: pathlib.Path, code, specs: set[str]) -> list[str]:
+    """What a page names that isn't there."""
+    functions, types, modules = code
+    faults, is_code = [], False
+    for number, line in enumerate(page.read_text(encoding="utf-8").split("\n"), 1):
+        if line.startswith("```"):
+            is_code = not is_code
+        if is_code:
+            continue
+        said = []
+        for link in re.findall(r"\]\(([^)#:]+)[^)]*\)", line):
+            if not ((page.parent / link).exists() or (ROOT / link).exists()):
+                said.append(link)
+        for quoted in re.findall(r"`([^`]+)`", line):
+            if "/" in quoted and missing_file(quoted.split(" ")[0], page):
+                said.append(quoted)
+            found = re.fullmatch(r"(?:roam_[a-z_]+::)?([A-Za-z_]+)::([a-z_]+)(?:\(\))?", quoted)
+            if found and found.group(1) not in KNOWN_TYPES:
+                first, second = found.groups()
+                if (first not in types and first not in modules) or (second not in functions and second not in modules):
+                    said.append(quoted)
+        for law in re.findall(r"\blaws? `([a-z_]+)`", line):
+            if law not in functions and law not in specs:
+                said.append("law " + law)
+        faults += [f"{page.relative_to(ROOT)}:{number}: {it} isn't there" for it in said]
+    return faults
+
+
+def main() -> int:
+    code, specs = names_of_code(), spec_names()
+    pages = [ROOT / "README.md", *sorted((ROOT / "docs").glob("*.md"))]
+    faults = [it for page in pages if page.name != "THEOREM.md" for it in faults_of(page, code, specs)]
+    print("\n".join(faults) or "each name on the pages is there")
+    return int(bool(faults))
+
+
+if __name__ == "__main__":
+    sys.exit(main())
