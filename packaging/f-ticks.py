@@ -19,8 +19,10 @@ import hmac
 import re
 import sys
 
-LINE = re.compile(r'exchange result=(accept|reject) request=access (.*)')
-PAIR = re.compile(r'(\w+)=(?:"((?:[^"\\]|\\x[0-9a-f]{2})*)"|(\S+))')
+# What a user chose stands between quotation marks alone: before the first one there is none of it. So the line's own words
+# are looked for there, and whatever a User-Name says is read as a value.
+LINE = re.compile(r'(?:[^"]*\] )?exchange result=(accept|reject) request=access (.*)')
+PAIR = re.compile(r'(\w+)=(?:"((?:[^"\\]|\\x[0-9a-f]{2})*)"|([^\s"]+))(?:\s+|$)')
 MAC = re.compile(rb'[0-9A-Fa-f]{2}(?:[-:.]?[0-9A-Fa-f]{2}){5}')
 
 
@@ -30,9 +32,16 @@ def octets(text):
 
 
 def pairs(text):
-    """The keys of a line and their values: octets, or None where there is a hyphen."""
-    return {key: octets(quoted) if bare == '' else None if bare == '-' else bare.encode()
-            for key, quoted, bare in PAIR.findall(text)}
+    """The keys of a line and their values: octets, or None where there is a hyphen. None where it isn't such a line."""
+    found, place = {}, 0
+    while place < len(text):
+        pair = PAIR.match(text, place)
+        if not pair:
+            return None
+        key, quoted, bare = pair.groups()
+        found[key] = octets(quoted) if bare is None else None if bare == '-' else bare.encode()
+        place = pair.end()
+    return found
 
 
 def station(value):
@@ -47,10 +56,10 @@ def plain(value):
 
 
 def tick(line, options, key):
-    found = LINE.search(line)
-    if not found:
+    found = LINE.match(line)
+    said = pairs(found[2]) if found else None
+    if not said:
         return None
-    said = pairs(found[2])
     user = said.get('user') or b''
     realm = user.rpartition(b'@')[2] if b'@' in user else said.get('realm') or b''
     visited = plain(said.get('peer') or b'')
