@@ -1,0 +1,141 @@
+#!/usr/bin/env python3
+"""Holds the lists of keys and refusals together: each stands once, and everything else is made of it or compared with it.
+
+    tools/lists.py            writes the lists of the manual page
+    tools/lists.py --check    says what doesn't agree; ends with 1 where something doesn't
+
+- The keys of a configuration: the table of docs/FILES.md. The manual page's are made of it, and the reader's own lists
+  (crates/roam_conf_reader/src/tables.rt) compared with it.
+- The refusals: the table of docs/REFUSALS.md. The manual page's are made of it, and the names in their order
+  (crates/roam_wire/src/refusal.rt) compared with it.
+"""
+import pathlib
+import re
+import sys
+import textwrap
+
+ROOT = pathlib.Path(__file__).resolve().parent.parent
+MANUAL = ROOT / "packaging" / "roam.8"
+HEADS = {
+    "top": "At the top:",
+    "peer": "In each table\n.Cm [[peer]] ,\n1 to 1024 of them:",
+    "realm": "In each table\n.Cm [[realm]] ,\n1 to 1024 of them:",
+    "server": "In each table\n.Cm [[realm.server]] ,\n1 to 8 for each realm, in order of use:",
+}
+# What the manual page doesn't list: no datagram that a server received meets them, or nothing is logged of them.
+NOT_LOGGED = {11, 20, 22, 23}
+
+
+def rows_of(page: str, first: str) -> list[list[str]]:
+    """The rows of a page's table whose header begins with this cell."""
+    rows, is_in = [], False
+    for line in (ROOT / "docs" / page).read_text(encoding="utf-8").split("\n"):
+        cells = [it.strip() for it in line.strip().strip("|").split(" | ")]
+        if line.startswith(f"| {first} |"):
+            is_in = True
+        elif is_in and not line.startswith("|"):
+            return rows
+        elif is_in and not line.startswith("|---"):
+            rows.append(cells)
+    return rows
+
+
+def in_mdoc(text: str) -> str:
+    """A text with words in backticks, as mdoc(7)."""
+    lines: list[str] = []
+    for place, part in enumerate(text.split("`")):
+        if place % 2:
+            lines.append(".Cm " + (part if re.match(r"[A-Za-z]", part) else "\\&" + part))
+            continue
+        closing = re.match(r"[.,;:)]*", part).group(0)
+        if closing and lines:
+            lines[-1] += "".join(" " + it for it in closing)
+            part = part[len(closing):]
+        part = part.strip()
+        if part.startswith((".", "'")):
+            part = "\\&" + part
+        if part:
+            # A sentence begins a line.
+            for sentence in re.sub(r"([a-z0-9)]\.) (?=[A-Za-z0-9])", "\\1\n", part).split("\n"):
+                lines += textwrap.wrap(sentence, 78, break_on_hyphens=False)
+    return "\n".join(lines)
+
+
+def as_sentence(text: str) -> str:
+    """A cell as a sentence."""
+    text = text[0].upper() + text[1:] if text[0].islower() else text
+    return text if text.endswith((".", ":")) else text + "."
+
+
+def keys_in_mdoc() -> str:
+    rows, page = rows_of("FILES.md", "table"), []
+    for table, head in HEADS.items():
+        page.append(head + "\n.Bl -tag -width Ds")
+        for name, keys, value in rows:
+            if name == table and value.startswith("arrays of tables") is False and keys != "`server`":
+                page.append(".It " + " , ".join("Cm " + it.strip("`") for it in keys.split(", ")))
+                page.append(in_mdoc(as_sentence(value)))
+        page.append(".El\n.Pp")
+    return "\n".join(page)
+
+
+def refusals_in_mdoc() -> str:
+    page = [".Bl -tag -width Ds -compact"]
+    for number, _, cause, *_ in rows_of("REFUSALS.md", "no."):
+        if int(number) not in NOT_LOGGED:
+            page += [".It " + number, in_mdoc(cause)]
+    return "\n".join(page + [".El"])
+
+
+def manual() -> str:
+    """The manual page with both lists made anew."""
+    page = MANUAL.read_text(encoding="utf-8")
+    for name, made in (("keys", keys_in_mdoc()), ("refusals", refusals_in_mdoc())):
+        begin, end = f'.\\" {name}: made by tools/lists.py\n', f'.\\" {name}: end\n'
+        if begin not in page or end not in page:
+            raise SystemExit(f"packaging/roam.8 has no place for the {name}")
+        page = page.split(begin)[0] + begin + made + "\n" + end + page.split(end)[1]
+    return page
+
+
+def keys_of_the_reader() -> dict[str, set[str]]:
+    """The keys that the reader knows, by table."""
+    text = (ROOT / "crates" / "roam_conf_reader" / "src" / "tables.rt").read_text(encoding="utf-8")
+    found: dict[str, set[str]] = {}
+    for table, keys in re.findall(r"const (SERVER|PEER|REALM|TOP)(?:_OPTIONAL)?_KEYS: [^=]*= \[([^\]]*)\]", text):
+        found.setdefault(table.lower(), set()).update(re.findall(r'"([a-z_0-9]+)"', keys))
+    return found
+
+
+def faults() -> list[str]:
+    """What doesn't agree."""
+    said, listed = [], {}
+    for table, keys, _ in rows_of("FILES.md", "table"):
+        listed.setdefault(table, set()).update(it.strip("`") for it in keys.split(", "))
+    for table, keys in keys_of_the_reader().items():
+        said += [f"docs/FILES.md lacks the key {it} of {table}" for it in sorted(keys - listed.get(table, set()))]
+        said += [f"docs/FILES.md has a key {it} of {table} that the reader doesn't know" for it in sorted(listed.get(table, set()) - keys)]
+    code = (ROOT / "crates" / "roam_wire" / "src" / "refusal.rt").read_text(encoding="utf-8")
+    names = re.findall(r"^    ([A-Z][A-Za-z]+),$", code.split("pub enum Refusal {")[1].split("}")[0], re.M)
+    rows = [(number, name.strip("`")) for number, name, *_ in rows_of("REFUSALS.md", "no.")]
+    if rows != [(str(place), name) for place, name in enumerate(names, 1)]:
+        said.append("the refusals of docs/REFUSALS.md aren't those of roam_wire, in their order")
+    if MANUAL.read_text(encoding="utf-8") != manual():
+        said.append("packaging/roam.8 isn't what the pages give: run tools/lists.py")
+    return said
+
+
+def main() -> int:
+    if sys.argv[1:] == ["--check"]:
+        said = faults()
+        print("\n".join(said) or "the lists of keys and refusals agree")
+        return int(bool(said))
+    if sys.argv[1:]:
+        print(__doc__, file=sys.stderr)
+        return 2
+    MANUAL.write_text(manual(), encoding="utf-8")
+    return 0
+
+
+if __name__ == "__main__":
+    sys.exit(main())
