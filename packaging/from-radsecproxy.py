@@ -3,6 +3,7 @@
 
 What can't be said there stands in it as a comment, at its place: `# Not carried over: ..`. What is said in another way
 is a comment too: `# Changed: ..`. How many there are is said on standard error. Read them all, and then `roam check`.
+Where a whole client or realm isn't carried over, its status is 1.
 """
 
 import argparse
@@ -18,14 +19,16 @@ NAME = re.compile(r"[A-Za-z0-9.-]{1,253}\Z")
 TABLES, SERVERS, ALSO = 1024, 8, 256
 REST, REST_AFTER, HOPS = 30000, 3, 10
 
+FTICKS = "f-ticks.py makes F-Ticks lines of the log"
+
 # Why an option has no place in roam's file. The others that aren't read have no reason of their own.
 REASONS = {
     "pidfile": "it stays in the foreground", "loglevel": "notices go to standard error",
     "logdestination": "notices go to standard error", "logthreadid": "notices go to standard error",
-    "logfullusername": "no user is logged", "logmac": "no user is logged", "logkey": "no user is logged",
-    "fticksreporting": "no F-Ticks", "fticksmac": "no F-Ticks", "ftickskey": "no F-Ticks",
-    "ftickssyslogfacility": "no F-Ticks", "fticksprefix": "no F-Ticks", "fticksviscountry": "no F-Ticks",
-    "fticksvisinst": "no F-Ticks", "ttlattribute": "max_hops counts the proxies by their Proxy-States",
+    "logkey": "f-ticks.py has a key of its own",
+    "fticksreporting": FTICKS, "fticksmac": FTICKS, "ftickskey": FTICKS, "ftickssyslogfacility": FTICKS,
+    "fticksprefix": FTICKS, "fticksviscountry": FTICKS, "fticksvisinst": FTICKS,
+    "ttlattribute": "max_hops counts the proxies by their Proxy-States",
     "addttl": "max_hops counts the proxies by their Proxy-States",
     "listentcp": "no TCP", "listentls": "no TLS", "listendtls": "no DTLS",
     "sourcetcp": "no TCP", "sourcetls": "no TLS", "sourcedtls": "no DTLS", "ipv6only": "no IPv6",
@@ -130,6 +133,7 @@ class Conversion:
         self.of_kind = lambda kind: [block for block in blocks if block.kind == kind]
         self.servers = {block.name.lower(): block for block in self.of_kind("server")}
         self.used, self.addresses, self.names = set(), set(), set()
+        self.lost_tables = []
         self.realms, self.taken, self.forwarding = 0, [], []
 
     def run(self):
@@ -174,7 +178,7 @@ class Conversion:
         if top.is_on("loopprevention"):
             out.change("loopprevention compares names; max_hops counts the proxies that a request has passed")
         self.source = home[0] if home else auth[0]
-        out.lose_options(top, {"listenudp", "sourceudp", "loopprevention"})
+        out.lose_options(top, {"listenudp", "sourceudp", "loopprevention", "logfullusername", "logmac"})
         self.used |= {auth, acct}
         out.put("shards = 1",
                 "# `roam serve` draws its own seed. This one is for `roam sim`.", f'seed = "{"0" * 64}"',
@@ -182,7 +186,22 @@ class Conversion:
                 "trace_octets = 16777216", "spread = true",
                 "# Status-Server is answered, as radsecproxy does.", "status_server = true",
                 "# How many proxies a request may have passed; in place of TTL and LoopPrevention.",
-                f"max_hops = {HOPS}")
+                f"max_hops = {HOPS}",
+                "# `roam ctl` asks, reloads and stops it through this; `systemctl reload` and `stop` do.",
+                'control = "/run/roam/control"', "# Its counts, for Prometheus:", '# metrics = "127.0.0.1:9812"')
+        self.write_log()
+
+    def write_log(self):
+        """Whether users and stations are logged: not where they weren't."""
+        out, top = self.out, self.top
+        hides_users = (top.get("logfullusername") or "on").lower() == "off"
+        hides_stations = (top.get("logmac") or "original").lower() != "original"
+        if hides_users or hides_stations:
+            out.put("# No line tells of an exchange, for it would have the user and the station.", "log_exchanges = false")
+            if (top.get("fticksreporting") or "none").lower() != "none":
+                out.change("F-Ticks are made of the lines of exchanges, and those are off: `log_exchanges = true` has them")
+        else:
+            out.change("each exchange that ends is logged with its user and station: `log_exchanges = false` ends that")
 
     # Clients
 
@@ -195,19 +214,23 @@ class Conversion:
             fault = f"no {block.get('type').upper()}; let a radsecproxy beside it speak that, with UDP to here"
         if fault:
             out.lose(f"client {block.name}: {fault}")
+            self.lost_tables.append(f"client {block.name}")
             return
-        for host in hosts:
-            self.write_peers(block, host, secret)
+        if not any([self.write_peers(block, host, secret) for host in hosts]):
+            self.lost_tables.append(f"client {block.name}")
 
     def write_peers(self, block, host, secret):
+        """Whether one of its addresses is a peer, by this block or by one before it."""
         out, before = self.out, len(self.addresses)
-        for address in self.addresses_of(block, host):
+        addresses = self.addresses_of(block, host)
+        for address in addresses:
             if address in self.addresses:
                 out.lose(f"client {block.name}: {address} is a client before it, which radsecproxy takes first")
             elif len(self.addresses) == TABLES:
                 out.lose(f"client {block.name}: {address}: roam takes {TABLES} peers")
             else:
                 self.write_peer(block, address, secret, len(self.addresses) == before)
+        return any(address in self.addresses for address in addresses)
 
     def addresses_of(self, block, host):
         if "/" in host:
@@ -216,15 +239,20 @@ class Conversion:
             except ValueError:
                 addresses = []
             if 1 <= len(addresses) <= self.options.expand:
+                self.out.change(f"client {block.name}: the prefix {host} is {len(addresses)} peers, one for each address")
                 return addresses
             why = "isn't of IPv4" if not addresses else f"has {len(addresses)} addresses, each a peer (--expand)"
             self.out.lose(f"client {block.name}: the prefix {host} {why}")
             return []
         found = endpoint_of(host, 1, self.options)
         if not found:
-            why = "IPv6" if ":" in host else "a name: write its address (or use --resolve)"
+            why = "IPv6" if ":" in host else self.unresolved("a name: write its address (or use --resolve)")
             self.out.lose(f"client {block.name}: {host} is {why}")
         return [found[0]] if found else []
+
+    def unresolved(self, why):
+        """Why a name isn't an address, where it was looked up too."""
+        return "a name that has no IPv4 address now" if self.options.resolve else why
 
     def write_peer(self, block, address, secret, is_first):
         out = self.out
@@ -272,6 +300,7 @@ class Conversion:
             items, notes = self.items(block)
         except NotASuffix:
             out.lose(f"realm {block.name}: neither a name nor a suffix{self.fallen(['*'])}")
+            self.lost_tables.append(f"realm {block.name}")
             return
         reached = [item for item in items if not any(covers(before, item) for before in self.taken)]
         for item in items:
@@ -288,6 +317,7 @@ class Conversion:
         if len(reached) > ALSO or self.realms == TABLES:
             out.lose(f"realm {block.name}: roam takes {TABLES} realms, each with {ALSO} names beside its own"
                      f"{self.fallen(reached)}")
+            self.lost_tables.append(f"realm {block.name}")
             return
         for note in notes:
             out.change(f"realm {block.name}: {note}")
@@ -296,6 +326,7 @@ class Conversion:
             self.write_realm_table(block, reached, pairs)
         else:
             out.lose(f"realm {block.name}: none of its servers could be carried over{self.fallen(reached)}")
+            self.lost_tables.append(f"realm {block.name}")
 
     def fallen(self, items):
         """What becomes of names whose own realm isn't there."""
@@ -357,7 +388,7 @@ class Conversion:
         if not is_udp(block):
             return block, f"no {block.get('type').upper()}; let a radsecproxy beside it speak that"
         if not self.endpoint(block):
-            return block, "it has no IPv4 address (names need --resolve)"
+            return block, f"it is {self.unresolved('no IPv4 address (names need --resolve)')}"
         return block, secret_of(block)[1]
 
     def endpoint(self, block):
@@ -447,7 +478,7 @@ def main():
     parser.add_argument("conf", help="the radsecproxy.conf")
     parser.add_argument("--address", help="this machine's address, where the file names none")
     parser.add_argument("--resolve", action="store_true", help="look names of clients and servers up, now")
-    parser.add_argument("--expand", type=int, default=16, help="largest prefix of clients that becomes peers")
+    parser.add_argument("--expand", type=int, default=16, help="a prefix of clients of at most so many addresses becomes a peer for each of them")
     parser.add_argument("--out", type=int, default=20001, help="port of the first realm's `out`")
     parser.add_argument("--reverse", type=int, default=30001, help="port of the first realm's `reverse`")
     parser.add_argument("--max-pending", type=int, default=1000, help="of each realm")
@@ -463,6 +494,8 @@ def main():
           f" changed {out.changed}", file=sys.stderr)
     if not conversion.addresses or not conversion.realms:
         sys.exit("from-radsecproxy.py: roam needs at least one peer and one realm")
+    if conversion.lost_tables:
+        sys.exit("from-radsecproxy.py: not carried over as a whole: " + printable(", ".join(conversion.lost_tables)))
 
 
 if __name__ == "__main__":

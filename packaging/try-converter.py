@@ -241,6 +241,11 @@ EXPRESSIONS = [
 ]
 
 
+# What of it is lost as a whole.
+LOST = ["client dormitories", "client of-six", "client named", "client long", "realm /^$/", "realm six.example",
+        r"realm /^[a-k].*@half\.example$/"]
+
+
 def five_hundred():
     text = "ListenUDP 203.0.113.10:1812\n"
     text += "".join(f"client nas{n} {{\n host 192.0.2.{n}\n type udp\n secret secret-of-nas{n}\n}}\n"
@@ -257,10 +262,13 @@ def run(words):
     return subprocess.run(words, capture_output=True, text=True)
 
 
-def converted(path):
+def converted(path, lost):
+    """What is written and counted. Where whole clients or realms are lost, the last line names them, and the status isn't 0."""
     done = run([sys.executable, CONVERTER, path])
-    assert done.returncode == 0, done.stderr
-    return done.stdout, done.stderr
+    assert done.returncode == (1 if lost else 0), done.stderr
+    counted, _, named = done.stderr.partition("\n")
+    assert all(it in named for it in lost), named
+    return done.stdout, counted
 
 
 # The rules of docs/FILES.md, and of which realm a name means
@@ -276,7 +284,7 @@ def is_endpoint(text):
 
 def keeps_the_rules(conf):
     assert set(conf) <= {"shards", "seed", "auth", "acct", "trace_limit", "trace_octets", "max_hops", "status_server",
-                         "spread", "peer", "realm"}
+                         "spread", "control", "log_exchanges", "peer", "realm"}
     assert 1 <= len(conf["peer"]) <= 1024 and 1 <= len(conf["realm"]) <= 1024
     for peer in conf["peer"]:
         assert set(peer) <= {"name", "ip", "secret", "require_seal"}
@@ -369,7 +377,7 @@ NOT_CARRIED = {"/^$/", "/@(.+\\.)?myabc\\.com$/", "/@.+\\.3gppnetwork\\.org$/", 
                "six.example", "/^[a-k].*@half\\.example$/"}
 
 
-def look_over(name, text, peers, realms, told, roam):
+def look_over(name, text, peers, realms, told, lost, roam):
     with tempfile.TemporaryDirectory() as directory:
         path = os.path.join(directory, name)
         with open(path, "w") as file:
@@ -377,7 +385,7 @@ def look_over(name, text, peers, realms, told, roam):
         if shutil.which("radsecproxy"):
             judged = run(["radsecproxy", "-p", "-c", path])
             assert judged.returncode == 0, judged.stderr
-        written, counted = converted(path)
+        written, counted = converted(path, lost)
         conf = tomllib.loads(written)
         keeps_the_rules(conf)
         assert (len(conf["peer"]), len(conf["realm"])) == (peers, realms), counted
@@ -409,11 +417,16 @@ def read_expressions():
 def main():
     roam = sys.argv[1] if len(sys.argv) > 1 else None
     read_expressions()
-    conf = look_over("eduroam.conf", EDUROAM, 9, 4, TOLD, roam)
+    conf = look_over("eduroam.conf", EDUROAM, 9, 4, TOLD, LOST, roam)
+    assert "log_exchanges" not in conf and conf["control"] == "/run/roam/control"
     assert [peer["secret"] for peer in conf["peer"]][:3] == ["a\\bcA d"] + ['it is "quoted"'] * 2
     assert conf["realm"][3]["also"] == ["*"] and conf["realm"][3]["tries"] == 2 and conf["realm"][3]["wait"] == 3000
     assert [server["acct"] for server in conf["realm"][0]["server"]] == ["198.51.100.17:1813", "198.51.100.18:11813"]
-    look_over("five-hundred.conf", five_hundred(), 100, 500, [], roam)
+    look_over("five-hundred.conf", five_hundred(), 100, 500, [], [], roam)
+    private = look_over("private.conf", "LogFullUsername off\n" + five_hundred(), 100, 500, [], [], roam)
+    assert private["log_exchanges"] is False
+    named = five_hundred().replace("host 192.0.2.100", "host localhost")
+    look_over("named.conf", named, 99, 500, [("Not carried over", "localhost is a name")], ["client nas100"], roam)
 
 
 if __name__ == "__main__":
