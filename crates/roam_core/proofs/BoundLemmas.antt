@@ -1,5 +1,5 @@
 -- What the events of a list cause, one after the other; and what one event sends.
-use Rattle.std.proofs.Common.{◌≡◌, ℕ, ◌+◌, ◌≤◌, ◌^◌, Bool, true, List, [], ◌∷◌, Option, Some, None, refl, arith, length, length-append, eqb, ltb}
+use Rattle.std.proofs.Common.{◌≡◌, ℕ, ◌+◌, ◌*◌, ◌≤◌, ◌^◌, Bool, true, false, List, [], ◌∷◌, Option, Some, None, refl, ap, arith, length, length-append, eqb, ltb}
 use Rattle.std.specs.Prelude.{nat_eq}
 use Rattle.std.specs.Cmp.Lexicographic.{pointwise}
 use Rattle.roam_wire.specs.Packet.{Packet}
@@ -7,12 +7,14 @@ use Rattle.roam_wire.specs.Reading.{packet_of}
 use Rattle.roam_wire.specs.declared.refusal.Refusal.{Refusal}
 use Rattle.roam_back.specs.Returned.{returned_length}
 use Rattle.roam_back.specs.ReplyCheck.{reply_fault}
+use Rattle.roam_conf.specs.declared.endpoint.Endpoint.{Endpoint}
 use Rattle.roam_conf.specs.declared.place.Link.{Link}
+use Rattle.roam_conf.specs.declared.place.Place.TheVariants as place
 use Rattle.roam_pending.specs.declared.due.Due.{Due}
 use Rattle.roam_pending.specs.DueOrder.{due_list}
 use Rattle.roam_pending.specs.PlainEntry.{PlainRequest, PlainStanding, PlainEntry, waiting, done}
 use Rattle.roam_pending.specs.EntryList.{find_client, find_link, find_ticket, first_done, without, without_client}
-use Rattle.roam_book.specs.RealmConfig.{RealmConfig, later_targets, link_secret, seal_required}
+use Rattle.roam_book.specs.RealmConfig.{RealmConfig, later_targets, link_endpoint, link_secret, seal_required}
 use Rattle.roam_book.specs.RealmState.{RealmState, Target, chosen_target, opening}
 use Rattle.roam_book.specs.Rests.{after_silence}
 use Rattle.roam_book.specs.Turn.{Turn, packets_of, state_after, in_time}
@@ -20,7 +22,7 @@ use Rattle.roam_book.specs.OnRequest.{make_way, at_target, is_reverse, nak_or_ne
 use Rattle.roam_book.specs.OnReply.{returning, judge, to_standing, to_entry}
 use Rattle.roam_book.specs.OnTick.{Progress, fail_over, given_up_at, due_standing, due_entry, due_one, due_each}
 use Rattle.roam_book.specs.OneRealm.{RealmEvent, request_came, reply_came, tick_came, on_event, one_realm_run}
-use Rattle.roam_core.specs.Amplification.{Ends, NoAmplification, NoAmplificationFromStart, OnePacketEach, caused_by, counted, may_still_follow}
+use Rattle.roam_core.specs.Amplification.{Ends, NoAmplification, NoAmplificationFromStart, NoMoreAnswersThanRequests, OnePacketEach, caused_by, counted, counted_links, may_be_caused, may_still_follow, requests_from}
 use Rattle.roam_core.proofs.RequestCauseLemmas.{reply-answers, request-pays}
 use Rattle.roam_core.proofs.SentLemmas.{either}
 use Rattle.roam_core.proofs.SumLemmas.{counted-append}
@@ -84,6 +86,26 @@ pub no_amplification-from_start : NoAmplificationFromStart
 no_amplification-from_start c ends start events tries =
     let all = no_amplification c ends (opening c start) events tries in
     omega (arith, all)
+
+-- Where no link is looked at, the requests count alone
+
+none-toward : (c : RealmConfig) (ends : Ends) (links : List Link) → ((to : Endpoint) → ends (place.Out c.index) to ≡ false) → counted_links c ends links ≡ 0
+none-toward c ends [] h = refl
+none-toward c ends (l ∷ ls) h = rw (h (link_endpoint c l)) (none-toward c ends ls h)
+
+only-back : (c : RealmConfig) (ends : Ends) (events : List RealmEvent) → ((to : Endpoint) → ends (place.Out c.index) to ≡ false) → may_be_caused c ends events ≤ requests_from ends events
+only-back c ends [] h = omega arith
+only-back c ends (request_came now named q ∷ es) h =
+    let none = ap (λ (n : ℕ). c.realm.tries * n) (none-toward c ends (targets c q) h) in
+    let rest = only-back c ends es h in
+    omega (arith, none, rest)
+only-back c ends (reply_came now l octets ∷ es) h = let rest = only-back c ends es h in omega (arith, rest)
+only-back c ends (tick_came now ∷ es) h = let rest = only-back c ends es h in omega (arith, rest)
+
+pub no_more_answers : NoMoreAnswersThanRequests
+no_more_answers c ends start events tries h =
+    let all = no_amplification-from_start c ends start events tries in
+    omega (arith, all, only-back c ends events h)
 
 -- One packet for a request, and for a reply
 

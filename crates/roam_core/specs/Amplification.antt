@@ -1,7 +1,7 @@
 -- How much a realm sends (ours): of any list of its events, at most so many packets for each request that
 -- came, whatever replies and ticks come besides. Counted are all packets, or those that leave from a place
 -- and go to an endpoint: toward one home server, say, or back to one sender.
-use Rattle.std.specs.Prelude.{◌≡◌, ◌≤◌, ◌+◌, ◌*◌, ℕ, Bool, List, [], ◌∷◌, length, if◌then◌else◌}
+use Rattle.std.specs.Prelude.{◌≡◌, ◌≤◌, ◌+◌, ◌*◌, ℕ, Bool, false, List, [], ◌∷◌, length, if◌then◌else◌}
 use Rattle.std.specs.List.{filter}
 use Rattle.roam_conf.specs.declared.endpoint.Endpoint.{Endpoint}
 use Rattle.roam_conf.specs.declared.place.Link.{Link}
@@ -86,6 +86,20 @@ NoAmplificationFromStart =
     (c : RealmConfig) (ends : Ends) (start : Start) (events : List RealmEvent)
     → 1 ≤ c.realm.tries
     → counted ends (one_realm_packets c start events) ≤ may_be_caused c ends events
+
+-- how many requests came from the senders whose packets are counted
+abbrev pub requests_from : Ends → List RealmEvent → ℕ
+requests_from ends [] = 0
+requests_from ends (request_came now named q ∷ es) = counted_back ends q.key + requests_from ends es
+requests_from ends (reply_came now l octets ∷ es) = requests_from ends es
+requests_from ends (tick_came now ∷ es) = requests_from ends es
+
+-- whichever senders are looked at, and no link: no more packets go back to them than requests came from them
+abbrev pub NoMoreAnswersThanRequests : Type 0
+NoMoreAnswersThanRequests =
+    (c : RealmConfig) (ends : Ends) (start : Start) (events : List RealmEvent)
+    → 1 ≤ c.realm.tries → ((to : Endpoint) → ends (place.Out c.index) to ≡ false)
+    → counted ends (one_realm_packets c start events) ≤ requests_from ends events
 
 -- one event: a request sends one packet at most, a reply too, and a tick one for each entry that is due
 abbrev pub sends_at_most : RealmState → RealmEvent → ℕ

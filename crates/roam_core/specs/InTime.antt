@@ -1,7 +1,6 @@
 -- Until when a request is answered or given up (ours): while ticks come in time, no entry waits longer than
 -- its sends and their waits take, whatever else comes and whoever keeps silent.
-use Rattle.std.specs.Prelude.{◌≡◌, ◌≤◌, ◌+◌, ◌*◌, ◌^◌, ℕ, true, List, [], ◌∷◌, ◌++◌, length, Option}
-use Rattle.roam_conf.specs.declared.place.Link.{Link}
+use Rattle.std.specs.Prelude.{◌≡◌, ◌≤◌, ◌+◌, ◌*◌, ℕ, true, List, [], ◌∷◌, ◌++◌, length, Option}
 use Rattle.roam_pending.specs.ListLaws.{IsIn}
 use Rattle.roam_pending.specs.PlainEntry.{PlainEntry, PlainRequest, is_done}
 use Rattle.roam_book.specs.RealmConfig.{RealmConfig}

@@ -2,16 +2,17 @@
 //! configurations, states and events.
 
 ghost use Rattle.roam_core.specs.Amplification.{NoAmplification, NoAmplificationFromStart};
-ghost use Rattle.roam_core.specs.Amplification.{OnePacketEach, TargetsAreFew};
+ghost use Rattle.roam_core.specs.Amplification.{NoMoreAnswersThanRequests, OnePacketEach};
+ghost use Rattle.roam_core.specs.Amplification.{TargetsAreFew};
 ghost use Rattle.roam_core.specs.InTime.{NoneWaitsLonger};
 ghost use Rattle.roam_core.specs.SentFor.{AtMostTriesToEach};
 
-/// A realm sends at most `tries` packets to each target of a request that came, and one back to its
-/// sender for each time that it comes. One event sends at most one packet, but for a tick: one for each
-/// entry that is due.
+/// For each request that comes a realm sends at most `tries` packets to each of its targets, and one
+/// back to its sender. A request or a reply sends at most one packet, a tick one for each due entry.
 pub fn no_amplification()
     ensures from_start { NoAmplificationFromStart }
     ensures from_states { NoAmplification }
+    ensures back { NoMoreAnswersThanRequests }
     ensures each { OnePacketEach }
     ensures targets { TargetsAreFew }
 {}

@@ -1,4 +1,4 @@
-use Rattle.roam_core.proofs.BoundLemmas.{no_amplification, no_amplification-from_start, one_packet_each}
+use Rattle.roam_core.proofs.BoundLemmas.{no_amplification, no_amplification-from_start, no_more_answers, one_packet_each}
 use Rattle.roam_core.proofs.SumLemmas.{targets_are_few}
 use Rattle.roam_core.proofs.bounds.no_amplification.Goals as goal
 
@@ -7,6 +7,9 @@ returns-clause-from_start c = no_amplification-from_start
 
 pub returns-clause-from_states : goal.returns-clause-from_states
 returns-clause-from_states c = no_amplification
+
+pub returns-clause-back : goal.returns-clause-back
+returns-clause-back c = no_more_answers
 
 pub returns-clause-each : goal.returns-clause-each
 returns-clause-each c = one_packet_each
