@@ -21,3 +21,10 @@ pub mod OriginTickLemmas
 pub mod ProvenanceLemmas
 pub mod TicketLemmas
 pub mod DrawLemmas
+pub mod SumLemmas
+pub mod AmplificationLemmas
+pub mod RequestCauseLemmas
+pub mod BoundLemmas
+pub mod EntryKeepingLemmas
+pub mod SentForLemmas
+pub mod InTimeLemmas

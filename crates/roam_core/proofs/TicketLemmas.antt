@@ -110,7 +110,7 @@ due_each-keeps c now s (d ∷ ds) =
 tick-rises : (c : RealmConfig) (now : ℕ) (s : RealmState) (dues : List Due) → Rises s (as_turn (due_each c now s dues))
 tick-rises c now s dues = omega (arith, due_each-keeps c now s dues)
 
-event-rises : (c : RealmConfig) (s : RealmState) (e : RealmEvent) → Rises s (on_event c s e)
+pub event-rises : (c : RealmConfig) (s : RealmState) (e : RealmEvent) → Rises s (on_event c s e)
 event-rises c s (request_came now named q) =
     in_time-rises now s (of_key c now s named q (find_client q.key s.entries)) (of_key-rises c now s named q (find_client q.key s.entries))
 event-rises c s (reply_came now l octets) =
@@ -126,7 +126,7 @@ next-rises c start es e =
     let same = ap (λ (s : RealmState). s.ticket) (state-next c start es e) in
     omega (arith, same, event-rises c (state_then c start es) e)
 
-all-rise : (c : RealmConfig) (start : Start) (es fs : List RealmEvent) → (state_then c start es).ticket ≤ (state_then c start (es ++ fs)).ticket
+pub all-rise : (c : RealmConfig) (start : Start) (es fs : List RealmEvent) → (state_then c start es).ticket ≤ (state_then c start (es ++ fs)).ticket
 all-rise c start es [] = subst (λ (l : List RealmEvent). (state_then c start es).ticket ≤ (state_then c start l).ticket) (sym (append-nil es)) (stays (state_then c start es))
 all-rise c start es (f ∷ fs) =
     let rest = all-rise c start (es ++ f ∷ []) fs in

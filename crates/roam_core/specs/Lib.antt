@@ -9,6 +9,9 @@ pub mod ProvenanceLaws
 pub mod ManyRealms
 pub mod Alone
 pub mod OwnPart
+pub mod Amplification
+pub mod SentFor
+pub mod InTime
 pub mod BrokerView
 pub mod Steps
 pub mod Runs

@@ -3,6 +3,7 @@
 //! Nothing here touches a socket or a clock: datagrams, moments and packets are values.
 #![tactic(auto)]
 
+mod bounds;
 mod broker;
 mod event;
 mod laws;
@@ -10,6 +11,7 @@ mod runs;
 mod shard_room;
 mod stepper;
 
+pub use bounds::{bounded_waits, no_amplification, sent_for_one_request};
 pub use broker::Broker;
 pub use event::Event;
 pub use laws::{

@@ -2,3 +2,4 @@ pub mod HubLemmas
 pub mod KeptLemmas
 pub mod ChangeLemmas
 pub mod PauseLemmas
+pub mod BoundLemmas

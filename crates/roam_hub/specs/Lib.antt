@@ -8,4 +8,5 @@ pub mod Pausing
 pub mod Following
 pub mod Changes
 pub mod Faults
+pub mod Bounds
 pub mod Texts

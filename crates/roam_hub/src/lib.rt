@@ -6,6 +6,7 @@
 #![tactic(auto)]
 
 mod answered;
+mod bounds;
 mod call;
 mod closing;
 mod ended;
@@ -23,6 +24,7 @@ mod pause_room;
 mod pausing;
 
 pub use answered::{Answered, Refused};
+pub use bounds::{bounded_in_histories, bounded_waits_in_histories};
 pub use call::Call;
 pub use fault::HubFault;
 pub use following::follow;

@@ -1,0 +1,227 @@
+-- Sums over the entries of a realm, and how many of its links are counted.
+use Rattle.std.proofs.Common.{◌≡◌, ℕ, suc, ◌+◌, ◌-◌, ◌*◌, ◌≤◌, Bool, List, [], ◌∷◌, ◌++◌, Option, Some, None, refl, sym, ap, subst, ◌∙◌, inl, inr, arith, length, length-append, drop, drop-drop, eqb}
+use Rattle.std.specs.Prelude.{◌⊎◌, not}
+use Rattle.std.specs.List.{AllByRecursion, filter, find}
+use Rattle.std.specs.Option.{option_or}
+use Rattle.std.proofs.Math.Nat.{mul-le-mul_left}
+use Rattle.std.proofs.lemmas.Bool.{cases_Bool}
+use Rattle.std.proofs.lemmas.List.Elements.{filter-append}
+use Rattle.roam_conf.specs.Config.{ServerView}
+use Rattle.roam_conf.specs.declared.place.Link.{Link}
+use Rattle.roam_conf.specs.declared.place.Link.TheVariants as link
+use Rattle.roam_wire.specs.Reading.{packet_of}
+use Rattle.roam_reverse.specs.Target as reverse
+use Rattle.roam_route.specs.Admission.{PlainOut}
+use Rattle.roam_pending.specs.ListLaws.{IsIn}
+use Rattle.roam_pending.specs.PlainEntry.{PlainEntry, PlainRequest}
+use Rattle.roam_pending.specs.EntryList.{above, below, put, without}
+use Rattle.roam_pending.proofs.TestLemmas.{all-filter, all-weaker, compared, less, not_less, same}
+use Rattle.roam_book.specs.RealmConfig.{RealmConfig, later_targets, links_from, server_link, server_links, service_of}
+use Rattle.roam_book.specs.RealmState.{Target, chosen_target, first_target, next_toward, ready_links, this_or}
+use Rattle.roam_book.specs.Rests.{stands_back}
+use Rattle.roam_book.specs.OnRequest.{coa_links, is_reverse, targets}
+use Rattle.roam_book.specs.declared.state.rest.Rest.{Rest}
+use Rattle.roam_book.specs.declared.state.service.Service.{Service}
+use Rattle.roam_book.specs.declared.state.service.Service.TheVariants as service
+use Rattle.roam_core.proofs.SentLemmas.{either}
+use Rattle.roam_core.specs.Amplification.{Ends, TargetsAreFew, counted, counted_links, is_counted, sum_over}
+
+-- How many pass a test
+
+pub counts : {X : Type 0} (p : X → Bool) (x : X) (xs : List X) → length (filter p (x ∷ xs)) ≡ length (filter p (x ∷ [])) + length (filter p xs)
+counts p x xs =
+    elim (cases_Bool (p x)) [
+      | inl y ↦ rw y (omega arith)
+      | inr n ↦ rw n (omega arith)
+    ]
+
+pub counted-append : (ends : Ends) (xs ys : List PlainOut) → counted ends (xs ++ ys) ≡ counted ends xs + counted ends ys
+counted-append ends xs ys =
+    ap (λ (l : List PlainOut). length l) (filter-append (λ out. ends out.from out.to) xs ys)
+    ∙ length-append (filter (λ out. ends out.from out.to) xs) (filter (λ out. ends out.from out.to) ys)
+
+-- Sums over entries
+
+pub sum-append : (f : PlainEntry → ℕ) (xs ys : List PlainEntry) → sum_over f (xs ++ ys) ≡ sum_over f xs + sum_over f ys
+sum-append f [] ys = omega arith
+sum-append f (x ∷ xs) ys = omega (arith, sum-append f xs ys)
+
+pub sum-filter : (f : PlainEntry → ℕ) (p : PlainEntry → Bool) (xs : List PlainEntry) → sum_over f (filter p xs) ≤ sum_over f xs
+sum-filter f p [] = omega arith
+sum-filter f p (x ∷ xs) =
+    elim (cases_Bool (p x)) [
+      | inl y ↦ rw y (omega (arith, sum-filter f p xs))
+      | inr n ↦ rw n (omega (arith, sum-filter f p xs))
+    ]
+
+-- the entries of lesser ticket, and those of greater
+sum-sides : (f : PlainEntry → ℕ) (t : ℕ) (xs : List PlainEntry) → sum_over f (below t xs) + sum_over f (above t xs) ≤ sum_over f xs
+sum-sides f t [] = omega arith
+sum-sides f t (x ∷ xs) =
+    let rest = sum-sides f t xs in
+    elim (compared x.ticket t) [
+      | inl lt ↦ rw (less x.ticket t lt, not_less t x.ticket (omega arith)) (omega (arith, rest))
+      | inr (inl at) ↦ rw (not_less x.ticket t (omega arith), not_less t x.ticket (omega arith)) (omega (arith, rest))
+      | inr (inr gt) ↦ rw (not_less x.ticket t (omega arith), less t x.ticket gt) (omega (arith, rest))
+    ]
+
+-- and without one of that ticket
+sum-beside : (f : PlainEntry → ℕ) (t : ℕ) (old : PlainEntry) (xs : List PlainEntry) → old.ticket ≡ t → IsIn old xs → sum_over f (below t xs) + sum_over f (above t xs) + f old ≤ sum_over f xs
+sum-beside f t old [] is at = absurd at
+sum-beside f t old (x ∷ xs) is (inl here) =
+    let rest = sum-sides f t xs in
+    let ticket : x.ticket ≡ t = ap (λ (e : PlainEntry). e.ticket) here ∙ is in
+    let weight = ap f here in
+    rw (not_less x.ticket t (omega arith), not_less t x.ticket (omega arith)) (omega (arith, rest, weight))
+sum-beside f t old (x ∷ xs) is (inr at) =
+    let rest = sum-beside f t old xs is at in
+    elim (compared x.ticket t) [
+      | inl lt ↦ rw (less x.ticket t lt, not_less t x.ticket (omega arith)) (omega (arith, rest))
+      | inr (inl eq) ↦ rw (not_less x.ticket t (omega arith), not_less t x.ticket (omega arith)) (omega (arith, rest))
+      | inr (inr gt) ↦ rw (not_less x.ticket t (omega arith), less t x.ticket gt) (omega (arith, rest))
+    ]
+
+-- an entry that is put adds its own at most
+pub sum-put : (f : PlainEntry → ℕ) (e : PlainEntry) (xs : List PlainEntry) → sum_over f (put e xs) ≤ f e + sum_over f xs
+sum-put f e xs =
+    let whole = sum-append f (below e.ticket xs) (e ∷ above e.ticket xs) in
+    omega (arith, whole, sum-sides f e.ticket xs)
+
+-- and takes away that of the one which it replaces
+pub sum-replaced : (f : PlainEntry → ℕ) (e old : PlainEntry) (xs : List PlainEntry) → old.ticket ≡ e.ticket → IsIn old xs → sum_over f (put e xs) + f old ≤ f e + sum_over f xs
+sum-replaced f e old xs is at =
+    let whole = sum-append f (below e.ticket xs) (e ∷ above e.ticket xs) in
+    omega (arith, whole, sum-beside f e.ticket old xs is at)
+
+-- an entry that is taken out takes its own away
+pub sum-without : (f : PlainEntry → ℕ) (old : PlainEntry) (xs : List PlainEntry) → IsIn old xs → sum_over f (without old.ticket xs) + f old ≤ sum_over f xs
+sum-without f old [] at = absurd at
+sum-without f old (x ∷ xs) (inl here) =
+    let ticket : x.ticket ≡ old.ticket = ap (λ (e : PlainEntry). e.ticket) here in
+    let weight = ap f here in
+    let rest = sum-filter f (λ e. not (eqb e.ticket old.ticket)) xs in
+    rw (same x.ticket old.ticket ticket) (omega (arith, rest, weight))
+sum-without f old (x ∷ xs) (inr at) =
+    let rest = sum-without f old xs at in
+    elim (cases_Bool (eqb x.ticket old.ticket)) [
+      | inl y ↦ rw y (omega (arith, rest))
+      | inr n ↦ rw n (omega (arith, rest))
+    ]
+
+-- what is found is in the list
+pub found-in : {X : Type 0} (p : X → Bool) (xs : List X) (y : X) → find p xs ≡ Some y → IsIn y xs
+found-in p [] y at = absurd (let k : None ≡ Some y = at in cc)
+found-in p (x ∷ xs) y at =
+    elim (cases_Bool (p x)) [
+      | inl t ↦ let k : Some x ≡ Some y = rw t at at in inl (cc)
+      | inr n ↦ inr (found-in p xs y (rw n at at))
+    ]
+
+-- The link of a target
+
+-- what holds of each link holds of the chosen one
+this-holds : (Q : Link → Type 0) (l : Link) (others : Option Target) (target : Target) (id : Option ℕ) → Q l → (others ≡ Some target → Q target.link) → this_or l id others ≡ Some target → Q target.link
+this-holds Q l others target None here h at = h at
+this-holds Q l others target (Some id) here h at =
+    let k : Some (record { link = l; id = id }) ≡ Some target = at in
+    let whole : record { link = l; id = id } ≡ target = cc in
+    subst Q (ap (λ (t : Target). t.link) whole) here
+
+first-holds : (Q : Link → Type 0) (c : RealmConfig) (cursors : List ℕ) (es : List PlainEntry) (links : List Link) (target : Target) → AllByRecursion Q links → first_target c cursors es links ≡ Some target → Q target.link
+first-holds Q c cursors es [] target h at = absurd (let k : None ≡ Some target = at in cc)
+first-holds Q c cursors es (l ∷ ls) target h at =
+    this-holds Q l (first_target c cursors es ls) target (next_toward c cursors es l) h.0
+    (λ k. first-holds Q c cursors es ls target h.1 k) at
+
+either-is : (one other : Option Target) (target : Target) → option_or one other ≡ Some target → (one ≡ Some target) ⊎ (other ≡ Some target)
+either-is None other target at = inr at
+either-is (Some t) other target at = inl at
+
+pub chosen-holds : (Q : Link → Type 0) (c : RealmConfig) (now : ℕ) (rests : List Rest) (cursors : List ℕ) (es : List PlainEntry) (links : List Link) (target : Target) → AllByRecursion Q links → chosen_target c now rests cursors es links ≡ Some target → Q target.link
+chosen-holds Q c now rests cursors es links target h at =
+    let ready = ready_links c now rests links in
+    elim (either-is (first_target c cursors es ready) (first_target c cursors es links) target at) [
+      | inl k ↦ first-holds Q c cursors es ready target (all-filter Q (λ l. not (stands_back c now rests l)) links h) k
+      | inr k ↦ first-holds Q c cursors es links target h k
+    ]
+
+-- Links that come after others
+
+-- a link and its later targets are at most so many
+abbrev pub FitsIn : RealmConfig → Ends → ℕ → Link → Type 0
+FitsIn c ends n l = counted_links c ends (l ∷ []) + counted_links c ends (later_targets c l) ≤ n
+
+drop-next : (n : ℕ) (xs ys : List ServerView) (y : ServerView) → drop n xs ≡ y ∷ ys → drop (n + 1) xs ≡ ys
+drop-next n xs ys y is = sym (drop-drop 1 n xs) ∙ ap (drop 1) is
+
+later-are : (c : RealmConfig) (s : Service) (place : ℕ) → later_targets c (server_link s place) ≡ links_from c s (place + 1)
+later-are c service.Authentication place = refl
+later-are c service.Accounting place = refl
+
+servers-fit : (c : RealmConfig) (ends : Ends) (s : Service) (place : ℕ) (xs : List ServerView) → drop place c.realm.servers ≡ xs → AllByRecursion (FitsIn c ends (counted_links c ends (server_links s place xs))) (server_links s place xs)
+servers-fit c ends s place [] is = tt
+servers-fit c ends s place (x ∷ xs) is =
+    let next = drop-next place c.realm.servers xs x is in
+    let here = server_link s place in
+    let others = server_links s (place + 1) xs in
+    let later : later_targets c here ≡ others = later-are c s place ∙ ap (server_links s (place + 1)) next in
+    let same = ap (counted_links c ends) later in
+    let count = counts (is_counted c ends) here others in
+    let all = servers-fit c ends s (place + 1) xs next in (
+      omega (arith, same, count),
+      all-weaker (FitsIn c ends (counted_links c ends others)) (FitsIn c ends (counted_links c ends (here ∷ others))) others
+          (λ l fits. omega (arith, fits, count)) all,
+    )
+
+links-fit : (c : RealmConfig) (ends : Ends) (s : Service) (place : ℕ) → AllByRecursion (FitsIn c ends (counted_links c ends (links_from c s place))) (links_from c s place)
+links-fit c ends s place = servers-fit c ends s place (drop place c.realm.servers) refl
+
+coa-fit : (c : RealmConfig) (ends : Ends) (peer : Option ℕ) → AllByRecursion (FitsIn c ends (counted_links c ends (coa_links peer))) (coa_links peer)
+coa-fit c ends None = tt
+coa-fit c ends (Some peer) = (omega arith, tt)
+
+-- so do those of a request, and those after a link
+pub targets-fit : (c : RealmConfig) (ends : Ends) (q : PlainRequest) → AllByRecursion (FitsIn c ends (counted_links c ends (targets c q))) (targets c q)
+targets-fit c ends q =
+    either (λ (ls : List Link). AllByRecursion (FitsIn c ends (counted_links c ends ls)) ls) (is_reverse q) _ _
+    (coa-fit c ends (reverse.target c.peers (packet_of q.octets).attributes))
+    (links-fit c ends (service_of (packet_of q.octets).code) 0)
+
+pub later-fit : (c : RealmConfig) (ends : Ends) (l : Link) → AllByRecursion (FitsIn c ends (counted_links c ends (later_targets c l))) (later_targets c l)
+later-fit c ends (link.Auth server) = links-fit c ends service.Authentication (server + 1)
+later-fit c ends (link.Acct server) = links-fit c ends service.Accounting (server + 1)
+later-fit c ends (link.Coa peer) = tt
+
+-- how many they are
+servers-count : (s : Service) (place : ℕ) (xs : List ServerView) → length (server_links s place xs) ≡ length xs
+servers-count s place [] = refl
+servers-count s place (x ∷ xs) = ap suc (servers-count s (place + 1) xs)
+
+coa-count : (peer : Option ℕ) → length (coa_links peer) ≤ 1
+coa-count None = omega arith
+coa-count (Some peer) = omega arith
+
+pub targets_are_few : TargetsAreFew
+targets_are_few c q =
+    let all = servers-count (service_of (packet_of q.octets).code) 0 c.realm.servers in
+    elim (cases_Bool (is_reverse q)) [
+      | inl y ↦ rw y (coa-count (reverse.target c.peers (packet_of q.octets).attributes))
+      | inr n ↦ rw n (omega (arith, all))
+    ]
+
+-- Products
+
+-- `tries` to each of a link and its later ones are at most `tries` to each of all
+pub times : (t a b n : ℕ) → a + b ≤ n → t * a + t * b ≤ t * n
+times t a b n h =
+    let all = mul-le-mul_left t h in
+    omega (arith, all)
+
+one-more : (k x : ℕ) → x + k * x ≤ (k + 1) * x
+one-more k x = omega arith
+
+-- one send is used up
+pub resent : (k x : ℕ) → 1 ≤ k → x + (k - 1) * x ≤ k * x
+resent k x h =
+    let is : (k - 1) + 1 ≡ k = omega arith in
+    subst (λ (n : ℕ). x + (k - 1) * x ≤ n * x) is (one-more (k - 1) x)

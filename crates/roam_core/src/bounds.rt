@@ -1,0 +1,29 @@
+//! Laws of how much a realm sends. These functions do nothing: their contracts hold of all
+//! configurations, states and events.
+
+ghost use Rattle.roam_core.specs.Amplification.{NoAmplification, NoAmplificationFromStart};
+ghost use Rattle.roam_core.specs.Amplification.{NoMoreAnswersThanRequests, OnePacketEach};
+ghost use Rattle.roam_core.specs.Amplification.{TargetsAreFew};
+ghost use Rattle.roam_core.specs.InTime.{NoneWaitsLonger};
+ghost use Rattle.roam_core.specs.SentFor.{AtMostTriesToEach};
+
+/// For each request that comes a realm sends at most `tries` packets to each of its targets, and one
+/// back to its sender. A request or a reply sends at most one packet, a tick one for each due entry.
+pub fn no_amplification()
+    ensures from_start { NoAmplificationFromStart }
+    ensures from_states { NoAmplification }
+    ensures back { NoMoreAnswersThanRequests }
+    ensures each { OnePacketEach }
+    ensures targets { TargetsAreFew }
+{}
+
+/// For one request at most `tries` packets leave for each of its targets, and one goes back.
+pub fn sent_for_one_request()
+    ensures { AtMostTriesToEach }
+{}
+
+/// While ticks come in time, no request waits longer than its sends and their waits take: it is
+/// answered or given up, whoever keeps silent.
+pub fn bounded_waits()
+    ensures { NoneWaitsLonger }
+{}
