@@ -9,6 +9,7 @@ pub mod IsolationLemmas
 pub mod GivenLemmas
 pub mod StepLemmas
 pub mod AloneLemmas
+pub mod MeaningLemmas
 pub mod OwnPartLemmas
 pub mod RunLemmas
 pub mod BookLemmas

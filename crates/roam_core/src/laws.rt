@@ -35,12 +35,13 @@ pub fn two_worlds()
     ensures from_states { SameInTwoWorlds }
 {}
 
-/// What a realm sends is decided by its own part of the configuration: its own entry, the peers, what each
-/// name means, the limit of hops, the seed and the number of shards. Given the same events, it sends the
-/// same packets whatever else the configuration says of other realms.
+/// What a realm sends is decided by its own part of the configuration: its own entry, the peers, which names
+/// mean it, the limit of hops, the seed and the number of shards. Given the same events, it sends the same
+/// packets whatever else the configuration says of other realms, and whichever there are: they may be added,
+/// removed and renamed. So one broker of some realms is, realm by realm, as many brokers of one.
 pub fn own_part()
-    ensures events { SameOwnEvents }
     ensures packets { SamePacketsOfOwnPart }
+    ensures events { SameOwnEvents }
 {}
 
 /// Where one realm is configured, all that the broker sends is what the written broker of that realm
@@ -51,8 +52,8 @@ pub fn one_realm()
 
 /// Each packet of a realm is the forwarded one of a request of the realm's events, the returned one of a
 /// reply that was taken for such a packet, or the NAK of a reverse request; and each entry is of such a
-/// request. The ticket says of which: it is given to one event. And the words of a forwarded
-/// Access-Request's Authenticator are drawn for it alone, below 2^66 draws (RFC 2865, section 3).
+/// request. The ticket says of which: it is given to one event. And no two draws of words for a forwarded
+/// Access-Request's Authenticator begin at one position, below 2^66 draws (RFC 2865, section 3).
 pub fn provenance()
     ensures packets { EachPacketHasOrigin }
     ensures entries { EachEntryHasOrigin }
