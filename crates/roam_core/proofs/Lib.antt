@@ -22,3 +22,11 @@ pub mod OriginTickLemmas
 pub mod ProvenanceLemmas
 pub mod TicketLemmas
 pub mod DrawLemmas
+pub mod LifeLemmas
+pub mod LifeLaterLemmas
+pub mod LifeRequestLemmas
+pub mod LifeReplyLemmas
+pub mod LifeTickLemmas
+pub mod LifeOriginLemmas
+pub mod LifeTicketLemmas
+pub mod LifeDrawLemmas

@@ -110,7 +110,7 @@ due_each-keeps c now s (d ∷ ds) =
 tick-rises : (c : RealmConfig) (now : ℕ) (s : RealmState) (dues : List Due) → Rises s (as_turn (due_each c now s dues))
 tick-rises c now s dues = omega (arith, due_each-keeps c now s dues)
 
-event-rises : (c : RealmConfig) (s : RealmState) (e : RealmEvent) → Rises s (on_event c s e)
+pub event-rises : (c : RealmConfig) (s : RealmState) (e : RealmEvent) → Rises s (on_event c s e)
 event-rises c s (request_came now named q) =
     in_time-rises now s (of_key c now s named q (find_client q.key s.entries)) (of_key-rises c now s named q (find_client q.key s.entries))
 event-rises c s (reply_came now l octets) =
@@ -135,17 +135,17 @@ all-rise c start es (f ∷ fs) =
     omega (arith, next-rises c start es f, there)
 
 -- of two places of a list one is the other, or comes after it
-pub data Places (xs ys : List RealmEvent) (e f : RealmEvent) : Type 0 where
+pub data Places {X : Type 0} (xs ys : List X) (e f : X) : Type 0 where
   one : xs ≡ ys → e ≡ f → Places xs ys e f
-  later : (mid : List RealmEvent) → ys ≡ xs ++ e ∷ mid → Places xs ys e f
-  earlier : (mid : List RealmEvent) → xs ≡ ys ++ f ∷ mid → Places xs ys e f
+  later : (mid : List X) → ys ≡ xs ++ e ∷ mid → Places xs ys e f
+  earlier : (mid : List X) → xs ≡ ys ++ f ∷ mid → Places xs ys e f
 
-further : (x y : RealmEvent) (xs ys : List RealmEvent) (e f : RealmEvent) → x ≡ y → Places xs ys e f → Places (x ∷ xs) (y ∷ ys) e f
+further : {X : Type 0} (x y : X) (xs ys : List X) (e f : X) → x ≡ y → Places xs ys e f → Places (x ∷ xs) (y ∷ ys) e f
 further x y xs ys e f same (one is at) = one (cc) at
 further x y xs ys e f same (later mid is) = later mid (cc)
 further x y xs ys e f same (earlier mid is) = earlier mid (cc)
 
-pub places : (xs ws ys bs : List RealmEvent) (e f : RealmEvent) → xs ++ e ∷ ws ≡ ys ++ f ∷ bs → Places xs ys e f
+pub places : {X : Type 0} (xs ws ys bs : List X) (e f : X) → xs ++ e ∷ ws ≡ ys ++ f ∷ bs → Places xs ys e f
 places [] ws [] bs e f same = one refl (cc)
 places [] ws (y ∷ ys) bs e f same = later ys (cc)
 places (x ∷ xs) ws [] bs e f same = earlier xs (cc)
@@ -168,7 +168,7 @@ pub ticket_is_given_once : TicketIsGivenOnce
 ticket_is_given_once c start events xs ws ys bs e f ticket one_way other_way here there =
     decided c start xs ys e f ticket here there (places xs ws ys bs e f (sym one_way ∙ other_way))
 
-same-request : (a b : ℕ) (m n : Option ℕ) (q r : PlainRequest) → request_came a m q ≡ request_came b n r
+pub same-request : (a b : ℕ) (m n : Option ℕ) (q r : PlainRequest) → request_came a m q ≡ request_came b n r
     → q ≡ r
 same-request a b m n q r same = cc
 
