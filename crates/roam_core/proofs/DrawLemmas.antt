@@ -20,7 +20,7 @@ use Rattle.roam_pending.proofs.TestLemmas.{compared}
 use Rattle.roam_pending.specs.EntryList.{find_client, find_link, find_ticket, first_done, without_client}
 use Rattle.roam_book.specs.RealmConfig.{RealmConfig}
 use Rattle.roam_book.specs.RealmState.{RealmState, Target, opening}
-use Rattle.roam_book.specs.Turn.{Turn, state_after, in_time}
+use Rattle.roam_book.specs.Turn.{Turn, state_after}
 use Rattle.roam_book.specs.OnRequest.{draws, make_way, at_target, is_reverse, nak_or_new, new_request, of_key, position_after, reverse_cause}
 use Rattle.roam_book.specs.OnReply.{returning, judge, to_standing, to_entry}
 use Rattle.roam_book.specs.OnTick.{Progress, fail_over, once_refused, due_standing, due_entry, due_one, due_each}
@@ -30,7 +30,6 @@ use Rattle.roam_core.specs.Draws.{DrawsAt, drawn, drawn_between, drawn_by, drawn
 use Rattle.roam_core.specs.Openings.{state_then}
 use Rattle.roam_core.specs.ProvenanceLaws.{DrawsAreApart, WordsAreDrawnInOrder, WordsAreDrawnOnce}
 use Rattle.roam_core.proofs.OriginRequestLemmas.{moves, next_position}
-use Rattle.roam_core.proofs.RealmRunLemmas.{state-append}
 use Rattle.roam_core.proofs.SentLemmas.{either}
 use Rattle.roam_core.proofs.TicketLemmas.{Places, places, one, later, earlier}
 

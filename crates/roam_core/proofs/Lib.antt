@@ -9,6 +9,7 @@ pub mod IsolationLemmas
 pub mod GivenLemmas
 pub mod StepLemmas
 pub mod AloneLemmas
+pub mod NamedLemmas
 pub mod MeaningLemmas
 pub mod OwnPartLemmas
 pub mod RunLemmas
@@ -29,4 +30,5 @@ pub mod LifeReplyLemmas
 pub mod LifeTickLemmas
 pub mod LifeOriginLemmas
 pub mod LifeTicketLemmas
+pub mod OccasionLemmas
 pub mod LifeDrawLemmas

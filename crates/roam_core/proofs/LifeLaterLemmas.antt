@@ -9,8 +9,9 @@ use Rattle.roam_pending.proofs.TestLemmas.{all-weaker}
 use Rattle.roam_book.specs.RealmConfig.{RealmConfig}
 use Rattle.roam_book.specs.RealmState.{RealmState, Target}
 use Rattle.roam_book.specs.Turn.{Turn, packets_of, state_after, in_time}
+use Rattle.roam_book.specs.OnRequest.{forwarded_octets, packet_to_link}
 use Rattle.roam_book.specs.OneRealm.{RealmEvent, request_came, reply_came, tick_came, on_event}
-use Rattle.roam_core.specs.Lives.{Happening, Stage, event, stage_after, stage_then}
+use Rattle.roam_core.specs.Lives.{Happening, Stage, event, stage_then}
 use Rattle.roam_core.specs.LifeOrigins.{AtLaterTickIn, ComesFromIn, ForwardsIn, GivesUp, HasOriginIn, IsForwardedIn, IsNakIn, IsRequestIn, IsReturnedIn, IsSentIn, StandsFromIn, back_to}
 use Rattle.roam_core.proofs.LifeLemmas.{stage-next}
 
@@ -182,6 +183,31 @@ origin-later b es fs outs h =
     all-weaker (HasOriginIn b es) (HasOriginIn b (es ++ fs)) outs (has-origin-later b es fs) h
 
 -- What requests, replies and ticks share
+
+-- a packet that an event sends is the forwarded one of a request
+pub forwarded-origin :
+    (b : Stage) (before : List Happening) (e : RealmEvent) (c d : RealmConfig) (q : PlainRequest)
+    (position ticket : ℕ) (target : Target) (octets : List ℕ) → (stage_then b before).config ≡ c
+    → IsForwardedIn b (before ++ event e ∷ []) d q position ticket target
+    → octets ≡ forwarded_octets d q position ticket target
+    → IsSentIn b before e (packet_to_link c target.link octets)
+    → HasOriginIn b (before ++ event e ∷ []) (packet_to_link c target.link octets)
+forwarded-origin b before e c d q position ticket target octets is forwarded are sent = inl (record {
+  before = before;
+  cause = e;
+  after = [];
+  now_under = c;
+  under = d;
+  request = q;
+  position = position;
+  ticket = ticket;
+  target = target;
+  in_order = refl;
+  config_then = is;
+  sent = sent;
+  forwarded = forwarded;
+  is_forwarded = ap (packet_to_link c target.link) are;
+})
 
 -- the turn of an event that comes after others, at the stage to which they lead
 pub record IsTurnAt (b : Stage) (before : List Happening) (e : RealmEvent) (at : Stage) (turn : Turn)

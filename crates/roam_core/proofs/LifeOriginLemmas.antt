@@ -1,9 +1,6 @@
 -- Provenance over a realm's life, by induction on what happens from its end: each keeps what is known.
-use Rattle.std.proofs.Common.{◌≡◌, List, [], ◌∷◌, ◌++◌, refl, sym, ap, subst, ◌∙◌, append_assoc}
+use Rattle.std.proofs.Common.{◌≡◌, List, [], ◌∷◌, ◌++◌, refl, sym, subst, append_assoc}
 use Rattle.std.proofs.lemmas.List.{append-nil}
-use Rattle.roam_route.specs.Admission.{PlainOut}
-use Rattle.roam_pending.specs.ListLaws.{IsIn}
-use Rattle.roam_pending.specs.PlainEntry.{PlainEntry}
 use Rattle.roam_pending.proofs.TestLemmas.{all-append}
 use Rattle.roam_book.specs.Turn.{packets_of}
 use Rattle.roam_book.specs.OneRealm.{RealmEvent, request_came, reply_came, tick_came, on_event}
@@ -11,7 +8,7 @@ use Rattle.roam_core.specs.Lives.{Happening, Stage, event, goes_on, begins_anew,
 use Rattle.roam_core.specs.LifeOrigins.{ComesFromIn, HasOriginIn}
 use Rattle.roam_core.specs.LifeLaws.{EachPacketHasOriginFrom, EntriesComeFrom, EntriesKeepOrigin}
 use Rattle.roam_core.proofs.RealmRunLemmas.{all-in, each-in, in-all}
-use Rattle.roam_core.proofs.LifeLemmas.{sent-next, stage-append, stage-next}
+use Rattle.roam_core.proofs.LifeLemmas.{stage-next}
 use Rattle.roam_core.proofs.LifeLaterLemmas.{EachComesIn, EachHasOriginIn, AreSentIn, TurnKeepsIn, each-later, origin-later}
 use Rattle.roam_core.proofs.LifeRequestLemmas.{on_request-keeps}
 use Rattle.roam_core.proofs.LifeReplyLemmas.{on_reply-keeps}

@@ -1,6 +1,6 @@
 -- A request in a realm's life keeps what is known: a new one is forwarded, and a duplicate gets the held reply.
 use Rattle.std.proofs.Common.{◌≡◌, ℕ, ◌^◌, Bool, false, List, [], ◌∷◌, ◌++◌, Option, Some, None, refl, sym, ap, subst, ◌∙◌, eqb, ltb, inl, inr, length}
-use Rattle.std.specs.Prelude.{nat_eq, not, true}
+use Rattle.std.specs.Prelude.{nat_eq, not}
 use Rattle.std.specs.Cmp.Lexicographic.{pointwise}
 use Rattle.std.proofs.lemmas.Bool.{cases_Bool}
 use Rattle.roam_pending.specs.ListLaws.{IsIn}
@@ -11,20 +11,19 @@ use Rattle.roam_pending.proofs.TestLemmas.{all-filter, all-find}
 use Rattle.roam_pending.proofs.OrderLemmas.{all-put}
 use Rattle.roam_pending.proofs.ChangeLemmas.{find-passes}
 use Rattle.roam_pending.proofs.ClientLemmas.{key-equal}
-use Rattle.roam_route.specs.Admission.{PlainOut}
 use Rattle.roam_book.specs.RealmConfig.{RealmConfig}
 use Rattle.roam_book.specs.RealmState.{RealmState, Target, chosen_target}
-use Rattle.roam_book.specs.Turn.{Turn, packets_of, state_after}
-use Rattle.roam_book.specs.OnRequest.{packet_to_requester, draws, forwarded_entry, admit, make_way, at_target, new_request, held_reply, first_seen, nak_octets, nak_or_new, of_key, on_request, reverse_cause, targets}
-use Rattle.roam_book.specs.OneRealm.{RealmEvent, request_came, on_event}
+use Rattle.roam_book.specs.Turn.{Turn, state_after}
+use Rattle.roam_book.specs.OnRequest.{packet_to_requester, forwarded_entry, admit, make_way, at_target, new_request, held_reply, first_seen, nak_octets, nak_or_new, of_key, on_request, reverse_cause, targets}
+use Rattle.roam_book.specs.OneRealm.{request_came}
 use Rattle.roam_core.specs.Draws.{drawn_between}
 use Rattle.roam_core.specs.Lives.{Happening, Stage, event, stage_then}
-use Rattle.roam_core.specs.Occasions.{Occasion, occasions, own_turn}
+use Rattle.roam_core.specs.Occasions.{occasions, own_turn}
 use Rattle.roam_core.specs.LifeOrigins.{ComesFromIn, IsForwardedIn, IsNakIn, IsReturnedIn, StandsFromIn, back_to}
 use Rattle.roam_core.specs.Provenance.{forwarded_packet}
 use Rattle.roam_core.proofs.OriginRequestLemmas.{moves, next_position}
 use Rattle.roam_core.proofs.LifeLemmas.{index-then}
-use Rattle.roam_core.proofs.LifeLaterLemmas.{EachComesIn, EachHasOriginIn, TurnKeepsIn, IsTurnAt, sent-by, state-by}
+use Rattle.roam_core.proofs.LifeLaterLemmas.{EachComesIn, EachHasOriginIn, TurnKeepsIn, IsTurnAt, forwarded-origin, sent-by, state-by}
 
 -- a reply that is held goes back to the key of its request
 held-origin :
@@ -125,22 +124,9 @@ module _ (b : Stage) (before : List Happening) (at : Stage) (now : ℕ)
       } in
       record {
         packets = (
-          inl (record {
-            before = before;
-            cause = e;
-            after = [];
-            now_under = at.config;
-            under = at.config;
-            request = q;
-            position = at.state.stream_position;
-            ticket = at.state.ticket;
-            target = target;
-            in_order = refl;
-            config_then = ap (λ (t : Stage). t.config) after.stage;
-            sent = sent-by b before e at other out (whole_turn other is) (inl refl);
-            forwarded = forwarded;
-            is_forwarded = refl;
-          }),
+          forwarded-origin b before e at.config at.config q at.state.stream_position at.state.ticket target _
+              (ap (λ (t : Stage). t.config) after.stage) forwarded refl
+              (sent-by b before e at other out (whole_turn other is) (inl refl)),
           tt,
         );
         entries = all-put (ComesFromIn b life) new es comes each;

@@ -14,24 +14,22 @@ use Rattle.roam_reverse.specs.declared.error_cause.TheConstants.{OTHER_PROXY_PRO
 use Rattle.roam_pending.proofs.TestLemmas.{all-append, all-filter, all-find, all-weaker}
 use Rattle.roam_pending.proofs.OrderLemmas.{all-put}
 use Rattle.roam_pending.proofs.ChangeLemmas.{find-passes}
-use Rattle.roam_conf.specs.declared.place.Link.{Link}
 use Rattle.roam_route.specs.Admission.{PlainOut}
 use Rattle.roam_book.specs.RealmConfig.{RealmConfig, later_targets}
 use Rattle.roam_book.specs.Rests.{after_silence}
 use Rattle.roam_book.specs.RealmState.{RealmState, Target, chosen_target}
 use Rattle.roam_book.specs.Turn.{packets_of}
-use Rattle.roam_book.specs.OnRequest.{draws, forwarded_entry, forwarded_octets, is_reverse, nak_octets, once_forwarded, packet_to_requester, packet_to_link}
+use Rattle.roam_book.specs.OnRequest.{draws, forwarded_entry, is_reverse, nak_octets, packet_to_requester, packet_to_link}
 use Rattle.roam_book.specs.OnTick.{Progress, fail_over, given_up, once_refused, due_standing, due_entry, due_one, due_each, as_turn, on_tick, given_up_at}
 use Rattle.roam_book.specs.OneRealm.{RealmEvent, tick_came}
 use Rattle.roam_core.specs.Draws.{drawn_between}
 use Rattle.roam_core.specs.Lives.{Happening, Stage, event, stage_then}
 use Rattle.roam_core.specs.Occasions.{Occasion, occasions, of_due, of_dues}
-use Rattle.roam_core.specs.LifeOrigins.{AtLaterTickIn, ComesFromIn, ForwardsIn, GivesUp, HasOriginIn, IsForwardedIn, IsHeldIn, IsNakIn, IsRequestIn, IsSentIn, StandsFromIn, back_to}
-use Rattle.roam_core.specs.Provenance.{forwarded_packet}
+use Rattle.roam_core.specs.LifeOrigins.{AtLaterTickIn, ComesFromIn, ForwardsIn, GivesUp, IsForwardedIn, IsHeldIn, IsNakIn, IsRequestIn, IsSentIn, StandsFromIn, back_to}
 use Rattle.roam_core.proofs.RealmRunLemmas.{all-in, each-in, all-left, all-right, in-all}
 use Rattle.roam_core.proofs.LifeLemmas.{index-then}
 use Rattle.roam_core.proofs.LifeRequestLemmas.{drawn-once}
-use Rattle.roam_core.proofs.LifeLaterLemmas.{EachComesIn, EachHasOriginIn, AreSentIn, TurnKeepsIn, request-later, stands-later}
+use Rattle.roam_core.proofs.LifeLaterLemmas.{EachComesIn, EachHasOriginIn, AreSentIn, TurnKeepsIn, forwarded-origin, request-later, stands-later}
 use Rattle.roam_core.proofs.OriginRequestLemmas.{next_position}
 
 -- of a tick at this moment, at the stage to which what happened before it leads
@@ -90,30 +88,6 @@ module _ (b : Stage) (before : List Happening) (at : Stage) (is_at : stage_then 
     request = request-later b before (event (tick_came now) ∷ []) e.request e.ticket known.request;
     sent = inr (at-tick e known (ForwardsIn b c e.request position e.ticket target) forwards);
   }
-
-  -- a packet that it sends is the forwarded one of a request
-  forwarded-origin :
-      (e : PlainEntry) (d : RealmConfig) (position : ℕ) (target : Target) (octets : List ℕ)
-      → IsForwardedIn b life d e.request position e.ticket target
-      → octets ≡ forwarded_octets d e.request position e.ticket target
-      → IsSentIn b before (tick_came now) (packet_to_link c target.link octets)
-      → HasOriginIn b life (packet_to_link c target.link octets)
-  forwarded-origin e d position target octets forwarded are sent = inl (record {
-    before = before;
-    cause = tick_came now;
-    after = [];
-    now_under = c;
-    under = d;
-    request = e.request;
-    position = position;
-    ticket = e.ticket;
-    target = target;
-    in_order = refl;
-    config_then = is_config;
-    sent = sent;
-    forwarded = forwarded;
-    is_forwarded = ap (packet_to_link c target.link) are;
-  })
 
   -- a reverse request that is given up gets a NAK
   abbrev nak_out : PlainEntry → PlainOut
@@ -195,7 +169,7 @@ module _ (b : Stage) (before : List Happening) (at : Stage) (is_at : stage_then 
       } in
       record {
         packets = (
-          forwarded-origin e c position target (forwarded_octets c e.request position e.ticket target) forwarded refl sent.0,
+          forwarded-origin b before (tick_came now) c c e.request position e.ticket target _ is_config forwarded refl sent.0,
           tt,
         );
         entries = all-put IsKnown anew s.entries anew_known kept;
@@ -237,7 +211,8 @@ module _ (b : Stage) (before : List Happening) (at : Stage) (is_at : stage_then 
             let out : AreSentIn b before (tick_came now) (packet_to_link c l forwarded ∷ []) = rw y at sent in
             rw y (record {
               packets = (
-                forwarded-origin e stands.under stands.position (record { link = l; id = id }) forwarded stands.forwarded stands.octets_are out.0,
+                forwarded-origin b before (tick_came now) c stands.under e.request stands.position e.ticket (record { link = l; id = id }) forwarded
+                    is_config stands.forwarded stands.octets_are out.0,
                 tt,
               );
               entries = all-put IsKnown again s.entries again_known kept;

@@ -1,24 +1,25 @@
 -- Two configurations that agree for a realm: it gets the same events, as it looks at them, and sends the same
 -- packets.
-use Rattle.std.proofs.Common.{◌≡◌, ℕ, ◌<◌, ◌≤◌, Bool, true, false, List, [], ◌∷◌, ◌++◌, length, map, Option, Some, None, refl, sym, ap, subst, ◌∙◌}
+use Rattle.std.proofs.Common.{◌≡◌, ℕ, ◌≤◌, Bool, true, false, List, [], ◌∷◌, ◌++◌, map, Option, Some, None, refl, sym, ap, subst, ◌∙◌}
 use Rattle.std.proofs.lemmas.List.{map-append}
-use Rattle.std.specs.Prelude.{◌==◌, if◌then◌else◌, slice_get}
+use Rattle.std.specs.Prelude.{◌==◌, if◌then◌else◌}
 use Rattle.std.proofs.lemmas.Option.{unwrap_or-slice_get}
 use Rattle.std.specs.Option.{unwrap_or}
 use Rattle.roam_conf.specs.Config.{ConfigView, PeerView, RealmView}
-use Rattle.roam_route.specs.Admission.{Admission, Arrival, PlainJob, refused, rejected, admitted, admission}
+use Rattle.roam_route.specs.Admission.{Admission, PlainJob, refused, rejected, admitted, admission}
 use Rattle.roam_route.specs.OwnPart.{HaveSamePart, own}
 use Rattle.roam_route.proofs.OwnLemmas.{own_part_decides}
 use Rattle.roam_book.specs.RealmConfig.{RealmConfig, no_realm, realm_config}
 use Rattle.roam_book.specs.RealmState.{RealmState, opening}
 use Rattle.roam_book.specs.OnTick.{Progress}
-use Rattle.roam_book.specs.OneRealm.{RealmEvent, event_of, one_realm_run, tick_came}
+use Rattle.roam_book.specs.OneRealm.{RealmEvent, event_of, one_realm_run}
 use Rattle.roam_book.specs.declared.state.start.Start.{Start}
 use Rattle.roam_core.specs.Events.{PlainEvent, arrives, ticks, given_by, given_to_realm, events_of_realm}
 use Rattle.roam_core.specs.Openings.{start_of}
 use Rattle.roam_core.specs.OwnPart.{AgreeFor, SameOwnEvents, SamePacketsOfOwnPart}
 use Rattle.roam_core.proofs.IsolationLemmas.{isolated_from_start}
-use Rattle.roam_core.proofs.MeaningLemmas.{gives-same, run-same, seen}
+use Rattle.roam_core.proofs.MeaningLemmas.{gives-same}
+use Rattle.roam_core.proofs.NamedLemmas.{run-same, seen}
 
 -- the events of a job, if there is one
 abbrev of_own : ℕ → Option PlainJob → List RealmEvent
