@@ -20,7 +20,7 @@ use Rattle.roam_pending.proofs.TestLemmas.{compared}
 use Rattle.roam_pending.specs.EntryList.{find_client, find_link, find_ticket, first_done, without_client}
 use Rattle.roam_book.specs.RealmConfig.{RealmConfig}
 use Rattle.roam_book.specs.RealmState.{RealmState, Target, opening}
-use Rattle.roam_book.specs.Turn.{Turn, state_after, in_time}
+use Rattle.roam_book.specs.Turn.{Turn, state_after}
 use Rattle.roam_book.specs.OnRequest.{draws, make_way, at_target, is_reverse, nak_or_new, new_request, of_key, position_after, reverse_cause}
 use Rattle.roam_book.specs.OnReply.{returning, judge, to_standing, to_entry}
 use Rattle.roam_book.specs.OnTick.{Progress, fail_over, once_refused, due_standing, due_entry, due_one, due_each}
@@ -30,7 +30,6 @@ use Rattle.roam_core.specs.Draws.{DrawsAt, drawn, drawn_between, drawn_by, drawn
 use Rattle.roam_core.specs.Openings.{state_then}
 use Rattle.roam_core.specs.ProvenanceLaws.{DrawsAreApart, WordsAreDrawnInOrder, WordsAreDrawnOnce}
 use Rattle.roam_core.proofs.OriginRequestLemmas.{moves, next_position}
-use Rattle.roam_core.proofs.RealmRunLemmas.{state-append}
 use Rattle.roam_core.proofs.SentLemmas.{either}
 use Rattle.roam_core.proofs.TicketLemmas.{Places, places, one, later, earlier}
 
@@ -118,16 +117,16 @@ due_standing-goes c now s e (done reply deadline) = stays s
 due_standing-goes c now s e (waiting l id forwarded sends_left deadline) =
     either (Goes s) (ltb 0 sends_left) _ _ (stays s) (fail_over-goes c now _ e _)
 
-due_entry-goes : (c : RealmConfig) (now : ℕ) (s : RealmState) (found : Option PlainEntry) → Goes s (due_entry c now s found)
+pub due_entry-goes : (c : RealmConfig) (now : ℕ) (s : RealmState) (found : Option PlainEntry) → Goes s (due_entry c now s found)
 due_entry-goes c now s None = stays s
 due_entry-goes c now s (Some e) = due_standing-goes c now s e e.standing
 
 -- a stream that began at a place stands, or was drawn from, where so many draws end
-abbrev At : ℕ → ℕ → ℕ → Type 0
+abbrev pub At : ℕ → ℕ → ℕ → Type 0
 At place k p = p % 2 ^ 68 ≡ (place + 4 * k) % 2 ^ 68
 
 -- positions one after the other: of this draw, of the next one, and so on
-abbrev Numbered : ℕ → ℕ → List ℕ → Type 0
+abbrev pub Numbered : ℕ → ℕ → List ℕ → Type 0
 Numbered place k [] = Unit {0}
 Numbered place k (p ∷ ps) = At place k p × Numbered place (k + 1) ps
 
@@ -139,17 +138,17 @@ numbered-append place k (x ∷ xs) ys h t =
     (h.0, numbered-append place (k + 1) xs ys h.1 (subst (λ (n : ℕ). Numbered place n ys) same t))
 
 -- from one state to another: the positions from which was drawn, and where the stream then stands
-record Draws (place k : ℕ) (positions : List ℕ) (new : ℕ) : Type 0 where
-  numbered : Numbered place k positions
-  then : At place (k + length positions) new
+pub record Draws (place k : ℕ) (positions : List ℕ) (new : ℕ) : Type 0 where
+  pub numbered : Numbered place k positions
+  pub ends : At place (k + length positions) new
 
 further : (place k p : ℕ) → At place k p → At place (k + 1) (next_position p)
 further place k p at = omega (arith, at)
 
-none-drawn : (place k p new : ℕ) → At place k p → new ≡ p → Draws place k [] new
-none-drawn place k p new at same = record { numbered = tt; then = omega (arith, at, same) }
+pub none-drawn : (place k p new : ℕ) → At place k p → new ≡ p → Draws place k [] new
+none-drawn place k p new at same = record { numbered = tt; ends = omega (arith, at, same) }
 
-moved-draws : (place k : ℕ) (old new : RealmState) → At place k old.stream_position → Moved old.stream_position new.stream_position → Draws place k (drawn_between old new) new.stream_position
+pub moved-draws : (place k : ℕ) (old new : RealmState) → At place k old.stream_position → Moved old.stream_position new.stream_position → Draws place k (drawn_between old new) new.stream_position
 moved-draws place k old new at (inl same) =
     let is : eqb new.stream_position old.stream_position ≡ true = grind (arith, nat_tests, same) in
     rw is (none-drawn place k old.stream_position new.stream_position at same)
@@ -158,27 +157,27 @@ moved-draws place k old new at (inr next) =
     ap (λ (p : ℕ). eqb p old.stream_position) next ∙ moves old.stream_position in
     rw isnt (record {
       numbered = (at, tt);
-      then = subst (λ (p : ℕ). At place (k + 1) p) (sym next) (further place k old.stream_position at);
+      ends = subst (λ (p : ℕ). At place (k + 1) p) (sym next) (further place k old.stream_position at);
     })
 
-both-draw : (place k : ℕ) (xs ys : List ℕ) (mid new : ℕ) → Draws place k xs mid → Draws place (k + length xs) ys new → Draws place k (xs ++ ys) new
+pub both-draw : (place k : ℕ) (xs ys : List ℕ) (mid new : ℕ) → Draws place k xs mid → Draws place (k + length xs) ys new → Draws place k (xs ++ ys) new
 both-draw place k xs ys mid new a b =
     let same : (k + length xs) + length ys ≡ k + length (xs ++ ys) = omega (arith, length-append xs ys) in
     record {
       numbered = numbered-append place k xs ys a.numbered b.numbered;
-      then = subst (λ (n : ℕ). At place n new) same b.then;
+      ends = subst (λ (n : ℕ). At place n new) same b.ends;
     }
 
-dues-draw : (place k : ℕ) (c : RealmConfig) (now : ℕ) (s : RealmState) (dues : List Due) → At place k s.stream_position → Draws place k (drawn_by_dues c now s dues) (due_each c now s dues).state.stream_position
+pub dues-draw : (place k : ℕ) (c : RealmConfig) (now : ℕ) (s : RealmState) (dues : List Due) → At place k s.stream_position → Draws place k (drawn_by_dues c now s dues) (due_each c now s dues).state.stream_position
 dues-draw place k c now s [] at = none-drawn place k s.stream_position s.stream_position at refl
 dues-draw place k c now s (d ∷ ds) at =
     let next = (due_one c now s d).state in
     let here = drawn_between s next in
     let one = moved-draws place k s next at (due_entry-goes c now s (find_ticket d.ticket s.entries)) in
     both-draw place k here (drawn_by_dues c now next ds) next.stream_position _ one
-    (dues-draw place (k + length here) c now next ds one.then)
+    (dues-draw place (k + length here) c now next ds one.ends)
 
-event-draws : (place k : ℕ) (c : RealmConfig) (s : RealmState) (e : RealmEvent) → At place k s.stream_position → Draws place k (drawn_by c s e) (state_after s (on_event c s e)).stream_position
+pub event-draws : (place k : ℕ) (c : RealmConfig) (s : RealmState) (e : RealmEvent) → At place k s.stream_position → Draws place k (drawn_by c s e) (state_after s (on_event c s e)).stream_position
 event-draws place k c s (request_came now named q) at =
     moved-draws place k s (state_after s (on_event c s (request_came now named q))) at (request-moves c s now named q)
 event-draws place k c s (reply_came now l octets) at =
@@ -196,13 +195,13 @@ run-draws place k c s (e ∷ es) at =
     let here = drawn_by c s e in
     let one = event-draws place k c s e at in
     both-draw place k here (drawn c next es) next.stream_position _ one
-    (run-draws place (k + length here) c next es one.then)
+    (run-draws place (k + length here) c next es one.ends)
 
 begin : (c : RealmConfig) (start : Start) → At start.place 0 (opening c start).stream_position
 begin c start = omega arith
 
 -- the draw of an index
-numbered-at : (place k : ℕ) (xs : List ℕ) (i p : ℕ) → Numbered place k xs → slice_get xs i ≡ Some p → At place (k + i) p
+pub numbered-at : (place k : ℕ) (xs : List ℕ) (i p : ℕ) → Numbered place k xs → slice_get xs i ≡ Some p → At place (k + i) p
 numbered-at place k [] i p h is = absurd (let bad : None ≡ Some p = is in cc)
 numbered-at place k (x ∷ xs) zero p h is =
     let same : x ≡ p = cc in
@@ -218,7 +217,7 @@ words_are_drawn_in_order c start events i position is =
     (numbered-at start.place 0 (drawn c (opening c start) events) i position run.numbered is)
 
 -- one of the positions has its number
-numbered-in : (place k p : ℕ) (xs : List ℕ) → Numbered place k xs → IsIn p xs → (i : ℕ) × (k ≤ i) × (i < k + length xs) × At place i p
+pub numbered-in : (place k p : ℕ) (xs : List ℕ) → Numbered place k xs → IsIn p xs → (i : ℕ) × (k ≤ i) × (i < k + length xs) × At place i p
 numbered-in place k p [] h at = absurd at
 numbered-in place k p (x ∷ xs) h (inl is) =
     (k, omega arith, omega arith, subst (λ (y : ℕ). At place k y) is h.0)
@@ -264,7 +263,7 @@ is-draw c start before e p draw =
     let k = count c start before in
     let run = run-draws start.place 0 c (opening c start) before (begin c start) in
     let first : 0 + k ≡ k = omega arith in
-    let there = subst (λ (n : ℕ). At start.place n (state_then c start before).stream_position) first run.then in
+    let there = subst (λ (n : ℕ). At start.place n (state_then c start before).stream_position) first run.ends in
     let turn = event-draws start.place k c (state_then c start before) e there in
     let own = drawn_by c (state_then c start before) e in
     let found = numbered-in start.place k p own turn.numbered draw in
@@ -276,7 +275,7 @@ is-draw c start before e p draw =
     }
 
 -- of two numbers in one stream the words differ
-differ : (place i j p o : ℕ) → i < j → j < 2 ^ 66 → At place i p → At place j o → p % 2 ^ 68 ≡ o % 2 ^ 68 → ⊥
+pub differ : (place i j p o : ℕ) → i < j → j < 2 ^ 66 → At place i p → At place j o → p % 2 ^ 68 ≡ o % 2 ^ 68 → ⊥
 differ place i j p o less within a b same = omega (arith, less, within, a, b, same)
 
 -- two draws of one list

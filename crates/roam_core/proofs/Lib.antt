@@ -9,6 +9,8 @@ pub mod IsolationLemmas
 pub mod GivenLemmas
 pub mod StepLemmas
 pub mod AloneLemmas
+pub mod NamedLemmas
+pub mod MeaningLemmas
 pub mod OwnPartLemmas
 pub mod RunLemmas
 pub mod BookLemmas
@@ -28,3 +30,12 @@ pub mod BoundLemmas
 pub mod EntryKeepingLemmas
 pub mod SentForLemmas
 pub mod InTimeLemmas
+pub mod LifeLemmas
+pub mod LifeLaterLemmas
+pub mod LifeRequestLemmas
+pub mod LifeReplyLemmas
+pub mod LifeTickLemmas
+pub mod LifeOriginLemmas
+pub mod LifeTicketLemmas
+pub mod OccasionLemmas
+pub mod LifeDrawLemmas

@@ -28,7 +28,7 @@ use Rattle.roam_core.specs.Provenance.{IsSentBy, IsReturned, WaitsFor, StandsFro
 use Rattle.roam_core.proofs.OriginLemmas.{EachComes, AreSentBy, TurnKeeps, request-later, each-later, in_time-keeps}
 
 -- links that are the same are equal
-same_link-equal : (a b : Link) → same_link a b ≡ true → a ≡ b
+pub same_link-equal : (a b : Link) → same_link a b ≡ true → a ≡ b
 same_link-equal (link.Auth a) (link.Auth b) h =
     let is : a ≡ b = grind (arith, nat_tests, h) in ap link.Auth is
 same_link-equal (link.Auth a) (link.Acct b) h = absurd (let k : false ≡ true = h in cc)
@@ -43,7 +43,7 @@ same_link-equal (link.Coa a) (link.Coa b) h =
     let is : a ≡ b = grind (arith, nat_tests, h) in ap link.Coa is
 
 -- two tests that both hold
-both : (a b : Bool) → (a && b) ≡ true → (a ≡ true) × (b ≡ true)
+pub both : (a b : Bool) → (a && b) ≡ true → (a ≡ true) × (b ≡ true)
 both true b h = (refl, h)
 both false b h = absurd (let k : false ≡ true = h in cc)
 

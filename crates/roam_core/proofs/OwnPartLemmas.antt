@@ -1,17 +1,25 @@
--- Two configurations that agree for a realm: it gets the same events, and sends the same packets.
-use Rattle.std.proofs.Common.{◌≡◌, ℕ, Bool, true, false, List, [], ◌∷◌, ◌++◌, Option, Some, None, refl, sym, ap, subst, ◌∙◌}
-use Rattle.std.specs.Prelude.{◌==◌, ◌≤◌, if◌then◌else◌, slice_get}
+-- Two configurations that agree for a realm: it gets the same events, as it looks at them, and sends the same
+-- packets.
+use Rattle.std.proofs.Common.{◌≡◌, ℕ, ◌≤◌, Bool, true, false, List, [], ◌∷◌, ◌++◌, map, Option, Some, None, refl, sym, ap, subst, ◌∙◌}
+use Rattle.std.proofs.lemmas.List.{map-append}
+use Rattle.std.specs.Prelude.{◌==◌, if◌then◌else◌}
 use Rattle.std.proofs.lemmas.Option.{unwrap_or-slice_get}
 use Rattle.std.specs.Option.{unwrap_or}
 use Rattle.roam_conf.specs.Config.{ConfigView, PeerView, RealmView}
-use Rattle.roam_route.specs.Admission.{Admission, Arrival, PlainJob, refused, rejected, admitted, admission}
+use Rattle.roam_route.specs.Admission.{Admission, PlainJob, refused, rejected, admitted, admission}
 use Rattle.roam_route.specs.OwnPart.{HaveSamePart, own}
 use Rattle.roam_route.proofs.OwnLemmas.{own_part_decides}
 use Rattle.roam_book.specs.RealmConfig.{RealmConfig, no_realm, realm_config}
-use Rattle.roam_book.specs.OneRealm.{RealmEvent, event_of, tick_came}
+use Rattle.roam_book.specs.RealmState.{RealmState, opening}
+use Rattle.roam_book.specs.OnTick.{Progress}
+use Rattle.roam_book.specs.OneRealm.{RealmEvent, event_of, one_realm_run}
+use Rattle.roam_book.specs.declared.state.start.Start.{Start}
 use Rattle.roam_core.specs.Events.{PlainEvent, arrives, ticks, given_by, given_to_realm, events_of_realm}
+use Rattle.roam_core.specs.Openings.{start_of}
 use Rattle.roam_core.specs.OwnPart.{AgreeFor, SameOwnEvents, SamePacketsOfOwnPart}
-use Rattle.roam_core.proofs.IsolationLemmas.{same_in_two_worlds_from_start}
+use Rattle.roam_core.proofs.IsolationLemmas.{isolated_from_start}
+use Rattle.roam_core.proofs.MeaningLemmas.{gives-same}
+use Rattle.roam_core.proofs.NamedLemmas.{run-same, seen}
 
 -- the events of a job, if there is one
 abbrev of_own : ℕ → Option PlainJob → List RealmEvent
@@ -47,14 +55,39 @@ made_of seed index realm peers = record { seed = seed; index = index; realm = re
 same-part : (one other : ConfigView) (realm : ℕ) → AgreeFor one other realm → realm_config one realm ≡ realm_config other realm
 same-part one other realm agree =
     let entry = sym (unwrap_or-slice_get one.realms realm no_realm)
-    ∙ ap (λ (o : Option RealmView). unwrap_or o no_realm) agree.part.entry
+    ∙ ap (λ (o : Option RealmView). unwrap_or o no_realm) agree.entry
     ∙ unwrap_or-slice_get other.realms realm no_realm in
     ap (λ (s : List ℕ). made_of s realm (realm_config one realm).realm one.peers) agree.seed
     ∙ ap (λ (r : RealmView). made_of other.seed realm r one.peers) entry
-    ∙ ap (λ (ps : List PeerView). made_of other.seed realm (realm_config other realm).realm ps) agree.part.peers
+    ∙ ap (λ (ps : List PeerView). made_of other.seed realm (realm_config other realm).realm ps) agree.peers
 
+-- the same of a list of events, where the same names mean the realm
+seen-given : (one other : ConfigView) (realm : ℕ) (e : PlainEvent) → AgreeFor one other realm → map (seen realm) (given_to_realm one realm e) ≡ map (seen realm) (given_to_realm other realm e)
+seen-given one other realm (arrives now a) agree = gives-same one other realm now agree a
+seen-given one other realm (ticks now shard) agree = rw agree.shards refl
+
+seen-events : (one other : ConfigView) (realm : ℕ) (events : List PlainEvent) → AgreeFor one other realm → map (seen realm) (events_of_realm one realm events) ≡ map (seen realm) (events_of_realm other realm events)
+seen-events one other realm [] agree = refl
+seen-events one other realm (e ∷ es) agree =
+    map-append (seen realm) (given_to_realm one realm e) (events_of_realm one realm es)
+    ∙ ap (λ (l : List RealmEvent). l ++ map (seen realm) (events_of_realm one realm es)) (seen-given one other realm e agree)
+    ∙ ap (λ (l : List RealmEvent). map (seen realm) (given_to_realm other realm e) ++ l) (seen-events one other realm es agree)
+    ∙ sym (map-append (seen realm) (given_to_realm other realm e) (events_of_realm other realm es))
+
+-- so it does the same
 pub same_packets : SamePacketsOfOwnPart
 same_packets one other realm ss ts events some here there agree starts =
-    same_in_two_worlds_from_start realm one other ss ts events events some
-    (subst (λ (n : ℕ). 1 ≤ n) agree.shards some) here there (same-part one other realm agree) starts
-    (same_own_events one other realm events agree.part agree.shards)
+    let c = realm_config one realm in
+    let d = realm_config other realm in
+    let same : c ≡ d = same-part one other realm agree in
+    let sent = λ (x : RealmConfig) (s : RealmState) (es : List RealmEvent). (one_realm_run x s es).packets in
+    let packets = λ (p : Progress). p.packets in
+    let es = events_of_realm one realm events in
+    let fs = events_of_realm other realm events in
+    isolated_from_start one ss events some realm here
+    ∙ sym (ap packets (run-same c (opening c (start_of ss realm)) es))
+    ∙ ap (λ (x : RealmConfig). sent x (opening x (start_of ss realm)) (map (seen realm) es)) same
+    ∙ ap (λ (x : Start). sent d (opening d x) (map (seen realm) es)) starts
+    ∙ ap (sent d (opening d (start_of ts realm))) (seen-events one other realm events agree)
+    ∙ ap packets (run-same d (opening d (start_of ts realm)) fs)
+    ∙ sym (isolated_from_start other ts events (subst (λ (n : ℕ). 1 ≤ n) agree.shards some) realm there)

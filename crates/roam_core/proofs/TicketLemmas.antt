@@ -19,7 +19,7 @@ use Rattle.roam_book.specs.Turn.{Turn, state_after, in_time}
 use Rattle.roam_book.specs.OnRequest.{make_way, at_target, is_reverse, nak_or_new, new_request, of_key, reverse_cause, targets}
 use Rattle.roam_back.specs.ReplyCheck.{reply_fault}
 use Rattle.roam_book.specs.OnReply.{returning, judge, to_standing, to_entry}
-use Rattle.roam_book.specs.OnTick.{Progress, fail_over, once_refused, without_entry, due_standing, due_entry, due_one, due_each, as_turn, given_up_at}
+use Rattle.roam_book.specs.OnTick.{Progress, fail_over, once_refused, due_standing, due_entry, due_one, due_each, as_turn, given_up_at}
 use Rattle.roam_book.specs.OneRealm.{RealmEvent, request_came, reply_came, tick_came, on_event}
 use Rattle.roam_book.specs.declared.state.start.Start.{Start}
 use Rattle.roam_core.specs.Openings.{state_then}
@@ -135,17 +135,17 @@ all-rise c start es (f ∷ fs) =
     omega (arith, next-rises c start es f, there)
 
 -- of two places of a list one is the other, or comes after it
-pub data Places (xs ys : List RealmEvent) (e f : RealmEvent) : Type 0 where
+pub data Places {X : Type 0} (xs ys : List X) (e f : X) : Type 0 where
   one : xs ≡ ys → e ≡ f → Places xs ys e f
-  later : (mid : List RealmEvent) → ys ≡ xs ++ e ∷ mid → Places xs ys e f
-  earlier : (mid : List RealmEvent) → xs ≡ ys ++ f ∷ mid → Places xs ys e f
+  later : (mid : List X) → ys ≡ xs ++ e ∷ mid → Places xs ys e f
+  earlier : (mid : List X) → xs ≡ ys ++ f ∷ mid → Places xs ys e f
 
-further : (x y : RealmEvent) (xs ys : List RealmEvent) (e f : RealmEvent) → x ≡ y → Places xs ys e f → Places (x ∷ xs) (y ∷ ys) e f
+further : {X : Type 0} (x y : X) (xs ys : List X) (e f : X) → x ≡ y → Places xs ys e f → Places (x ∷ xs) (y ∷ ys) e f
 further x y xs ys e f same (one is at) = one (cc) at
 further x y xs ys e f same (later mid is) = later mid (cc)
 further x y xs ys e f same (earlier mid is) = earlier mid (cc)
 
-pub places : (xs ws ys bs : List RealmEvent) (e f : RealmEvent) → xs ++ e ∷ ws ≡ ys ++ f ∷ bs → Places xs ys e f
+pub places : {X : Type 0} (xs ws ys bs : List X) (e f : X) → xs ++ e ∷ ws ≡ ys ++ f ∷ bs → Places xs ys e f
 places [] ws [] bs e f same = one refl (cc)
 places [] ws (y ∷ ys) bs e f same = later ys (cc)
 places (x ∷ xs) ws [] bs e f same = earlier xs (cc)
@@ -168,7 +168,7 @@ pub ticket_is_given_once : TicketIsGivenOnce
 ticket_is_given_once c start events xs ws ys bs e f ticket one_way other_way here there =
     decided c start xs ys e f ticket here there (places xs ws ys bs e f (sym one_way ∙ other_way))
 
-same-request : (a b : ℕ) (m n : Option ℕ) (q r : PlainRequest) → request_came a m q ≡ request_came b n r
+pub same-request : (a b : ℕ) (m n : Option ℕ) (q r : PlainRequest) → request_came a m q ≡ request_came b n r
     → q ≡ r
 same-request a b m n q r same = cc
 

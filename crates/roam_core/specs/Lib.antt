@@ -6,6 +6,10 @@ pub mod Isolation
 pub mod Draws
 pub mod Provenance
 pub mod ProvenanceLaws
+pub mod Lives
+pub mod Occasions
+pub mod LifeOrigins
+pub mod LifeLaws
 pub mod ManyRealms
 pub mod Alone
 pub mod OwnPart

@@ -1,28 +1,34 @@
--- Which part of a configuration decides what a realm sends (ours): its own entry, the peers, what each name
--- means, the limit of hops, the seed and the number of shards. What it says of other realms isn't looked at.
-use Rattle.std.specs.Prelude.{◌≡◌, ◌<◌, ◌≤◌, ℕ, List, length}
+-- Which part of a configuration decides what a realm sends (ours): its own entry, the peers, which names mean
+-- it, the limit of hops, the seed and the number of shards. What it says of other realms isn't looked at, nor
+-- which they are.
+use Rattle.std.specs.Prelude.{◌≡◌, ◌<◌, ◌≤◌, ℕ, List, length, slice_get}
 use Rattle.roam_conf.specs.Config.{ConfigView}
+use Rattle.roam_conf.specs.Lookup.{realm_named}
 use Rattle.roam_route.specs.OwnPart.{HaveSamePart}
 use Rattle.roam_book.specs.declared.state.start.Start.{Start}
 use Rattle.roam_core.specs.Events.{PlainEvent, events_of_realm}
-use Rattle.roam_core.specs.Isolation.{packets_for}
+use Rattle.roam_core.specs.Isolation.{is_realm, packets_for}
 use Rattle.roam_core.specs.ManyRealms.{answers_to}
 use Rattle.roam_core.specs.Openings.{openings, start_of}
 
+-- of each name two configurations alike say whether it means a realm. Which other realm it means, or whether any,
+-- they may say differently: other realms may be added, removed and renamed
+abbrev pub MeanAlike : ConfigView → ConfigView → ℕ → Type 0
+MeanAlike one other realm =
+    (name : List ℕ)
+    → is_realm realm (realm_named one.realms name) ≡ is_realm realm (realm_named other.realms name)
+
 -- two configurations agree for a realm: what an arrival gives to it, its random words, and its ticks
 pub record AgreeFor (one other : ConfigView) (realm : ℕ) : Type 0 where
-  pub part : HaveSamePart one other realm
+  pub peers : one.peers ≡ other.peers
+  pub names : MeanAlike one other realm
+  pub max_hops : one.max_hops ≡ other.max_hops
+  pub entry : slice_get one.realms realm ≡ slice_get other.realms realm
   pub seed : one.seed ≡ other.seed
   pub shards : one.shards ≡ other.shards
 
--- then any list of events gives the same events to the realm, whatever the seeds
-abbrev pub SameOwnEvents : Type 0
-SameOwnEvents =
-    (one other : ConfigView) (realm : ℕ) (events : List PlainEvent)
-    → HaveSamePart one other realm → one.shards ≡ other.shards
-    → events_of_realm one realm events ≡ events_of_realm other realm events
-
--- and begun at the same start it sends the same packets: no other realm's configuration changes them
+-- then it sends the same packets for any list of events, begun at the same start: no other realm's
+-- configuration changes them. So one broker of some realms is, realm by realm, as many brokers of one
 abbrev pub SamePacketsOfOwnPart : Type 0
 SamePacketsOfOwnPart =
     (one other : ConfigView) (realm : ℕ) (ss ts : List Start) (events : List PlainEvent)
@@ -30,3 +36,11 @@ SamePacketsOfOwnPart =
     → start_of ss realm ≡ start_of ts realm
     → packets_for realm (answers_to one (openings one ss) events).packets
     ≡ packets_for realm (answers_to other (openings other ts) events).packets
+
+-- where each name means the same realm in both, any list of events gives the same events to the realm too,
+-- whatever the seeds: else a reverse request of it may differ in which other realm its User-Name names
+abbrev pub SameOwnEvents : Type 0
+SameOwnEvents =
+    (one other : ConfigView) (realm : ℕ) (events : List PlainEvent)
+    → HaveSamePart one other realm → one.shards ≡ other.shards
+    → events_of_realm one realm events ≡ events_of_realm other realm events

@@ -57,9 +57,9 @@ DrawsAreApart =
     → position % 2 ^ 68 ≡ other % 2 ^ 68
     → i ≡ j
 
--- and by their turns: two places of the list where words
--- are drawn from one position are one. Forwarded Access-Requests of two turns never have an Authenticator of
--- the same words (RFC 2865, section 3: it is to be unique)
+-- and by their turns: two places of the list where words are drawn from one position are one. Forwarded
+-- Access-Requests of two turns have the words of two positions in their Authenticators (RFC 2865, section 3: it
+-- is to be unique; that the words of two positions differ isn't said)
 abbrev pub WordsAreDrawnOnce : Type 0
 WordsAreDrawnOnce =
     (c : RealmConfig) (start : Start) (events first rest before after : List RealmEvent)

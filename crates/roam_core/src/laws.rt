@@ -5,6 +5,9 @@ ghost use Rattle.roam_core.specs.Alone.{OneRealmIsAlone};
 ghost use Rattle.roam_core.specs.Isolation.{EachIsIsolatedFromStart, EachLedgerIsIsolated, EachRealmIsIsolated};
 ghost use Rattle.roam_core.specs.Isolation.{EachRealmOpens, EachRealmStandsAlone, SameInTwoWorlds};
 ghost use Rattle.roam_core.specs.Isolation.{SameInTwoWorldsFromStart};
+ghost use Rattle.roam_core.specs.LifeLaws.{DrawsAreApartIn, EachPacketHasOriginFrom, EntriesKeepOrigin};
+ghost use Rattle.roam_core.specs.LifeLaws.{OneDrawOneForwarding, OneRequestHasTicketIn, TicketIsGivenOnceIn};
+ghost use Rattle.roam_core.specs.LifeLaws.{WordsAreDrawnInOrderIn};
 ghost use Rattle.roam_core.specs.OwnPart.{SameOwnEvents, SamePacketsOfOwnPart};
 ghost use Rattle.roam_core.specs.ProvenanceLaws.{DrawsAreApart, EachEntryHasOrigin, EachPacketHasOrigin};
 ghost use Rattle.roam_core.specs.ProvenanceLaws.{OneRequestHasTicket, TicketIsGivenOnce, WordsAreDrawnInOrder};
@@ -35,12 +38,13 @@ pub fn two_worlds()
     ensures from_states { SameInTwoWorlds }
 {}
 
-/// What a realm sends is decided by its own part of the configuration: its own entry, the peers, what each
-/// name means, the limit of hops, the seed and the number of shards. Given the same events, it sends the
-/// same packets whatever else the configuration says of other realms.
+/// What a realm sends is decided by its own part of the configuration: its own entry, the peers, which names
+/// mean it, the limit of hops, the seed and the number of shards. Given the same events, it sends the same
+/// packets whatever else the configuration says of other realms, and whichever there are: they may be added,
+/// removed and renamed. So one broker of some realms is, realm by realm, as many brokers of one.
 pub fn own_part()
-    ensures events { SameOwnEvents }
     ensures packets { SamePacketsOfOwnPart }
+    ensures events { SameOwnEvents }
 {}
 
 /// Where one realm is configured, all that the broker sends is what the written broker of that realm
@@ -51,8 +55,8 @@ pub fn one_realm()
 
 /// Each packet of a realm is the forwarded one of a request of the realm's events, the returned one of a
 /// reply that was taken for such a packet, or the NAK of a reverse request; and each entry is of such a
-/// request. The ticket says of which: it is given to one event. And the words of a forwarded
-/// Access-Request's Authenticator are drawn for it alone, below 2^66 draws (RFC 2865, section 3).
+/// request. The ticket says of which: it is given to one event. And no two draws of words for a forwarded
+/// Access-Request's Authenticator begin at one position, below 2^66 draws (RFC 2865, section 3).
 pub fn provenance()
     ensures packets { EachPacketHasOrigin }
     ensures entries { EachEntryHasOrigin }
@@ -61,4 +65,27 @@ pub fn provenance()
     ensures words { WordsAreDrawnInOrder }
     ensures apart { DrawsAreApart }
     ensures once { WordsAreDrawnOnce }
+{}
+
+/// Over a realm's life, while its configuration changes any number of times, whether it goes on in its state or
+/// begins anew: where each entry comes from what happened, so do those that are held later, and each packet that
+/// is sent then has its origin in what happened, under the configuration of its time.
+pub fn life_provenance()
+    ensures entries { EntriesKeepOrigin }
+    ensures packets { EachPacketHasOriginFrom }
+{}
+
+/// Over a realm's life a ticket is given to one event, and so to one request: no change takes it back.
+pub fn life_tickets()
+    ensures tickets { TicketIsGivenOnceIn }
+    ensures requests { OneRequestHasTicketIn }
+{}
+
+/// Over a realm's life its words are drawn in order, and no two draws begin at one position, below 2^66 draws. So
+/// the words of a forwarded Access-Request's Authenticator are drawn for it alone: two that were forwarded with the
+/// words of one position are the same packet for the same request (RFC 2865, section 3).
+pub fn life_draws()
+    ensures words { WordsAreDrawnInOrderIn }
+    ensures apart { DrawsAreApartIn }
+    ensures once { OneDrawOneForwarding }
 {}

@@ -15,7 +15,8 @@ pub use bounds::{bounded_waits, no_amplification, sent_for_one_request};
 pub use broker::Broker;
 pub use event::Event;
 pub use laws::{
-    isolated_ledgers, isolated_realms, one_realm, own_part, provenance, realms_open, two_worlds,
+    isolated_ledgers, isolated_realms, life_draws, life_provenance, life_tickets, one_realm,
+    own_part, provenance, realms_open, two_worlds,
 };
 pub use runs::{Outcome, run};
 pub use shard_room::with_room;

@@ -1,0 +1,193 @@
+-- Provenance over a realm's life (ours): where each of its packets comes from, and each of its entries, while its
+-- configuration changes. In all of this `b` is the stage at which the life begins, and `life` what happens to the
+-- realm then, in order.
+use Rattle.std.specs.Prelude.{◌≡◌, ◌⊎◌, ◌+◌, ℕ, true, List, [], ◌∷◌, ◌++◌, Some, None, Option}
+use Rattle.roam_wire.specs.Reading.{packet_of}
+use Rattle.roam_route.specs.Admission.{PlainOut}
+use Rattle.roam_pending.specs.ListLaws.{IsIn}
+use Rattle.roam_pending.specs.declared.key.Key.{Key}
+use Rattle.roam_pending.specs.PlainEntry.{PlainEntry, PlainRequest, PlainStanding, waiting, done}
+use Rattle.roam_book.specs.RealmConfig.{RealmConfig, link_secret, seal_required}
+use Rattle.roam_book.specs.RealmState.{Target}
+use Rattle.roam_reverse.specs.declared.error_cause.TheConstants.{OTHER_PROXY_PROCESSING_ERROR}
+use Rattle.roam_book.specs.OnRequest.{packet_to_link, packet_to_requester, forwarded_octets, is_reverse, nak_octets, reverse_cause}
+use Rattle.roam_back.specs.ReplyCheck.{reply_fault}
+use Rattle.roam_book.specs.OnReply.{returned_octets}
+use Rattle.roam_book.specs.OneRealm.{RealmEvent, request_came, reply_came, tick_came}
+use Rattle.roam_core.specs.Lives.{Happening, Stage, event, sent_at, stage_then}
+use Rattle.roam_core.specs.Occasions.{ForwardsOn, Occasion, occasions}
+
+-- an event that comes after others is given a ticket: it is the next one there, and then it is taken
+pub record TakesTicketIn (b : Stage) (before : List Happening) (e : RealmEvent) (ticket : ℕ) : Type 0 where
+  pub next : (stage_then b before).state.ticket ≡ ticket
+  pub taken : (stage_then b (before ++ event e ∷ [])).state.ticket ≡ ticket + 1
+
+-- a request of the life, by its ticket: that very one, since a ticket is given once (`TicketIsGivenOnceIn`)
+pub record IsRequestIn (b : Stage) (life : List Happening) (q : PlainRequest) (ticket : ℕ) : Type 0 where
+  pub first : List Happening
+  pub asked_at : ℕ
+  pub named : Option ℕ
+  pub rest : List Happening
+  pub in_order : life ≡ first ++ event (request_came asked_at named q) ∷ rest
+  pub given : TakesTicketIn b first (request_came asked_at named q) ticket
+
+-- a packet is among those that an event's own turn sends, after what happened before it
+abbrev pub IsSentIn : Stage → List Happening → RealmEvent → PlainOut → Type 0
+IsSentIn b before e out = IsIn out (sent_at (stage_then b before) (event e))
+
+-- after this an entry of this ticket is held, with this request
+pub record IsHeldIn (b : Stage) (life : List Happening) (q : PlainRequest) (ticket : ℕ) : Type 0 where
+  pub entry : PlainEntry
+  pub held : IsIn entry (stage_then b life).state.entries
+  pub same_request : entry.request ≡ q
+  pub same_ticket : entry.ticket ≡ ticket
+
+-- a later tick does something for a request: until then its entry is held
+pub record AtLaterTickIn (b : Stage) (first : List Happening) (asked_at : ℕ) (named : Option ℕ)
+    (q : PlainRequest) (rest : List Happening) (ticket : ℕ)
+    (Does : List Happening → RealmEvent → Type 0) : Type 0 where
+  pub between : List Happening
+  pub now : ℕ
+  pub after : List Happening
+  pub in_order : rest ≡ between ++ event (tick_came now) ∷ after
+  pub held : IsHeldIn b (first ++ event (request_came asked_at named q) ∷ between) q ticket
+  pub does : Does (first ++ event (request_came asked_at named q) ∷ between) (tick_came now)
+
+-- an event that comes after others forwards a request, under the configuration of that time: on one of its occasions
+-- it sends the packet, and draws the words for it
+pub record ForwardsIn (b : Stage) (c : RealmConfig) (q : PlainRequest) (position ticket : ℕ)
+    (target : Target) (before : List Happening) (e : RealmEvent) : Type 0 where
+  pub under : (stage_then b before).config ≡ c
+  pub occasion : Occasion
+  pub among : IsIn occasion (occasions (stage_then b before).config (stage_then b before).state e)
+  pub forwards : ForwardsOn c q position ticket target occasion
+
+-- a request of the life was forwarded to a target: in its own turn, or when it failed over
+pub record IsForwardedIn (b : Stage) (life : List Happening) (c : RealmConfig) (q : PlainRequest)
+    (position ticket : ℕ) (target : Target) : Type 0 where
+  pub request : IsRequestIn b life q ticket
+  pub sent :
+      ForwardsIn b c q position ticket target request.first (request_came request.asked_at request.named q)
+      ⊎ AtLaterTickIn b request.first request.asked_at request.named q request.rest ticket
+      (ForwardsIn b c q position ticket target)
+
+-- a packet is the returned one of a request of the life: the request was forwarded to a link; then a reply came from
+-- that link, with the forwarded packet's Identifier; it is taken, for its code, its Response Authenticator and its
+-- Message-Authenticator (RFC 2865, section 3; RFC 3579, section 3.2); and its turn sent this packet to the sender of
+-- the request. Between the two the configuration may have changed
+pub record IsReturnedIn (b : Stage) (life : List Happening) (q : PlainRequest) (ticket : ℕ)
+    (out : PlainOut) : Type 0 where
+  pub before : List Happening
+  pub answered_at : ℕ
+  pub target : Target
+  pub position : ℕ
+  pub under : RealmConfig
+  pub now_under : RealmConfig
+  pub reply : List ℕ
+  pub after : List Happening
+  pub in_order : life ≡ before ++ event (reply_came answered_at target.link reply) ∷ after
+  pub config_then : (stage_then b before).config ≡ now_under
+  pub forwarded : IsForwardedIn b before under q position ticket target
+  pub identifier : (packet_of reply).id ≡ target.id
+  pub taken :
+      reply_fault (link_secret now_under target.link) (seal_required now_under target.link)
+      (packet_of reply) (packet_of (forwarded_octets under q position ticket target)) ≡ None
+  pub is_returned :
+      out ≡ packet_to_requester now_under q.key (returned_octets now_under q target.link
+      (packet_of (forwarded_octets under q position ticket target)) (packet_of reply))
+  pub sent : IsSentIn b before (reply_came answered_at target.link reply) out
+
+-- a packet is the NAK of a reverse request of the life, which goes back to the home server that sent the request: with
+-- the Error-Cause for which the request wasn't forwarded, from its own turn (RFC 5176, sections 2.3 and 3.5)
+pub record IsRefusedIn (b : Stage) (life : List Happening) (q : PlainRequest) (out : PlainOut) : Type 0 where
+  pub first : List Happening
+  pub asked_at : ℕ
+  pub named : Option ℕ
+  pub under : RealmConfig
+  pub rest : List Happening
+  pub in_order : life ≡ first ++ event (request_came asked_at named q) ∷ rest
+  pub config_then : (stage_then b first).config ≡ under
+  pub cause : ℕ
+  pub why : reverse_cause under (stage_then b first).state named q ≡ Some cause
+  pub is_nak : out ≡ packet_to_requester under q.key (nak_octets under q cause)
+  pub sent : IsSentIn b first (request_came asked_at named q) out
+
+-- or with Error-Cause 505, from a later tick, at which the request was given up: it had been forwarded, and no access
+-- server answered
+pub record GivesUp (b : Stage) (q : PlainRequest) (out : PlainOut) (before : List Happening)
+    (e : RealmEvent) : Type 0 where
+  pub under : RealmConfig
+  pub config_then : (stage_then b before).config ≡ under
+  pub is_nak : out ≡ packet_to_requester under q.key (nak_octets under q OTHER_PROXY_PROCESSING_ERROR)
+  pub sent : IsSentIn b before e out
+
+pub record IsGivenUpIn (b : Stage) (life : List Happening) (q : PlainRequest) (out : PlainOut) : Type 0 where
+  pub ticket : ℕ
+  pub request : IsRequestIn b life q ticket
+  pub reverse : is_reverse q ≡ true
+  pub given_up :
+      AtLaterTickIn b request.first request.asked_at request.named q request.rest ticket (GivesUp b q out)
+
+abbrev pub IsNakIn : Stage → List Happening → PlainRequest → PlainOut → Type 0
+IsNakIn b life q out = IsRefusedIn b life q out ⊎ IsGivenUpIn b life q out
+
+-- a packet that an event's turn sends is the forwarded one of a request of the life up to there: of which, forwarded
+-- under which configuration, with the words from which position on, under which ticket, to which link. One that is
+-- sent again has the same octets, and goes to the link's endpoint of the time
+pub record IsForwardedPacketIn (b : Stage) (life : List Happening) (out : PlainOut) : Type 0 where
+  pub before : List Happening
+  pub cause : RealmEvent
+  pub after : List Happening
+  pub now_under : RealmConfig
+  pub under : RealmConfig
+  pub request : PlainRequest
+  pub position : ℕ
+  pub ticket : ℕ
+  pub target : Target
+  pub in_order : life ≡ before ++ event cause ∷ after
+  pub config_then : (stage_then b before).config ≡ now_under
+  pub sent : IsSentIn b before cause out
+  pub forwarded : IsForwardedIn b (before ++ event cause ∷ []) under request position ticket target
+  pub is_forwarded :
+      out ≡ packet_to_link now_under target.link (forwarded_octets under request position ticket target)
+
+-- it is the returned one of a request of the life
+pub record IsReturnedPacketIn (b : Stage) (life : List Happening) (out : PlainOut) : Type 0 where
+  pub request : PlainRequest
+  pub ticket : ℕ
+  pub returned : IsReturnedIn b life request ticket out
+
+-- it is the NAK of a reverse request of the life
+pub record IsNakPacketIn (b : Stage) (life : List Happening) (out : PlainOut) : Type 0 where
+  pub request : PlainRequest
+  pub nak : IsNakIn b life request out
+
+-- each packet is one of the three: there are no others
+abbrev pub HasOriginIn : Stage → List Happening → PlainOut → Type 0
+HasOriginIn b life out =
+    IsForwardedPacketIn b life out ⊎ (IsReturnedPacketIn b life out ⊎ IsNakPacketIn b life out)
+
+-- what goes back to a sender for the realm of an index
+abbrev pub back_to : ℕ → Key → List ℕ → PlainOut
+back_to index key octets = record { realm = Some index; from = key.place; to = key.from; bytes = octets }
+
+-- how an entry stands: it waits for the reply to what was forwarded to its link, or its reply was returned, or it was
+-- answered by a NAK
+pub record WaitsForIn (b : Stage) (life : List Happening) (q : PlainRequest) (ticket : ℕ)
+    (target : Target) (octets : List ℕ) : Type 0 where
+  pub under : RealmConfig
+  pub position : ℕ
+  pub octets_are : octets ≡ forwarded_octets under q position ticket target
+  pub forwarded : IsForwardedIn b life under q position ticket target
+
+abbrev pub StandsFromIn : Stage → List Happening → PlainRequest → ℕ → PlainStanding → Type 0
+StandsFromIn b life q ticket (waiting l id forwarded sends_left deadline) =
+    WaitsForIn b life q ticket (record { link = l; id = id }) forwarded
+StandsFromIn b life q ticket (done reply deadline) =
+    IsReturnedIn b life q ticket (back_to b.config.index q.key reply)
+    ⊎ IsNakIn b life q (back_to b.config.index q.key reply)
+
+-- an entry is that of a request of the life, and stands so
+pub record ComesFromIn (b : Stage) (life : List Happening) (e : PlainEntry) : Type 0 where
+  pub request : IsRequestIn b life e.request e.ticket
+  pub standing : StandsFromIn b life e.request e.ticket e.standing
