@@ -2,3 +2,5 @@ pub mod HubLemmas
 pub mod KeptLemmas
 pub mod ChangeLemmas
 pub mod PauseLemmas
+pub mod LifeOverLemmas
+pub mod TicketOverLemmas

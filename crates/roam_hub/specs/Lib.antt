@@ -7,5 +7,6 @@ pub mod Closing
 pub mod Pausing
 pub mod Following
 pub mod Changes
+pub mod LivesOver
 pub mod Faults
 pub mod Texts
