@@ -3,3 +3,5 @@ pub mod KeptLemmas
 pub mod ChangeLemmas
 pub mod PauseLemmas
 pub mod BoundLemmas
+pub mod LifeOverLemmas
+pub mod TicketOverLemmas

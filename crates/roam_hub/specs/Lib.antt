@@ -7,6 +7,7 @@ pub mod Closing
 pub mod Pausing
 pub mod Following
 pub mod Changes
+pub mod LivesOver
 pub mod Faults
 pub mod Bounds
 pub mod Texts

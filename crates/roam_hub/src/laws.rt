@@ -2,6 +2,8 @@
 
 ghost use Rattle.roam_hub.specs.Changes.{CarriedOverChanges, EachGoesAlone, OthersBeginAnew};
 ghost use Rattle.roam_hub.specs.InHistories.{ProvenanceInHistories, RealmsInHistories};
+ghost use Rattle.roam_hub.specs.LivesOver.{DrawsApartOverChanges, LivesGoAlong, ProvenanceOverChanges};
+ghost use Rattle.roam_hub.specs.LivesOver.{TicketGivenOnceOverChanges};
 
 /// In the history of its shard each realm is isolated: the packets that were sent for it there are, in
 /// order and octet for octet, those that the written broker of that one realm sends for its own events.
@@ -28,4 +30,29 @@ pub fn realms_from_any_states()
 pub fn realms_over_changes()
     ensures carried { CarriedOverChanges }
     ensures others { OthersBeginAnew }
+{}
+
+/// While the configuration changes, any number of times, what was sent for a realm is what its life sends: its own
+/// events and the changes, one after the other, each of which carries it over or has it begin anew. The draws are
+/// those of its life too, and where the last history ends it stands where its life ends.
+pub fn lives_over_changes()
+    ensures { LivesGoAlong }
+{}
+
+/// So each packet that was sent for a realm over all changes has its origin in the realm's own events: it is the
+/// forwarded one of a request of them, before or after a change, the returned one of a reply that was taken for such
+/// a packet, or the NAK of a reverse request.
+pub fn provenance_over_changes()
+    ensures { ProvenanceOverChanges }
+{}
+
+/// No two draws of a realm's random words over all changes begin at one position, below 2^66 draws: also where it
+/// begins anew.
+pub fn draws_apart_over_changes()
+    ensures { DrawsApartOverChanges }
+{}
+
+/// A ticket of a realm is given to one event over all changes: also where it begins anew.
+pub fn tickets_over_changes()
+    ensures { TicketGivenOnceOverChanges }
 {}

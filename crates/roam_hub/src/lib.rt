@@ -31,7 +31,8 @@ pub use following::follow;
 pub use gate::{Gate, Open};
 pub use hub::Hub;
 pub use laws::{
-    provenance_in_histories, realms_from_any_states, realms_in_histories, realms_over_changes,
+    draws_apart_over_changes, lives_over_changes, provenance_in_histories, provenance_over_changes,
+    realms_from_any_states, realms_in_histories, realms_over_changes, tickets_over_changes,
 };
 pub use notes::{Notes, Past, Stood};
 pub use pause_room::PauseRoom;
