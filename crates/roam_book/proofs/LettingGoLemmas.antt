@@ -25,7 +25,7 @@ use Rattle.roam_book.proofs.RoomLemmas.{first_rest, no_first, last_or-more}
 
 -- Looking at what is due
 
-both : (a b : Bool) → (a && b) ≡ true → (a ≡ true) × (b ≡ true)
+pub both : (a b : Bool) → (a && b) ≡ true → (a ≡ true) × (b ≡ true)
 both true true h = (refl, refl)
 both true false h = absurd (cc h)
 both false b h = absurd (cc h)
@@ -167,7 +167,7 @@ done-without t u es h =
       | inr ne ↦ rw (find-without_other t u es ne) h
     ]
 
-all-without :
+pub all-without :
     (u : ℕ) (es : List PlainEntry) (ds : List Due) → list_all (is_done_at es) ds ≡ true
     → list_all (is_done_at (without u es)) ds ≡ true
 all-without u es [] h = refl

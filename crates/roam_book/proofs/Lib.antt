@@ -10,6 +10,7 @@ pub mod LeastLemmas
 pub mod LettingGoLemmas
 pub mod LinkLaneLemmas
 pub mod LookingLemmas
+pub mod LostTickLemmas
 pub mod MemoryLemmas
 pub mod NakLemmas
 pub mod RealmLemmas

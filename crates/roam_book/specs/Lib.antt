@@ -11,6 +11,7 @@ pub mod LeastFirst
 pub mod RestLaws
 -- What the contracts of public calls say beside that.
 pub mod BookView
+pub mod LostTicks
 pub mod RealmTurn
 pub mod Reload
 pub mod Rooms

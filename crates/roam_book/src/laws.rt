@@ -4,6 +4,7 @@
 
 ghost use Rattle.roam_book.specs.BookView.{EventIsTaken};
 ghost use Rattle.roam_book.specs.LeastFirst.{LeastDueFirst, NoneIsDueAfter};
+ghost use Rattle.roam_book.specs.LostTicks.{NothingIsLost, OnlyDoneGo};
 ghost use Rattle.roam_book.specs.RestLaws.{AccessServersNeverStandBack, AwakeTheFirstIsChosen, WithoutRestAllStayAwake};
 
 /// A tick takes the least due entry, until none is due. Each due entry is taken once, since what waits
@@ -25,4 +26,11 @@ pub fn silent_servers()
     ensures none { WithoutRestAllStayAwake }
     ensures first { AwakeTheFirstIsChosen }
     ensures access_servers { AccessServersNeverStandBack }
+{}
+
+/// What a realm loses where a tick is lost for want of memory: nothing, where no entry of its own is due; and
+/// where each that is due was answered, a tick would only let them go.
+pub fn lost_ticks()
+    ensures nothing { NothingIsLost }
+    ensures only_done { OnlyDoneGo }
 {}
