@@ -1,8 +1,13 @@
+pub mod AdmittedLemmas
 pub mod AnswerLemmas
 pub mod CheckLemmas
 pub mod EventLemmas
+pub mod HopLemmas
 pub mod NameLemmas
-pub mod OwnLemmas
 pub mod OwnAnswerLemmas
+pub mod OwnLemmas
 pub mod PasswordLemmas
+pub mod RefusedArrivalLemmas
+pub mod RefusedLemmas
+pub mod RequestTestLemmas
 pub mod SenderLemmas

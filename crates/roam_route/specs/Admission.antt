@@ -95,8 +95,8 @@ checked holds why further = if holds then further else refused why
 abbrev pub is_rightly_signed : List ℕ → Packet → Bool
 is_rightly_signed secret p = p.code == ACCESS_REQUEST || is_signed_request secret p
 
--- whether it is well sealed: over its own Authenticator in an Access-Request, over zeros in any other
--- (RFC 3579, section 3.2; the second is ours)
+-- whether it is well sealed: over its own Authenticator in an Access-Request (RFC 3579, section 3.2), over
+-- zeros in any other (RFC 5176, section 3.4; in accounting ours)
 abbrev pub is_rightly_sealed : List ℕ → Packet → Bool
 is_rightly_sealed secret p =
     is_well_sealed secret ((if p.code == ACCESS_REQUEST then p.authenticator else zero_octets) ∷ []) p

@@ -1,4 +1,5 @@
 pub mod Admission
+pub mod AdmittedRequests
 pub mod Events
 pub mod LocalAnswer
 pub mod LocalReject

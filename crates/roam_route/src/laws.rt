@@ -1,6 +1,8 @@
 //! Laws of names, events and local answers. These functions do nothing: their contracts hold of all
 //! names, configurations, jobs and requests.
 
+ghost use Rattle.roam_route.specs.AdmittedRequests.{AdmittedIsRight, ForwardedHasFewHops, OtherCodeIsRefused};
+ghost use Rattle.roam_route.specs.AdmittedRequests.{RefusedFailsFirst, UnknownIsRefused, UnreadIsRefused};
 ghost use Rattle.roam_route.specs.Events.{EventHasRealm, EventIsSound};
 ghost use Rattle.roam_route.specs.NameLaws.{LastAtSignDecides, NameWithoutAtSign};
 ghost use Rattle.roam_route.specs.OwnPart.{OwnAnswersDecided, OwnPartDecides};
@@ -22,6 +24,24 @@ pub fn names()
 pub fn events()
     ensures realm { EventHasRealm }
     ensures sound { EventIsSound }
+{}
+
+/// Which requests a realm is given: just those whose code belongs to their place and sender, that are signed
+/// and sealed as they must be, with few enough hops, passwords that can be carried, a realm, and a size that
+/// fits once forwarded. A request that isn't right is refused for the first part that fails. What is
+/// forwarded of one that is has at most one Proxy-State more than the limit of hops.
+pub fn admitted_requests()
+    ensures admitted { AdmittedIsRight }
+    ensures refused { RefusedFailsFirst }
+    ensures hops { ForwardedHasFewHops }
+{}
+
+/// What is refused before a request is looked at: what reads as no packet, a packet of an unknown source, and
+/// one whose code is of no request there.
+pub fn refused_arrivals()
+    ensures unread { UnreadIsRefused }
+    ensures unknown { UnknownIsRefused }
+    ensures code { OtherCodeIsRefused }
 {}
 
 /// What the local reject of a request is: a packet that reads, signed and sealed for the access server,

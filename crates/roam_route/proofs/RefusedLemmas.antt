@@ -1,0 +1,194 @@
+-- A request is refused for the first part that fails.
+use Rattle.std.proofs.Common.{◌≡◌, ◌≢◌, ◌↔◌, ◌≤◌, ℕ, Bool, List, [], ◌∷◌, Option, Some, None, IsSome, inl, inr, refl, sym, ap, subst, ◌∙◌, arith}
+use Rattle.std.specs.Prelude.{nat_le}
+use Rattle.std.proofs.lemmas.Bool.{cases_Bool}
+use Rattle.roam_wire.specs.Packet.{Packet}
+use Rattle.roam_wire.specs.declared.code.TheConstants.{ACCESS_REQUEST}
+use Rattle.roam_wire.specs.declared.refusal.Refusal.{Refusal}
+use Rattle.roam_wire.specs.declared.refusal.Refusal.TheVariants as refusal
+use Rattle.roam_wire.specs.declared.packet_size.TheConstants.{MAX_PACKET_LENGTH}
+use Rattle.roam_auth.specs.MessageAuthenticator.{IsWellSealed}
+use Rattle.roam_conf.specs.Config.{ConfigView}
+use Rattle.roam_conf.specs.declared.place.Link.{Link}
+use Rattle.roam_conf.specs.declared.place.Place.{Place}
+use Rattle.roam_conf.specs.declared.place.Place.TheVariants as place
+use Rattle.roam_fwd.specs.Forwarded.{forwarded_length}
+use Rattle.roam_route.specs.UserName.{realm_of}
+use Rattle.roam_route.specs.LocalAnswer.{answer_length, local_reject}
+use Rattle.roam_route.specs.LocalReject.{is_rejected}
+use Rattle.roam_route.specs.Admission.{Arrival, Admission, refused, checked, job_of, forwarded_for, answered_by, rejected_for, for_named_realm, route_request, request_admission, packet_admission, sent_admission, admission, is_rightly_signed, is_rightly_sealed, has_needed_seal, has_few_hops, seal_required, peer_secret, home_secret}
+use Rattle.roam_route.specs.AdmittedRequests.{IsRequestAt, IsRightlySigned, sealing_authenticator, HasNeededSeal, FailsFirst, NothingFails, IsPassedOn, FailsToGo, FailsFor, RefusedFailsFirst}
+use Rattle.roam_route.specs.declared.job.Side.{Side}
+use Rattle.roam_route.specs.declared.job.Side.TheVariants as side
+use Rattle.roam_route.proofs.RequestTestLemmas.{signed_decided, sealed_decided, needed_decided, size_by, passed_decided}
+use Rattle.roam_route.proofs.AdmittedLemmas.{fails, Fits, other_hops, access_hops, front_checked, reverse_other, judged_is, as_sent}
+
+-- ---- what is refused
+
+-- the size of the forwarded packet
+size_fails : (a : Arrival) (s : Side) (p : Packet) (realm : ℕ) (named : Option ℕ) (why : Refusal)
+    → (forwarded_for a s p realm named ≡ refused why) ↔ FailsFirst (Fits p) refusal.TooLong NothingFails why
+size_fails a s p realm named why =
+    fails NothingFails (nat_le (forwarded_length p) MAX_PACKET_LENGTH) refusal.TooLong
+    (job_of a s p realm named) why (size_by (forwarded_length p)) (λ h. absurd (cc h), λ h. absurd h)
+
+-- the realm, then the size
+realm_fails : (a : Arrival) (s : Side) (p : Packet) (o : Option ℕ) (why : Refusal)
+    → (for_named_realm a s p o ≡ refused why)
+    ↔ FailsFirst (IsSome o) refusal.NoRealm (FailsFirst (Fits p) refusal.TooLong NothingFails) why
+realm_fails a s p None why = (
+  λ h. inl (λ there. absurd (cc there), (let same : refusal.NoRealm ≡ why = cc h in sym same)),
+  λ h. elim h [
+    | inl failing ↦ ap refused (sym failing.1)
+    | inr holding ↦ absurd (cc holding.0)
+  ],
+)
+realm_fails a s p (Some realm) why =
+    let size = size_fails a s p realm (Some realm) why in (
+      λ h. inr (refl, size.0 h),
+      λ h. elim h [
+        | inl failing ↦ absurd (failing.0 refl)
+        | inr holding ↦ size.1 holding.1
+      ],
+    )
+
+-- where one is named, the size alone
+named_fails : (a : Arrival) (s : Side) (p : Packet) (o : Option ℕ) (why : Refusal) → IsSome o
+    → (for_named_realm a s p o ≡ refused why) ↔ FailsFirst (Fits p) refusal.TooLong NothingFails why
+named_fails a s p None why there = absurd (cc there)
+named_fails a s p (Some realm) why there = size_fails a s p realm (Some realm) why
+
+-- the size of a local reject
+answer_fails : (secret : List ℕ) (a : Arrival) (p : Packet) (why : Refusal)
+    → (rejected_for secret a p ≡ refused why)
+    ↔ FailsFirst (answer_length p ≤ MAX_PACKET_LENGTH) refusal.TooLong NothingFails why
+answer_fails secret a p why =
+    fails NothingFails (nat_le (answer_length p) MAX_PACKET_LENGTH) refusal.TooLong
+    (answered_by a (local_reject secret p)) why (size_by (answer_length p)) (λ h. absurd (cc h), λ h. absurd h)
+
+-- an Access-Request
+access_fails : (config : ConfigView) (secret : List ℕ) (a : Arrival) (s : Side) (p : Packet) (why : Refusal)
+    → (route_request config secret a s p place.Auth ≡ refused why) ↔ FailsToGo config p place.Auth why
+access_fails config secret a s p why =
+    let passed = passed_decided config p in
+    elim (cases_Bool (is_rejected config p)) [
+      | inl rejects ↦ (
+          let size = answer_fails secret a p why in
+          let never : IsPassedOn config p → ⊥ = λ h. absurd (cc (sym rejects ∙ passed.1 h)) in
+          rw rejects (
+            λ h. inr (never, size.0 h),
+            λ h. elim h [
+              | inl goes ↦ absurd (never goes.0)
+              | inr answered ↦ size.1 answered.1
+            ],
+          )
+          )
+      | inr passes ↦ (
+          let on : IsPassedOn config p = passed.0 passes in
+          let size = named_fails a s p (realm_of config p.attributes) why on.names in
+          rw passes (
+            λ h. inl (on, size.0 h),
+            λ h. elim h [
+              | inl goes ↦ size.1 goes.1
+              | inr answered ↦ absurd (answered.0 on)
+            ],
+          )
+          )
+    ]
+
+-- a request, from its signature on
+front_fails : (F : Refusal → Type 0) (config : ConfigView) (secret : List ℕ) (s : Side) (p : Packet)
+    (further : Admission) (why : Refusal) → ((further ≡ refused why) ↔ F why)
+    → (front_checked config secret s p further ≡ refused why)
+    ↔ FailsFirst (IsRightlySigned secret p) refusal.BadAuthenticator
+    (FailsFirst (IsWellSealed secret (sealing_authenticator p ∷ []) p) refusal.BadMessageAuthenticator
+    (FailsFirst (HasNeededSeal (seal_required config s) p) refusal.MissingMessageAuthenticator F)) why
+front_fails F config secret s p further why f =
+    let needed : Bool = has_needed_seal (seal_required config s) p in
+    let third = fails F needed refusal.MissingMessageAuthenticator further why
+    (needed_decided (seal_required config s) p) f in
+    let second = fails
+    (FailsFirst (HasNeededSeal (seal_required config s) p) refusal.MissingMessageAuthenticator F)
+    (is_rightly_sealed secret p) refusal.BadMessageAuthenticator
+    (checked needed refusal.MissingMessageAuthenticator further) why (sealed_decided secret p) third in
+    fails
+    (FailsFirst (IsWellSealed secret (sealing_authenticator p ∷ []) p) refusal.BadMessageAuthenticator
+    (FailsFirst (HasNeededSeal (seal_required config s) p) refusal.MissingMessageAuthenticator F))
+    (is_rightly_signed secret p) refusal.BadAuthenticator
+    (checked (is_rightly_sealed secret p) refusal.BadMessageAuthenticator
+    (checked needed refusal.MissingMessageAuthenticator further)) why (signed_decided secret p) second
+
+-- its hops, and where it goes
+goes_fails : (config : ConfigView) (secret : List ℕ) (a : Arrival) (s : Side) (p : Packet) (at : Place)
+    (why : Refusal) → IsRequestAt at s p.code
+    → (checked (has_few_hops config.max_hops p) refusal.TooManyHops (route_request config secret a s p at)
+    ≡ refused why)
+    ↔ FailsToGo config p at why
+goes_fails config secret a (side.Peer i) p place.Auth why code =
+    rw (access_hops config.max_hops p code) (access_fails config secret a (side.Peer i) p why)
+goes_fails config secret a (side.Peer i) p place.Acct why code =
+    let other : p.code ≢ ACCESS_REQUEST = λ is. absurd (omega (arith, is, code)) in
+    fails
+    (FailsFirst (IsSome (realm_of config p.attributes)) refusal.NoRealm
+    (FailsFirst (Fits p) refusal.TooLong NothingFails))
+    (has_few_hops config.max_hops p) refusal.TooManyHops
+    (for_named_realm a (side.Peer i) p (realm_of config p.attributes)) why
+    (other_hops config.max_hops p other) (realm_fails a (side.Peer i) p (realm_of config p.attributes) why)
+goes_fails config secret a (side.Home i) p (place.Reverse k) why code =
+    fails (FailsFirst (Fits p) refusal.TooLong NothingFails)
+    (has_few_hops config.max_hops p) refusal.TooManyHops
+    (forwarded_for a (side.Home i) p k (realm_of config p.attributes)) why
+    (other_hops config.max_hops p (reverse_other k i p.code code))
+    (size_fails a (side.Home i) p k (realm_of config p.attributes) why)
+goes_fails config secret a (side.Peer i) p (place.Reverse k) why code = absurd code
+goes_fails config secret a (side.Link l) p (place.Reverse k) why code = absurd code
+goes_fails config secret a (side.Link l) p place.Auth why code = absurd code
+goes_fails config secret a (side.Home i) p place.Auth why code = absurd code
+goes_fails config secret a (side.Link l) p place.Acct why code = absurd code
+goes_fails config secret a (side.Home i) p place.Acct why code = absurd code
+goes_fails config secret a (side.Peer i) p (place.Out k) why code = absurd code
+goes_fails config secret a (side.Link l) p (place.Out k) why code = absurd code
+goes_fails config secret a (side.Home i) p (place.Out k) why code = absurd code
+
+-- with the place of the arrival, by its sender
+request_fails : (config : ConfigView) (secret : List ℕ) (a : Arrival) (s : Side) (p : Packet) (at : Place)
+    (why : Refusal) → a.at ≡ at → IsRequestAt at s p.code
+    → (request_admission config secret a s p ≡ refused why)
+    ↔ FailsFirst (IsRightlySigned secret p) refusal.BadAuthenticator
+    (FailsFirst (IsWellSealed secret (sealing_authenticator p ∷ []) p) refusal.BadMessageAuthenticator
+    (FailsFirst (HasNeededSeal (seal_required config s) p) refusal.MissingMessageAuthenticator
+    (FailsToGo config p at))) why
+request_fails config secret a s p at why is code =
+    let goes = subst (λ (x : Place).
+    (checked (has_few_hops config.max_hops p) refusal.TooManyHops (route_request config secret a s p x)
+    ≡ refused why)
+    ↔ FailsToGo config p at why) (sym is) (goes_fails config secret a s p at why code) in
+    front_fails (FailsToGo config p at) config secret s p
+    (checked (has_few_hops config.max_hops p) refusal.TooManyHops (route_request config secret a s p a.at))
+    why goes
+
+packet_fails : (config : ConfigView) (a : Arrival) (s : Side) (p : Packet) (at : Place) (why : Refusal)
+    → a.at ≡ at → IsRequestAt at s p.code
+    → (packet_admission config a s p at ≡ refused why) ↔ FailsFor config at s p why
+packet_fails config a (side.Peer i) p place.Auth why is code =
+    request_fails config (peer_secret config i) a (side.Peer i) p place.Auth why is code
+packet_fails config a (side.Peer i) p place.Acct why is code =
+    request_fails config (peer_secret config i) a (side.Peer i) p place.Acct why is code
+packet_fails config a (side.Home i) p (place.Reverse k) why is code =
+    request_fails config (home_secret config k i) a (side.Home i) p (place.Reverse k) why is code
+packet_fails config a (side.Peer i) p (place.Reverse k) why is code = absurd code
+packet_fails config a (side.Link l) p (place.Reverse k) why is code = absurd code
+packet_fails config a (side.Link l) p place.Auth why is code = absurd code
+packet_fails config a (side.Home i) p place.Auth why is code = absurd code
+packet_fails config a (side.Link l) p place.Acct why is code = absurd code
+packet_fails config a (side.Home i) p place.Acct why is code = absurd code
+packet_fails config a (side.Peer i) p (place.Out k) why is code = absurd code
+packet_fails config a (side.Link l) p (place.Out k) why is code = absurd code
+packet_fails config a (side.Home i) p (place.Out k) why is code = absurd code
+
+pub refused_fails_first : RefusedFailsFirst
+refused_fails_first config a p s why read from code =
+    let same : admission config a ≡ packet_admission config a s p a.at =
+    as_sent config a p read ∙ ap (sent_admission config a p) from ∙ judged_is config a s p code in
+    let found = packet_fails config a s p a.at why refl code in
+    (λ h. found.0 (sym same ∙ h), λ h. same ∙ found.1 h)

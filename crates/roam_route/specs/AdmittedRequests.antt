@@ -1,0 +1,183 @@
+-- Which requests are admitted, as facts: the tests by which `admission` chooses find no fault just where
+-- they hold (RFC 2865, RFC 2866, RFC 3579, RFC 5176; the order of the checks is ours).
+use Rattle.std.specs.Prelude.{◌≡◌, ◌≢◌, ◌⊎◌, ◌↔◌, ℕ, ◌+◌, ◌<◌, ◌≤◌, ◌==◌, Bool, false, List, [], ◌∷◌, length, Option, Some, None, IsTrue, IsSome, Ok, Err, if◌then◌else◌}
+use Rattle.roam_wire.specs.Packet.{Packet, packet_text}
+use Rattle.roam_wire.specs.Attributes.{count_of, first_value}
+use Rattle.roam_wire.specs.Reading.{reading}
+use Rattle.roam_wire.specs.declared.attribute_type.TheConstants.{CHAP_PASSWORD, EAP_MESSAGE, MESSAGE_AUTHENTICATOR, PROXY_STATE, USER_PASSWORD}
+use Rattle.roam_wire.specs.declared.code.TheConstants.{ACCESS_REQUEST, ACCOUNTING_REQUEST, COA_REQUEST, DISCONNECT_REQUEST}
+use Rattle.roam_wire.specs.declared.packet_size.TheConstants.{MAX_PACKET_LENGTH}
+use Rattle.roam_wire.specs.declared.refusal.Refusal.{Refusal}
+use Rattle.roam_wire.specs.declared.refusal.Refusal.TheVariants as refusal
+use Rattle.roam_auth.specs.Authenticators.{IsSignedRequest, zero_octets}
+use Rattle.roam_auth.specs.MessageAuthenticator.{IsWellSealed}
+use Rattle.roam_hide.specs.Hiding.{IsPasswordSize}
+use Rattle.roam_conf.specs.Config.{ConfigView}
+use Rattle.roam_conf.specs.declared.place.Place.{Place}
+use Rattle.roam_conf.specs.declared.place.Place.TheVariants as place
+use Rattle.roam_fwd.specs.Forwarded.{Forwarding, forwarded, forwarded_length}
+use Rattle.roam_route.specs.Admission.{Arrival, PlainJob, admission, admitted, home_secret, is_status_request, peer_secret, refused, seal_required, sender}
+use Rattle.roam_route.specs.LocalAnswer.{answer_length}
+use Rattle.roam_route.specs.UserName.{realm_of}
+use Rattle.roam_route.specs.declared.job.Side.{Side}
+use Rattle.roam_route.specs.declared.job.Side.TheVariants as side
+
+-- a code is of a request that a sender sends to a place: a peer's Access-Request to where those are taken
+-- (RFC 2865, section 4.1), its Accounting-Request to where those are (RFC 2866, section 4.1), and a home
+-- server's Disconnect-Request or CoA-Request to where its realm takes them (RFC 5176, section 2.3)
+abbrev pub IsRequestAt : Place → Side → ℕ → Type 0
+IsRequestAt place.Auth (side.Peer i) code = code ≡ ACCESS_REQUEST
+IsRequestAt place.Acct (side.Peer i) code = code ≡ ACCOUNTING_REQUEST
+IsRequestAt (place.Reverse realm) (side.Home i) code =
+    (code ≡ DISCONNECT_REQUEST) ⊎ (code ≡ COA_REQUEST)
+IsRequestAt _ _ code = ⊥
+
+-- the secret that the sender of a request shares with the broker (RFC 2865, section 3)
+abbrev pub shared_secret : ConfigView → Place → Side → List ℕ
+shared_secret config at (side.Peer i) = peer_secret config i
+shared_secret config (place.Reverse realm) (side.Home i) = home_secret config realm i
+shared_secret config _ _ = []
+
+-- a request is signed where its code has a signature: each but an Access-Request (RFC 2866, section 3;
+-- RFC 5176, section 2.3)
+abbrev pub IsRightlySigned : List ℕ → Packet → Type 0
+IsRightlySigned secret p = p.code ≢ ACCESS_REQUEST → IsSignedRequest secret p
+
+-- the Authenticator over which a request's Message-Authenticator stands: its own in an Access-Request
+-- (RFC 3579, section 3.2), zeros in any other (RFC 5176, section 3.4; in accounting ours)
+abbrev pub sealing_authenticator : Packet → List ℕ
+sealing_authenticator p = if p.code == ACCESS_REQUEST then p.authenticator else zero_octets
+
+-- an Access-Request has a Message-Authenticator where it has an EAP-Message (RFC 3579, section 3.1), and
+-- where its sender is required to seal (ours)
+abbrev pub HasNeededSeal : Bool → Packet → Type 0
+HasNeededSeal required p =
+    p.code ≡ ACCESS_REQUEST → (0 < count_of EAP_MESSAGE p.attributes) ⊎ IsTrue required
+    → 0 < count_of MESSAGE_AUTHENTICATOR p.attributes
+
+-- where there is a limit of hops, no more proxies than that forwarded it: each adds a Proxy-State (RFC
+-- 2865, section 5.33; the limit is ours)
+abbrev pub HasFewHops : Option ℕ → Packet → Type 0
+HasFewHops most p = (limit : ℕ) → most ≡ Some limit → count_of PROXY_STATE p.attributes ≤ limit
+
+-- the passwords of an Access-Request can be carried: at most one User-Password, none beside a
+-- CHAP-Password, and of 16 to 128 octets in whole blocks (RFC 2865, sections 4.1 and 5.2)
+pub record HasGoodPasswords (p : Packet) : Type 0 where
+  pub one : count_of USER_PASSWORD p.attributes ≤ 1
+  pub apart : 0 < count_of USER_PASSWORD p.attributes → count_of CHAP_PASSWORD p.attributes ≡ 0
+  pub size : (value : List ℕ) → first_value USER_PASSWORD p.attributes ≡ Some value
+      → IsPasswordSize (length value)
+
+-- the realm that a request is for: of a home server's the realm of its place, whatever it names; of a
+-- peer's the one that its User-Name names (RFC 2865, section 2.3; how a name gives a realm is ours)
+abbrev pub IsForRealm : ConfigView → Place → Packet → ℕ → Type 0
+IsForRealm config (place.Reverse own) p realm = realm ≡ own
+IsForRealm config _ p realm = realm_of config p.attributes ≡ Some realm
+
+-- a request that a realm is given
+pub record IsRightRequest (config : ConfigView) (at : Place) (s : Side) (p : Packet) (realm : ℕ) : Type 0
+  where
+    pub code : IsRequestAt at s p.code
+    pub signed : IsRightlySigned (shared_secret config at s) p
+    pub well_sealed :
+        IsWellSealed (shared_secret config at s) (sealing_authenticator p ∷ []) p
+    pub needed_seal : HasNeededSeal (seal_required config s) p
+    pub hops : HasFewHops config.max_hops p
+    pub passwords : p.code ≡ ACCESS_REQUEST → HasGoodPasswords p
+    pub realm_is : IsForRealm config at p realm
+    pub size : forwarded_length p ≤ MAX_PACKET_LENGTH
+
+-- a job is a packet's: from the place, the source and the sender of the arrival, with the packet's octets
+-- without padding, and the realm that its User-Name names
+pub record IsJobOf (config : ConfigView) (a : Arrival) (p : Packet) (job : PlainJob) : Type 0 where
+  pub place : job.place ≡ a.at
+  pub from : job.from ≡ a.from
+  pub sender : sender config a a.at ≡ Some job.side
+  pub octets : job.octets ≡ packet_text p
+  pub named : job.named ≡ realm_of config p.attributes
+
+-- a job came from a peer or a home server, so it is a request; what a link sends is a reply
+abbrev pub IsOfRequest : Side → Type 0
+IsOfRequest (side.Peer i) = Unit {0}
+IsOfRequest (side.Link l) = ⊥
+IsOfRequest (side.Home i) = Unit {0}
+
+-- an arrival gives a job of a request just where it reads as a packet that is a right request of the job's
+-- sender at its place for the job's realm, and the job is that packet's
+abbrev pub AdmittedIsRight : Type 0
+AdmittedIsRight = (config : ConfigView) (a : Arrival) (p : Packet) (job : PlainJob) →
+    reading a.octets ≡ Ok p → IsOfRequest job.side →
+    (admission config a ≡ admitted job)
+    ↔ (IsJobOf config a p job × IsRightRequest config a.at job.side p job.realm)
+
+-- a refusal is a part's own where that part doesn't hold, and what follows gives it where it does
+abbrev pub FailsFirst : Type 0 → Refusal → (Refusal → Type 0) → Refusal → Type 0
+FailsFirst part own further why = ((part → ⊥) × (why ≡ own)) ⊎ (part × further why)
+
+-- nothing is left to refuse for
+abbrev pub NothingFails : Refusal → Type 0
+NothingFails why = ⊥
+
+-- an Access-Request that isn't answered by a local reject: it names a realm, its passwords can be
+-- carried, and it has few hops (ours)
+pub record IsPassedOn (config : ConfigView) (p : Packet) : Type 0 where
+  pub names : IsSome (realm_of config p.attributes)
+  pub passwords : HasGoodPasswords p
+  pub hops : HasFewHops config.max_hops p
+
+-- why a request isn't forwarded that is signed and sealed as it must be: its hops, its realm, its size,
+-- in this order. An Access-Request fails for the size alone, of its local reject where it gets one
+abbrev pub FailsToGo : ConfigView → Packet → Place → Refusal → Type 0
+FailsToGo config p place.Auth why =
+    (IsPassedOn config p × FailsFirst (forwarded_length p ≤ MAX_PACKET_LENGTH) refusal.TooLong NothingFails why)
+    ⊎ ((IsPassedOn config p → ⊥)
+    × FailsFirst (answer_length p ≤ MAX_PACKET_LENGTH) refusal.TooLong NothingFails why)
+FailsToGo config p (place.Reverse own) why =
+    FailsFirst (HasFewHops config.max_hops p) refusal.TooManyHops
+    (FailsFirst (forwarded_length p ≤ MAX_PACKET_LENGTH) refusal.TooLong NothingFails) why
+FailsToGo config p _ why =
+    FailsFirst (HasFewHops config.max_hops p) refusal.TooManyHops
+    (FailsFirst (IsSome (realm_of config p.attributes)) refusal.NoRealm
+    (FailsFirst (forwarded_length p ≤ MAX_PACKET_LENGTH) refusal.TooLong NothingFails)) why
+
+-- why a request of a sender isn't admitted: the first part that fails, of its signature, its
+-- Message-Authenticator, that it has one where it must, and what is wanted to forward it (the order is ours)
+abbrev pub FailsFor : ConfigView → Place → Side → Packet → Refusal → Type 0
+FailsFor config at s p why =
+    FailsFirst (IsRightlySigned (shared_secret config at s) p) refusal.BadAuthenticator
+    (FailsFirst (IsWellSealed (shared_secret config at s) (sealing_authenticator p ∷ []) p)
+    refusal.BadMessageAuthenticator
+    (FailsFirst (HasNeededSeal (seal_required config s) p) refusal.MissingMessageAuthenticator
+    (FailsToGo config p at))) why
+
+-- a request is refused just for the first part that fails
+abbrev pub RefusedFailsFirst : Type 0
+RefusedFailsFirst = (config : ConfigView) (a : Arrival) (p : Packet) (s : Side) (why : Refusal) →
+    reading a.octets ≡ Ok p → sender config a a.at ≡ Some s → IsRequestAt a.at s p.code →
+    (admission config a ≡ refused why) ↔ FailsFor config a.at s p why
+
+-- what is looked at before: an arrival that reads as no packet is refused for what is wrong with it
+abbrev pub UnreadIsRefused : Type 0
+UnreadIsRefused = (config : ConfigView) (a : Arrival) (why : Refusal) →
+    reading a.octets ≡ Err why → admission config a ≡ refused why
+
+-- a packet of a source that shares no secret with the broker there is refused for that
+abbrev pub UnknownIsRefused : Type 0
+UnknownIsRefused = (config : ConfigView) (a : Arrival) (p : Packet) →
+    reading a.octets ≡ Ok p → sender config a a.at ≡ None → admission config a ≡ refused refusal.UnknownSource
+
+-- and a packet of a peer or a home server for its code, where that isn't of a request there, nor of a
+-- Status-Server that is answered
+abbrev pub OtherCodeIsRefused : Type 0
+OtherCodeIsRefused = (config : ConfigView) (a : Arrival) (p : Packet) (s : Side) →
+    reading a.octets ≡ Ok p → sender config a a.at ≡ Some s → IsOfRequest s →
+    (IsRequestAt a.at s p.code → ⊥) → is_status_request config a.at s p.code ≡ false →
+    admission config a ≡ refused refusal.WrongCode
+
+-- what is forwarded of an admitted request has one Proxy-State more than the request, the ticket: so where
+-- there is a limit of hops, at most one more than that (RFC 2865, section 5.33; the limit is ours)
+abbrev pub ForwardedHasFewHops : Type 0
+ForwardedHasFewHops = (config : ConfigView) (a : Arrival) (p : Packet) (job : PlainJob) (f : Forwarding)
+    (limit : ℕ) → reading a.octets ≡ Ok p → IsOfRequest job.side → admission config a ≡ admitted job →
+    config.max_hops ≡ Some limit →
+    count_of PROXY_STATE (forwarded f p).attributes ≤ limit + 1
