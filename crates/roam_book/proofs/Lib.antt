@@ -21,6 +21,7 @@ pub mod RestLemmas
 pub mod RoomLemmas
 pub mod SameBrokerLemmas
 pub mod SendingLemmas
+pub mod SilenceLemmas
 pub mod SoundLemmas
 pub mod TakenLaneLemmas
 pub mod TickLemmas

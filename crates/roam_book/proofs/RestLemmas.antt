@@ -1,5 +1,5 @@
 -- What the events of a realm make of how its links rest.
-use Rattle.std.proofs.Common.{◌≡◌, ℕ, zero, suc, ◌≤◌, ◌+◌, ◌==◌, ◌^◌, Bool, true, false, List, [], ◌∷◌, Option, Some, None, refl, ap, sym, ◌∙◌, arith, cond, get_or, set, length, replicate, ltb, not}
+use Rattle.std.proofs.Common.{◌≡◌, ℕ, zero, suc, ◌==◌, ◌^◌, Bool, true, false, List, [], ◌∷◌, Option, Some, None, refl, ap, sym, ◌∙◌, arith, cond, get_or, set, length, replicate, ltb, not}
 use Rattle.std.specs.Prelude.{nat_eq}
 use Rattle.std.specs.Cmp.Lexicographic.{pointwise}
 use Rattle.std.specs.List.{filter}
@@ -14,125 +14,137 @@ use Rattle.roam_conf.specs.declared.place.Link.TheVariants as link
 use Rattle.roam_pending.specs.declared.due.Due.{Due}
 use Rattle.roam_pending.specs.DueOrder.{due_list}
 use Rattle.roam_pending.specs.PlainEntry.{PlainRequest, PlainStanding, PlainEntry, waiting, done}
-use Rattle.roam_pending.specs.EntryList.{find_client, find_link, find_ticket, first_done, without, without_client}
+use Rattle.roam_pending.specs.EntryList.{find_client, find_link, find_ticket, first_done, without_client}
 use Rattle.roam_book.specs.RealmConfig.{RealmConfig, link_place, link_secret, seal_required, server_link_count}
-use Rattle.roam_book.specs.RealmState.{RealmState, Target, opening, chosen_target, first_target, ready_links}
-use Rattle.roam_book.specs.Rests.{after_choice, after_reply, after_silence, all_awake, awake, is_resting, once_chosen, rest_of, stands_back}
+use Rattle.roam_book.specs.RealmState.{RealmState, Target, opening, chosen_target, first_target}
+use Rattle.roam_book.specs.Rests.{after_choice, after_reply, after_silence, all_awake, awake, is_resting, once_chosen, stands_back}
 use Rattle.roam_book.specs.RestLaws.{AccessServersNeverStandBack, AwakeTheFirstIsChosen, WithoutRestAllStayAwake}
-use Rattle.roam_book.specs.Turn.{Turn, refuses, state_after}
-use Rattle.roam_book.specs.OnRequest.{admit, at_target, is_reverse, make_way, nak_or_new, new_request, of_key, on_request, reverse_cause, targets}
+use Rattle.roam_book.specs.Turn.{Turn, state_after}
+use Rattle.roam_book.specs.OnRequest.{admit, at_target, is_reverse, make_way, nak_or_new, of_key, on_request, reverse_cause, targets}
 use Rattle.roam_book.specs.OnReply.{judge, on_reply, reply_fault, returning, to_entry, to_standing}
-use Rattle.roam_book.specs.OnTick.{Progress, due_each, due_entry, due_one, due_standing, fail_over, given_up_at, on_tick, once_refused}
+use Rattle.roam_book.specs.OnTick.{Progress, due_each, due_entry, due_one, due_standing, fail_over, given_up_at, once_refused}
 use Rattle.roam_book.specs.OneRealm.{RealmEvent, on_event, one_realm_run, reply_came, request_came, tick_came}
 use Rattle.roam_book.specs.declared.state.rest.Rest.{Rest}
-use Rattle.roam_book.specs.declared.state.start.Start.{Start}
 
-either : {X : Type 0} (P : X → Type 0) (test : Bool) (one other : X) → P one → P other
+pub either : {X : Type 0} (P : X → Type 0) (test : Bool) (one other : X) → P one → P other
     → P (cond test one other)
 either P true one other this that = this
 either P false one other this that = that
 
--- what a choice, a silence and a reply keep of the rests, each event keeps
-module _ (c : RealmConfig) (K : List Rest → Type 0)
-    (chosen : (now : ℕ) (rests : List Rest) (l : Link) → K rests → K (after_choice c now rests l))
-    (silent : (now : ℕ) (rests : List Rest) (l : Link) → K rests → K (after_silence c now rests l))
-    (answered : (rests : List Rest) (l : Link) → K rests → K (after_reply c rests l)) where
-  abbrev After : RealmState → Turn → Type 0
-  After s turn = K (state_after s turn).rests
+-- what holds of the rests that a turn leaves, and of those after some packets
+abbrev pub After : (List Rest → Type 0) → RealmState → Turn → Type 0
+After K s turn = K (state_after s turn).rests
 
+abbrev pub Then : (List Rest → Type 0) → Progress → Type 0
+Then K p = K p.state.rests
+
+-- what a choice keeps of the rests, a request keeps, and an entry that goes to another target
+module _ (c : RealmConfig) (K : List Rest → Type 0)
+    (chosen : (now : ℕ) (rests : List Rest) (l : Link) → K rests → K (after_choice c now rests l)) where
   -- a request
   make_way-keeps : (now : ℕ) (s : RealmState) (es : List PlainEntry) (q : PlainRequest) (t : Target)
-      (o : Option ℕ) → K s.rests → After s (make_way c now s es q t o)
+      (o : Option ℕ) → K s.rests → After K s (make_way c now s es q t o)
   make_way-keeps now s es q t None k = k
   make_way-keeps now s es q t (Some ticket) k = chosen now s.rests t.link k
 
   at_target-keeps : (now : ℕ) (s : RealmState) (es : List PlainEntry) (q : PlainRequest)
-      (o : Option Target) → K s.rests → After s (at_target c now s es q o)
+      (o : Option Target) → K s.rests → After K s (at_target c now s es q o)
   at_target-keeps now s es q None k = k
   at_target-keeps now s es q (Some t) k =
-      either (After s) (ltb (length es) c.realm.max_pending) (admit c now s es q t)
+      either (After K s) (ltb (length es) c.realm.max_pending) (admit c now s es q t)
       (make_way c now s es q t (first_done es)) (chosen now s.rests t.link k)
       (make_way-keeps now s es q t (first_done es) k)
 
   nak_or_new-keeps : (now : ℕ) (s : RealmState) (q : PlainRequest) (why : Option ℕ) → K s.rests
-      → After s (nak_or_new c now s q why)
+      → After K s (nak_or_new c now s q why)
   nak_or_new-keeps now s q None k =
       let es = without_client q.key s.entries in
-      either (After s) (s.ticket == 2 ^ 63) _ _ k
+      either (After K s) (s.ticket == 2 ^ 63) _ _ k
       (at_target-keeps now s es q (chosen_target c now s.rests s.cursors es (targets c q)) k)
   nak_or_new-keeps now s q (Some why) k = k
 
   of_key-keeps : (now : ℕ) (s : RealmState) (named : Option ℕ) (q : PlainRequest)
-      (o : Option PlainEntry) → K s.rests → After s (of_key c now s named q o)
+      (o : Option PlainEntry) → K s.rests → After K s (of_key c now s named q o)
   of_key-keeps now s named q None k = nak_or_new-keeps now s q (reverse_cause c s named q) k
   of_key-keeps now s named q (Some e) k =
-      either (After s) (pointwise nat_eq e.request.octets q.octets) _ _ k
+      either (After K s) (pointwise nat_eq e.request.octets q.octets) _ _ k
       (nak_or_new-keeps now s q (reverse_cause c s named q) k)
-
-  -- a reply
-  judge-keeps : (now : ℕ) (s : RealmState) (e : PlainEntry) (l : Link) (forwarded reply : Packet)
-      (why : Option Refusal) → K s.rests → After s (judge c now s e l forwarded reply why)
-  judge-keeps now s e l forwarded reply (Some why) k = k
-  judge-keeps now s e l forwarded reply None k =
-      either (After s)
-      (ltb 4096 (returned_length (returning c e.request l forwarded) reply (packet_of e.request.octets)))
-      _ _ k (answered s.rests l k)
-
-  to_standing-keeps : (now : ℕ) (s : RealmState) (e : PlainEntry) (reply : Packet) (p : PlainStanding)
-      → K s.rests → After s (to_standing c now s e reply p)
-  to_standing-keeps now s e reply (waiting l id forwarded sends_left deadline) k =
-      judge-keeps now s e l (packet_of forwarded) reply
-      (reply_fault (link_secret c l) (seal_required c l) reply (packet_of forwarded)) k
-  to_standing-keeps now s e reply (done old deadline) k = k
-
-  to_entry-keeps : (now : ℕ) (s : RealmState) (reply : Packet) (o : Option PlainEntry) → K s.rests
-      → After s (to_entry c now s reply o)
-  to_entry-keeps now s reply None k = k
-  to_entry-keeps now s reply (Some e) k = to_standing-keeps now s e reply e.standing k
-
-  -- a tick
-  abbrev Then : Progress → Type 0
-  Then p = K p.state.rests
 
   refused-keeps : (now : ℕ) (s : RealmState) (e : PlainEntry) (octets : List ℕ) → K s.rests
       → K (once_refused c now s e octets).rests
   refused-keeps now s e octets k =
       either (λ (t : RealmState). K t.rests) (ltb 0 c.realm.hold) _ _ k k
 
-  fail_over-keeps : (now : ℕ) (s : RealmState) (e : PlainEntry) (o : Option Target) → K s.rests
-      → Then (fail_over c now s e o)
+  pub fail_over-keeps : (now : ℕ) (s : RealmState) (e : PlainEntry) (o : Option Target) → K s.rests
+      → Then K (fail_over c now s e o)
   fail_over-keeps now s e None k =
-      either Then (is_reverse e.request) _ _ (refused-keeps now s e _ k) k
+      either (Then K) (is_reverse e.request) _ _ (refused-keeps now s e _ k) k
   fail_over-keeps now s e (Some t) k = chosen now s.rests t.link k
 
+  pub request-keeps : (now : ℕ) (s : RealmState) (named : Option ℕ) (q : PlainRequest) → K s.rests
+      → After K s (on_request c now s named q)
+  request-keeps now s named q k =
+      either (After K s) (ltb (2 ^ 62) now) _ _ k
+      (of_key-keeps now s named q (find_client q.key s.entries) k)
+
+-- what a reply keeps of them, a reply keeps
+module _ (c : RealmConfig) (K : List Rest → Type 0)
+    (answered : (rests : List Rest) (l : Link) → K rests → K (after_reply c rests l)) where
+  judge-keeps : (now : ℕ) (s : RealmState) (e : PlainEntry) (l : Link) (forwarded reply : Packet)
+      (why : Option Refusal) → K s.rests → After K s (judge c now s e l forwarded reply why)
+  judge-keeps now s e l forwarded reply (Some why) k = k
+  judge-keeps now s e l forwarded reply None k =
+      either (After K s)
+      (ltb 4096 (returned_length (returning c e.request l forwarded) reply (packet_of e.request.octets)))
+      _ _ k (answered s.rests l k)
+
+  to_standing-keeps : (now : ℕ) (s : RealmState) (e : PlainEntry) (reply : Packet) (p : PlainStanding)
+      → K s.rests → After K s (to_standing c now s e reply p)
+  to_standing-keeps now s e reply (waiting l id forwarded sends_left deadline) k =
+      judge-keeps now s e l (packet_of forwarded) reply
+      (reply_fault (link_secret c l) (seal_required c l) reply (packet_of forwarded)) k
+  to_standing-keeps now s e reply (done old deadline) k = k
+
+  to_entry-keeps : (now : ℕ) (s : RealmState) (reply : Packet) (o : Option PlainEntry) → K s.rests
+      → After K s (to_entry c now s reply o)
+  to_entry-keeps now s reply None k = k
+  to_entry-keeps now s reply (Some e) k = to_standing-keeps now s e reply e.standing k
+
+  pub reply-keeps : (now : ℕ) (s : RealmState) (l : Link) (octets : List ℕ) → K s.rests
+      → After K s (on_reply c now s l octets)
+  reply-keeps now s l octets k =
+      either (After K s) (ltb (2 ^ 62) now) _ _ k
+      (to_entry-keeps now s (packet_of octets) (find_link l (packet_of octets).id s.entries) k)
+
+-- what all three keep, each event keeps
+module _ (c : RealmConfig) (K : List Rest → Type 0)
+    (chosen : (now : ℕ) (rests : List Rest) (l : Link) → K rests → K (after_choice c now rests l))
+    (silent : (now : ℕ) (rests : List Rest) (l : Link) → K rests → K (after_silence c now rests l))
+    (answered : (rests : List Rest) (l : Link) → K rests → K (after_reply c rests l)) where
   due_standing-keeps : (now : ℕ) (s : RealmState) (e : PlainEntry) (p : PlainStanding) → K s.rests
-      → Then (due_standing c now s e p)
+      → Then K (due_standing c now s e p)
   due_standing-keeps now s e (done reply deadline) k = k
   due_standing-keeps now s e (waiting l id forwarded sends_left deadline) k =
-      either Then (ltb 0 sends_left) _ _ k
-      (fail_over-keeps now (given_up_at c now l s e) e _ (silent now s.rests l k))
+      either (Then K) (ltb 0 sends_left) _ _ k
+      (fail_over-keeps c K chosen now (given_up_at c now l s e) e _ (silent now s.rests l k))
 
   due_entry-keeps : (now : ℕ) (s : RealmState) (o : Option PlainEntry) → K s.rests
-      → Then (due_entry c now s o)
+      → Then K (due_entry c now s o)
   due_entry-keeps now s None k = k
   due_entry-keeps now s (Some e) k = due_standing-keeps now s e e.standing k
 
   due_each-keeps : (now : ℕ) (s : RealmState) (ds : List Due) → K s.rests
-      → Then (due_each c now s ds)
+      → Then K (due_each c now s ds)
   due_each-keeps now s [] k = k
   due_each-keeps now s (d ∷ ds) k =
       due_each-keeps now (due_one c now s d).state ds
       (due_entry-keeps now s (find_ticket d.ticket s.entries) k)
 
-  event-keeps : (s : RealmState) (e : RealmEvent) → K s.rests → After s (on_event c s e)
-  event-keeps s (request_came now named q) k =
-      either (After s) (ltb (2 ^ 62) now) _ _ k
-      (of_key-keeps now s named q (find_client q.key s.entries) k)
-  event-keeps s (reply_came now l octets) k =
-      either (After s) (ltb (2 ^ 62) now) _ _ k
-      (to_entry-keeps now s (packet_of octets) (find_link l (packet_of octets).id s.entries) k)
+  event-keeps : (s : RealmState) (e : RealmEvent) → K s.rests → After K s (on_event c s e)
+  event-keeps s (request_came now named q) k = request-keeps c K chosen now s named q k
+  event-keeps s (reply_came now l octets) k = reply-keeps c K answered now s l octets k
   event-keeps s (tick_came now) k =
-      either (After s) (ltb (2 ^ 62) now) _ _ k (due_each-keeps now s (due_list now s.entries) k)
+      either (After K s) (ltb (2 ^ 62) now) _ _ k (due_each-keeps now s (due_list now s.entries) k)
 
   events-keep : (s : RealmState) (es : List RealmEvent) → K s.rests
       → K (one_realm_run c s es).state.rests

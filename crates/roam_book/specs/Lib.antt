@@ -9,6 +9,7 @@ pub mod OnTick
 pub mod OneRealm
 pub mod LeastFirst
 pub mod RestLaws
+pub mod Silence
 -- What the contracts of public calls say beside that.
 pub mod BookView
 pub mod LostTicks

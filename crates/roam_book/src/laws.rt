@@ -6,6 +6,7 @@ ghost use Rattle.roam_book.specs.BookView.{EventIsTaken};
 ghost use Rattle.roam_book.specs.LeastFirst.{LeastDueFirst, NoneIsDueAfter};
 ghost use Rattle.roam_book.specs.LostTicks.{NothingIsLost, OnlyDoneGo};
 ghost use Rattle.roam_book.specs.RestLaws.{AccessServersNeverStandBack, AwakeTheFirstIsChosen, WithoutRestAllStayAwake};
+ghost use Rattle.roam_book.specs.Silence.{ChoiceIsNeverWorse, LinksHaveOwnPlaces, RestsOnlyWhenSilent};
 
 /// A tick takes the least due entry, until none is due. Each due entry is taken once, since what waits
 /// again isn't due at that moment: the time from one sending to the next is at least a millisecond.
@@ -26,6 +27,15 @@ pub fn silent_servers()
     ensures none { WithoutRestAllStayAwake }
     ensures first { AwakeTheFirstIsChosen }
     ensures access_servers { AccessServersNeverStandBack }
+{}
+
+/// A link stands back only where it kept silent: of its requests at least `rest_after` were given up, and no
+/// reply from it was taken since. That links stand back leaves no request without a target: one is chosen
+/// just where some link has a free Identifier.
+pub fn rests()
+    ensures places { LinksHaveOwnPlaces }
+    ensures silent { RestsOnlyWhenSilent }
+    ensures choice { ChoiceIsNeverWorse }
 {}
 
 /// What a realm loses where a tick is lost for want of memory: nothing, where no entry of its own is due; and

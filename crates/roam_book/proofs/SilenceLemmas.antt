@@ -1,0 +1,438 @@
+-- A link that stands back kept silent, and a choice among links that stand back is as good as one among all.
+use Rattle.std.proofs.Common.{◌≡◌, ◌⊎◌, ◌≤◌, ◌+◌, ◌==◌, ◌&&◌, ◌^◌, ℕ, zero, suc, Bool, true, false, List, [], ◌∷◌, ◌++◌, Option, Some, None, is_some, refl, ap, sym, subst, ◌∙◌, arith, inl, inr, get_or, set, ltb, not}
+use Rattle.std.specs.Prelude.{nat_lt, nat_le, option_map, if◌then◌else◌}
+use Rattle.std.specs.List.{filter, find}
+use Rattle.std.specs.Option.{option_map_or, option_or}
+use Rattle.std.proofs.lemmas.Bool.{cases_Bool}
+use Rattle.std.proofs.lemmas.Bool.Decides.{Decides-eqb, nat_tests}
+use Rattle.roam_wire.specs.Packet.{Packet}
+use Rattle.roam_wire.specs.Reading.{packet_of}
+use Rattle.roam_wire.specs.declared.refusal.Refusal.{Refusal}
+use Rattle.roam_wire.specs.declared.refusal.Refusal.TheVariants as refusal
+use Rattle.roam_back.specs.Returned.{returned_length}
+use Rattle.roam_conf.specs.declared.place.Link.{Link}
+use Rattle.roam_conf.specs.declared.place.Link.TheVariants as link
+use Rattle.roam_pending.specs.declared.due.Due.{Due}
+use Rattle.roam_pending.specs.DueOrder.{due_list}
+use Rattle.roam_pending.specs.PlainEntry.{PlainStanding, PlainEntry, waiting, done, same_link, stands_at, waits_at}
+use Rattle.roam_pending.specs.EntryList.{find_link, find_ticket}
+use Rattle.roam_book.specs.RealmConfig.{RealmConfig, link_place, link_secret, seal_required}
+use Rattle.roam_book.specs.RealmState.{RealmState, Target, first_target, next_toward, ready_links, this_or}
+use Rattle.roam_book.specs.Rests.{after_choice, after_reply, after_silence, awake, once_chosen, once_silent, one_more, rest_of, stands_back, with_rest}
+use Rattle.roam_book.specs.Turn.{Turn, latest_moment, refusal_of, refuses, state_after}
+use Rattle.roam_book.specs.OnReply.{judge, on_reply, reply_fault, returning, to_entry, to_standing}
+use Rattle.roam_book.specs.OnTick.{Progress, as_turn, due_each, due_entry, due_one, due_standing, given_up_at}
+use Rattle.roam_book.specs.OneRealm.{RealmEvent, one_realm_run, reply_came, request_came, tick_came}
+use Rattle.roam_book.specs.Silence.{ChoiceIsNeverWorse, LinksHaveOwnPlaces, RestsOnlyWhenSilent, ends_at, ends_there, given_up_by, given_up_in, given_up_over, is_link, once_came, taken_in, taken_over}
+use Rattle.roam_book.specs.declared.state.rest.Rest.{Rest}
+use Rattle.roam_book.proofs.LinkLaneLemmas.{link_place-one}
+use Rattle.roam_book.proofs.RestLemmas.{either, fail_over-keeps, reply-keeps, request-keeps}
+
+pub links-have_own_places : LinksHaveOwnPlaces
+links-have_own_places c l other x y is =
+    link_place-one c other l y x ((Decides-eqb (link_place c other) (link_place c l)).0 is)
+
+-- ---- what a link's rest tells of its silence
+
+-- so many requests were given up, or more; and where it has a moment, `rest_after` were
+record Tells (c : RealmConfig) (n : ℕ) (r : Rest) : Type 0 where
+  counted : r.given_up ≤ n
+  had : is_some r.until ≡ true → c.realm.rest_after ≤ r.given_up
+
+-- of a link among the rests
+abbrev At : RealmConfig → Link → ℕ → List Rest → Type 0
+At c l n rests = Tells c n (rest_of c rests l)
+
+more : (c : RealmConfig) (n m : ℕ) (r : Rest) → n ≤ m → Tells c n r → Tells c m r
+more c n m r least h =
+    let counted = h.counted in
+    record { counted = omega (arith, counted, least); had = h.had }
+
+awake-tells : (c : RealmConfig) (n : ℕ) → Tells c n awake
+awake-tells c n = record { counted = omega arith; had = λ is. absurd (cc is) }
+
+is_some-mapped : (f : ℕ → ℕ) (o : Option ℕ) → is_some (option_map f o) ≡ is_some o
+is_some-mapped f None = refl
+is_some-mapped f (Some x) = refl
+
+chosen-tells : (c : RealmConfig) (n now : ℕ) (r : Rest) → Tells c n r → Tells c n (once_chosen c now r)
+chosen-tells c n now r h = record {
+  counted = h.counted;
+  had = λ is. h.had (sym (is_some-mapped (λ until. now + c.realm.rest) r.until) ∙ is);
+}
+
+-- one more is at most one more, and none less
+more-by : (count : ℕ) → (count ≤ one_more count) × (one_more count ≤ count + 1)
+more-by count =
+    elim (cases_Bool (nat_lt count 256)) [
+      | inl below ↦ rw below (omega arith, omega arith)
+      | inr above ↦ rw above (omega arith, omega arith)
+    ]
+
+moment-by : (b : Bool) (until : ℕ) (o : Option ℕ) → is_some (if b then Some until else o) ≡ true
+    → (b ≡ true) ⊎ (is_some o ≡ true)
+moment-by true until o is = inl refl
+moment-by false until o is = inr is
+
+silent-tells : (c : RealmConfig) (n now : ℕ) (r : Rest) → Tells c n r
+    → Tells c (n + 1) (once_silent c now r)
+silent-tells c n now r h =
+    let counted = h.counted in
+    let one = more-by r.given_up in
+    let least = one.0 in
+    let most = one.1 in
+    record {
+      counted = omega (arith, counted, most);
+      had = λ is.
+          elim (moment-by (nat_le c.realm.rest_after (one_more r.given_up)) (now + c.realm.rest) r.until is) [
+            | inl enough ↦ grind (arith, nat_tests, enough)
+            | inr already ↦ (let before = h.had already in omega (arith, before, least))
+          ];
+    }
+
+-- ---- a rest that is written, read at a link
+
+read_set : (P : Rest → Type 0) (rests : List Rest) (i j : ℕ) (r : Rest)
+    → P (get_or rests j awake) → (i ≡ j → P r) → P (get_or (set rests i r) j awake)
+read_set P [] i j r old new = old
+read_set P (x ∷ xs) zero zero r old new = new refl
+read_set P (x ∷ xs) zero (suc j) r old new = old
+read_set P (x ∷ xs) (suc i) zero r old new = old
+read_set P (x ∷ xs) (suc i) (suc j) r old new =
+    read_set P xs i j r old (λ is. new (ap (λ (n : ℕ). suc n) is))
+
+woken_there : (rests : List Rest) (i : ℕ) → get_or (set rests i awake) i awake ≡ awake
+woken_there [] i = refl
+woken_there (x ∷ xs) zero = refl
+woken_there (x ∷ xs) (suc i) = woken_there xs i
+
+-- what is read at an equal place
+same-read : (c : RealmConfig) (n : ℕ) (rests : List Rest) (i j : ℕ) → i ≡ j
+    → Tells c n (get_or rests j awake) → Tells c n (get_or rests i awake)
+same-read c n rests i j is h = subst (λ (k : ℕ). Tells c n (get_or rests k awake)) (sym is) h
+
+-- a list of events, from one of which on a link kept silent, and what its rest tells at the end
+record SilentSince (c : RealmConfig) (l : Link) (s : RealmState) (events : List RealmEvent) : Type 0 where
+  before : List RealmEvent
+  since : List RealmEvent
+  all : events ≡ before ++ since
+  no_reply : taken_over c (one_realm_run c s before).state l since ≡ 0
+  tells : At c l (given_up_over c (one_realm_run c s before).state l since) (one_realm_run c s events).state.rests
+
+module _ (c : RealmConfig) (l : Link) where
+  chosen-at : (n now : ℕ) (rests : List Rest) (k : Link) → At c l n rests
+      → At c l n (after_choice c now rests k)
+  chosen-at n now rests k h =
+      read_set (Tells c n) rests (link_place c k) (link_place c l) (once_chosen c now (rest_of c rests k)) h
+      (λ is. chosen-tells c n now (rest_of c rests k)
+      (same-read c n rests (link_place c k) (link_place c l) is h))
+
+  answered-at : (n : ℕ) (rests : List Rest) (k : Link) → At c l n rests → At c l n (after_reply c rests k)
+  answered-at n rests k h =
+      read_set (Tells c n) rests (link_place c k) (link_place c l) awake h (λ is. awake-tells c n)
+
+  -- by whether it is the link
+  abbrev one_if : Bool → ℕ
+  one_if b = if b then 1 else 0
+
+  written-at : (n now : ℕ) (rests : List Rest) (k : Link) → At c l n rests
+      → At c l (n + one_if (is_link c l k)) (with_rest c rests k (once_silent c now (rest_of c rests k)))
+  written-at n now rests k h =
+      let least : n ≤ n + one_if (is_link c l k) = omega arith in
+      read_set (Tells c (n + one_if (is_link c l k))) rests (link_place c k) (link_place c l)
+      (once_silent c now (rest_of c rests k)) (more c n (n + one_if (is_link c l k)) (rest_of c rests l) least h)
+      (λ is.
+      let here : is_link c l k ≡ true = (Decides-eqb (link_place c k) (link_place c l)).1 is in
+      subst (λ (b : Bool). Tells c (n + one_if b) (once_silent c now (rest_of c rests k))) (sym here)
+      (silent-tells c n now (rest_of c rests k)
+      (same-read c n rests (link_place c k) (link_place c l) is h)))
+
+  silent-at : (n now : ℕ) (rests : List Rest) (k : Link) → At c l n rests
+      → At c l (n + one_if (is_link c l k)) (after_silence c now rests k)
+  silent-at n now rests k h =
+      either (At c l (n + one_if (is_link c l k))) (nat_lt 0 c.realm.rest)
+      (with_rest c rests k (once_silent c now (rest_of c rests k))) rests (written-at n now rests k h)
+      (more c n (n + one_if (is_link c l k)) (rest_of c rests l) (omega arith) h)
+
+  -- ---- a tick
+
+  -- an entry that waits, by whether it has a send left
+  waits-by : (b there : Bool) (n : ℕ) (again over : Progress) → At c l n again.state.rests
+      → At c l (n + one_if there) over.state.rests
+      → At c l (n + one_if (there && not b)) (if b then again else over).state.rests
+  waits-by true true n again over first second = more c n (n + 0) (rest_of c again.state.rests l) (omega arith) first
+  waits-by true false n again over first second = more c n (n + 0) (rest_of c again.state.rests l) (omega arith) first
+  waits-by false true n again over first second = second
+  waits-by false false n again over first second = second
+
+  standing-at : (n now : ℕ) (s : RealmState) (e : PlainEntry) (p : PlainStanding) → At c l n s.rests
+      → At c l (n + one_if (ends_at c l p)) (due_standing c now s e p).state.rests
+  standing-at n now s e (done reply deadline) h = more c n (n + 0) (rest_of c s.rests l) (omega arith) h
+  standing-at n now s e (waiting k id forwarded sends_left deadline) h =
+      let m = n + one_if (is_link c l k) in
+      waits-by (nat_lt 0 sends_left) (is_link c l k) n _ _ h
+      (fail_over-keeps c (At c l m) (chosen-at m) now (given_up_at c now k s e) e _ (silent-at n now s.rests k h))
+
+  entry-at : (n now : ℕ) (s : RealmState) (o : Option PlainEntry) → At c l n s.rests
+      → At c l (n + ends_there c l o) (due_entry c now s o).state.rests
+  entry-at n now s None h = more c n (n + 0) (rest_of c s.rests l) (omega arith) h
+  entry-at n now s (Some e) h = standing-at n now s e e.standing h
+
+  each-at : (n now : ℕ) (s : RealmState) (ds : List Due) → At c l n s.rests
+      → At c l (n + given_up_by c now s l ds) (due_each c now s ds).state.rests
+  each-at n now s [] h = more c n (n + 0) (rest_of c s.rests l) (omega arith) h
+  each-at n now s (d ∷ ds) h =
+      let first = ends_there c l (find_ticket d.ticket s.entries) in
+      let others = given_up_by c now (due_one c now s d).state l ds in
+      more c (n + first + others) (n + (first + others))
+      (rest_of c (due_each c now (due_one c now s d).state ds).state.rests l) (omega arith)
+      (each-at (n + first) now (due_one c now s d).state ds
+      (entry-at n now s (find_ticket d.ticket s.entries) h))
+
+  tick-by : (b : Bool) (n count : ℕ) (s : RealmState) (p : Progress) → At c l n s.rests
+      → At c l (n + count) p.state.rests
+      → At c l (n + (if b then 0 else count))
+      (state_after s (if b then refuses refusal.Moment else as_turn p)).rests
+  tick-by true n count s p old new = more c n (n + 0) (rest_of c s.rests l) (omega arith) old
+  tick-by false n count s p old new = new
+
+  -- ---- a reply
+
+  -- one that is taken wakes its link
+  abbrev Wakes : RealmState → Turn → Type 0
+  Wakes s turn = refusal_of turn ≡ None → At c l 0 (state_after s turn).rests
+
+  found_is : (p : PlainEntry → Bool) (es : List PlainEntry) (e : PlainEntry) → find p es ≡ Some e
+      → p e ≡ true
+  found_is p [] e is = absurd (cc is)
+  found_is p (x ∷ xs) e is =
+      elim (cases_Bool (p x)) [
+        | inl found ↦ (
+            let some : Some x ≡ Some e = rw found at is in
+            let same : x ≡ e = cc some in
+            subst (λ (y : PlainEntry). p y ≡ true) same found
+            )
+        | inr further ↦ (
+            let rest : find p xs ≡ Some e = rw further at is in
+            found_is p xs e rest
+            )
+      ]
+
+  both_true : (a b : Bool) → (a && b) ≡ true → a ≡ true
+  both_true true b is = refl
+  both_true false b is = absurd (cc is)
+
+  same_place : (a b : Link) → same_link a b ≡ true → link_place c a ≡ link_place c b
+  same_place (link.Auth a) (link.Auth b) is = (Decides-eqb a b).0 is
+  same_place (link.Acct a) (link.Acct b) is =
+      ap (λ (n : ℕ). link_place c (link.Acct n)) ((Decides-eqb a b).0 is)
+  same_place (link.Coa a) (link.Coa b) is =
+      ap (λ (n : ℕ). link_place c (link.Coa n)) ((Decides-eqb a b).0 is)
+  same_place (link.Auth a) (link.Acct b) is = absurd (cc is)
+  same_place (link.Auth a) (link.Coa b) is = absurd (cc is)
+  same_place (link.Acct a) (link.Auth b) is = absurd (cc is)
+  same_place (link.Acct a) (link.Coa b) is = absurd (cc is)
+  same_place (link.Coa a) (link.Auth b) is = absurd (cc is)
+  same_place (link.Coa a) (link.Acct b) is = absurd (cc is)
+
+  refuses-wakes : (s : RealmState) (why : Refusal) → Wakes s (refuses why)
+  refuses-wakes s why = λ is. absurd (cc is)
+
+  woken-at : (rests : List Rest) (k : Link) → link_place c k ≡ link_place c l
+      → At c l 0 (after_reply c rests k)
+  woken-at rests k is =
+      subst (λ (i : ℕ). Tells c 0 (get_or (set rests (link_place c k) awake) i awake)) is
+      (subst (Tells c 0) (sym (woken_there rests (link_place c k))) (awake-tells c 0))
+
+  judge-wakes : (now : ℕ) (s : RealmState) (e : PlainEntry) (k : Link) (forwarded reply : Packet)
+      (why : Option Refusal) → link_place c k ≡ link_place c l
+      → Wakes s (judge c now s e k forwarded reply why)
+  judge-wakes now s e k forwarded reply (Some why) is = refuses-wakes s why
+  judge-wakes now s e k forwarded reply None is =
+      either (Wakes s)
+      (ltb 4096 (returned_length (returning c e.request k forwarded) reply (packet_of e.request.octets)))
+      _ _ (refuses-wakes s refusal.ReplyTooLong) (λ taken. woken-at s.rests k is)
+
+  standing-wakes : (now : ℕ) (s : RealmState) (e : PlainEntry) (from : Link) (id : ℕ) (reply : Packet)
+      (p : PlainStanding) → stands_at from id p ≡ true → link_place c from ≡ link_place c l
+      → Wakes s (to_standing c now s e reply p)
+  standing-wakes now s e from id reply (waiting k i forwarded sends_left deadline) at is =
+      let same = same_place k from (both_true (same_link k from) (i == id) at) in
+      judge-wakes now s e k (packet_of forwarded) reply
+      (reply_fault (link_secret c k) (seal_required c k) reply (packet_of forwarded)) (same ∙ is)
+  standing-wakes now s e from id reply (done old deadline) at is = refuses-wakes s refusal.NoEntry
+
+  entry-wakes : (now : ℕ) (s : RealmState) (from : Link) (id : ℕ) (reply : Packet)
+      (o : Option PlainEntry) → find_link from id s.entries ≡ o → link_place c from ≡ link_place c l
+      → Wakes s (to_entry c now s reply o)
+  entry-wakes now s from id reply None found is = refuses-wakes s refusal.NoEntry
+  entry-wakes now s from id reply (Some e) found is =
+      standing-wakes now s e from id reply e.standing (found_is (waits_at from id) s.entries e found) is
+
+  reply-wakes : (now : ℕ) (s : RealmState) (from : Link) (octets : List ℕ)
+      → link_place c from ≡ link_place c l → Wakes s (on_reply c now s from octets)
+  reply-wakes now s from octets is =
+      let id = (packet_of octets).id in
+      either (Wakes s) (ltb (2 ^ 62) now) (refuses refusal.Moment)
+      (to_entry c now s (packet_of octets) (find_link from id s.entries)) (refuses-wakes s refusal.Moment)
+      (entry-wakes now s from id (packet_of octets) (find_link from id s.entries) refl is)
+
+  -- ---- an event, and a list of them
+
+  none_or_some : (o : Option Refusal) → (o ≡ None) ⊎ (is_some o ≡ true)
+  none_or_some None = inl refl
+  none_or_some (Some why) = inr refl
+
+  -- how many are taken, by whether it is the link and whether it is refused
+  abbrev taken_if : Bool → Option Refusal → ℕ
+  taken_if here why = if here && not (is_some why) then 1 else 0
+
+  none_taken : (here : Bool) (why : Option Refusal) → is_some why ≡ true → taken_if here why ≡ 0
+  none_taken true None is = absurd (cc is)
+  none_taken true (Some why) is = refl
+  none_taken false why is = refl
+
+  abbrev Steps : ℕ → RealmState → RealmEvent → Type 0
+  Steps n s e =
+      At c l 0 (once_came c s e).rests
+      ⊎ ((taken_in c s l e ≡ 0) × At c l (n + given_up_in c s l e) (once_came c s e).rests)
+
+  event-at : (n : ℕ) (s : RealmState) (e : RealmEvent) → At c l n s.rests → Steps n s e
+  event-at n s (request_came now named q) h =
+      inr (
+        refl,
+        request-keeps c (At c l (n + 0)) (chosen-at (n + 0)) now s named q
+            (more c n (n + 0) (rest_of c s.rests l) (omega arith) h),
+      )
+  event-at n s (tick_came now) h =
+      inr (
+        refl,
+        tick-by (nat_lt latest_moment now) n (given_up_by c now s l (due_list now s.entries)) s
+            (due_each c now s (due_list now s.entries)) h (each-at n now s (due_list now s.entries) h),
+      )
+  event-at n s (reply_came now from octets) h =
+      let turn : Turn = on_reply c now s from octets in
+      let kept = reply-keeps c (At c l (n + 0)) (answered-at (n + 0)) now s from octets
+      (more c n (n + 0) (rest_of c s.rests l) (omega arith) h) in
+      elim (cases_Bool (is_link c l from)) [
+        | inl here ↦ elim (none_or_some (refusal_of turn)) [
+          | inl taken ↦
+              let place = (Decides-eqb (link_place c from) (link_place c l)).0 here in
+              inl (reply-wakes now s from octets place taken)
+          | inr refused ↦ inr (none_taken (is_link c l from) (refusal_of turn) refused, kept)
+        ]
+        | inr elsewhere ↦ inr (ap (λ (b : Bool). taken_if b (refusal_of turn)) elsewhere, kept)
+      ]
+
+  abbrev SilentAll : ℕ → RealmState → List RealmEvent → Type 0
+  SilentAll n s events =
+      (taken_over c s l events ≡ 0)
+      × At c l (n + given_up_over c s l events) (one_realm_run c s events).state.rests
+
+  later : (s : RealmState) (e : RealmEvent) (es : List RealmEvent) → SilentSince c l (once_came c s e) es
+      → SilentSince c l s (e ∷ es)
+  later s e es h = record {
+    before = e ∷ h.before;
+    since = h.since;
+    all = ap (λ (xs : List RealmEvent). e ∷ xs) h.all;
+    no_reply = h.no_reply;
+    tells = h.tells;
+  }
+
+  events-at : (n : ℕ) (s : RealmState) (events : List RealmEvent) → At c l n s.rests
+      → SilentAll n s events ⊎ SilentSince c l s events
+  events-at n s [] h = inl (refl, more c n (n + 0) (rest_of c s.rests l) (omega arith) h)
+  events-at n s (e ∷ es) h =
+      let next : RealmState = once_came c s e in
+      let left : Rest = rest_of c (one_realm_run c next es).state.rests l in
+      elim (event-at n s e h) [
+        | inl woken ↦ elim (events-at 0 next es woken) [
+          | inl silent ↦ inr (record {
+            before = e ∷ [];
+            since = es;
+            all = refl;
+            no_reply = silent.0;
+            tells = more c (0 + given_up_over c next l es) (given_up_over c next l es) left (omega arith) silent.1;
+          })
+          | inr since ↦ inr (later s e es since)
+        ]
+        | inr silent ↦
+            let count = given_up_in c s l e in
+            let others = given_up_over c next l es in
+            elim (events-at (n + count) next es silent.1) [
+              | inl going ↦ (
+                  let first = silent.0 in
+                  let rest = going.0 in
+                  inl (omega (arith, first, rest), more c (n + count + others) (n + (count + others)) left (omega arith) going.1)
+                  )
+              | inr since ↦ inr (later s e es since)
+            ]
+      ]
+
+-- ---- the laws
+
+resting_some : (now : ℕ) (o : Option ℕ) → option_map_or (λ until. nat_lt now until) o false ≡ true
+    → is_some o ≡ true
+resting_some now None is = absurd (cc is)
+resting_some now (Some until) is = refl
+
+enough : (c : RealmConfig) (n now : ℕ) (r : Rest) → Tells c n r
+    → option_map_or (λ until. nat_lt now until) r.until false ≡ true → c.realm.rest_after ≤ n
+enough c n now r h is =
+    let counted = h.counted in
+    let had = h.had (resting_some now r.until is) in
+    omega (arith, counted, had)
+
+pub rests-only_when_silent : RestsOnlyWhenSilent
+rests-only_when_silent c s l events now wakes stands =
+    let left : Rest = rest_of c (one_realm_run c s events).state.rests l in
+    elim (events-at c l 0 s events (subst (Tells c 0) (sym wakes) (awake-tells c 0))) [
+      | inl silent ↦ record {
+        before = [];
+        since = events;
+        all = refl;
+        no_reply = silent.0;
+        given_up = enough c (given_up_over c s l events) now left
+            (more c (0 + given_up_over c s l events) (given_up_over c s l events) left (omega arith) silent.1) stands;
+      }
+      | inr silent ↦ record {
+        before = silent.before;
+        since = silent.since;
+        all = silent.all;
+        no_reply = silent.no_reply;
+        given_up = enough c (given_up_over c (one_realm_run c s silent.before).state l silent.since) now left silent.tells stands;
+      }
+    ]
+
+-- where none is found among all links, none is among fewer
+none_or : (l : Link) (o : Option ℕ) (others : Option Target) → this_or l o others ≡ None
+    → (o ≡ None) × (others ≡ None)
+none_or l None others is = (refl, is)
+none_or l (Some id) others is = absurd (cc is)
+
+none-fewer : (c : RealmConfig) (cursors : List ℕ) (entries : List PlainEntry) (p : Link → Bool)
+    (links : List Link) → first_target c cursors entries links ≡ None
+    → first_target c cursors entries (filter p links) ≡ None
+none-fewer c cursors entries p [] is = refl
+none-fewer c cursors entries p (l ∷ ls) is =
+    let both = none_or l (next_toward c cursors entries l) (first_target c cursors entries ls) is in
+    let others = none-fewer c cursors entries p ls both.1 in
+    elim (cases_Bool (p l)) [
+      | inl kept ↦ rw kept (
+          ap (λ (o : Option ℕ). this_or l o (first_target c cursors entries (filter p ls))) both.0 ∙ others
+          )
+      | inr left_out ↦ rw left_out others
+    ]
+
+some-by : (one other : Option Target) → (other ≡ None → one ≡ None)
+    → is_some (option_or one other) ≡ is_some other
+some-by None None h = refl
+some-by None (Some t) h = refl
+some-by (Some t) None h = absurd (cc (h refl))
+some-by (Some t) (Some u) h = refl
+
+pub choice-is_never_worse : ChoiceIsNeverWorse
+choice-is_never_worse c now rests cursors entries links =
+    some-by (first_target c cursors entries (ready_links c now rests links))
+    (first_target c cursors entries links)
+    (none-fewer c cursors entries (λ k. not (stands_back c now rests k)) links)
