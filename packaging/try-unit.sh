@@ -6,7 +6,7 @@
 # configuration, whose sockets must be on 127.0.0.1 (examples/two-realms.conf without it).
 #
 # It fails unless the unit starts as a user of its own with no capability, with a copy of the configuration that it alone
-# can read; stays through a SIGHUP; serves a changed file after a reload, and after one that is refused what it served, with
+# can read and root alone can change; stays through a SIGHUP; serves a changed file after a reload, and after one that is refused what it served, with
 # the reason in the journal; is started again after a crash and after a SIGTERM; is gone after a stop; and says in words that
 # there is no configuration, or one that others can read.
 set -euo pipefail
@@ -56,7 +56,7 @@ cat > "$root/usr/local/bin/inside" <<'END'
 exec > /var/told 2>&1
 of() { systemctl show -p "$1" --value roam; }
 status() { grep "^$1:" "/proc/$(of MainPID)/status" | tr -s '[:blank:]' ' '; }
-copy=/run/roam
+copy=/run/roam-conf
 must() { if "${@:2}"; then echo "yes: $1"; else echo "NO: $1"; failed=yes; fi; }
 serves() { [ "$(of ActiveState)" = active ] && [ -n "$(ss -H -u -l -n | grep ':1812 ')" ]; }
 # Waits for the command after the seconds, so many at most.
@@ -67,6 +67,11 @@ stays() { first=$(of MainPID); kill -s "$1" "$first"; sleep 3; [ "$(of MainPID)"
 said() { journalctl -u roam --no-pager -o cat | grep -q "$1"; }
 not_said() { ! said "$1"; }
 strangers_read() { setpriv --reuid nobody --regid nogroup --clear-groups cat "$1"; }
+# As the service's own user, outside its sandbox.
+as_service() { setpriv --reuid "$(status Uid | cut -d ' ' -f 2)" --regid "$(status Gid | cut -d ' ' -f 2)" --clear-groups "$@"; }
+# What a broker that was taken over may do in its own folder: a link where root's copy of old lay.
+plant() { (umask 077; echo secret > /var/shadow); as_service ln -s /var/shadow /run/roam/roam.conf; }
+is_untouched() { [ "$(stat -c '%a %U' /var/shadow)" = "600 root" ] && [ "$(cat /var/shadow)" = secret ]; }
 
 systemctl start roam
 must "it serves" within 20 serves
@@ -77,6 +82,10 @@ must "no new privileges" [ "$(status NoNewPrivs)" = "NoNewPrivs: 1" ]
 must "system calls are filtered" [ "$(status Seccomp)" = "Seccomp: 2" ]
 must "it has a copy of the configuration" cmp -s /etc/roam/roam.conf $copy/roam.conf
 must "which others can't read" eval "! strangers_read $copy/roam.conf 2> /dev/null"
+must "and which the service can" [ "$(as_service cat $copy/roam.conf)" = "$(cat /etc/roam/roam.conf)" ]
+must "the copy's folder is root's" [ "$(stat -c '%U %a' $copy)" = "root 710" ]
+must "and the service can't change it" eval "! as_service touch $copy/another 2> /dev/null"
+must "nor the copy" eval "! as_service sh -c 'echo >> $copy/roam.conf' 2> /dev/null"
 must "a SIGHUP changes nothing" stays HUP
 cp -p /etc/roam/roam.conf /etc/roam/last.conf
 first=$(of MainPID)
@@ -93,7 +102,9 @@ max_pending = 1
 max_sessions = 0
 server = [{ auth = "198.51.100.1:1812", acct = "198.51.100.1:1813", secret = "h" }]
 CONF
+must "the service can put a link into its own folder" plant
 must "a changed file is served after a reload" systemctl reload roam
+must "and what the link leads to stays as it is" is_untouched
 must "by the same process" [ "$(of MainPID)" = "$first" ]
 must "which has a copy of it" cmp -s /etc/roam/roam.conf $copy/roam.conf
 must "and others can't read that one" eval "! strangers_read $copy/roam.conf 2> /dev/null"
