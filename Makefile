@@ -1,0 +1,55 @@
+# make, or make help: what can be done here. Nothing is installed by it: packaging/Makefile does that.
+SHELL = bash
+# What `rt run` or the gate built; another one is said so: make trials ROAM=/usr/bin/roam.
+ROAM = $(CURDIR)/crates/roam/out/roam
+# A crate, for `make proof` and `make look`: make proof CRATE=roam_book.
+CRATE =
+
+.PHONY: help see run test pages look proof scripts trials deb
+
+help:
+	@echo 'make see                  a script of datagrams, played in two minutes, without a proof'
+	@echo 'make run                  proves the program and all below it, and plays the same (an hour, the first time)'
+	@echo 'make test                 the gate: everything proved and tested from nothing (two hours)'
+	@echo 'make pages                what is generated, written anew; names, keys and refusals of the pages looked at'
+	@echo 'make look CRATE=NAME      layout, names, types and borrows of a crate; no proof'
+	@echo 'make proof CRATE=NAME     a crate and what it needs, proved'
+	@echo 'make scripts              tries the converter and f-ticks.py; no program, no root'
+	@echo 'make trials ROAM=PROGRAM  tries a program by its sockets: diagnoses, control, reload, exchanges; no root'
+	@echo 'make deb ROAM=PROGRAM     the Debian package'
+	@echo 'What each is about: docs/CONTRIBUTING.md.'
+
+see:
+	cd crates/roam && rt try --data a.conf=../../examples/two-realms.conf --data a.script=../../examples/accounting.script \
+		-- sim a.conf a.script
+
+run:
+	cd crates/roam && rt run -- sim ../../examples/two-realms.conf ../../examples/accounting.script
+
+test:
+	.ci/run
+
+pages:
+	python3 docs/theorem.py
+	python3 tools/pictures.py
+	python3 tools/names.py
+	python3 tools/lists.py --check
+
+look:
+	tools/quick.py $(CRATE)
+
+proof:
+	tools/prove.py $(CRATE)
+
+scripts:
+	packaging/try-converter.py
+	packaging/try-fticks.py
+
+trials: scripts
+	packaging/try-diagnoses.py $(ROAM)
+	packaging/try-control.py $(ROAM)
+	packaging/try-reload.py $(ROAM)
+	packaging/try-exchanges.py $(ROAM)
+
+deb:
+	$(MAKE) -C packaging deb ROAM=$(ROAM)
