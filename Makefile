@@ -11,7 +11,7 @@ help:
 	@echo 'make see                  a script of datagrams, played in two minutes, without a proof'
 	@echo 'make run                  proves the program and all below it, and plays the same (an hour, the first time)'
 	@echo 'make test                 the gate: everything proved and tested from nothing (two hours)'
-	@echo 'make pages                what is generated, written anew; names, keys and refusals of the pages looked at'
+	@echo 'make pages                what is generated, written anew; names, keys, refusals and mistakes of the pages looked at'
 	@echo 'make look CRATE=NAME      layout, names, types and borrows of a crate; no proof'
 	@echo 'make proof CRATE=NAME     a crate and what it needs, proved'
 	@echo 'make scripts              tries the converter and f-ticks.py; no program, no root'
@@ -34,6 +34,7 @@ pages:
 	python3 tools/pictures.py
 	python3 tools/names.py
 	python3 tools/lists.py --check
+	python3 tools/mistakes.py
 
 look:
 	tools/quick.py $(CRATE)
