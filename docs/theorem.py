@@ -544,11 +544,16 @@ def print_introduction(page, book):
     """What the page is, what has to be believed, and how long each chapter is."""
     page.append("# The theorem, with each definition under it\n")
     page.append("Made from the sources by `docs/theorem.py`; the gate says whether it still is what they give.\n")
+    page.append("**The written broker** is the specification: functions on lists and records, in these definitions, which nobody runs. `run` "
+                "is the program's call that gives a list of events to a broker, and what is proved compares the two.\n")
     page.append("**To be believed**: that the definitions on this page say what RADIUS and the promise say; the toolchain "
                 "(prover, compiler, core library); MD5 (crate `md5`, RFC 1321) and ChaCha20 (`rand_chacha`, RFC 8439); the "
                 "core library's words on lists, numbers and options (`map`, `filter`, ..). **Not to be believed**: any code of "
-                "the broker, and any proof; and of the chapters after the first nothing, if all that is asked is whether "
-                "realms are isolated: chapter 1 holds whatever the closed functions answer.\n")
+                "the broker, and any proof. That one realm's traffic doesn't change another's packets is said by chapter 1 "
+                "alone, whatever its closed functions answer. Whose event an arrival is, and that what is sent is what "
+                "RADIUS asks for, is said by the chapters after it.\n")
+    page.append("**Said of a run that gives an outcome**, less the events that are lost for want of memory: those it names itself, and chapter 2 "
+                "says that each of them wanted memory. Not said: that little is lost, and when anything happens.\n")
     page.append("| chapter | definitions | words |\n|---|---|---|")
     for number, chapter in enumerate(book.chapters, 1):
         page.append("| %d. %s | %d | %d |" % (number, chapter.title, chapter.definitions(), chapter.words()))
@@ -556,8 +561,12 @@ def print_introduction(page, book):
     page.append("How to read it: `abbrev` and `unfoldable` begin a function, with its type on the line of its name and then an "
                 "equation for each case; `record` is a statement of several parts, or plain data; `data` lists the cases of a "
                 "value. `A → Type 0` is a statement about an `A`. A block in Rust is a type, a constant or a contract of the "
-                "program itself. A comment names the RFC's section that a definition follows, or says \"ours\". Left out are "
-                "values for a place that isn't there (%s), which no premise reaches.\n"
+                "program itself: there `x.old` and `x.new` are the value behind a reference before and after the call, `x.now` the "
+                "value behind one that isn't changed, `v.items` the list in a vector, and `IfOk result (λ o. ..)` says it of the "
+                "`Ok` value `o` of a result, and nothing of an error. `S` is any type of broker that keeps the contract of chapter 2, "
+                "`S.config` and `S.states` its configuration and its realms' states. A function is *closed* where its type stands "
+                "and not what it answers. A comment names the RFC's section that a definition follows, or says \"ours\". Left out "
+                "are values for a place that isn't there (%s): there are as many starts and states as realms.\n"
                 % ", ".join("`%s`" % it for it in sorted(FILLERS)))
 
 

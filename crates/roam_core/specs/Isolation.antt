@@ -27,11 +27,12 @@ abbrev pub is_none : Option ℕ → Bool
 is_none None = true
 is_none (Some r) = false
 
--- the packets that are sent for a realm, and those for none: in order, each with the place that it
--- leaves from, where it goes, and its octets
+-- the packets that are sent for a realm: in order, each with the place that it leaves from, where it
+-- goes, and its octets
 abbrev pub packets_for : ℕ → List PlainOut → List PlainOut
 packets_for realm packets = filter (λ out. is_realm realm out.realm) packets
 
+-- those that are sent for none
 abbrev pub packets_for_none : List PlainOut → List PlainOut
 packets_for_none packets = filter (λ out. is_none out.realm) packets
 
