@@ -30,11 +30,16 @@ test:
 	.ci/run
 
 pages:
-	python3 docs/theorem.py
+	python3 tools/theorem.py
+	python3 tools/definitions.py
+	python3 tools/claims.py
 	python3 tools/pictures.py
-	python3 tools/names.py
-	python3 tools/lists.py --check
-	python3 tools/mistakes.py
+	tools/names.py
+	tools/counts.py
+	tools/lists.py --check
+	tools/mistakes.py
+	tools/sizes.py
+	tools/unused.py
 
 look:
 	tools/quick.py $(CRATE)
@@ -43,14 +48,14 @@ proof:
 	tools/prove.py $(CRATE)
 
 scripts:
-	packaging/try-converter.py
-	packaging/try-fticks.py
+	packaging/tests/try-converter.py
+	packaging/tests/try-fticks.py
 
 trials: scripts
-	packaging/try-diagnoses.py $(ROAM)
-	packaging/try-control.py $(ROAM)
-	packaging/try-reload.py $(ROAM)
-	packaging/try-exchanges.py $(ROAM)
+	packaging/tests/try-diagnoses.py $(ROAM)
+	packaging/tests/try-control.py $(ROAM)
+	packaging/tests/try-reload.py $(ROAM)
+	packaging/tests/try-exchanges.py $(ROAM)
 
 deb:
 	$(MAKE) -C packaging deb ROAM=$(ROAM)

@@ -11,7 +11,7 @@ import select
 import socket
 import sys
 
-sys.path.insert(0, os.path.join(os.path.dirname(os.path.abspath(__file__)), "..", "rows"))
+sys.path.insert(0, os.path.join(os.path.dirname(os.path.abspath(__file__)), "..", "oracle"))
 from packets import *  # noqa: E402,F403
 
 HOME_SECRET, ACCESS_SECRET = b"testing123", b"a secret of access servers"

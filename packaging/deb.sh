@@ -4,8 +4,9 @@
 # Makes the Debian package OUT/roam_VERSION-REVISION_ARCHITECTURE.deb of a built program, as `make deb` asks for it. A
 # version that CHANGELOG.md calls not yet released becomes VERSION~unreleased, which is before VERSION.
 #
-# The program is packed as it was built, octet for octet. Equal sources and programs give equal packages: its times are
-# SOURCE_DATE_EPOCH, or the last commit's. DEBFULLNAME and DEBEMAIL say who makes it.
+# The program is packed without its symbols (strip, of binutils): the code and the data are those that were built. Equal
+# sources and programs give equal packages: their times are SOURCE_DATE_EPOCH, or the last commit's. DEBFULLNAME and
+# DEBEMAIL say who makes it; without the latter it is the address of SECURITY.md.
 set -euo pipefail
 
 if [ $# != 4 ]; then
@@ -25,7 +26,8 @@ fi
 case $heading in *"not yet released"*) upstream=$upstream~unreleased ;; esac
 version=$upstream-$revision
 architecture=$(dpkg --print-architecture)
-maintainer="${DEBFULLNAME:-the authors of roam} <${DEBEMAIL:-roam@localhost}>"
+address=$(grep -o '[a-z]*@[a-z.]*[a-z]' ../SECURITY.md | head -n 1)
+maintainer="${DEBFULLNAME:-the authors of roam} <${DEBEMAIL:-$address}>"
 SOURCE_DATE_EPOCH=${SOURCE_DATE_EPOCH:-$(git log -1 --format=%ct 2> /dev/null || date +%s)}
 export SOURCE_DATE_EPOCH
 
@@ -33,6 +35,8 @@ tree=$(mktemp -d)
 trap 'rm -rf "$tree"' EXIT
 chmod 755 "$tree"
 make --no-print-directory -s install DESTDIR="$tree" PREFIX=/usr ROAM="$program"
+
+strip --remove-section=.comment "$tree/usr/bin/roam"
 
 # What Debian wants otherwise: one page of copyright, of the changes two, and those and the manual pages packed.
 doc=$tree/usr/share/doc/roam
@@ -47,7 +51,7 @@ roam ($version) unstable; urgency=medium
  -- $maintainer  $(date -u -R -d "@$SOURCE_DATE_EPOCH")
 TEXT
 chmod 644 "$doc"/changelog*
-gzip -9n "$doc"/changelog* "$tree/usr/share/man/man8/roam.8"
+gzip -9n "$doc"/changelog* "$tree"/usr/share/man/man8/*.8
 
 mkdir "$tree/DEBIAN"
 install -m 755 debian/postinst debian/prerm debian/postrm "$tree/DEBIAN"

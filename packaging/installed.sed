@@ -8,10 +8,10 @@ s,^PATH=\$PWD/crates/roam/out:\$PATH$,cp -r @DOC@/examples .,
 # What is installed, and where.
 s,docs/\([A-Z]*\.md\),\1,g
 s,packaging/samples,samples,g
-s,`packaging/from-radsecproxy\.py`,`@LIB@/from-radsecproxy.py`,g
-s,`packaging/roam\.service`,`roam.service`,g
+s,`packaging/installed/from-radsecproxy\.py`,`@LIB@/from-radsecproxy.py`,g
+s,`packaging/installed/roam\.service`,`roam.service`,g
 s,/usr/local/lib/roam,@LIB@,g
 s,/usr/local/share/doc/roam,@DOC@,g
 
 # What isn't.
-s,`\(packaging\|bench\|rows\|crates\)/[^`]*`,& of the source,g
+s,`\(packaging\|load\|oracle\|crates\)/[^`]*`,& of the source,g

@@ -15,7 +15,7 @@ import sys
 import textwrap
 
 ROOT = pathlib.Path(__file__).resolve().parent.parent
-MANUAL = ROOT / "packaging" / "roam.8"
+MANUAL = ROOT / "packaging" / "installed" / "roam.8"
 HEADS = {
     "top": "At the top:",
     "peer": "In each table\n.Cm [[peer]] ,\n1 to 1024 of them:",
@@ -93,7 +93,7 @@ def manual() -> str:
     for name, made in (("keys", keys_in_mdoc()), ("refusals", refusals_in_mdoc())):
         begin, end = f'.\\" {name}: made by tools/lists.py\n', f'.\\" {name}: end\n'
         if begin not in page or end not in page:
-            raise SystemExit(f"packaging/roam.8 has no place for the {name}")
+            raise SystemExit(f"packaging/installed/roam.8 has no place for the {name}")
         page = page.split(begin)[0] + begin + made + "\n" + end + page.split(end)[1]
     return page
 
@@ -121,7 +121,7 @@ def faults() -> list[str]:
     if rows != [(str(place), name) for place, name in enumerate(names, 1)]:
         said.append("the refusals of docs/REFUSALS.md aren't those of roam_wire, in their order")
     if MANUAL.read_text(encoding="utf-8") != manual():
-        said.append("packaging/roam.8 isn't what the pages give: run tools/lists.py")
+        said.append("packaging/installed/roam.8 isn't what the pages give: run tools/lists.py")
     return said
 
 

@@ -13,7 +13,7 @@ import sys
 ROOT = pathlib.Path(__file__).resolve().parent.parent
 # Names of the toolchain and of the language, and forms that stand for a name.
 KNOWN_TYPES = {"Option", "Result", "Vec", "String", "Hash", "UdpSocket", "Scope", "Process", "Refusal", "Self", "Rattle", "std", "self"}
-OWN_FOLDERS = ("crates", "docs", "rows", "bench", "packaging", "mistakes", "tools", "examples")
+OWN_FOLDERS = ("crates", "docs", "oracle", "load", "packaging", "mistakes", "tools", "examples")
 
 
 def names_of_code() -> tuple[set[str], set[str], set[str]]:

@@ -16,11 +16,13 @@ import subprocess
 import threading
 import time
 
+import minutes
+
 ROOT = pathlib.Path(__file__).resolve().parent.parent
 # Crates whose check is worth several jobs, and how many.
-JOBS = {"roam_serve": 3, "roam_book": 2, "roam_core": 2, "roam_tables": 2, "roam_shard": 2, "roam_hub": 2, "roam": 2}
-# Processor minutes from nothing, where they are many: what stands longest above a crate goes first.
-MINUTES = {"roam_serve": 25, "roam_book": 9, "roam_hub": 8, "roam_shard": 6, "roam": 6, "roam_core": 3, "roam_conf_reader": 4}
+JOBS = {"roam_workers": 2, "roam_serve": 2, "roam_book": 2, "roam_core": 2, "roam_tables": 2, "roam_shard": 2, "roam_hub": 2, "roam": 2}
+# Processor minutes from nothing, as they were read last: what stands longest above a crate goes first.
+MINUTES = {crate: sum(of.values()) for crate, of in minutes.read(minutes.KEPT.read_text(encoding="utf-8")).items()}
 
 
 def dependencies() -> dict[str, list[str]]:

@@ -36,6 +36,7 @@ run-prevents words configuration script old new (Ok x) worded fails = tt
 run-prevents words configuration script old new (Err fault.Usage) worded fails = absurd fails
 run-prevents words configuration script old new (Err (fault.Unreadable path)) worded fails = absurd fails
 run-prevents words configuration script old new (Err (fault.Unanswered path)) worded fails = absurd fails
+run-prevents words configuration script old new (Err (fault.Cut path)) worded fails = absurd fails
 run-prevents words configuration script old new (Err (fault.Declined path)) worded fails = absurd fails
 run-prevents words configuration script old new (Err (fault.Refused path why)) worded fails =
     ((to_simulate configuration.path.now script.path.now, worded, sym fails.0.named), fails.1)
@@ -50,6 +51,7 @@ run-prevents words configuration script old new (Err fault.Memory) worded fails 
 run-prevents words configuration script old new (Err fault.Clock) worded fails = absurd fails
 run-prevents words configuration script old new (Err fault.Seed) worded fails = absurd fails
 run-prevents words configuration script old new (Err (fault.Bind endpoint reason)) worded fails = absurd fails
+run-prevents words configuration script old new (Err (fault.Control socket reason)) worded fails = absurd fails
 run-prevents words configuration script old new (Err (fault.Descriptors wanted)) worded fails = absurd fails
 run-prevents words configuration script old new (Err (fault.Wait reason)) worded fails = absurd fails
 run-prevents words configuration script old new (Err fault.Thread) worded fails = absurd fails
@@ -81,6 +83,7 @@ serve-prevents words file milliseconds out (Ok x) asks kept fails = tt
 serve-prevents words file milliseconds out (Err fault.Usage) asks kept fails = absurd fails
 serve-prevents words file milliseconds out (Err (fault.Unreadable path)) asks kept fails = absurd fails
 serve-prevents words file milliseconds out (Err (fault.Unanswered path)) asks kept fails = absurd fails
+serve-prevents words file milliseconds out (Err (fault.Cut path)) asks kept fails = absurd fails
 serve-prevents words file milliseconds out (Err (fault.Declined path)) asks kept fails = absurd fails
 serve-prevents words file milliseconds out (Err (fault.Refused path why)) asks kept fails =
     (names-it words path.now file.path.now milliseconds fails.named asks, kept)
@@ -93,6 +96,8 @@ serve-prevents words file milliseconds out (Err fault.Clock) asks kept fails =
 serve-prevents words file milliseconds out (Err fault.Seed) asks kept fails =
     ((file.path.now, milliseconds, asks), kept)
 serve-prevents words file milliseconds out (Err (fault.Bind endpoint reason)) asks kept fails =
+    ((file.path.now, milliseconds, asks), kept)
+serve-prevents words file milliseconds out (Err (fault.Control socket reason)) asks kept fails =
     ((file.path.now, milliseconds, asks), kept)
 serve-prevents words file milliseconds out (Err (fault.Descriptors wanted)) asks kept fails =
     ((file.path.now, milliseconds, asks), kept)
@@ -122,6 +127,8 @@ usage-status words old new (fault.Unreadable path) status is prevents =
     (λ two. absurd (omega arith), λ nothing. absurd (nothing prevents.0.0 prevents.0.1))
 usage-status words old new (fault.Unanswered path) status is prevents =
     (λ two. absurd (omega arith), λ nothing. absurd (nothing (to_control path.now prevents.0.0) prevents.0.1))
+usage-status words old new (fault.Cut path) status is prevents =
+    (λ two. absurd (omega arith), λ nothing. absurd (nothing (to_control path.now prevents.0.0) prevents.0.1))
 usage-status words old new (fault.Declined path) status is prevents =
     (λ two. absurd (omega arith), λ nothing. absurd (nothing (to_control path.now prevents.0.0) prevents.0.1))
 usage-status words old new (fault.Refused path why) status is prevents =
@@ -137,6 +144,8 @@ usage-status words old new fault.Clock status is prevents =
 usage-status words old new fault.Seed status is prevents =
     serves words old new status (λ two. omega (arith, is, two)) prevents
 usage-status words old new (fault.Bind endpoint reason) status is prevents =
+    serves words old new status (λ two. omega (arith, is, two)) prevents
+usage-status words old new (fault.Control socket reason) status is prevents =
     serves words old new status (λ two. omega (arith, is, two)) prevents
 usage-status words old new (fault.Descriptors wanted) status is prevents =
     serves words old new status (λ two. omega (arith, is, two)) prevents
@@ -249,6 +258,7 @@ compare_prevents words configuration next old new (Ok x) worded fails = tt
 compare_prevents words configuration next old new (Err fault.Usage) worded fails = absurd fails
 compare_prevents words configuration next old new (Err (fault.Unreadable path)) worded fails = absurd fails
 compare_prevents words configuration next old new (Err (fault.Unanswered path)) worded fails = absurd fails
+compare_prevents words configuration next old new (Err (fault.Cut path)) worded fails = absurd fails
 compare_prevents words configuration next old new (Err (fault.Declined path)) worded fails = absurd fails
 compare_prevents words configuration next old new (Err (fault.Refused path why)) worded fails =
     elim fails.0 [
@@ -265,6 +275,7 @@ compare_prevents words configuration next old new (Err fault.Memory) worded fail
 compare_prevents words configuration next old new (Err fault.Clock) worded fails = absurd fails
 compare_prevents words configuration next old new (Err fault.Seed) worded fails = absurd fails
 compare_prevents words configuration next old new (Err (fault.Bind endpoint reason)) worded fails = absurd fails
+compare_prevents words configuration next old new (Err (fault.Control socket reason)) worded fails = absurd fails
 compare_prevents words configuration next old new (Err (fault.Descriptors wanted)) worded fails = absurd fails
 compare_prevents words configuration next old new (Err (fault.Wait reason)) worded fails = absurd fails
 compare_prevents words configuration next old new (Err fault.Thread) worded fails = absurd fails

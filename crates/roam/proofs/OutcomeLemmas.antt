@@ -14,9 +14,9 @@ use Rattle.roam_sim.specs.declared.fault.SimFault.TheVariants as sim
 use Rattle.roam.specs.declared.text_file.TextFile.{TextFile}
 use Rattle.roam.specs.declared.report.Fault.{Fault}
 use Rattle.roam.specs.declared.report.Fault.TheVariants as fault
-use Rattle.roam_serve.specs.declared.fault.ServeFault.{ServeFault}
-use Rattle.roam_serve.specs.declared.fault.ServeFault.TheVariants as serve
-use Rattle.roam_serve.specs.Faults.{IsFaultOf}
+use Rattle.roam_sockets.specs.declared.fault.ServeFault.{ServeFault}
+use Rattle.roam_sockets.specs.declared.fault.ServeFault.TheVariants as serve
+use Rattle.roam_sockets.specs.Faults.{IsFaultOf}
 use Rattle.roam.specs.Outcomes.{summary_of, text_in, Checks, CheckFails, RunFails, ServeFails, AreRead}
 use Rattle.roam.specs.Report.{fault_of}
 
@@ -170,6 +170,7 @@ pub serve-fails : (file : TextFile) (config : ConfigView) (why : ServeFault) →
 serve-fails file config serve.Clock read its_own = (config, read)
 serve-fails file config serve.Seed read its_own = (config, read)
 serve-fails file config (serve.Bind endpoint reason) read its_own = (config, read, its_own)
+serve-fails file config (serve.Control path reason) read its_own = (config, read)
 serve-fails file config (serve.Descriptors wanted) read its_own = (config, read)
 serve-fails file config (serve.Wait reason) read its_own = (config, read)
 serve-fails file config serve.Thread read its_own = (config, read)

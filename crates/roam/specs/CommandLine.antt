@@ -37,6 +37,16 @@ AsksOrder words path (order.Trace shard) =
     (word : List ℕ) × (codes "ctl" ∷ path ∷ codes "trace" ∷ word ∷ [] ≡ words)
     × (decimal_in 0 65535 word ≡ Some shard)
 
+-- ## Words of a command
+-- `check CONF`, `check OLD NEW`, `ctl PATH` with `status`, `metrics` or `stop`, `sim CONF SCRIPT`, `serve
+-- CONF`, `serve CONF MS`, these two with `--seed-of-file` before CONF or without it; `help`, `--help` or `-h`;
+-- `version`, `--version` or `-V`. MS is a decimal number from 1 to 86400000 without leading zeros, and a CONF
+-- after `serve` isn't `--seed-of-file`. They are the words after the program's name, as many and no others.
+-- Other words ask for nothing.
+-- Source: ours
+-- Rules out: a word too many that is overlooked; a number that is read in part
+-- Stands in: `roam` `CommandLine.antt`: `Asks`, `AsksToServe`, `AsksNothing`; `Command::from_words`, `command`
+--
 -- the words ask for it. After `serve` the word `--seed-of-file` is never the configuration
 abbrev pub Asks : List (List ℕ) → Asked → Type 0
 Asks words (to_check configuration) = codes "check" ∷ configuration ∷ [] ≡ words

@@ -17,6 +17,13 @@ use Rattle.roam.specs.declared.report.ProgramEnd.{ProgramEnd}
 use Rattle.roam.specs.declared.report.Fault.{Fault}
 use Rattle.roam.specs.declared.report.Fault.TheVariants as fault
 
+-- ## Summary
+-- `ok realms R peers P shards S`: how many realms and peers an accepted configuration has, and over how many
+-- shards the realms are spread.
+-- Source: ours
+-- Rules out: peers counted as realms
+-- Stands in: `roam` `Outcomes.antt`: `summary_of`, `Checks`; `check`
+--
 -- how much there is in a configuration
 abbrev pub summary_of : ConfigView → List ℕ
 summary_of config =
@@ -43,11 +50,22 @@ pub record IsFaulty (file : TextFile) (path : List ℕ) (number : ℕ) : Type 0 
   pub named : path ≡ file.path.now
   pub first : script_states (text_in file) ≡ Err number
 
+-- ## Faults of a command
+-- For each fault of `check` and `sim` what it says of the two files, and what of the output it leaves. A
+-- refused configuration is its file's first fault, a faulty line its script's first one, where the
+-- configuration is accepted; both leave the output unchanged. A refused write comes where both files are read,
+-- or leaves the output unchanged; out of memory leaves it unchanged, or with the lines of the events that
+-- weren't lost.
+-- Source: ours
+-- Rules out: a line printed before a faulty line; the script's fault before the configuration's
+-- Stands in: `roam` `Outcomes.antt`: `CheckFails`, `RunFails`; `check`, `simulate`
+--
 -- the faults of a check, each with what it says, and what of the output it leaves
 abbrev pub CheckFails : TextFile → Option (List ℕ) → Option (List ℕ) → Fault → Type 0
 CheckFails file old new fault.Usage = ⊥
 CheckFails file old new (fault.Unreadable path) = ⊥
 CheckFails file old new (fault.Unanswered path) = ⊥
+CheckFails file old new (fault.Cut path) = ⊥
 CheckFails file old new (fault.Declined path) = ⊥
 CheckFails file old new (fault.Refused path why) = IsRefused file path.now why × Keeps old new
 CheckFails file old new (fault.FaultyLine path number) = ⊥
@@ -56,6 +74,7 @@ CheckFails file old new fault.Memory = Keeps old new
 CheckFails file old new fault.Clock = ⊥
 CheckFails file old new fault.Seed = ⊥
 CheckFails file old new (fault.Bind endpoint reason) = ⊥
+CheckFails file old new (fault.Control path reason) = ⊥
 CheckFails file old new (fault.Descriptors wanted) = ⊥
 CheckFails file old new (fault.Wait reason) = ⊥
 CheckFails file old new fault.Thread = ⊥
@@ -74,6 +93,7 @@ abbrev pub RunFails : TextFile → TextFile → Option (List ℕ) → Option (Li
 RunFails configuration script old new fault.Usage = ⊥
 RunFails configuration script old new (fault.Unreadable path) = ⊥
 RunFails configuration script old new (fault.Unanswered path) = ⊥
+RunFails configuration script old new (fault.Cut path) = ⊥
 RunFails configuration script old new (fault.Declined path) = ⊥
 RunFails configuration script old new (fault.Refused path why) =
     IsRefused configuration path.now why × Keeps old new
@@ -86,18 +106,28 @@ RunFails configuration script old new fault.Memory =
 RunFails configuration script old new fault.Clock = ⊥
 RunFails configuration script old new fault.Seed = ⊥
 RunFails configuration script old new (fault.Bind endpoint reason) = ⊥
+RunFails configuration script old new (fault.Control path reason) = ⊥
 RunFails configuration script old new (fault.Descriptors wanted) = ⊥
 RunFails configuration script old new (fault.Wait reason) = ⊥
 RunFails configuration script old new fault.Thread = ⊥
 RunFails configuration script old new fault.Receive = ⊥
 RunFails configuration script old new fault.Audit = ⊥
 
+-- ## Faults of a server
+-- What the program can say of them: a refused configuration is its file's first fault; all others come only
+-- where the configuration is accepted, but for being out of memory; a socket that can't be bound is at an
+-- endpoint of it.
+-- Source: ours
+-- Rules out: sockets of a refused configuration
+-- Stands in: `roam` `Outcomes.antt`: `ServeFails`; `serve_file`
+--
 -- the faults of a server: one that comes of the system or of the audit comes only where the configuration is
 -- accepted, and an endpoint that can't be bound is one of its own
 abbrev pub ServeFails : TextFile → Fault → Type 0
 ServeFails file fault.Usage = ⊥
 ServeFails file (fault.Unreadable path) = ⊥
 ServeFails file (fault.Unanswered path) = ⊥
+ServeFails file (fault.Cut path) = ⊥
 ServeFails file (fault.Declined path) = ⊥
 ServeFails file (fault.Refused path why) = IsRefused file path.now why
 ServeFails file (fault.FaultyLine path number) = ⊥
@@ -105,6 +135,7 @@ ServeFails file fault.Write = ⊥
 ServeFails file fault.Memory = Unit {0}
 ServeFails file fault.Clock = IsAccepted (text_in file)
 ServeFails file fault.Seed = IsAccepted (text_in file)
+ServeFails file (fault.Control path reason) = IsAccepted (text_in file)
 ServeFails file (fault.Descriptors wanted) = IsAccepted (text_in file)
 ServeFails file (fault.Wait reason) = IsAccepted (text_in file)
 ServeFails file fault.Thread = IsAccepted (text_in file)
@@ -117,10 +148,11 @@ ServeFails file fault.Audit = IsAccepted (text_in file)
 abbrev pub IsPrinted : Option (List ℕ) → Option (List ℕ) → Type 0
 IsPrinted old new = (text : List ℕ) × Appends old new text
 
--- the faults of a question to a server: no answer came through the socket of this path; or it was declined, and why is
--- printed; a write was refused, or memory is wanting
+-- the faults of a question to a server: no answer came through the socket of this path; or one that was cut, and what
+-- came is printed; or it was declined, and why is printed; a write was refused, or memory is wanting
 abbrev pub AskFails : List ℕ → Option (List ℕ) → Option (List ℕ) → Fault → Type 0
 AskFails path old new (fault.Unanswered named) = (named.now ≡ path) × Keeps old new
+AskFails path old new (fault.Cut named) = (named.now ≡ path) × IsPrinted old new
 AskFails path old new (fault.Declined named) = (named.now ≡ path) × IsPrinted old new
 AskFails path old new fault.Write = Unit {0}
 AskFails path old new fault.Memory = Keeps old new
@@ -151,6 +183,15 @@ IsDone (to_control path order) old new = IsPrinted old new
 IsDone to_help old new = Appends old new usage_text
 IsDone to_tell_version old new = Appends old new version_text
 
+-- ## Answered
+-- The words ask for something, and over some texts it was done: the output gained the summary, the lines of the
+-- simulation, the usage or the version; or it is unchanged, and some text is an accepted configuration, where a
+-- server was asked for. That the texts are those of the files that the words name isn't said, nor what a server
+-- sent.
+-- Source: ours
+-- Rules out: a success that printed nothing
+-- Stands in: `roam` `Outcomes.antt`: `IsAnswered`, `IsDone`; `command`
+--
 -- the words ask for something, and it was done
 pub record IsAnswered (words : List (List ℕ)) (old new : Option (List ℕ)) : Type 0 where
   pub asked : Asked
@@ -180,13 +221,24 @@ pub record IsAnsweredInPart (words : List (List ℕ)) (old new : Option (List �
   pub script_text : List ℕ
   pub done : SimulatesInPart configuration_text script_text old new
 
+-- ## Prevented
+-- Why the words aren't answered: the words ask for nothing, or name the file that can't be read, the
+-- configuration that is refused or the script that is faulty, and the output is unchanged; a server ended by a
+-- fault, and the output is unchanged; a write was refused, of which nothing more is said; or it was out of
+-- memory, and the output is unchanged or has the lines of the events that weren't lost. The status is that
+-- fault's own. (That a file couldn't be read, is refused or has a faulty line is said of its path alone.)
+-- Source: ours
+-- Rules out: a status of another fault; lines printed before a fault
+-- Stands in: `roam` `Outcomes.antt`: `Prevents`, `IsPrevented`; `command`
+--
 -- why the words aren't answered, and what of the output that leaves. It is as it was; but where events were lost
--- for want of memory it has the lines of the others; where a server declined what it was asked for, its answer; and of a
--- refused write nothing is said of what went out
+-- for want of memory it has the lines of the others; where a server declined what it was asked for, its answer, and what
+-- came of one that was cut; and of a refused write nothing is said of what went out
 abbrev pub Prevents : List (List ℕ) → Option (List ℕ) → Option (List ℕ) → Fault → Type 0
 Prevents words old new fault.Usage = AsksNothing words × Keeps old new
 Prevents words old new (fault.Unreadable path) = NamesFile words path.now × Keeps old new
 Prevents words old new (fault.Unanswered path) = NamesSocket words path.now × Keeps old new
+Prevents words old new (fault.Cut path) = NamesSocket words path.now × IsPrinted old new
 Prevents words old new (fault.Declined path) = NamesSocket words path.now × IsPrinted old new
 Prevents words old new (fault.Refused path why) = NamesConfiguration words path.now × Keeps old new
 Prevents words old new (fault.FaultyLine path number) = NamesScript words path.now × Keeps old new
@@ -196,6 +248,7 @@ Prevents words old new fault.Memory =
 Prevents words old new fault.Clock = AsksToServe words × Keeps old new
 Prevents words old new fault.Seed = AsksToServe words × Keeps old new
 Prevents words old new (fault.Bind endpoint reason) = AsksToServe words × Keeps old new
+Prevents words old new (fault.Control path reason) = AsksToServe words × Keeps old new
 Prevents words old new (fault.Descriptors wanted) = AsksToServe words × Keeps old new
 Prevents words old new (fault.Wait reason) = AsksToServe words × Keeps old new
 Prevents words old new fault.Thread = AsksToServe words × Keeps old new

@@ -1,16 +1,18 @@
 //! Asking a server something through its control socket.
 
-ghost use Rattle.std.specs.Prelude.{◌≡◌, ◌⊎◌, OnOk, IfErr};
+ghost use Rattle.std.specs.Prelude.{◌≡◌, OnOk, IfErr};
 ghost use Rattle.roam.specs.Outcomes.{AskFails, IsPrinted};
 
 use crate::command_line::ControlOrder;
 use crate::output::finish;
 use crate::report::Fault;
+use crate::shown::shown;
+use roam_conf::decimal;
 use std::io::{Read, Write};
 use std::net::Net;
 use std::os::unix::net::UnixStream;
 use std::time::{Clock, Duration};
-use std::{io, thread};
+use std::{io, str, thread};
 
 /// How long it waits for an answer, in seconds.
 const PATIENCE: u64 = 10;
@@ -45,8 +47,12 @@ fn question(order: ControlOrder) -> &'static [u8] {
     }
 }
 
-/// All that is answered.
-fn answer<R: AllocGlobal + Net>(rt: &R, path: &str, order: ControlOrder) -> io::Result<Vec<u8>> {
+/// All that is answered, and the connection: until it is closed, the server takes the answer for one that isn't taken yet.
+fn answer<R: AllocGlobal + Net>(
+    rt: &R,
+    path: &str,
+    order: ControlOrder,
+) -> io::Result<(UnixStream, Vec<u8>)> {
     let mut stream = UnixStream::connect(rt, path)?;
     stream.set_read_timeout(Some(Duration::from_secs(PATIENCE)))?;
     stream.set_write_timeout(Some(Duration::from_secs(PATIENCE)))?;
@@ -55,8 +61,11 @@ fn answer<R: AllocGlobal + Net>(rt: &R, path: &str, order: ControlOrder) -> io::
         _ => stream.write_all(question(order))?,
     }
     let mut answer = Vec::new(rt.alloc());
-    stream.read_to_end(&mut answer)?;
-    Ok(answer)
+    let read = stream.read_to_end(&mut answer);
+    if answer.is_empty() {
+        read?;
+    }
+    Ok((stream, answer))
 }
 
 /// Whether an answer tells success (RFC 9110, section 15.3).
@@ -69,12 +78,45 @@ fn is_declined(answer: &[u8]) -> bool {
     answer.starts_with(b"HTTP/1.1 409")
 }
 
-/// The body of an answer (RFC 9112, sections 4 and 6).
-fn body(answer: &[u8]) -> Option<&[u8]> {
+/// The length of the body that a line of an answer's head states (RFC 9110, section 8.6).
+fn length_in(line: &str) -> Option<u64> {
+    let (name, value) = line.split_once(':')?;
+    if name.eq_ignore_ascii_case("content-length") {
+        decimal(value.trim(), 0, u64::MAX)
+    } else {
+        None
+    }
+}
+
+/// The length of the body that an answer's head states, where it does.
+fn stated_length(head: &[u8]) -> Option<u64> {
+    for line in str::from_utf8(head).ok()?.split("\r\n") {
+        let length = length_in(line);
+        if length.is_some() {
+            return length;
+        }
+    }
+    None
+}
+
+/// The body of an answer, as far as it came.
+#[derive(Clone, Copy)]
+struct Body<'a> {
+    octets: &'a [u8],
+    /// Whether all of it came.
+    is_whole: bool,
+}
+
+/// The body of an answer (RFC 9112, sections 4 and 6). Where the head doesn't state its length, it may be cut.
+fn body_of(answer: &[u8]) -> Option<Body<'_>> {
     let end = answer
         .windows(4)
         .position(|four| four == b"\r\n\r\n".as_slice())?;
-    answer.get(end + 4..)
+    let octets = answer.get(end + 4..)?;
+    Some(Body {
+        octets,
+        is_whole: stated_length(answer.get(..end)?) == Some(octets.len() as u64),
+    })
 }
 
 /// Prints what a server answers.
@@ -96,6 +138,16 @@ fn print_declined<'a, W: Write>(path: &'a str, body: &[u8], out: &mut W) -> Faul
     }
 }
 
+/// Prints what came of an answer that was cut.
+fn print_cut<'a, W: Write>(path: &'a str, body: &[u8], out: &mut W) -> Fault<'a>
+    ensures { AskFails path.now (W.contents out.old) (W.contents out.new) result }
+{
+    match print(body, out) {
+        Ok(()) => Fault::Cut { path },
+        Err(_) => Fault::Write,
+    }
+}
+
 /// Waits until nobody listens at the path any more, but not for ever. Answers whether that is so.
 fn has_ended<R: Net + Clock>(rt: &R, path: &str) -> bool {
     for _ in 0..LOOKS {
@@ -107,13 +159,44 @@ fn has_ended<R: Net + Clock>(rt: &R, path: &str) -> bool {
     false
 }
 
+/// Prints an answer of the server of this path, of which nothing steers a terminal. Where one is asked to stop, when it
+/// has ended.
+fn print_answer<'a, R: AllocGlobal + Net + Clock, W: Write>(
+    rt: &R,
+    path: &'a str,
+    order: ControlOrder,
+    answer: &[u8],
+    out: &mut W,
+) -> Result<(), Fault<'a>>
+    ensures ok { OnOk result (IsPrinted (W.contents out.old) (W.contents out.new)) }
+    ensures err { IfErr result (AskFails path.now (W.contents out.old) (W.contents out.new)) }
+{
+    let Some(body) = body_of(answer) else {
+        return Err(Fault::Unanswered { path });
+    };
+    let Ok(shown) = shown(rt.alloc(), body.octets) else {
+        return Err(Fault::Memory);
+    };
+    let shown = shown.as_slice();
+    if !body.is_whole {
+        Err(print_cut(path, shown, out))
+    } else if is_declined(answer) {
+        Err(print_declined(path, shown, out))
+    } else if is_done(answer) && (order != ControlOrder::Stop || has_ended(rt, path)) {
+        print(shown, out)
+    } else {
+        Err(Fault::Unanswered { path })
+    }
+}
+
 /// Asks a server something through the control socket of this path, and prints what it answers; one that is asked to
 /// stop, when it has ended.
 ///
 /// # Errors
 ///
-/// `Unanswered`, where no answer comes, or none that tells success, or a server that is asked to stop doesn't end;
-/// `Declined`, where the answer says why it was not done, and is printed; `Memory`; `Write`.
+/// `Unanswered`, where no answer comes, or none that tells success, or a server that is asked to stop doesn't end; `Cut`,
+/// where not all of it comes, and what came is printed; `Declined`, where the answer says why it was not done, and is
+/// printed; `Memory`; `Write`.
 pub fn ask<'a, R: AllocGlobal + Net + Clock, W: Write>(
     rt: &R,
     path: &'a str,
@@ -123,16 +206,12 @@ pub fn ask<'a, R: AllocGlobal + Net + Clock, W: Write>(
     ensures ok { OnOk result (IsPrinted (W.contents out.old) (W.contents out.new)) }
     ensures err { IfErr result (AskFails path.now (W.contents out.old) (W.contents out.new)) }
 {
-    let answer = match answer(rt, path, order) {
-        Ok(answer) => answer,
-        Err(error) => return Err(Fault::Unanswered { path }.unless_memory(&error)),
-    };
-    let answer = answer.as_slice();
-    match body(answer) {
-        Some(body) if is_declined(answer) => Err(print_declined(path, body, out)),
-        Some(body) if is_done(answer) && (order != ControlOrder::Stop || has_ended(rt, path)) => {
-            print(body, out)
+    match answer(rt, path, order) {
+        Ok((stream, answer)) => {
+            let printed = print_answer(rt, path, order, answer.as_slice(), out);
+            drop(stream);
+            printed
         }
-        _ => Err(Fault::Unanswered { path }),
+        Err(error) => Err(Fault::Unanswered { path }.unless_memory(&error)),
     }
 }

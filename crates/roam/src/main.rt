@@ -2,29 +2,52 @@
 //!
 //! What is done stands in functions over texts and writers, and in the libraries; here are the words, the standard
 //! streams and the status alone.
+//!
+//! # Proved
+//!
+//! - words ask for a command, or for nothing; a word of milliseconds is a decimal number from 1 to 86400000 |
+//!   `Command::from_words`
+//! - each fault's text and status | `Fault::print`, `Fault::status`
+//! - with status 0 what was asked for was done, over some texts: that these are the files', no contract says;
+//!   of a comparison it is no more than that both are accepted and something is printed; of a server it is no
+//!   more than that it printed nothing, and that some text is an accepted configuration. Nothing is reported,
+//!   but by a check: advice | `command`: `done`, `silent`; `tell_advice`
+//! - a fault's text is printed, and the lines of a diagnosis behind it where a configuration is refused |
+//!   `Fault::tell_with`
+//! - a server that ends by a fault was given an accepted configuration, but for being out of memory or the
+//!   refusal of that very file; so was one that ends without a fault | `serve_file`: `ok`, `err`
+//! - any other status is at most 4 and its fault's, which says what of the output it leaves, but for a refused
+//!   write; 2 comes exactly when nothing was asked for | `command`: `status`, `fault`, `usage`, `untouched`
 #![tactic(auto)]
 
 mod check;
 mod command_line;
 mod compare;
 mod control;
+mod outlet;
 mod output;
 mod program;
 mod reload;
 mod report;
+mod runtime;
 mod serving;
+mod shown;
 mod simulation;
 mod telling;
 #[cfg(test)]
 mod tests;
 mod text_file;
 
+use outlet::{Outlet, write_on};
 use program::command;
 use report::Fault;
-use std::env;
+use runtime::{OutletWriter, ToOutlet};
+use std::alloc::Global;
 use std::io::BufWriter;
 use std::process::ExitCode;
 use std::rt::Env;
+use std::sync::Arc;
+use std::{env, thread};
 
 /// The words after the program's name.
 fn words<R: Env + AllocGlobal>(rt: &R) -> Result<Vec<String>, Fault<'static>> {
@@ -32,14 +55,67 @@ fn words<R: Env + AllocGlobal>(rt: &R) -> Result<Vec<String>, Fault<'static>> {
     args.skip(1).collect(rt.alloc()).map_err(|_| Fault::Memory)
 }
 
+/// Whether words ask for a server.
+fn ask_to_serve(words: &[String]) -> bool {
+    match words.first() {
+        Some(word) => word.as_str() == "serve",
+        None => false,
+    }
+}
+
+/// An outlet, once more for the thread that writes what it has, and room for what that takes at once.
+#[derive(Drop)]
+struct Apart {
+    outlet: Arc<Outlet, Global>,
+    theirs: Arc<Outlet, Global>,
+    room: Vec<u8>,
+}
+
+/// Makes them; nothing where memory is wanting.
+fn make_apart(alloc: Global) -> Option<Apart> {
+    let outlet = Arc::new(alloc, Outlet::new(alloc).ok()?).ok()?;
+    let theirs = Arc::try_clone(&outlet).ok()?;
+    Some(Apart {
+        outlet,
+        theirs,
+        room: Outlet::room(alloc).ok()?,
+    })
+}
+
+/// Does what the words ask for. What a server tells goes to standard error by a thread of its own, which nobody waits
+/// for, but for a second at the end.
 fn main(rt: HostRuntime) -> ExitCode {
     let mut err = rt.stderr();
     let words = match words(&rt) {
         Ok(words) => words,
         Err(fault) => return ExitCode::from(fault.tell(&mut err).status),
     };
-    match BufWriter::new(rt.alloc(), rt.stdout()) {
-        Ok(mut out) => ExitCode::from(command(&rt, words.as_slice(), &mut out, &mut err)),
-        Err(_) => ExitCode::from(Fault::Memory.tell(&mut err).status),
+    let words = words.as_slice();
+    let Ok(mut out) = BufWriter::new(rt.alloc(), rt.stdout()) else {
+        return ExitCode::from(Fault::Memory.tell(&mut err).status);
+    };
+    if !ask_to_serve(words) {
+        return ExitCode::from(command(&rt, words, &mut out, &mut err));
     }
+    let Some(
+        Apart {
+            outlet,
+            theirs,
+            room,
+        },
+    ) = make_apart(rt.alloc())
+    else {
+        return ExitCode::from(Fault::Memory.tell(&mut err).status);
+    };
+    if thread::spawn(&rt, move || write_on(&rt, &theirs, err, room)).is_err() {
+        return ExitCode::from(Fault::Thread.tell(&mut err).status);
+    }
+    let runtime = ToOutlet { rt, outlet };
+    let mut told = OutletWriter {
+        rt: &runtime.rt,
+        outlet: &runtime.outlet,
+    };
+    let status = command(&runtime, words, &mut out, &mut told);
+    let _untold = runtime.outlet.finish(&runtime.rt);
+    ExitCode::from(status)
 }

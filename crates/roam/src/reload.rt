@@ -1,6 +1,8 @@
 //! Reading a configuration again while it is served.
 
-ghost use Rattle.std.specs.Prelude.{◌≡◌, OnOk};
+ghost use Rattle.std.specs.Prelude.{◌≡◌, IfOk, OnOk};
+ghost use Rattle.roam_conf.specs.Shown.{shown};
+ghost use Rattle.roam_reload.specs.Reload.{MayFollow};
 ghost use Rattle.roam.specs.Outcomes.{IsPrinted};
 
 use crate::compare::{print_fates, print_hindrance};
@@ -98,7 +100,9 @@ fn following(
     file: &TextFile<'_>,
     old: &Config,
     before: &Settings,
-) -> Result<Following, Vec<u8>> {
+) -> Result<Following, Vec<u8>>
+    ensures { IfOk result (λ following. MayFollow (shown old.now) (shown following.config)) }
+{
     let (config, settings) = read(alloc, file, old)?;
     let mut report = Vec::new(alloc);
     let hindrance = hindrance_of(old, &config);

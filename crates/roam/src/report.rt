@@ -7,7 +7,7 @@ ghost use Rattle.roam.specs.Report as spec;
 use roam_conf::Endpoint;
 use roam_conf_reader::ConfFault;
 use roam_diagnosis::Lines;
-use roam_serve::{Reason, ServeFault};
+use roam_serve::{Reason, ServeFault, SocketPath};
 use std::io;
 use std::io::{ErrorKind, Write};
 
@@ -23,6 +23,11 @@ pub enum Fault<'a> {
     },
     /// No answer comes of a server through its control socket.
     Unanswered {
+        /// The path of the socket.
+        path: &'a str,
+    },
+    /// The answer of a server through its control socket was cut. What came of it is printed.
+    Cut {
         /// The path of the socket.
         path: &'a str,
     },
@@ -60,6 +65,13 @@ pub enum Fault<'a> {
         /// The number of the system's error, or 0.
         reason: u32,
     },
+    /// A server can't have its control socket.
+    Control {
+        /// The path at which it can't be had.
+        path: SocketPath,
+        /// The number of the system's error, or 0.
+        reason: u32,
+    },
     /// A server may not have as many descriptors as it wants.
     Descriptors {
         /// How many it wants.
@@ -93,12 +105,15 @@ fn words_of(reason: u32) -> Option<&'static str>
 {
     match reason {
         1 => Some("Operation not permitted"),
+        2 => Some("No such file or directory"),
         11 => Some("Resource temporarily unavailable"),
         12 => Some("Cannot allocate memory"),
         13 => Some("Permission denied"),
+        20 => Some("Not a directory"),
         23 => Some("Too many open files in system"),
         24 => Some("Too many open files"),
         28 => Some("No space left on device"),
+        30 => Some("Read-only file system"),
         97 => Some("Address family not supported by protocol"),
         98 => Some("Address already in use"),
         99 => Some("Cannot assign requested address"),
@@ -161,6 +176,24 @@ fn print_bind<W: Write>(writer: &mut W, endpoint: Endpoint, reason: u32) -> io::
     print_why(writer, reason)
 }
 
+/// Prints at which path a control socket can't be had.
+fn print_unheard<W: Write>(writer: &mut W, path: SocketPath) -> io::Result<()>
+    ensures { OnOk result
+        (Appends (W.contents writer.old) (W.contents writer.new) (spec.unheard_text path)) }
+{
+    writer.write_all(b"roam: cannot listen at ")?;
+    writer.write_all(path.octets())
+}
+
+/// Prints that a control socket can't be had at a path, and why.
+fn print_control<W: Write>(writer: &mut W, path: SocketPath, reason: u32) -> io::Result<()>
+    ensures { OnOk result
+        (Appends (W.contents writer.old) (W.contents writer.new) (spec.text_of (Fault.Control path reason))) }
+{
+    print_unheard(writer, path)?;
+    print_why(writer, reason)
+}
+
 /// Prints that there is nothing to wait with for sockets, and why.
 fn print_wait<W: Write>(writer: &mut W, reason: u32) -> io::Result<()>
     ensures { OnOk result
@@ -216,6 +249,7 @@ impl<'a> Fault<'a> {
             ServeFault::Clock => Fault::Clock,
             ServeFault::Seed => Fault::Seed,
             ServeFault::Bind(endpoint, Reason(reason)) => Fault::Bind { endpoint, reason },
+            ServeFault::Control(path, Reason(reason)) => Fault::Control { path, reason },
             ServeFault::Descriptors(wanted) => Fault::Descriptors { wanted },
             ServeFault::Wait(Reason(reason)) => Fault::Wait { reason },
             ServeFault::Thread => Fault::Thread,
@@ -261,6 +295,7 @@ impl<'a> Fault<'a> {
             Fault::Usage => print_usage(writer),
             Fault::Unreadable { path } => writeln!(writer, "roam: {path}: unreadable"),
             Fault::Unanswered { path } => writeln!(writer, "roam: {path}: no answer"),
+            Fault::Cut { path } => writeln!(writer, "roam: {path}: answer cut"),
             Fault::Declined { path } => writeln!(writer, "roam: {path}: declined"),
             Fault::Refused { path, fault } => print_refused(writer, path, fault),
             Fault::FaultyLine { path, number } => print_line(writer, path, number),
@@ -269,6 +304,7 @@ impl<'a> Fault<'a> {
             Fault::Clock => writer.write_all(b"roam: no clock\n"),
             Fault::Seed => writer.write_all(b"roam: no random seed\n"),
             Fault::Bind { endpoint, reason } => print_bind(writer, endpoint, reason),
+            Fault::Control { path, reason } => print_control(writer, path, reason),
             Fault::Descriptors { wanted } => print_descriptors(writer, wanted),
             Fault::Wait { reason } => print_wait(writer, reason),
             Fault::Thread => writer.write_all(b"roam: cannot start a thread\n"),

@@ -2,22 +2,22 @@
 
 ghost use Rattle.std.specs.Prelude.{OnOk, IfErr};
 ghost use Rattle.roam_conf.specs.Shown.{shown};
-ghost use Rattle.roam_serve.specs.Faults.{IsFaultOf};
+ghost use Rattle.roam_sockets.specs.Faults.{IsFaultOf};
 ghost use Rattle.roam_sim.specs.Simulation.{IsAccepted};
 ghost use Rattle.roam.specs.Outcomes.{text_in, ServeFails};
 
 use crate::reload::Reread;
 use crate::report::Fault;
 use crate::text_file::TextFile;
-use log::{Log, warn};
+use log::Log;
 use roam_conf::Config;
 use roam_conf_reader::{Settings, read_config, read_settings};
 use roam_diagnosis::{Lines, diagnose};
 use roam_hub::Open;
 use roam_serve::{
-    ControlSocket, Counters, ServeFault, ServeOptions, Watch, serve, with_drawn_seed,
+    ControlSocket, Counters, ServeFault, ServeOptions, SocketPath, Watch, descriptors_wanted,
+    reason_of, serve, with_drawn_seed,
 };
-use std::fs;
 use std::net::Net;
 use std::random::RandomSource;
 use std::rt::Files;
@@ -25,24 +25,33 @@ use std::sync::Wait;
 use std::thread::Threads;
 use std::time::Clock;
 
-/// The control socket, where one is wanted. Tells where it can't be had.
-fn control_socket<R: Files + Net + Log>(rt: &R, settings: &Settings) -> Option<ControlSocket> {
+/// The control socket, where one is wanted.
+fn control_socket<R: Files + Net + Clock>(
+    rt: &R,
+    config: &Config,
+    settings: &Settings,
+) -> Result<Option<ControlSocket>, ServeFault>
+    ensures { IfErr result (IsFaultOf (shown config.now)) }
+{
     let Some(path) = &settings.control else {
-        return None;
+        return Ok(None);
     };
     match ControlSocket::bind(rt, path.as_str()) {
-        Ok(socket) => Some(socket),
+        Ok(socket) => Ok(Some(socket)),
+        Err(error) if reason_of(&error).is_want_of_descriptors() => {
+            Err(ServeFault::Descriptors(descriptors_wanted(config, config)))
+        }
         Err(error) => {
-            warn!(rt; "no control socket at {:?} ({})", path, error);
-            None
+            let path = SocketPath::new(path.as_str());
+            Err(ServeFault::Control(path, reason_of(&error)))
         }
     }
 }
 
-/// Removes the file of a control socket.
-fn remove<R: Files>(rt: &R, settings: &Settings) {
-    if let Some(path) = &settings.control {
-        let _is_gone = fs::remove_file(rt, path.as_str()).is_ok();
+/// Takes the control socket away that the server made.
+fn remove<R: Files>(rt: &R, socket: &Option<ControlSocket>, settings: &Settings) {
+    if let (Some(socket), Some(path)) = (socket, &settings.control) {
+        socket.remove(rt, path.as_str());
     }
 }
 
@@ -76,7 +85,7 @@ fn serve_watched<R: Files + AllocGlobal + Threads + Wait + Clock + Net + RandomS
         return serve(rt, rt.alloc(), config, options, &mut source);
     }
     let counters = Counters::new(rt.alloc(), &config)?;
-    let socket = control_socket(rt, settings);
+    let socket = control_socket(rt, &config, settings)?;
     let watch = Watch {
         counters: &counters,
         metrics: settings.metrics,
@@ -84,9 +93,7 @@ fn serve_watched<R: Files + AllocGlobal + Threads + Wait + Clock + Net + RandomS
     };
     let options = options(Some(watch), settings, milliseconds);
     let ended = serve(rt, rt.alloc(), config, options, &mut source);
-    if socket.is_some() {
-        remove(rt, settings);
-    }
+    remove(rt, &socket, settings);
     ended
 }
 
@@ -117,7 +124,7 @@ fn serve_stated<R: Files + AllocGlobal + Threads + Wait + Clock + Net + RandomSo
 ///
 /// # Errors
 ///
-/// `Refused`; `Memory`; `Clock`, `Seed`, `Bind`, `Descriptors`, `Wait`, `Thread`, `Receive` and `Audit`, and the
+/// `Refused`; `Memory`; `Clock`, `Seed`, `Bind`, `Control`, `Descriptors`, `Wait`, `Thread`, `Receive` and `Audit`, and the
 /// configuration is accepted then, and the endpoint one of its own.
 pub fn serve_file<
     'a,

@@ -7,8 +7,8 @@ use Rattle.roam_audit.specs.declared.audit_fault.AuditFault.TheVariants as fault
 use Rattle.roam_audit.specs.Seats.{SeatView}
 use Rattle.roam_audit.specs.Receipts.{PlainReceipt}
 use Rattle.roam_history.specs.Entries.{HistoryEntry}
-use Rattle.roam_audit.specs.Audit.{AllAgree, HasSeen, IsFirstFault, IsInOrder, IsFirstUneven, IsPassed, AreOfFirstWrong}
-use Rattle.roam_audit.specs.Findings.{FindsPassed, FindsUneven, FindsWrong, Audits}
+use Rattle.roam_audit.specs.Audit.{AllAgree, IsFirstFault, IsInOrder, IsFirstUneven, IsPassed, AreOfFirstWrong}
+use Rattle.roam_audit.specs.Findings.{FindsUneven, FindsWrong, Audits}
 use Rattle.roam_audit.proofs.ReceiptLemmas.{one_wrong, none_wrong}
 
 -- there is one least shard with which the seats don't agree
@@ -109,16 +109,16 @@ audits_receipts steps seats receipts (Err (fault.Receipt shard number)) agree fo
 }
 
 -- a fault of the seats is that of an audit by the seats alone
-pub first_fault : (steps : List (List PlainStep)) (shards : ℕ) (whole : ℕ → List HistoryEntry) (seats : List SeatView) (what : AuditFault)
+pub first_fault : (steps : List (List PlainStep)) (seats : List SeatView) (what : AuditFault)
     → FindsUneven steps seats (Err what)
-    → IsFirstFault steps shards whole seats what
-first_fault steps shards whole seats (fault.Seats shard) first = inl first
-first_fault steps shards whole seats (fault.Receipt shard number) never = absurd never
+    → IsFirstFault steps seats what
+first_fault steps seats (fault.Seats shard) first = first
+first_fault steps seats (fault.Receipt shard number) never = absurd never
 
 -- where there is one they don't pass
-pub not_passed : (steps : List (List PlainStep)) (shards : ℕ) (whole : ℕ → List HistoryEntry) (seats : List SeatView) (what : AuditFault)
-    → IsFirstFault steps shards whole seats what
+pub not_passed : (steps : List (List PlainStep)) (shards : ℕ) (whole : ℕ →
+    List HistoryEntry) (seats : List SeatView) (what : AuditFault)
+    → IsFirstFault steps seats what
     → ¬ IsPassed steps shards whole seats
-not_passed steps shards whole seats (fault.Seats shard) (inl first) passed = none_uneven steps seats shard passed.agree first
-not_passed steps shards whole seats (fault.Seats shard) (inr others) passed = others.2 passed.begun
+not_passed steps shards whole seats (fault.Seats shard) first passed = none_uneven steps seats shard passed.agree first
 not_passed steps shards whole seats (fault.Receipt shard number) never passed = never

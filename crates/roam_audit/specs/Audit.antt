@@ -1,6 +1,6 @@
 -- What an audit asks (ours): whether what was recorded, shard by shard, is what the callers have. All steps
 -- count, those that were let go of too.
-use Rattle.std.specs.Prelude.{◌≡◌, ◌⊎◌, ℕ, ◌+◌, ◌<◌, ◌==◌, ◌&&◌, Bool, List, [], length, take, sum_by, Some, slice_get, slice_index_or, false}
+use Rattle.std.specs.Prelude.{◌≡◌, ℕ, ◌+◌, ◌<◌, ◌==◌, ◌&&◌, Bool, List, [], length, take, sum_by, Some, slice_get, slice_index_or, false}
 use Rattle.std.specs.List.{All, AllPairs}
 use Rattle.roam_trace.specs.Steps.{PlainStep}
 use Rattle.roam_history.specs.Entries.{HistoryEntry}
@@ -41,6 +41,17 @@ pub record AreRight (steps : List (List PlainStep)) (receipts : List PlainReceip
   pub stand : All (Stands steps) receipts
   pub apart : AllPairs (λ one other. are_of_one_call one other ≡ false) receipts
 
+-- ## Audit
+-- All is in order where for each shard the seats together counted as many calls as it has steps, and none is
+-- marked there; and where each receipt stands in the steps, and no two are of one call. Else the least shard
+-- with which the seats don't agree is at fault; or, where they agree with all, the first receipt that isn't
+-- right beside those before it.
+-- Source: ours
+-- Rules out: a step that nobody called for; a call whose step is missing; a later fault reported for an earlier
+-- one
+-- Stands in: `roam_audit` `Audit.antt`: `IsInOrder`, `IsFirstUneven`, `IsFirstWrong`, `AreOfFirstWrong`;
+-- `Report::audit`
+--
 -- all is as it must be
 pub record IsInOrder (steps : List (List PlainStep)) (seats : List SeatView)
     (receipts : List PlainReceipt) : Type 0 where
@@ -81,16 +92,21 @@ Begins seen whole = take (length seen) whole ≡ seen
 abbrev pub HasSeen : ℕ → (ℕ → List HistoryEntry) → SeatView → Type 0
 HasSeen shards whole seat = (shard : ℕ) → shard < shards → Begins (front_of seat shard) (whole shard)
 
+-- ## Audited report
+-- One whose seats together counted just as many calls of each shard as it has steps there, none of them marked,
+-- and have seen beginnings of its histories.
+-- Source: ours
+-- Rules out: an end that nobody audited
+-- Stands in: `roam_audit` `Audit.antt`: `IsPassed`, `IsFirstFault`; the invariants of `Audited`;
+-- `Report::audited`
+--
 -- the seats agree with every shard, and what each has seen begins the histories
 pub record IsPassed (steps : List (List PlainStep)) (shards : ℕ) (whole : ℕ → List HistoryEntry)
     (seats : List SeatView) : Type 0 where
   pub agree : AllAgree steps seats
   pub begun : All (HasSeen shards whole) seats
 
--- the first fault of an audit by the seats alone: the least shard with which they don't agree; or they
--- agree, and one has seen what isn't there: that is told as a fault of shard 0
-abbrev pub IsFirstFault : List (List PlainStep) → ℕ → (ℕ → List HistoryEntry) → List SeatView → AuditFault → Type 0
-IsFirstFault steps shards whole seats (fault.Seats shard) =
-    IsFirstUneven steps seats shard
-    ⊎ ((shard ≡ 0) × AllAgree steps seats × ¬ All (HasSeen shards whole) seats)
-IsFirstFault steps shards whole seats (fault.Receipt shard number) = ⊥
+-- the first fault of an audit by the seats alone: the least shard with which they don't agree
+abbrev pub IsFirstFault : List (List PlainStep) → List SeatView → AuditFault → Type 0
+IsFirstFault steps seats (fault.Seats shard) = IsFirstUneven steps seats shard
+IsFirstFault steps seats (fault.Receipt shard number) = ⊥

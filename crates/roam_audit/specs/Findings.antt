@@ -16,11 +16,11 @@ FindsUneven steps seats (Ok _) = AllAgree steps seats
 FindsUneven steps seats (Err (fault.Seats shard)) = IsFirstUneven steps seats shard
 FindsUneven steps seats (Err (fault.Receipt shard number)) = ⊥
 
--- what is found of the seats, and of what they have seen
+-- what is found of the seats, all of which have seen beginnings of the histories
 abbrev pub FindsPassed : List (List PlainStep) → ℕ → (ℕ → List HistoryEntry) → List SeatView
     → Result (Unit {0}) AuditFault → Type 0
 FindsPassed steps shards whole seats (Ok _) = IsPassed steps shards whole seats
-FindsPassed steps shards whole seats (Err what) = IsFirstFault steps shards whole seats what
+FindsPassed steps shards whole seats (Err what) = IsFirstFault steps seats what
 
 -- the first receipt that isn't right has this shard and number
 pub record IsWrongAt (steps : List (List PlainStep)) (receipts : List PlainReceipt)

@@ -28,6 +28,14 @@ tally_of tallies shard = slice_index_or tallies shard no_calls
 abbrev pub front_of : SeatView → ℕ → List HistoryEntry
 front_of seat shard = slice_index_or seat.fronts shard []
 
+-- ## Seat
+-- For each shard, what one caller counts: how many calls, the number after the last one's, and a mark where a
+-- number was below that or the count could rise no further; and what it has seen of the shard's history.
+-- Source: ours
+-- Rules out: two calls counted as one; numbers that fall unseen
+-- Stands in: `roam_audit` `Seats.antt`: `tally_after`, `noted`, `new_seat`, `front_of`; `Seat::note`, `split`;
+-- the calls of `Hub`
+--
 -- a call was recorded under a number. It is counted, as far as 64 bits go. The number should be at
 -- least the one after the last: where it is below, or the count stood at its end, that is marked
 abbrev pub tally_after : Tally → ℕ → Tally

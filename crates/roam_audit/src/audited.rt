@@ -1,6 +1,6 @@
 //! A report that passed its audit.
 
-ghost use Rattle.std.specs.Prelude.{◌≡◌, ◌↔◌, ◌<◌, true, IfErr, IfOk, IsOk, IsTrue, vec_len};
+ghost use Rattle.std.specs.Prelude.{◌≡◌, ◌↔◌, ◌<◌, IfErr, IfOk, IsOk, vec_len};
 ghost use Rattle.std.specs.List.{All};
 ghost use mathlib.Core.List.{IsPrefix};
 ghost use Rattle.roam_audit.specs.Seats.{front_of};
@@ -35,58 +35,51 @@ impl<A: Allocator, N: Opened> Audited<A, N> {
 }
 
 impl<A: Allocator, N: Opened> Report<A, N> {
-    /// Whether all that a seat has seen of a shard begins that shard's history here.
-    fn has_seen(&self, seat: &Seat<A, N>, shard: usize) -> bool
+    /// All that a seat has seen of a shard begins that shard's history here, which is whole.
+    fn has_seen(&self, seat: &Seat<A, N>, shard: usize)
         requires { shard < vec_len self.now.fronts }
-        ensures { result ≡ true ↔ IsPrefix (front_of seat.now shard) (whole_of self.now shard) }
+        ensures { IsPrefix (front_of seat.now shard) (whole_of self.now shard) }
     {
-        seat.front(shard as u16).begins(&self.fronts[shard])
+        seat.front(shard as u16).begins_whole(&self.fronts[shard]);
     }
 
-    /// Whether all that a seat has seen of each shard begins that shard's history here.
-    fn has_all_of(&self, seat: &Seat<A, N>) -> bool
-        ensures { IsTrue result ↔ HasSeen N.opening.config.shards (whole_of self.now) seat.now }
+    /// So does all that it has seen of each shard.
+    fn has_all_of(&self, seat: &Seat<A, N>)
+        ensures { HasSeen N.opening.config.shards (whole_of self.now) seat.now }
     {
         for shard in 0..self.fronts.len() {
-            if !self.has_seen(seat, shard) {
-                return false;
-            }
+            self.has_seen(seat, shard);
         }
-        true
     }
 
-    /// Whether all that each of these seats has seen begins the histories here.
-    fn has_all(&self, seats: &[Seat<A, N>]) -> bool
-        ensures { IsTrue result
-            ↔ All (HasSeen N.opening.config.shards (whole_of self.now)) seats.now }
+    /// All that any seat of the hub has seen of a shard begins that shard's history here: nothing is compared for that.
+    pub fn has_all(&self, seats: &[Seat<A, N>])
+        ensures { All (HasSeen N.opening.config.shards (whole_of self.now)) seats.now }
     {
-        seats.iter().all(|seat| self.has_all_of(seat))
+        for seat in seats {
+            self.has_all_of(seat);
+        }
     }
 
-    /// Audits the report by these seats, with no receipts, and looks at what they have seen.
+    /// Audits the report by these seats, with no receipts.
     fn passes(&self, seats: &[Seat<A, N>]) -> Result<(), AuditFault>
         ensures { FindsPassed (recorded self.now) N.opening.config.shards (whole_of self.now)
             seats.now result }
     {
         match self.check_seats(seats) {
             Ok(()) => {
-                if self.has_all(seats) {
-                    Ok(())
-                } else {
-                    Err(AuditFault::Seats { shard: 0 })
-                }
+                self.has_all(seats);
+                Ok(())
             }
             Err(fault) => Err(fault),
         }
     }
 
-    /// Audits the report by these seats, with no receipts: see `audit`. Where a seat has seen what isn't
-    /// recorded here, that is a fault of the seats of shard 0. Takes no memory.
+    /// Audits the report by these seats, with no receipts: see `audit`. Takes no memory.
     pub fn audited(self, seats: Vec<Seat<A, N>, A>) -> Result<Audited<A, N>, AuditFault>
         ensures ok { IsOk result
             ↔ IsPassed (recorded self) N.opening.config.shards (whole_of self) seats.items }
-        ensures fault { IfErr result
-            (IsFirstFault (recorded self) N.opening.config.shards (whole_of self) seats.items) }
+        ensures fault { IfErr result (IsFirstFault (recorded self) seats.items) }
         ensures report { IfOk result (λ a. a.report ≡ self) }
         ensures seats { IfOk result (λ a. a.seats ≡ seats) }
     {

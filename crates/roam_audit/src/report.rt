@@ -1,7 +1,7 @@
 //! What was recorded of all shards, and its audit.
 
 ghost use Rattle.std.specs.Prelude.{◌≡◌, ◌-◌, ◌<◌, ◌^◌, min, vec_len};
-ghost use Rattle.roam_history.specs.Fronts.{AreOfShards};
+ghost use Rattle.roam_history.specs.Fronts.{AreOfShards, AreWhole};
 ghost use Rattle.roam_audit.specs.StepCounts.{count_of_steps};
 
 use crate::audit_fault::AuditFault;
@@ -19,11 +19,13 @@ pub struct Report<A: Allocator, N: Opened> {
     pub steps: Vec<Vec<Step<A>, A>, A>,
     /// By realm, where it begins the next time.
     pub starts: Vec<Start, A>,
-    /// By shard, its whole history: the steps that were let go of, and the stored ones.
+    /// By shard, its whole history: the steps that were let go of, and the stored ones. It is closed, so nothing was
+    /// written into it later.
     pub fronts: Vec<Front<N>, A>,
     ghost few_shards: { vec_len fronts < 2 ^ 16 },
     ghost all_shards: { vec_len fronts ≡ N.opening.config.shards },
     ghost of_shards: { AreOfShards fronts.items },
+    ghost whole: { AreWhole fronts.items },
 }
 
 /// How many steps these histories have together; as many as 64 bits hold.

@@ -1,6 +1,6 @@
 //! What one caller counts of its calls, and has seen of the shards' histories.
 
-ghost use Rattle.std.specs.Prelude.{◌≡◌, ◌<◌, ◌-◌, ◌^◌, [], length, map, vec_len, IfOk, IfErr};
+ghost use Rattle.std.specs.Prelude.{◌≡◌, ◌<◌, ◌-◌, ◌^◌, [], length, vec_len, IfOk, IfErr};
 ghost use Rattle.roam_history.specs.Fronts.{AreOfShards, entries_of};
 ghost use Rattle.roam_audit.specs.Seats.{after_call, front_of, having_seen, no_tallies, noted, tally_of};
 

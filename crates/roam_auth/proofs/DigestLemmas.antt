@@ -22,13 +22,15 @@ AreOctets-digest : (h : List ℕ) (n : ℕ) → AreOctets (digest_bytes h n)
 unfolding digest_bytes
 AreOctets-digest h zero = AreOctets-empty
 AreOctets-digest h (suc n) =
-    AreOctets-append (digest_bytes h n) (to_le_bytes w32 (slice_index h n)) (AreOctets-digest h n) (AreOctets-word (slice_index h n))
+    AreOctets-append (digest_bytes h n) (to_le_bytes w32 (slice_index h n)) (AreOctets-digest h n)
+    (AreOctets-word (slice_index h n))
 
 pub sixteen-md5 : (m : List ℕ) → AreSixteenOctets (md5 m)
 unfolding md5
 sixteen-md5 m = record { size = length-md5 m; octets = AreOctets-digest _ 4 }
 
-pub sixteen-response_authenticator : (secret request_authenticator : List ℕ) (p : Packet) → AreSixteenOctets (response_authenticator secret request_authenticator p)
+pub sixteen-response_authenticator : (secret request_authenticator : List ℕ) (p : Packet) →
+    AreSixteenOctets (response_authenticator secret request_authenticator p)
 unfolding response_authenticator
 sixteen-response_authenticator secret request_authenticator p = sixteen-md5 _
 
@@ -40,15 +42,18 @@ sixteen-hmac_md5 : (key message : List ℕ) → AreSixteenOctets (hmac_md5 key m
 unfolding hmac_md5
 sixteen-hmac_md5 key message = sixteen-md5 _
 
-pub sixteen-message_authenticator : (secret authenticator : List ℕ) (p : Packet) → AreSixteenOctets (message_authenticator secret authenticator p)
+pub sixteen-message_authenticator : (secret authenticator : List ℕ) (p : Packet) →
+    AreSixteenOctets (message_authenticator secret authenticator p)
 unfolding message_authenticator
 sixteen-message_authenticator secret authenticator p = sixteen-hmac_md5 _ _
 
-pub length-message_authenticator : (secret authenticator : List ℕ) (p : Packet) → length (message_authenticator secret authenticator p) ≡ 16
+pub length-message_authenticator : (secret authenticator : List ℕ) (p : Packet) →
+    length (message_authenticator secret authenticator p) ≡ 16
 length-message_authenticator secret authenticator p = (sixteen-message_authenticator secret authenticator p).size
 
 -- a packet with other sixteen octets for its Authenticator is a packet
-pub IsPacket-with_authenticator : (field : List ℕ) (p : Packet) → AreSixteenOctets field → IsPacket p → IsPacket (with_authenticator field p)
+pub IsPacket-with_authenticator : (field : List ℕ) (p : Packet) → AreSixteenOctets field → IsPacket p →
+    IsPacket (with_authenticator field p)
 IsPacket-with_authenticator field p sixteen packet = record {
   code = packet.code;
   id = packet.id;
@@ -59,7 +64,8 @@ IsPacket-with_authenticator field p sixteen packet = record {
 }
 
 -- so what is signed is a packet
-pub IsPacket-signed_reply : (secret request_authenticator : List ℕ) (p : Packet) → IsPacket p → IsPacket (signed_reply secret request_authenticator p)
+pub IsPacket-signed_reply : (secret request_authenticator : List ℕ) (p : Packet) → IsPacket p →
+    IsPacket (signed_reply secret request_authenticator p)
 IsPacket-signed_reply secret request_authenticator p packet =
     IsPacket-with_authenticator _ p (sixteen-response_authenticator secret request_authenticator p) packet
 

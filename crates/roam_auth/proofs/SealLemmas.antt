@@ -33,24 +33,6 @@ attribute_taken new m value a same held =
     ∙ ap (λ (v : List ℕ). m ++ (a.kind ∷ (length v + 2) ∷ v)) same in
     subst (Holds new) text held
 
--- one attribute more
-pub HasTaken-more : (before hasher new : Md5) (all left : List Attribute) (a : Attribute) →
-    HasTaken before hasher all (a ∷ left) →
-    ((m : List ℕ) → Holds hasher m →
-    Holds new (m ++ attribute_text (attribute_with_value zero_octets a))) →
-    HasTaken before new all left
-HasTaken-more before hasher new all left a taken more = record {
-  attributes = taken.attributes.1;
-  held = λ m h.
-      let so_far = taken.held m h in
-      let text : List ℕ = attribute_text (attribute_with_value zero_octets a) in (
-        so_far.0 ++ text,
-        more so_far.0 so_far.1,
-        append_assoc so_far.0 text (zeroed_text left)
-            ∙ so_far.2,
-      );
-}
-
 -- the header with another Authenticator, and the attributes with zeros, are the packet that is
 -- hashed
 pub hashed_packet : (a : List ℕ) (p : Packet) → HasAtMostOneMessageAuthenticator p →
@@ -126,29 +108,6 @@ pub Any-second : {X : Type 0} (P : X → Type 0) (a b : X) → P b → Any P (a 
 Any-second P a b here = (1, b, omega arith, refl, here)
 
 -- ---- well sealed
-
--- a packet with one is well sealed just where its Value is the one expected
-pub well_sealed_one : (secret authenticator value expected : List ℕ) (p : Packet) →
-    HasOneMessageAuthenticator p → Some value ≡ first_value MESSAGE_AUTHENTICATOR p.attributes →
-    expected ≡ message_authenticator secret authenticator p →
-    (value ≡ expected) ↔ IsWellSealed secret (authenticator ∷ []) p
-well_sealed_one secret authenticator value expected p one first is = (
-  λ same. inr (
-    one,
-    Any-here (IsSealedOver secret p) authenticator
-        (sym first ∙ ap Some (same ∙ is)),
-  ),
-  λ sealed.
-      elim sealed [
-        | inl none ↦ absurd (let count = one.one in omega arith)
-        | inr some ↦
-            let stands : IsSealedOver secret p authenticator =
-            Any-one (IsSealedOver secret p) authenticator some.1 in
-            let both : Some value ≡ Some (message_authenticator secret authenticator p) = first
-            ∙ stands in
-            cc
-      ],
-)
 
 -- a packet whose Message-Authenticators aren't just one of 16 octets isn't well sealed
 pub not_well_sealed : (secret authenticator value : List ℕ) (p : Packet) →

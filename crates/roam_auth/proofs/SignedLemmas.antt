@@ -8,16 +8,23 @@ use Rattle.roam_auth.proofs.ValueLemmas.{IsPacket-with_value}
 use Rattle.roam_auth.proofs.DigestLemmas.{sixteen-message_authenticator}
 
 -- a sealed packet is a packet
-pub IsPacket-sealed : (secret authenticator : List ℕ) (p : Packet) → HasAtMostOneMessageAuthenticator p → IsPacket p → IsPacket (with_message_authenticator secret authenticator p)
+pub IsPacket-sealed : (secret authenticator : List ℕ) (p : Packet) → HasAtMostOneMessageAuthenticator p → IsPacket p
+    → IsPacket (with_message_authenticator secret authenticator p)
 IsPacket-sealed secret authenticator p h packet =
-    IsPacket-with_value (message_authenticator secret authenticator p) p (sixteen-message_authenticator secret authenticator p) h packet
+    IsPacket-with_value (message_authenticator secret authenticator p) p
+    (sixteen-message_authenticator secret authenticator p) h packet
 
 -- so its octets are a packet's
-pub IsPacketText-sealed : (secret authenticator : List ℕ) (p : Packet) → HasAtMostOneMessageAuthenticator p → IsPacket p → IsPacketText (packet_text (with_message_authenticator secret authenticator p))
+pub IsPacketText-sealed : (secret authenticator : List ℕ) (p : Packet) → HasAtMostOneMessageAuthenticator p →
+    IsPacket p → IsPacketText (packet_text (with_message_authenticator secret authenticator p))
 IsPacketText-sealed secret authenticator p h packet =
-    IsPacketText-packet_text (with_message_authenticator secret authenticator p) (IsPacket-sealed secret authenticator p h packet)
+    IsPacketText-packet_text (with_message_authenticator secret authenticator p)
+    (IsPacket-sealed secret authenticator p h packet)
 
 -- and they read as it
-pub packet_of-sealed : (secret authenticator octets : List ℕ) (p : Packet) → HasAtMostOneMessageAuthenticator p → IsPacket p → octets ≡ packet_text (with_message_authenticator secret authenticator p) → packet_of octets ≡ with_message_authenticator secret authenticator p
+pub packet_of-sealed : (secret authenticator octets : List ℕ) (p : Packet) → HasAtMostOneMessageAuthenticator p →
+    IsPacket p → octets ≡ packet_text (with_message_authenticator secret authenticator p) →
+    packet_of octets ≡ with_message_authenticator secret authenticator p
 packet_of-sealed secret authenticator octets p h packet text =
-    ap packet_of text ∙ packet_of-packet_text (with_message_authenticator secret authenticator p) (IsPacket-sealed secret authenticator p h packet)
+    ap packet_of text ∙ packet_of-packet_text (with_message_authenticator secret authenticator p)
+    (IsPacket-sealed secret authenticator p h packet)

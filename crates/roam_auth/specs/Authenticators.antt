@@ -17,6 +17,14 @@ pub record AreSixteenOctets (field : List ℕ) : Type 0 where
 abbrev pub with_authenticator : List ℕ → Packet → Packet
 with_authenticator authenticator p = record p { authenticator = authenticator }
 
+-- ## Response Authenticator, signed reply
+-- A reply is signed for a secret and a Request Authenticator where its Authenticator is MD5 of its text with
+-- that Request Authenticator in the Authenticator's place, followed by the secret.
+-- Source: RFC 2865 section 3
+-- Rules out: a digest over the reply's own Authenticator
+-- Stands in: `roam_auth` `Authenticators.antt`: `response_authenticator`, `IsSignedReply`; `response_auth`,
+-- `response_ok`, `sign_reply`
+--
 -- MD5 of Code, Identifier, Length, the request's Authenticator, attributes and secret
 -- (RFC 2865, section 3, "Response Authenticator")
 unfoldable pub response_authenticator : List ℕ → List ℕ → Packet → List ℕ
@@ -34,6 +42,14 @@ abbrev pub signed_reply : List ℕ → List ℕ → Packet → Packet
 signed_reply secret request_authenticator p =
     with_authenticator (response_authenticator secret request_authenticator p) p
 
+-- ## Request Authenticator, signed request
+-- An Accounting-, Disconnect- or CoA-Request is signed for a secret where its Authenticator is MD5 of its text
+-- with 16 zero octets in the Authenticator's place, followed by the secret.
+-- Source: RFC 2866 section 3, RFC 5176 section 2.3
+-- Rules out: a digest over the request's own Authenticator
+-- Stands in: `roam_auth` `Authenticators.antt`: `request_authenticator`, `IsSignedRequest`; `request_auth`,
+-- `request_ok`, `sign_request`
+--
 -- MD5 of Code, Identifier, Length, sixteen zero octets, attributes and secret
 -- (RFC 2866, section 3, "Request Authenticator"; RFC 5176, section 2.3)
 unfoldable pub request_authenticator : List ℕ → Packet → List ℕ

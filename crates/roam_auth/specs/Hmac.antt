@@ -11,6 +11,12 @@ padded_key key = key ++ replicate (64 - length key) 0
 abbrev pub key_with_pad : ℕ → List ℕ → List ℕ
 key_with_pad pad key = map (λ octet. bit_xor octet pad) (padded_key key)
 
+-- ## HMAC-MD5
+-- The two-fold digest with a key of at most 64 octets, padded to 64, inner pad 0x36, outer pad 0x5c.
+-- Source: RFC 2104 section 2
+-- Rules out: a digest without the outer one
+-- Stands in: `roam_auth` `Hmac.antt`: `hmac_md5`; `hmac_md5`
+--
 -- HMAC-MD5 of a message; ipad is the octet 0x36, opad 0x5c (RFC 2104, section 2)
 unfoldable pub hmac_md5 : List ℕ → List ℕ → List ℕ
 hmac_md5 key message = md5 (key_with_pad 0x5c key ++ md5 (key_with_pad 0x36 key ++ message))

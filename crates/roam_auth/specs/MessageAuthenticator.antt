@@ -49,6 +49,15 @@ zeroed_text attributes = attributes_text (attributes_with_value zero_octets attr
 abbrev pub empty_message_authenticator : Attribute
 empty_message_authenticator = record { kind = MESSAGE_AUTHENTICATOR; value = zero_octets }
 
+-- ## Message-Authenticator
+-- HMAC-MD5, keyed by the secret, over the packet's text with a given Authenticator in the Authenticator's place
+-- and the attribute's own 16 octets zero. It is defined where the packet has just one attribute of type 80, of
+-- 16 octets.
+-- Source: RFC 3579 section 3.2
+-- Rules out: a digest over its own octets
+-- Stands in: `roam_auth` `MessageAuthenticator.antt`: `message_authenticator`, `HasOneMessageAuthenticator`;
+-- `message_auth`
+--
 -- the Message-Authenticator of a packet over an Authenticator: HMAC-MD5, keyed by the secret, of
 -- the whole packet with that Authenticator in its field and sixteen zero octets in the
 -- Message-Authenticator (RFC 3579, section 3.2)
@@ -56,6 +65,15 @@ unfoldable pub message_authenticator : List ℕ → List ℕ → Packet → List
 message_authenticator secret authenticator p =
     hmac_md5 secret (packet_text (with_authenticator authenticator (with_value zero_octets p)))
 
+-- ## Sealed, well sealed
+-- Sealing a packet puts its Message-Authenticator there, and leaves a packet without type 80 as it is. A packet
+-- is well sealed for a secret and some Authenticators where it has no type 80, or just one, of 16 octets, right
+-- for one of them.
+-- Source: RFC 3579 section 3.2
+-- Rules out: a wrong Message-Authenticator passed on
+-- Stands in: `roam_auth` `MessageAuthenticator.antt`: `with_message_authenticator`, `IsWellSealed`;
+-- `message_ok`, `seal`, the laws `sealing`, `zeroing`, `signing`, `deciding`
+--
 -- the packet sealed: its Message-Authenticator over an Authenticator in its place; as it is where
 -- it has no such place (ours)
 abbrev pub with_message_authenticator : List ℕ → List ℕ → Packet → Packet

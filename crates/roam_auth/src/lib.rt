@@ -5,6 +5,14 @@
 //! Nothing here takes memory or copies a packet: each digest takes the pieces where they lie. MD5
 //! itself is the crate `md5`'s. Every secret has 1 to 64 octets. Authenticators are passed by value.
 //! What is compared with a digest is compared in constant time.
+//!
+//! # Proved
+//!
+//! - each digest is its RFC's formula, and each check is true exactly when it holds (that digests are compared
+//!   by an or of xors, whatever differs, is code: no contract speaks of time) | `response_auth`, `response_ok`,
+//!   `request_auth`, `request_ok`, `message_auth`, `message_ok`, `hmac_md5`
+//! - sealed and signed in place; what is sealed and signed passes the checks | `seal`, `sign_request`,
+//!   `sign_reply`; laws
 #![tactic(auto)]
 
 mod comparing;

@@ -1,6 +1,6 @@
 //! A packet's octets in pieces, as digests take them (RFC 2865, section 3).
 
-ghost use Rattle.std.specs.Prelude.{◌≡◌, ◌≤◌, List, ℕ, ◌++◌, ◌∷◌, length, take, drop};
+ghost use Rattle.std.specs.Prelude.{◌≡◌, ◌≤◌, length, take, drop};
 
 /// Sixteen zero octets, which stand for an Authenticator or a Message-Authenticator that isn't computed
 /// yet (RFC 2866, section 3; RFC 3579, section 3.2).

@@ -1,6 +1,6 @@
 -- What the returned packet carries of the reply.
 use Rattle.std.proofs.Common.{◌≡◌, ◌≢◌, ℕ, Bool, true, false, inl, inr, List, [], ◌∷◌, ◌++◌, map, refl, ap, ◌∙◌, arith}
-use Rattle.std.specs.Prelude.{if◌then◌else◌, ◌==◌, not}
+use Rattle.std.specs.Prelude.{if◌then◌else◌, ◌==◌}
 use Rattle.std.specs.List.{AllZip}
 use Rattle.std.proofs.lemmas.Bool.{cases_Bool, eq-eqb, ne_eqb}
 use Rattle.std.proofs.lemmas.List.{map-append}
@@ -25,11 +25,13 @@ use Rattle.roam_back.proofs.PlainLemmas.{from_key, to_key, accept_is_access}
 
 -- ---- an attribute of an Access-Accept
 
-first_of : (P : List ℕ → Type 0) (a b : Bool) (x y z : List ℕ) → a ≡ true → P x → P (if a then x else if b then y else z)
+first_of : (P : List ℕ → Type 0) (a b : Bool) (x y z : List ℕ) → a ≡ true → P x →
+    P (if a then x else if b then y else z)
 first_of P true b x y z is h = h
 first_of P false b x y z is h = absurd (cc)
 
-second_of : (P : List ℕ → Type 0) (a b : Bool) (x y z : List ℕ) → a ≡ false → b ≡ true → P y → P (if a then x else if b then y else z)
+second_of : (P : List ℕ → Type 0) (a b : Bool) (x y z : List ℕ) → a ≡ false → b ≡ true → P y →
+    P (if a then x else if b then y else z)
 second_of P true b x y z other is h = absurd (cc)
 second_of P false true x y z other is h = h
 second_of P false false x y z other is h = absurd (cc)
@@ -42,7 +44,8 @@ neither_of false false x y z first second = refl
 vendor_is_no_tunnel : (a : Attribute) → a.kind ≡ VENDOR_SPECIFIC → a.kind ≢ TUNNEL_PASSWORD
 vendor_is_no_tunnel a vendor tunnel = absurd (omega (arith, vendor, tunnel))
 
-carried_one : (r : Returning) (request : Packet) (a : Attribute) → IsCarriedBack (from_key r) (to_key r request) a (with_salted_anew r request a)
+carried_one : (r : Returning) (request : Packet) (a : Attribute) →
+    IsCarriedBack (from_key r) (to_key r request) a (with_salted_anew r request a)
 carried_one r request a =
     let from : Key = from_key r in
     let to : Key = to_key r request in
@@ -52,50 +55,81 @@ carried_one r request a =
     let y : List ℕ = vendor_anew from to a.value in
     record {
       kind = refl;
-      tunnel_password = λ is. first_of (IsTunnelAnew from to a.value) tunnel vendor x y a.value (eq-eqb a.kind TUNNEL_PASSWORD is) (tunnel_anew_is from to a.value);
-      vendor_specific = λ is. second_of (IsVendorAnew from to a.value) tunnel vendor x y a.value (ne_eqb a.kind TUNNEL_PASSWORD (vendor_is_no_tunnel a is)) (eq-eqb a.kind VENDOR_SPECIFIC is) (vendor_anew_is from to a.value);
-      other = λ no_tunnel no_vendor. neither_of tunnel vendor x y a.value (ne_eqb a.kind TUNNEL_PASSWORD no_tunnel) (ne_eqb a.kind VENDOR_SPECIFIC no_vendor);
+      tunnel_password = λ is. first_of (IsTunnelAnew from to a.value) tunnel vendor x y a.value
+          (eq-eqb a.kind TUNNEL_PASSWORD is) (tunnel_anew_is from to a.value);
+      vendor_specific = λ is. second_of (IsVendorAnew from to a.value) tunnel vendor x y a.value
+          (ne_eqb a.kind TUNNEL_PASSWORD (vendor_is_no_tunnel a is)) (eq-eqb a.kind VENDOR_SPECIFIC is)
+          (vendor_anew_is from to a.value);
+      other = λ no_tunnel no_vendor. neither_of tunnel vendor x y a.value (ne_eqb a.kind TUNNEL_PASSWORD no_tunnel)
+          (ne_eqb a.kind VENDOR_SPECIFIC no_vendor);
     }
 
-carried_all : (r : Returning) (request : Packet) (all : List Attribute) → AllZip (IsCarriedBack (from_key r) (to_key r request)) all (map (with_salted_anew r request) all)
+carried_all : (r : Returning) (request : Packet) (all : List Attribute) →
+    AllZip (IsCarriedBack (from_key r) (to_key r request)) all (map (with_salted_anew r request) all)
 carried_all r request [] = tt
 carried_all r request (a ∷ all) = (carried_one r request a, carried_all r request all)
 
 -- ---- an Access reply
 
 -- the Message-Authenticator's Value is the only one that is filled in
-filled_in : (r : Returning) (reply request : Packet) → is_access_reply reply.code ≡ true → (returned r reply request).attributes ≡ (record { kind = MESSAGE_AUTHENTICATOR; value = seal_of r reply request } ∷ access_rest r reply request) ++ proxy_states request
+filled_in : (r : Returning) (reply request : Packet) → is_access_reply reply.code ≡ true →
+    (returned r reply request).attributes
+    ≡ (record { kind = MESSAGE_AUTHENTICATOR; value = seal_of r reply request } ∷ access_rest r reply request)
+    ++ proxy_states request
 unfolding returned
 filled_in r reply request access =
     let seal : List ℕ = seal_of r reply request in
     let rest : List Attribute = access_rest r reply request in
     let none : count_of MESSAGE_AUTHENTICATOR (rest ++ proxy_states request) ≡ 0 =
-    omega (arith, count_of-append MESSAGE_AUTHENTICATOR rest (proxy_states request), count_of-rest r reply request, count_of-only MESSAGE_AUTHENTICATOR PROXY_STATE request.attributes seal_apart) in
-    ap (λ (all : List Attribute). map (attribute_with_value seal) (all ++ proxy_states request)) (carried-access r reply request access)
+    omega (
+      arith,
+      count_of-append MESSAGE_AUTHENTICATOR rest (proxy_states request),
+      count_of-rest r reply request,
+      count_of-only MESSAGE_AUTHENTICATOR PROXY_STATE request.attributes seal_apart,
+    ) in
+    ap (λ (all : List Attribute). map (attribute_with_value seal) (all ++ proxy_states request))
+    (carried-access r reply request access)
     ∙ stands_in_place seal zero_octets [] (rest ++ proxy_states request) refl none
 
-pub accept_carries : (r : Returning) (reply request : Packet) → reply.code ≡ ACCESS_ACCEPT → (seal : List ℕ) × (carried : List Attribute) × ((returned r reply request).attributes ≡ (record { kind = MESSAGE_AUTHENTICATOR; value = seal } ∷ carried) ++ proxy_states request) × AllZip (IsCarriedBack (from_key r) (to_key r request)) (own_attributes reply) carried
+pub accept_carries : (r : Returning) (reply request : Packet) → reply.code ≡ ACCESS_ACCEPT → (seal : List ℕ)
+    × (carried : List Attribute) × ((returned r reply request).attributes
+    ≡ (record { kind = MESSAGE_AUTHENTICATOR; value = seal } ∷ carried) ++ proxy_states request)
+    × AllZip (IsCarriedBack (from_key r) (to_key r request)) (own_attributes reply) carried
 accept_carries r reply request is =
     let own : List Attribute = own_attributes reply in
     let accept : (reply.code == ACCESS_ACCEPT) ≡ true = eq-eqb reply.code ACCESS_ACCEPT is in
     let rest : access_rest r reply request ≡ map (with_salted_anew r request) own = rw accept refl in (
       seal_of r reply request,
       map (with_salted_anew r request) own,
-      filled_in r reply request (accept_is_access reply accept) ∙ ap (λ (l : List Attribute). (record { kind = MESSAGE_AUTHENTICATOR; value = seal_of r reply request } ∷ l) ++ proxy_states request) rest,
+      filled_in r reply request (accept_is_access reply accept)
+          ∙ ap (λ (l : List Attribute). (record {
+            kind = MESSAGE_AUTHENTICATOR;
+            value =
+                seal_of r reply request;
+          } ∷ l) ++ proxy_states request) rest,
       carried_all r request own,
     )
 
-pub access_carries : (r : Returning) (reply request : Packet) → is_access_reply reply.code ≡ true → reply.code ≢ ACCESS_ACCEPT → (seal : List ℕ) × ((returned r reply request).attributes ≡ (record { kind = MESSAGE_AUTHENTICATOR; value = seal } ∷ own_attributes reply) ++ proxy_states request)
+pub access_carries : (r : Returning) (reply request : Packet) → is_access_reply reply.code ≡ true →
+    reply.code ≢ ACCESS_ACCEPT → (seal : List ℕ)
+    × ((returned r reply request).attributes
+    ≡ (record { kind = MESSAGE_AUTHENTICATOR; value = seal } ∷ own_attributes reply) ++ proxy_states request)
 access_carries r reply request access other =
     let rest : access_rest r reply request ≡ own_attributes reply = rw (ne_eqb reply.code ACCESS_ACCEPT other) refl in (
       seal_of r reply request,
-      filled_in r reply request access ∙ ap (λ (l : List Attribute). (record { kind = MESSAGE_AUTHENTICATOR; value = seal_of r reply request } ∷ l) ++ proxy_states request) rest,
+      filled_in r reply request access
+          ∙ ap (λ (l : List Attribute). (record {
+            kind = MESSAGE_AUTHENTICATOR;
+            value =
+                seal_of r reply request;
+          } ∷ l) ++ proxy_states request) rest,
     )
 
 -- ---- any other reply
 
 -- a Value that is left out leaves no trace of another one before it
-left_out : (value : List ℕ) (all : List Attribute) → attributes_with_value [] (map (attribute_with_value value) all) ≡ attributes_with_value [] all
+left_out : (value : List ℕ) (all : List Attribute) →
+    attributes_with_value [] (map (attribute_with_value value) all) ≡ attributes_with_value [] all
 left_out value [] = refl
 left_out value (a ∷ all) =
     elim (cases_Bool (has_kind MESSAGE_AUTHENTICATOR a)) [
@@ -104,21 +138,27 @@ left_out value (a ∷ all) =
     ]
 
 -- no Proxy-State is a Message-Authenticator
-proxy_states_stay : (all : List Attribute) → attributes_with_value [] (only_kind PROXY_STATE all) ≡ only_kind PROXY_STATE all
+proxy_states_stay : (all : List Attribute) →
+    attributes_with_value [] (only_kind PROXY_STATE all) ≡ only_kind PROXY_STATE all
 proxy_states_stay [] = refl
 proxy_states_stay (a ∷ all) =
     elim (cases_Bool (has_kind PROXY_STATE a)) [
       | inl found ↦
-          let other : has_kind MESSAGE_AUTHENTICATOR a ≡ false = other_kind MESSAGE_AUTHENTICATOR PROXY_STATE a seal_apart found in
+          let other : has_kind MESSAGE_AUTHENTICATOR a ≡ false =
+          other_kind MESSAGE_AUTHENTICATOR PROXY_STATE a seal_apart found in
           rw (found, other) (ap (λ (l : List Attribute). a ∷ l) (proxy_states_stay all))
       | inr further ↦ rw further (proxy_states_stay all)
     ]
 
-pub others_carried : (r : Returning) (reply request : Packet) → is_access_reply reply.code ≡ false → attributes_with_value [] (returned r reply request).attributes ≡ attributes_with_value [] (without_kind PROXY_STATE reply.attributes) ++ proxy_states request
+pub others_carried : (r : Returning) (reply request : Packet) → is_access_reply reply.code ≡ false →
+    attributes_with_value [] (returned r reply request).attributes
+    ≡ attributes_with_value [] (without_kind PROXY_STATE reply.attributes) ++ proxy_states request
 unfolding returned
 others_carried r reply request other =
     let all : List Attribute = returned_attributes r reply request ++ proxy_states request in
     left_out (seal_of r reply request) all
     ∙ map-append (attribute_with_value []) (returned_attributes r reply request) (proxy_states request)
-    ∙ ap (λ (l : List Attribute). attributes_with_value [] (returned_attributes r reply request) ++ l) (proxy_states_stay request.attributes)
-    ∙ ap (λ (l : List Attribute). attributes_with_value [] l ++ proxy_states request) (carried-others r reply request other)
+    ∙ ap (λ (l : List Attribute). attributes_with_value [] (returned_attributes r reply request) ++ l)
+    (proxy_states_stay request.attributes)
+    ∙ ap (λ (l : List Attribute). attributes_with_value [] l ++ proxy_states request)
+    (carried-others r reply request other)

@@ -16,11 +16,16 @@ use Rattle.roam_wire.specs.Codes.{is_access_reply}
 use Rattle.roam_back.specs.ReplyCheck.{answers, sealing_authenticators, IsRightlySealed, has_seal_for_eap, has_required_seal, is_reply_rightly_sealed, reply_fault, TakenHasNoFault}
 
 -- an accounting or reverse reply may be sealed over zeros too
-sealing_authenticators-others : (reply forwarded : Packet) → is_access_reply reply.code ≡ false → sealing_authenticators reply forwarded ≡ forwarded.authenticator ∷ zero_octets ∷ []
+sealing_authenticators-others : (reply forwarded : Packet) → is_access_reply reply.code ≡ false →
+    sealing_authenticators reply forwarded ≡ forwarded.authenticator ∷ zero_octets ∷ []
 sealing_authenticators-others reply forwarded other = rw other refl
 
 -- so it is well sealed just where it is for zeros, if it isn't for the request's Authenticator
-pub well_sealed_over_zeros : (secret : List ℕ) (reply forwarded : Packet) (over_request over_zeros : Bool) → is_access_reply reply.code ≡ false → over_request ≡ false → (IsTrue over_request ↔ IsWellSealed secret (forwarded.authenticator ∷ []) reply) → (IsTrue over_zeros ↔ IsWellSealed secret (zero_octets ∷ []) reply) → IsTrue over_zeros ↔ IsWellSealed secret (sealing_authenticators reply forwarded) reply
+pub well_sealed_over_zeros : (secret : List ℕ) (reply forwarded : Packet) (over_request over_zeros : Bool) →
+    is_access_reply reply.code ≡ false → over_request ≡ false →
+    (IsTrue over_request ↔ IsWellSealed secret (forwarded.authenticator ∷ []) reply) →
+    (IsTrue over_zeros ↔ IsWellSealed secret (zero_octets ∷ []) reply) → IsTrue over_zeros
+    ↔ IsWellSealed secret (sealing_authenticators reply forwarded) reply
 well_sealed_over_zeros secret reply forwarded over_request over_zeros other wrong request zeros =
     let both = IsWellSealed-two secret forwarded.authenticator zero_octets reply in
     rw (sealing_authenticators-others reply forwarded other) (
@@ -52,7 +57,8 @@ eap_shown false eap seals = (λ h. λ is some. absurd (cc), λ h. refl)
 -- so does the test of the seal that is required
 required_shown : (required access : Bool) (seals : ℕ) → IsTrue (not required || not access || ltb 0 seals)
     ↔ (IsTrue required → IsTrue access → 0 < seals)
-required_shown true true seals = (λ h. λ is also. grind (arith, nat_tests, h), λ h. grind (arith, nat_tests, h refl refl))
+required_shown true true seals =
+    (λ h. λ is also. grind (arith, nat_tests, h), λ h. grind (arith, nat_tests, h refl refl))
 required_shown true false seals = (λ h. λ is also. absurd (cc also), λ h. refl)
 required_shown false access seals = (λ h. λ is also. absurd (cc is), λ h. refl)
 
@@ -64,9 +70,13 @@ rightly_sealed_decided secret required reply forwarded =
     let seals = count_of MESSAGE_AUTHENTICATOR reply.attributes in
     let well = is_well_sealed secret (sealing_authenticators reply forwarded) reply in
     let eap = eap_shown access (count_of EAP_MESSAGE reply.attributes) seals in
-    let needed = both_decided (has_seal_for_eap reply) (has_required_seal required reply) eap (required_shown required access seals) in
-    let both = both_decided well (has_seal_for_eap reply && has_required_seal required reply) (well_sealed_decided secret (sealing_authenticators reply forwarded) reply) needed in
-    (λ h. record { well_sealed = (both.0 h).0; eap = (both.0 h).1.0; required_seal = (both.0 h).1.1 }, λ h. both.1 (h.well_sealed, (h.eap, h.required_seal)))
+    let needed = both_decided (has_seal_for_eap reply) (has_required_seal required reply) eap
+    (required_shown required access seals) in
+    let both = both_decided well (has_seal_for_eap reply && has_required_seal required reply)
+    (well_sealed_decided secret (sealing_authenticators reply forwarded) reply) needed in (
+      λ h. record { well_sealed = (both.0 h).0; eap = (both.0 h).1.0; required_seal = (both.0 h).1.1 },
+      λ h. both.1 (h.well_sealed, (h.eap, h.required_seal)),
+    )
 
 -- the fault by the three tests
 abbrev pub fault_by : Bool → Bool → Bool → Option Refusal
@@ -77,7 +87,8 @@ fault_by code signed sealed =
     else None
 
 -- there is none just where all three are true
-none_by : (code signed sealed : Bool) → (fault_by code signed sealed ≡ None) ↔ (IsTrue code × (IsTrue signed × IsTrue sealed))
+none_by : (code signed sealed : Bool) → (fault_by code signed sealed ≡ None)
+    ↔ (IsTrue code × (IsTrue signed × IsTrue sealed))
 none_by true true true = (λ h. (refl, (refl, refl)), λ h. refl)
 none_by true true false = (λ h. absurd (cc), λ h. absurd (cc h.1.1))
 none_by true false sealed = (λ h. absurd (cc), λ h. absurd (cc h.1.0))
@@ -96,9 +107,13 @@ taken_has_no_fault secret required reply forwarded =
     )
 
 -- where the other two tests are true, the fault is the seal's
-pub bad_seal-fault : (secret : List ℕ) (required : Bool) (reply forwarded : Packet) → IsTrue (answers forwarded.code reply.code) → IsSignedReply secret forwarded.authenticator reply → (IsRightlySealed secret required reply forwarded → ⊥) → Some refusal.BadReplyMessageAuthenticator ≡ reply_fault secret required reply forwarded
+pub bad_seal-fault : (secret : List ℕ) (required : Bool) (reply forwarded : Packet) →
+    IsTrue (answers forwarded.code reply.code) → IsSignedReply secret forwarded.authenticator reply →
+    (IsRightlySealed secret required reply forwarded → ⊥) →
+    Some refusal.BadReplyMessageAuthenticator ≡ reply_fault secret required reply forwarded
 bad_seal-fault secret required reply forwarded code signed h =
     let sealed = is_reply_rightly_sealed secret required reply forwarded in
-    let yes : is_signed_reply secret forwarded.authenticator reply ≡ true = (signed_reply_decided secret forwarded.authenticator reply).1 signed in
+    let yes : is_signed_reply secret forwarded.authenticator reply ≡ true =
+    (signed_reply_decided secret forwarded.authenticator reply).1 signed in
     let no : sealed ≡ false = is_false sealed (λ t. h ((rightly_sealed_decided secret required reply forwarded).0 t)) in
     rw (code, yes, no) refl

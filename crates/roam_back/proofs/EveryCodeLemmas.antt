@@ -29,37 +29,50 @@ use Rattle.roam_back.proofs.ReturnedLemmas.{other_kind, count_of-without_itself,
 -- ---- salted strings hidden anew
 
 -- the Value chosen has as many octets
-same_size : (tunnel vendor : Bool) (x y z : List ℕ) → length x ≡ length z → length y ≡ length z → length (if tunnel then x else if vendor then y else z) ≡ length z
+same_size : (tunnel vendor : Bool) (x y z : List ℕ) → length x ≡ length z → length y ≡ length z →
+    length (if tunnel then x else if vendor then y else z) ≡ length z
 same_size true vendor x y z first second = first
 same_size false true x y z first second = second
 same_size false false x y z first second = refl
 
-pub salted_size : (r : Returning) (request : Packet) (a : Attribute) → length (with_salted_anew r request a).value ≡ length a.value
+pub salted_size : (r : Returning) (request : Packet) (a : Attribute) →
+    length (with_salted_anew r request a).value ≡ length a.value
 salted_size r request a =
     let from : Key = record { secret = r.home_secret; first = r.forwarded_authenticator } in
     let to : Key = record { secret = r.client_secret; first = request.authenticator } in
-    same_size (a.kind == TUNNEL_PASSWORD) (a.kind == VENDOR_SPECIFIC) (tunnel_anew from to a.value) (vendor_anew from to a.value) a.value (length_tunnel_anew from to a.value (tunnel_anew from to a.value) (tunnel_anew_is from to a.value)) (length_vendor_anew from to a.value (vendor_anew from to a.value) (vendor_anew_is from to a.value))
+    same_size (a.kind == TUNNEL_PASSWORD) (a.kind == VENDOR_SPECIFIC) (tunnel_anew from to a.value)
+    (vendor_anew from to a.value) a.value
+    (length_tunnel_anew from to a.value (tunnel_anew from to a.value) (tunnel_anew_is from to a.value))
+    (length_vendor_anew from to a.value (vendor_anew from to a.value) (vendor_anew_is from to a.value))
 
 -- and is octets
-either_octets : (tunnel vendor : Bool) (x y z : List ℕ) → AreOctets x → AreOctets y → AreOctets z → AreOctets (if tunnel then x else if vendor then y else z)
+either_octets : (tunnel vendor : Bool) (x y z : List ℕ) → AreOctets x → AreOctets y → AreOctets z →
+    AreOctets (if tunnel then x else if vendor then y else z)
 either_octets true vendor x y z first second third = first
 either_octets false true x y z first second third = second
 either_octets false false x y z first second third = third
 
-salted_octets : (r : Returning) (request : Packet) (a : Attribute) → AreOctets a.value → AreOctets (with_salted_anew r request a).value
+salted_octets : (r : Returning) (request : Packet) (a : Attribute) → AreOctets a.value →
+    AreOctets (with_salted_anew r request a).value
 salted_octets r request a h =
     let from : Key = record { secret = r.home_secret; first = r.forwarded_authenticator } in
     let to : Key = record { secret = r.client_secret; first = request.authenticator } in
-    either_octets (a.kind == TUNNEL_PASSWORD) (a.kind == VENDOR_SPECIFIC) (tunnel_anew from to a.value) (vendor_anew from to a.value) a.value (AreOctets-tunnel_anew from to a.value h) (AreOctets-vendor_anew from to a.value h) h
+    either_octets (a.kind == TUNNEL_PASSWORD) (a.kind == VENDOR_SPECIFIC) (tunnel_anew from to a.value)
+    (vendor_anew from to a.value) a.value (AreOctets-tunnel_anew from to a.value h)
+    (AreOctets-vendor_anew from to a.value h) h
 
-pub short_salted : (r : Returning) (request : Packet) (all : List Attribute) → AllByRecursion IsAttribute all → AllByRecursion IsAttribute (map (with_salted_anew r request) all)
+pub short_salted : (r : Returning) (request : Packet) (all : List Attribute) → AllByRecursion IsAttribute all →
+    AllByRecursion IsAttribute (map (with_salted_anew r request) all)
 short_salted r request [] h = tt
 short_salted r request (a ∷ all) h =
     let limit = h.0.size in
-    let size = salted_size r request a in
-    (record { kind = h.0.kind; octets = salted_octets r request a h.0.octets; size = omega (arith, limit, size) }, short_salted r request all h.1)
+    let size = salted_size r request a in (
+      record { kind = h.0.kind; octets = salted_octets r request a h.0.octets; size = omega (arith, limit, size) },
+      short_salted r request all h.1,
+    )
 
-count_of-salted : (kind : ℕ) (r : Returning) (request : Packet) (all : List Attribute) → count_of kind (map (with_salted_anew r request) all) ≡ count_of kind all
+count_of-salted : (kind : ℕ) (r : Returning) (request : Packet) (all : List Attribute) →
+    count_of kind (map (with_salted_anew r request) all) ≡ count_of kind all
 count_of-salted kind r request [] = refl
 count_of-salted kind r request (a ∷ all) =
     let one : Attribute → ℕ = λ x. if has_kind kind x then 1 else 0 in
@@ -67,7 +80,8 @@ count_of-salted kind r request (a ∷ all) =
     ∙ ap (λ (n : ℕ). one a + n) (count_of-salted kind r request all)
     ∙ sym (sum_by-cons one a all)
 
-only-salted : (kind : ℕ) (r : Returning) (request : Packet) (all : List Attribute) → only_kind kind all ≡ [] → only_kind kind (map (with_salted_anew r request) all) ≡ []
+only-salted : (kind : ℕ) (r : Returning) (request : Packet) (all : List Attribute) → only_kind kind all ≡ [] →
+    only_kind kind (map (with_salted_anew r request) all) ≡ []
 only-salted kind r request [] none = refl
 only-salted kind r request (a ∷ all) none =
     elim (cases_Bool (has_kind kind a)) [
@@ -81,46 +95,63 @@ only-salted kind r request (a ∷ all) none =
 abbrev pub access_rest : Returning → Packet → Packet → List Attribute
 access_rest r reply request =
     if reply.code == ACCESS_ACCEPT
-    then map (with_salted_anew r request) (without_kind MESSAGE_AUTHENTICATOR (without_kind PROXY_STATE reply.attributes))
+    then map (with_salted_anew r request)
+    (without_kind MESSAGE_AUTHENTICATOR (without_kind PROXY_STATE reply.attributes))
     else without_kind MESSAGE_AUTHENTICATOR (without_kind PROXY_STATE reply.attributes)
 
-pub carried-access : (r : Returning) (reply request : Packet) → is_access_reply reply.code ≡ true → returned_attributes r reply request ≡ empty_message_authenticator ∷ access_rest r reply request
+pub carried-access : (r : Returning) (reply request : Packet) → is_access_reply reply.code ≡ true →
+    returned_attributes r reply request ≡ empty_message_authenticator ∷ access_rest r reply request
 carried-access r reply request access = rw access refl
 
 -- what holds of both lists holds of the one chosen
-either_list : (P : List Attribute → Type 0) (accept : Bool) (x y : List Attribute) → P x → P y → P (if accept then x else y)
+either_list : (P : List Attribute → Type 0) (accept : Bool) (x y : List Attribute) → P x → P y →
+    P (if accept then x else y)
 either_list P true x y first second = first
 either_list P false x y first second = second
 
-short_rest : (r : Returning) (reply request : Packet) → IsPacket reply → AllByRecursion IsAttribute (access_rest r reply request)
+short_rest : (r : Returning) (reply request : Packet) → IsPacket reply →
+    AllByRecursion IsAttribute (access_rest r reply request)
 short_rest r reply request packet =
-    let own = short_kept (λ (a : Attribute). not (has_kind MESSAGE_AUTHENTICATOR a)) (without_kind PROXY_STATE reply.attributes) (short_kept (λ (a : Attribute). not (has_kind PROXY_STATE a)) reply.attributes packet.attributes) in
-    either_list (AllByRecursion IsAttribute) (reply.code == ACCESS_ACCEPT) _ _ (short_salted r request (without_kind MESSAGE_AUTHENTICATOR (without_kind PROXY_STATE reply.attributes)) own) own
+    let own = short_kept (λ (a : Attribute). not (has_kind MESSAGE_AUTHENTICATOR a))
+    (without_kind PROXY_STATE reply.attributes)
+    (short_kept (λ (a : Attribute). not (has_kind PROXY_STATE a)) reply.attributes packet.attributes) in
+    either_list (AllByRecursion IsAttribute) (reply.code == ACCESS_ACCEPT) _ _
+    (short_salted r request (without_kind MESSAGE_AUTHENTICATOR (without_kind PROXY_STATE reply.attributes)) own)
+    own
 
-pub count_of-rest : (r : Returning) (reply request : Packet) → count_of MESSAGE_AUTHENTICATOR (access_rest r reply request) ≡ 0
+pub count_of-rest : (r : Returning) (reply request : Packet) →
+    count_of MESSAGE_AUTHENTICATOR (access_rest r reply request) ≡ 0
 count_of-rest r reply request =
     let own = without_kind PROXY_STATE reply.attributes in
     let none = count_of-without_itself MESSAGE_AUTHENTICATOR own in
     let P : List Attribute → Type 0 = λ all. count_of MESSAGE_AUTHENTICATOR all ≡ 0 in
-    either_list P (reply.code == ACCESS_ACCEPT) _ _ (count_of-salted MESSAGE_AUTHENTICATOR r request (without_kind MESSAGE_AUTHENTICATOR own) ∙ none) none
+    either_list P (reply.code == ACCESS_ACCEPT) _ _
+    (count_of-salted MESSAGE_AUTHENTICATOR r request (without_kind MESSAGE_AUTHENTICATOR own) ∙ none) none
 
 -- ---- the packet before it is sealed
 
-short_carried : (r : Returning) (reply request : Packet) → IsPacket reply → AllByRecursion IsAttribute (returned_attributes r reply request)
+short_carried : (r : Returning) (reply request : Packet) → IsPacket reply →
+    AllByRecursion IsAttribute (returned_attributes r reply request)
 short_carried r reply request packet =
     elim (cases_Bool (is_access_reply reply.code)) [
-      | inl access ↦ subst (AllByRecursion IsAttribute) (sym (carried-access r reply request access)) (record { kind = omega arith; octets = AreOctets-zeros 16; size = omega arith }, short_rest r reply request packet)
-      | inr other ↦ subst (AllByRecursion IsAttribute) (sym (carried-others r reply request other)) (short_kept (λ (a : Attribute). not (has_kind PROXY_STATE a)) reply.attributes packet.attributes)
+      | inl access ↦ subst (AllByRecursion IsAttribute) (sym (carried-access r reply request access)) (
+        record { kind = omega arith; octets = AreOctets-zeros 16; size = omega arith },
+        short_rest r reply request packet,
+      )
+      | inr other ↦ subst (AllByRecursion IsAttribute) (sym (carried-others r reply request other))
+          (short_kept (λ (a : Attribute). not (has_kind PROXY_STATE a)) reply.attributes packet.attributes)
     ]
 
-pub IsPacket-unsealed : (r : Returning) (reply request : Packet) → IsPacket reply → IsPacket request → returned_length r reply request ≤ 4096 → IsPacket (unsealed_return r reply request)
+pub IsPacket-unsealed : (r : Returning) (reply request : Packet) → IsPacket reply → IsPacket request →
+    returned_length r reply request ≤ 4096 → IsPacket (unsealed_return r reply request)
 unfolding returned_length
 IsPacket-unsealed r reply request a b short = record {
   code = a.code;
   id = b.id;
   octets = b.octets;
   authenticator = b.authenticator;
-  attributes = short_joined (returned_attributes r reply request) (proxy_states request) (short_carried r reply request a) (short_kept (has_kind PROXY_STATE) request.attributes b.attributes);
+  attributes = short_joined (returned_attributes r reply request) (proxy_states request)
+      (short_carried r reply request a) (short_kept (has_kind PROXY_STATE) request.attributes b.attributes);
   size = short;
 }
 
@@ -128,17 +159,32 @@ pub seal_apart : MESSAGE_AUTHENTICATOR ≢ PROXY_STATE
 seal_apart e = absurd (omega (arith, e))
 
 -- an Access reply's has just one Message-Authenticator
-HasOne-access : (r : Returning) (reply request : Packet) → is_access_reply reply.code ≡ true → HasOneMessageAuthenticator (unsealed_return r reply request)
+HasOne-access : (r : Returning) (reply request : Packet) → is_access_reply reply.code ≡ true →
+    HasOneMessageAuthenticator (unsealed_return r reply request)
 HasOne-access r reply request access =
     let rest = access_rest r reply request in
     let behind : List Attribute = rest ++ proxy_states request in
-    let p : List Attribute → Packet = λ all. record { code = reply.code; id = request.id; authenticator = request.authenticator; attributes = all ++ proxy_states request } in
+    let p : List Attribute → Packet =
+    λ all. record {
+      code = reply.code;
+      id = request.id;
+      authenticator = request.authenticator;
+      attributes =
+          all ++ proxy_states request;
+    } in
     let one : count_of MESSAGE_AUTHENTICATOR (empty_message_authenticator ∷ behind) ≡ 1 =
-    omega (arith, count_of-yes MESSAGE_AUTHENTICATOR empty_message_authenticator behind refl, count_of-append MESSAGE_AUTHENTICATOR rest (proxy_states request), count_of-rest r reply request, count_of-only MESSAGE_AUTHENTICATOR PROXY_STATE request.attributes seal_apart) in
+    omega (
+      arith,
+      count_of-yes MESSAGE_AUTHENTICATOR empty_message_authenticator behind refl,
+      count_of-append MESSAGE_AUTHENTICATOR rest (proxy_states request),
+      count_of-rest r reply request,
+      count_of-only MESSAGE_AUTHENTICATOR PROXY_STATE request.attributes seal_apart,
+    ) in
     let h : HasOneMessageAuthenticator (p (empty_message_authenticator ∷ rest)) = record { one = one; size = refl } in
     subst (λ (all : List Attribute). HasOneMessageAuthenticator (p all)) (sym (carried-access r reply request access)) h
 
-pub AtMostOne-unsealed : (r : Returning) (reply request : Packet) → HasAtMostOneMessageAuthenticator reply → HasAtMostOneMessageAuthenticator (unsealed_return r reply request)
+pub AtMostOne-unsealed : (r : Returning) (reply request : Packet) → HasAtMostOneMessageAuthenticator reply →
+    HasAtMostOneMessageAuthenticator (unsealed_return r reply request)
 AtMostOne-unsealed r reply request h =
     elim (cases_Bool (is_access_reply reply.code)) [
       | inl access ↦ inr (HasOne-access r reply request access)
@@ -164,7 +210,8 @@ only-only kind (a ∷ all) =
     ]
 
 -- where none of a Type stands, none is kept
-only-filter : (kind : ℕ) (keep : Attribute → Bool) (all : List Attribute) → only_kind kind all ≡ [] → only_kind kind (filter keep all) ≡ []
+only-filter : (kind : ℕ) (keep : Attribute → Bool) (all : List Attribute) → only_kind kind all ≡ [] →
+    only_kind kind (filter keep all) ≡ []
 only-filter kind keep [] none = refl
 only-filter kind keep (a ∷ all) none =
     elim (cases_Bool (has_kind kind a)) [
@@ -178,29 +225,37 @@ only-filter kind keep (a ∷ all) none =
     ]
 
 -- another Value in a Message-Authenticator changes no Proxy-State
-not_chosen : (seal : Bool) (value : List ℕ) (a : Attribute) → seal ≡ false → record a { value = if seal then value else a.value } ≡ a
+not_chosen : (seal : Bool) (value : List ℕ) (a : Attribute) → seal ≡ false →
+    record a { value = if seal then value else a.value } ≡ a
 not_chosen true value a other = absurd (cc)
 not_chosen false value a other = refl
 
-only-with_value : (value : List ℕ) (all : List Attribute) → only_kind PROXY_STATE (map (attribute_with_value value) all) ≡ only_kind PROXY_STATE all
+only-with_value : (value : List ℕ) (all : List Attribute) →
+    only_kind PROXY_STATE (map (attribute_with_value value) all) ≡ only_kind PROXY_STATE all
 only-with_value value [] = refl
 only-with_value value (a ∷ all) =
     elim (cases_Bool (has_kind PROXY_STATE a)) [
       | inl found ↦
-          let same : attribute_with_value value a ≡ a = not_chosen (has_kind MESSAGE_AUTHENTICATOR a) value a (other_kind MESSAGE_AUTHENTICATOR PROXY_STATE a seal_apart found) in
+          let same : attribute_with_value value a ≡ a =
+          not_chosen (has_kind MESSAGE_AUTHENTICATOR a) value a
+          (other_kind MESSAGE_AUTHENTICATOR PROXY_STATE a seal_apart found) in
           rw (found, same, only-with_value value all) refl
       | inr further ↦ rw further (only-with_value value all)
     ]
 
-only-carried : (r : Returning) (reply request : Packet) → only_kind PROXY_STATE (returned_attributes r reply request) ≡ []
+only-carried : (r : Returning) (reply request : Packet) →
+    only_kind PROXY_STATE (returned_attributes r reply request) ≡ []
 only-carried r reply request =
     let own = without_kind PROXY_STATE reply.attributes in
     let none = only-without PROXY_STATE reply.attributes in
-    let rest : only_kind PROXY_STATE (without_kind MESSAGE_AUTHENTICATOR own) ≡ [] = only-filter PROXY_STATE (λ (a : Attribute). not (has_kind MESSAGE_AUTHENTICATOR a)) own none in
+    let rest : only_kind PROXY_STATE (without_kind MESSAGE_AUTHENTICATOR own) ≡ [] =
+    only-filter PROXY_STATE (λ (a : Attribute). not (has_kind MESSAGE_AUTHENTICATOR a)) own none in
     let P : List Attribute → Type 0 = λ all. only_kind PROXY_STATE all ≡ [] in
     elim (cases_Bool (is_access_reply reply.code)) [
       | inl access ↦
-          let behind : P (access_rest r reply request) = either_list P (reply.code == ACCESS_ACCEPT) _ _ (only-salted PROXY_STATE r request (without_kind MESSAGE_AUTHENTICATOR own) rest) rest in
+          let behind : P (access_rest r reply request) =
+          either_list P (reply.code == ACCESS_ACCEPT) _ _
+          (only-salted PROXY_STATE r request (without_kind MESSAGE_AUTHENTICATOR own) rest) rest in
           ap (only_kind PROXY_STATE) (carried-access r reply request access) ∙ behind
       | inr other ↦ ap (only_kind PROXY_STATE) (carried-others r reply request other) ∙ none
     ]
@@ -211,42 +266,66 @@ abbrev pub seal_of : Returning → Packet → Packet → List ℕ
 seal_of r reply request = message_authenticator r.client_secret request.authenticator (unsealed_return r reply request)
 
 length-seal_of : (r : Returning) (reply request : Packet) → length (seal_of r reply request) ≡ 16
-length-seal_of r reply request = length-message_authenticator r.client_secret request.authenticator (unsealed_return r reply request)
+length-seal_of r reply request =
+    length-message_authenticator r.client_secret request.authenticator (unsealed_return r reply request)
 
-pub IsPacket-returned : (r : Returning) (reply request : Packet) → IsPacket reply → IsPacket request → HasAtMostOneMessageAuthenticator reply → returned_length r reply request ≤ 4096 → IsPacket (returned r reply request)
+pub IsPacket-returned : (r : Returning) (reply request : Packet) → IsPacket reply → IsPacket request →
+    HasAtMostOneMessageAuthenticator reply → returned_length r reply request ≤ 4096 →
+    IsPacket (returned r reply request)
 unfolding returned
 IsPacket-returned r reply request a b h short =
-    let packet : IsPacket (sealed_return r reply request) = IsPacket-sealed r.client_secret request.authenticator (unsealed_return r reply request) (AtMostOne-unsealed r reply request h) (IsPacket-unsealed r reply request a b short) in
+    let packet : IsPacket (sealed_return r reply request) =
+    IsPacket-sealed r.client_secret request.authenticator (unsealed_return r reply request)
+    (AtMostOne-unsealed r reply request h) (IsPacket-unsealed r reply request a b short) in
     IsPacket-signed_reply r.client_secret request.authenticator (sealed_return r reply request) packet
 
-pub packet_length-returned : (r : Returning) (reply request : Packet) → HasAtMostOneMessageAuthenticator reply → packet_length (returned r reply request) ≡ returned_length r reply request
+pub packet_length-returned : (r : Returning) (reply request : Packet) → HasAtMostOneMessageAuthenticator reply →
+    packet_length (returned r reply request) ≡ returned_length r reply request
 unfolding returned returned_length
 packet_length-returned r reply request h =
-    packet_length-with_value (seal_of r reply request) (unsealed_return r reply request) (length-seal_of r reply request) (AtMostOne-unsealed r reply request h)
+    packet_length-with_value (seal_of r reply request) (unsealed_return r reply request)
+    (length-seal_of r reply request) (AtMostOne-unsealed r reply request h)
 
-pub IsSignedReply-returned : (r : Returning) (reply request : Packet) → IsSignedReply r.client_secret request.authenticator (returned r reply request)
+pub IsSignedReply-returned : (r : Returning) (reply request : Packet) →
+    IsSignedReply r.client_secret request.authenticator (returned r reply request)
 unfolding returned response_authenticator
 IsSignedReply-returned r reply request = refl
 
-pub IsWellSealed-returned : (r : Returning) (reply request : Packet) → HasAtMostOneMessageAuthenticator reply → IsWellSealed r.client_secret (request.authenticator ∷ []) (returned r reply request)
+pub IsWellSealed-returned : (r : Returning) (reply request : Packet) → HasAtMostOneMessageAuthenticator reply →
+    IsWellSealed r.client_secret (request.authenticator ∷ []) (returned r reply request)
 unfolding returned
 IsWellSealed-returned r reply request h =
-    IsWellSealed-with_authenticator r.client_secret (request.authenticator ∷ []) (response_authenticator r.client_secret request.authenticator (sealed_return r reply request)) (sealed_return r reply request) (IsWellSealed-sealed r.client_secret request.authenticator (unsealed_return r reply request) (AtMostOne-unsealed r reply request h))
+    IsWellSealed-with_authenticator r.client_secret (request.authenticator ∷ [])
+    (response_authenticator r.client_secret request.authenticator (sealed_return r reply request))
+    (sealed_return r reply request)
+    (IsWellSealed-sealed r.client_secret request.authenticator (unsealed_return r reply request)
+    (AtMostOne-unsealed r reply request h))
 
-pub HasOne-returned : (r : Returning) (reply request : Packet) → is_access_reply reply.code ≡ true → HasOneMessageAuthenticator (returned r reply request)
+pub HasOne-returned : (r : Returning) (reply request : Packet) → is_access_reply reply.code ≡ true →
+    HasOneMessageAuthenticator (returned r reply request)
 unfolding returned
 HasOne-returned r reply request access =
-    let one = HasOne-with_value (seal_of r reply request) (unsealed_return r reply request) (length-seal_of r reply request) (HasOne-access r reply request access) in
+    let one = HasOne-with_value (seal_of r reply request) (unsealed_return r reply request)
+    (length-seal_of r reply request) (HasOne-access r reply request access) in
     record { one = one.one; size = one.size }
 
 -- the Message-Authenticator of an Access reply stands first
-pub first-returned : (r : Returning) (reply request : Packet) → is_access_reply reply.code ≡ true → StandsFirst (returned r reply request)
+pub first-returned : (r : Returning) (reply request : Packet) → is_access_reply reply.code ≡ true →
+    StandsFirst (returned r reply request)
 unfolding returned
 first-returned r reply request access =
     let rest = access_rest r reply request in
-    let p : List Attribute → Packet = λ all. record { code = reply.code; id = request.id; authenticator = request.authenticator; attributes = all ++ proxy_states request } in
+    let p : List Attribute → Packet =
+    λ all. record {
+      code = reply.code;
+      id = request.id;
+      authenticator = request.authenticator;
+      attributes =
+          all ++ proxy_states request;
+    } in
     let h : StandsFirst (p (empty_message_authenticator ∷ rest)) = (_, rest ++ proxy_states request, refl) in
-    let before : StandsFirst (unsealed_return r reply request) = subst (λ (all : List Attribute). StandsFirst (p all)) (sym (carried-access r reply request access)) h in
+    let before : StandsFirst (unsealed_return r reply request) =
+    subst (λ (all : List Attribute). StandsFirst (p all)) (sym (carried-access r reply request access)) h in
     let after = StandsFirst-with_value (seal_of r reply request) (unsealed_return r reply request) before in
     (after.0, after.1, after.2)
 
@@ -258,7 +337,8 @@ pub id-returned : (r : Returning) (reply request : Packet) → (returned r reply
 unfolding returned
 id-returned r reply request = refl
 
-pub proxy_states-returned : (r : Returning) (reply request : Packet) → proxy_states (returned r reply request) ≡ proxy_states request
+pub proxy_states-returned : (r : Returning) (reply request : Packet) →
+    proxy_states (returned r reply request) ≡ proxy_states request
 unfolding returned
 proxy_states-returned r reply request =
     only-with_value (seal_of r reply request) (returned_attributes r reply request ++ proxy_states request)

@@ -43,7 +43,11 @@ cause_apart e = absurd (omega (arith, e))
 pub one_cause-nak : NakHasOneCause
 unfolding nak
 one_cause-nak secret cause request =
-    omega (arith, count_of-yes ERROR_CAUSE (error_cause cause) (proxy_states request) refl, count_of-only ERROR_CAUSE PROXY_STATE request.attributes cause_apart)
+    omega (
+      arith,
+      count_of-yes ERROR_CAUSE (error_cause cause) (proxy_states request) refl,
+      count_of-only ERROR_CAUSE PROXY_STATE request.attributes cause_apart,
+    )
 
 pub cause-nak : NakTellsCause
 unfolding nak
@@ -132,20 +136,23 @@ pub behind_nak : (cause : ℕ) (request : Packet) (before octets : List ℕ) (st
     → IsBehindNak cause request before octets start
 behind_nak cause request before octets start h start-is all =
     let p : Packet = unsigned_nak cause request in
-    let behind : drop start octets ≡ packet_text p = ap (drop start) all ∙ drop_at before (packet_text p) start (sym start-is) in
+    let behind : drop start octets ≡ packet_text p = ap (drop start) all
+    ∙ drop_at before (packet_text p) start (sym start-is) in
     record {
       front = ap (take start) all ∙ take_at before (packet_text p) start (sym start-is);
       there = subst (AreTextOf p) (sym behind) (AreTextOf-packet_text p (IsPacket-unsigned cause request h));
     }
 
 -- signed there, it is the NAK
-pub nak_text : (secret : List ℕ) (cause : ℕ) (request : Packet) (before octets written authenticator : List ℕ) (start : ℕ)
+pub nak_text : (secret : List ℕ) (cause : ℕ) (request : Packet) (before octets written authenticator : List ℕ)
+    (start : ℕ)
     → IsBehindNak cause request before octets start → authenticator ≡ request.authenticator
     → written ≡ take start octets ++ packet_text (signed_reply secret authenticator (packet_of (drop start octets)))
     → written ≡ before ++ packet_text (nak secret cause request)
 unfolding nak
 nak_text secret cause request before octets written authenticator start behind same is =
     is
-    ∙ ap (λ (front : List ℕ). front ++ packet_text (signed_reply secret authenticator (packet_of (drop start octets)))) behind.front
+    ∙ ap (λ (front : List ℕ). front
+    ++ packet_text (signed_reply secret authenticator (packet_of (drop start octets)))) behind.front
     ∙ ap (λ (a : List ℕ). before ++ packet_text (signed_reply secret a (packet_of (drop start octets)))) same
     ∙ ap (λ (p : Packet). before ++ packet_text (signed_reply secret request.authenticator p)) behind.there.packet

@@ -26,6 +26,15 @@ unsigned_nak cause request = record {
   attributes = error_cause cause ∷ proxy_states request;
 }
 
+-- ## Negative acknowledgement (NAK)
+-- Disconnect-NAK or CoA-NAK with the request's Identifier, one Error-Cause of four octets and the request's
+-- Proxy-States, signed for the home server over the request's Authenticator, and nothing else: no
+-- Message-Authenticator. Its size is at most the request's and six octets more.
+-- Source: RFC 5176 sections 2.3 and 3.5; that it has no seal is ours
+-- Rules out: a NAK that carries a seal, or another cause; one that the home server can't tell from another's
+-- Stands in: `roam_back` `Nak.antt`: `nak`, `nak_code`, `error_cause`, `nak_length`; `nak`, `nak_reserved`, the
+-- laws `nak_reads`, `nak_answers`, `nak_carries`
+--
 -- the NAK of a request, signed with the secret that is shared with the home server (RFC 5176,
 -- section 2.3)
 unfoldable pub nak : List ℕ → ℕ → Packet → Packet

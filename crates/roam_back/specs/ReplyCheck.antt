@@ -49,6 +49,17 @@ pub record IsRightlySealed (secret : List ℕ) (required : Bool) (reply forwarde
     pub eap : HasSealForEap reply
     pub required_seal : HasRequiredSeal required reply
 
+-- ## Taken reply, fault of a reply
+-- A reply is taken for a forwarded request where its code answers the request's, it is signed with the link's
+-- secret for the forwarded Authenticator, and it is rightly sealed; an Access reply with an EAP-Message has a
+-- seal, and so has each Access reply of a server with `require_seal`. Else its fault is the first of
+-- WrongReply, BadReply, BadReplyMessageAuthenticator that holds.
+-- Source: RFC 2865 sections 3 and 4, RFC 2866 section 4, RFC 5176 section 2.3, RFC 3579 sections 3.1 and 3.2;
+-- when a seal is required besides is ours
+-- Rules out: a reply without seal to an EAP request; a forged Access-Accept (CVE-2024-3596); a fault named for
+-- another
+-- Stands in: `roam_back` `ReplyCheck.antt`: `IsTaken`, `reply_fault`; `check_reply`, the law `taken_replies`
+--
 -- a reply to a forwarded request that is taken: its code answers the request's, it is signed with the
 -- link's secret for the forwarded Authenticator, and it is rightly sealed
 pub record IsTaken (secret : List ℕ) (required : Bool) (reply forwarded : Packet) : Type 0 where

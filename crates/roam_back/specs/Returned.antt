@@ -66,6 +66,17 @@ abbrev pub sealed_return : Returning → Packet → Packet → Packet
 sealed_return r reply request =
     with_message_authenticator r.client_secret request.authenticator (unsealed_return r reply request)
 
+-- ## Returned packet
+-- Of a reply, for a request: the reply's Code, the request's Identifier; in Access replies first a
+-- Message-Authenticator, then the reply's attributes without Proxy-State and Message-Authenticator, in an
+-- Access-Accept with salted strings hidden anew; in other replies its attributes without Proxy-State; then the
+-- request's Proxy-States in their order. Sealed for the requester where it has a Message-Authenticator, as each
+-- Access reply then has, and signed.
+-- Source: RFC 2865 sections 2.3 and 5.33, RFC 2868, RFC 2548; restoring the request's Proxy-States whatever the
+-- server sent is ours
+-- Rules out: the broker's own Proxy-State left in a reply; only what the server sent back
+-- Stands in: `roam_back` `Returned.antt`: `returned`; `back`, the laws of `roam_back::laws`
+--
 -- the returned packet: sealed, and signed for the requester (RFC 2865, section 3)
 unfoldable pub returned : Returning → Packet → Packet → Packet
 returned r reply request =

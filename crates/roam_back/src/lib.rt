@@ -3,6 +3,22 @@
 //!
 //! Nothing here reads a socket or a clock, and nothing is remembered: what a reply is judged by, and
 //! what it is returned with, is handed in.
+//!
+//! # Proved
+//!
+//! - a reply is refused for the first cause that holds, and else taken; an Access reply without a
+//!   Message-Authenticator is refused where its home server must have one | `check_reply`, law `taken_replies`
+//! - the returned packet's octets, or `ReplyTooLong` just past 4096 | `back`
+//! - salted strings of an Access-Accept open to the same plain text, and all else but the Message-Authenticator
+//!   and the reply's Proxy-States is carried in its order, octet for octet; in a reply that isn't an Access
+//!   reply the Message-Authenticator stands where it stood, with another Value | law `returned_carries`
+//! - it reads, is well sealed and signed for the requester, with the request's Identifier and Proxy-States; the
+//!   seal of an Access reply stands first | laws `returned_reads`, `returned_authenticators`,
+//!   `returned_to_the_requester`, for every code
+//! - a NAK's octets, in a buffer in hand too | `nak`, `nak_reserved`
+//! - it reads, fits wherever the forwarded request would, answers its request, is signed for the home server,
+//!   and has one Error-Cause, the request's Proxy-States and nothing else | laws `nak_reads`, `nak_answers`,
+//!   `nak_carries`
 #![tactic(auto)]
 
 mod laws;

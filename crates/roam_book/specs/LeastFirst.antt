@@ -21,6 +21,15 @@ abbrev pub least_first : RealmConfig → ℕ → ℕ → RealmState → Progress
 least_first c now zero s = silent s
 least_first c now (suc n) s = least_and c now s (least_first c now n) (due_after now None s.entries)
 
+-- ## Least due first
+-- That is the same as taking the entry of the least deadline, and of the least ticket among those, until none
+-- is due; and then none is left that is due. Where `wait` is at least 1, so that what is sent again isn't due
+-- again.
+-- Source: ours
+-- Rules out: an entry that is due and never met; one that is met twice
+-- Stands in: `roam_book` `LeastFirst.antt`: `LeastDueFirst`, `NoneIsDueAfter`; the law
+-- `ticks_take_the_least_due_first`
+--
 -- where a packet is waited for, that is what a tick does, in as many turns as entries are due, or more,
 -- and then no entry is due
 abbrev pub LeastDueFirst : Type 0

@@ -16,6 +16,15 @@ use Rattle.roam_book.specs.Turn.{in_time, sends}
 abbrev pub NoneIsDue : ℕ → RealmState → Type 0
 NoneIsDue now s = due_list now s.entries ≡ []
 
+-- ## A lost tick
+-- A tick wants memory for those realms of its shard that have an entry that is due and waits, and may be lost for
+-- want of it. A realm of which no entry is due at that moment misses nothing: whatever comes after, its packets and
+-- its state are the same with the tick and without it. A realm of which each due entry was answered sends nothing at
+-- that tick either; those entries would have gone, and stay until the next one.
+-- Source: ours
+-- Rules out: a tick that changes a realm in which nothing is due
+-- Stands in: `roam_book` `LostTicks.antt`: `NothingIsLost`, `OnlyDoneGo`; law `lost_ticks`
+--
 -- whether such a tick comes or is lost makes no difference, in packets or state, whatever comes after
 abbrev pub NothingIsLost : Type 0
 NothingIsLost = (c : RealmConfig) (s : RealmState) (now : ℕ) (events : List RealmEvent) → NoneIsDue now s →

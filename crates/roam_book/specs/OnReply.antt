@@ -83,6 +83,15 @@ abbrev pub to_entry : RealmConfig → ℕ → RealmState → Packet → Option P
 to_entry c now s reply None = refuses refusal.NoEntry
 to_entry c now s reply (Some e) = to_standing c now s e reply e.standing
 
+-- ## Answer to a reply
+-- Above time 2^62: Moment. The waiting entry of that link and Identifier, else NoEntry; WrongReply by code;
+-- BadReply where it isn't a signed reply; BadReplyMessageAuthenticator; ReplyTooLong; else the returned packet
+-- is sent, the Identifier is free, the entry is done until `now + hold`, and its link doesn't rest; an
+-- Accounting-Response applies the peer's request to the ledger.
+-- Source: RFC 2865 section 2.3, RFC 2866, RFC 5176; the hold is ours
+-- Rules out: a reply taken by Identifier alone; a session that counts before its request is answered
+-- Stands in: `roam_book` `OnReply.antt`: `on_reply`, `once_returned`, `counted`; `Book::reply`
+--
 -- what a reply from a link does
 abbrev pub on_reply : RealmConfig → ℕ → RealmState → Link → List ℕ → Turn
 on_reply c now s l octets =

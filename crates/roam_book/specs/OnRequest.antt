@@ -34,6 +34,18 @@ packet_to_link c l octets =
 abbrev pub packet_to_requester : RealmConfig → Key → List ℕ → PlainOut
 packet_to_requester c key octets = record { realm = Some c.index; from = key.place; to = key.from; bytes = octets }
 
+-- ## Drawn words
+-- An Access-Request that is forwarded has for its Authenticator the four words of its realm's stream from the
+-- state's position on, and the position goes four further; when it fails over it draws the next four. One that
+-- is sent again shows the same octets, and draws none; nor does a duplicate, a refused one, one that is
+-- answered by a local reject, or a request of another code, whose Authenticator is a signature. (There zeros
+-- stand for them in the definition, and no packet shows these)
+-- Source: RFC 2865 section 3; that they are these words is ours
+-- Rules out: the same words of the stream for two packets; a realm's words that depend on another realm's
+-- traffic
+-- Stands in: `roam_book` `OnRequest.antt`: `draws`, `drawn_at`, `position_after`, `forwarded_octets`;
+-- `Book::request`, `Book::tick`
+--
 -- whether random words are drawn for a request: for an Access-Request, whose Authenticator is to be
 -- unpredictable (RFC 2865, section 3). In any other the Authenticator is a signature
 abbrev pub draws : PlainRequest → Bool
@@ -114,6 +126,15 @@ abbrev pub coa_links : Option ℕ → List Link
 coa_links None = []
 coa_links (Some peer) = link.Coa peer ∷ []
 
+-- ## Targets of a request
+-- The links that it may go to, in order: the `auth` of the home servers for an Access-Request, their `acct` for
+-- an Accounting-Request; for a reverse request the `coa` of its one target. It goes to the chosen one of them,
+-- and fails over to one that is chosen of the later ones: a reverse request to none.
+-- Source: RFC 2865 section 2.3, RFC 5176; the order ours
+-- Rules out: a Disconnect for another access server than the one that it names
+-- Stands in: `roam_book` `OnRequest.antt`: `targets`, `RealmConfig.antt`: `later_targets`; `Book::request`,
+-- `Book::tick`
+--
 -- the targets of a request, in the order of their use: of a reverse request the first peer that takes
 -- such requests and fits; of any other the home servers
 abbrev pub targets : RealmConfig → PlainRequest → List Link
@@ -134,6 +155,14 @@ new_request c now s entries q =
 abbrev pub nak_octets : RealmConfig → PlainRequest → ℕ → List ℕ
 nak_octets c q why = packet_text (nak (requester_secret c q.requester) why (packet_of q.octets))
 
+-- ## Answer to a reverse request
+-- A duplicate as above; else, with a cause, the NAK goes back to the home server and the state stays unchanged:
+-- no entry is made, one of its key with other octets goes on waiting, and the same request is judged anew when
+-- it comes again. Without a cause it is a new request, and goes to its target.
+-- Source: RFC 5176 section 3; ours
+-- Rules out: places that NAKs take away; an entry for a request that can't be forwarded
+-- Stands in: `roam_book` `OnRequest.antt`: `reverse_cause`, `nak_or_new`, `nak_octets`; `Book::request`
+--
 -- why a reverse request that names this realm, another or none isn't forwarded, if it isn't; of other
 -- requests nothing is asked
 abbrev pub reverse_cause : RealmConfig → RealmState → Option ℕ → PlainRequest → Option ℕ
@@ -167,6 +196,16 @@ of_key c now s named q (Some e) =
     then sends (held_reply c q.key e.standing) s
     else first_seen c now s named q
 
+-- ## Answer to a request
+-- Above time 2^62: Moment. Same key and same octets: nothing while it waits, the held reply once it is done,
+-- and nothing changes. A reverse request that isn't forwarded: its NAK, and nothing changes. Else the entry of
+-- that key counts as gone; Exhausted at ticket 2^63; the target is the chosen one of the request's links, else
+-- NoIdentifier; with `max_pending` entries the done one of least ticket makes way, else Busy; then the new
+-- entry stands last, its forwarded packet is sent, with `tries - 1` sends left and deadline `now + wait`.
+-- Source: RFC 2865 sections 2.3 and 2.5, RFC 5176; numbers ours
+-- Rules out: equal keys taken for duplicates whatever the octets; Busy while a done entry could make way
+-- Stands in: `roam_book` `OnRequest.antt`: `on_request`; `Book::request`
+--
 -- what a request does, that names this realm, another or none
 abbrev pub on_request : RealmConfig → ℕ → RealmState → Option ℕ → PlainRequest → Turn
 on_request c now s named q =

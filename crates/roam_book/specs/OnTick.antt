@@ -32,6 +32,13 @@ once_refused c now s e octets =
     then with_entries s (put (with_standing (done octets (now + c.realm.hold)) e) s.entries)
     else s
 
+-- ## Reverse request given up
+-- A reverse request to which no answer came has its NAK with cause 505. It is done with this NAK until `now +
+-- hold`, so that a duplicate gets it again; with `hold = 0` it goes at once, and a request of its key is new.
+-- Source: RFC 5176 section 3.5; ours
+-- Rules out: a home server that hears nothing; an entry that is due again in the tick that made it
+-- Stands in: `roam_book` `OnTick.antt`: `given_up`, `once_refused`; `Book::tick`
+--
 -- a request that no target answers. (`s` is the state without the entry.) A reverse request gets a NAK,
 -- which is then held as a reply is, where replies are held (RFC 5176, section 3.5); of any other nothing
 -- more is said
@@ -100,6 +107,15 @@ due_each c now s (d ∷ ds) =
 abbrev pub as_turn : Progress → Turn
 as_turn p = sends p.packets p.state
 
+-- ## Answer to a tick
+-- Above time 2^62: Moment. The entries whose deadline has come, in order of deadline and ticket, each once:
+-- done, it goes; with sends left, the same octets again, one fewer, deadline `now + wait`; with none left, its
+-- link is one silence further, and it moves to the chosen one of its later targets, built anew under the same
+-- ticket; without one it is given up and goes.
+-- Source: RFC 2865 section 2.5; failover ours
+-- Rules out: an order by place in a table; two packets for one entry
+-- Stands in: `roam_book` `OnTick.antt`: `on_tick`; `Book::tick`, `Book::tick_reserved`
+--
 -- what a tick does
 abbrev pub on_tick : RealmConfig → ℕ → RealmState → Turn
 on_tick c now s = in_time now (as_turn (due_each c now s (due_list now s.entries)))

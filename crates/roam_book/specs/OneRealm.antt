@@ -16,6 +16,12 @@ use Rattle.roam_book.specs.OnRequest.{on_request}
 use Rattle.roam_book.specs.OnReply.{on_reply}
 use Rattle.roam_book.specs.OnTick.{Progress, silent, on_tick}
 
+-- ## One-realm run
+-- The packets and the end state of the answers above over a list of one realm's events, from a start: no
+-- entries, no sessions, no rests, cursors 0, a stream position and a next ticket.
+-- Source: ours
+-- Stands in: `roam_book` `OneRealm.antt`: `RealmEvent`, `on_event`, `one_realm_run`
+--
 -- an event of a realm, with its moment in milliseconds: a request, with the realm that its first User-Name
 -- names, if it names one; a reply from a link; or a tick
 pub data RealmEvent : Type 0 where

@@ -13,6 +13,12 @@ use Rattle.roam_pending.specs.declared.key.Requester.TheVariants as requester
 use Rattle.roam_book.specs.declared.state.service.Service.{Service}
 use Rattle.roam_book.specs.declared.state.service.Service.TheVariants as service
 
+-- ## Realm view
+-- The seed, the realm's index, its entry in the configuration, and all peers.
+-- Source: ours
+-- Rules out: behaviour that depends on another realm's configuration
+-- Stands in: `roam_book` `RealmConfig.antt`: `RealmConfig`, `realm_config`
+--
 -- the seed of the random words, the realm's index, its own entry, and all peers; of other realms nothing
 pub record RealmConfig : Type 0 where
   pub seed : List ℕ

@@ -12,6 +12,15 @@ use Rattle.roam_book.specs.Rests.{all_awake, stands_back}
 use Rattle.roam_book.specs.declared.state.rest.Rest.{Rest}
 use Rattle.roam_book.specs.declared.state.start.Start.{Start}
 
+-- ## Realm state
+-- Entries in order of ticket; the next ticket; a cursor for each link; a rest for each server's link; the
+-- stream position, modulo 2^68; the ledger of sessions. An entry has its key (place, source endpoint and
+-- Identifier of its request), its request, its ticket, and is waiting (link, Identifier, forwarded packet,
+-- sends left, deadline) or done (reply, deadline). There are no lanes, indexes or deadline lists.
+-- Source: RFC 2865 section 2.5 (duplicates), ours
+-- Rules out: state of one realm that another's traffic reaches
+-- Stands in: `roam_book` `RealmState.antt`: `RealmState`, `opening`; `Book::new`
+--
 -- the entries in order of ticket, the next ticket, a cursor for each link in the order of their
 -- places, the place in the stream of random words, the ledger of the sessions that are open, and how
 -- each of the servers' links rests, in the order of their places
@@ -71,6 +80,17 @@ first_target c cursors entries (l ∷ ls) =
 abbrev pub ready_links : RealmConfig → ℕ → List Rest → List Link → List Link
 ready_links c now rests links = filter (λ l. not (stands_back c now rests l)) links
 
+-- ## Choice of a target
+-- Among some links in order: of those with a free Identifier the first that doesn't rest; where all of these
+-- rest, the first of them; else none. A link that is chosen and has such a time, in the past or not, rests
+-- until `now + rest` from then on: so after a rest one request tries it. One choice for new requests and at
+-- failover; what is refused chooses nothing.
+-- Source: ours
+-- Rules out: a silent server that each request waits for; a rest that never ends; all requests at once at a
+-- server that may be back
+-- Stands in: `roam_book` `RealmState.antt`: `chosen_target`, `Rests.antt`: `stands_back`, `once_chosen`,
+-- `after_choice`; `Book::request`, `Book::tick`, the law `silent_servers`
+--
 -- the choice of a target among some links: of those that have a free Identifier the first that doesn't
 -- stand back; where all of these stand back, the first of them; none where no link has one
 abbrev pub chosen_target :

@@ -22,6 +22,14 @@ state g r = state_of (entries g r) r.numbers.now
 abbrev pub room : {A E : Type 0} → Ghosts E A → RealmBroker A E → ℕ
 room g r = g.room_for r.entries.now r.settings.now.index
 
+-- ## Rule of a realm
+-- A realm is borrowed for an event: its settings, its entries and its numbers. A rule gives the written turn of
+-- its state, or is refused memory and nothing happened; needs none where nothing is sent; and keeps all other
+-- realms' entries. Where the answer is wanted twice, each of the two is that turn's.
+-- Source: ours
+-- Rules out: a rule that reaches another realm's entries; a copy that isn't equal
+-- Stands in: `roam_book` `RealmTurn.antt`: `IsRealm`, `Keeps`, `Turns`, `TurnsTwice`; the methods of `Realm`
+--
 -- its entries are kept there, in order of ticket with distinct keys, and fit its numbers
 pub record IsRealm {A E : Type 0} (g : Ghosts E A) (r : RealmBroker A E) : Type 0 where
   pub kept_here : IsTrue (g.keeps r.entries.now r.settings.now.index)

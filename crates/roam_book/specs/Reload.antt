@@ -6,6 +6,17 @@ use Rattle.roam_book.specs.RealmConfig.{RealmConfig, link_count, realm_config}
 use Rattle.roam_book.specs.RealmState.{RealmState}
 use Rattle.roam_book.specs.OneRealm.{RealmEvent, one_realm_run}
 
+-- ## Realm carried over
+-- Its state under the new configuration is the state in which it stands, with a cursor 0 for each further peer:
+-- entries, next ticket, stream position, ledger and rests stay. Where no peer was added its written broker is
+-- the same one, so its packets before the change and after it are those that it would have sent had nothing
+-- changed.
+-- Source: ours
+-- Rules out: entries, tickets, random words or sessions lost, or begun anew, where a realm's part stays as it
+-- is
+-- Stands in: `roam_book` `Reload.antt`: `Carries`, `carried`, `AsIfNothingChanged`; `Book::carry_over`,
+-- `RealmNumbers::carry_over`, the law `carried_realms_go_on`
+--
 -- the realm goes on as it stands: it has the same seed, index and part of its table, and the old peers stay
 pub record Carries (old new : RealmConfig) : Type 0 where
   pub seed : new.seed ≡ old.seed

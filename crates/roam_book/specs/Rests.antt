@@ -27,6 +27,22 @@ once_chosen c now r = record r { until = option_map (λ until. now + c.realm.res
 abbrev pub one_more : ℕ → ℕ
 one_more count = if nat_lt count 256 then count + 1 else count
 
+-- ## Rest of a link
+-- Each server's `auth` and `acct` has in the realm's state a time until which it rests, or none, and a count of
+-- the requests that were given up there since a reply was last taken and returned. At the start none, and 0. A
+-- request that is given up at the link raises the count, up to 256; where it is then at least `rest_after`, the
+-- link rests until `now + rest`. A reply from the link that is taken and returned ends the rest and sets the
+-- count to 0. One that passes each check, but whose returned packet would have more than 4096 octets, is
+-- refused (`ReplyTooLong`), and leaves rest and count as they are. Where `rest` is 0 nothing is ever counted. A
+-- peer's `coa` never rests. It is each realm's own. A link stands back only where it kept silent: from some
+-- event on no reply from it was taken and returned, and at least `rest_after` of its requests were given up.
+-- That links stand back leaves no request without a target.
+-- Source: ours
+-- Rules out: one rest for all realms; a rest counted from the request; a server that is left since it kept
+-- silent about one user; a rest that goes on after a reply
+-- Stands in: `roam_book` `Rests.antt`: `once_silent`, `after_silence`, `after_reply`; `Silence.antt`:
+-- `KeptSilent`, `ChoiceIsNeverWorse`; `Book::tick`, `Book::reply`, the law `rests`
+--
 -- once a request was given up at its link: the count rises by one, and where it is then at least
 -- `rest_after`, the link rests until `now + rest`
 abbrev pub once_silent : RealmConfig → ℕ → Rest → Rest

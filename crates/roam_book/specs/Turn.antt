@@ -9,6 +9,14 @@ use Rattle.roam_route.specs.declared.datagram.Out.{Out}
 use Rattle.roam_book.specs.RealmState.{RealmState}
 use Rattle.roam_book.specs.declared.packets.answer.Answer.{Answer}
 
+-- ## Turn
+-- What an event does to its realm: it is refused, which sends nothing and leaves the state; or packets are
+-- sent, and a state follows. Above time 2^62 each event is refused.
+-- Source: ours
+-- Rules out: a refusal that changed something
+-- Stands in: `roam_book` `Turn.antt`: `Turn`, `packets_of`, `state_after`, `in_time`, `Gives`; `Book::request`,
+-- `reply`, `tick`
+--
 -- a refusal sends nothing and leaves the state as it was
 pub data Turn : Type 0 where
   refuses : Refusal → Turn

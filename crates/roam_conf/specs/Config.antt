@@ -41,6 +41,16 @@ pub record RealmView : Type 0 where
   pub rest_after : ℕ
   pub servers : List ServerView
 
+-- ## Configuration
+-- The operator's values as a record: shards, seed, the broker's endpoints, the limits of a trace in steps and
+-- in octets, the limit of hops, whether a Status-Server is answered and whether the workers share `auth` and
+-- `acct`, the peers, and the realms with their servers in order of use. Each value is in its range, and nothing
+-- stands twice that may not.
+-- Source: ours
+-- Rules out: a realm without servers; an empty secret; two realms of one name
+-- Stands in: `roam_conf` `Config.antt`: `ConfigView`, `Duplicates.antt`; the invariants of `Config`, `Peer`,
+-- `Realm`, `Server`
+--
 -- the whole configuration
 pub record ConfigView : Type 0 where
   pub shards : ℕ

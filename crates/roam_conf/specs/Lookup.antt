@@ -34,6 +34,16 @@ abbrev pub first_answer : {X Y : Type 0} → (X → Option Y) → List X → Opt
 first_answer answer [] = None
 first_answer answer (x ∷ xs) = option_or (answer x) (first_answer answer xs)
 
+-- ## Names of a realm
+-- Its `name` and those of `also`, each a whole name, `*.` and a name, or `*`. A name means the realm that has
+-- it whole; else the one with the longest `*.` pattern that it ends in, dot included, with an octet at least
+-- before the dot; else, where it has an octet at least, the one with `*`; else none. Always without ASCII case.
+-- No two realms have an equal name, pattern or `*`, so the order of the file doesn't count.
+-- Source: ours
+-- Rules out: a pattern that beats a whole name; the shortest suffix; `*.a` that takes `ba` or `a`
+-- Stands in: `roam_conf` `Lookup.antt`: `realm_named`; `Patterns.antt`, `Duplicates.antt`; `realm_index`, the
+-- invariant of `Config`
+--
 -- which realm a name means: the one that has this name; else the one that has the nearest pattern that it fits
 unfoldable pub realm_named : List RealmView → List ℕ → Option ℕ
 realm_named realms name = first_answer (realm_with realms) (whole name ∷ further_patterns name)
@@ -105,6 +115,15 @@ servers_of (Some realm) = realm.servers
 abbrev pub servers_in : ConfigView → ℕ → List ServerView
 servers_in config realm = servers_of (slice_get config.realms realm)
 
+-- ## Look-ups
+-- The realm that a name means; the first peer of an address; the link of a realm that an endpoint is; the first
+-- home server of an address; the shard of a realm, its index modulo their number. What is found is configured,
+-- and each link of a realm is the one that its endpoint finds.
+-- Source: ours
+-- Rules out: the last server taken for the first; a link past the last server; a link that no packet reaches
+-- Stands in: `roam_conf` `Lookup.antt`: `IsLinkIn` and others; `realm_index`, `peer_by_ip`, `link_of`,
+-- `home_of`, `shard_of`, the laws `link_of_finds_its_endpoint`, `link_of_finds_each_link`
+--
 -- the server or the peer that a link names is configured
 abbrev pub IsLinkIn : ConfigView → ℕ → Link → Type 0
 IsLinkIn config realm (Auth server) = server < length (servers_in config realm)

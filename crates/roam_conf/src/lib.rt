@@ -1,6 +1,14 @@
 //! The configuration of the broker: its parts with their ranges, and the look-ups in it.
 //!
 //! Nothing here reads a document: `roam_conf_reader` does.
+//!
+//! # Proved
+//!
+//! - a configuration keeps every range and has no duplicates; the look-ups are exact | types' invariants;
+//!   `realm_index`, `peer_by_ip`, `link_of`, `home_of`, `shard_of`
+//! - which realm a name means: the one that has this name, else the one with the longest suffix that the name
+//!   ends in, else the one of any name; without patterns whole names alone | laws `whole_name_comes_first`,
+//!   `longest_suffix_comes_next`, `any_name_comes_last`, `names_alone_are_matched_whole`
 #![tactic(auto)]
 
 mod comparison;

@@ -95,6 +95,13 @@ pub record StatesRealm (members : Members) (realm : RealmView) : Type 0 where
   pub servers : StatesTables StatesServer (value_at (array_of 8) (codes "server") members) realm.servers
   pub no_other_key : has_only realm_required realm_optional members ≡ true
 
+-- ## Stated configuration
+-- A text states a configuration where it is a TOML document (as the toolchain's `toml` defines it) whose tables
+-- hold just the keys of the format, each with a value of its kind and range.
+-- Source: ours
+-- Rules out: a key that is overlooked; a port with a leading zero
+-- Stands in: `roam_conf_reader` `Document.antt`: `StatesConfig`, `Faults.antt`: `States`; `read_config`
+--
 -- the whole document
 pub record StatesConfig (members : Members) (config : ConfigView) : Type 0 where
   pub shards : value_at (number 1 64) (codes "shards") members ≡ Some config.shards

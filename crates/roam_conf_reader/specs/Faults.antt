@@ -43,6 +43,13 @@ pub record StatesDuplicate (text : List ℕ) (fault : ConfFault) : Type 0 where
   pub stated : States text config
   pub twice : has_duplicate fault config ≡ true
 
+-- ## First fault
+-- The first of Syntax, Missing, BadValue, DuplicateRealm, DuplicatePeer, DuplicateEndpoint, DuplicateServer,
+-- DuplicateLink that holds anywhere in the text.
+-- Source: ours
+-- Rules out: a later fault that hides an earlier one
+-- Stands in: `roam_conf_reader` `Faults.antt`: `Holds`, `IsFirstFault`; `read_config`
+--
 -- the fault holds somewhere in the text
 abbrev pub Holds : List ℕ → ConfFault → Type 0
 Holds text Syntax = parse_document text ≡ None

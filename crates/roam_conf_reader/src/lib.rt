@@ -2,6 +2,13 @@
 //!
 //! Nothing that routes, forwards or keeps entries stands on this crate: a configuration that was read
 //! is a value of `roam_conf`.
+//!
+//! # Proved
+//!
+//! - what the TOML document states, and then no fault of the list holds in it; or the first that holds; or it
+//!   is out of memory | `read_config`: `ok`, `faultless`, `err`
+//! - what is printed of each fault | the `Display` of `ConfFault`; of `SimFault` (`roam_sim`), `TraceFault`
+//!   (`roam_trace`), `AuditFault` (`roam_audit`) and `HubFault` (`roam_hub`)
 #![tactic(auto)]
 
 mod config;

@@ -1,5 +1,5 @@
 -- The books of a broker: one of them changes, or one more is added.
-use Rattle.std.proofs.Common.{◌≡◌, ℕ, zero, suc, ◌+◌, ◌<◌, List, [], ◌∷◌, ◌++◌, length, get_or, set, Option, Some, refl, sym, ap, subst, ◌∙◌, arith}
+use Rattle.std.proofs.Common.{◌≡◌, ℕ, zero, suc, ◌+◌, ◌<◌, true, List, [], ◌∷◌, ◌++◌, length, get_or, set, refl, sym, ap, subst, ◌∙◌, arith}
 use Rattle.std.specs.Prelude.{Result, Ok, Err, replicate}
 use Rattle.std.proofs.lemmas.List.{get_or-map, length-set, length-append, length-replicate, map-set, map-append, set-get_or, replicate-append-replicate}
 use Rattle.roam_wire.specs.declared.refusal.NoMemory.{NoMemory}
@@ -10,14 +10,13 @@ use Rattle.roam_book.specs.RealmState.{RealmState, opening}
 use Rattle.roam_book.specs.Turn.{Turn, refuses, sends, state_after, Gives}
 use Rattle.roam_book.specs.OnTick.{on_tick}
 use Rattle.roam_book.specs.declared.packets.answer.Answer.{Answer}
-use Rattle.roam_book.specs.declared.packets.tick_memory.Room.{Room}
 use Rattle.roam_book.specs.declared.state.start.Start.{Start}
-use Rattle.roam_core.specs.ManyRealms.{no_state, state_at, turn_of_one}
+use Rattle.roam_core.specs.Events.{is_in_shard}
+use Rattle.roam_core.specs.ManyRealms.{no_state, state_at, tick_of, turn_of_one}
 use Rattle.roam_core.specs.Openings.{openings_from}
 use Rattle.roam_core.specs.Steps.{GivesAnswer}
 use Rattle.roam_core.specs.BrokerView.{states_of, IsBookOf, AreBooks, IsBroker}
 use Rattle.roam_core.specs.Openings.{first_start, fresh}
-use Rattle.roam_core.specs.ShardRooms.{turn_in}
 
 -- the book at an index
 book-at : (config : ConfigView) (realm first : ℕ) (books : List BookView) (k : ℕ) (d : BookView) → AreBooks config first books → realm ≡ first + k → k < length books → IsBookOf config realm (get_or books k d)
@@ -68,18 +67,25 @@ turn-of-book f config books k b broker within is =
 pub states-set : (books : List BookView) (k : ℕ) (b : BookView) → states_of (set books k b) ≡ set (states_of books) k b.state
 states-set books k b = map-set (λ (x : BookView). x.state) books k b
 
--- a tick of one book, in its room
-pub tick-of-book : {A : Type 0} → (config : ConfigView) (books : List BookView) (k : ℕ) (b : BookView) (now : ℕ) (o : Option (Room A)) (room : Room A) → IsBroker config books → k < length books → b ≡ get_or books k b → o ≡ Some room → on_tick (settings_of b) now b.state ≡ turn_in config now k (state_at (states_of books) k) o
-tick-of-book {A = A} config books k b now o room broker within is some =
-    turn-of-book (λ c s. on_tick c now s) config books k b broker within is
-    ∙ ap (λ (x : Option (Room A)). turn_in config now k (state_at (states_of books) k) x) (sym some)
+-- a tick of one book, whose realm takes part
+pub tick-of-book : (config : ConfigView) (books : List BookView) (k : ℕ) (b : BookView) (now shard : ℕ)
+    → IsBroker config books → k < length books → b ≡ get_or books k b
+    → is_in_shard config shard k ≡ true
+    → on_tick (settings_of b) now b.state ≡ tick_of config now shard k (state_at (states_of books) k)
+tick-of-book config books k b now shard broker within is own =
+    rw own (turn-of-book (λ c s. on_tick c now s) config books k b broker within is)
 
-pub state-of-tick : {A : Type 0} → (config : ConfigView) (books : List BookView) (k : ℕ) (old new : BookView) (now : ℕ) (o : Option (Room A)) (room : Room A) → IsBroker config books → k < length books → old ≡ get_or books k old → o ≡ Some room → new.state ≡ state_after old.state (on_tick (settings_of old) now old.state) → states_of (set books k new) ≡ set (states_of books) k (state_after (state_at (states_of books) k) (turn_in config now k (state_at (states_of books) k) o))
-state-of-tick config books k old new now o room broker within is some becomes =
-    let turn : Turn = turn_in config now k (state_at (states_of books) k) o in
+pub state-of-tick : (config : ConfigView) (books : List BookView) (k : ℕ) (old new : BookView)
+    (now shard : ℕ) → IsBroker config books → k < length books → old ≡ get_or books k old
+    → is_in_shard config shard k ≡ true
+    → new.state ≡ state_after old.state (on_tick (settings_of old) now old.state)
+    → states_of (set books k new) ≡ set (states_of books) k (state_after (state_at (states_of books) k)
+    (tick_of config now shard k (state_at (states_of books) k)))
+state-of-tick config books k old new now shard broker within is own becomes =
+    let turn : Turn = tick_of config now shard k (state_at (states_of books) k) in
     states-set books k new
     ∙ ap (λ (s : RealmState). set (states_of books) k s) (becomes
-    ∙ ap (λ (t : Turn). state_after old.state t) (tick-of-book config books k old now o room broker within is some)
+    ∙ ap (λ (t : Turn). state_after old.state t) (tick-of-book config books k old now shard broker within is own)
     ∙ ap (λ (s : RealmState). state_after s turn) (sym (state-of-book books k old within is)))
 
 -- the turn of one realm's book is the broker's

@@ -12,6 +12,7 @@ pub mod AloneLemmas
 pub mod NamedLemmas
 pub mod MeaningLemmas
 pub mod OwnPartLemmas
+pub mod OwnLossLemmas
 pub mod RunLemmas
 pub mod BookLemmas
 pub mod ShardLemmas

@@ -10,9 +10,11 @@ use Rattle.roam_core.specs.Isolation.{IsIsolated, IsIsolatedFromStart, packets_f
 use Rattle.roam_core.specs.ManyRealms.{packets_in_turn, states_after, answer_to, answers_to}
 use Rattle.roam_book.specs.declared.state.start.Start.{Start}
 use Rattle.roam_core.specs.Openings.{openings}
+use Rattle.roam_core.specs.OwnLosses.{LostForItself}
 use Rattle.roam_core.specs.Provenance.{HasProvenance}
 use Rattle.roam_core.specs.Runs.{ArePlaces, EachWantsMemory, StandsAfterSome, WereGiven}
 use Rattle.roam_core.proofs.KeptLemmas.{places-more, places-append, kept-done, kept-lost}
+use Rattle.roam_core.proofs.OwnLossLemmas.{lost-for_itself}
 use Rattle.roam_core.proofs.ProvenanceLemmas.{has_provenance}
 use Rattle.roam_core.proofs.IsolationLemmas.{answers-length, from_start, isolated, rejects_alone, each_has_realm}
 
@@ -88,6 +90,7 @@ lost_one config first events n lost packets now next states new e d within at ru
 pub record HasRunAll (config : ConfigView) (first : List RealmState) (events : List PlainEvent) (lost : List ℕ) (packets : List PlainOut) (states : List RealmState) : Type 0 where
   pub places : ArePlaces (length events) lost
   pub isolated : IsIsolated config first (kept lost events) packets
+  pub own_losses : LostForItself config first lost events packets
   pub provenance : (starts : List Start) → first ≡ openings config starts → HasProvenance config starts (kept lost events) packets
   pub from_start : (starts : List Start) → first ≡ openings config starts → IsIsolatedFromStart config starts (kept lost events) packets
   pub all_sent : packets ≡ (answers_to config first (kept lost events)).packets
@@ -114,6 +117,7 @@ has_run_all config first events n lost packets now states is run =
     record {
       places = subst (λ (k : ℕ). ArePlaces k lost) is run.places;
       isolated = alone;
+      own_losses = lost-for_itself config first lost events packets alone;
       provenance = λ starts begin. has_provenance config starts (kept lost events) packets (from_start config first starts (kept lost events) packets begin alone);
       from_start = λ starts begin. from_start config first starts (kept lost events) packets begin alone;
       all_sent = sent;

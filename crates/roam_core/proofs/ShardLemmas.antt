@@ -1,29 +1,32 @@
 -- The rooms of a shard's tick, and the tick in them.
-use Rattle.std.proofs.Common.{◌≡◌, ℕ, ◌+◌, ◌^◌, ◌<◌, ◌≤◌, Bool, true, false, List, [], ◌∷◌, ◌++◌, length, take, get_or, set, Option, Some, None, refl, sym, ap, subst, ◌∙◌, append_assoc, arith}
-use Rattle.std.specs.Prelude.{nat_lt, if◌then◌else◌}
+use Rattle.std.proofs.Common.{◌≡◌, ℕ, ◌+◌, ◌^◌, ◌<◌, ◌≤◌, ◌&&◌, Bool, true, false, List, [], ◌∷◌, ◌++◌, length, take, get_or, set, Option, Some, None, refl, sym, ap, subst, ◌∙◌, append_assoc, arith}
+use Rattle.std.specs.Prelude.{nat_lt, not}
 use Rattle.std.proofs.Math.Seq.{get_or-append_seam, set-append_seam}
 use Rattle.std.proofs.lemmas.Bool.Decides.{nat_tests}
 use Rattle.std.proofs.lemmas.List.{append-nil, length-append, map-append, length-map, take_more}
 use Rattle.roam_conf.specs.Config.{ConfigView}
 use Rattle.roam_route.specs.Admission.{PlainOut}
 use Rattle.roam_book.specs.BookView.{BookView}
-use Rattle.roam_book.specs.RealmConfig.{realm_config}
 use Rattle.roam_book.specs.RealmState.{RealmState}
-use Rattle.roam_book.specs.Turn.{Turn, sends, packets_of, state_after, shown_outs}
-use Rattle.roam_book.specs.OnTick.{on_tick}
+use Rattle.roam_book.specs.Rooms.{only_done_due}
+use Rattle.roam_book.specs.Turn.{Turn, packets_of, state_after, shown_outs}
 use Rattle.roam_book.specs.declared.packets.answer.Answer.{Answer}
 use Rattle.roam_book.specs.declared.packets.tick_memory.Room.{Room}
 use Rattle.roam_core.specs.Events.{is_in_shard}
 use Rattle.roam_core.specs.ManyRealms.{AllRealms, no_state, state_at, tick_of, tick_from, to_tick}
 use Rattle.roam_core.specs.Steps.{IsAnswer}
 use Rattle.roam_core.specs.BrokerView.{states_of}
-use Rattle.roam_core.specs.ShardRooms.{most_of, most_of_all, Fits, AllFit, IsRealmRoom, AreRooms, turn_in, tick_in}
+use Rattle.roam_core.specs.ShardRooms.{most_of, most_of_all, IsRealmRoom, AreRooms, wants_room}
 
 -- one room more
-rooms-push : {A : Type 0} → (config : ConfigView) (now shard realm first : ℕ) (ss : List RealmState) (rooms : List (Option (Room A))) (s : RealmState) (room : Option (Room A)) → AreRooms config now shard first ss rooms → realm ≡ first + length ss → IsRealmRoom now (is_in_shard config shard realm) s.entries room → AreRooms config now shard first (ss ++ s ∷ []) (rooms ++ room ∷ [])
+rooms-push : {A : Type 0} → (config : ConfigView) (now shard realm first : ℕ) (ss : List RealmState)
+    (rooms : List (Option (Room A))) (s : RealmState) (room : Option (Room A))
+    → AreRooms config now shard first ss rooms → realm ≡ first + length ss
+    → IsRealmRoom now (wants_room config now shard realm s.entries) s.entries room
+    → AreRooms config now shard first (ss ++ s ∷ []) (rooms ++ room ∷ [])
 rooms-push config now shard realm first [] [] s room are is own =
     let same : realm ≡ first = omega arith in
-    (subst (λ (r : ℕ). IsRealmRoom now (is_in_shard config shard r) s.entries room) same own, tt)
+    (subst (λ (r : ℕ). IsRealmRoom now (wants_room config now shard r s.entries) s.entries room) same own, tt)
 rooms-push config now shard realm first [] (r ∷ rs) s room are is own = absurd are
 rooms-push config now shard realm first (x ∷ xs) [] s room are is own = absurd are
 rooms-push config now shard realm first (x ∷ xs) (r ∷ rs) s room are is own =
@@ -42,7 +45,14 @@ pub record AreGathered {A : Type 0} (config : ConfigView) (now shard count : ℕ
 pub none-gathered : {A : Type 0} → (config : ConfigView) (now shard : ℕ) (books : List BookView) → AreGathered {A = A} config now shard 0 books [] 0
 none-gathered config now shard books = record { each = tt; number = refl; packets = refl }
 
-pub one-more-gathered : {A : Type 0} → (config : ConfigView) (now shard count : ℕ) (books : List BookView) (rooms : List (Option (Room A))) (most more : ℕ) (b : BookView) (room : Option (Room A)) → AreGathered config now shard count books rooms most → count < length books → b ≡ get_or books count b → IsRealmRoom now (is_in_shard config shard count) b.state.entries room → more ≡ most + most_of room → AreGathered config now shard (count + 1) books (rooms ++ room ∷ []) more
+pub one-more-gathered : {A : Type 0}
+    → (config : ConfigView) (now shard count : ℕ) (books : List BookView)
+    (rooms : List (Option (Room A))) (most more : ℕ) (b : BookView) (room : Option (Room A))
+    → AreGathered config now shard count books rooms most → count < length books
+    → b ≡ get_or books count b
+    → IsRealmRoom now (wants_room config now shard count b.state.entries) b.state.entries room
+    → more ≡ most + most_of room
+    → AreGathered config now shard (count + 1) books (rooms ++ room ∷ []) more
 one-more-gathered config now shard count books rooms most more b room are within at own sum =
     let front : take (count + 1) books ≡ take count books ++ b ∷ [] = take_more books count b within ∙ ap (λ (x : BookView). take count books ++ x ∷ []) (sym at) in
     let states : states_of (take (count + 1) books) ≡ states_of (take count books) ++ b.state ∷ [] =
@@ -55,120 +65,154 @@ one-more-gathered config now shard count books rooms most more b room are within
       packets = sum ∙ ap (λ (n : ℕ). n + most_of room) are.packets ∙ sym (most-push rooms room);
     }
 
--- with a room for just the realms that take part, the tick in the rooms is the tick of the shard
-turn-in : {A : Type 0} → (config : ConfigView) (now shard realm : ℕ) (s : RealmState) (room : Option (Room A)) → IsRealmRoom now (is_in_shard config shard realm) s.entries room → turn_in config now realm s room ≡ tick_of config now shard realm s
-turn-in config now shard realm s None own =
-    ap (λ (b : Bool). if b then on_tick (realm_config config realm) now s else sends [] s) own.part
-turn-in config now shard realm s (Some room) own =
-    ap (λ (b : Bool). if b then on_tick (realm_config config realm) now s else sends [] s) own.part
+-- a realm's part of the tick, seen through what its room is for
+pub takes_part : (own done wanted : Bool) → wanted ≡ (own && not done) → wanted ≡ true → own ≡ true
+takes_part true done wanted is there = refl
+takes_part false done wanted is there = absurd (let bad : false ≡ true = sym is ∙ there in cc)
 
-one-realm : (s : RealmState) (turn : Turn) (others : AllRealms) → AllRealms
-one-realm s turn others = record { packets = packets_of turn ++ others.packets; states = state_after s turn ∷ others.states }
-
-pub tick-in : {A : Type 0} → (config : ConfigView) (now shard realm : ℕ) (ss : List RealmState) (rooms : List (Option (Room A))) → AreRooms config now shard realm ss rooms → tick_in config now realm ss rooms ≡ tick_from config now shard realm ss
-unfolding one-realm
-tick-in config now shard realm [] [] are = refl
-tick-in config now shard realm [] (r ∷ rs) are = absurd are
-tick-in config now shard realm (s ∷ ss) [] are = absurd are
-tick-in config now shard realm (s ∷ ss) (r ∷ rs) are =
-    ap (λ (t : Turn). one-realm s t (tick_in config now (realm + 1) ss rs)) (turn-in config now shard realm s r are.0)
-    ∙ ap (λ (o : AllRealms). one-realm s (tick_of config now shard realm s) o) (tick-in config now shard (realm + 1) ss rs are.1)
-
-pub all-fit : {A : Type 0} → (config : ConfigView) (now shard realm : ℕ) (ss : List RealmState) (rooms : List (Option (Room A))) → AreRooms config now shard realm ss rooms → AllFit now ss rooms
-all-fit config now shard realm [] [] are = tt
-all-fit config now shard realm [] (r ∷ rs) are = absurd are
-all-fit config now shard realm (s ∷ ss) [] are = absurd are
-all-fit config now shard realm (s ∷ ss) (r ∷ rs) are = (are.0.fits, all-fit config now shard (realm + 1) ss rs are.1)
+pub only_lets_go : (own done wanted : Bool) → wanted ≡ (own && not done) → wanted ≡ false
+    → own ≡ true → done ≡ true
+only_lets_go true true wanted is none part = refl
+only_lets_go true false wanted is none part = absurd (let bad : true ≡ false = sym is ∙ none in cc)
+only_lets_go false done wanted is none part = absurd (let bad : false ≡ true = part in cc)
 
 -- the tick so far: some realms had their part, and the rest will have theirs in the rooms that are left
-pub record IsTicking {A : Type 0} (config : ConfigView) (now : ℕ) (first states : List RealmState) (all left : List (Option (Room A))) (realm : ℕ) (sent : List PlainOut) : Type 0 where
+pub record IsTicking {A : Type 0} (config : ConfigView) (now shard : ℕ) (first states : List RealmState)
+    (left : List (Option (Room A))) (realm : ℕ) (sent : List PlainOut) : Type 0 where
   pub past : List RealmState
   pub rest : List RealmState
   pub are : states ≡ past ++ rest
   pub at : realm ≡ length past
-  pub fit : AllFit now rest left
-  pub packets : (tick_in config now 0 first all).packets ≡ sent ++ (tick_in config now realm rest left).packets
-  pub stand : (tick_in config now 0 first all).states ≡ past ++ (tick_in config now realm rest left).states
+  pub fit : AreRooms config now shard realm rest left
+  pub packets : (tick_from config now shard 0 first).packets
+      ≡ sent ++ (tick_from config now shard realm rest).packets
+  pub stand : (tick_from config now shard 0 first).states
+      ≡ past ++ (tick_from config now shard realm rest).states
 
-pub ticking-start : {A : Type 0} → (config : ConfigView) (now : ℕ) (first : List RealmState) (all : List (Option (Room A))) → AllFit now first all → IsTicking config now first first all all 0 []
-ticking-start config now first all fit =
+pub ticking-start : {A : Type 0} → (config : ConfigView) (now shard : ℕ) (first : List RealmState)
+    (rooms : List (Option (Room A))) → AreRooms config now shard 0 first rooms
+    → IsTicking config now shard first first rooms 0 []
+ticking-start config now shard first rooms fit =
     record { past = []; rest = first; are = refl; at = refl; fit = fit; packets = refl; stand = refl }
 
 -- the realm whose room is the next one
-pub record IsNext {A : Type 0} (now : ℕ) (states : List RealmState) (realm : ℕ) (room : Option (Room A)) : Type 0 where
+pub record IsNext {A : Type 0} (config : ConfigView) (now shard : ℕ) (states : List RealmState)
+    (realm : ℕ) (room : Option (Room A)) : Type 0 where
   pub there : realm < length states
-  pub fits : Fits now (state_at states realm).entries room
+  pub fits : IsRealmRoom now (wants_room config now shard realm (state_at states realm).entries)
+      (state_at states realm).entries room
 
-next-of : {A : Type 0} → (now : ℕ) (states past rest : List RealmState) (realm : ℕ) (room : Option (Room A)) (left : List (Option (Room A))) → states ≡ past ++ rest → realm ≡ length past → AllFit now rest (room ∷ left) → IsNext now states realm room
-next-of now states past [] realm room left are at fit = absurd fit
-next-of now states past (s ∷ rest) realm room left are at fit =
-    let here : state_at states realm ≡ s = ap (λ (l : List RealmState). state_at l realm) are ∙ ap (λ (k : ℕ). state_at (past ++ s ∷ rest) k) at ∙ get_or-append_seam past s rest no_state in
-    let count : length states ≡ length past + length (s ∷ rest) = ap (λ (l : List RealmState). length l) are ∙ length-append past (s ∷ rest) in
+next-of : {A : Type 0} → (config : ConfigView) (now shard : ℕ) (states past rest : List RealmState)
+    (realm : ℕ) (room : Option (Room A)) (left : List (Option (Room A)))
+    → states ≡ past ++ rest → realm ≡ length past
+    → AreRooms config now shard realm rest (room ∷ left)
+    → IsNext config now shard states realm room
+next-of config now shard states past [] realm room left are at fit = absurd fit
+next-of config now shard states past (s ∷ rest) realm room left are at fit =
+    let here : state_at states realm ≡ s = ap (λ (l : List RealmState). state_at l realm) are
+    ∙ ap (λ (k : ℕ). state_at (past ++ s ∷ rest) k) at ∙ get_or-append_seam past s rest no_state in
+    let count : length states ≡ length past + length (s ∷ rest) =
+    ap (λ (l : List RealmState). length l) are ∙ length-append past (s ∷ rest) in
     record {
       there = omega (arith, count, at);
-      fits = subst (λ (x : RealmState). Fits now x.entries room) (sym here) fit.0;
+      fits =
+          subst (λ (x : RealmState). IsRealmRoom now (wants_room config now shard realm x.entries) x.entries room)
+          (sym here) fit.0;
     }
 
-pub ticking-next : {A : Type 0} → (config : ConfigView) (now : ℕ) (first states : List RealmState) (all left after : List (Option (Room A))) (realm : ℕ) (sent : List PlainOut) (room : Option (Room A)) → left ≡ room ∷ after → IsTicking config now first states all left realm sent → IsNext now states realm room
-ticking-next {A = A} config now first states all left after realm sent room is ticking =
-    next-of now states ticking.past ticking.rest realm room after ticking.are ticking.at
-    (subst (λ (l : List (Option (Room A))). AllFit now ticking.rest l) is ticking.fit)
+pub ticking-next : {A : Type 0} → (config : ConfigView) (now shard : ℕ) (first states : List RealmState)
+    (left after : List (Option (Room A))) (realm : ℕ) (sent : List PlainOut) (room : Option (Room A))
+    → left ≡ room ∷ after → IsTicking config now shard first states left realm sent
+    → IsNext config now shard states realm room
+ticking-next {A = A} config now shard first states left after realm sent room is ticking =
+    next-of config now shard states ticking.past ticking.rest realm room after ticking.are ticking.at
+    (subst (λ (l : List (Option (Room A))). AreRooms config now shard realm ticking.rest l) is ticking.fit)
 
 -- that realm's part
-part-done : {A : Type 0} → (config : ConfigView) (now : ℕ) (first states new past rest : List RealmState) (all after : List (Option (Room A))) (realm : ℕ) (sent more : List PlainOut) (room : Option (Room A))
-    → states ≡ past ++ rest → realm ≡ length past → AllFit now rest (room ∷ after)
-    → (tick_in config now 0 first all).packets ≡ sent ++ (tick_in config now realm rest (room ∷ after)).packets
-    → (tick_in config now 0 first all).states ≡ past ++ (tick_in config now realm rest (room ∷ after)).states
-    → more ≡ sent ++ packets_of (turn_in config now realm (state_at states realm) room)
-    → new ≡ set states realm (state_after (state_at states realm) (turn_in config now realm (state_at states realm) room))
-    → IsTicking config now first new all after (realm + 1) more
-part-done config now first states new past [] all after realm sent more room are at fit packets stand gives becomes = absurd fit
-part-done config now first states new past (s ∷ rest) all after realm sent more room are at fit packets stand gives becomes =
-    let here : state_at states realm ≡ s = ap (λ (l : List RealmState). state_at l realm) are ∙ ap (λ (k : ℕ). state_at (past ++ s ∷ rest) k) at ∙ get_or-append_seam past s rest no_state in
-    let turn : Turn = turn_in config now realm s room in
-    let others : AllRealms = tick_in config now (realm + 1) rest after in
+part-done : {A : Type 0}
+    → (config : ConfigView) (now shard : ℕ) (first states new past rest : List RealmState)
+    (after : List (Option (Room A))) (realm : ℕ) (sent more : List PlainOut) (room : Option (Room A))
+    → states ≡ past ++ rest → realm ≡ length past
+    → AreRooms config now shard realm rest (room ∷ after)
+    → (tick_from config now shard 0 first).packets
+    ≡ sent ++ (tick_from config now shard realm rest).packets
+    → (tick_from config now shard 0 first).states
+    ≡ past ++ (tick_from config now shard realm rest).states
+    → more ≡ sent ++ packets_of (tick_of config now shard realm (state_at states realm))
+    → new ≡ set states realm (state_after (state_at states realm)
+    (tick_of config now shard realm (state_at states realm)))
+    → IsTicking config now shard first new after (realm + 1) more
+part-done config now shard first states new past [] after realm sent more room are at fit packets stand gives becomes =
+    absurd fit
+part-done config now shard first states new past (s ∷ rest) after realm sent more room are at fit packets stand gives becomes =
+    let here : state_at states realm ≡ s = ap (λ (l : List RealmState). state_at l realm) are
+    ∙ ap (λ (k : ℕ). state_at (past ++ s ∷ rest) k) at ∙ get_or-append_seam past s rest no_state in
+    let turn : Turn = tick_of config now shard realm s in
+    let others : AllRealms = tick_from config now shard (realm + 1) rest in
     let one : RealmState = state_after s turn in
-    let place : set states realm one ≡ past ++ one ∷ rest = ap (λ (l : List RealmState). set l realm one) are ∙ ap (λ (k : ℕ). set (past ++ s ∷ rest) k one) at ∙ set-append_seam past s rest one in
-    let more_is : more ≡ sent ++ packets_of turn = gives ∙ ap (λ (x : RealmState). sent ++ packets_of (turn_in config now realm x room)) here in
+    let place : set states realm one ≡ past ++ one ∷ rest =
+    ap (λ (l : List RealmState). set l realm one) are
+    ∙ ap (λ (k : ℕ). set (past ++ s ∷ rest) k one) at ∙ set-append_seam past s rest one in
+    let more_is : more ≡ sent ++ packets_of turn = gives
+    ∙ ap (λ (x : RealmState). sent ++ packets_of (tick_of config now shard realm x)) here in
     record {
       past = past ++ one ∷ [];
       rest = rest;
-      are = becomes ∙ ap (λ (x : RealmState). set states realm (state_after x (turn_in config now realm x room))) here ∙ place ∙ sym (append_assoc past (one ∷ []) rest);
+      are = becomes
+          ∙ ap (λ (x : RealmState). set states realm (state_after x (tick_of config now shard realm x))) here
+          ∙ place ∙ sym (append_assoc past (one ∷ []) rest);
       at = omega (arith, length-append past (one ∷ []), at);
       fit = fit.1;
-      packets = packets ∙ sym (append_assoc sent (packets_of turn) others.packets) ∙ ap (λ (l : List PlainOut). l ++ others.packets) (sym more_is);
+      packets = packets ∙ sym (append_assoc sent (packets_of turn) others.packets)
+          ∙ ap (λ (l : List PlainOut). l ++ others.packets) (sym more_is);
       stand = stand ∙ sym (append_assoc past (one ∷ []) others.states);
     }
 
-pub ticking-turn : {A : Type 0} → (config : ConfigView) (now : ℕ) (first states new : List RealmState) (all left after : List (Option (Room A))) (realm : ℕ) (sent more : List PlainOut) (room : Option (Room A)) → left ≡ room ∷ after → IsTicking config now first states all left realm sent
-    → more ≡ sent ++ packets_of (turn_in config now realm (state_at states realm) room)
-    → new ≡ set states realm (state_after (state_at states realm) (turn_in config now realm (state_at states realm) room))
-    → IsTicking config now first new all after (realm + 1) more
-ticking-turn {A = A} config now first states new all left after realm sent more room is ticking gives becomes =
-    let same : IsTicking config now first states all (room ∷ after) realm sent = subst (λ (l : List (Option (Room A))). IsTicking config now first states all l realm sent) is ticking in
-    part-done config now first states new same.past same.rest all after realm sent more room same.are same.at same.fit same.packets same.stand gives becomes
+pub ticking-turn : {A : Type 0}
+    → (config : ConfigView) (now shard : ℕ) (first states new : List RealmState)
+    (left after : List (Option (Room A))) (realm : ℕ) (sent more : List PlainOut) (room : Option (Room A))
+    → left ≡ room ∷ after → IsTicking config now shard first states left realm sent
+    → more ≡ sent ++ packets_of (tick_of config now shard realm (state_at states realm))
+    → new ≡ set states realm (state_after (state_at states realm)
+    (tick_of config now shard realm (state_at states realm)))
+    → IsTicking config now shard first new after (realm + 1) more
+ticking-turn {A = A} config now shard first states new left after realm sent more room is ticking gives becomes =
+    let same : IsTicking config now shard first states (room ∷ after) realm sent =
+    subst (λ (l : List (Option (Room A))). IsTicking config now shard first states l realm sent) is ticking in
+    part-done config now shard first states new same.past same.rest after realm sent more room same.are
+    same.at same.fit same.packets same.stand gives becomes
 
 pub nothing-left : {X : Type 0} (xs : List X) → length xs ≡ 0 → xs ≡ []
 nothing-left [] h = refl
 nothing-left (x ∷ xs) h = absurd (omega arith)
 
 -- all realms had their part
-pub record HasTicked {A : Type 0} (config : ConfigView) (now : ℕ) (first states : List RealmState) (all : List (Option (Room A))) (sent : List PlainOut) : Type 0 where
-  pub packets : sent ≡ (tick_in config now 0 first all).packets
-  pub stand : states ≡ (tick_in config now 0 first all).states
+pub record HasTicked (config : ConfigView) (now shard : ℕ) (first states : List RealmState)
+    (sent : List PlainOut) : Type 0 where
+  pub packets : sent ≡ (tick_from config now shard 0 first).packets
+  pub stand : states ≡ (tick_from config now shard 0 first).states
 
-none-left : {A : Type 0} → (config : ConfigView) (now : ℕ) (first states past rest : List RealmState) (all : List (Option (Room A))) (realm : ℕ) (sent : List PlainOut) → states ≡ past ++ rest → AllFit {A = A} now rest []
-    → (tick_in config now 0 first all).packets ≡ sent ++ (tick_in {A = A} config now realm rest []).packets
-    → (tick_in config now 0 first all).states ≡ past ++ (tick_in {A = A} config now realm rest []).states
-    → HasTicked config now first states all sent
-none-left config now first states past [] all realm sent are fit packets stand =
+none-left : (A : Type 0)
+    → (config : ConfigView) (now shard : ℕ) (first states past rest : List RealmState) (realm : ℕ)
+    (sent : List PlainOut) → states ≡ past ++ rest → AreRooms {A = A} config now shard realm rest []
+    → (tick_from config now shard 0 first).packets
+    ≡ sent ++ (tick_from config now shard realm rest).packets
+    → (tick_from config now shard 0 first).states
+    ≡ past ++ (tick_from config now shard realm rest).states
+    → HasTicked config now shard first states sent
+none-left A config now shard first states past [] realm sent are fit packets stand =
     record { packets = sym (packets ∙ append-nil sent); stand = are ∙ sym stand }
-none-left config now first states past (s ∷ rest) all realm sent are fit packets stand = absurd fit
+none-left A config now shard first states past (s ∷ rest) realm sent are fit packets stand = absurd fit
 
-pub ticking-end : {A : Type 0} → (config : ConfigView) (now : ℕ) (first states : List RealmState) (all left : List (Option (Room A))) (realm : ℕ) (sent : List PlainOut) → left ≡ [] → IsTicking config now first states all left realm sent → HasTicked config now first states all sent
-ticking-end {A = A} config now first states all left realm sent is ticking =
-    let same : IsTicking config now first states all [] realm sent = subst (λ (l : List (Option (Room A))). IsTicking config now first states all l realm sent) is ticking in
-    none-left config now first states same.past same.rest all realm sent same.are same.fit same.packets same.stand
+pub ticking-end : {A : Type 0} → (config : ConfigView) (now shard : ℕ) (first states : List RealmState)
+    (left : List (Option (Room A))) (realm : ℕ) (sent : List PlainOut) → left ≡ []
+    → IsTicking config now shard first states left realm sent
+    → HasTicked config now shard first states sent
+ticking-end {A = A} config now shard first states left realm sent is ticking =
+    let same : IsTicking config now shard first states [] realm sent =
+    subst (λ (l : List (Option (Room A))). IsTicking config now shard first states l realm sent) is ticking in
+    none-left A config now shard first states same.past same.rest realm sent same.are same.fit same.packets
+    same.stand
 
 -- the broker's answer to a tick
 pub ticked : {A : Type 0} → (answer : Answer A) (config : ConfigView) (old new : List RealmState) (now shard : ℕ) → shard < config.shards → now ≤ 2 ^ 62 → shown_outs answer.outs.items ≡ (tick_from config now shard 0 old).packets → answer.refusal ≡ None → new ≡ (tick_from config now shard 0 old).states → IsAnswer answer old new (to_tick config old now shard)

@@ -9,6 +9,13 @@ use Rattle.roam_book.specs.OneRealm.{one_realm_run}
 use Rattle.roam_core.specs.Events.{PlainEvent, given_to_realm, rejects_by}
 use Rattle.roam_core.specs.ManyRealms.{AllRealms, answers_to}
 
+-- ## A broker of one realm
+-- With one realm, all packets are those of the written one-realm broker and the broker's own answers, event by
+-- event.
+-- Source: ours
+-- Rules out: a broker that is right only beside others
+-- Stands in: `roam_core` `Alone.antt`; the law `one_realm`
+--
 -- the realm of index 0 alone: for each event its local reject, if it is answered so, and else what the
 -- realm's written broker does with it
 abbrev pub alone : ConfigView → RealmState → List PlainEvent → Progress

@@ -19,6 +19,19 @@ use Rattle.roam_book.specs.OneRealm.{RealmEvent, request_came, reply_came, tick_
 use Rattle.roam_book.specs.declared.state.start.Start.{Start}
 use Rattle.roam_core.specs.Openings.{one_realm_packets}
 
+-- ## Amplification
+-- Packets are counted by the place that they leave from and the endpoint that they go to: all of them, those
+-- toward one server, those back to one sender. What a request may cause: `tries` packets to each of its targets
+-- that is counted, and one back to its sender. A reply or a tick causes nothing of its own. What may still
+-- follow for an entry that waits: as many packets as sends are left, `tries` to each later target, and one
+-- back; for one that is done nothing. What was sent, and what may still follow then, is at most what might
+-- follow before and what the requests that came may cause. A request sends at most one packet, a reply too, a
+-- tick at most one for each due entry.
+-- Source: ours
+-- Rules out: a resend that uses up no send; a failover to a server that had its turn; a reply returned twice
+-- Stands in: `roam_core` `Amplification.antt`: `Ends`, `NoAmplification`, `NoAmplificationFromStart`,
+-- `OnePacketEach`; the law `no_amplification`
+--
 -- which packets are counted: by the place that they leave from, and the endpoint that they go to
 abbrev pub Ends : Type 0
 Ends = Place → Endpoint → Bool

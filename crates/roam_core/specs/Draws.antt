@@ -34,6 +34,20 @@ drawn_by c s (reply_came now l octets) = []
 drawn_by c s (tick_came now) =
     if nat_lt latest_moment now then [] else drawn_by_dues c now s (due_list now s.entries)
 
+-- ## Draws
+-- The positions of its stream at which a realm drew words: they rise from draw to draw by four, and up to 2^66
+-- draws no two are the same, neither in two turns nor in one tick. Over a realm's life, changes of its
+-- configuration and new beginnings among them, it is the same. And a draw is for one forwarding: two
+-- Access-Requests that were forwarded with the words of one position are the same packet, for the same request,
+-- under the same ticket. That words of two positions differ nobody promises.
+-- Source: RFC 2865 section 3
+-- Rules out: two Access-Requests with the words of one position; words that begin again after a change
+-- Stands in: `roam_core` `Draws.antt`: `drawn`, `DrawsAt`; `ProvenanceLaws.antt`: `WordsAreDrawnInOrder`,
+-- `DrawsAreApart`, `WordsAreDrawnOnce`; `Occasions.antt`: `occasions`, `ForwardsOn`; `LifeLaws.antt`:
+-- `WordsAreDrawnInOrderIn`, `DrawsAreApartIn`, `OneDrawOneForwarding`; `roam_hub` `LivesOver.antt`:
+-- `DrawsApartOverChanges`; the laws `provenance`: `words`, `apart`, `once`, `life_draws`,
+-- `draws_apart_over_changes`
+--
 -- those of a list of events, in order
 abbrev pub drawn : RealmConfig → RealmState → List RealmEvent → List ℕ
 drawn c s [] = []

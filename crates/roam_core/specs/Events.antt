@@ -20,6 +20,11 @@ given_by realm now (admitted job) = if job.realm == realm then event_of now job 
 abbrev pub is_in_shard : ConfigView → ℕ → ℕ → Bool
 is_in_shard config shard realm = realm % config.shards == shard
 
+-- ## Events of a realm
+-- What admission gives to a realm out of a list of arrivals and ticks, in order.
+-- Source: ours
+-- Stands in: `roam_core` `Events.antt`: `given_to_realm`, `events_of_realm`
+--
 -- what an event gives to the realm of an index
 abbrev pub given_to_realm : ConfigView → ℕ → PlainEvent → List RealmEvent
 given_to_realm config realm (arrives now a) = given_by realm now (admission config a)
@@ -58,6 +63,14 @@ kept_from place lost (e ∷ es) =
     then kept_from (place + 1) lost es
     else e ∷ kept_from (place + 1) lost es
 
+-- ## Kept events, lost events
+-- Each event is given to the broker in its turn and once. One that was refused memory there is lost: it changed
+-- no state, and its place in the list is noted. The kept events are the others, in order.
+-- Source: ours
+-- Rules out: a refused event that changed something; one that was passed by and noted as lost; a place noted
+-- twice, or of no event
+-- Stands in: `roam_core` `Events.antt`: `kept`, `Runs.antt`: `WereGiven`, `ArePlaces`; `run`
+--
 -- the events that weren't lost for want of memory
 abbrev pub kept : List ℕ → List PlainEvent → List PlainEvent
 kept lost events = kept_from 0 lost events

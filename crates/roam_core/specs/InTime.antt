@@ -40,6 +40,16 @@ last_moment before (e ∷ es) = last_moment (moment_of e) es
 abbrev pub longest_wait : RealmConfig → ℕ → PlainRequest → ℕ
 longest_wait c gap q = c.realm.tries * length (targets c q) * (c.realm.wait + gap)
 
+-- ## In time
+-- Events are in time for a gap where moments don't go back, and none comes more than `gap` milliseconds after
+-- the tick before it. The longest wait of a request is `tries` times its targets times (`wait` + gap). A
+-- request comes and is given a ticket; the events after it are in time; once they have lasted so long, no entry
+-- of that ticket waits: it was answered, given up, or has made way. That ticks come, and aren't lost for want
+-- of memory, is the premise and isn't claimed.
+-- Source: ours
+-- Rules out: a request that waits for ever at a silent server
+-- Stands in: `roam_core` `InTime.antt`: `NoneWaitsLonger`; the law `bounded_waits`
+--
 -- a request comes and gets a ticket, and then events in time, counted from its arrival. Once they have
 -- lasted so long, no entry of that ticket waits: it was answered, given up, or has made way for another
 abbrev pub NoneWaitsLonger : Type 0

@@ -27,6 +27,13 @@ abbrev pub is_none : Option ℕ → Bool
 is_none None = true
 is_none (Some r) = false
 
+-- ## Packets of a realm
+-- The packets that carry the realm's tag, in order: place, destination and octets. The broker's own answers
+-- carry no tag.
+-- Source: ours
+-- Rules out: a packet with another realm's tag
+-- Stands in: `roam_core` `Isolation.antt`: `packets_for`, `packets_for_none`
+--
 -- the packets that are sent for a realm: in order, each with the place that it leaves from, where it
 -- goes, and its octets
 abbrev pub packets_for : ℕ → List PlainOut → List PlainOut
@@ -36,6 +43,14 @@ packets_for realm packets = filter (λ out. is_realm realm out.realm) packets
 abbrev pub packets_for_none : List PlainOut → List PlainOut
 packets_for_none packets = filter (λ out. is_none out.realm) packets
 
+-- ## Isolation
+-- For every list of events and every realm, the packets of that realm are those of the one-realm run over that
+-- realm's events alone, without the events that were lost for lack of memory.
+-- Source: ours
+-- Rules out: everything else on this page put together wrongly
+-- Stands in: `roam_core` `Isolation.antt`: `IsIsolatedFromStart`, `IsIsolated`; `run`, the law
+-- `isolated_realms`
+--
 -- the headline: begun at these starts, one for each realm, the packets for a realm are those of its own
 -- written broker from its start, which is given its part of the configuration and its events, and
 -- nothing else. The events are those that weren't lost for want of memory: `run` names them by `kept`
@@ -69,6 +84,13 @@ EachRealmIsIsolated =
     → 1 ≤ config.shards
     → IsIsolated config states events (answers_to config states events).packets
 
+-- ## Each realm stands alone
+-- As its packets, so its state: after any list of events it is the one that the one-realm run leaves, over that
+-- realm's events alone.
+-- Source: ours
+-- Rules out: a trace that another realm left
+-- Stands in: `roam_core` `Isolation.antt`: `EachRealmStandsAlone`; the law `isolated_realms`
+--
 -- and each realm then stands as its own written broker does
 abbrev pub EachRealmStandsAlone : Type 0
 EachRealmStandsAlone =
@@ -78,6 +100,14 @@ EachRealmStandsAlone =
     ≡ (one_realm_run (realm_config config realm) (state_at states realm)
     (events_of_realm config realm events)).state
 
+-- ## Isolation of ledgers
+-- Which sessions a realm's ledger holds after a list of events, begun with none, its own events alone decide:
+-- they are those of the one-realm run over them. So no other realm's accounting lets one of its reverse
+-- requests pass, however sessions are named.
+-- Source: ours
+-- Rules out: one ledger for all realms
+-- Stands in: `roam_core` `Isolation.antt`: `EachLedgerIsIsolated`; the law `isolated_ledgers`
+--
 -- the isolation of ledgers: which sessions a realm's ledger holds, its own events alone decide, begun with
 -- none; so no other realm's accounting lets a reverse request of this realm pass, however its sessions
 -- are named
@@ -117,6 +147,14 @@ SameInTwoWorlds =
     → packets_for realm (answers_to one ss es).packets
     ≡ packets_for realm (answers_to other ts fs).packets
 
+-- ## Two worlds
+-- Two configurations, starts and lists of events, whatever the other realms, shards and events are in each:
+-- where a realm's view, its start and its own events are the same in both, so are the packets that are sent for
+-- it.
+-- Source: ours
+-- Rules out: anything of a realm that another one can see
+-- Stands in: `roam_core` `Isolation.antt`: `SameInTwoWorldsFromStart`, `SameInTwoWorlds`; the law `two_worlds`
+--
 -- the same, from starts
 abbrev pub SameInTwoWorldsFromStart : Type 0
 SameInTwoWorldsFromStart =

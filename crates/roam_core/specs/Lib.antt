@@ -3,6 +3,7 @@
 pub mod Events
 pub mod Openings
 pub mod Isolation
+pub mod OwnLosses
 pub mod Draws
 pub mod Provenance
 pub mod ProvenanceLaws

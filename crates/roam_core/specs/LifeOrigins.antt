@@ -162,6 +162,21 @@ pub record IsNakPacketIn (b : Stage) (life : List Happening) (out : PlainOut) : 
   pub request : PlainRequest
   pub nak : IsNakIn b life request out
 
+-- ## Provenance over changes
+-- Over a realm's life each packet is one of the three of *Provenance*: forwarded, returned or a NAK, of a
+-- request of the life, before or after a change, each step under the configuration of its time. A packet that
+-- is sent again after a change has the octets that were forwarded before it, and goes to the link's endpoint of
+-- the time. It holds of what is sent after any part of a life from which all held entries come, and what is
+-- held then comes from the life again; so from an opening on, for ever. A ticket is given to one event of a
+-- life.
+-- Source: RFC 2865 section 3, RFC 5176 section 2.3, ours
+-- Rules out: a reply, after a reload, to a request that never came, or given to another request; a ticket given
+-- again by a reload
+-- Stands in: `roam_core` `LifeOrigins.antt`: `HasOriginIn`, `IsForwardedIn`, `IsReturnedIn`, `IsNakIn`,
+-- `ComesFromIn`; `LifeLaws.antt`: `EntriesKeepOrigin`, `EachPacketHasOriginFrom`, `TicketIsGivenOnceIn`,
+-- `OneRequestHasTicketIn`; `roam_hub` `LivesOver.antt`: `ProvenanceOverChanges`, `TicketGivenOnceOverChanges`;
+-- the laws `life_provenance`, `life_tickets`, `provenance_over_changes`, `tickets_over_changes`
+--
 -- each packet is one of the three: there are no others
 abbrev pub HasOriginIn : Stage → List Happening → PlainOut → Type 0
 HasOriginIn b life out =

@@ -9,7 +9,18 @@ use Rattle.roam_book.specs.Reload.{carried}
 use Rattle.roam_book.specs.Turn.{packets_of, state_after}
 use Rattle.roam_book.specs.OneRealm.{RealmEvent, on_event}
 use Rattle.roam_core.specs.Draws.{drawn_by}
+use Rattle.roam_core.specs.Openings.{next_start}
 
+-- ## A realm's life
+-- What happens to a realm, in order: its events, and the changes of the configuration, at each of which it goes
+-- on in its state or begins anew (at its place in the stream of random words and its next ticket). What an
+-- event does it does under the configuration of its time. A life may begin at any stage: a part of a
+-- configuration and a state.
+-- Source: ours
+-- Rules out: a realm of which nothing is said after a reload; words or tickets that begin again with it
+-- Stands in: `roam_core` `Lives.antt`: `Happening`, `Stage`, `stage_then`, `sent_in`, `draws_in`; `roam_hub`
+-- `LivesOver.antt`: `IsLifeOver`, `LivesGoAlong`; the law `lives_over_changes`
+--
 -- what happens to a realm: one of its events; or the configuration changes to another, and the realm goes on in
 -- its state, or begins anew
 pub data Happening : Type 0 where
@@ -26,10 +37,9 @@ pub record Stage : Type 0 where
 abbrev pub part_in : Stage → ConfigView → RealmConfig
 part_in at config = realm_config config at.config.index
 
--- begun anew: with no entries, no sessions, cursors 0 and no rests, at its place in the stream of random words and
--- at its next ticket, so that no words are drawn twice and no ticket is given twice
+-- begun anew: with no entries, no sessions, cursors 0 and no rests, where it stood in its stream and its tickets
 abbrev pub begun_anew : RealmConfig → RealmState → RealmState
-begun_anew c s = opening c (record { place = s.stream_position; ticket = s.ticket })
+begun_anew c s = opening c (next_start s)
 
 abbrev pub stage_after : Stage → Happening → Stage
 stage_after at (event e) =

@@ -92,6 +92,15 @@ to_tick config states now shard =
     then if nat_lt latest_moment now then refuses_it refusal.Moment else tick_all config states now shard
     else refuses_it refusal.NoShard
 
+-- ## Written answer
+-- What the broker answers to one event, from the states of all realms: admission's refusal, its local answer,
+-- or the answers of the realms that it gives an event to, in rising index. A tick gives a tick to each realm of
+-- its shard; it is refused for a shard that isn't there (20), and above time 2^62 (19), also where the shard
+-- has no realm. A refusal sends nothing and leaves all states.
+-- Source: ours
+-- Rules out: a refusal that changed something
+-- Stands in: `roam_core` `ManyRealms.antt`: `answer_to`, `answers_to`; the trait `Stepper`
+--
 -- what the broker answers an event with
 abbrev pub answer_to : ConfigView → List RealmState → PlainEvent → BrokerTurn
 answer_to config states (arrives now a) = to_arrival config states now (admission config a)

@@ -11,6 +11,11 @@ use Rattle.roam_book.specs.declared.state.start.Start.{Start}
 abbrev pub first_start : Start
 first_start = record { place = 0; ticket = 0 }
 
+-- where a realm begins anew that stood so: at its place in the stream of random words, and its next ticket, so that
+-- no words are drawn twice and no ticket is given twice. Where no realm stood, both are 0
+abbrev pub next_start : RealmState → Start
+next_start s = record { place = s.stream_position; ticket = s.ticket }
+
 -- the start of the realm of an index
 abbrev pub start_of : List Start → ℕ → Start
 start_of starts realm = slice_index_or starts realm first_start
@@ -21,6 +26,13 @@ openings_from config realm [] = []
 openings_from config realm (start ∷ starts) =
     opening (realm_config config realm) start ∷ openings_from config (realm + 1) starts
 
+-- ## Openings
+-- Each realm begins at its own start: no entries, no sessions, no rests, cursors 0, and the stream position and
+-- next ticket of the start, which for a fresh broker are both 0.
+-- Source: ours
+-- Rules out: a realm that begins in another's state
+-- Stands in: `roam_core` `Openings.antt`: `openings`, `fresh`; `Broker::new`, the law `realms_open`
+--
 abbrev pub openings : ConfigView → List Start → List RealmState
 openings config starts = openings_from config 0 starts
 

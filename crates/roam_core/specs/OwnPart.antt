@@ -11,6 +11,20 @@ use Rattle.roam_core.specs.Isolation.{is_realm, packets_for}
 use Rattle.roam_core.specs.ManyRealms.{answers_to}
 use Rattle.roam_core.specs.Openings.{openings, start_of}
 
+-- ## Own part of a configuration
+-- For what a realm sends: the peers, which names mean it, `max_hops`, its own table, the seed and the number of
+-- shards. Of another realm nothing is looked at, not even which there are: of each name only whether it means
+-- this realm. So other realms may be added, removed and renamed, and one broker of N realms is, realm by realm,
+-- N brokers. (A realm with a suffix or with `*` takes the names that a removed realm leaves: then a name means
+-- it that didn't, and the two don't agree for it.) For what one arrival gives to the realm, octet for octet
+-- with the realm that a request names: the peers, what each name means, `max_hops` and the realm's own table.
+-- For the broker's own answers: the peers, what each name means, `max_hops` and `status_server`.
+-- Source: ours
+-- Rules out: another realm's server, secret, socket, name or being there that takes a realm's arrivals away or
+-- changes its packets, or decides whether the broker answers itself
+-- Stands in: `roam_core` `OwnPart.antt`: `MeanAlike`, `AgreeFor`, `SamePacketsOfOwnPart`, `SameOwnEvents`;
+-- `roam_route` `OwnPart.antt`: `HaveSamePart`, `AnswerAlike`; the laws `own_part`, `own_answers`
+--
 -- of each name two configurations alike say whether it means a realm. Which other realm it means, or whether any,
 -- they may say differently: other realms may be added, removed and renamed
 abbrev pub MeanAlike : ConfigView → ConfigView → ℕ → Type 0

@@ -159,6 +159,21 @@ pub record IsNakPacket (c : RealmConfig) (start : Start) (events : List RealmEve
   pub request : PlainRequest
   pub nak : IsNak c start events request out
 
+-- ## Provenance
+-- Each packet of a realm is one of three. The forwarded one of a request of its events, with the words that
+-- were drawn from some position of the realm's stream, sent in that request's own turn or by a later tick in
+-- which its entry failed over. Or the returned one: the request was forwarded to a link, then a reply came from
+-- that link, with that packet's Identifier, without a fault (code, signature, seal), and its turn sent this
+-- packet back to the sender. Or the NAK of a reverse request of its events, with the Error-Cause that its own
+-- turn or the tick that gave it up gives it, which goes back to the home server that sent it. A ticket is given
+-- to one event, and says which request it was. Each entry is of such a request, and waits for what was
+-- forwarded, or holds what was returned, or its NAK.
+-- Source: RFC 2865 section 3, RFC 5176 section 2.3, ours
+-- Rules out: a reply invented, replayed or given to another request with equal octets; a NAK to a request that
+-- never came; a packet from nowhere
+-- Stands in: `roam_core` `Provenance.antt`: `HasOrigin`, `IsForwarded`, `IsReturned`, `IsNak`, `ComesFrom`,
+-- `IsRequestOf`; `run`, the law `provenance`
+--
 -- each packet is one of the three: there are no others
 abbrev pub HasOrigin : RealmConfig → Start → List RealmEvent → PlainOut → Type 0
 HasOrigin c start events out =

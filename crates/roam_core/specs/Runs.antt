@@ -32,6 +32,13 @@ WereGiven {X = X} steps place lost first (e ∷ es) last =
     (next : X) × steps first e (not (is_lost place lost)) next
     × WereGiven steps (place + 1) lost next es last
 
+-- ## After some of the events
+-- The states after the first so many events of a list, without those at some lost places: what a run leaves
+-- whose outcome couldn't grow.
+-- Source: ours
+-- Rules out: an error after which nothing is known of a realm
+-- Stands in: `roam_core` `Runs.antt`: `StandsAfterSome`; `run`
+--
 -- a broker stands after some of the events, whatever it is: after the first `count` of the list, which
 -- were given to it in their order; those at the lost places wanted memory, and changed no state. What a run
 -- leaves whose outcome couldn't grow

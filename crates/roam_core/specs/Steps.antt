@@ -26,6 +26,15 @@ abbrev pub GivesAnswer :
 GivesAnswer (Ok answer) old new turn = IsAnswer answer old new turn
 GivesAnswer (Err e) old new turn = new ≡ old
 
+-- ## Event that needs memory
+-- An arrival that admission doesn't refuse, and a tick of a shard that is there at a time up to 2^62. Out of
+-- memory answers no other event, and over either broker no tick at which each entry that is due was answered,
+-- so that they only go.
+-- Source: ours
+-- Rules out: out of memory in place of a refusal's cause, or where nothing is sent
+-- Stands in: `roam_core` `Steps.antt`: `EventWantsMemory`, `SomeEntryWaits`; `ShardRooms.antt`:
+-- `only_done_from`; `Stepper::step`: `memory`, `step`
+--
 -- memory is wanted for an arrival that isn't refused before it comes to its realm, and for a tick of a
 -- shard that is there, at a moment that isn't above 2^62 milliseconds. What is refused before that is
 -- refused for its cause, whatever memory there is
@@ -50,6 +59,14 @@ pub record WasLost (old : BrokerView) (e : PlainEvent) (new : BrokerView) : Type
   pub wanted : EventWantsMemory old.config e
   pub waits : SomeEntryWaits old e
 
+-- ## What a step says
+-- An event that was answered leads to the written next states; one that was lost needed memory, a tick only
+-- where an entry was due that waits for a reply, and changed nothing.
+-- Source: ours
+-- Rules out: a run that passes events by and calls them lost
+-- Stands in: `roam_core` `Steps.antt`: `StepsTo`, `WasAnswered`, `WasLost`, `SomeEntryWaits`; `Stepper::steps`,
+-- `run`: `given`
+--
 -- what a step of a broker says of itself: from how it stood, with an event, whether it was answered, to
 -- how it stands then
 abbrev pub StepsTo : BrokerView → PlainEvent → Bool → BrokerView → Type 0

@@ -14,8 +14,8 @@ ghost use Rattle.roam_core.specs.Events.{is_in_shard};
 ghost use Rattle.roam_core.specs.ManyRealms.{state_at, tick_from, tick_of, to_arrival, to_tick};
 ghost use Rattle.roam_core.specs.Steps.{GivesAnswer, StepsTo};
 ghost use Rattle.roam_core.specs.Openings.{fresh};
-ghost use Rattle.roam_core.specs.ShardRooms.{AllFit, Fits, most_of, most_of_all, only_done_from, tick_in};
-ghost use Rattle.roam_core.specs.ShardRooms.{turn_in};
+ghost use Rattle.roam_core.specs.ShardRooms.{AreRooms, IsRealmRoom, most_of, most_of_all, only_done_from};
+ghost use Rattle.roam_core.specs.ShardRooms.{wants_room};
 
 use crate::event::Event;
 use crate::shard_room::{ShardRoom, has_only_done, room_of_shard};
@@ -80,6 +80,8 @@ fn append_reserved<A: Allocator>(outs: &mut Vec<Out<A>, A>, mut more: Vec<Out<A>
     outs.append(&mut more).unwrap();
 }
 
+/// For tests and rows: what shared tables are compared with.
+///
 /// The broker: a book for each realm. Contracts see its configuration, and the state of each realm in
 /// the order of their indexes.
 #[derive(Drop)]
@@ -152,52 +154,6 @@ impl<'c, A: Allocator + Copy> Broker<'c, A> {
         }
     }
 
-    /// A realm's part of a tick, in the room that was made for it, if one was. Takes no memory.
-    fn tick_one(&mut self, now: u64, realm: usize, room: Option<Room<A>>, outs: &mut Vec<Out<A>, A>)
-        requires there { realm < length self.old.states }
-        requires room { Fits now (state_at self.old.states realm).entries room }
-        requires places { vec_len outs.old + most_of room ≤ vec_capacity outs.old }
-        ensures packets { shown_outs outs.new.items ≡ shown_outs outs.old.items ++ packets_of
-            (turn_in self.old.config now realm (state_at self.old.states realm) room) }
-        ensures states { self.new.states ≡ slice_set self.old.states realm
-            (state_after (state_at self.old.states realm)
-            (turn_in self.old.config now realm (state_at self.old.states realm) room)) }
-        ensures config { self.new.config ≡ self.old.config }
-        ensures len { vec_len outs.new ≤ vec_len outs.old + most_of room }
-        ensures capacity { vec_capacity outs.old ≤ vec_capacity outs.new }
-    {
-        let Some(room) = room else {
-            return;
-        };
-        let answer = self.books[realm].tick_reserved(now, room);
-        append_reserved(outs, answer.outs);
-    }
-
-    /// A tick of the realms that have a room, in rising index. Takes no memory.
-    fn tick_in(&mut self, now: u64, room: ShardRoom<A>) -> Answer<A>
-        requires rooms { AllFit now self.old.states room.rooms.items }
-        requires empty { room.outs.items ≡ [] }
-        requires len { vec_len room.outs ≡ 0 }
-        requires places { most_of_all room.rooms.items ≤ vec_capacity room.outs }
-        ensures packets { shown_outs result.outs.items
-            ≡ (tick_in self.old.config now 0 self.old.states room.rooms.items).packets }
-        ensures refusal { result.refusal ≡ None }
-        ensures states { self.new.states
-            ≡ (tick_in self.old.config now 0 self.old.states room.rooms.items).states }
-        ensures config { self.new.config ≡ self.old.config }
-    {
-        let ShardRoom { rooms, mut outs } = room;
-        let mut realm = 0;
-        for room in rooms {
-            self.tick_one(now, realm, room, &mut outs);
-            realm += 1;
-        }
-        Answer {
-            outs,
-            refusal: None,
-        }
-    }
-
     /// A realm's part of a tick at which only done entries are due: they go, where the realm belongs to the
     /// shard. Takes no memory.
     fn let_one_go(&mut self, now: u64, shard: u16, realm: usize)
@@ -216,6 +172,65 @@ impl<'c, A: Allocator + Copy> Broker<'c, A> {
         }
     }
 
+    /// A realm's part of a shard's tick, in the room that was made for it. Without one only done entries are
+    /// due, if the realm takes part: they go. Takes no memory.
+    fn tick_one(
+        &mut self,
+        now: u64,
+        shard: u16,
+        realm: usize,
+        room: Option<Room<A>>,
+        outs: &mut Vec<Out<A>, A>,
+    )
+        requires there { realm < length self.old.states }
+        requires moment { now ≤ 2 ^ 62 }
+        requires room { IsRealmRoom now
+            (wants_room self.old.config now shard realm (state_at self.old.states realm).entries)
+            (state_at self.old.states realm).entries room }
+        requires places { vec_len outs.old + most_of room ≤ vec_capacity outs.old }
+        ensures packets { shown_outs outs.new.items ≡ shown_outs outs.old.items ++ packets_of
+            (tick_of self.old.config now shard realm (state_at self.old.states realm)) }
+        ensures states { self.new.states ≡ slice_set self.old.states realm
+            (state_after (state_at self.old.states realm)
+            (tick_of self.old.config now shard realm (state_at self.old.states realm))) }
+        ensures config { self.new.config ≡ self.old.config }
+        ensures len { vec_len outs.new ≤ vec_len outs.old + most_of room }
+        ensures capacity { vec_capacity outs.old ≤ vec_capacity outs.new }
+    {
+        let Some(room) = room else {
+            self.let_one_go(now, shard, realm);
+            return;
+        };
+        let answer = self.books[realm].tick_reserved(now, room);
+        append_reserved(outs, answer.outs);
+    }
+
+    /// A shard's tick, for which there is room: its realms in rising index. Takes no memory.
+    fn tick_in(&mut self, now: u64, shard: u16, room: ShardRoom<A>) -> Answer<A>
+        requires moment { now ≤ 2 ^ 62 }
+        requires rooms { AreRooms self.old.config now shard 0 self.old.states room.rooms.items }
+        requires empty { room.outs.items ≡ [] }
+        requires len { vec_len room.outs ≡ 0 }
+        requires places { most_of_all room.rooms.items ≤ vec_capacity room.outs }
+        ensures packets { shown_outs result.outs.items
+            ≡ (tick_from self.old.config now shard 0 self.old.states).packets }
+        ensures refusal { result.refusal ≡ None }
+        ensures states { self.new.states
+            ≡ (tick_from self.old.config now shard 0 self.old.states).states }
+        ensures config { self.new.config ≡ self.old.config }
+    {
+        let ShardRoom { rooms, mut outs } = room;
+        let mut realm = 0;
+        for room in rooms {
+            self.tick_one(now, shard, realm, room, &mut outs);
+            realm += 1;
+        }
+        Answer {
+            outs,
+            refusal: None,
+        }
+    }
+
     /// A tick at which only done entries are due: they go, and nothing is sent. Takes no memory.
     fn let_go(&mut self, now: u64, shard: u16)
         requires moment { now ≤ 2 ^ 62 }
@@ -230,8 +245,8 @@ impl<'c, A: Allocator + Copy> Broker<'c, A> {
         }
     }
 
-    /// Answers a shard's tick: all its memory is taken before anything changes. Where each entry that is due
-    /// was answered, so that they only go, none is wanted.
+    /// Answers a shard's tick: its memory is taken before anything changes, for those realms that have an entry
+    /// that is due and waits. Where each that is due was answered, so that they only go, none is wanted.
     fn tick(&mut self, now: u64, shard: u16) -> Result<Answer<A>, NoMemory>
         ensures turn { GivesAnswer result self.old.states self.new.states
             (to_tick self.old.config self.old.states now shard) }
@@ -253,7 +268,7 @@ impl<'c, A: Allocator + Copy> Broker<'c, A> {
             return Ok(nothing(self.alloc));
         }
         let room = room_of_shard(self.alloc, self.config, &self.books, now, shard)?;
-        Ok(self.tick_in(now, room))
+        Ok(self.tick_in(now, shard, room))
     }
 }
 

@@ -8,6 +8,7 @@ ghost use Rattle.roam_core.specs.Isolation.{SameInTwoWorldsFromStart};
 ghost use Rattle.roam_core.specs.LifeLaws.{DrawsAreApartIn, EachPacketHasOriginFrom, EntriesKeepOrigin};
 ghost use Rattle.roam_core.specs.LifeLaws.{OneDrawOneForwarding, OneRequestHasTicketIn, TicketIsGivenOnceIn};
 ghost use Rattle.roam_core.specs.LifeLaws.{WordsAreDrawnInOrderIn};
+ghost use Rattle.roam_core.specs.OwnLosses.{EachMissesItsOwn, NextTickMakesGood};
 ghost use Rattle.roam_core.specs.OwnPart.{SameOwnEvents, SamePacketsOfOwnPart};
 ghost use Rattle.roam_core.specs.ProvenanceLaws.{DrawsAreApart, EachEntryHasOrigin, EachPacketHasOrigin};
 ghost use Rattle.roam_core.specs.ProvenanceLaws.{OneRequestHasTicket, TicketIsGivenOnce, WordsAreDrawnInOrder};
@@ -30,6 +31,14 @@ pub fn isolated_ledgers()
 /// Each realm begins at its own start.
 pub fn realms_open()
     ensures { EachRealmOpens }
+{}
+
+/// Of the events that were lost for want of memory a realm misses its own: an arrival that was given to it, and a
+/// tick at which an entry of its own was due. In packets and state it is as if nothing else was lost. And where each
+/// such entry was answered its next tick makes that good.
+pub fn own_losses()
+    ensures own { EachMissesItsOwn }
+    ensures made_good { NextTickMakesGood }
 {}
 
 /// What a realm sends depends on its own part of the configuration, where it begins and its events alone.

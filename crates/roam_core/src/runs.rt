@@ -6,6 +6,7 @@ ghost use Rattle.roam_book.specs.Turn.{shown_outs};
 ghost use Rattle.roam_book.specs.declared.state.start.Start.{Start};
 ghost use Rattle.roam_core.specs.ManyRealms.{answers_to};
 ghost use Rattle.roam_core.specs.Openings.{openings};
+ghost use Rattle.roam_core.specs.OwnLosses.{LostForItself};
 ghost use Rattle.roam_core.specs.Provenance.{HasProvenance};
 ghost use Rattle.roam_core.specs.Runs.{ArePlaces, EachWantsMemory, StandsAfterSome, WereGiven};
 ghost use Rattle.roam_core.specs.Events.{kept, local_rejects};
@@ -76,6 +77,10 @@ pub fn run<A: Allocator + Copy, S: Stepper<A>>(
     // Each realm is isolated from whatever states they are in.
     ensures isolated { IfOk result (λ o. IsIsolated (S.config stepper.old) (S.states stepper.old)
         (kept o.lost.items (shown_events events.now)) (shown_outs o.outs.items)) }
+
+    // Want of memory stays with whom it hits: of the events that were lost each realm misses its own.
+    ensures lost_for_itself { IfOk result (λ o. LostForItself (S.config stepper.old) (S.states stepper.old)
+        o.lost.items (shown_events events.now) (shown_outs o.outs.items)) }
 
     // The events are given in their order, each once; those are lost, and noted by their places, that
     // met want of memory there: so an event that wants none is never lost.

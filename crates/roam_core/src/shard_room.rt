@@ -1,6 +1,6 @@
 //! The memory of a shard's tick, taken before anything changes.
 
-ghost use Rattle.std.specs.Prelude.{◌≡◌, ◌+◌, ◌≤◌, ◌||◌, [], length, not, IfOk, vec_len};
+ghost use Rattle.std.specs.Prelude.{◌≡◌, ◌+◌, ◌≤◌, ◌&&◌, ◌||◌, [], length, not, IfOk, vec_len};
 ghost use Rattle.std.specs.Prelude.{vec_capacity};
 ghost use Rattle.roam_conf.specs.Shown.{shown};
 ghost use Rattle.roam_book.specs.Rooms.{only_done_due};
@@ -14,22 +14,26 @@ use roam_route::Out;
 use roam_wire::NoMemory;
 use std::alloc::Allocator;
 
-/// The memory of a shard's tick: a room for each realm that belongs to the shard, in the order of all
-/// realms, and a place for each packet that may be sent.
+/// The memory of a shard's tick: a room for each realm that wants one, in the order of all realms, and a
+/// place for each packet that may be sent.
 pub(crate) struct ShardRoom<A: Allocator> {
     pub rooms: Vec<Option<Room<A>>, A>,
     pub outs: Vec<Out<A>, A>,
 }
 
-/// The room of a realm, where it takes part.
+/// The room of a realm, where it takes part and an entry of its own that is due waits. Any other wants none.
 fn room_for<A: Allocator + Copy>(
     book: &Book<'_, A>,
     now: u64,
     takes_part: bool,
 ) -> Result<Option<Room<A>>, NoMemory>
-    ensures { IfOk result (IsRealmRoom now takes_part book.now.state.entries) }
+    ensures { IfOk result (IsRealmRoom now
+        (takes_part && not (only_done_due now book.now.state.entries)) book.now.state.entries) }
 {
     if !takes_part {
+        return Ok(None);
+    }
+    if book.has_only_done_due(now) {
         return Ok(None);
     }
     let room = book.tick_room(now)?;
@@ -53,7 +57,7 @@ pub fn with_room<A: Allocator>(most: usize, room: &Option<Room<A>>) -> Result<us
     most.checked_add(most_of(room)).ok_or(NoMemory)
 }
 
-/// All the memory of a shard's tick, for the books of all realms.
+/// All the memory of a shard's tick, taken realm by realm: only for those that want it.
 pub(crate) fn room_of_shard<A: Allocator + Copy>(
     alloc: A,
     config: &Config,

@@ -1,10 +1,10 @@
 -- That counts are told apart.
-use Rattle.std.proofs.Common.{arith, ◌≡◌, ◌≢◌, ◌⊎◌, ◌∙◌, ℕ, ◌+◌, ◌*◌, ◌<◌, ◌≤◌, List, Some, length, slice_get, ap, refl, sym, inl, inr}
+use Rattle.std.proofs.Common.{arith, ◌≡◌, ◌∙◌, ℕ, ◌+◌, ◌*◌, ◌<◌, List, Some, slice_get, ap, refl, sym, inl, inr}
 use Rattle.std.proofs.lemmas.Bool.{cases_lt}
 use Rattle.std.proofs.lemmas.Option.{slice_get_within}
 use Rattle.roam_counters.proofs.Places.{all_events, all_processes, event-at_place, process-at_place}
 use Rattle.roam_counters.specs.Apart.{AreApart}
-use Rattle.roam_counters.specs.Cells.{IsOf, cell_of, cells, process_cell, row_of}
+use Rattle.roam_counters.specs.Cells.{IsOf, row_of}
 use Rattle.roam_counters.specs.Events.{event_place}
 use Rattle.roam_counters.specs.Process.{process_place}
 use Rattle.roam_counters.specs.declared.cell.Layout.{Layout}
@@ -41,7 +41,8 @@ same-at all m n x y same here there =
     let both : Some x ≡ Some y = sym here ∙ ap (λ (k : ℕ). slice_get all k) same ∙ there in cc
 
 pub events-apart : (a b : CountedEvent) → event_place a ≡ event_place b → a ≡ b
-events-apart a b same = same-at all_events (event_place a) (event_place b) a b same (event-at_place a) (event-at_place b)
+events-apart a b same = same-at all_events (event_place a) (event_place b) a b same (event-at_place a)
+    (event-at_place b)
 
 pub processes-apart : (p q : Process) → process_place p ≡ process_place q → p ≡ q
 processes-apart p q same =
@@ -62,11 +63,13 @@ rows-apart l subject.All (subject.Peer p) f g is = absurd (omega (arith, is))
 rows-apart l (subject.Realm r) subject.All f g is = absurd (omega (arith, is))
 rows-apart l (subject.Realm r) (subject.Realm q) f g is = ap subject.Realm (omega (arith, is))
 rows-apart l (subject.Realm r) (subject.Server q n) f g is =
-    absurd (let e = (nine-apart r q 0 (n + 1) (omega arith) (omega (arith, g.1)) (omega (arith, is))).1 in omega (arith, e))
+    absurd (let e = (nine-apart r q 0 (n + 1) (omega arith) (omega (arith, g.1)) (omega (arith, is))).1 in
+    omega (arith, e))
 rows-apart l (subject.Realm r) (subject.Peer p) f g is = absurd (omega (arith, f, is))
 rows-apart l (subject.Server r m) subject.All f g is = absurd (omega (arith, is))
 rows-apart l (subject.Server r m) (subject.Realm q) f g is =
-    absurd (let e = (nine-apart r q (m + 1) 0 (omega (arith, f.1)) (omega arith) (omega (arith, is))).1 in omega (arith, e))
+    absurd (let e = (nine-apart r q (m + 1) 0 (omega (arith, f.1)) (omega arith) (omega (arith, is))).1 in
+    omega (arith, e))
 rows-apart l (subject.Server r m) (subject.Server q n) f g is =
     let both = nine-apart r q m n (omega (arith, f.1)) (omega (arith, g.1)) (omega (arith, is)) in
     ap (λ (k : ℕ). subject.Server k m) both.0 ∙ ap (λ (k : ℕ). subject.Server q k) both.1
@@ -86,7 +89,8 @@ row-below l (subject.Peer p) f = omega (arith, f)
 pub are-apart : (l : Layout) → AreApart l
 are-apart l = record {
   subjects = λ s t a b f g is.
-      let both = ninety_one-apart (row_of l s) (row_of l t) (event_place a) (event_place b) (event-below a) (event-below b)
+      let both = ninety_one-apart (row_of l s) (row_of l t) (event_place a) (event_place b) (event-below a)
+      (event-below b)
       (omega (arith, is)) in
       (rows-apart l s t f g both.0, events-apart a b both.1);
   processes = processes-apart;

@@ -8,6 +8,14 @@ use Rattle.roam_counters.specs.declared.cell.Subject.TheVariants as subject
 use Rattle.roam_counters.specs.declared.event.CountedEvent.{CountedEvent}
 use Rattle.roam_counters.specs.declared.process.Process.{Process}
 
+-- ## Places of counts
+-- Each count has a place of its own: those of the server first, then a row for each realm, home server and
+-- peer.
+-- Source: ours
+-- Rules out: two counts in one
+-- Stands in: `roam_counters` `Events.antt`, `Cells.antt`: `cell_of`; `Apart.antt`: `CellsAreApart`;
+-- `Layout::cell`
+--
 -- how many there are
 abbrev pub cells : Layout → ℕ
 cells layout = 14 + 91 * (1 + 9 * layout.realms + layout.peers)

@@ -11,6 +11,13 @@ beyond_300 time =
     else if nat_le time 10000 then delay.Within10000
     else delay.Longer
 
+-- ## Time of an answer
+-- The least of the bounds 10, 30, 100, 300, 1,000, 3,000 and 10,000 milliseconds that it keeps, or none of
+-- them.
+-- Source: ours
+-- Rules out: a time counted between two bounds
+-- Stands in: `roam_counters` `Delays.antt`: `delay_of`; `Delay::of`
+--
 abbrev pub delay_of : ℕ → Delay
 delay_of time =
     if nat_le time 10 then delay.Within10

@@ -16,7 +16,8 @@ subject_of realm (link.Auth server) = subject.Server realm server
 subject_of realm (link.Acct server) = subject.Server realm server
 subject_of realm (link.Coa peer) = subject.Peer peer
 
--- who has this endpoint: at `auth` and `acct` a peer by its address, at a realm's `out` one of the realm's links, at its
+-- who has this endpoint: at `auth` and `acct` a peer by its address, at a realm's `out` one of the realm's links,
+-- at its
 -- `reverse` a home server by its address
 abbrev pub end_at : ConfigView → Place → Endpoint → Option Subject
 end_at config place.Auth endpoint = option_map subject.Peer (peer_with_ip config.peers endpoint.ip)

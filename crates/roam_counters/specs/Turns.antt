@@ -12,6 +12,15 @@ use Rattle.roam_counters.specs.declared.cell.Subject.TheVariants as subject
 use Rattle.roam_counters.specs.declared.event.CountedEvent.{CountedEvent}
 use Rattle.roam_counters.specs.declared.event.CountedEvent.TheVariants as event
 
+-- ## Counted events
+-- Of a realm, a home server and a peer: requests, forwarded ones, duplicates for which nothing is sent,
+-- replies, returned ones, answers at once, packets and answers of a tick, refusals by number. Which one it is
+-- follows from who sent a packet, its code, and the place and code of the packet that leaves.
+-- Source: ours
+-- Rules out: a reply counted as a request; a duplicate's answer counted as a returned reply
+-- Stands in: `roam_counters` `Kinds.antt`, `Turns.antt`: `arrival_event`, `outcome_event`, `tick_event`;
+-- `Ends.antt`: `end_at`; `Process.antt`; `CountedTurn`, `tick_event`, `end_at`
+--
 -- who sent it
 abbrev pub sender_of : ℕ → Side → Subject
 sender_of realm (side.Peer peer) = subject.Peer peer

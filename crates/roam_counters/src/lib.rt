@@ -1,6 +1,13 @@
 //! What is counted of a server: which count each event adds to, and where that stands.
 //!
 //! Nothing here counts: the counts themselves are shared memory, and belong to the server.
+//!
+//! # Proved
+//!
+//! - what an arrival, an answer and a tick's packet are counted as, and of whom: who sent it, and who is at the
+//!   other end | `CountedTurn::arrival`, `outcome`, `sender`; `tick_event`, `end_at`, `Process::received`
+//! - two counts stand at one place only where they are one: of the same realm, home server or peer of a
+//!   configuration and of the same event | law `cells_are_apart`; `Layout::cell`, `cells`, `Process::cell`
 #![tactic(auto)]
 
 mod cell;

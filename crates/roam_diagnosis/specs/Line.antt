@@ -12,6 +12,13 @@ abbrev pub is_indented : List ℕ → Bool
 is_indented [] = false
 is_indented (first ∷ rest) = (first == 32) && list_all is_printable rest
 
+-- ## Diagnosis
+-- At most ten lines, each of two spaces and then printable characters of ASCII alone. They stand behind a
+-- configuration's fault, each printed with a line feed; what they say of the places is not defined.
+-- Source: ours
+-- Rules out: a control character of the file on the operator's terminal
+-- Stands in: `roam_diagnosis` `Line.antt`: `is_line`, `Lines.antt`: `IsDiagnosis`, `printed`; `Lines::print`
+--
 -- two spaces, and then printable characters alone
 abbrev pub is_line : List ℕ → Bool
 is_line [] = false

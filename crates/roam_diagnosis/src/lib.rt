@@ -2,6 +2,12 @@
 //!
 //! Nothing here judges a configuration: `roam_conf_reader` does, and its fault says which lines are looked for. No
 //! line holds a secret.
+//!
+//! # Proved
+//!
+//! - a diagnosis has ten lines at most, each of two spaces and printable characters of ASCII. No value under
+//!   `secret` or `seed` leaves the table for one. What the lines say is tested | `Lines::print`: `lines`, `ok`;
+//!   `Line::as_str`: `line`; `Keys::value`
 #![tactic(auto)]
 
 mod advice;

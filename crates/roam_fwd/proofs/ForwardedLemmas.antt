@@ -27,7 +27,8 @@ abbrev pub with_ticket : Forwarding → List Attribute → List Attribute
 with_ticket f all = all ++ ticket_state f.ticket ∷ []
 
 -- their octets are ten more
-pub length-with_ticket : (f : Forwarding) (all : List Attribute) → length (attributes_text (with_ticket f all)) ≡ length (attributes_text all) + 10
+pub length-with_ticket : (f : Forwarding) (all : List Attribute) →
+    length (attributes_text (with_ticket f all)) ≡ length (attributes_text all) + 10
 length-with_ticket f all =
     ap length (sym (flat_map_more attribute_text [] all (ticket_state f.ticket)))
     ∙ length-append (attributes_text all) (attribute_text (ticket_state f.ticket))
@@ -45,12 +46,15 @@ AreOctets-ticket n (suc (suc (suc (suc (suc (suc (suc zero))))))) = omega arith
 AreOctets-ticket n (suc (suc (suc (suc (suc (suc (suc (suc i)))))))) = omega arith
 
 -- the ticket is an attribute, as those before it are
-pub IsAttribute-with_ticket : (f : Forwarding) (all : List Attribute) → AllByRecursion IsAttribute all → AllByRecursion IsAttribute (with_ticket f all)
-IsAttribute-with_ticket f [] h = (record { kind = omega arith; octets = AreOctets-ticket f.ticket; size = omega arith }, tt)
+pub IsAttribute-with_ticket : (f : Forwarding) (all : List Attribute) → AllByRecursion IsAttribute all →
+    AllByRecursion IsAttribute (with_ticket f all)
+IsAttribute-with_ticket f [] h =
+    (record { kind = omega arith; octets = AreOctets-ticket f.ticket; size = omega arith }, tt)
 IsAttribute-with_ticket f (a ∷ all) h = (h.0, IsAttribute-with_ticket f all h.1)
 
 -- the first Value of a Type stays where an attribute of another Type is added behind
-first_value-push : (kind : ℕ) (all : List Attribute) (a : Attribute) → has_kind kind a ≡ false → first_value kind (all ++ a ∷ []) ≡ first_value kind all
+first_value-push : (kind : ℕ) (all : List Attribute) (a : Attribute) → has_kind kind a ≡ false →
+    first_value kind (all ++ a ∷ []) ≡ first_value kind all
 first_value-push kind [] a other = rw other refl
 first_value-push kind (x ∷ xs) a other =
     elim (cases_Bool (has_kind kind x)) [
@@ -59,7 +63,8 @@ first_value-push kind (x ∷ xs) a other =
     ]
 
 -- the ticket is no Message-Authenticator
-pub count_of-with_ticket : (f : Forwarding) (all : List Attribute) → count_of MESSAGE_AUTHENTICATOR (with_ticket f all) ≡ count_of MESSAGE_AUTHENTICATOR all
+pub count_of-with_ticket : (f : Forwarding) (all : List Attribute) →
+    count_of MESSAGE_AUTHENTICATOR (with_ticket f all) ≡ count_of MESSAGE_AUTHENTICATOR all
 count_of-with_ticket f all = omega (arith, count_of-append MESSAGE_AUTHENTICATOR all (ticket_state f.ticket ∷ []))
 
 -- ---- a request that isn't an Access-Request, before it is sealed
@@ -81,7 +86,8 @@ unfolding forwarded_length
 forwarded_length-is q other = rw (ne_eqb q.code ACCESS_REQUEST other) (omega arith)
 
 -- it is a packet where it isn't too long
-pub IsPacket-with_ticket : (f : Forwarding) (q : Packet) → f.id < 256 → IsPacket q → packet_length q + 10 ≤ 4096 → IsPacket (with_ticket_and_zeros f q)
+pub IsPacket-with_ticket : (f : Forwarding) (q : Packet) → f.id < 256 → IsPacket q → packet_length q + 10 ≤ 4096 →
+    IsPacket (with_ticket_and_zeros f q)
 IsPacket-with_ticket f q id packet short = record {
   code = packet.code;
   id = id;
@@ -92,7 +98,8 @@ IsPacket-with_ticket f q id packet short = record {
 }
 
 -- with at most one Message-Authenticator, as the request
-pub HasAtMostOne-with_ticket : (f : Forwarding) (q : Packet) → HasAtMostOneMessageAuthenticator q → HasAtMostOneMessageAuthenticator (with_ticket_and_zeros f q)
+pub HasAtMostOne-with_ticket : (f : Forwarding) (q : Packet) → HasAtMostOneMessageAuthenticator q →
+    HasAtMostOneMessageAuthenticator (with_ticket_and_zeros f q)
 HasAtMostOne-with_ticket f q h =
     elim h [
       | inl none ↦ inl (count_of-with_ticket f q.attributes ∙ none)
@@ -105,34 +112,50 @@ HasAtMostOne-with_ticket f q h =
     ]
 
 -- the header written over the request's, and the ticket behind it, are its octets
-pub header_over : (f : Forwarding) (q : Packet) (octets : List ℕ) → IsPacket q → octets ≡ packet_text q ++ attribute_text (ticket_state f.ticket) → slice_index octets 0 ∷ f.id ∷ (length octets / 256) ∷ (length octets % 256) ∷ zero_octets ++ drop 20 octets ≡ packet_text (with_ticket_and_zeros f q)
+pub header_over : (f : Forwarding) (q : Packet) (octets : List ℕ) → IsPacket q →
+    octets ≡ packet_text q ++ attribute_text (ticket_state f.ticket) →
+    slice_index octets 0 ∷ f.id ∷ (length octets / 256) ∷ (length octets % 256) ∷ zero_octets ++ drop 20 octets
+    ≡ packet_text (with_ticket_and_zeros f q)
 header_over f q octets packet is =
     let added : List ℕ = attribute_text (ticket_state f.ticket) in
     let code : slice_index octets 0 ≡ q.code = ap (λ (t : List ℕ). slice_index t 0) is in
     let size : length octets ≡ packet_length (with_ticket_and_zeros f q) =
-    omega (arith, ap length is, length-append (packet_text q) added, length-packet_text q packet, length-with_ticket f q.attributes) in
+    omega (
+      arith,
+      ap length is,
+      length-append (packet_text q) added,
+      length-packet_text q packet,
+      length-with_ticket f q.attributes,
+    ) in
     let behind : drop 20 octets ≡ attributes_text (with_ticket f q.attributes) =
     ap (drop 20) is
     ∙ ap (drop 16) (flat_map_more attribute_text q.authenticator q.attributes (ticket_state f.ticket))
     ∙ drop_at q.authenticator (attributes_text (with_ticket f q.attributes)) 16 packet.authenticator in
     ap (λ (c : ℕ). c ∷ f.id ∷ (length octets / 256) ∷ (length octets % 256) ∷ zero_octets ++ drop 20 octets) code
     ∙ ap (λ (n : ℕ). q.code ∷ f.id ∷ (n / 256) ∷ (n % 256) ∷ zero_octets ++ drop 20 octets) size
-    ∙ ap (λ (t : List ℕ). q.code ∷ f.id ∷ (packet_length (with_ticket_and_zeros f q) / 256) ∷ (packet_length (with_ticket_and_zeros f q) % 256) ∷ zero_octets ++ t) behind
+    ∙ ap (λ (t : List ℕ). q.code ∷ f.id ∷ (packet_length (with_ticket_and_zeros f q) / 256) ∷
+    (packet_length (with_ticket_and_zeros f q) % 256) ∷ zero_octets ++ t) behind
 
 -- ---- sealed and signed
 
 -- sealing the octets of a packet gives those of the packet sealed
-pub sealed_text : (secret authenticator octets written : List ℕ) (p : Packet) → AreTextOf p octets → IsPacket p → HasAtMostOneMessageAuthenticator p → written ≡ packet_text (with_message_authenticator secret authenticator (packet_of octets)) → AreTextOf (with_message_authenticator secret authenticator p) written
+pub sealed_text : (secret authenticator octets written : List ℕ) (p : Packet) → AreTextOf p octets → IsPacket p →
+    HasAtMostOneMessageAuthenticator p →
+    written ≡ packet_text (with_message_authenticator secret authenticator (packet_of octets)) →
+    AreTextOf (with_message_authenticator secret authenticator p) written
 sealed_text secret authenticator octets written p text packet at_most is =
     let value : List ℕ = message_authenticator secret authenticator p in
     let q : Packet = with_message_authenticator secret authenticator p in
-    let is_packet : IsPacket q = IsPacket-with_value value p (sixteen-message_authenticator secret authenticator p) at_most packet in
+    let is_packet : IsPacket q = IsPacket-with_value value p (sixteen-message_authenticator secret authenticator p)
+    at_most packet in
     let same : written ≡ packet_text q =
     is ∙ ap (λ (x : Packet). packet_text (with_message_authenticator secret authenticator x)) text.packet in
     subst (AreTextOf q) (sym same) (AreTextOf-packet_text q is_packet)
 
 -- signing them gives those of the packet signed
-pub signed_text : (secret octets written : List ℕ) (p : Packet) → AreTextOf p octets → written ≡ packet_text (with_authenticator (request_authenticator secret (packet_of octets)) (packet_of octets)) → written ≡ packet_text (with_authenticator (request_authenticator secret p) p)
+pub signed_text : (secret octets written : List ℕ) (p : Packet) → AreTextOf p octets →
+    written ≡ packet_text (with_authenticator (request_authenticator secret (packet_of octets)) (packet_of octets)) →
+    written ≡ packet_text (with_authenticator (request_authenticator secret p) p)
 signed_text secret octets written p text is =
     is ∙ ap (λ (x : Packet). packet_text (with_authenticator (request_authenticator secret x) x)) text.packet
 
@@ -140,7 +163,8 @@ signed_text secret octets written p text is =
 abbrev pub sealed_request : Forwarding → Packet → Packet
 sealed_request f q = with_message_authenticator f.to_secret zero_octets (with_ticket_and_zeros f q)
 
-pub forwarded-is : (f : Forwarding) (q : Packet) → q.code ≢ ACCESS_REQUEST → forwarded f q ≡ with_authenticator (request_authenticator f.to_secret (sealed_request f q)) (sealed_request f q)
+pub forwarded-is : (f : Forwarding) (q : Packet) → q.code ≢ ACCESS_REQUEST →
+    forwarded f q ≡ with_authenticator (request_authenticator f.to_secret (sealed_request f q)) (sealed_request f q)
 unfolding forwarded
 forwarded-is f q other = rw (ne_eqb q.code ACCESS_REQUEST other) refl
 
@@ -154,7 +178,8 @@ pub record CanBeRewritten (len : ℕ) (octets : List ℕ) : Type 0 where
   pub size : length octets ≡ forwarded_length (packet_of (take len octets))
   pub other_code : (packet_of (take len octets)).code ≢ ACCESS_REQUEST
 
-pub signed_held : (len : ℕ) (octets : List ℕ) → IsRewritable len octets → (request_in len octets).code ≢ ACCESS_REQUEST → CanBeRewritten len octets
+pub signed_held : (len : ℕ) (octets : List ℕ) → IsRewritable len octets →
+    (request_in len octets).code ≢ ACCESS_REQUEST → CanBeRewritten len octets
 signed_held len octets h other_code = record {
   packet = h.packet;
   can_be_forwarded = h.can_be_forwarded;
@@ -166,27 +191,23 @@ signed_held len octets h other_code = record {
 pub ten_behind : (len : ℕ) (octets : List ℕ) → CanBeRewritten len octets → len + 10 ≡ length octets
 ten_behind len octets h =
     let q : Packet = packet_of (take len octets) in
-    let here : length (take len octets) ≡ packet_length q = ap length h.packet.spelt ∙ length-packet_text q h.packet.packet in
+    let here : length (take len octets) ≡ packet_length q = ap length h.packet.spelt
+    ∙ length-packet_text q h.packet.packet in
     let grown = h.size ∙ forwarded_length-is q h.other_code in
     omega (arith, here, grown, length-take len octets)
 
 -- and the forwarded packet isn't too long
-pub short_enough : (len : ℕ) (octets : List ℕ) → CanBeRewritten len octets → packet_length (packet_of (take len octets)) + 10 ≤ 4096
+pub short_enough : (len : ℕ) (octets : List ℕ) → CanBeRewritten len octets →
+    packet_length (packet_of (take len octets)) + 10 ≤ 4096
 short_enough len octets h =
     let limit = h.can_be_forwarded.size in
     omega (arith, limit, forwarded_length-is (packet_of (take len octets)) h.other_code)
 
--- the octets with the ticket are as many as before
-pub length-ticketed : (len ticket : ℕ) (octets ticketed : List ℕ) → CanBeRewritten len octets → ticketed ≡ take len octets ++ attribute_text (ticket_state ticket) → (20 ≤ length ticketed) × (length ticketed ≤ 4096)
-length-ticketed len ticket octets ticketed h is =
-    let q : Packet = packet_of (take len octets) in
-    let here : length (take len octets) ≡ packet_length q = ap length h.packet.spelt ∙ length-packet_text q h.packet.packet in
-    let short = short_enough len octets h in
-    let size = ap length is ∙ length-append (take len octets) (attribute_text (ticket_state ticket)) in
-    (omega (arith, size, here), omega (arith, size, here, short))
-
 -- with the ticket and the header they are the packet's before it is sealed
-pub unsealed_text : (f : Forwarding) (len : ℕ) (octets ticketed written : List ℕ) → f.id < 256 → CanBeRewritten len octets → ticketed ≡ take len octets ++ attribute_text (ticket_state f.ticket) → written ≡ slice_index ticketed 0 ∷ f.id ∷ (length ticketed / 256) ∷ (length ticketed % 256) ∷ zero_octets ++ drop 20 ticketed → AreTextOf (with_ticket_and_zeros f (packet_of (take len octets))) written
+pub unsealed_text : (f : Forwarding) (len : ℕ) (octets ticketed written : List ℕ) → f.id < 256 →
+    CanBeRewritten len octets → ticketed ≡ take len octets ++ attribute_text (ticket_state f.ticket) →
+    written ≡ slice_index ticketed 0 ∷ f.id ∷ (length ticketed / 256) ∷ (length ticketed % 256) ∷ zero_octets
+    ++ drop 20 ticketed → AreTextOf (with_ticket_and_zeros f (packet_of (take len octets))) written
 unsealed_text f len octets ticketed written id h ticketed-is written-is =
     let q : Packet = packet_of (take len octets) in
     let p : Packet = with_ticket_and_zeros f q in
@@ -197,13 +218,22 @@ unsealed_text f len octets ticketed written id h ticketed-is written-is =
     subst (AreTextOf p) (sym text) (AreTextOf-packet_text p is_packet)
 
 -- sealed with the link's secret
-pub resealed_text : (f : Forwarding) (len : ℕ) (octets before written : List ℕ) → f.id < 256 → CanBeRewritten len octets → AreTextOf (with_ticket_and_zeros f (packet_of (take len octets))) before → written ≡ packet_text (with_message_authenticator f.to_secret zero_octets (packet_of before)) → AreTextOf (sealed_request f (packet_of (take len octets))) written
+pub resealed_text : (f : Forwarding) (len : ℕ) (octets before written : List ℕ) → f.id < 256 →
+    CanBeRewritten len octets → AreTextOf (with_ticket_and_zeros f (packet_of (take len octets))) before →
+    written ≡ packet_text (with_message_authenticator f.to_secret zero_octets (packet_of before)) →
+    AreTextOf (sealed_request f (packet_of (take len octets))) written
 resealed_text f len octets before written id h text is =
     let q : Packet = packet_of (take len octets) in
-    sealed_text f.to_secret zero_octets before written (with_ticket_and_zeros f q) text (IsPacket-with_ticket f q id h.packet.packet (short_enough len octets h)) (HasAtMostOne-with_ticket f q h.can_be_forwarded.message_authenticator) is
+    sealed_text f.to_secret zero_octets before written (with_ticket_and_zeros f q) text
+    (IsPacket-with_ticket f q id h.packet.packet (short_enough len octets h))
+    (HasAtMostOne-with_ticket f q h.can_be_forwarded.message_authenticator) is
 
 -- and signed with it, they are the forwarded packet's
-pub forwarded_text : (f : Forwarding) (len : ℕ) (octets before written : List ℕ) → CanBeRewritten len octets → AreTextOf (sealed_request f (packet_of (take len octets))) before → written ≡ packet_text (with_authenticator (request_authenticator f.to_secret (packet_of before)) (packet_of before)) → written ≡ packet_text (forwarded f (packet_of (take len octets)))
+pub forwarded_text : (f : Forwarding) (len : ℕ) (octets before written : List ℕ) → CanBeRewritten len octets →
+    AreTextOf (sealed_request f (packet_of (take len octets))) before →
+    written ≡ packet_text (with_authenticator (request_authenticator f.to_secret (packet_of before))
+    (packet_of before)) → written ≡ packet_text (forwarded f (packet_of (take len octets)))
 forwarded_text f len octets before written h text is =
     let q : Packet = packet_of (take len octets) in
-    signed_text f.to_secret before written (sealed_request f q) text is ∙ sym (ap packet_text (forwarded-is f q h.other_code))
+    signed_text f.to_secret before written (sealed_request f q) text is
+    ∙ sym (ap packet_text (forwarded-is f q h.other_code))

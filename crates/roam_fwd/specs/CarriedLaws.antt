@@ -25,6 +25,17 @@ pub record IsCarried (from to : Key) (old new : Attribute) : Type 0 where
   pub password : old.kind ≡ USER_PASSWORD → IsHiddenAnew from to old.value new.value
   pub other : old.kind ≢ USER_PASSWORD → new.value ≡ old.value
 
+-- ## Carried attributes
+-- A forwarded Access-Request has a Message-Authenticator, then each attribute of the request in its order, then
+-- what is added; a password opens to the same plain text, all others stand octet for octet. Any other request's
+-- attributes stand in their places, octet for octet but for the seal's Value. The same of a returned packet,
+-- with salted strings in place of passwords.
+-- Source: RFC 2865 sections 2.3 and 5.2
+-- Rules out: an attribute dropped, doubled, moved or changed
+-- Stands in: `roam_fwd` `CarriedLaws.antt`: `AccessCarriesAll`, `OthersAreCarried`; the law
+-- `forwarded_carries`. `roam_back` `CarriedLaws.antt`: `AcceptCarriesAll`, `RejectCarriesAll`,
+-- `OthersAreCarriedBack`; the law `returned_carries`
+--
 -- An Access-Request's attributes: a Message-Authenticator, then each attribute of the request but its
 -- Message-Authenticator, in their order, then what is added.
 abbrev pub AccessCarriesAll : Type 0

@@ -87,6 +87,20 @@ abbrev pub sealed : Forwarding → Packet → Packet
 sealed f request =
     with_message_authenticator f.to_secret (unsealed f request).authenticator (unsealed f request)
 
+-- ## Forwarded packet
+-- Of a request, toward a link, with an Identifier, an Authenticator and a ticket: the same Code; in an
+-- Access-Request first a Message-Authenticator, then the attributes in their order without
+-- Message-Authenticator and with the User-Password hidden anew, then a CHAP-Challenge with the request's
+-- Authenticator where a CHAP-Password stands and no CHAP-Challenge; in other requests the attributes as they
+-- stand; last a Proxy-State with the ticket in 8 octets. Sealed with the link's secret where it has a
+-- Message-Authenticator, as each Access-Request then has; and signed with it, but for an Access-Request, whose
+-- Authenticator is random.
+-- Source: RFC 2865 sections 2.3, 5.2, 5.3 and 5.33, RFC 3579 section 3.2; the ticket ours
+-- Rules out: a second Message-Authenticator; a password hidden with another server's secret
+-- Stands in: `roam_fwd` `Forwarded.antt`: `forwarded`, `forwarded_length`; `Rewriting.antt`: `IsRewritable`;
+-- `rewrite`, `forward`, `forward_reserved`, the laws `forwarded_packet`, `forwarded_authenticator`,
+-- `forwarded_carries`, `forwarded_marks`
+--
 -- the forwarded packet: sealed, and, unless it is an Access-Request, signed with the link's secret
 -- (RFC 2866, section 3; RFC 5176, section 2.3)
 unfoldable pub forwarded : Forwarding → Packet → Packet
@@ -111,6 +125,13 @@ forwarded_length request =
 pub record HasPasswordBlocks (a : Attribute) : Type 0 where
   pub whole_blocks : a.kind ≡ USER_PASSWORD → HasWholeBlocks a.value
 
+-- ## What can be forwarded
+-- A request with at most one Message-Authenticator, of 16 octets, in an Access-Request passwords of whole
+-- blocks of 16 octets, and a forwarded packet of at most 4096 octets.
+-- Source: RFC 3579 section 3.2, RFC 2865 section 5.2; the limit ours
+-- Rules out: a packet built past its limit; a password cut off
+-- Stands in: `roam_fwd` `Forwarded.antt`: `CanBeForwarded`, `forwarded_length`; `can_be_forwarded`
+--
 -- a request that can be forwarded: at most one Message-Authenticator, of 16 octets; in an
 -- Access-Request passwords of whole blocks; and the forwarded packet has at most 4096 octets
 pub record CanBeForwarded (request : Packet) : Type 0 where

@@ -1,6 +1,6 @@
 //! The forwarded packet's octets, written where the request's were copied to.
 
-ghost use Rattle.std.specs.Prelude.{◌≡◌, ◌≢◌, ◌+◌, ◌≤◌, ◌++◌, length, vec_len, vec_capacity};
+ghost use Rattle.std.specs.Prelude.{◌≡◌, ◌≢◌, ◌+◌, ◌≤◌, ◌++◌, vec_len, vec_capacity};
 ghost use Rattle.std.specs.Prelude.{IsOk, OnOk, OnErr};
 ghost use Rattle.roam_wire.specs.Packet.{packet_text};
 ghost use Rattle.roam_wire.specs.Secret.{IsSecret};

@@ -3,6 +3,11 @@
 //!
 //! Nothing here reads a socket, a clock or a table: the new Identifier, the Authenticator, the secrets
 //! and the ticket are arguments. A request's octets are copied once, and rewritten where they then lie.
+//!
+//! # Proved
+//!
+//! - the forwarded packet's octets, in place too, and its size | `forward`, `rewrite`, `forwarded_len`
+//! - which requests can be forwarded | `can_be_forwarded`
 #![tactic(auto)]
 
 mod access;

@@ -30,7 +30,8 @@ AreOctets-digest : (h : List ℕ) (n : ℕ) → AreOctets (digest_bytes h n)
 unfolding digest_bytes
 AreOctets-digest h zero = AreOctets-empty
 AreOctets-digest h (suc n) =
-    AreOctets-append (digest_bytes h n) (to_le_bytes w32 (slice_index h n)) (AreOctets-digest h n) (AreOctets-word (slice_index h n))
+    AreOctets-append (digest_bytes h n) (to_le_bytes w32 (slice_index h n)) (AreOctets-digest h n)
+    (AreOctets-word (slice_index h n))
 
 AreOctets-md5 : (m : List ℕ) → AreOctets (md5 m)
 unfolding md5
@@ -42,13 +43,16 @@ AreOctets-xor : (a b : List ℕ) → AreOctets a → AreOctets b → AreOctets (
 AreOctets-xor [] b h k = AreOctets-empty
 AreOctets-xor (x ∷ xs) [] h k = AreOctets-empty
 AreOctets-xor (x ∷ xs) (y ∷ ys) h k =
-    AreOctets-cons (bit_xor x y) (zip2 bit_xor xs ys) (xor_of_8 x y (h 0) (k 0)) (AreOctets-xor xs ys (λ i. h (suc i)) (λ i. k (suc i)))
+    AreOctets-cons (bit_xor x y) (zip2 bit_xor xs ys) (xor_of_8 x y (h 0) (k 0))
+    (AreOctets-xor xs ys (λ i. h (suc i)) (λ i. k (suc i)))
 
-AreOctets-blocks_to : (make : ℕ → List ℕ → List ℕ) (n : ℕ) → ((k : ℕ) (done : List ℕ) → AreOctets (make k done)) → AreOctets (blocks_to make n)
+AreOctets-blocks_to : (make : ℕ → List ℕ → List ℕ) (n : ℕ) → ((k : ℕ) (done : List ℕ) → AreOctets (make k done)) →
+    AreOctets (blocks_to make n)
 unfolding blocks_to
 AreOctets-blocks_to make zero each = AreOctets-empty
 AreOctets-blocks_to make (suc n) each =
-    AreOctets-append (blocks_to make n) (make n (blocks_to make n)) (AreOctets-blocks_to make n each) (each n (blocks_to make n))
+    AreOctets-append (blocks_to make n) (make n (blocks_to make n)) (AreOctets-blocks_to make n each)
+    (each n (blocks_to make n))
 
 AreOctets-block : (k : ℕ) (text : List ℕ) → AreOctets text → AreOctets (block k text)
 AreOctets-block k text h = AreOctets-take 16 (drop (16 * k) text) (AreOctets-drop (16 * k) text h)
@@ -60,7 +64,8 @@ AreOctets-hidden_text key plain h =
 
 AreOctets-plain_text : (key : Key) (hidden : List ℕ) → AreOctets hidden → AreOctets (plain_text key hidden)
 AreOctets-plain_text key hidden h =
-    AreOctets-blocks_to (λ (k : ℕ) (done : List ℕ). xor_octets (block k hidden) (cover key hidden k)) (length hidden / 16)
+    AreOctets-blocks_to (λ (k : ℕ) (done : List ℕ). xor_octets (block k hidden) (cover key hidden k))
+    (length hidden / 16)
     (λ k done. AreOctets-xor (block k hidden) (cover key hidden k) (AreOctets-block k hidden h) (AreOctets-md5 _))
 
 pub AreOctets-hidden_anew : (from to : Key) (old : List ℕ) → AreOctets old → AreOctets (hidden_anew from to old)
@@ -78,28 +83,36 @@ AreOctets-salted_anew from to old h =
     let string : List ℕ = drop 2 old in
     let fresh : List ℕ = hidden_anew (salted_key from salt) (salted_key to salt) string in
     either (has_whole_blocks string) (salt ++ fresh) old
-    (AreOctets-append salt fresh (AreOctets-take 2 old h) (AreOctets-hidden_anew (salted_key from salt) (salted_key to salt) string (AreOctets-drop 2 old h))) h
+    (AreOctets-append salt fresh (AreOctets-take 2 old h)
+    (AreOctets-hidden_anew (salted_key from salt) (salted_key to salt) string (AreOctets-drop 2 old h))) h
 
 pub AreOctets-tunnel_anew : (from to : Key) (old : List ℕ) → AreOctets old → AreOctets (tunnel_anew from to old)
 AreOctets-tunnel_anew from to old h =
-    AreOctets-append (take 1 old) (salted_anew from to (drop 1 old)) (AreOctets-take 1 old h) (AreOctets-salted_anew from to (drop 1 old) (AreOctets-drop 1 old h))
+    AreOctets-append (take 1 old) (salted_anew from to (drop 1 old)) (AreOctets-take 1 old h)
+    (AreOctets-salted_anew from to (drop 1 old) (AreOctets-drop 1 old h))
 
 -- a sub-attribute stays an attribute
-IsAttribute-fresh : (b : Bool) (sub : Attribute) (fresh : List ℕ) → IsAttribute sub → AreOctets fresh → length fresh ≡ length sub.value → IsAttribute (if b then record sub { value = fresh } else sub)
+IsAttribute-fresh : (b : Bool) (sub : Attribute) (fresh : List ℕ) → IsAttribute sub → AreOctets fresh →
+    length fresh ≡ length sub.value → IsAttribute (if b then record sub { value = fresh } else sub)
 IsAttribute-fresh true sub fresh h octets same =
     let limit = h.size in
     record { kind = h.kind; octets = octets; size = omega (arith, limit, same) }
 IsAttribute-fresh false sub fresh h octets same = h
 
-IsAttribute-subs : (from to : Key) (subs : List Attribute) → AllByRecursion IsAttribute subs → AllByRecursion IsAttribute (map (sub_attribute_anew from to) subs)
+IsAttribute-subs : (from to : Key) (subs : List Attribute) → AllByRecursion IsAttribute subs →
+    AllByRecursion IsAttribute (map (sub_attribute_anew from to) subs)
 IsAttribute-subs from to [] h = tt
 IsAttribute-subs from to (sub ∷ others) h =
     let fresh : List ℕ = salted_anew from to sub.value in
-    let same = length_salted_anew from to sub.value fresh (salted_anew_is from to sub.value) in
-    (IsAttribute-fresh ((sub.kind == 16) || (sub.kind == 17)) sub fresh h.0 (AreOctets-salted_anew from to sub.value h.0.octets) same, IsAttribute-subs from to others h.1)
+    let same = length_salted_anew from to sub.value fresh (salted_anew_is from to sub.value) in (
+      IsAttribute-fresh ((sub.kind == 16) || (sub.kind == 17)) sub fresh h.0
+          (AreOctets-salted_anew from to sub.value h.0.octets) same,
+      IsAttribute-subs from to others h.1,
+    )
 
 -- the sub-attributes that are read from octets are attributes
-subs_are : (value : List ℕ) (subs : List Attribute) → AreOctets value → microsoft_subs value ≡ Some subs → AllByRecursion IsAttribute subs
+subs_are : (value : List ℕ) (subs : List Attribute) → AreOctets value → microsoft_subs value ≡ Some subs →
+    AllByRecursion IsAttribute subs
 subs_are value subs h read =
     option_and_then_some attributes_of (behind_microsoft value) subs read (λ octets found spelt.
     let whole : AreOctets (microsoft ++ octets) = subst AreOctets (behind_microsoft_spelt value octets found) h in
@@ -115,7 +128,9 @@ AreOctets-vendor_anew from to old h =
           let fresh : List Attribute = map (sub_attribute_anew from to) has.0 in
           let text = AreOctets-attributes_text fresh (IsAttribute-subs from to has.0 (subs_are old has.0 h has.1)) in
           let vendor : AreOctets microsoft =
-          AreOctets-cons 0 (0 ∷ 1 ∷ 55 ∷ []) (omega arith) (AreOctets-cons 0 (1 ∷ 55 ∷ []) (omega arith) (AreOctets-cons 1 (55 ∷ []) (omega arith) (AreOctets-cons 55 [] (omega arith) AreOctets-empty))) in
+          AreOctets-cons 0 (0 ∷ 1 ∷ 55 ∷ []) (omega arith)
+          (AreOctets-cons 0 (1 ∷ 55 ∷ []) (omega arith)
+          (AreOctets-cons 1 (55 ∷ []) (omega arith) (AreOctets-cons 55 [] (omega arith) AreOctets-empty))) in
           subst AreOctets (sym (ap chosen has.1)) (AreOctets-append microsoft (attributes_text fresh) vendor text)
       | inr none ↦ subst AreOctets (sym (ap chosen none)) h
     ]

@@ -17,7 +17,8 @@ kind-anew UserPassword from to a = refl
 kind-anew SaltedStrings from to a = refl
 
 -- an attribute is its Type and its Value
-attribute_of_parts : (a : Attribute) (kind : ℕ) (value : List ℕ) → a.kind ≡ kind → a.value ≡ value → attribute_text a ≡ kind ∷ (length value + 2) ∷ value
+attribute_of_parts : (a : Attribute) (kind : ℕ) (value : List ℕ) → a.kind ≡ kind → a.value ≡ value →
+    attribute_text a ≡ kind ∷ (length value + 2) ∷ value
 attribute_of_parts a kind value k v = rw (k, v) refl
 
 -- The octets before `at` are those of `done` hidden anew, and the octets from there on are still those
@@ -31,7 +32,8 @@ pub record IsUnderway (hidden : Hidden) (from to : Key) (all : List Attribute) (
   pub front : take at now ≡ attributes_text (map (attribute_anew hidden from to) done)
   pub behind : drop at now ≡ attributes_text rest
 
-pub underway_start : (hidden : Hidden) (from to : Key) (all : List Attribute) (now : List ℕ) → now ≡ attributes_text all → AllByRecursion (CanBeHiddenAnew hidden) all → IsUnderway hidden from to all now 0
+pub underway_start : (hidden : Hidden) (from to : Key) (all : List Attribute) (now : List ℕ) →
+    now ≡ attributes_text all → AllByRecursion (CanBeHiddenAnew hidden) all → IsUnderway hidden from to all now 0
 underway_start hidden from to all now spelt can = record {
   done = [];
   rest = all;
@@ -46,7 +48,8 @@ underway_start hidden from to all now spelt can = record {
 pub record HasNextHidden (hidden : Hidden) (now : List ℕ) (at : ℕ) : Type 0 where
   pub size : 2 ≤ get_or now (at + 1) 0
   pub within : at + get_or now (at + 1) 0 ≤ length now
-  pub can : CanBeHiddenAnew hidden (record { kind = get_or now at 0; value = slice_range now (at + 2) (at + get_or now (at + 1) 0) })
+  pub can : CanBeHiddenAnew hidden
+      (record { kind = get_or now at 0; value = slice_range now (at + 2) (at + get_or now (at + 1) 0) })
 
 -- octets in three parts
 pub record IsThree (now ahead value tail : List ℕ) (kind at n : ℕ) : Type 0 where
@@ -54,23 +57,29 @@ pub record IsThree (now ahead value tail : List ℕ) (kind at n : ℕ) : Type 0 
   pub ahead_size : length ahead ≡ at
   pub size : n ≡ length value + 2
 
-three_head : (now ahead value tail : List ℕ) (kind at n : ℕ) → IsThree now ahead value tail kind at n → take (at + 2) now ≡ ahead ++ kind ∷ n ∷ []
+three_head : (now ahead value tail : List ℕ) (kind at n : ℕ) → IsThree now ahead value tail kind at n →
+    take (at + 2) now ≡ ahead ++ kind ∷ n ∷ []
 three_head now ahead value tail kind at n h =
-    let head_size : length (ahead ++ kind ∷ n ∷ []) ≡ at + 2 = omega (arith, h.ahead_size, length-append ahead (kind ∷ n ∷ [])) in
+    let head_size : length (ahead ++ kind ∷ n ∷ []) ≡ at + 2 =
+    omega (arith, h.ahead_size, length-append ahead (kind ∷ n ∷ [])) in
     ap (take (at + 2)) h.now_is ∙ take_at (ahead ++ kind ∷ n ∷ []) (value ++ tail) (at + 2) head_size
 
-three_value_on : (now ahead value tail : List ℕ) (kind at n : ℕ) → IsThree now ahead value tail kind at n → drop (at + 2) now ≡ value ++ tail
+three_value_on : (now ahead value tail : List ℕ) (kind at n : ℕ) → IsThree now ahead value tail kind at n →
+    drop (at + 2) now ≡ value ++ tail
 three_value_on now ahead value tail kind at n h =
-    let head_size : length (ahead ++ kind ∷ n ∷ []) ≡ at + 2 = omega (arith, h.ahead_size, length-append ahead (kind ∷ n ∷ [])) in
+    let head_size : length (ahead ++ kind ∷ n ∷ []) ≡ at + 2 =
+    omega (arith, h.ahead_size, length-append ahead (kind ∷ n ∷ [])) in
     ap (drop (at + 2)) h.now_is ∙ drop_at (ahead ++ kind ∷ n ∷ []) (value ++ tail) (at + 2) head_size
 
-three_value : (now ahead value tail : List ℕ) (kind at n : ℕ) → IsThree now ahead value tail kind at n → slice_range now (at + 2) (at + n) ≡ value
+three_value : (now ahead value tail : List ℕ) (kind at n : ℕ) → IsThree now ahead value tail kind at n →
+    slice_range now (at + 2) (at + n) ≡ value
 three_value now ahead value tail kind at n h =
     let value_size : length value ≡ (at + n) - (at + 2) = omega (arith, h.size) in
     ap (take ((at + n) - (at + 2))) (three_value_on now ahead value tail kind at n h)
     ∙ take_at value tail ((at + n) - (at + 2)) value_size
 
-three_tail : (now ahead value tail : List ℕ) (kind at n : ℕ) → IsThree now ahead value tail kind at n → drop (at + n) now ≡ tail
+three_tail : (now ahead value tail : List ℕ) (kind at n : ℕ) → IsThree now ahead value tail kind at n →
+    drop (at + n) now ≡ tail
 three_tail now ahead value tail kind at n h =
     let joined : at + 2 + length value ≡ at + n = omega (arith, h.size) in
     ap (λ (m : ℕ). drop m now) (sym joined)
@@ -79,7 +88,10 @@ three_tail now ahead value tail kind at n h =
     ∙ drop_at value tail (length value) refl
 
 -- what stands at `at` while the walk is underway
-three_of : (hidden : Hidden) (from to : Key) (all : List Attribute) (now : List ℕ) (at : ℕ) (h : IsUnderway hidden from to all now at) (a : Attribute) (others : List Attribute) → h.rest ≡ a ∷ others → IsThree now (attributes_text (map (attribute_anew hidden from to) h.done)) a.value (attributes_text others) a.kind at (length a.value + 2)
+three_of : (hidden : Hidden) (from to : Key) (all : List Attribute) (now : List ℕ) (at : ℕ)
+    (h : IsUnderway hidden from to all now at) (a : Attribute) (others : List Attribute) → h.rest ≡ a ∷ others →
+    IsThree now (attributes_text (map (attribute_anew hidden from to) h.done)) a.value (attributes_text others)
+    a.kind at (length a.value + 2)
 three_of hidden from to all now at h a others is =
     let ahead : List ℕ = attributes_text (map (attribute_anew hidden from to) h.done) in
     let tail : List ℕ = attributes_text others in
@@ -93,13 +105,15 @@ three_of hidden from to all now at h a others is =
       size = refl;
     }
 
-pub next_hidden : (hidden : Hidden) (from to : Key) (all : List Attribute) (now : List ℕ) (at : ℕ) → IsUnderway hidden from to all now at → at < length now → HasNextHidden hidden now at
+pub next_hidden : (hidden : Hidden) (from to : Key) (all : List Attribute) (now : List ℕ) (at : ℕ) →
+    IsUnderway hidden from to all now at → at < length now → HasNextHidden hidden now at
 next_hidden hidden from to all now at h left =
     let found = next_of now at h.rest left h.behind in
     let three = three_of hidden from to all now at h found.sub found.others found.is in
     let first : CanBeHiddenAnew hidden found.sub =
     (subst (AllByRecursion (CanBeHiddenAnew hidden)) found.is h.can).0 in
-    let value = three_value now _ found.sub.value (attributes_text found.others) found.sub.kind at (length found.sub.value + 2) three in
+    let value = three_value now _ found.sub.value (attributes_text found.others) found.sub.kind at
+    (length found.sub.value + 2) three in
     let Can : ℕ → List ℕ → Type 0 = λ kind value. CanBeHiddenAnew hidden (record { kind = kind; value = value }) in
     let range : slice_range now (at + 2) (at + get_or now (at + 1) 0) ≡ found.sub.value =
     ap (λ (n : ℕ). slice_range now (at + 2) (at + n)) found.size ∙ value in
@@ -111,7 +125,11 @@ next_hidden hidden from to all now at h left =
     }
 
 -- The value of the next attribute is hidden anew.
-pub underway_step : (hidden : Hidden) (from to : Key) (all : List Attribute) (now next : List ℕ) (at n : ℕ) → IsUnderway hidden from to all now at → at < length now → n ≡ get_or now (at + 1) 0 → length next ≡ length now → next ≡ take (at + 2) now ++ ((attribute_anew hidden from to (record { kind = get_or now at 0; value = slice_range now (at + 2) (at + n) })).value ++ drop (at + n) now) → IsUnderway hidden from to all next (at + n)
+pub underway_step : (hidden : Hidden) (from to : Key) (all : List Attribute) (now next : List ℕ) (at n : ℕ) →
+    IsUnderway hidden from to all now at → at < length now → n ≡ get_or now (at + 1) 0 → length next ≡ length now →
+    next ≡ take (at + 2) now ++ ((attribute_anew hidden from to
+    (record { kind = get_or now at 0; value = slice_range now (at + 2) (at + n) })).value ++ drop (at + n) now) →
+    IsUnderway hidden from to all next (at + n)
 underway_step hidden from to all now next at n h left n_is same_length next_is =
     let found = next_of now at h.rest left h.behind in
     let a : Attribute = found.sub in
@@ -119,9 +137,11 @@ underway_step hidden from to all now next at n h left n_is same_length next_is =
     let ahead : List ℕ = attributes_text (map (attribute_anew hidden from to) h.done) in
     let size : n ≡ length a.value + 2 = n_is ∙ found.size in
     let three : IsThree now ahead a.value tail a.kind at n =
-    subst (λ (m : ℕ). IsThree now ahead a.value tail a.kind at m) (sym size) (three_of hidden from to all now at h a found.others found.is) in
+    subst (λ (m : ℕ). IsThree now ahead a.value tail a.kind at m) (sym size)
+    (three_of hidden from to all now at h a found.others found.is) in
     let same : record { kind = get_or now at 0; value = slice_range now (at + 2) (at + n) } ≡ a =
-    ap₂ (λ (kind : ℕ) (value : List ℕ). record { kind = kind; value = value }) found.kind (three_value now ahead a.value tail a.kind at n three) in
+    ap₂ (λ (kind : ℕ) (value : List ℕ). record { kind = kind; value = value }) found.kind
+    (three_value now ahead a.value tail a.kind at n three) in
     let fresh : Attribute = attribute_anew hidden from to a in
     let head = three_head now ahead a.value tail a.kind at n three in
     let rest = three_tail now ahead a.value tail a.kind at n three in
@@ -151,13 +171,15 @@ underway_step hidden from to all now next at n h left n_is same_length next_is =
     ∙ sym (append_assoc ahead (attribute_text fresh) tail) in
     let whole_size : length (ahead ++ attribute_text fresh) ≡ at + n =
     omega (arith, length-append ahead (attribute_text fresh), three.ahead_size, ap length fresh_text, fresh_size) in
-    let done_text : ahead ++ attribute_text fresh ≡ attributes_text (map (attribute_anew hidden from to) (h.done ++ a ∷ [])) =
+    let done_text : ahead ++ attribute_text fresh
+    ≡ attributes_text (map (attribute_anew hidden from to) (h.done ++ a ∷ [])) =
     flat_map_more attribute_text [] (map (attribute_anew hidden from to) h.done) fresh
     ∙ ap attributes_text (sym (map-append (attribute_anew hidden from to) h.done (a ∷ []))) in
     record {
       done = h.done ++ a ∷ [];
       rest = found.others;
-      split = h.split ∙ ap (λ (t : List Attribute). h.done ++ t) found.is ∙ sym (append_assoc h.done (a ∷ []) found.others);
+      split = h.split ∙ ap (λ (t : List Attribute). h.done ++ t) found.is
+          ∙ sym (append_assoc h.done (a ∷ []) found.others);
       can = (subst (AllByRecursion (CanBeHiddenAnew hidden)) found.is h.can).1;
       inside = omega (arith, found.within, size, same_length);
       front = ap (take (at + n)) whole ∙ take_at (ahead ++ attribute_text fresh) tail (at + n) whole_size ∙ done_text;
@@ -169,11 +191,14 @@ no_rest [] e = refl
 no_rest (a ∷ others) e = absurd (omega arith)
 
 -- nothing is left
-pub underway_done : (hidden : Hidden) (from to : Key) (all : List Attribute) (now : List ℕ) (at : ℕ) → IsUnderway hidden from to all now at → length now ≤ at → now ≡ attributes_text (map (attribute_anew hidden from to) all)
+pub underway_done : (hidden : Hidden) (from to : Key) (all : List Attribute) (now : List ℕ) (at : ℕ) →
+    IsUnderway hidden from to all now at → length now ≤ at →
+    now ≡ attributes_text (map (attribute_anew hidden from to) all)
 underway_done hidden from to all now at h over =
     let none : h.rest ≡ [] = no_rest h.rest (omega (arith, ap length h.behind, length-drop at now)) in
     let done : all ≡ h.done = h.split ∙ ap (λ (t : List Attribute). h.done ++ t) none ∙ append-nil h.done in
-    sym (take_all at now over) ∙ h.front ∙ ap (λ (l : List Attribute). attributes_text (map (attribute_anew hidden from to) l)) (sym done)
+    sym (take_all at now over) ∙ h.front
+    ∙ ap (λ (l : List Attribute). attributes_text (map (attribute_anew hidden from to) l)) (sym done)
 
 -- ---- a whole packet
 
@@ -182,7 +207,8 @@ pub behind_header : (octets : List ℕ) → take (length octets - 20) (drop 20 o
 behind_header octets = take_all (length octets - 20) (drop 20 octets) (omega (arith, length-drop 20 octets))
 
 -- of a packet they are those of its attributes
-pub attributes_there : (octets : List ℕ) → IsPacketText octets → take (length octets - 20) (drop 20 octets) ≡ attributes_text (packet_of octets).attributes
+pub attributes_there : (octets : List ℕ) → IsPacketText octets →
+    take (length octets - 20) (drop 20 octets) ≡ attributes_text (packet_of octets).attributes
 attributes_there octets h =
     let p : Packet = packet_of octets in
     behind_header octets
@@ -190,7 +216,10 @@ attributes_there octets h =
     ∙ drop_at p.authenticator (attributes_text p.attributes) 16 h.packet.authenticator
 
 -- as many octets written there are another packet's
-pub attributes_written : (octets written : List ℕ) (all : List Attribute) → IsPacketText octets → written ≡ attributes_text all → length written ≡ length (take (length octets - 20) (drop 20 octets)) → take 20 octets ++ (written ++ drop (length octets - 20) (drop 20 octets)) ≡ packet_text (record (packet_of octets) { attributes = all })
+pub attributes_written : (octets written : List ℕ) (all : List Attribute) → IsPacketText octets →
+    written ≡ attributes_text all → length written ≡ length (take (length octets - 20) (drop 20 octets)) →
+    take 20 octets ++ (written ++ drop (length octets - 20) (drop 20 octets))
+    ≡ packet_text (record (packet_of octets) { attributes = all })
 attributes_written octets written all h is same =
     let p : Packet = packet_of octets in
     let q : Packet = record p { attributes = all } in
@@ -200,7 +229,8 @@ attributes_written octets written all h is same =
     drop_all (length octets - 20) (drop 20 octets) (omega (arith, length-drop 20 octets)) in
     let header : take 20 octets ≡ p.code ∷ p.id ∷ (packet_length p / 256) ∷ (packet_length p % 256) ∷ p.authenticator =
     ap (take 20) h.spelt
-    ∙ ap (λ (t : List ℕ). p.code ∷ p.id ∷ (packet_length p / 256) ∷ (packet_length p % 256) ∷ t) (take_at p.authenticator (attributes_text p.attributes) 16 h.packet.authenticator) in
+    ∙ ap (λ (t : List ℕ). p.code ∷ p.id ∷ (packet_length p / 256) ∷ (packet_length p % 256) ∷ t)
+    (take_at p.authenticator (attributes_text p.attributes) 16 h.packet.authenticator) in
     ap (λ (t : List ℕ). take 20 octets ++ (written ++ t)) none
     ∙ ap (λ (t : List ℕ). take 20 octets ++ t) (append-nil written ∙ is)
     ∙ ap (λ (t : List ℕ). t ++ attributes_text all) header

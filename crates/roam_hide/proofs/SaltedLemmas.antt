@@ -102,9 +102,6 @@ pub Any_other : {X : Type 0} (P : X → Type 0) (x : X) (xs : List X) → (P x �
 Any_other P x xs not_first (zero, y, below, is, p) = absurd (not_first (subst P (sym is) p))
 Any_other P x xs not_first (suc k, y, below, is, p) = (k, y, omega arith, is, p)
 
-pub Any_none : {X : Type 0} (P : X → Type 0) → Any P [] → ⊥
-Any_none P any = omega (arith, any.2)
-
 -- where the first isn't it, it is among all just where it is among the others
 pub Any_behind : {X : Type 0} (P : X → Type 0) (x : X) (xs : List X) → (P x → ⊥)
     → Any P (x ∷ xs) ↔ Any P xs

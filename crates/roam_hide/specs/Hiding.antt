@@ -26,6 +26,14 @@ cover key hidden k = md5 (key.secret ++ read_before key hidden k)
 abbrev pub xor_octets : List ℕ → List ℕ → List ℕ
 xor_octets = zip2 bit_xor
 
+-- ## Hidden
+-- `hidden(k) = plain(k) xor MD5(secret, hidden(k-1))` for blocks of 16 octets, with `hidden(0)` the Request
+-- Authenticator. One relation for both ways; for each plain text there is just one hidden text, and the other
+-- way round.
+-- Source: RFC 2865 section 5.2
+-- Rules out: a chain fed with the plain block
+-- Stands in: `roam_hide` `Hiding.antt`: `IsHidden`; the laws `one_hidden_text`, `one_plain_text`
+--
 -- Both texts have equally many whole blocks, and each hidden block is the plain one, xor the digest
 -- that covers it (section 5.2: c(1) = p1 xor b1, c(2) = p2 xor b2, ..).
 pub record IsHidden (key : Key) (plain hidden : List ℕ) : Type 0 where
@@ -34,6 +42,14 @@ pub record IsHidden (key : Key) (plain hidden : List ℕ) : Type 0 where
   pub each_block : (k : ℕ) → 16 * k < length plain
       → block k hidden ≡ xor_octets (block k plain) (cover key hidden k)
 
+-- ## Hidden anew
+-- A text is another one hidden anew where some plain text stands behind both, each under its own secret and
+-- Authenticator.
+-- Source: RFC 2865 section 5.2, section 2.3
+-- Rules out: a password that the home server can't read
+-- Stands in: `roam_hide` `Hiding.antt`: `IsHiddenAnew`; `rehide_password`, the laws `one_text_anew`,
+-- `same_key_changes_nothing`, `first_key_brings_back`
+--
 -- some plain text is hidden by the one key in the old text, and by the other in the new (ours: what
 -- a proxy does with a User-Password, RFC 2865, section 2.3)
 abbrev pub IsHiddenAnew : Key → Key → List ℕ → List ℕ → Type 0

@@ -33,6 +33,13 @@ abbrev pub attribute_anew : Hidden → Key → Key → Attribute → Attribute
 attribute_anew UserPassword from to a = password_hidden_anew from to a
 attribute_anew SaltedStrings from to a = salted_hidden_anew from to a
 
+-- ## Packet hidden anew
+-- A packet with each User-Password hidden anew (of an Access-Request), or each salted string (of an
+-- Access-Accept), and all else octet for octet.
+-- Source: RFC 2865 sections 2.3 and 5.2, RFC 2868 section 3.5, RFC 2548 section 2.4
+-- Rules out: only the first password; a salted string of a request, or a password of a reply, hidden anew
+-- Stands in: `roam_hide` `PacketAnew.antt`: `packet_anew`, `CanBeHiddenAnew`; `rehide_packet`
+--
 -- the packet with each attribute so
 abbrev pub packet_anew : Hidden → Key → Key → Packet → Packet
 packet_anew hidden from to p =

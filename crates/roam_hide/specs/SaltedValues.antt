@@ -11,6 +11,15 @@ use Rattle.roam_hide.specs.Hiding.{Key, HasWholeBlocks, IsHiddenAnew}
 abbrev pub salted_key : Key → List ℕ → Key
 salted_key key salt = record key { first = key.first ++ salt }
 
+-- ## Salted strings
+-- As hidden, with `hidden(0)` the Authenticator followed by the salt, on the string of a Tunnel-Password, and
+-- of MS-MPPE-Send-Key and -Recv-Key in a Vendor-Specific of vendor 311. All other octets stay, and so does a
+-- string whose size isn't a positive multiple of 16, and a malformed list of sub-attributes.
+-- Source: RFC 2868 section 3.5, RFC 2548 section 2.4
+-- Rules out: a tag taken for salt; a string of 24 octets mangled
+-- Stands in: `roam_hide` `SaltedValues.antt`: `IsSaltedAnew`, `IsTunnelAnew`, `IsVendorAnew`, `IsSalted`;
+-- `rehide_salted`, `rehide_tunnel`, `rehide_vendor`, `salted`, the law `salted_decided`
+--
 -- A value that is a salt of two octets, then a string: the salt stays, a string of whole blocks is
 -- hidden anew. A value with any other string, or too short for its salt, stays (ours).
 pub record IsSaltedAnew (from to : Key) (old new : List ℕ) : Type 0 where

@@ -3,6 +3,11 @@
 //! section 2.4).
 //!
 //! All is done in place, on the octets of an attribute's value, and nothing takes memory.
+//!
+//! # Proved
+//!
+//! - what is hidden anew hides the same plain text under the other key | `rehide_packet`, `rehide_password`,
+//!   `rehide_salted` and others; laws
 #![tactic(auto)]
 
 mod blocks;

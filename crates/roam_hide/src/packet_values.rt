@@ -1,11 +1,10 @@
 //! The hidden values of a whole packet, hidden anew in its octets (RFC 2865, section 2.3).
 
-ghost use Rattle.std.specs.Prelude.{◌≡◌, ℕ, ◌+◌, ◌≤◌, List, ◌++◌, length, take, drop, map};
+ghost use Rattle.std.specs.Prelude.{◌≡◌, ◌+◌, ◌≤◌, List, ◌++◌, length, take, drop, map};
 ghost use Rattle.std.specs.List.{AllByRecursion};
 ghost use Rattle.roam_wire.specs.Packet.{Attribute, attributes_text, packet_text};
 ghost use Rattle.roam_wire.specs.Reading.{IsPacketText, packet_of};
 ghost use Rattle.roam_wire.specs.declared.attribute_type.TheConstants.{USER_PASSWORD};
-ghost use Rattle.roam_hide.specs.Hiding.{HasWholeBlocks};
 ghost use Rattle.roam_hide.specs.HidingKeys.{password_key};
 ghost use Rattle.roam_hide.specs.PacketAnew.{attribute_in, attribute_anew, packet_anew, CanBeHiddenAnew};
 

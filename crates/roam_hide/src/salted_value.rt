@@ -1,6 +1,6 @@
 //! A string behind a salt of two octets (RFC 2868, section 3.5; RFC 2548, section 2.4.2).
 
-ghost use Rattle.std.specs.Prelude.{◌≡◌, ◌++◌, ◌<◌, ◌%◌, ◌↔◌, IsTrue};
+ghost use Rattle.std.specs.Prelude.{◌≡◌, ◌++◌, ◌<◌, ◌%◌};
 ghost use Rattle.md5.specs.Md5.{md5};
 ghost use Rattle.roam_hide.specs.Hiding.{HasWholeBlocks, IsHiddenAnew};
 ghost use Rattle.roam_hide.specs.HidingKeys.{password_key};

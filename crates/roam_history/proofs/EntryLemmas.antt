@@ -1,68 +1,143 @@
 -- What entries say, one entry more.
-use Rattle.std.proofs.Common.{◌≡◌, ℕ, zero, suc, ◌+◌, ◌≤◌, List, [], ◌∷◌, ◌++◌, length, Some, None, refl, ap, sym, ◌∙◌, arith, append_assoc}
+use Rattle.std.proofs.Common.{◌≡◌, true, false, Some, None, ◌+◌, ◌≤◌, List, [], ◌∷◌, ◌++◌, length, refl, ap, sym, subst, ◌∙◌, arith, append_assoc}
 use Rattle.std.proofs.lemmas.List.{append-nil, length-append}
+use mathlib.Core.List.{IsPrefix}
 use Rattle.roam_trace.specs.Steps.{PlainStep}
-use Rattle.roam_history.specs.Entries.{HistoryEntry, gone_after, gone_of, last_of, steps_in, stored_after, stored_of}
+use Rattle.roam_history.specs.Entries.{ClosesLast, HistoryEntry, IsOpen, IsWhole, closed_entry, gone_after, gone_of, last_of, let_go_entry, step_entry, steps_in, stored_after, stored_of}
 
 pub steps-append : (xs ys : List HistoryEntry) → steps_in (xs ++ ys) ≡ steps_in xs ++ steps_in ys
 steps-append [] ys = refl
-steps-append (Some s ∷ xs) ys = ap (λ l. s ∷ l) (steps-append xs ys)
+steps-append (Some (Some s) ∷ xs) ys = ap (λ l. s ∷ l) (steps-append xs ys)
+steps-append (Some None ∷ xs) ys = steps-append xs ys
 steps-append (None ∷ xs) ys = steps-append xs ys
 
 pub steps-few : (es : List HistoryEntry) → length (steps_in es) ≤ length es
 steps-few [] = omega arith
-steps-few (Some s ∷ es) = (let few = steps-few es in omega (arith, few))
+steps-few (Some (Some s) ∷ es) = (let few = steps-few es in omega (arith, few))
+steps-few (Some None ∷ es) = (let few = steps-few es in omega (arith, few))
 steps-few (None ∷ es) = (let few = steps-few es in omega (arith, few))
 
-pub stored-append : (st : List PlainStep) (xs ys : List HistoryEntry) → stored_after st (xs ++ ys) ≡ stored_after (stored_after st xs) ys
+pub stored-append : (st : List PlainStep) (xs ys : List HistoryEntry) →
+    stored_after st (xs ++ ys) ≡ stored_after (stored_after st xs) ys
 stored-append st [] ys = refl
-stored-append st (Some s ∷ xs) ys = stored-append (st ++ s ∷ []) xs ys
-stored-append st (None ∷ xs) ys = stored-append [] xs ys
+stored-append st (Some (Some s) ∷ xs) ys = stored-append (st ++ s ∷ []) xs ys
+stored-append st (Some None ∷ xs) ys = stored-append [] xs ys
+stored-append st (None ∷ xs) ys = stored-append st xs ys
 
-pub gone-append : (g st : List PlainStep) (xs ys : List HistoryEntry) → gone_after g st (xs ++ ys) ≡ gone_after (gone_after g st xs) (stored_after st xs) ys
+pub gone-append : (g st : List PlainStep) (xs ys : List HistoryEntry) →
+    gone_after g st (xs ++ ys) ≡ gone_after (gone_after g st xs) (stored_after st xs) ys
 gone-append g st [] ys = refl
-gone-append g st (Some s ∷ xs) ys = gone-append g (st ++ s ∷ []) xs ys
-gone-append g st (None ∷ xs) ys = gone-append (g ++ st) [] xs ys
+gone-append g st (Some (Some s) ∷ xs) ys = gone-append g (st ++ s ∷ []) xs ys
+gone-append g st (Some None ∷ xs) ys = gone-append (g ++ st) [] xs ys
+gone-append g st (None ∷ xs) ys = gone-append g st xs ys
 
 -- those that were let go of, and then the stored ones, are all
-all-after : (g st : List PlainStep) (es : List HistoryEntry) → gone_after g st es ++ stored_after st es ≡ (g ++ st) ++ steps_in es
+all-after : (g st : List PlainStep) (es : List HistoryEntry) →
+    gone_after g st es ++ stored_after st es ≡ (g ++ st) ++ steps_in es
 all-after g st [] = sym (append-nil (g ++ st))
-all-after g st (Some s ∷ es) =
+all-after g st (Some (Some s) ∷ es) =
     all-after g (st ++ s ∷ []) es
     ∙ (ap (λ l. l ++ steps_in es) (sym (append_assoc g st (s ∷ []))) ∙ append_assoc (g ++ st) (s ∷ []) (steps_in es))
-all-after g st (None ∷ es) = all-after (g ++ st) [] es ∙ ap (λ l. l ++ steps_in es) (append-nil (g ++ st))
+all-after g st (Some None ∷ es) = all-after (g ++ st) [] es ∙ ap (λ l. l ++ steps_in es) (append-nil (g ++ st))
+all-after g st (None ∷ es) = all-after g st es
 
 pub all-steps : (es : List HistoryEntry) → gone_of es ++ stored_of es ≡ steps_in es
 all-steps es = all-after [] [] es
 
 -- one step more
-pub one-step : (es : List HistoryEntry) (s : PlainStep) → steps_in (es ++ Some s ∷ []) ≡ steps_in es ++ s ∷ []
-one-step es s = steps-append es (Some s ∷ [])
+pub one-step : (es : List HistoryEntry) (s : PlainStep) → steps_in (es ++ step_entry s ∷ []) ≡ steps_in es ++ s ∷ []
+one-step es s = steps-append es (step_entry s ∷ [])
 
-pub one-stored : (es : List HistoryEntry) (s : PlainStep) → stored_of (es ++ Some s ∷ []) ≡ stored_of es ++ s ∷ []
-one-stored es s = stored-append [] es (Some s ∷ [])
+pub one-stored : (es : List HistoryEntry) (s : PlainStep) → stored_of (es ++ step_entry s ∷ []) ≡ stored_of es ++ s ∷ []
+one-stored es s = stored-append [] es (step_entry s ∷ [])
 
-pub same-gone : (es : List HistoryEntry) (s : PlainStep) → gone_of (es ++ Some s ∷ []) ≡ gone_of es
-same-gone es s = gone-append [] [] es (Some s ∷ [])
+pub same-gone : (es : List HistoryEntry) (s : PlainStep) → gone_of (es ++ step_entry s ∷ []) ≡ gone_of es
+same-gone es s = gone-append [] [] es (step_entry s ∷ [])
 
 -- the stored ones are let go of
-pub same-steps : (es : List HistoryEntry) → steps_in (es ++ None ∷ []) ≡ steps_in es
-same-steps es = steps-append es (None ∷ []) ∙ append-nil (steps_in es)
+pub same-steps : (es : List HistoryEntry) → steps_in (es ++ let_go_entry ∷ []) ≡ steps_in es
+same-steps es = steps-append es (let_go_entry ∷ []) ∙ append-nil (steps_in es)
 
-pub none-stored : (es : List HistoryEntry) → stored_of (es ++ None ∷ []) ≡ []
-none-stored es = stored-append [] es (None ∷ [])
+pub none-stored : (es : List HistoryEntry) → stored_of (es ++ let_go_entry ∷ []) ≡ []
+none-stored es = stored-append [] es (let_go_entry ∷ [])
 
-pub all-gone : (es : List HistoryEntry) → gone_of (es ++ None ∷ []) ≡ gone_of es ++ stored_of es
-all-gone es = gone-append [] [] es (None ∷ [])
+pub all-gone : (es : List HistoryEntry) → gone_of (es ++ let_go_entry ∷ []) ≡ gone_of es ++ stored_of es
+all-gone es = gone-append [] [] es (let_go_entry ∷ [])
+
+-- the history is closed
+pub closed-steps : (es : List HistoryEntry) → steps_in (es ++ closed_entry ∷ []) ≡ steps_in es
+closed-steps es = steps-append es (closed_entry ∷ []) ∙ append-nil (steps_in es)
+
+pub closed-stored : (es : List HistoryEntry) → stored_of (es ++ closed_entry ∷ []) ≡ stored_of es
+closed-stored es = stored-append [] es (closed_entry ∷ [])
+
+-- an entry that doesn't close a history leaves it open
+pub open-step : (es : List HistoryEntry) (s : PlainStep) → IsOpen es → IsOpen (es ++ step_entry s ∷ [])
+open-step [] s still = tt
+open-step (Some (Some t) ∷ es) s still = open-step es s still
+open-step (Some None ∷ es) s still = open-step es s still
+open-step (None ∷ es) s still = absurd still
+
+pub open-gone : (es : List HistoryEntry) → IsOpen es → IsOpen (es ++ let_go_entry ∷ [])
+open-gone [] still = tt
+open-gone (Some (Some t) ∷ es) still = open-gone es still
+open-gone (Some None ∷ es) still = open-gone es still
+open-gone (None ∷ es) still = absurd still
+
+-- behind an open history stands any one entry
+pub closes_one : (es : List HistoryEntry) (e : HistoryEntry) → IsOpen es → ClosesLast (es ++ e ∷ [])
+closes_one [] (Some (Some s)) still = tt
+closes_one [] (Some None) still = tt
+closes_one [] None still = refl
+closes_one (Some (Some t) ∷ es) e still = closes_one es e still
+closes_one (Some None ∷ es) e still = closes_one es e still
+closes_one (None ∷ es) e still = absurd still
+
+-- and none behind the one that closes it
+none_behind : (es rest : List HistoryEntry) → ClosesLast ((es ++ closed_entry ∷ []) ++ rest) → rest ≡ []
+none_behind [] rest last = last
+none_behind (Some (Some t) ∷ es) rest last = none_behind es rest last
+none_behind (Some None ∷ es) rest last = none_behind es rest last
+none_behind (None ∷ es) rest last =
+    absurd (let bad : (es ++ closed_entry ∷ []) ++ rest ≡ [] = last in not_none es rest bad)
+  where
+    not_none : (es rest : List HistoryEntry) → (es ++ closed_entry ∷ []) ++ rest ≡ [] → ⊥
+    not_none [] rest is = cc
+    not_none (e ∷ es) rest is = cc
+
+-- where a whole history ends
+pub whole_ends : (es : List HistoryEntry) → IsWhole es → (before : List HistoryEntry)
+    × (es ≡ before ++ closed_entry ∷ [])
+whole_ends [] whole = absurd (let bad : false ≡ true = whole in cc)
+whole_ends (None ∷ []) whole = ([], refl)
+whole_ends (Some e ∷ []) whole = absurd (let bad : false ≡ true = whole in cc)
+whole_ends (e ∷ f ∷ es) whole =
+    (let rest = whole_ends (f ∷ es) whole in (e ∷ rest.0, ap (λ (l : List HistoryEntry). e ∷ l) rest.1))
+
+pub is_whole_closed : (es : List HistoryEntry) → IsWhole (es ++ closed_entry ∷ [])
+is_whole_closed [] = refl
+is_whole_closed (e ∷ []) = refl
+is_whole_closed (e ∷ f ∷ es) = is_whole_closed (f ∷ es)
+
+-- so any beginning of a history begins one that is whole
+pub whole_has_all : (whole other all : List HistoryEntry) → IsWhole whole → ClosesLast all → IsPrefix whole all →
+    IsPrefix other all → IsPrefix other whole
+whole_has_all whole other all is last begins also =
+    let ends = whole_ends whole is in
+    let all_is : all ≡ (ends.0 ++ closed_entry ∷ []) ++ begins.0 = sym begins.1
+    ∙ ap (λ (l : List HistoryEntry). l ++ begins.0) ends.1 in
+    let none = none_behind ends.0 begins.0 (subst ClosesLast all_is last) in
+    let same : all ≡ whole = sym begins.1 ∙ (ap (λ (l : List HistoryEntry). whole ++ l) none ∙ append-nil whole) in
+    subst (λ (l : List HistoryEntry). IsPrefix other l) same also
 
 -- the last of some steps
-pub last-push : (ss : List PlainStep) (s : PlainStep) → last_of (ss ++ s ∷ []) ≡ Some s
+pub last-push : (ss : List PlainStep) (s : PlainStep) → last_of (ss ++ s ∷ []) ≡ step_entry s
 last-push [] s = refl
 last-push (a ∷ []) s = refl
 last-push (a ∷ b ∷ ss) s = last-push (b ∷ ss) s
 
 -- a front with one step more
-pub counts_step : (es : List HistoryEntry) (ss : List PlainStep) (s : PlainStep) → last_of ss ≡ Some s
+pub counts_step : (es : List HistoryEntry) (ss : List PlainStep) (s : PlainStep) → last_of ss ≡ step_entry s
     → length (steps_in (es ++ last_of ss ∷ [])) ≡ length (steps_in es) + 1
 counts_step es ss s is =
     ap (λ (e : HistoryEntry). length (steps_in (es ++ e ∷ []))) is

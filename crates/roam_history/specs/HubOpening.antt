@@ -7,6 +7,15 @@ use Rattle.roam_book.specs.RealmState.{RealmState}
 use Rattle.roam_core.specs.Openings.{openings}
 use Rattle.roam_trace.specs.History.{Beginning}
 
+-- ## Hub's opening
+-- The configuration, and in each shard the states in which its history begins: of a fresh hub each realm's at
+-- its start, of one over paused shards those in which they stand. It is known in proofs alone, and picked by
+-- the call that opens the hub.
+-- Source: ours
+-- Rules out: shards of one hub that began in different worlds; a seat, receipt or report of another hub
+-- Stands in: `roam_history` `HubOpening.antt`: `HubOpening`, `fresh_opening`, `opening_at`; `roam_hub`
+-- `Pausing.antt`: `opening_over`; the trait `Opened`, `Hub::open`, `open_over`
+--
 -- the configuration, and in each shard the states in which its history begins
 pub record HubOpening : Type 0 where
   pub config : ConfigView

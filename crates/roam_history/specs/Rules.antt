@@ -1,11 +1,13 @@
 -- The rule of a history's ghost book, and what its steps tell (ours).
 use Rattle.std.specs.Prelude.{ℕ, ◌≡◌, ◌==◌, true, List, [], ◌∷◌, ◌++◌, length, MatchBool}
 use Rattle.logbook.specs.Pages.{Cell, Step, View, Book, Named}
-use Rattle.roam_history.specs.Entries.{HistoryEntry}
+use Rattle.roam_history.specs.Entries.{ClosesLast, HistoryEntry}
 
--- the first word is how many entries the history has; a book has two words, of which the second isn't used
+-- the first word is how many entries the history has; a book has two words, of which the second isn't used. Nothing
+-- stands after the entry that closes it
 pub record IsKept (cells : List Cell) (log : List HistoryEntry) : Type 0 where
   pub words : cells ≡ (length log, true) ∷ (0, true) ∷ []
+  pub last : ClosesLast log
 
 -- the first word of a book
 abbrev pub head_of : Book → Named

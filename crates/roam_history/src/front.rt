@@ -1,13 +1,13 @@
 //! A beginning of a shard's history that was seen.
 
-ghost use Rattle.std.specs.Prelude.{◌≡◌, ◌-◌, ◌<◌, ◌^◌, ◌++◌, ◌∷◌, ◌↔◌, [], Some, None, false, length, true, IfSome};
+ghost use Rattle.std.specs.Prelude.{◌≡◌, ◌-◌, ◌<◌, ◌^◌, ◌++◌, ◌∷◌, ◌↔◌, [], None, false, length, true, IfSome};
 ghost use mathlib.Core.List.{IsPrefix};
-ghost use Rattle.roam_history.specs.Entries.{last_of, steps_in};
+ghost use Rattle.roam_history.specs.Entries.{IsOpen, IsWhole, closed_entry, last_of, let_go_entry, step_entry, steps_in};
 ghost use Rattle.roam_trace.specs.Steps.{PlainStep};
 
 use crate::head::Head;
 use crate::opened::Opened;
-use crate::rule::{Add, HistoryEntry, LetGo, Nothing, OneHistory};
+use crate::rule::{Add, Close, HistoryEntry, LetGo, Nothing, OneHistory};
 use logbook::{Offer, Plain, Seen};
 use roam_trace::Traced;
 use std::alloc::Allocator;
@@ -40,8 +40,8 @@ impl<N: Opened> Model for Front<N> {
         × (f.seen.book ≡ N.books f.shard) };
 }
 
-/// Adds an entry to all that was seen of a history, where no more was ever added: what is seen then. None
-/// where more was: nothing is added then. The one step of all this that threads share: a word is compared
+/// Adds an entry to all that was seen of a history, which isn't closed there, where no more was ever added: what is
+/// seen then. None where more was: nothing is added then. The one step of all this that threads share: a word is compared
 /// and exchanged.
 fn added<N: Opened, X, M: Plain<X, HistoryEntry, u64>>(
     head: &Head<N>,
@@ -52,6 +52,7 @@ fn added<N: Opened, X, M: Plain<X, HistoryEntry, u64>>(
     requires book { seen.now.book ≡ N.books head.now.shard }
     requires entries { entries ≡ length seen.now.log }
     requires room { entries < 2 ^ 64 - 1 }
+    requires is_open { IsOpen seen.now.log }
     requires state { M.state about.now ≡ None }
     ensures log { IfSome result (λ s. s.log ≡ seen.now.log ++ M.ask about.now ∷ []) }
     ensures book { IfSome result (λ s. s.book ≡ seen.now.book) }
@@ -132,6 +133,16 @@ impl<N: Opened> Front<N> {
         false
     }
 
+    /// Begins each whole one of its shard: nothing was added after that was closed. Costs nothing.
+    pub fn begins_whole(&self, whole: &Front<N>)
+        requires shard { whole.now.shard ≡ self.now.shard }
+        requires whole { IsWhole whole.now.entries }
+        ensures { IsPrefix self.now.entries whole.now.entries }
+    {
+        let mut both = self.seen.again();
+        both.learn(&whole.seen);
+    }
+
     /// Adds the last step of a trace to all that was seen here, where no more was ever added: what is
     /// seen then. None where more was: nothing is added then. Takes no memory.
     pub fn with_step<A: Allocator>(
@@ -141,7 +152,8 @@ impl<N: Opened> Front<N> {
     ) -> Option<Front<N>>
         requires shard { head.now.shard ≡ self.now.shard }
         requires room { length self.now.entries < 2 ^ 64 - 1 }
-        requires step { (s : PlainStep) × (last_of traced.now.steps ≡ Some s) }
+        requires is_open { IsOpen self.now.entries }
+        requires step { (s : PlainStep) × (last_of traced.now.steps ≡ step_entry s) }
         ensures { IfSome result (λ f. f ≡ record {
           shard = self.now.shard;
           entries = self.now.entries ++ last_of traced.now.steps ∷ [];
@@ -161,12 +173,32 @@ impl<N: Opened> Front<N> {
     pub fn without_steps(&self, head: &Head<N>) -> Option<Front<N>>
         requires shard { head.now.shard ≡ self.now.shard }
         requires room { length self.now.entries < 2 ^ 64 - 1 }
+        requires is_open { IsOpen self.now.entries }
         ensures { IfSome result (λ f. f ≡ record {
           shard = self.now.shard;
-          entries = self.now.entries ++ None ∷ [];
+          entries = self.now.entries ++ let_go_entry ∷ [];
         }) }
     {
         let seen = added::<N, LetGo, LetGo>(head, &self.seen, self.entries, &LetGo)?;
+        Some(Front {
+            shard: self.shard,
+            entries: self.entries + 1,
+            steps: self.steps,
+            seen,
+            hub: PhantomData,
+        })
+    }
+    /// The same, with an entry which says that the history is closed: it is whole then, and nothing is added any more.
+    pub fn closed(&self, head: &Head<N>) -> Option<Front<N>>
+        requires shard { head.now.shard ≡ self.now.shard }
+        requires room { length self.now.entries < 2 ^ 64 - 1 }
+        requires is_open { IsOpen self.now.entries }
+        ensures { IfSome result (λ f. f ≡ record {
+          shard = self.now.shard;
+          entries = self.now.entries ++ closed_entry ∷ [];
+        }) }
+    {
+        let seen = added::<N, Close, Close>(head, &self.seen, self.entries, &Close)?;
         Some(Front {
             shard: self.shard,
             entries: self.entries + 1,

@@ -1,11 +1,12 @@
-//! What threads may do to a history: add an entry at its end, and nothing else.
+//! What threads may do to a history: add an entry at its end, until it is closed, and nothing else.
 
 use logbook::{Gain, Plain, Play, Rule};
 use roam_trace::{Step, Traced};
 use std::alloc::{Allocator, Global};
 
-/// An entry of a history, in proofs alone: a step; or none, where the stored steps were let go of.
-pub(crate) type HistoryEntry = Option<Step<Global>>;
+/// An entry of a history, in proofs alone: none, where it is closed; else a step, or none, where the stored steps were
+/// let go of.
+pub(crate) type HistoryEntry = Option<Option<Step<Global>>>;
 
 /// The rule of a history.
 pub(crate) struct OneHistory;
@@ -61,8 +62,21 @@ pub(crate) struct LetGo;
 
 impl Plain<LetGo, HistoryEntry, u64> for LetGo {
     ghost use Rattle.std.specs.Prelude.{None};
+    ghost use Rattle.roam_history.specs.Entries.{let_go_entry};
 
-    ghost ask = { λ _. None };
+    ghost ask = { λ _. let_go_entry };
+
+    ghost state = { λ _. None };
+}
+
+/// That the history is closed.
+pub(crate) struct Close;
+
+impl Plain<Close, HistoryEntry, u64> for Close {
+    ghost use Rattle.std.specs.Prelude.{None};
+    ghost use Rattle.roam_history.specs.Entries.{closed_entry};
+
+    ghost ask = { λ _. closed_entry };
 
     ghost state = { λ _. None };
 }

@@ -18,7 +18,8 @@ use Rattle.roam_trace.specs.History.{AreSteps, end_of, states_next}
 use Rattle.roam_trace.specs.Steps.{PlainAnswer, PlainStep}
 use Rattle.roam_audit.specs.Audit.{steps_of}
 use Rattle.roam_hub.specs.Closing.{AreClosed, IsClosed}
-use Rattle.roam_history.specs.Fronts.{AreOfShards, FrontView}
+use Rattle.roam_history.specs.Entries.{IsWhole}
+use Rattle.roam_history.specs.Fronts.{AreOfShards, AreWhole, FrontView}
 use Rattle.roam_history.specs.HubOpening.{HubOpening, opening_at}
 use Rattle.roam_hub.specs.Histories.{AreHistories, start_at_end, starts_at_end, starts_from, state_at_end}
 use Rattle.roam_hub.specs.InHistories.{ProvenanceInHistories, RealmsInHistories, events_in, packets_in}
@@ -59,6 +60,15 @@ push_shards fs f are is k g at = elim (get-push fs f g k at) as (λ _. g.shard �
 
 pub no_shards : AreOfShards []
 no_shards k g at = absurd (let bad : None ≡ Some g = at in cc)
+
+pub push_whole : (fs : List FrontView) (f : FrontView) → AreWhole fs → IsWhole f.entries → AreWhole (fs ++ f ∷ [])
+push_whole fs f are is k g at = elim (get-push fs f g k at) as (λ _. IsWhole g.entries) [
+  | inl last ↦ subst (λ (h : FrontView). IsWhole h.entries) last.1 is
+  | inr there ↦ are k g there.1
+]
+
+pub none_whole : AreWhole []
+none_whole k g at = absurd (let bad : None ≡ Some g = at in cc)
 
 pub none_closed : (o : HubOpening) → AreClosed o 0 [] []
 none_closed o = record { shard_count = refl; step_count = refl; each = λ k s ss at. absurd (let bad : None ≡ Some s = at in cc) }

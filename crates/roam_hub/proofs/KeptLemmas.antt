@@ -1,19 +1,23 @@
 -- What lies under a lock, one call later.
-use Rattle.std.proofs.Common.{◌≡◌, ◌↔◌, Bool, false, ℕ, ◌+◌, ◌<◌, List, [], ◌∷◌, ◌++◌, length, Some, None, slice_get, slice_index_or, slice_set, refl, ap, sym, subst, ◌∙◌, arith}
+use Rattle.std.proofs.Common.{◌≡◌, ◌↔◌, Bool, false, ℕ, ◌+◌, ◌<◌, ◌-◌, ◌^◌, List, [], ◌∷◌, ◌++◌, length, Some, slice_get, slice_index_or, slice_set, refl, ap, sym, subst, ◌∙◌, arith}
 use Rattle.std.proofs.lemmas.List.{length-append, get_or-set_same, get_or-set_other}
 use mathlib.Core.List.{IsPrefix}
 use Rattle.roam_trace.specs.History.{Beginning, Ends, GoesOn, IsHistory, begun, TraceView, end_of, with_step, without_steps}
 use Rattle.roam_shard.specs.Twins.{NothingDue}
 use Rattle.roam_trace.specs.Steps.{PlainStep}
-use Rattle.roam_history.specs.Entries.{HistoryEntry, gone_of, last_of, steps_in, stored_of}
+use Rattle.roam_book.specs.declared.state.gauges.Gauges.{Gauges}
+use Rattle.roam_core.specs.ManyRealms.{state_at}
+use Rattle.roam_shard.specs.Looks.{StandsAs}
+use Rattle.roam_history.specs.Entries.{HistoryEntry, gone_of, last_of, let_go_entry, step_entry, steps_in, stored_of, closed_entry}
 use Rattle.roam_history.specs.Fronts.{FrontView}
 use Rattle.roam_history.specs.HubOpening.{HubOpening, opening_at}
-use Rattle.roam_history.proofs.EntryLemmas.{all-gone, all-steps, last-push, none-stored, one-step, one-stored, same-gone, same-steps}
+use Rattle.roam_history.proofs.EntryLemmas.{all-gone, all-steps, closed-steps, last-push, none-stored, one-step, one-stored, open-gone, open-step, same-gone, same-steps}
 use Rattle.roam_history.proofs.Prefixes.{prefix_length, prefix_self, prefix_trans}
 use Rattle.roam_audit.specs.Seats.{SeatView, after_call, front_of, having_seen}
 use Rattle.roam_audit.proofs.PrefixLemmas.{steps_begin}
 use Rattle.roam_hub.specs.Calls.{AreGone, IsCall, IsDueCall, IsFull, IsLook, Sees}
 use Rattle.roam_hub.specs.Keeping.{IsKept, KeptView}
+use Rattle.roam_hub.specs.Looks.{StandsIn}
 
 -- a seat that has seen all entries of a shard
 front_same : (fronts : List (List HistoryEntry)) (shard : ℕ) (es : List HistoryEntry) → shard < length fronts → slice_index_or (slice_set fronts shard es) shard [] ≡ es
@@ -69,14 +73,16 @@ kept_new o t f shard config stands gone steps limit none = record {
   ends = rw (steps, none) (record { history = tt; stands = stands });
   stored = rw none steps;
   gone = rw none gone;
+  is_open = rw none tt;
+  room = (let n = ap length none in omega (arith, n));
 }
 
 -- with one step more
-kept_step : (o : HubOpening) (k : KeptView) (s : PlainStep) → IsKept o k → GoesOn k.trace (with_step k.trace s)
-    → IsKept o (record { trace = with_step k.trace s; front = record { shard = k.front.shard; entries = k.front.entries ++ Some s ∷ [] } })
-kept_step o k s kept more =
+kept_step : (o : HubOpening) (k : KeptView) (s : PlainStep) → IsKept o k → length k.front.entries + 1 < 2 ^ 64 - 1 → GoesOn k.trace (with_step k.trace s)
+    → IsKept o (record { trace = with_step k.trace s; front = record { shard = k.front.shard; entries = k.front.entries ++ step_entry s ∷ [] } })
+kept_step o k s kept room more =
     let es = k.front.entries in
-    let gone : gone_of (es ++ Some s ∷ []) ≡ gone_of es = same-gone es s in
+    let gone : gone_of (es ++ step_entry s ∷ []) ≡ gone_of es = same-gone es s in
     record {
       shard = kept.shard;
       config = kept.config;
@@ -84,14 +90,16 @@ kept_step o k s kept more =
       ends = subst (λ (l : List PlainStep). Ends (with_step k.trace s) (o.states k.front.shard) l) (sym gone) (more (o.states k.front.shard) (gone_of es) kept.ends);
       stored = ap (λ (l : List PlainStep). l ++ s ∷ []) kept.stored ∙ sym (one-stored es s);
       gone = kept.gone ∙ ap length (sym gone);
+      is_open = open-step es s kept.is_open;
+      room = (let more = length-append es (step_entry s ∷ []) in omega (arith, more, room));
     }
 
 -- where the stored steps were let go of
-pub kept_gone : (o : HubOpening) (k : KeptView) → IsKept o k → Ends (without_steps k.trace) (o.states k.front.shard) (gone_of k.front.entries ++ k.trace.steps)
-    → IsKept o (record { trace = without_steps k.trace; front = record { shard = k.front.shard; entries = k.front.entries ++ None ∷ [] } })
-kept_gone o k kept ends =
+pub kept_gone : (o : HubOpening) (k : KeptView) → IsKept o k → length k.front.entries + 1 < 2 ^ 64 - 1 → Ends (without_steps k.trace) (o.states k.front.shard) (gone_of k.front.entries ++ k.trace.steps)
+    → IsKept o (record { trace = without_steps k.trace; front = record { shard = k.front.shard; entries = k.front.entries ++ let_go_entry ∷ [] } })
+kept_gone o k kept room ends =
     let es = k.front.entries in
-    let gone : gone_of es ++ k.trace.steps ≡ gone_of (es ++ None ∷ []) =
+    let gone : gone_of es ++ k.trace.steps ≡ gone_of (es ++ let_go_entry ∷ []) =
     ap (λ (l : List PlainStep). gone_of es ++ l) kept.stored ∙ sym (all-gone es) in
     record {
       shard = kept.shard;
@@ -102,6 +110,8 @@ kept_gone o k kept ends =
       gone =
           ap (λ (n : ℕ). n + length k.trace.steps) kept.gone
           ∙ (sym (length-append (gone_of es) k.trace.steps) ∙ ap length gone);
+      is_open = open-gone es kept.is_open;
+      room = (let more = length-append es (let_go_entry ∷ []) in omega (arith, more, room));
     }
 
 get-last : (xs : List PlainStep) (s : PlainStep) → slice_get (xs ++ s ∷ []) (length xs) ≡ Some s
@@ -114,7 +124,7 @@ pub record Recorded (o : HubOpening) (k : KeptView) (shard : ℕ) (old new : Sea
   pub call : IsCall o shard old new number s
   pub sees : Sees shard old new
   pub front : front_of new shard ≡ k.front.entries
-  pub last : last_of k.trace.steps ≡ Some s
+  pub last : last_of k.trace.steps ≡ step_entry s
 
 -- what is known where it was
 pub record Recording (k : KeptView) (t : TraceView) (f : FrontView) (s : PlainStep) (shard number : ℕ) (old new : SeatView) : Type 0 where
@@ -124,18 +134,19 @@ pub record Recording (k : KeptView) (t : TraceView) (f : FrontView) (s : PlainSt
   pub here : k.front.shard ≡ shard
   pub there : shard < length old.fronts
   pub begins : IsPrefix (front_of old shard) k.front.entries
+  pub room : length k.front.entries + 1 < 2 ^ 64 - 1
   pub number_is : number ≡ length (steps_in k.front.entries)
   pub noted : new ≡ after_call old shard number f.entries
 
 recorded-one : (o : HubOpening) (k : KeptView) (s : PlainStep) (shard number : ℕ) (old new : SeatView) → IsKept o k
     → GoesOn k.trace (with_step k.trace s) → k.front.shard ≡ shard → shard < length old.fronts → IsPrefix (front_of old shard) k.front.entries
-    → number ≡ length (steps_in k.front.entries) → new ≡ after_call old shard number (k.front.entries ++ Some s ∷ [])
-    → Recorded o (record { trace = with_step k.trace s; front = record { shard = k.front.shard; entries = k.front.entries ++ Some s ∷ [] } }) shard old new number s
-recorded-one o k s shard number old new kept more here there begins number_is noted =
+    → length k.front.entries + 1 < 2 ^ 64 - 1 → number ≡ length (steps_in k.front.entries) → new ≡ after_call old shard number (k.front.entries ++ step_entry s ∷ [])
+    → Recorded o (record { trace = with_step k.trace s; front = record { shard = k.front.shard; entries = k.front.entries ++ step_entry s ∷ [] } }) shard old new number s
+recorded-one o k s shard number old new kept more here there begins room number_is noted =
     let es = k.front.entries in
-    let whole = es ++ Some s ∷ [] in
+    let whole = es ++ step_entry s ∷ [] in
     let after : KeptView = record { trace = with_step k.trace s; front = record { shard = k.front.shard; entries = whole } } in
-    let keeps : IsKept o after = kept_step o k s kept more in
+    let keeps : IsKept o after = kept_step o k s kept room more in
     let fronts = ap (λ (x : SeatView). x.fronts) noted in
     let front : front_of new shard ≡ whole = ap (λ (fs : List (List HistoryEntry)). slice_index_or fs shard []) fronts ∙ front_same old.fronts shard whole there in
     let steps : steps_in (front_of new shard) ≡ steps_in es ++ s ∷ [] = ap (λ (l : List HistoryEntry). steps_in l) front ∙ one-step es s in
@@ -147,9 +158,12 @@ recorded-one o k s shard number old new kept more here there begins number_is no
         stands = ap (λ (l : List PlainStep). slice_get l number) steps ∙ (ap (λ (n : ℕ). slice_get (steps_in es ++ s ∷ []) n) number_is ∙ get-last (steps_in es) s);
         last = (let len = ap length steps in let more = length-append (steps_in es) (s ∷ []) in omega (arith, len, more, number_is));
         rises = (let less = prefix_length (steps_in (front_of old shard)) (steps_in es) (steps_begin (front_of old shard) es begins) in omega (arith, less, number_is));
+        before = es;
+        entries = front;
+        begins = begins;
         history = subst (λ (l : List HistoryEntry). IsHistory (opening_at o shard) (steps_in l)) (sym front) history;
       };
-      sees = sees_set shard old new whole fronts there (prefix_trans (front_of old shard) es whole begins (Some s ∷ [], refl));
+      sees = sees_set shard old new whole fronts there (prefix_trans (front_of old shard) es whole begins (step_entry s ∷ [], refl));
       front = front;
       last = last-push k.trace.steps s;
     }
@@ -157,24 +171,24 @@ recorded-one o k s shard number old new kept more here there begins number_is no
 pub recorded : (o : HubOpening) (k : KeptView) (t : TraceView) (f : FrontView) (s : PlainStep) (shard number : ℕ) (old new : SeatView)
     → IsKept o k → Recording k t f s shard number old new → Recorded o (record { trace = t; front = f }) shard old new number s
 recorded o k t f s shard number old new kept r =
-    let last : last_of t.steps ≡ Some s = ap (λ (v : TraceView). last_of v.steps) r.trace ∙ last-push k.trace.steps s in
-    let front : f ≡ record { shard = k.front.shard; entries = k.front.entries ++ Some s ∷ [] } =
+    let last : last_of t.steps ≡ step_entry s = ap (λ (v : TraceView). last_of v.steps) r.trace ∙ last-push k.trace.steps s in
+    let front : f ≡ record { shard = k.front.shard; entries = k.front.entries ++ step_entry s ∷ [] } =
     r.front ∙ ap (λ (e : HistoryEntry). record { shard = k.front.shard; entries = k.front.entries ++ e ∷ [] }) last in
     let noted = r.noted ∙ ap (λ (g : FrontView). after_call old shard number g.entries) front in
     let more = subst (λ (v : TraceView). GoesOn k.trace v) r.trace r.more in
-    let one = recorded-one o k s shard number old new kept more r.here r.there r.begins r.number_is noted in
+    let one = recorded-one o k s shard number old new kept more r.here r.there r.begins r.room r.number_is noted in
     subst (λ (g : FrontView). Recorded o (record { trace = t; front = g }) shard old new number s) (sym front)
-    (subst (λ (v : TraceView). Recorded o (record { trace = v; front = record { shard = k.front.shard; entries = k.front.entries ++ Some s ∷ [] } }) shard old new number s) (sym r.trace) one)
+    (subst (λ (v : TraceView). Recorded o (record { trace = v; front = record { shard = k.front.shard; entries = k.front.entries ++ step_entry s ∷ [] } }) shard old new number s) (sym r.trace) one)
 
 -- the stored steps of a shard were let go of
 pub gone_of_shard : (o : HubOpening) (k : KeptView) (shard : ℕ) (old new : SeatView) (steps : List PlainStep) → IsKept o k
     → k.front.shard ≡ shard → shard < length old.fronts → IsPrefix (front_of old shard) k.front.entries
-    → steps ≡ k.trace.steps → new ≡ having_seen old shard (k.front.entries ++ None ∷ [])
+    → steps ≡ k.trace.steps → new ≡ having_seen old shard (k.front.entries ++ let_go_entry ∷ [])
     → AreGone o shard old new steps × Sees shard old new
 gone_of_shard o k shard old new steps kept here there begins are seen =
     let es = k.front.entries in
-    let whole = es ++ None ∷ [] in
-    let both = sees_whole shard old new whole seen there (prefix_trans (front_of old shard) es whole begins (None ∷ [], refl)) in
+    let whole = es ++ let_go_entry ∷ [] in
+    let both = sees_whole shard old new whole seen there (prefix_trans (front_of old shard) es whole begins (let_go_entry ∷ [], refl)) in
     let history : IsHistory (opening_at o shard) (steps_in es) = subst (λ (n : ℕ). IsHistory (opening_at o n) (steps_in es)) here (whole_history o k kept) in (
       record {
         before = es;
@@ -205,14 +219,21 @@ look o k shard now old new due kept here there begins is seen =
 
 -- a tick was recorded where something was due
 pub due_call : (o : HubOpening) (k : KeptView) (shard now : ℕ) (old new : SeatView) (number : ℕ) (s : PlainStep) → IsKept o k
-    → k.front.shard ≡ shard → (NothingDue now k.trace.states → ⊥) → IsCall o shard old new number s
-    → steps_in (front_of new shard) ≡ steps_in k.front.entries ++ s ∷ [] → IsDueCall o shard now old new number s
-due_call o k shard now old new number s kept here due call more =
+    → k.front.shard ≡ shard → IsPrefix (front_of old shard) k.front.entries → (NothingDue now k.trace.states → ⊥) → IsCall o shard old new number s
+    → front_of new shard ≡ k.front.entries ++ step_entry s ∷ [] → IsDueCall o shard now old new number s
+due_call o k shard now old new number s kept here begins due call more =
     let end = whole_end o k kept ∙ ap (λ (n : ℕ). end_of (opening_at o n) (steps_in k.front.entries)) here in
     record {
-      call = call;
-      before = steps_in k.front.entries;
-      steps = more;
+      call = record {
+        tallies = call.tallies;
+        stands = call.stands;
+        last = call.last;
+        rises = call.rises;
+        before = k.front.entries;
+        entries = more;
+        begins = begins;
+        history = call.history;
+      };
       due = λ none. due (subst (λ states. NothingDue now states) (sym end) none);
     }
 
@@ -223,3 +244,19 @@ pub full : (o : HubOpening) (k : KeptView) (shard : ℕ) (old new : SeatView) �
 full o k shard old new kept here there begins seen all =
     let both = sees_whole shard old new k.front.entries seen there begins in
     ap (λ (l : List HistoryEntry). length (stored_of l)) both.0 ∙ (ap length (sym kept.stored) ∙ (all ∙ kept.limit))
+
+-- how a realm stands where the history ends
+pub stands_in : (o : HubOpening) (k : KeptView) (shard realm : ℕ) (seat : SeatView) (g : Gauges) → IsKept o k
+    → k.front.shard ≡ shard → IsPrefix (front_of seat shard) k.front.entries → StandsAs (state_at k.trace.states realm) g → StandsIn o shard realm seat g
+stands_in o k shard realm seat g kept here begins stands =
+    let end = whole_end o k kept ∙ ap (λ (n : ℕ). end_of (opening_at o n) (steps_in k.front.entries)) here in
+    record {
+      entries = k.front.entries;
+      begins = begins;
+      history = subst (λ (n : ℕ). IsHistory (opening_at o n) (steps_in k.front.entries)) here (whole_history o k kept);
+      stands = subst (λ states. StandsAs (state_at states realm) g) end stands;
+    }
+
+-- the entry that closes a history is no step
+pub whole_steps : (f whole : FrontView) → whole ≡ record { shard = f.shard; entries = f.entries ++ closed_entry ∷ [] } → steps_in f.entries ≡ steps_in whole.entries
+whole_steps f whole is = sym (ap (λ (w : FrontView). steps_in w.entries) is ∙ closed-steps f.entries)

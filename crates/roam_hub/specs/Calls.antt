@@ -10,7 +10,7 @@ use Rattle.roam_core.specs.Events.{PlainEvent, arrives, ticks}
 use Rattle.roam_shard.specs.Twins.{NothingDue}
 use Rattle.roam_trace.specs.History.{IsHistory, end_of}
 use Rattle.roam_trace.specs.Steps.{PlainStep, octets_in, shown_answer}
-use Rattle.roam_history.specs.Entries.{HistoryEntry, steps_in, stored_of}
+use Rattle.roam_history.specs.Entries.{HistoryEntry, let_go_entry, step_entry, steps_in, stored_of}
 use Rattle.roam_history.specs.HubOpening.{HubOpening, opening_at}
 use Rattle.roam_audit.specs.Seats.{SeatView, front_of, noted}
 use Rattle.roam_hub.specs.declared.answered.Answered.{Answered}
@@ -18,6 +18,14 @@ use Rattle.roam_hub.specs.declared.answered.Refused.{Refused}
 use Rattle.roam_hub.specs.declared.fault.HubFault.{HubFault}
 use Rattle.roam_hub.specs.declared.fault.HubFault.TheVariants as hub
 
+-- ## Tick where something is due
+-- It was recorded, and where the steps before it end something was due; or nothing was recorded, since nothing
+-- was due where what the seat has then seen of the history ends.
+-- Source: ours
+-- Rules out: a due entry that is passed over; a broker at rest that stores ticks
+-- Stands in: `roam_hub` `Calls.antt`: `IsTick`, `IsDueCall`; with what an error leaves, `TicksIfDue`;
+-- `Hub::tick_if_due`, `tick_noting`
+--
 -- whatever a call of a shard gives: all that the seat had seen of that shard begins what it has then seen.
 -- Of other shards it has seen what it had
 pub record Sees (shard : ℕ) (old new : SeatView) : Type 0 where
@@ -28,17 +36,38 @@ pub record Sees (shard : ℕ) (old new : SeatView) : Type 0 where
 abbrev pub HasHistory : HubOpening → ℕ → SeatView → Type 0
 HasHistory o shard seat = IsHistory (opening_at o shard) (steps_in (front_of seat shard))
 
+-- ## Recorded call
+-- The caller's seat counted it; its step stands at its number in what the seat has then seen of the shard's one
+-- history, as the last one; that is a history from the hub's opening, and begins with all that the seat had
+-- seen. A call that isn't recorded leaves the seat's counts as they were, and gives the job back; whatever it
+-- gives, of other shards the seat has seen what it had.
+-- Source: ours
+-- Rules out: a receipt for an answer that no broker gives there; a number of another place; a call that is
+-- counted and not recorded
+-- Stands in: `roam_hub` `Calls.antt`: `IsCall`, `Sees`, `HasHistory`; all of it in one, `Calls`; `Hub::answer`,
+-- `answer_noting`, `submit`, `tick`, `tick_if_due`
+--
 -- a call was recorded under a number, as this step: the seat counts it, and its step stands at that number
 -- in the shard's one history, as the last that the seat has seen. Before the call it had seen no more
--- steps than the number
+-- steps than the number. The step is the last entry too: what was written before it begins with what the seat had seen
 pub record IsCall (o : HubOpening) (shard : ℕ) (old new : SeatView) (number : ℕ) (step : PlainStep)
     : Type 0 where
   pub tallies : new.tallies ≡ noted old.tallies shard number
   pub stands : slice_get (steps_in (front_of new shard)) number ≡ Some step
   pub last : length (steps_in (front_of new shard)) ≡ number + 1
   pub rises : length (steps_in (front_of old shard)) ≤ number
+  pub before : List HistoryEntry
+  pub entries : front_of new shard ≡ before ++ step_entry step ∷ []
+  pub begins : IsPrefix (front_of old shard) before
   pub history : HasHistory o shard new
 
+-- ## Full
+-- As many steps are stored, at the end of what the seat has then seen, as the limit: where a call answers so.
+-- Source: ours
+-- Rules out: a refusal as full where there is room
+-- Stands in: `roam_hub` `Calls.antt`: `IsFull`, in `Calls` and `TicksIfDue`; `Hub::answer`, `submit`, `tick`,
+-- `tick_if_due`
+--
 -- as many steps of a shard are stored as its trace can hold
 abbrev pub IsFull : HubOpening → ℕ → SeatView → Type 0
 IsFull o shard seat = length (stored_of (front_of seat shard)) ≡ o.config.trace_limit
@@ -47,10 +76,15 @@ IsFull o shard seat = length (stored_of (front_of seat shard)) ≡ o.config.trac
 pub record IsDueCall (o : HubOpening) (shard now : ℕ) (old new : SeatView) (number : ℕ) (step : PlainStep)
     : Type 0 where
   pub call : IsCall o shard old new number step
-  pub before : List PlainStep
-  pub steps : steps_in (front_of new shard) ≡ before ++ step ∷ []
-  pub due : NothingDue now (end_of (opening_at o shard) before) → ⊥
+  pub due : NothingDue now (end_of (opening_at o shard) (steps_in call.before)) → ⊥
 
+-- ## Look at a shard
+-- Nothing was recorded; whether anything is due, just as it is where what the seat has then seen of the history
+-- ends.
+-- Source: ours
+-- Rules out: a timer that rests past a deadline
+-- Stands in: `roam_hub` `Calls.antt`: `IsLook`; `Hub::is_due`
+--
 -- a shard was looked at, and nothing recorded: whether anything was due where it stood, at the end of what
 -- the seat has then seen
 pub record IsLook (o : HubOpening) (shard now : ℕ) (old new : SeatView) (due : Bool) : Type 0 where
@@ -58,11 +92,17 @@ pub record IsLook (o : HubOpening) (shard now : ℕ) (old new : SeatView) (due :
   pub history : HasHistory o shard new
   pub due_is : due ≡ false ↔ NothingDue now (end_of (opening_at o shard) (steps_in (front_of new shard)))
 
+-- ## Steps let go of
+-- They are those that were stored, and the history that the seat has then seen ends with the mark for it.
+-- Source: ours
+-- Rules out: a step that is lost, or let go of twice
+-- Stands in: `roam_hub` `Calls.antt`: `AreGone`; `Hub::let_go`
+--
 -- the stored steps of a shard were let go of, and are these ones: the seat has seen the history up to there
 pub record AreGone (o : HubOpening) (shard : ℕ) (old new : SeatView) (steps : List PlainStep)
     : Type 0 where
   pub before : List HistoryEntry
-  pub entries : front_of new shard ≡ before ++ None ∷ []
+  pub entries : front_of new shard ≡ before ++ let_go_entry ∷ []
   pub steps_are : steps ≡ stored_of before
   pub history : HasHistory o shard new
   pub tallies : new.tallies ≡ old.tallies

@@ -11,11 +11,25 @@ use Rattle.roam_book.specs.OneRealm.{RealmEvent, one_realm_run}
 use Rattle.roam_core.specs.Events.{events_of_realm, is_in_shard}
 use Rattle.roam_core.specs.Isolation.{packets_for}
 use Rattle.roam_core.specs.ManyRealms.{state_at}
-use Rattle.roam_shard.specs.Follow.{AllFollow, next_start}
+use Rattle.roam_core.specs.Openings.{next_start}
+use Rattle.roam_shard.specs.Follow.{AllFollow}
 use Rattle.roam_trace.specs.History.{Beginning, IsHistory, end_of}
 use Rattle.roam_trace.specs.Steps.{PlainStep}
 use Rattle.roam_hub.specs.InHistories.{events_in, packets_in}
 
+-- ## Realms over changes
+-- A span is the time of a shard under one configuration: a history. The next span begins in the states that
+-- follow where the one before it ended. For each realm that is one of the shard's all the time, and is carried
+-- over by each change, the packets that are sent over all spans are those of its own written broker over its
+-- own events: which goes on, at each change, in its state under its part of the next configuration. In each
+-- span each realm's packets are those of the one-realm run from the state in which it begins there, and it ends
+-- where that run does; and a realm that a change doesn't carry over begins anew where it stood.
+-- Source: ours
+-- Rules out: a change that a realm feels which it leaves as it is; a promise that ends at a change
+-- Stands in: `roam_hub` `Changes.antt`: `Span`, `FollowsOn`, `AreSpans`, `StaysThere`, `run_over`,
+-- `CarriedOverChanges`, `EachGoesAlone`, `OthersBeginAnew`; the laws `realms_over_changes`,
+-- `realms_from_any_states`
+--
 -- the time under one configuration: where the shard's history begins there, and its steps
 pub record Span : Type 0 where
   pub begins : Beginning

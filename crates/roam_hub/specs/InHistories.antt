@@ -20,6 +20,15 @@ abbrev pub packets_in : List PlainStep → List PlainOut
 packets_in [] = []
 packets_in (s ∷ ss) = s.answer.packets ++ packets_in ss
 
+-- ## Realms in histories
+-- In a shard's one history, for each realm, the packets of that realm in all its answers are those of the
+-- one-realm run over that realm's own events in it, from that realm's start; and each has its origin there, as
+-- of a run. So isolation and provenance hold of what threads recorded, from the hub's opening to its end.
+-- Source: ours
+-- Rules out: a promise that ends where threads begin, or where steps are let go of
+-- Stands in: `roam_hub` `InHistories.antt`: `RealmsInHistories`, `ProvenanceInHistories`, `packets_in`,
+-- `events_in`; the laws of these names
+--
 abbrev pub RealmsInHistories : Type 0
 RealmsInHistories =
     (o : OpeningView) (steps : List PlainStep) (realm : ℕ)

@@ -1,7 +1,7 @@
 -- What lies under a shard's lock: words of private functions alone (ours).
-use Rattle.std.specs.Prelude.{◌≡◌, length}
+use Rattle.std.specs.Prelude.{◌≡◌, ◌<◌, ◌-◌, ◌^◌, length}
 use Rattle.roam_trace.specs.History.{Ends, TraceView}
-use Rattle.roam_history.specs.Entries.{gone_of, stored_of}
+use Rattle.roam_history.specs.Entries.{IsOpen, gone_of, stored_of}
 use Rattle.roam_history.specs.Fronts.{FrontView}
 use Rattle.roam_history.specs.HubOpening.{HubOpening}
 
@@ -10,7 +10,7 @@ pub record KeptView : Type 0 where
   pub trace : TraceView
   pub front : FrontView
 
--- the trace is one of the hub, and ends the whole history
+-- the trace is one of the hub, and ends the whole history, which isn't closed and has room for the entry that closes it
 pub record IsKept (o : HubOpening) (k : KeptView) : Type 0 where
   pub shard : k.trace.opening.shard ≡ k.front.shard
   pub config : k.trace.opening.config ≡ o.config
@@ -18,3 +18,5 @@ pub record IsKept (o : HubOpening) (k : KeptView) : Type 0 where
   pub ends : Ends k.trace (o.states k.front.shard) (gone_of k.front.entries)
   pub stored : k.trace.steps ≡ stored_of k.front.entries
   pub gone : k.trace.gone ≡ length (gone_of k.front.entries)
+  pub is_open : IsOpen k.front.entries
+  pub room : length k.front.entries < 2 ^ 64 - 1

@@ -1,15 +1,22 @@
 -- How a realm of a hub is seen to stand (ours).
-use Rattle.std.specs.Prelude.{ℕ, List}
+use Rattle.std.specs.Prelude.{ℕ, ◌%◌, List}
+use mathlib.Core.List.{IsPrefix}
 use Rattle.roam_book.specs.declared.state.gauges.Gauges.{Gauges}
 use Rattle.roam_core.specs.ManyRealms.{state_at}
 use Rattle.roam_shard.specs.Looks.{StandsAs}
 use Rattle.roam_trace.specs.History.{IsHistory, end_of}
-use Rattle.roam_trace.specs.Steps.{PlainStep}
+use Rattle.roam_history.specs.Entries.{HistoryEntry, steps_in}
 use Rattle.roam_history.specs.HubOpening.{HubOpening, opening_at}
+use Rattle.roam_audit.specs.Seats.{SeatView, front_of}
 
--- the numbers are those of the realm's state where some history of a shard ends
-pub record StandsSomewhere (o : HubOpening) (realm : ℕ) (g : Gauges) : Type 0 where
-  pub shard : ℕ
-  pub steps : List PlainStep
-  pub history : IsHistory (opening_at o shard) steps
-  pub stands : StandsAs (state_at (end_of (opening_at o shard) steps) realm) g
+-- the numbers are those of the realm's state where the history of a shard ended when it was looked at: no earlier than
+-- a seat has seen it
+pub record StandsIn (o : HubOpening) (shard realm : ℕ) (seat : SeatView) (g : Gauges) : Type 0 where
+  pub entries : List HistoryEntry
+  pub begins : IsPrefix (front_of seat shard) entries
+  pub history : IsHistory (opening_at o shard) (steps_in entries)
+  pub stands : StandsAs (state_at (end_of (opening_at o shard) (steps_in entries)) realm) g
+
+-- and the shard is the realm's
+abbrev pub StandsThen : HubOpening → ℕ → SeatView → Gauges → Type 0
+StandsThen o realm seat g = StandsIn o (realm % o.config.shards) realm seat g

@@ -22,6 +22,13 @@ module _ {A : Type 0} where
     pub stands : StandsUnder s.opening.config p
     pub states : states_under s.opening.config p ≡ s.states
 
+  -- ## Shards at the end
+  -- When a hub is paused its shards come back, one for each number. Each stands under the hub's configuration
+  -- where its history ends.
+  -- Source: ours
+  -- Rules out: a shard that goes on elsewhere than where its last answer left it
+  -- Stands in: `roam_hub` `Pausing.antt`: `ArePaused`, `StandAtEnd`; `Hub::pause`: `paused`, `stand`
+  --
   -- one for each number
   pub record ArePaused (config : ConfigView) (shards : List (Paused A)) : Type 0 where
     pub count : length shards ≡ config.shards

@@ -4,7 +4,7 @@ ghost use Rattle.std.specs.Prelude.{◌≡◌, ◌⊎◌, ◌+◌, ◌<◌, ◌�
 ghost use Rattle.roam_conf.specs.Shown.{shown};
 ghost use Rattle.roam_shard.specs.ShardView.{AreStarts};
 ghost use Rattle.roam_history.specs.Entries.{stored_of};
-ghost use Rattle.roam_history.specs.Fronts.{AreOfShards, entries_of};
+ghost use Rattle.roam_history.specs.Fronts.{AreOfShards, AreWhole, entries_of};
 ghost use Rattle.roam_audit.specs.Shown.{recorded, stored};
 ghost use Rattle.roam_hub.specs.Closing.{AreClosed, HasRoom, all_steps, stored_steps};
 ghost use Rattle.roam_hub.specs.Histories.{AreHistories, starts_at_end};
@@ -20,7 +20,7 @@ use roam_history::{Front, Opened};
 use roam_shard::Shard;
 use roam_trace::Step;
 use std::alloc::Allocator;
-use std::sync::Mutex;
+use std::sync::{Mutex, Wait};
 
 /// The shards of a hub that is closed, their stored steps and their whole histories, in the order of their
 /// numbers.
@@ -31,8 +31,9 @@ pub(crate) struct Closed<'c, A: Allocator, N: Opened> {
     pub fronts: Vec<Front<N>, A>,
 }
 
-/// Takes the locks apart, one at a time, into lists with room. Takes no memory.
-pub(crate) fn taken_apart<'c, A: Allocator + Copy, N: Opened>(
+/// Takes the locks apart, one at a time, into lists with room: each history is closed. Takes no memory.
+pub(crate) fn taken_apart<'c, R: Wait, A: Allocator + Copy, N: Opened>(
+    rt: &R,
     locks: Vec<Mutex<LockedTrace<'c, A, N>>, A>,
     mut shards: Vec<Shard<'c, A>, A>,
     mut steps: Vec<Vec<Step<A>, A>, A>,
@@ -47,12 +48,13 @@ pub(crate) fn taken_apart<'c, A: Allocator + Copy, N: Opened>(
     ensures stored { IfOk result (λ c. stored_steps c.steps.items
         ≡ map stored_of (entries_of c.fronts.items)) }
     ensures of_shards { IfOk result (λ c. AreOfShards c.fronts.items) }
+    ensures whole { IfOk result (λ c. AreWhole c.fronts.items) }
     ensures few { IfOk result (λ c. vec_len c.fronts ≡ vec_len locks.entry) }
     ensures causes { IfErr result (λ f. f ≡ HubFault.Misplaced) }
 {
     let mut number: u16 = 0;
     for lock in locks {
-        let (shard, its_steps, front) = lock.into_inner().cut(number)?;
+        let (shard, its_steps, front) = lock.into_inner().cut(rt, number)?;
         shards.push_reserved(shard);
         steps.push_reserved(its_steps);
         fronts.push_reserved(front);
@@ -87,22 +89,23 @@ pub(crate) fn starts_of<'c, A: Allocator + Copy, N: Opened>(
 }
 
 impl<'c, A: Allocator + Copy, N: Opened> Hub<'c, A, N> {
-    /// Ends the hub, once nobody calls any more: of each shard the whole history, and its steps that are
-    /// still stored; and where each realm would begin that went on from there.
+    /// Ends the hub, once nobody calls any more: of each shard the whole history, which is closed, and its steps that
+    /// are still stored; and where each realm would begin that went on from there.
     ///
     /// # Errors
     ///
     /// `Misplaced` where a lock holds another shard's trace, `NoMemory` where a growth was refused, and no
     /// other. The hub is gone then too.
-    pub fn close(self) -> Result<Report<A, N>, HubFault>
+    pub fn close<R: Wait>(self, rt: &R) -> Result<Report<A, N>, HubFault>
         ensures histories { IfOk result (λ r. AreHistories N.opening (recorded r)) }
+        ensures whole { IfOk result (λ r. AreWhole r.fronts.items) }
         ensures stored { IfOk result (λ r. stored r ≡ map stored_of (entries_of r.fronts.items)) }
         ensures starts { IfOk result (λ r. r.starts.items ≡ starts_at_end N.opening (recorded r)) }
         ensures good { IfOk result (λ r. AreStarts N.opening.config r.starts.items) }
         ensures causes { IfErr result (λ f. (f ≡ HubFault.Misplaced) ⊎ (f ≡ HubFault.NoMemory)) }
     {
         let room = self.pause_room()?;
-        let PausedHub { report, .. } = self.pause(room)?;
+        let PausedHub { report, .. } = self.pause(rt, room)?;
         Ok(report)
     }
 }

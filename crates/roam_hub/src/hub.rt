@@ -39,6 +39,8 @@ pub struct Hub<'c, A: Allocator, N: Opened> {
 }
 
 impl<'c, A: Allocator + Copy, N: Opened> Hub<'c, A, N> {
+    /// For tests and rows; the server calls `answer_noting`.
+    ///
     /// Gives a job to the shard of its realm, at the call's moment, and waits for that shard's lock. The job's
     /// octets go into the stored step, so nothing is copied but what is answered. The seat counts the call.
     ///
@@ -62,6 +64,8 @@ impl<'c, A: Allocator + Copy, N: Opened> Hub<'c, A, N> {
         kept.take(call, seat, shard, job)
     }
 
+    /// For tests and rows.
+    ///
     /// The same, of a job that stays the caller's: its octets are copied before the lock is taken, for the
     /// stored step and for the receipt.
     ///
@@ -102,6 +106,8 @@ impl<'c, A: Allocator + Copy, N: Opened> Hub<'c, A, N> {
         }
     }
 
+    /// For tests and rows.
+    ///
     /// A tick of a shard, at a moment in milliseconds, for whose lock it waits.
     ///
     /// # Errors
@@ -139,6 +145,8 @@ impl<'c, A: Allocator + Copy, N: Opened> Hub<'c, A, N> {
         Ok(receipt_of(seat, Event::Tick { now, shard }, answered))
     }
 
+    /// For tests and rows; the server calls `tick_noting`.
+    ///
     /// A tick of a shard where something is due in it at the call's moment, and no receipt. None where nothing is
     /// due: nothing is stored then, and no memory is wanted.
     ///

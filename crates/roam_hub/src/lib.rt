@@ -3,6 +3,52 @@
 //!
 //! A call holds the one lock of its shard, and no call holds two. Nothing here touches a socket or a
 //! clock: events, moments and packets are values.
+//!
+//! # Proved
+//!
+//! - the step of each recorded call, with its event and the answer that the caller gets, stands at its number
+//!   in the one history of its shard, as the last that the caller's seat has then seen; all that the seat had
+//!   seen before begins it | `Hub::submit`, `tick`: `call`, `seen`; `answer`: `Calls`, its `call` and `seen`;
+//!   `tick_if_due`: `TicksIfDue`, its `tick` and `seen`
+//! - a receipt's own type says that its step stands there; seats, receipts and reports are of this hub and of
+//!   no other, or don't compile | `Receipt`; the parameter `Opened`
+//! - no shard (20) is answered exactly when there is none, and of a job never; with an error the seat counts
+//!   nothing, and a job comes back unchanged; full (22) is answered only where as many steps are stored as may
+//!   be | `Hub::tick`, `tick_if_due`, `let_go`: `no_shard`, and `err` (of `tick_if_due` in `TicksIfDue`);
+//!   `answer`: `Calls`, its `no_shard`, `err`, `back`, `full`
+//! - where `tick_if_due` answers none, nothing was due, and the seat counts nothing; it may tick where nothing
+//!   is due, and that is recorded | `Hub::tick_if_due`: `TicksIfDue`, its `tick`
+//! - what is let go of is what was stored, and the history goes on with a mark for it | `Hub::let_go`: `gone`,
+//!   `seen`
+//! - the octets that are reported are those of the stored steps, up to 2^64 - 1 | `Hub::answer`: `Calls`, its
+//!   `octets`
+//! - the first seat of a hub counted no call and has seen nothing; when the hub closes or is paused, each
+//!   shard's history ends with an entry that says so, behind which nothing can stand: so it has all that any
+//!   call was told of (law `Front::begins_whole`, `Report::has_all`). Its steps, with those that were let go
+//!   of, are a history from the opening, the stored ones are the last of them, and each realm would go on where
+//!   it stands at the end of its own shard's; it is refused for 21 or 23 alone | `Hub::open`: `seat`;
+//!   `Hub::close`: `histories`, `whole`, `stored`, `starts`, `good`, `causes`
+//! - in a shard's history the packets of each realm are, in order and byte for byte, those that its own written
+//!   broker sends for its own events there, and each has its origin there | laws `realms_in_histories`,
+//!   `provenance_in_histories`
+//! - a hub is paused with memory that it took while it answered: its shards come back, each where its history
+//!   ends, and it is refused for 23 alone; over shards that stand under a configuration a hub opens whose
+//!   histories begin where they stand, or they come back as they were (by the contract it may always be so:
+//!   tested that it opens) | `Hub::pause_room`, `pause`: `histories`, `paused`, `stand`, `causes`; `open_over`:
+//!   `seat`, `err`
+//! - all shards follow another configuration, or out of memory none does, and each realm is in the state in
+//!   which it was | `follow`: `ok`, `err`
+//! - over any number of such changes a realm that each of them carries over is sent, in order and byte for
+//!   byte, what its own written broker sends for its own events before and after them; it goes on in its state
+//!   under its part of the next configuration. Of a realm that isn't carried over, that it begins anew where it
+//!   stood | law `realms_over_changes`: `carried`, `others`
+//! - in a history that begins in any states each realm is isolated too, and ends where its own written broker
+//!   does | law `realms_from_any_states`
+//! - a look at a realm gives numbers of its entries and sessions where a history of its own shard ends, no
+//!   earlier than the seat has seen; a call that notes what may end by it does to its seat and its answer what
+//!   the call without does. Of Identifiers in use and rests in a look, and of the notes, no contract says more,
+//!   nor that a look tells of each realm: that is its code, and tested (`packaging/tests/try-control.py`,
+//!   `try-exchanges.py`) | `Hub::look`, `answer_noting`, `tick_noting`
 #![tactic(auto)]
 
 mod answered;
@@ -22,6 +68,7 @@ mod notes;
 mod opening;
 mod pause_room;
 mod pausing;
+mod writing;
 
 pub use answered::{Answered, Refused};
 pub use bounds::{bounded_in_histories, bounded_waits_in_histories};

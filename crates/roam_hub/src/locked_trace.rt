@@ -1,22 +1,26 @@
 //! What lies under a shard's lock.
 
-ghost use Rattle.std.specs.Prelude.{◌≡◌, ◌≢◌, ◌+◌, ◌<◌, ◌-◌, ◌^◌, ◌++◌, ◌∷◌, [], None, Some, length, min, true};
-ghost use Rattle.std.specs.Prelude.{IfErr, IfOk, IsErrOf, OnErr, OnOk};
+ghost use Rattle.std.specs.Prelude.{◌≡◌, ◌≢◌, ◌+◌, ◌<◌, ◌-◌, ◌^◌, ◌++◌, ◌∷◌, [], length, min, true};
+ghost use Rattle.std.specs.Prelude.{IfErr, IfOk, IfSome, IsErrOf, OnErr, OnOk};
 ghost use mathlib.Core.List.{IsPrefix};
 ghost use Rattle.roam_route.specs.Events.{IsEvent};
 ghost use Rattle.roam_route.specs.Shown.{shown_job};
-ghost use Rattle.roam_core.specs.Events.{is_in_shard, ticks};
+ghost use Rattle.roam_route.specs.Events.{arrival_of};
+ghost use Rattle.roam_core.specs.Events.{arrives, is_in_shard, ticks};
 ghost use Rattle.roam_trace.specs.History.{IsHistory, end_of};
-ghost use Rattle.roam_trace.specs.Steps.{PlainStep, octets_in};
-ghost use Rattle.roam_history.specs.Entries.{last_of, steps_in, stored_of};
+ghost use Rattle.roam_trace.specs.Steps.{octets_in};
+ghost use Rattle.roam_history.specs.Entries.{IsWhole, step_entry, steps_in, stored_of};
 ghost use Rattle.roam_history.specs.HubOpening.{opening_at};
-ghost use Rattle.roam_audit.specs.Seats.{after_call, front_of};
+ghost use Rattle.roam_audit.specs.Seats.{front_of};
 ghost use Rattle.roam_hub.specs.Calls.{AreGone, Calls, IsCall, IsFull, IsLook, Sees, TicksIfDue, answered_step};
+ghost use Rattle.roam_hub.specs.Looks.{StandsIn};
 
 use crate::answered::{Answered, Refused};
 use crate::call::Call;
 use crate::fault::HubFault;
+use crate::writing::{closed, recorded, without_steps};
 use roam_audit::Seat;
+use roam_book::Gauges;
 use roam_history::{Front, Head, Opened};
 use roam_route::Job;
 use roam_shard::Shard;
@@ -47,75 +51,6 @@ impl<'c, A: Allocator, N: Opened> Model for LockedTrace<'c, A, N> {
         × (k.head.shard ≡ k.front.shard) };
 }
 
-/// The front with the last step of a trace more. Nobody else writes into the history, so the first try
-/// does it: if somebody did, this would not return.
-fn with_step<R: Wait, A: Allocator, N: Opened>(
-    rt: &R,
-    head: &Head<N>,
-    front: &Front<N>,
-    traced: &Traced<'_, A>,
-) -> Front<N>
-    requires shard { head.now.shard ≡ front.now.shard }
-    requires room { length front.now.entries < 2 ^ 64 - 1 }
-    requires step { (s : PlainStep) × (last_of traced.now.steps ≡ Some s) }
-    ensures { result ≡ record {
-      shard = front.now.shard;
-      entries = front.now.entries ++ last_of traced.now.steps ∷ [];
-    } }
-{
-    for _ in rt.forever() {
-        if let Some(more) = front.with_step(head, traced) {
-            return more;
-        }
-    }
-    unreachable!()
-}
-
-/// The front with an entry more which says that the stored steps were let go of: as `with_step`.
-fn without_steps<R: Wait, N: Opened>(rt: &R, head: &Head<N>, front: &Front<N>) -> Front<N>
-    requires shard { head.now.shard ≡ front.now.shard }
-    requires room { length front.now.entries < 2 ^ 64 - 1 }
-    ensures { result ≡ record {
-      shard = front.now.shard;
-      entries = front.now.entries ++ None ∷ [];
-    } }
-{
-    for _ in rt.forever() {
-        if let Some(more) = front.without_steps(head) {
-            return more;
-        }
-    }
-    unreachable!()
-}
-
-/// The last step of a trace becomes the last of the whole history, which the seat has then seen; the seat
-/// counts the call. The number under which it does.
-fn recorded<R: Wait, A: Allocator + Copy, N: Opened>(
-    rt: &R,
-    seat: &mut Seat<A, N>,
-    head: &Head<N>,
-    front: &mut Front<N>,
-    traced: &Traced<'_, A>,
-) -> u64
-    requires head { head.now.shard ≡ front.old.shard }
-    requires shard { front.old.shard < N.opening.config.shards }
-    requires room { length front.old.entries < 2 ^ 64 - 1 }
-    requires step { (s : PlainStep) × (last_of traced.now.steps ≡ Some s) }
-    ensures front { front.new ≡ record {
-      shard = front.old.shard;
-      entries = front.old.entries ++ last_of traced.now.steps ∷ [];
-    } }
-    ensures seat { seat.new
-        ≡ after_call seat.old front.old.shard result front.new.entries }
-    ensures number { result ≡ length (steps_in front.old.entries) }
-{
-    let number = front.len();
-    let more = with_step(rt, head, front, traced);
-    seat.note(number, more.again());
-    *front = more;
-    number
-}
-
 impl<'c, A: Allocator + Copy, N: Opened> LockedTrace<'c, A, N> {
     /// A shard of the hub where its history begins, which is empty yet, to lie under a lock. Takes no memory.
     pub(crate) fn new(
@@ -140,23 +75,33 @@ impl<'c, A: Allocator + Copy, N: Opened> LockedTrace<'c, A, N> {
         }
     }
 
-    /// Whether it is of this shard, goes on from what a seat has seen of it, and has room for one entry
-    /// more. `Misplaced` and `NoMemory` say what fails.
+    /// Whether it is of this shard, and goes on from what a seat has seen of it.
+    fn goes_on(&self, seat: &Seat<A, N>, shard: u16) -> bool
+        requires { shard < N.opening.config.shards }
+        ensures shard { result ≡ true → self.now.front.shard ≡ shard }
+        ensures there { result ≡ true → shard < length seat.now.fronts }
+        ensures begins { result ≡ true → IsPrefix (front_of seat.now shard) self.now.front.entries }
+    {
+        if self.front.shard() != shard {
+            return false;
+        }
+        seat.front(shard).begins(&self.front)
+    }
+
+    /// The same, and whether it has room for one entry more beside the one that closes it. `Misplaced` and `NoMemory`
+    /// say what fails.
     fn check(&self, seat: &Seat<A, N>, shard: u16) -> Result<(), HubFault>
         requires { shard < N.opening.config.shards }
         ensures shard { OnOk result (self.now.front.shard ≡ shard) }
         ensures there { OnOk result (shard < length seat.now.fronts) }
         ensures begins { OnOk result (IsPrefix (front_of seat.now shard) self.now.front.entries) }
-        ensures room { OnOk result (length self.now.front.entries < 2 ^ 64 - 1) }
+        ensures room { OnOk result (length self.now.front.entries + 1 < 2 ^ 64 - 1) }
         ensures causes { IfErr result (λ f. (f ≢ HubFault.NoShard) × (f ≢ HubFault.TraceFull)) }
     {
-        if self.front.shard() != shard {
+        if !self.goes_on(seat, shard) {
             return Err(HubFault::Misplaced);
         }
-        if !seat.front(shard).begins(&self.front) {
-            return Err(HubFault::Misplaced);
-        }
-        if self.front.entries() == u64::MAX {
+        if self.front.entries() >= u64::MAX - 1 {
             return Err(HubFault::NoMemory);
         }
         Ok(())
@@ -179,7 +124,9 @@ impl<'c, A: Allocator + Copy, N: Opened> LockedTrace<'c, A, N> {
         requires shard { shard < N.opening.config.shards }
         requires event { IsEvent N.opening.config (shown_job job) }
         requires own { is_in_shard N.opening.config shard job.realm ≡ true }
-        ensures { Calls N.opening shard call.entry.moment (shown_job job) seat.old seat.new result }
+        ensures calls { Calls N.opening shard call.entry.moment (shown_job job) seat.old seat.new result }
+        ensures one { IfOk result (λ a. self.new.front.entries ≡ self.old.front.entries
+            ++ step_entry (answered_step (arrives call.entry.moment (arrival_of (shown_job job))) a) ∷ []) }
     {
         if let Err(fault) = self.check(seat, shard) {
             return Err(Refused { fault, job });
@@ -218,8 +165,9 @@ impl<'c, A: Allocator + Copy, N: Opened> LockedTrace<'c, A, N> {
         requires { shard < N.opening.config.shards }
         ensures call { IfOk result (λ a. IsCall N.opening shard seat.old seat.new a.number
             (answered_step (ticks call.entry.moment shard) a)) }
-        ensures more { IfOk result (λ a. steps_in (front_of seat.new shard)
-            ≡ steps_in self.old.front.entries ++ answered_step (ticks call.entry.moment shard) a ∷ []) }
+        ensures one { IfOk result (λ a. self.new.front.entries ≡ self.old.front.entries
+            ++ step_entry (answered_step (ticks call.entry.moment shard) a) ∷ []) }
+        ensures all { OnOk result (front_of seat.new shard ≡ self.new.front.entries) }
         ensures shard { IfOk result (λ a. a.shard ≡ shard) }
         ensures octets { IfOk result (λ a. a.octets
             ≡ min (octets_in (stored_of (front_of seat.new shard))) (2 ^ 64 - 1)) }
@@ -306,10 +254,23 @@ impl<'c, A: Allocator + Copy, N: Opened> LockedTrace<'c, A, N> {
         Ok(steps)
     }
 
-    /// The shard, the stored steps and the whole history, once nobody calls any more; `Misplaced` just
-    /// where it is another shard's. Takes no memory.
-    pub(crate) fn cut(
+    /// How a realm stands where the history ends; none where it isn't one of the shard's own, or this is another
+    /// shard's trace. Takes no memory.
+    pub(crate) fn gauges(&self, seat: &Seat<A, N>, shard: u16, realm: u16) -> Option<Gauges>
+        requires { shard < N.opening.config.shards }
+        ensures { IfSome result (StandsIn N.opening shard realm seat.now) }
+    {
+        if !self.goes_on(seat, shard) {
+            return None;
+        }
+        self.traced.shard().gauges(realm)
+    }
+
+    /// Closes the history, once nobody calls any more: the shard, the stored steps and all that was ever written;
+    /// `Misplaced` just where it is another shard's. Takes no memory.
+    pub(crate) fn cut<R: Wait>(
         self,
+        rt: &R,
         shard: u16,
     ) -> Result<(Shard<'c, A>, Vec<Step<A>, A>, Front<N>), HubFault>
         ensures its_shard { IfOk result (λ r. r.0.opening.shard ≡ shard) }
@@ -320,14 +281,20 @@ impl<'c, A: Allocator + Copy, N: Opened> LockedTrace<'c, A, N> {
             (steps_in r.2.entries)) }
         ensures steps { IfOk result (λ r. r.1.items ≡ stored_of r.2.entries) }
         ensures shard { IfOk result (λ r. r.2.shard ≡ shard) }
+        ensures whole { IfOk result (λ r. IsWhole r.2.entries) }
         ensures err { IfErr result (λ f. (f ≡ HubFault.Misplaced)
             × (self.entry.front.shard ≢ shard)) }
     {
-        let LockedTrace { traced, front, .. } = self;
+        let LockedTrace {
+            traced,
+            front,
+            head,
+        } = self;
         if front.shard() != shard {
             return Err(HubFault::Misplaced);
         }
+        let whole = closed(rt, &head, &front);
         let (shard, steps) = traced.cut();
-        Ok((shard, steps, front))
+        Ok((shard, steps, whole))
     }
 }

@@ -1,25 +1,24 @@
 //! How the realms of a hub stand.
 
 ghost use Rattle.std.specs.Prelude.{IfSome};
-ghost use Rattle.roam_hub.specs.Looks.{StandsSomewhere};
+ghost use Rattle.roam_hub.specs.Looks.{StandsThen};
 
 use crate::hub::Hub;
 use crate::locking::wait_for;
+use roam_audit::Seat;
 use roam_book::Gauges;
 use roam_history::Opened;
 use std::alloc::Allocator;
 use std::sync::Wait;
 
 impl<A: Allocator + Copy, N: Opened> Hub<'_, A, N> {
-    /// How a realm stands, in numbers, at some end of its shard's history; none where it isn't configured. Waits for
-    /// the shard's lock, records nothing, and takes no memory.
-    pub fn look<R: Wait>(&self, rt: &R, realm: u16) -> Option<Gauges>
-        ensures { IfSome result (StandsSomewhere N.opening realm) }
+    /// How a realm stands, in numbers, where its shard's history ends now: no earlier than the seat has seen it. None
+    /// where the realm isn't configured, or the lock holds another shard's trace. Waits for the shard's lock, records
+    /// nothing, and takes no memory.
+    pub fn look<R: Wait>(&self, rt: &R, seat: &Seat<A, N>, realm: u16) -> Option<Gauges>
+        ensures { IfSome result (StandsThen N.opening realm seat.now) }
     {
         let shard = self.config.shard_of(realm);
-        wait_for(rt, &self.locks[usize::from(shard)])
-            .traced
-            .shard()
-            .gauges(realm)
+        wait_for(rt, &self.locks[usize::from(shard)]).gauges(seat, shard, realm)
     }
 }

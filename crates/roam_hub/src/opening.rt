@@ -19,7 +19,7 @@ use roam_wire::NoMemory;
 use std::alloc::Allocator;
 use std::sync::Mutex;
 
-/// A shard at its opening with no steps yet, to lie under its lock, and what is seen of its history:
+/// A shard at its opening, of which nothing is recorded yet, to lie under its lock, and what is seen of its history:
 /// nothing.
 fn kept_at<'c, A: Allocator + Copy, N: Opened>(
     alloc: A,
@@ -32,7 +32,8 @@ fn kept_at<'c, A: Allocator + Copy, N: Opened>(
     requires shard { shard < config.now.shards }
     requires starts { AreStarts (shown config.now) starts.now }
     requires book { blank.seen.book ≡ N.books shard }
-    ensures { IfOk result (λ r. r.1 ≡ record { shard = shard; entries = [] }) }
+    ensures seen { IfOk result (λ r. r.1 ≡ record { shard = shard; entries = [] }) }
+    ensures nothing { IfOk result (λ r. r.0.front ≡ record { shard = shard; entries = [] }) }
 {
     let (head, front) = blank.named::<N>(shard);
     let seen = front.again();

@@ -1,10 +1,12 @@
 //! The memory with which a hub is paused.
 
-ghost use Rattle.std.specs.Prelude.{length};
+ghost use Rattle.std.specs.Prelude.{◌≡◌, length};
+ghost use Rattle.roam_conf.specs.Shown.{shown};
 ghost use Rattle.roam_hub.specs.Closing.{HasRoom};
 
 use crate::hub::Hub;
 use roam_book::Start;
+use roam_conf::Config;
 use roam_history::{Front, Opened};
 use roam_shard::{Paused, Shard};
 use roam_trace::Step;
@@ -27,16 +29,25 @@ pub struct PauseRoom<'c, A: Allocator, N: Opened> {
     ghost paused_room: { HasRoom N.opening.config.shards paused },
 }
 
+impl<'c, A: Allocator + Copy, N: Opened> PauseRoom<'c, A, N> {
+    /// The memory with which a hub of this configuration is paused, which needn't be open yet.
+    pub fn new(alloc: A, config: &'c Config) -> Result<PauseRoom<'c, A, N>, NoMemory>
+        requires { shown config.now ≡ N.opening.config }
+    {
+        let count = usize::from(config.shards);
+        Ok(PauseRoom {
+            shards: Vec::with_capacity(alloc, count)?,
+            steps: Vec::with_capacity(alloc, count)?,
+            fronts: Vec::with_capacity(alloc, count)?,
+            starts: Vec::with_capacity(alloc, config.realms.len())?,
+            paused: Vec::with_capacity(alloc, count)?,
+        })
+    }
+}
+
 impl<'c, A: Allocator + Copy, N: Opened> Hub<'c, A, N> {
     /// Takes the memory with which the hub is paused. It answers on meanwhile.
     pub fn pause_room(&self) -> Result<PauseRoom<'c, A, N>, NoMemory> {
-        let count = self.locks.len();
-        Ok(PauseRoom {
-            shards: Vec::with_capacity(self.alloc, count)?,
-            steps: Vec::with_capacity(self.alloc, count)?,
-            fronts: Vec::with_capacity(self.alloc, count)?,
-            starts: Vec::with_capacity(self.alloc, self.config.realms.len())?,
-            paused: Vec::with_capacity(self.alloc, count)?,
-        })
+        PauseRoom::new(self.alloc, self.config)
     }
 }

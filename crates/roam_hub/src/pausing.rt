@@ -5,7 +5,7 @@ ghost use Rattle.roam_conf.specs.Shown.{shown};
 ghost use Rattle.roam_shard.specs.ShardView.{AreStarts};
 ghost use Rattle.roam_history.specs.Books.{books_of, count_of};
 ghost use Rattle.roam_history.specs.Entries.{stored_of};
-ghost use Rattle.roam_history.specs.Fronts.{entries_of};
+ghost use Rattle.roam_history.specs.Fronts.{AreWhole, entries_of};
 ghost use Rattle.roam_audit.specs.Seats.{new_seat};
 ghost use Rattle.roam_audit.specs.Shown.{recorded, stored};
 ghost use Rattle.roam_hub.specs.Closing.{HasRoom};
@@ -24,7 +24,7 @@ use roam_history::{Blank, Blanks, Front, Opened};
 use roam_shard::{Paused, Shard};
 use roam_trace::Traced;
 use std::alloc::Allocator;
-use std::sync::Mutex;
+use std::sync::{Mutex, Wait};
 
 /// What is left of a hub whose shards go on in another one: its report, and its shards, by number.
 #[derive(Drop)]
@@ -47,7 +47,8 @@ fn all_paused<A: Allocator + Copy>(
     paused
 }
 
-/// A shard that goes on, with no steps yet, to lie under its lock, and what is seen of its history: nothing.
+/// A shard that goes on, of which nothing is recorded yet, to lie under its lock, and what is seen of its history:
+/// nothing.
 fn kept_over<'c, A: Allocator + Copy, N: Opened>(
     alloc: A,
     config: &'c Config,
@@ -59,7 +60,8 @@ fn kept_over<'c, A: Allocator + Copy, N: Opened>(
     requires paused { IsPaused (shown config.now) shard paused }
     requires states { N.opening.states shard ≡ states_under (shown config.now) paused }
     requires book { blank.seen.book ≡ N.books shard }
-    ensures { result.1 ≡ record { shard = shard; entries = [] } }
+    ensures seen { result.1 ≡ record { shard = shard; entries = [] } }
+    ensures nothing { result.0.front ≡ record { shard = shard; entries = [] } }
 {
     let (head, front) = blank.named::<N>(shard);
     let seen = front.again();
@@ -70,13 +72,18 @@ fn kept_over<'c, A: Allocator + Copy, N: Opened>(
 
 impl<'c, A: Allocator + Copy, N: Opened> Hub<'c, A, N> {
     /// Ends the hub, once nobody calls any more, as `close` does, and gives its shards too, which go on where they
-    /// stand. Takes no memory.
+    /// stand. Each history is closed, so what any seat has seen of it begins it. Takes no memory.
     ///
     /// # Errors
     ///
     /// `Misplaced` where a lock holds another shard's trace, and no other. The hub is gone then too.
-    pub fn pause(self, room: PauseRoom<'c, A, N>) -> Result<PausedHub<A, N>, HubFault>
+    pub fn pause<R: Wait>(
+        self,
+        rt: &R,
+        room: PauseRoom<'c, A, N>,
+    ) -> Result<PausedHub<A, N>, HubFault>
         ensures histories { IfOk result (λ p. AreHistories N.opening (recorded p.report)) }
+        ensures whole { IfOk result (λ p. AreWhole p.report.fronts.items) }
         ensures stored { IfOk result (λ p.
             stored p.report ≡ map stored_of (entries_of p.report.fronts.items)) }
         ensures starts { IfOk result (λ p.
@@ -95,7 +102,7 @@ impl<'c, A: Allocator + Copy, N: Opened> Hub<'c, A, N> {
             starts,
             paused,
         } = room;
-        let closed = taken_apart(locks, shards, steps, fronts)?;
+        let closed = taken_apart(rt, locks, shards, steps, fronts)?;
         let starts = starts_of::<A, N>(config, &closed, starts);
         let Closed {
             shards,

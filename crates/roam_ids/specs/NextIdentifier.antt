@@ -19,6 +19,14 @@ pub record IsFirstFree (used : ℕ → Bool) (cursor id : ℕ) : Type 0 where
   pub not_used : used id ≡ false
   pub nearer_used : (nearer : ℕ) → nearer < distance → IsTrue (used (identifier_past cursor nearer))
 
+-- ## Next Identifier
+-- `(cursor + j) mod 256` for the least distance j in 0..255 whose Identifier isn't used; none where all 256
+-- are.
+-- Source: ours
+-- Rules out: the least free Identifier, taken again at once
+-- Stands in: `roam_ids` `NextIdentifier.antt`: `IsNextIdentifier`, `next_identifier`; `Lane::take`, the laws of
+-- `roam_ids::laws`
+--
 -- this is the next free Identifier, or there is none, since all 256 are used (ours)
 abbrev pub IsNextIdentifier : (ℕ → Bool) → ℕ → Option ℕ → Type 0
 IsNextIdentifier used cursor None = AllUsed used

@@ -11,6 +11,16 @@ pub record IsOutOf (lane : LaneState) (slot : Slot) : Type 0 where
   pub tag : slot.tag ≡ lane.tag
   pub out : place_at lane slot.id ≡ Out
 
+-- ## Taking and claiming an Identifier
+-- The next Identifier is taken: it is out then, and the cursor stands one past it; where all are in use none
+-- is, and the lane is as it was. The ticket that is parked at an Identifier is claimed: that Identifier is out
+-- then; where none is parked there the lane is as it was. A slot is one of a lane where it has the lane's tag,
+-- and its Identifier is out there.
+-- Source: ours
+-- Rules out: an Identifier that is given to two requests; a slot of one link that is freed at another; a ticket
+-- that is claimed twice
+-- Stands in: `roam_ids` `Taking.antt`: `TakesNext`, `Claims`, `IsOutOf`; `Lane::take`, `claim`, `park`, `free`
+--
 -- the next free Identifier was taken: the first at or after the cursor, cyclic. The cursor then stands
 -- one past it, and it is out. Where all 256 are in use none is, and the lane is as it was
 pub record TakesNext (old new : LaneState) (result : Option Slot) : Type 0 where

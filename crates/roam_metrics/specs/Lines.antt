@@ -25,6 +25,14 @@ label_text label = label.name.now ++ codes "=\"" ++ escaped label.value.now ++ c
 abbrev pub labels_text : List Label → List ℕ
 labels_text labels = flat_map label_text labels
 
+-- ## Page of counts
+-- Headers (what a counter means, and that it is one) and samples (a name, labels, a value), a line each. A
+-- label's value is escaped, and reads back as itself.
+-- Source: Prometheus' text format 0.0.4
+-- Rules out: a name of a realm that forges a line
+-- Stands in: `roam_metrics` `Lines.antt`: `sample_text`, `header_text`, `escaped`; `Labels.antt`: `Reads`;
+-- `Pages.antt`: `AreLines`; `page`
+--
 -- a sample
 abbrev pub sample_text : List ℕ → List Label → ℕ → List ℕ
 sample_text name labels value = name ++ codes "{" ++ labels_text labels ++ codes "} " ++ decimal value ++ codes "\n"

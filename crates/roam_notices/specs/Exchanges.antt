@@ -12,6 +12,17 @@ use Rattle.roam_notices.specs.declared.exchange.ExchangeEnd.{ExchangeEnd}
 use Rattle.roam_notices.specs.declared.exchange.ExchangeEnd.TheVariants as outcome
 use Rattle.roam_notices.specs.declared.exchange.Value.{Value}
 
+-- ## Line of an exchange
+-- How it ended, by the code of what was returned; what was asked; the realm's and the peer's name, User-Name
+-- and Calling-Station-Id between quotation marks, each octet that isn't printable in ASCII, a quotation mark or
+-- a reverse solidus written by two hexadecimal digits; the home server; milliseconds; tries. What is written of
+-- a value is printable, and reads back as that value.
+-- Source: ours; RFC 20 (printable)
+-- Rules out: a User-Name that forges a line or ends its value
+-- Stands in: `roam_notices` `Exchanges.antt`: `outcome_of`, `asked_of`, `exchange_text`; `Printable.antt`:
+-- `ValuesArePrintable`; `Quoted.antt`: `Reads`, `ReadsBack`; `push_exchange`, the laws `values_are_printable`,
+-- `values_read_back`
+--
 -- how an exchange ended, by the code of the reply that was returned
 abbrev pub outcome_of : ℕ → Option ExchangeEnd
 outcome_of code =

@@ -57,6 +57,13 @@ origin_text None realm = codes " elsewhere"
 abbrev pub count_text : ℕ → List ℕ
 count_text count = if count == 1 then [] else (codes " (" ++ decimal count ++ codes " times)")
 
+-- ## Line of refusals
+-- `refused`, the number and the name, the place with its realm's name, the source, and how often where it
+-- wasn't once. No octet of a packet stands in it.
+-- Source: ours
+-- Rules out: a line that a packet's octets forge
+-- Stands in: `roam_notices` `Lines.antt`: `refused_text`; what the `Display` of `RefusedText` writes
+--
 -- the line: no octet of a packet stands in it
 abbrev pub refused_text : RefusalCount → List ℕ → List ℕ
 refused_text tally realm =

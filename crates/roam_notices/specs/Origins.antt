@@ -7,6 +7,13 @@ use Rattle.roam_notices.specs.declared.origin.Origin.TheVariants as origin
 use Rattle.roam_notices.specs.declared.origin.OriginKind.{OriginKind}
 use Rattle.roam_notices.specs.declared.origin.OriginKind.TheVariants as kind
 
+-- ## Kind of a refusal
+-- Its number, the place and the address that it came from, without the port; of a tick the shard.
+-- Source: ours
+-- Rules out: a flood from many ports logged as many
+-- Stands in: `roam_notices` `Origins.antt`: `kind_of`, `realm_of`; `Names.antt`: `realm_name`; `Origin::kind`,
+-- `RefusedText::new`
+--
 -- what of it is compared: the port that a datagram came from is not
 abbrev pub kind_of : Origin → OriginKind
 kind_of (origin.Datagram place from) = kind.Source place from.ip

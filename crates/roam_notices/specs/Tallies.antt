@@ -47,6 +47,14 @@ pub record IsBeyond (refusal : Refusal) (origin : Origin) (old new : List Refusa
   pub counts : new ≡ (if length old == 8 then old ++ first_of refusal None ∷ []
       else slice_set old 8 (one_more (tally_at old 8)))
 
+-- ## Tallies of a second
+-- By number. A refusal is counted in the tally of its kind; where there is none it begins one, while fewer than
+-- eight stand there; else the ninth counts it with all others of its number.
+-- Source: ours
+-- Rules out: a flood of one number that hides another
+-- Stands in: `roam_notices` `Tallies.antt`: `IsNoted`; `Repeats.antt`: `row_of`, `all_tallies`;
+-- `Repeats::note`, `take_first`
+--
 -- one more refusal of this number is counted
 abbrev pub IsNoted : Refusal → Origin → List RefusalCount → List RefusalCount → Type 0
 IsNoted refusal origin old new =

@@ -2,6 +2,18 @@
 //! no other.
 //!
 //! Nothing here writes a line, reads a clock or starts a thread.
+//!
+//! # Proved
+//!
+//! - a refusal is counted in the tally of its number, place and source address; where there is none in a new
+//!   one, where fewer than eight of its number stand; else in that of all others of its number. Tallies of
+//!   other numbers stay as they are | `Row::note`, `Repeats::note`
+//! - tallies are taken out as they lie, by number, and in the order in which they began; the name in a line is
+//!   that of the place's realm, and the line's text has it, the number, the name, the place, the source and the
+//!   count, and nothing else | `Repeats::take_first`, `RefusedText::new`, what its `Display` writes
+//! - the line of an exchange has its words, numbers and endpoints, and its values between quotation marks; what
+//!   is written of a value is printable in ASCII, and reads back as that value, whatever octets it has |
+//!   `push_exchange`; laws `values_are_printable`, `values_read_back`
 #![tactic(auto)]
 
 mod exchange;

@@ -84,6 +84,12 @@ abbrev pub identifier_on : Link → PlainStanding → Option ℕ
 identifier_on l (waiting link id forwarded sends_left deadline) = if same_link link l then Some id else None
 identifier_on l (done reply deadline) = None
 
+-- ## Used Identifiers
+-- Those of the realm's waiting entries on a link.
+-- Source: ours
+-- Rules out: one pool for a server that realms share
+-- Stands in: `roam_pending` `EntryList.antt`: `identifiers_on`; the laws of `roam_pending::laws`
+--
 -- the Identifiers in use toward a link: those of the entries that wait on it
 abbrev pub identifiers_on : Link → List PlainEntry → List ℕ
 identifiers_on l es = filter_map (λ e. identifier_on l e.standing) es

@@ -19,6 +19,15 @@ pub data PlainStanding : Type 0 where
   waiting : (link : Link) → (id : ℕ) → (forwarded : List ℕ) → (sends_left deadline : ℕ) → PlainStanding
   done : (reply : List ℕ) → (deadline : ℕ) → PlainStanding
 
+-- ## Entries
+-- A realm's entries as a list: tickets rise, no two keys are equal. Found by key, by link and Identifier, by
+-- ticket; put in place by ticket; due in order of deadline and ticket; the done one of least ticket.
+-- Source: ours
+-- Rules out: an entry found by Identifier alone; due ones in the order of a table
+-- Stands in: `roam_pending` `PlainEntry.antt`: `PlainEntry`, `PlainRequest`, `PlainStanding`; `EntryList.antt`:
+-- `IsEntryList`, `find_client`, `find_link`, `put`, `without`; `DueOrder.antt`: `due_list`; `Realms.antt`:
+-- `with_standing`, `sent_again`; `Pending`, the trait `Entries`
+--
 -- a pending request: the request, its ticket, and how it stands (ours)
 pub record PlainEntry : Type 0 where
   pub request : PlainRequest

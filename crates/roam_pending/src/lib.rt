@@ -6,6 +6,10 @@
 //! realm: the rules are written over it once.
 //!
 //! Nothing here builds or reads a packet, looks at a clock or chooses a target.
+//!
+//! # Proved
+//!
+//! - entries are a list in order of ticket, whatever keeps them | `Pending`, the trait `Entries`, laws
 #![tactic(auto)]
 
 mod due;

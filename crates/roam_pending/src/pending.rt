@@ -17,6 +17,8 @@ use std::alloc::Allocator;
 use std::marker::Model;
 use std::mem;
 
+/// For tests and rows; the server has `roam_tables::Tables`.
+///
 /// The entries of one realm, in order of ticket. Contracts see the realm's index, that list, and for
 /// how many more entries there is room.
 #[derive(Drop)]

@@ -38,6 +38,15 @@ IsHeard receive_failed at old new h =
 IsHeard (went to octets) at old new h = ⊥
 IsHeard (send_failed why to octets) at old new h = ⊥
 
+-- ## Receiving with a count of faults
+-- One receive. What came is heard as an arrival with its octets, its source and the socket's place, or is lost,
+-- out of memory; the count of receives that failed in a row is 0 again, also where nothing came. Where the
+-- receive failed the count rises by one, up to 100; at 100 the answer is that the socket is to be given up.
+-- Source: ours
+-- Rules out: octets behind the datagram; a socket that fails for ever; one that is given up for faults far
+-- apart
+-- Stands in: `roam_port` `Listening.antt`: `Listens`, `IsHeard`, `faults_after_fault`; `listen`
+--
 -- one receive was made, and no other call; and that is what was heard by it
 pub record Listens
     {A : Type 0}

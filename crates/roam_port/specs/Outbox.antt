@@ -13,6 +13,15 @@ use Rattle.roam_port.specs.declared.outbox.Outbox.{Outbox}
 use Rattle.roam_port.specs.declared.outbox.Sending.{Sending}
 use Rattle.roam_port.specs.declared.outbox.Sending.TheVariants as sending
 
+-- ## Outbox
+-- The packets of a thread that wait, the oldest first. One that is put stands behind all others, or is lost
+-- where 1,024 wait. The oldest is handed to the port of its place, once: it is gone, or, where its socket has
+-- no room now, waits on behind the others. What is lost is counted by its cause, up to 2^64 - 1.
+-- Source: ours
+-- Rules out: a packet that neither waits nor left nor is counted; one that is lost where there is room
+-- Stands in: `roam_port` `Outbox.antt`: `waiting_packets`, `IsPut`, `IsLostBehind`, `IsLeft`, `SendsNext`;
+-- `Losses.antt`; `Outbox::put`, `send_next`, `take_losses`
+--
 -- the packets that wait, the oldest first
 abbrev pub waiting_packets : {A : Type 0} → Outbox A → List (Out A)
 waiting_packets outbox = known_packets outbox.intake

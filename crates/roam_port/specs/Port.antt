@@ -3,6 +3,15 @@ use Rattle.std.specs.Prelude.{◌≡◌, ℕ, List, [], ◌∷◌, ◌++◌, tak
 use Rattle.roam_conf.specs.declared.endpoint.Endpoint.{Endpoint}
 use Rattle.roam_port.specs.declared.port.SendFault.{SendFault}
 
+-- ## Call of a port
+-- What is asked of a socket, with its answer: a datagram came, from where, with which octets; nothing came; a
+-- receive failed; a datagram went out, to where; a send failed. A port that keeps account has each call once,
+-- the oldest first. A socket of the system keeps none: what is proved of all ports says what the code asks of
+-- it, and not what it does.
+-- Source: ours
+-- Rules out: a second receive that nobody sees
+-- Stands in: `roam_port` `Port.antt`: `PortCall`, `IsOneCall`; the trait `Port`
+--
 -- a call of a port, and its answer
 pub data PortCall : Type 0 where
   -- a datagram came: its octets, and its source

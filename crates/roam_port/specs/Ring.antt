@@ -7,6 +7,15 @@ use Rattle.roam_route.specs.declared.datagram.Out.{Out}
 use Rattle.roam_port.specs.declared.outlet.Outlet.{Outlet}
 use Rattle.roam_port.specs.declared.intake.Intake.{Intake}
 
+-- ## Ring
+-- Two ends: what was put at one, what was taken at the other, and what is known to lie between, each the oldest
+-- first. What was taken and what lies there is, for a thread that holds both, what was put. It has room for
+-- 1,024 packets; what finds it full comes back, and nothing was put.
+-- Source: ours
+-- Rules out: a packet lost without a word; a later packet taken first
+-- Stands in: `roam_port` `Ring.antt`: `put_packets`, `taken_packets`, `known_packets`, `IsFirstInFirstOut`;
+-- `ring`, `Outlet::put`, `Intake::take`
+--
 -- every packet that was put so far
 abbrev pub put_packets : {A : Type 0} → Outlet A → List (Out A)
 put_packets outlet = sent outlet.producer

@@ -6,6 +6,15 @@ use Rattle.roam_port.specs.Sockets.{socket_number}
 use Rattle.roam_port.specs.declared.port.SendFault.{SendFault}
 use Rattle.roam_port.specs.declared.port.SendFault.TheVariants as fault
 
+-- ## Packet handed once
+-- Of all ports, that of the packet's place is handed the packet once, with its destination and octets, and
+-- answers whether it went out or why not. Every other port is unchanged. A packet whose place has no port is
+-- lost.
+-- Source: ours
+-- Rules out: a packet sent twice, or from another realm's place
+-- Stands in: `roam_port` `Sending.antt`: `SendsFrom`; `Outbox.antt`: `IsHandedOn`; `send_packet`,
+-- `Outbox::send_next`
+--
 -- of the ports, that of the packet's place was handed it once, and that is what it answered; every other is as it was.
 -- Where its place has no port, that is a fault of another kind
 pub record SendsFrom

@@ -7,6 +7,15 @@ use Rattle.roam_conf.specs.declared.place.Place.TheVariants as place
 use Rattle.roam_conf.specs.Config.{ConfigView}
 use Rattle.roam_conf.specs.Duplicates.{own_endpoints}
 
+-- ## Socket numbers
+-- `auth` is 0, `acct` 1, `out` of realm i is 2i + 2, its `reverse` 2i + 3; bound where the configuration says.
+-- Socket k is served by worker k modulo their number; with `spread` a realm's two by the worker of its shard,
+-- and each worker has an `auth` and an `acct` of its own.
+-- Source: ours
+-- Rules out: two places with one socket; a place without one
+-- Stands in: `roam_port` `Sockets.antt`: `socket_number`, `socket_endpoints`, `worker_number`; `socket_of`,
+-- `place_of`, `endpoint_of`, `socket_count`, `worker_of`
+--
 -- the number of a place's socket
 abbrev pub socket_number : Place → ℕ
 socket_number place.Auth = 0

@@ -4,6 +4,26 @@
 //! Nothing here opens a socket, waits or starts a thread: the calls are generic over a [`Port`]. Who puts a packet
 //! into a ring never waits: one that finds it full comes back. Only [`ring`] takes memory, and [`listen`] for a
 //! datagram.
+//!
+//! # Proved
+//!
+//! - first in, first out: what was taken, and then what lies in the ring, is what was put, for a thread that
+//!   holds both ends, as each thread of the server does | `Intake::count_beside`: `fifo`; `Outlet::put`,
+//!   `Intake::take`
+//! - what finds the ring full comes back, and nothing was put; where room is known, a packet is put |
+//!   `Outlet::put`: `back`, `err`, `full`, `succeeds`
+//! - a ring has room for 1,024 packets | `ring`, `Outlet::room_beside`
+//! - a thread's packets are put behind all others, and sent the oldest first; one is lost only where 1,024 wait
+//!   or where its port fails, and is counted by that cause; one whose socket has no room now waits on |
+//!   `Outbox::put`, `send_next`, `take_losses`
+//! - to listen is one receive, and gives the datagram that came, at its place, from its source; or it is lost,
+//!   out of memory | `listen`
+//! - a receive that doesn't fail sets the count of faults to 0; at 100 in a row the answer is that the socket
+//!   is to be given up | `listen`
+//! - a packet is handed to the port of its place, once, and to no other: of any port that keeps account of its
+//!   calls, and so of the code for all; a socket of the system keeps none | `send_packet`, `send_next`
+//! - which place has which socket, where that is to be bound, and which worker is to serve it, with `spread`
+//!   and without | `socket_of`, `place_of`, `endpoint_of`, `socket_count`, `worker_of`
 #![tactic(auto)]
 
 mod heard;

@@ -4,6 +4,16 @@ use Rattle.std.specs.Prelude.{ℕ, ◌+◌, ◌%◌, ◌^◌, List, ◌++◌}
 use Rattle.std.specs.Int.{w32, to_le_bytes}
 use Rattle.rand_chacha.specs.ChaCha.{key_of, word_at}
 
+-- ## Random words
+-- The word at a position of a stream: of ChaCha20, with the seed as its key and the stream's number as its
+-- nonce (a realm's stream is that of its index), at the position modulo 2^68. A Request Authenticator is the
+-- four words from a position on, low octet first; the next position is four further.
+-- Source: RFC 2865 section 3 for the 16 octets; the words are ours (ChaCha20: RFC 8439, with 64 bits each for
+-- the nonce and the counter of blocks)
+-- Rules out: one stream for all realms; a word twice
+-- Stands in: `roam_random` `RandomWords.antt`: `random_word`, `request_authenticator_at`, `next_position`;
+-- `request_authenticator`, `next_position`, the laws of `roam_random::laws`
+--
 -- the word at a position of a stream: of ChaCha20, which makes ten double rounds, with the seed as
 -- its key and the stream's number as its nonce. A stream has 2^68 words, and then begins anew
 -- (ours)

@@ -3,6 +3,11 @@
 //!
 //! Nothing here keeps a generator: a word is a function of the seed, the stream's number and a
 //! position in the stream, so whoever draws words keeps that position, and nothing else.
+//!
+//! # Proved
+//!
+//! - random words are those of ChaCha20 by seed, stream and position | `request_authenticator`,
+//!   `next_position`; laws
 #![tactic(auto)]
 
 mod laws;

@@ -20,6 +20,17 @@ pub record KeepsPeers (old new : List PeerView) : Type 0 where
   pub more : List PeerView
   pub same : map peer_part new ≡ map peer_part old ++ more
 
+-- ## Carried over
+-- A realm is carried over from one configuration to another where it stands at the same index with an equal
+-- table, its `name` and `also` aside, and the old peers are the first of the new ones, with equal `ip`,
+-- `secret`, `coa`, `nas_ip` and `nas_id`; `name`, `require_seal` and further peers may differ. Of any other
+-- realm it is said why it isn't: the first key that differs, the first old peer that went or differs, or that
+-- it was added or removed.
+-- Source: ours
+-- Rules out: a realm that goes on under another secret; one whose peers have other indexes
+-- Stands in: `roam_reload` `Reload.antt`: `IsCarried`, `KeepsPeers`; `Differences.antt`: `IsFate`;
+-- `is_carried`, `fate_of`
+--
 -- a realm is carried over: it stands at the same index with an equal part of its table, and the old peers stay
 pub record IsCarried (old new : ConfigView) (realm : ℕ) : Type 0 where
   pub there : realm < length old.realms
@@ -39,6 +50,15 @@ KeepsKinds old new = (before after : PlaceKind) (endpoint : Endpoint)
     → is_among (endpoints_of old before) endpoint ≡ true → is_among (endpoints_of new after) endpoint ≡ true
     → after ≡ before
 
+-- ## May follow
+-- A configuration may follow another while the broker serves where seed, `shards` and `spread` are equal, it
+-- has as many realms or more, and an endpoint that both have as one of the broker's own places is at a place of
+-- one kind: `auth`, `acct`, an `out` or a `reverse`.
+-- Source: ours
+-- Rules out: a socket kept open in whose buffer lie packets of another kind; random words drawn from another
+-- seed; a realm that comes where one went, and begins its words and tickets again
+-- Stands in: `roam_reload` `Reload.antt`: `MayFollow`, `KeepsKinds`; `hindrance_of`
+--
 -- a configuration may follow another. It has as many realms or more: the index of one that went could be given to
 -- another later, whose random words and tickets would then begin again
 pub record MayFollow (old new : ConfigView) : Type 0 where

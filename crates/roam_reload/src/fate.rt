@@ -1,6 +1,6 @@
 //! What becomes of each realm when a configuration follows another.
 
-ghost use Rattle.std.specs.Prelude.{◌↔◌, IsTrue, map};
+ghost use Rattle.std.specs.Prelude.{◌↔◌, IsTrue};
 ghost use Rattle.roam_conf.specs.Shown.{shown};
 ghost use Rattle.roam_reload.specs.Differences.{IsFate};
 ghost use Rattle.roam_reload.specs.Reload.{IsCarried};

@@ -1,7 +1,6 @@
 //! The kinds of the broker's own places.
 
 ghost use Rattle.std.specs.Prelude.{◌≡◌, map};
-ghost use Rattle.std.specs.List.{list_any};
 ghost use Rattle.roam_conf.specs.Duplicates.{is_among};
 ghost use Rattle.roam_conf.specs.Parts.{shown_realm};
 ghost use Rattle.roam_conf.specs.Shown.{shown};

@@ -32,7 +32,8 @@ forwarded-at-target realm names attributes sessions None h = absurd (cc)
 forwarded-at-target realm names attributes sessions (Some peer) h = (
   (peer, refl),
   unsalted (is_salted attributes) 401
-      (later-none (cause_by_name realm names peer sessions (first_value USER_NAME attributes) (first_value ACCT_SESSION_ID attributes)) (cause_by_salt attributes) h),
+      (later-none (cause_by_name realm names peer sessions (first_value USER_NAME attributes)
+      (first_value ACCT_SESSION_ID attributes)) (cause_by_salt attributes) h),
 )
 
 -- without a cause for its name, a request with a User-Name is of the realm
@@ -53,5 +54,6 @@ pub realm-at-target : (realm : ℕ) (names : Option ℕ) (attributes : List Attr
     → cause_at_target realm names attributes sessions at ≡ None → names ≡ Some realm
 realm-at-target realm names attributes name sessions None named h = absurd (cc)
 realm-at-target realm names attributes name sessions (Some peer) named h =
-    let by_name = first-none (cause_by_name realm names peer sessions (first_value USER_NAME attributes) (first_value ACCT_SESSION_ID attributes)) (cause_by_salt attributes) h in
+    let by_name = first-none (cause_by_name realm names peer sessions (first_value USER_NAME attributes)
+    (first_value ACCT_SESSION_ID attributes)) (cause_by_salt attributes) h in
     is-own realm names (passed (is_realm realm names) 502 (rw named at by_name))

@@ -1,6 +1,6 @@
 -- A walk over all sessions that takes out those that fail a test.
 use Rattle.std.proofs.Common.{◌≡◌, ◌≢◌, ℕ, ◌+◌, ◌-◌, ◌<◌, ◌≤◌, ◌==◌, Bool, true, false, Option, Some, None, refl, sym, ap, ◌∙◌, subst, inl, inr, arith}
-use Rattle.std.specs.Prelude.{filter, not, IsSome, option_map}
+use Rattle.std.specs.Prelude.{filter, not, option_map}
 use Rattle.std.proofs.lemmas.Bool.{cases_eq, cases_lt}
 use Rattle.roam_reverse.specs.Sessions.{Session}
 use Rattle.roam_reverse.specs.Private.Tickets.{IsChain, IsFirst, IsFirstFrom, PlainChain, PlainNode, all_listed, peer_newer, session_at}
@@ -42,9 +42,6 @@ module _ {X : Type 0} where
       (is : at ≡ Some t) where
     first : IsFirst g walked.from t
     first = subst (λ (o : Option ℕ). IsFirstFrom g walked.from o) is walked.next
-
-    pub walk-held : IsSome (g t)
-    walk-held = first.held
 
     before : (u : ℕ) → u < t → g u ≡ kept_of p (f u)
     before u lt = elim (cases_lt u walked.from) [

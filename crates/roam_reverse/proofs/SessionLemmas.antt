@@ -16,7 +16,8 @@ absent-filter s p [] h = refl
 absent-filter s p (x ∷ xs) h =
     let parts = or_parts (same_session s x) (has_session s xs) h in
     elim (cases_Bool (p x)) [
-      | inl passes ↦ rw passes (or_from (same_session s x) (has_session s (filter p xs)) parts.0 (absent-filter s p xs parts.1))
+      | inl passes ↦ rw passes (or_from (same_session s x) (has_session s (filter p xs)) parts.0
+          (absent-filter s p xs parts.1))
       | inr fails ↦ rw fails (absent-filter s p xs parts.1)
     ]
 
@@ -160,7 +161,8 @@ closed-is-gone s [] = refl
 closed-is-gone s (x ∷ xs) =
     elim (cases_Bool (same_session s x)) [
       | inl same ↦ rw same (closed-is-gone s xs)
-      | inr other ↦ rw other (or_from (same_session s x) (has_session s (without_session s xs)) other (closed-is-gone s xs))
+      | inr other ↦ rw other (or_from (same_session s x) (has_session s (without_session s xs)) other
+          (closed-is-gone s xs))
     ]
 
 -- a change that leaves the sessions as they are opens none that isn't there, and closes none that is
@@ -196,7 +198,8 @@ none-of-the-peer s (x ∷ xs) =
       | inl same ↦ rw same (none-of-the-peer s xs)
       | inr other ↦
           let apart : s.peer ≢ x.peer = λ e. absurd (cc (same-number x.peer s.peer (sym e))) in
-          rw other (or_from (same_session s x) (has_session s (without_peer s.peer xs)) (peers-differ s x apart) (none-of-the-peer s xs))
+          rw other (or_from (same_session s x) (has_session s (without_peer s.peer xs)) (peers-differ s x apart)
+          (none-of-the-peer s xs))
     ]
 
 pub other-peers-stay : (peer : ℕ) (s : Session) (xs : List Session) → s.peer ≢ peer

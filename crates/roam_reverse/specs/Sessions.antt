@@ -81,6 +81,17 @@ change_by_status peer id (Some status) =
     then closes_all peer
     else change_by_id peer status id
 
+-- ## Ledger of sessions
+-- A list of pairs of a peer and a session id, no two equal, at most `max_sessions`. A Start or Interim-Update
+-- adds its pair last, and where the ledger is full the first goes; one that is there keeps its place. A Stop
+-- removes it, an Accounting-On or -Off removes all of the peer. Each counts when its response is taken, under
+-- the peer that sent the request; with a limit of 0 none is kept.
+-- Source: RFC 2866 sections 5.1 and 5.5; ours
+-- Rules out: a session counted twice; another peer's sessions gone
+-- Stands in: `roam_reverse` `Sessions.antt`: `change_by_request`, `applied`, `IsLedger`; `Sessions`, the laws
+-- `opened_sessions`, `closed_sessions`, `sessions_of_a_peer`, `ledgers_stay_ledgers`. `roam_book`
+-- `OnReply.antt`: `counted_peer`, `counted`; `Book::reply`
+--
 -- what an Accounting-Request of a peer does: its first Acct-Status-Type and its first
 -- Acct-Session-Id say it, and no other (ours)
 unfoldable pub change_by_request : ℕ → List Attribute → LedgerChange

@@ -18,6 +18,13 @@ abbrev pub agrees : Option (List ℕ) → Option (List ℕ) → Bool
 agrees own None = true
 agrees own (Some name) = is_named own name
 
+-- ## Target of a reverse request
+-- A peer fits where one at least of NAS-IP-Address and NAS-Identifier stands in the request, and each that does
+-- (the first of its type) is the peer's. The target is the first peer with `coa` that fits.
+-- Source: RFC 5176 section 3, RFC 2865 sections 5.4 and 5.32; that it is the first is ours
+-- Rules out: a peer that agrees in one name of two; any peer where nothing is named
+-- Stands in: `roam_reverse` `Target.antt`: `fits`, `target`; `target`, the law `target_is_the_first`
+--
 -- A peer fits the two names of a packet, NAS-IP-Address and NAS-Identifier: one of them stands
 -- there at least, and each that does is the peer's. An address of a peer has four octets, so a
 -- NAS-IP-Address of another size fits none (RFC 2865, sections 5.4 and 5.32)

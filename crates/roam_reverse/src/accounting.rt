@@ -2,7 +2,7 @@
 
 ghost use Rattle.std.specs.Prelude.{◌≡◌, ℕ, option_and_then, option_map};
 ghost use Rattle.roam_wire.specs.Attributes.{first_value};
-ghost use Rattle.roam_reverse.specs.Sessions.{change_by_request, change_by_status, change_by_id, number_in};
+ghost use Rattle.roam_reverse.specs.Sessions.{change_by_request, change_by_id, number_in};
 ghost use Rattle.roam_reverse.specs.Shown.{said_of};
 
 use roam_wire::View;

@@ -4,6 +4,18 @@
 //! Nothing here builds a packet, looks at a clock or knows of more than one realm. Only the ledger
 //! takes memory, and a change of it can be prepared: then all its growth is made before anything
 //! changes.
+//!
+//! # Proved
+//!
+//! - which access server a reverse request is for: the first that takes such requests and fits | `target`, law
+//!   `target_is_the_first`
+//! - why it isn't forwarded: the first cause that holds; without one there is a target, no salted string, and a
+//!   User-Name names this realm | `verdict`, `route_of`, law `forwarded_has_target`
+//! - the numbers of status types and of Error-Causes are those of the RFCs | law
+//!   `numbers_of_statuses_and_causes`
+//! - the ledger of a realm's sessions: what an Accounting-Request does to it, no session twice, never more than
+//!   its limit; all allocation comes before the change, and none is needed where nothing changes | `Sessions`;
+//!   laws `ledgers_stay_ledgers`, `opened_sessions`, `closed_sessions`, `sessions_of_a_peer`
 #![tactic(auto)]
 
 mod accounting;

@@ -79,6 +79,16 @@ is_code_of_link (link.Auth server) code = is_access_reply code
 is_code_of_link (link.Acct server) code = code == ACCOUNTING_RESPONSE
 is_code_of_link (link.Coa peer) code = is_reverse_reply code
 
+-- ## Codes that are taken
+-- At `auth` from a peer an Access-Request; at `acct` from a peer an Accounting-Request; at both from a peer a
+-- Status-Server, where `status_server` is set; at a realm's reverse endpoint from one of its home servers a
+-- Disconnect- or CoA-Request; at its `out` the replies of the link from which they come: of an `auth`
+-- Access-Accept, -Reject and -Challenge, of an `acct` Accounting-Response, of a `coa` the ACKs and NAKs of both
+-- kinds. Any other is refused (5)
+-- Source: RFC 2865 section 4, RFC 2866 section 4, RFC 5176 section 2.3, RFC 5997 section 3; the places ours
+-- Rules out: a Disconnect from an access server; a reply of a code that this server has no business to send
+-- Stands in: `roam_route` `Admission.antt`: `is_taken`, `is_code_of_link`, `is_status_request`; `prepare`
+--
 -- whether a code is taken at a place from a sender
 abbrev pub is_taken : Place → Side → ℕ → Bool
 is_taken place.Auth (side.Peer i) code = code == ACCESS_REQUEST
@@ -95,6 +105,16 @@ checked holds why further = if holds then further else refused why
 abbrev pub is_rightly_signed : List ℕ → Packet → Bool
 is_rightly_signed secret p = p.code == ACCESS_REQUEST || is_signed_request secret p
 
+-- ## Authenticators that count for a seal
+-- An Access-Request's own, and a Status-Server's; 16 zero octets for an Accounting-, Disconnect- or
+-- CoA-Request; the forwarded request's for Access replies; that one or zeros for the other replies. A returned
+-- packet is sealed over its request's own.
+-- Source: RFC 3579 section 3.2; the choice for accounting and reverse packets is ours
+-- (`docs/INTEROPERABILITY.md`)
+-- Rules out: a reply sealed for another request taken
+-- Stands in: of requests `roam_route` `Admission.antt`: `is_rightly_sealed`; `prepare`. Of replies `roam_back`
+-- `ReplyCheck.antt`: `sealing_authenticators`; `check_reply`
+--
 -- whether it is well sealed: over its own Authenticator in an Access-Request (RFC 3579, section 3.2), over
 -- zeros in any other (RFC 5176, section 3.4; in accounting ours)
 abbrev pub is_rightly_sealed : List ℕ → Packet → Bool
@@ -141,6 +161,15 @@ abbrev pub answered_by : Arrival → Packet → Admission
 answered_by a answer =
     rejected (record { realm = None; from = a.at; to = a.from; bytes = packet_text answer })
 
+-- ## Local reject as sent
+-- It leaves from the place where the request came, goes back to its source, and carries no realm's tag. It is
+-- there for each such arrival, whatever came before and at whatever time, a duplicate too; no state changes.
+-- Source: ours
+-- Rules out: a reject that takes a realm's place or Identifier; one of a realm's packets that is tagged for
+-- none
+-- Stands in: `roam_route` `Admission.antt`: `rejected_for`; `prepare`. `roam_core` `Events.antt`: `reject_of`,
+-- `local_rejects`; `run` (`rejects`)
+--
 -- the local reject, where it has at most 4096 octets
 abbrev pub rejected_for : List ℕ → Arrival → Packet → Admission
 rejected_for secret a p =
@@ -216,6 +245,16 @@ abbrev pub read_admission : ConfigView → Arrival → Result Packet Refusal →
 read_admission config a (Err why) = refused why
 read_admission config a (Ok p) = sent_admission config a p (sender config a a.at)
 
+-- ## Admission
+-- What one arrival gives: a refusal, the first of the refusals 1 to 8, 24, 9 and 10 whose cause holds; a local
+-- answer: a local reject, for an Access-Request that has too many hops, names no realm or whose password can't
+-- be carried, looked at between 8 and 9, or the answer to a Status-Server; or an event of a realm: a request
+-- from a peer or a home server, or a reply from a link. It is one function of the configuration and the
+-- arrival: of no state, and of no time.
+-- Source: RFC 2865 sections 2.3 and 3, RFC 5176; order and causes ours
+-- Rules out: one realm's packets judged by another's secrets; an answer that depends on what came before
+-- Stands in: `roam_route` `Admission.antt`: `admission`, `sender`, `is_taken`; `prepare`
+--
 -- what an arrival gives
 unfoldable pub admission : ConfigView → Arrival → Admission
 admission config a = read_admission config a (reading a.octets)

@@ -17,6 +17,15 @@ use Rattle.roam_route.specs.UserName.{realm_of}
 abbrev pub arrival_of : PlainJob → Arrival
 arrival_of job = record { at = job.place; from = job.from; octets = job.octets }
 
+-- ## Event of a realm
+-- A job is an event of a configuration where the arrival of its own octets is admitted as just this job. Then,
+-- where its numbers are octets, they are one packet's, its realm and its sender are configured, its code is
+-- taken there from that sender, and what is a request can be forwarded.
+-- Source: ours
+-- Rules out: a job made up from nothing; padding in a job; a realm whose rules get what they can't take
+-- Stands in: `roam_route` `Events.antt`: `IsEvent`, `IsSoundEvent`, `IsPrepared`; `prepare`, the law `events`.
+-- `roam_book` `BookView.antt`: `IsTakenFrom`; the law `events`
+--
 -- a job is an event of this configuration where the arrival of its own octets is admitted as just this
 -- job
 abbrev pub IsEvent : ConfigView → PlainJob → Type 0

@@ -29,6 +29,17 @@ local_answer code secret request =
 abbrev pub answer_length : Packet → ℕ
 answer_length request = 38 + length (attributes_text (only_kind PROXY_STATE request.attributes))
 
+-- ## Local reject
+-- An Access-Reject with the request's Identifier, a Message-Authenticator first and then the request's
+-- Proxy-States, sealed and signed for the peer over the request's Authenticator. It answers an Access-Request
+-- that has too many hops, that names no configured realm or whose passwords can't be carried: both
+-- User-Password and CHAP-Password, two User-Passwords, or one of another size than 16 to 128 octets in whole
+-- blocks. Refused where it would pass 4096 octets (10)
+-- Source: RFC 2865 sections 4.1, 4.3 and 5.2, RFC 3579 section 3.2; when it is sent is ours
+-- Rules out: an answer that another realm's state changes
+-- Stands in: `roam_route` `LocalAnswer.antt`: `local_reject`, `answer_length`; `LocalReject.antt`:
+-- `is_rejected`; `prepare`, the law `rejects`
+--
 -- the local reject
 abbrev pub local_reject : List ℕ → Packet → Packet
 local_reject secret request = local_answer ACCESS_REJECT secret request
@@ -39,5 +50,16 @@ abbrev pub status_code : Place → ℕ
 status_code place.Acct = ACCOUNTING_RESPONSE
 status_code _ = ACCESS_ACCEPT
 
+-- ## Answer to a Status-Server
+-- From a peer, with one Message-Authenticator of 16 octets that is right over its own Authenticator, else 7,
+-- and 8 without one: an Access-Accept at `auth`, an Accounting-Response at `acct`, with the request's
+-- Identifier, a Message-Authenticator first and then the request's Proxy-States, sealed and signed for the peer
+-- over the request's Authenticator. No longer than the request. It carries no realm, and looks at no state and
+-- no time.
+-- Source: RFC 5997 sections 3 and 4, RFC 3579 section 3.2
+-- Rules out: an answer to a stranger; an answer in which a realm is seen; a dead realm taken for a dead broker
+-- Stands in: `roam_route` `LocalAnswer.antt`: `status_answer`, `local_answer`; `prepare`, the law
+-- `status_answers`
+--
 abbrev pub status_answer : Place → List ℕ → Packet → Packet
 status_answer at secret request = local_answer (status_code at) secret request

@@ -16,6 +16,14 @@ has_bad_password request =
     || nat_lt 1 (count_of USER_PASSWORD request.attributes)
     || option_map_or (λ value. not (password_fits value)) (first_value USER_PASSWORD request.attributes) false
 
+-- ## Hops
+-- The Proxy-States of a request: each proxy on its way has added one. Too many are more than `max_hops`, where
+-- it is set: then an Access-Request gets a local reject, and an Accounting-, Disconnect- or CoA-Request is
+-- refused (24). Replies aren't counted.
+-- Source: RFC 2865 section 5.33; the limit ours
+-- Rules out: a request that runs in a circle until no Identifier is left
+-- Stands in: `roam_route` `LocalReject.antt`: `has_too_many_hops`, `Admission.antt`: `has_few_hops`; `prepare`
+--
 -- whether more proxies forwarded a request than may, where there is a limit: each adds a Proxy-State
 -- (RFC 2865, section 5.33; the limit is ours)
 abbrev pub has_too_many_hops : Option ℕ → Packet → Bool

@@ -42,6 +42,12 @@ shown (Err why) = refused why
 abbrev pub IsAdmission : {A : Type 0} → Result (Prepared A) Refusal → Admission → Type 0
 IsAdmission result admission = (result ≡ Err refusal.NoMemory) ⊎ (shown result ≡ admission)
 
+-- ## Needs memory
+-- An arrival needs memory where it gives a job or a local answer, and never where it is refused.
+-- Source: ours
+-- Rules out: out of memory in place of a refusal's cause
+-- Stands in: `roam_route` `Shown.antt`: `WantsMemory`, `Prepares`; `prepare`
+--
 -- memory is wanted for octets that are handed on, so for no arrival that is refused
 abbrev pub WantsMemory : Admission → Type 0
 WantsMemory (refused why) = ⊥

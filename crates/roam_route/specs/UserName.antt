@@ -12,6 +12,14 @@ abbrev pub part_after : ℕ → List ℕ → Option (List ℕ) → Option (List 
 part_after octet octets (Some part) = Some part
 part_after octet octets None = if octet == 64 then Some octets else None
 
+-- ## Realm of a request
+-- The configured realm that is meant by what follows the last `@` of the first User-Name; none where there is
+-- no User-Name, no `@` or no such realm. A job says it too: of a reverse request it is the realm that the
+-- User-Name names, beside the one of the place where the request came.
+-- Source: RFC 2865 section 2.3, ours
+-- Rules out: an earlier `@`; another look-up for reverse requests than for others
+-- Stands in: `roam_route` `UserName.antt`: `realm_part`, `realm_of`; `realm_of`, the law `names`
+--
 -- what follows the last `@` of a name, whose octet is 64; none where there is no `@` (ours)
 abbrev pub realm_part : List ℕ → Option (List ℕ)
 realm_part [] = None

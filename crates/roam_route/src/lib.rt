@@ -2,6 +2,31 @@
 //!
 //! Nothing here has state, takes a lock or looks at a moment: what an arrival gives depends on the
 //! datagram and the configuration alone.
+//!
+//! # Proved
+//!
+//! - a realm is given a request just where it is right: code, sender, signature, seal, hops, passwords, realm
+//!   and size, each a fact with its RFC section; one that isn't is refused for the first part that fails; what
+//!   is forwarded has at most one Proxy-State more than `max_hops` | law `admitted_requests`: `admitted`,
+//!   `refused`, `hops`
+//! - passwords open to the same plain text, and all else but the Message-Authenticator is carried in its order,
+//!   octet for octet; in a request that isn't an Access-Request that stands where it stood, with another Value
+//!   | law `forwarded_carries`
+//! - it is a packet, well sealed for the link, signed for it unless it is an Access-Request, whose seal stands
+//!   first; the ticket is last | laws `forwarded_packet`, `forwarded_authenticator`, `forwarded_marks`, for
+//!   every code
+//! - an arrival of any code is refused for the first of the causes 1 to 8, 24, 9 and 10, or answered by the
+//!   broker itself, or is a job of its realm, with the realm that its User-Name names | `prepare`: `answer`
+//! - memory is wanted only for a job or an answer | `prepare`: `memory`
+//! - a job's own octets would give that job again; an answer is that of this arrival | `prepare`: `prepared`
+//! - the answer to a Status-Server: its code by the place, no longer than the request, read, signed, well
+//!   sealed with its seal first, with the request's Proxy-States (RFC 5997) | law `status_answers`
+//! - a job's realm and sender are configured, its code is taken from that sender, and a request can be
+//!   forwarded | law `events`
+//! - the broker's own answers are decided by the peers, by what each name means, by `max_hops` and by
+//!   `status_server`: no realm's sockets, servers, secrets or limits are looked at | law `own_answers`
+//! - a local reject's octets, or `TooLong` just past 4096; it reads, is signed and well sealed for the access
+//!   server, its seal first, and has its Proxy-States | `reject`, law `rejects`
 #![tactic(auto)]
 
 mod admission;

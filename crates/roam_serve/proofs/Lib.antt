@@ -1,2 +1,1 @@
-pub mod BindLemmas
-pub mod EndingLemmas
+pub mod ServedLemmas

@@ -1,9 +1,1 @@
-pub mod Descriptors
-pub mod Endings
-pub mod Faults
-pub mod Notices
-pub mod Packets
-pub mod Remedies
-pub mod Requests
-pub mod Seeded
-pub mod SocketErrors
+pub mod Served

@@ -1,16 +1,7 @@
-//! The threads of a server, each as it runs, and what they have.
+//! The threads of a configuration: what they are made of, and how they start and end.
 
-pub mod asker;
-pub mod connections;
-pub mod context;
-pub mod counting;
-pub mod ended;
-pub mod exchanges;
-pub mod logger;
-pub mod notice;
-pub mod outgoing;
-pub mod receiver;
-pub mod rests;
-pub mod script;
-pub mod timer;
-pub mod worker;
+pub mod behind;
+pub mod dealing;
+pub mod kits;
+pub mod ready_threads;
+pub mod start;

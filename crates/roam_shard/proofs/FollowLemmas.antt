@@ -20,8 +20,8 @@ use Rattle.roam_book.specs.declared.state.start.Start.{Start}
 use Rattle.roam_book.proofs.ReloadLemmas.{go_on, peers, servers}
 use Rattle.roam_core.specs.Events.{is_in_shard}
 use Rattle.roam_core.specs.ManyRealms.{no_state, state_at}
-use Rattle.roam_core.specs.Openings.{first_start}
-use Rattle.roam_shard.specs.Follow.{AllFollow, Follows, next_start}
+use Rattle.roam_core.specs.Openings.{first_start, next_start}
+use Rattle.roam_shard.specs.Follow.{AllFollow, Follows}
 use Rattle.roam_shard.specs.Looks.{NoneThere}
 use Rattle.roam_shard.specs.NumbersView.{IsFresh, IsOpened}
 use Rattle.roam_shard.specs.Pausing.{CanGoOver, CarriesOn, GoesOn, HasGoneOver, IsMoved, IsReadyAt, StandsStill, StandsUnder, begin_at, opening_under, start_in}

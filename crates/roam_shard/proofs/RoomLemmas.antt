@@ -1,29 +1,29 @@
 -- The rooms of a shard's tick, one realm after the other.
-use Rattle.std.proofs.Common.{◌≡◌, ℕ, zero, suc, ◌+◌, ◌<◌, Bool, true, false, List, [], ◌∷◌, ◌++◌, length, take, Option, Some, None, is_some, refl, sym, ap, subst, ◌∙◌, arith}
-use Rattle.std.specs.Prelude.{slice_get}
+use Rattle.std.proofs.Common.{◌≡◌, ℕ, zero, suc, ◌+◌, ◌<◌, ◌&&◌, Bool, true, false, List, [], ◌∷◌, ◌++◌, length, take, Option, Some, None, is_some, refl, sym, ap, subst, ◌∙◌, arith}
+use Rattle.std.specs.Prelude.{not, slice_get}
 use Rattle.std.proofs.lemmas.List.{length-append, take_more}
 use Rattle.roam_conf.specs.Config.{ConfigView}
 use Rattle.roam_pending.specs.PlainEntry.{PlainEntry}
 use Rattle.roam_book.specs.RealmState.{RealmState}
+use Rattle.roam_book.specs.Rooms.{only_done_due}
 use Rattle.roam_book.specs.declared.state.realm_numbers.RealmNumbers.{RealmNumbers}
 use Rattle.roam_book.specs.declared.packets.tick_memory.Room.{Room}
 use Rattle.roam_core.specs.Events.{is_in_shard}
 use Rattle.roam_core.specs.ManyRealms.{no_state, state_at}
-use Rattle.roam_core.specs.ShardRooms.{most_of, most_of_all, Fits, IsRealmRoom, AreRooms}
+use Rattle.roam_core.specs.ShardRooms.{most_of, most_of_all, IsRealmRoom, AreRooms, wants_room}
 use Rattle.roam_shard.specs.Private.Rooms.{AllTwice, IsTwice}
 use Rattle.roam_shard.specs.ShardView.{OpeningView, state_seen, states_from}
-use Rattle.roam_shard.specs.Twins.{AreOwnRooms}
 use Rattle.roam_shard.proofs.ShardLemmas.{state-seen}
 
 -- one room more
 rooms-push : {A : Type 0} → (config : ConfigView) (now shard realm first : ℕ) (ss : List RealmState)
     (rooms : List (Option (Room A))) (s : RealmState) (room : Option (Room A))
     → AreRooms config now shard first ss rooms → realm ≡ first + length ss
-    → IsRealmRoom now (is_in_shard config shard realm) s.entries room
+    → IsRealmRoom now (wants_room config now shard realm s.entries) s.entries room
     → AreRooms config now shard first (ss ++ s ∷ []) (rooms ++ room ∷ [])
 rooms-push config now shard realm first [] [] s room are is own =
     let same : realm ≡ first = omega arith in
-    (subst (λ (r : ℕ). IsRealmRoom now (is_in_shard config shard r) s.entries room) same own, tt)
+    (subst (λ (r : ℕ). IsRealmRoom now (wants_room config now shard r s.entries) s.entries room) same own, tt)
 rooms-push config now shard realm first [] (r ∷ rs) s room are is own = absurd are
 rooms-push config now shard realm first (x ∷ xs) [] s room are is own = absurd are
 rooms-push config now shard realm first (x ∷ xs) (r ∷ rs) s room are is own =
@@ -56,7 +56,8 @@ pub one-more-gathered : {A : Type 0}
     → (config : ConfigView) (now shard count : ℕ) (states : List RealmState)
     (rooms : List (Option (Room A))) (most more : ℕ) (room : Option (Room A))
     → AreGathered config now shard count states rooms most → count < length states
-    → IsRealmRoom now (is_in_shard config shard count) (state_at states count).entries room
+    → IsRealmRoom now (wants_room config now shard count (state_at states count).entries)
+    (state_at states count).entries room
     → IsTwice room → more ≡ most + most_of room
     → AreGathered config now shard (count + 1) states (rooms ++ room ∷ []) more
 one-more-gathered config now shard count states rooms most more room are within own twice sum =
@@ -96,41 +97,34 @@ all-gathered config now shard count states rooms most are all =
         ap (λ (l : List RealmState). x ∷ l) (take_whole xs n (omega arith))
 
 -- the room of a realm is that of its state: none where it isn't one of the shard's own
-fits_seen : {A : Type 0} → (o : OpeningView) (now r : ℕ) (entries : List PlainEntry)
-    (n : Option (RealmNumbers A)) (room : Option (Room A)) → IsRealmRoom now (is_some n) entries room
-    → Fits now (state_seen o r entries n).entries room
-fits_seen o now r entries None None own = tt
-fits_seen o now r entries None (Some room) own = absurd (let bad : true ≡ false = own.part in cc)
-fits_seen o now r entries (Some m) room own = own.fits
+wants_seen : {A : Type 0} → (o : OpeningView) (now r : ℕ) (entries : List PlainEntry)
+    (n : Option (RealmNumbers A)) (room : Option (Room A)) (own : Bool) → is_some n ≡ own
+    → IsRealmRoom now (is_some n && not (only_done_due now entries)) entries room
+    → IsRealmRoom now (own && not (only_done_due now (state_seen o r entries n).entries))
+    (state_seen o r entries n).entries room
+wants_seen {A = A} o now r entries None None own is given = record {
+  part = ap (λ (b : Bool). b && not (only_done_due now (state_seen {A = A} o r entries None).entries)) is;
+  fits = tt;
+}
+wants_seen o now r entries None (Some room) own is given =
+    absurd (let bad : true ≡ false = given.part in cc)
+wants_seen o now r entries (Some m) room own is given = record {
+  part = given.part ∙ ap (λ (b : Bool). b && not (only_done_due now entries)) is;
+  fits = given.fits;
+}
 
 pub room_seen : {A : Type 0}
     → (o : OpeningView) (now r : ℕ) (E : ℕ → List PlainEntry) (ns : List (Option (RealmNumbers A)))
     (n : Option (RealmNumbers A)) (room : Option (Room A)) → slice_get ns r ≡ Some n
     → is_some n ≡ is_in_shard o.config o.shard r
-    → IsRealmRoom now (is_some n) (E r) room
-    → IsRealmRoom now (is_in_shard o.config o.shard r)
+    → IsRealmRoom now (is_some n && not (only_done_due now (E r))) (E r) room
+    → IsRealmRoom now (wants_room o.config now o.shard r (state_at (states_from o E 0 ns) r).entries)
     (state_at (states_from o E 0 ns) r).entries room
-room_seen o now r E ns n room at is own = record {
-  part = own.part ∙ is;
-  fits =
-      subst (λ (s : RealmState). Fits now s.entries room) (sym (state-seen o E r ns n at))
-      (fits_seen o now r (E r) n room own);
-}
+room_seen o now r E ns n room at is given =
+    subst (λ (s : RealmState). IsRealmRoom now (wants_room o.config now o.shard r s.entries) s.entries room)
+    (sym (state-seen o E r ns n at))
+    (wants_seen o now r (E r) n room (is_in_shard o.config o.shard r) is given)
 
--- a room is there just for a realm of the shard
-own_room : {A : Type 0} → (now : ℕ) (own : Bool) (entries : List PlainEntry)
-    (room : Option (Room A)) → IsRealmRoom now own entries room → is_some room ≡ true → own ≡ true
-own_room now own entries room is there = sym is.part ∙ there
-
-pub own_rooms : {A : Type 0}
-    → (o : OpeningView) (now r : ℕ) (ss : List RealmState) (rooms : List (Option (Room A)))
-    → AreRooms o.config now o.shard r ss rooms → AreOwnRooms o r rooms
-own_rooms o now r [] [] are = tt
-own_rooms o now r [] (room ∷ rooms) are = absurd are
-own_rooms o now r (s ∷ ss) [] are = absurd are
-own_rooms o now r (s ∷ ss) (None ∷ rooms) are = (tt, own_rooms o now (r + 1) ss rooms are.1)
-own_rooms o now r (s ∷ ss) (Some room ∷ rooms) are = (
-  own_room now (is_in_shard o.config o.shard r) s.entries (Some room) are.0 refl,
-  own_rooms o now
-      (r + 1) ss rooms are.1,
-)
+-- a realm that takes part, and of which not only done entries are due, wants a room
+pub room_wanted : (part done : Bool) → part ≡ true → done ≡ false → true ≡ (part && not done)
+room_wanted part done h k = rw (h, k) refl

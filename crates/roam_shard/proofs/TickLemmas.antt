@@ -8,16 +8,17 @@ use Rattle.roam_conf.specs.Config.{ConfigView}
 use Rattle.roam_route.specs.Admission.{PlainOut}
 use Rattle.roam_route.specs.Shown.{shown_out}
 use Rattle.roam_route.specs.declared.datagram.Out.{Out}
+use Rattle.roam_book.specs.OnTick.{on_tick}
+use Rattle.roam_book.specs.RealmConfig.{realm_config}
 use Rattle.roam_book.specs.RealmState.{RealmState}
 use Rattle.roam_book.specs.Turn.{shown_outs}
 use Rattle.roam_book.specs.declared.packets.answer.Answer.{Answer}
 use Rattle.roam_book.specs.declared.packets.tick_memory.Room.{Room}
-use Rattle.roam_core.specs.ManyRealms.{to_tick}
+use Rattle.roam_core.specs.Events.{is_in_shard}
+use Rattle.roam_core.specs.ManyRealms.{tick_of, to_tick}
 use Rattle.roam_core.specs.ShardRooms.{most_of_all}
 use Rattle.roam_core.specs.Steps.{IsAnswer}
 use Rattle.roam_shard.specs.Private.Rooms.{AllTwice, HasPlaces, IsTwice}
-use Rattle.roam_shard.specs.ShardView.{OpeningView}
-use Rattle.roam_shard.specs.Twins.{AreOwnRooms, IsOwnRoom}
 use Rattle.roam_shard.specs.declared.answer_pair.AnswerPair.{AnswerPair}
 
 -- lists that show the same have as many packets
@@ -33,18 +34,16 @@ pub fewer_places : {A : Type 0} → (many few : ℕ) (b : AnswerPair A) → few 
 fewer_places many few b le has =
     record { sent = omega (arith, has.sent, le); copies = omega (arith, has.copies, le) }
 
+-- a realm that takes part
+pub part_ticks :
+    (config : ConfigView) (now shard realm : ℕ) (s : RealmState) → is_in_shard config shard realm ≡ true
+    → on_tick (realm_config config realm) now s ≡ tick_of config now shard realm s
+part_ticks config now shard realm s own = rw own refl
+
 -- the rooms that are left
-pub record AreLeft {A : Type 0} (o : OpeningView) (realm : ℕ) (left : List (Option (Room A)))
-    (b : AnswerPair A) : Type 0 where
-  pub own : AreOwnRooms o realm left
+pub record AreLeft {A : Type 0} (left : List (Option (Room A))) (b : AnswerPair A) : Type 0 where
   pub twice : AllTwice left
   pub places : HasPlaces (most_of_all left) b
-
-pub next_own : {A : Type 0}
-    → (o : OpeningView) (realm : ℕ) (left after : List (Option (Room A))) (room : Option (Room A))
-    → left ≡ room ∷ after → AreOwnRooms o realm left
-    → IsOwnRoom o realm room × AreOwnRooms o (realm + 1) after
-next_own o realm left after room is own = subst (λ l. AreOwnRooms o realm l) is own
 
 pub next_twice : {A : Type 0} → (left after : List (Option (Room A))) (room : Option (Room A))
     → left ≡ room ∷ after → AllTwice left → IsTwice room × AllTwice after

@@ -5,15 +5,22 @@ use Rattle.roam_reload.specs.Reload.{IsCarried}
 use Rattle.roam_book.specs.RealmConfig.{realm_config}
 use Rattle.roam_book.specs.RealmState.{RealmState, opening}
 use Rattle.roam_book.specs.Reload.{carried}
-use Rattle.roam_book.specs.declared.state.start.Start.{Start}
 use Rattle.roam_core.specs.Events.{is_in_shard}
 use Rattle.roam_core.specs.ManyRealms.{state_at}
+use Rattle.roam_core.specs.Openings.{next_start}
 
--- where a realm begins anew that stood so: at its place in the stream of random words, and its next ticket. Where
--- no realm stood, both are 0
-abbrev pub next_start : RealmState → Start
-next_start s = record { place = s.stream_position; ticket = s.ticket }
-
+-- ## State after a change
+-- Of a realm of the new configuration that is one of the shard's, where the configuration changes: where it is
+-- carried over, the state in which it stood, with a cursor 0 for each further peer. Else it begins anew, as at
+-- an opening: no entries, no sessions, cursors 0 and no rests, at the place in its random words and the next
+-- ticket where the realm of its index stood. Where none stood there, both are 0.
+-- Source: ours
+-- Rules out: random words or a ticket that come twice; an entry that waits at a link whose secret changed; a
+-- realm that goes on in part
+-- Stands in: `roam_core` `Openings.antt`: `next_start`; `roam_shard` `Follow.antt`: `Follows`, `AllFollow`;
+-- `Paused::follow`; of all shards
+-- `roam_hub` `Following.antt`: `HaveFollowed`, `StandAsBefore`; `follow`
+--
 -- a realm that is carried over goes on in its state. Any other begins anew: with no entries, no sessions, cursors 0 and
 -- no rests
 pub record Follows (old new : ConfigView) (realm : ℕ) (before after : RealmState) : Type 0 where

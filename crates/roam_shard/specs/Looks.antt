@@ -15,6 +15,14 @@ pub record IsOwn (o : OpeningView) (realm : ℕ) : Type 0 where
 abbrev pub NoneThere : {A : Type 0} → List (Option (RealmNumbers A)) → ℕ → Type 0
 NoneThere numbers realm = (n : _) → slice_get numbers realm ≡ Some (Some n) → ⊥
 
+-- ## How a realm is seen to stand
+-- As many entries and open sessions as the realm's state has where some history of its shard ends. Of
+-- Identifiers in use and of rests nothing is said.
+-- Source: ours
+-- Rules out: numbers of a state in which the realm never was
+-- Stands in: `roam_shard` `Looks.antt`: `StandsAs`, `IsOwn`; `roam_hub` `Looks.antt`: `StandsThen`;
+-- `Hub::look`
+--
 -- the numbers of a state: how many entries it has, and how many sessions are open
 pub record StandsAs (s : RealmState) (g : Gauges) : Type 0 where
   pub entries : g.entries ≡ length s.entries

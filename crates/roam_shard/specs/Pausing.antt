@@ -16,6 +16,14 @@ use Rattle.roam_shard.specs.NumbersView.{IsOpened}
 use Rattle.roam_shard.specs.declared.paused.Paused.{Paused}
 use Rattle.roam_shard.specs.declared.following.FreshNumbers.{FreshNumbers}
 
+-- ## Paused shard
+-- A shard that was taken from its configuration. It stands under a configuration where it would be a shard of
+-- it, and its realms have states there. It is resumed under that one.
+-- Source: ours
+-- Rules out: a pause that changes a state
+-- Stands in: `roam_shard` `Pausing.antt`: `StandsUnder`, `states_under`, `opening_under`, `StandsStill`;
+-- `Shard::pause`, `resume`, `Paused::reserve`
+--
 -- it is known whether the old peers are the first of the new ones, what names them aside
 abbrev pub ArePeersKept : ConfigView → ConfigView → Bool → Type 0
 ArePeersKept old new known = IsTrue known ↔ KeepsPeers old.peers new.peers

@@ -15,6 +15,15 @@ use Rattle.roam_core.specs.Events.{is_in_shard}
 use Rattle.roam_core.specs.Openings.{openings, start_of}
 use Rattle.roam_shard.specs.declared.opening.Opening.{Opening}
 
+-- ## Shard's opening
+-- How a shard began: its number, the configuration, and a start for each realm. A start is a place in the
+-- realm's random words, below 2^68, and a next ticket, up to 2^63. Of a shard one sees its opening and the
+-- state of each realm; a realm of another shard stays as it began.
+-- Source: ours
+-- Rules out: a shard that forgets how it began; one that changes another's realm
+-- Stands in: `roam_shard` `ShardView.antt`: `OpeningView`, `IsStart`, `AreStarts`, `ShardView`, `opened`;
+-- `Shard::new`, `opening`, `start`
+--
 -- how a shard began: its number, the configuration, and where each realm began
 pub record OpeningView : Type 0 where
   pub shard : ℕ

@@ -1,6 +1,6 @@
 //! The packets of an answer.
 
-ghost use Rattle.std.specs.Prelude.{◌≡◌, ◌+◌, ◌≤◌, ◌++◌, [], ◌∷◌, None, length, IfOk, vec_len, vec_capacity};
+ghost use Rattle.std.specs.Prelude.{◌≡◌, ◌+◌, ◌≤◌, ◌++◌, [], ◌∷◌, None, Some, length, IfOk, vec_len, vec_capacity};
 ghost use Rattle.roam_route.specs.Shown.{shown_out};
 ghost use Rattle.roam_book.specs.Turn.{shown_outs};
 ghost use Rattle.roam_shard.specs.Private.Lost.{IsFirst, IsLostOrRefused};
@@ -32,6 +32,19 @@ pub(crate) fn lost_or_refused<A: Allocator>(alloc: A, why: Refusal) -> Result<An
         return Err(NoMemory);
     }
     Ok(refused(alloc, why))
+}
+
+/// An answer that refuses, twice. Takes no memory.
+pub(crate) fn refused_twice<A: Allocator + Copy>(alloc: A, why: Refusal) -> Twin<A>
+    ensures outs { shown_outs result.answer.outs.items ≡ [] }
+    ensures refusal { result.answer.refusal ≡ Some why }
+    ensures copies { shown_outs result.copy.outs.items ≡ [] }
+    ensures copy_refusal { result.copy.refusal ≡ Some why }
+{
+    Twin {
+        answer: refused(alloc, why),
+        copy: refused(alloc, why),
+    }
 }
 
 /// The first of two answers. Takes no memory.

@@ -1,28 +1,29 @@
 //! The memory of a shard's tick, taken before anything changes.
 
-ghost use Rattle.std.specs.Prelude.{◌≡◌, ◌≤◌, [], false, true, is_some, length, IfOk, IfSome, vec_len};
+ghost use Rattle.std.specs.Prelude.{◌≡◌, ◌≤◌, ◌&&◌, [], false, true, not, is_some, length, IfOk, IfSome, vec_len};
 ghost use Rattle.roam_conf.specs.Shown.{shown};
 ghost use Rattle.roam_tables.specs.Stands.{entries_in};
+ghost use Rattle.roam_book.specs.Rooms.{only_done_due};
 ghost use Rattle.roam_core.specs.ShardRooms.{AreRooms, IsRealmRoom, most_of_all};
 ghost use Rattle.roam_shard.specs.Private.Rooms.{AllTwice, HasPlaces, IsTwice};
 ghost use Rattle.roam_shard.specs.ShardView.{IsShard, shown_opening, states_in};
 
 use crate::answer_pair::AnswerPair;
 use crate::opening::Opening;
-use roam_book::{RealmNumbers, Room, room_for};
+use roam_book::{RealmNumbers, Room, only_done_due, room_for};
 use roam_core::with_room;
 use roam_tables::Tables;
 use roam_wire::NoMemory;
 use std::alloc::Allocator;
 
-/// The memory of a shard's tick: a room for each realm that belongs to the shard, in the order of all
-/// realms, and two places for each packet that may be sent.
+/// The memory of a shard's tick: a room for each realm that wants one, in the order of all realms, and two
+/// places for each packet that may be sent.
 pub(crate) struct TickRooms<A: Allocator> {
     pub rooms: Vec<Option<Room<A>>, A>,
     pub both: AnswerPair<A>,
 }
 
-/// The room of a realm, where it takes part.
+/// The room of a realm, where it takes part and an entry of its own that is due waits. Any other wants none.
 fn room_at<A: Allocator + Copy>(
     alloc: A,
     entries: &Tables<A>,
@@ -30,17 +31,22 @@ fn room_at<A: Allocator + Copy>(
     now: u64,
     takes_part: bool,
 ) -> Result<Option<Room<A>>, NoMemory>
-    ensures room { IfOk result (IsRealmRoom now takes_part (entries_in entries.now realm)) }
+    ensures room { IfOk result (IsRealmRoom now
+        (takes_part && not (only_done_due now (entries_in entries.now realm)))
+        (entries_in entries.now realm)) }
     ensures twice { IfOk result IsTwice }
 {
     if !takes_part {
+        return Ok(None);
+    }
+    if only_done_due(entries, realm, now) {
         return Ok(None);
     }
     let room = room_for(alloc, realm, entries, now, true)?;
     Ok(Some(room))
 }
 
-/// All the memory of a shard's tick, for all its realms.
+/// All the memory of a shard's tick, taken realm by realm: only for those that want it.
 pub(crate) fn room_of_shard<A: Allocator + Copy>(
     alloc: A,
     opening: &Opening<'_, A>,

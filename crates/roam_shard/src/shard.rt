@@ -1,6 +1,6 @@
 //! One shard of the broker: its realms' entries in shared tables.
 
-ghost use Rattle.std.specs.Prelude.{◌≡◌, ◌↔◌, ℕ, ◌+◌, ◌<◌, ◌≤◌, ◌^◌, ◌++◌, [], None, Some, false, true, length};
+ghost use Rattle.std.specs.Prelude.{◌≡◌, ◌↔◌, ℕ, ◌+◌, ◌<◌, ◌≤◌, ◌^◌, ◌++◌, [], None, false, true, length};
 ghost use Rattle.std.specs.Prelude.{slice_set, IfOk, IsOk, vec_len};
 ghost use Rattle.roam_conf.specs.Shown.{shown};
 ghost use Rattle.roam_route.specs.Admission.{admitted};
@@ -14,19 +14,20 @@ ghost use Rattle.roam_book.specs.Turn.{packets_of, sends, shown_outs, state_afte
 ghost use Rattle.roam_core.specs.Events.{is_in_shard};
 ghost use Rattle.roam_core.specs.ManyRealms.{state_at, tick_from, tick_of, to_arrival, to_tick};
 ghost use Rattle.roam_core.specs.Openings.{openings};
-ghost use Rattle.roam_core.specs.ShardRooms.{AllFit, Fits, most_of, most_of_all, only_done_from, tick_in};
-ghost use Rattle.roam_core.specs.ShardRooms.{turn_in};
+ghost use Rattle.roam_core.specs.ShardRooms.{AreRooms, IsRealmRoom, most_of, most_of_all, only_done_from};
+ghost use Rattle.roam_core.specs.ShardRooms.{wants_room};
 ghost use Rattle.roam_shard.specs.Private.Rooms.{AllTwice, HasPlaces, IsTwice};
 ghost use Rattle.roam_shard.specs.ShardView.{AreStarts, IsStart, shown_opening};
-ghost use Rattle.roam_shard.specs.Twins.{AreOwnRooms, GivesTwin, IsOwnRoom, NothingDue};
+ghost use Rattle.roam_shard.specs.Twins.{GivesTwin, NothingDue};
 
 use crate::answer_pair::AnswerPair;
+use crate::answers::refused_twice;
 use crate::any_due::{all_done, any_due};
 use crate::jobs::handle_job;
 use crate::opening::Opening;
 use crate::realm_numbers::opened_numbers;
 use crate::rooms::{TickRooms, room_of_shard};
-use roam_book::{LATEST, RealmBroker, RealmNumbers, RealmSettings, Room, Start, Twin, refused};
+use roam_book::{LATEST, RealmBroker, RealmNumbers, RealmSettings, Room, Start, Twin};
 use roam_conf::Config;
 use roam_route::Job;
 use roam_tables::Tables;
@@ -57,19 +58,6 @@ impl<'c, A: Allocator> Model for Shard<'c, A> {
     } };
 
     ghost invariant = { λ s. IsShard (shown_opening s.opening) s.entries s.numbers.items };
-}
-
-/// An answer that refuses, twice. Takes no memory.
-fn refused_twice<A: Allocator + Copy>(alloc: A, why: Refusal) -> Twin<A>
-    ensures outs { shown_outs result.answer.outs.items ≡ [] }
-    ensures refusal { result.answer.refusal ≡ Some why }
-    ensures copies { shown_outs result.copy.outs.items ≡ [] }
-    ensures copy_refusal { result.copy.refusal ≡ Some why }
-{
-    Twin {
-        answer: refused(alloc, why),
-        copy: refused(alloc, why),
-    }
 }
 
 impl<'c, A: Allocator + Copy> Shard<'c, A> {
@@ -187,46 +175,50 @@ impl<'c, A: Allocator + Copy> Shard<'c, A> {
         one.on_tick_twice(now, room)
     }
 
-    /// A realm's part of a tick, in the room that was made for it, if one was. Takes no memory.
+    /// A realm's part of a tick, in the room that was made for it. Without one only done entries are due, if the
+    /// realm takes part: they go. Takes no memory.
     fn tick_one(&mut self, now: u64, realm: usize, room: Option<Room<A>>, both: &mut AnswerPair<A>)
         requires there { realm < length self.old.states }
-        requires own { IsOwnRoom self.old.opening realm room }
-        requires room { Fits now (state_at self.old.states realm).entries room }
+        requires moment { now ≤ 2 ^ 62 }
+        requires room { IsRealmRoom now (wants_room self.old.opening.config now self.old.opening.shard realm
+            (state_at self.old.states realm).entries) (state_at self.old.states realm).entries room }
         requires twice { IsTwice room }
         requires places { HasPlaces (most_of room) both.old }
         ensures packets { shown_outs both.new.sent.items ≡ shown_outs both.old.sent.items ++ packets_of
-            (turn_in self.old.opening.config now realm (state_at self.old.states realm) room) }
+            (tick_of self.old.opening.config now self.old.opening.shard realm (state_at self.old.states realm)) }
         ensures copies { shown_outs both.new.copies.items ≡ shown_outs both.old.copies.items ++ packets_of
-            (turn_in self.old.opening.config now realm (state_at self.old.states realm) room) }
+            (tick_of self.old.opening.config now self.old.opening.shard realm (state_at self.old.states realm)) }
         ensures states { self.new.states ≡ slice_set self.old.states realm
             (state_after (state_at self.old.states realm)
-            (turn_in self.old.opening.config now realm (state_at self.old.states realm) room)) }
+            (tick_of self.old.opening.config now self.old.opening.shard realm (state_at self.old.states realm))) }
         ensures opening { self.new.opening ≡ self.old.opening }
         ensures places { (n : ℕ) → HasPlaces (most_of room + n) both.old → HasPlaces n both.new }
     {
         let Some(room) = room else {
+            self.let_one_go(now, realm);
             return;
         };
         let twin = self.tick_realm(now, realm, room);
         both.append(twin);
     }
 
-    /// A tick of the realms that have a room, in rising index. Takes no memory.
+    /// A tick, for which there is room: the realms in rising index. Takes no memory.
     fn tick_in(&mut self, now: u64, room: TickRooms<A>) -> Twin<A>
-        requires rooms { AllFit now self.old.states room.rooms.items }
-        requires own { AreOwnRooms self.old.opening 0 room.rooms.items }
+        requires moment { now ≤ 2 ^ 62 }
+        requires rooms { AreRooms self.old.opening.config now self.old.opening.shard 0 self.old.states
+            room.rooms.items }
         requires twice { AllTwice room.rooms.items }
         requires sent { room.both.sent.items ≡ [] }
         requires copies { room.both.copies.items ≡ [] }
         requires places { HasPlaces (most_of_all room.rooms.items) room.both }
         ensures packets { shown_outs result.answer.outs.items
-            ≡ (tick_in self.old.opening.config now 0 self.old.states room.rooms.items).packets }
+            ≡ (tick_from self.old.opening.config now self.old.opening.shard 0 self.old.states).packets }
         ensures copies { shown_outs result.copy.outs.items
-            ≡ (tick_in self.old.opening.config now 0 self.old.states room.rooms.items).packets }
+            ≡ (tick_from self.old.opening.config now self.old.opening.shard 0 self.old.states).packets }
         ensures refusal { result.answer.refusal ≡ None }
         ensures copy_refusal { result.copy.refusal ≡ None }
         ensures states { self.new.states
-            ≡ (tick_in self.old.opening.config now 0 self.old.states room.rooms.items).states }
+            ≡ (tick_from self.old.opening.config now self.old.opening.shard 0 self.old.states).states }
         ensures opening { self.new.opening ≡ self.old.opening }
     {
         let TickRooms { rooms, mut both } = room;
@@ -285,9 +277,9 @@ impl<'c, A: Allocator + Copy> Shard<'c, A> {
     /// entries is taken once, in order of deadline and ticket. The answer is given twice. Refused
     /// where the moment is above 2^62 milliseconds (`Moment`).
     ///
-    /// All memory is taken before anything changes: `NoMemory` comes where a growth was refused, and
-    /// the shard is then as it was. Where each entry that is due was answered, so that they only go, no
-    /// memory is wanted.
+    /// Its memory is taken before anything changes, realm by realm, for those that have an entry that is due
+    /// and waits: `NoMemory` comes where a growth was refused, and the shard is then as it was. Where each
+    /// that is due was answered, so that they only go, no memory is wanted.
     pub fn tick(&mut self, now: u64) -> Result<Twin<A>, NoMemory>
         ensures turn { GivesTwin result self.old.states self.new.states
             (to_tick self.old.opening.config self.old.states now self.old.opening.shard) }

@@ -19,7 +19,8 @@ use Rattle.roam_sim.specs.Script.{index_in, moment_in, place_in, datagram_in, re
 no_realm : (socket realm : List ℕ) → index_in realm ≡ None → realm_place socket realm ≡ None
 no_realm socket realm is = grind (arith, common_steps)
 
-realm_place_at : (socket realm : List ℕ) (number : Option ℕ) (rest : List (List ℕ)) → index_in realm ≡ number → parts 58 realm ≡ rest → realm_place_of (socket ∷ rest) ≡ realm_place socket realm
+realm_place_at : (socket realm : List ℕ) (number : Option ℕ) (rest : List (List ℕ)) → index_in realm ≡ number →
+    parts 58 realm ≡ rest → realm_place_of (socket ∷ rest) ≡ realm_place socket realm
 realm_place_at socket realm (Some n) rest is cut = rw (← cut, decimal_part 58 0 (2 ^ 16 - 1) realm n refl is) refl
 realm_place_at socket realm None [] is cut = sym (no_realm socket realm is)
 realm_place_at socket realm None (x ∷ []) is cut = rw (one_part 58 realm x cut) refl
@@ -33,7 +34,8 @@ no_shard : (now : Option ℕ) → tick now None ≡ None
 no_shard None = refl
 no_shard (Some x) = refl
 
-tick_of_at : (now shard : List ℕ) (number : Option ℕ) (rest : List (List ℕ)) → index_in shard ≡ number → parts 32 shard ≡ rest → tick_of (now ∷ rest) ≡ tick (moment_in now) number
+tick_of_at : (now shard : List ℕ) (number : Option ℕ) (rest : List (List ℕ)) → index_in shard ≡ number →
+    parts 32 shard ≡ rest → tick_of (now ∷ rest) ≡ tick (moment_in now) number
 tick_of_at now shard (Some n) rest is cut = rw (← cut, decimal_part 32 0 (2 ^ 16 - 1) shard n refl is, is) refl
 tick_of_at now shard None [] is cut = sym (no_shard _)
 tick_of_at now shard None (x ∷ []) is cut = rw (one_part 32 shard x cut, is) refl
@@ -62,7 +64,9 @@ result_ok-some (Ok x) octets is = cc
 result_ok-some (Err e) octets is = cc
 
 -- a text that passes the test is the hyphen, and the datagram of any other is decoded
-datagram_at : (text octets : List ℕ) (is_hyphen is_sized : Bool) → cond is_hyphen (Some []) (cond is_sized (result_ok (decode_of text)) None) ≡ Some octets → (is_hyphen ≡ true) ⊎ (decode_of text ≡ Ok octets)
+datagram_at : (text octets : List ℕ) (is_hyphen is_sized : Bool) →
+    cond is_hyphen (Some []) (cond is_sized (result_ok (decode_of text)) None) ≡ Some octets → (is_hyphen ≡ true)
+    ⊎ (decode_of text ≡ Ok octets)
 datagram_at text octets true is_sized is = inl refl
 datagram_at text octets false true is = inr (result_ok-some (decode_of text) octets is)
 datagram_at text octets false false is = cc
@@ -84,14 +88,18 @@ no_octets (Some x) None from = refl
 no_octets (Some x) (Some y) None = refl
 no_octets (Some x) (Some y) (Some z) = refl
 
-arrival_of_at : (now at from text : List ℕ) (octets : Option (List ℕ)) (rest : List (List ℕ)) → datagram_in text ≡ octets → parts 32 text ≡ rest → arrival_of (now ∷ at ∷ from ∷ rest) ≡ arrival (moment_in now) (place_in at) (endpoint_in from) octets
+arrival_of_at : (now at from text : List ℕ) (octets : Option (List ℕ)) (rest : List (List ℕ)) →
+    datagram_in text ≡ octets → parts 32 text ≡ rest →
+    arrival_of (now ∷ at ∷ from ∷ rest) ≡ arrival (moment_in now) (place_in at) (endpoint_in from) octets
 arrival_of_at now at from text (Some octets) rest is cut = rw (← cut, datagram_part text octets is, is) refl
 arrival_of_at now at from text None [] is cut = sym (no_octets _ _ _)
 arrival_of_at now at from text None (x ∷ []) is cut = rw (one_part 32 text x cut, is) refl
 arrival_of_at now at from text None (x ∷ y ∷ more) is cut = sym (no_octets _ _ _)
 
 -- what follows the third field of an arrival is a datagram, or no arrival is read
-pub arrival_of-parts : (now at from text : List ℕ) → arrival_of (now ∷ at ∷ from ∷ parts 32 text) ≡ arrival (moment_in now) (place_in at) (endpoint_in from) (datagram_in text)
+pub arrival_of-parts : (now at from text : List ℕ) →
+    arrival_of (now ∷ at ∷ from ∷ parts 32 text)
+    ≡ arrival (moment_in now) (place_in at) (endpoint_in from) (datagram_in text)
 arrival_of-parts now at from text = arrival_of_at now at from text _ _ refl refl
 
 decodes_from_some : (text octets : List ℕ) → decode_of text ≡ Ok octets → IsOk (decode_of text)
@@ -102,7 +110,8 @@ ok_value (Ok octets) is = (octets, refl)
 ok_value (Err e) is = cc is
 
 -- an even number of digits decodes, and nothing else does
-pub even_digits : (text : List ℕ) (is_digits : Bool) → length text % 2 ≡ 0 → (IsTrue is_digits ↔ AllPass is_hex_digit text) → IsTrue is_digits ↔ IsOk (decode_of text)
+pub even_digits : (text : List ℕ) (is_digits : Bool) → length text % 2 ≡ 0 →
+    (IsTrue is_digits ↔ AllPass is_hex_digit text) → IsTrue is_digits ↔ IsOk (decode_of text)
 even_digits text is_digits even is = (
   (λ yes. let r = decode_of-digits text even (is.0 yes) in decodes_from_some text r.0 r.1),
   (λ decodes. let r = ok_value (decode_of text) decodes in is.1 ((decode_of-ok text r.0 r.1).1)),

@@ -29,7 +29,8 @@ unfolding encode_with
 printed_none octets left known same = record { done = []; all = sym same; printed = Appends-nil known }
 
 -- one more piece was printed
-pub printed_more : (octets before piece after : List ℕ) (old now new : Option (List ℕ)) → IsPrinted octets before old now → before ≡ piece ++ after
+pub printed_more : (octets before piece after : List ℕ) (old now new : Option (List ℕ)) →
+    IsPrinted octets before old now → before ≡ piece ++ after
     → Appends now new (encode_lower piece) → IsPrinted octets after old new
 printed_more octets before piece after old now new is cut here = record {
   done = is.done ++ piece;
@@ -38,18 +39,21 @@ printed_more octets before piece after old now new is cut here = record {
 }
 
 -- nothing is left
-pub printed_all : (octets left : List ℕ) (old now : Option (List ℕ)) → IsPrinted octets left old now → length left ≡ 0 → Appends old now (encode_lower octets)
+pub printed_all : (octets left : List ℕ) (old now : Option (List ℕ)) → IsPrinted octets left old now →
+    length left ≡ 0 → Appends old now (encode_lower octets)
 printed_all octets left old now is none =
     let whole : octets ≡ is.done = is.all ∙ ap (λ l. is.done ++ l) (nil_from_length left none) ∙ append-nil is.done in
     rw whole is.printed
 
 -- one more text was printed, and it was the last
-printed_last : {E : Type 0} (r : Result Unit E) (old now new : Option (List ℕ)) (front back : List ℕ) → Appends old now front → OnOk r (Appends now new back) → OnOk r (Appends old new (front ++ back))
+printed_last : {E : Type 0} (r : Result Unit E) (old now new : Option (List ℕ)) (front back : List ℕ) →
+    Appends old now front → OnOk r (Appends now new back) → OnOk r (Appends old new (front ++ back))
 printed_last (Ok x) old now new front back before here = Appends-trans old now new front back before here
 printed_last (Err e) old now new front back before here = tt
 
 -- the eight texts of a line were printed
-pub printed_line : {E : Type 0} (r : Result Unit E) (k0 k1 k2 k3 k4 k5 k6 k7 k8 : Option (List ℕ)) (realm place endpoint octets : List ℕ)
+pub printed_line : {E : Type 0} (r : Result Unit E) (k0 k1 k2 k3 k4 k5 k6 k7 k8 : Option (List ℕ))
+    (realm place endpoint octets : List ℕ)
     → Appends k0 k1 realm → Appends k1 k2 (codes " ") → Appends k2 k3 place → Appends k3 k4 (codes " ")
     → Appends k4 k5 endpoint → Appends k5 k6 (codes " ") → Appends k6 k7 octets → OnOk r (Appends k7 k8 (codes "\n"))
     → OnOk r (Appends k0 k8 (realm ++ codes " " ++ place ++ codes " " ++ endpoint ++ codes " " ++ octets ++ codes "\n"))
@@ -63,7 +67,8 @@ printed_line r k0 k1 k2 k3 k4 k5 k6 k7 k8 realm place endpoint octets a1 a2 a3 a
     printed_last r k0 k7 k8 _ (codes "\n") to7 a8
 
 -- one more line was printed
-lines_of-more : {A : Type 0} (outs : List (Out A)) (packet : Out A) (i : ℕ) → i < length outs → packet ≡ get_or outs i packet
+lines_of-more : {A : Type 0} (outs : List (Out A)) (packet : Out A) (i : ℕ) → i < length outs →
+    packet ≡ get_or outs i packet
     → lines_of (shown_outs (take (i + 1) outs)) ≡ lines_of (shown_outs (take i outs)) ++ line_of (shown_out packet)
 lines_of-more outs packet i within is =
     let more : take (i + 1) outs ≡ take i outs ++ packet ∷ [] =
@@ -73,7 +78,9 @@ lines_of-more outs packet i within is =
     ∙ flat_map-append line_of (shown_outs (take i outs)) (shown_out packet ∷ [])
     ∙ ap (λ l. lines_of (shown_outs (take i outs)) ++ l) (append-nil (line_of (shown_out packet)))
 
-pub printed_next : {A : Type 0} (outs : List (Out A)) (packet : Out A) (i : ℕ) (old now new : Option (List ℕ)) → i < length outs → packet ≡ get_or outs i packet
-    → Appends old now (lines_of (shown_outs (take i outs))) → Appends now new (line_of (shown_out packet)) → Appends old new (lines_of (shown_outs (take (i + 1) outs)))
+pub printed_next : {A : Type 0} (outs : List (Out A)) (packet : Out A) (i : ℕ) (old now new : Option (List ℕ)) →
+    i < length outs → packet ≡ get_or outs i packet
+    → Appends old now (lines_of (shown_outs (take i outs))) → Appends now new (line_of (shown_out packet)) →
+    Appends old new (lines_of (shown_outs (take (i + 1) outs)))
 printed_next outs packet i old now new within is before here =
     rw (lines_of-more outs packet i within is) (Appends-trans old now new _ _ before here)

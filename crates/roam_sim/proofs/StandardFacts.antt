@@ -15,7 +15,12 @@ unfolding line_states parts decimal_in is_decimal
 tick_line = refl
 
 -- a datagram of two octets, at the outgoing socket of realm 1
-arrival_line : line_states (codes "A 0 out:1 192.0.2.1:5000 0aFF") ≡ states (arrives 0 (record { at = place.Out 1; from = record { ip = 192 ∷ 0 ∷ 2 ∷ 1 ∷ []; port = 5000 }; octets = 10 ∷ 255 ∷ [] }))
+arrival_line : line_states (codes "A 0 out:1 192.0.2.1:5000 0aFF")
+    ≡ states (arrives 0 (record {
+      at = place.Out 1;
+      from = record { ip = 192 ∷ 0 ∷ 2 ∷ 1 ∷ []; port = 5000 };
+      octets = 10 ∷ 255 ∷ [];
+    }))
 unfolding line_states parts decimal_in is_decimal place_in address_in endpoint_in datagram_in decode_pairs
 arrival_line = refl
 
@@ -30,6 +35,7 @@ unfolding script_states line_states parts decimal_in is_decimal
 third_line = refl
 
 -- a packet that leaves for realm 0
-printed_packet : packet_line (Some 0) (place.Out 0) (record { ip = 198 ∷ 51 ∷ 100 ∷ 1 ∷ []; port = 1812 }) (1 ∷ 0 ∷ 0 ∷ 61 ∷ []) ≡ codes "0 out:0 198.51.100.1:1812 0100003d\n"
+printed_packet : packet_line (Some 0) (place.Out 0) (record { ip = 198 ∷ 51 ∷ 100 ∷ 1 ∷ []; port = 1812 })
+    (1 ∷ 0 ∷ 0 ∷ 61 ∷ []) ≡ codes "0 out:0 198.51.100.1:1812 0100003d\n"
 unfolding digits encode_with
 printed_packet = refl

@@ -21,6 +21,13 @@ place_text place.Acct = codes "acct"
 place_text (place.Out realm) = codes "out:" ++ decimal realm
 place_text (place.Reverse realm) = codes "reverse:" ++ decimal realm
 
+-- ## Line of a packet
+-- The realm's index or `-`, the place that the packet leaves from, where it goes, and its octets in hexadecimal
+-- digits of lower case, parted by one space, with a line feed.
+-- Source: ours
+-- Rules out: a line that two packets share
+-- Stands in: `roam_sim` `Lines.antt`: `packet_line`, `lines_of`; `print_packet`
+--
 -- the line of a packet: for which realm it leaves, from which place, where to, and its octets in
 -- hexadecimal digits, with a line feed
 abbrev pub packet_line : Option ℕ → Place → Endpoint → List ℕ → List ℕ

@@ -105,6 +105,15 @@ abbrev pub lines_state : ℕ → List (List ℕ) → Result (List PlainEvent) �
 lines_state number [] = Ok []
 lines_state number (line ∷ lines) = line_before (line_states line) number (lines_state (number + 1) lines)
 
+-- ## Script
+-- Lines that end with a line feed, the last with or without it. Empty lines and lines that begin with `#` are
+-- skipped; every other line is an arrival, `A now place ip:port hex`, or a tick, `T now shard`, with fields
+-- parted by one space, or it is faulty. A script states the list of its events, in order, or the number of its
+-- first faulty line, counted from 1 with the skipped ones.
+-- Source: ours
+-- Rules out: a line that is half read; a fault of a line that isn't there
+-- Stands in: `roam_sim` `Script.antt`: `script_states`, `line_states`; `read_script`
+--
 -- a script: its lines are the parts between line feeds (10), counted from 1
 unfoldable pub script_states : List ℕ → Result (List PlainEvent) ℕ
 script_states text = lines_state 1 (parts 10 text)

@@ -14,6 +14,13 @@ use Rattle.roam_core.specs.Runs.{ArePlaces, EachWantsMemory}
 use Rattle.roam_sim.specs.Lines.{lines_of}
 use Rattle.roam_sim.specs.Script.{script_states}
 
+-- ## Packets for a script
+-- What the written answers to the script's events send, one after the other, where each realm begins fresh: at
+-- place 0 of its random words and ticket 0.
+-- Source: ours
+-- Rules out: an answer that depends on an earlier run
+-- Stands in: `roam_sim` `Simulation.antt`: `packets_sent`
+--
 -- the packets that a broker sends for a list of events, where each realm begins fresh
 abbrev pub packets_sent : ConfigView → List PlainEvent → List PlainOut
 packets_sent config events = (answers_to config (fresh config) events).packets
@@ -26,6 +33,15 @@ pub record AreSentFor (config : ConfigView) (events : List PlainEvent) (packets 
   pub isolated : IsIsolatedFromStart config (fresh_starts config) events packets
   pub provenance : HasProvenance config (fresh_starts config) events packets
 
+-- ## Simulation
+-- The configuration's text states an accepted configuration, the script states a list of events, and just the
+-- lines of the packets for these events are written, in order. Where events were lost for lack of memory, the
+-- lines are those of the packets for the others, and the answer says so.
+-- Source: ours
+-- Rules out: a line too many, too few or twice; lost events that nobody hears of
+-- Stands in: `roam_sim` `Simulation.antt`: `IsSimulated`, `IsSimulatedInPart`, `Simulates`, `SimulatesInPart`;
+-- `simulate`, `sim`
+--
 -- the script states a list of events, and the lines of the packets for them were written
 pub record IsSimulated (config : ConfigView) (script : List ℕ) (old new : Option (List ℕ)) : Type 0 where
   pub events : List PlainEvent

@@ -6,6 +6,11 @@
 //! its waiting entries are due, when its done ones are, and the tickets of the done ones.
 //!
 //! Nothing here builds or reads a packet, looks at a clock or chooses a target.
+//!
+//! # Proved
+//!
+//! - the entries of many realms in shared tables are each realm's list: the same contracts | `Tables`, which
+//!   implements `Entries`
 #![tactic(auto)]
 
 mod due_mark;

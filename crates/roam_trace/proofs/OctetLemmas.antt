@@ -1,6 +1,6 @@
 -- Sums of octets, as far as 64 bits hold them.
-use Rattle.std.proofs.Common.{◌≡◌, ℕ, ◌+◌, List, [], ◌∷◌, ◌++◌, min, map, sum_by, ap, sym, ◌∙◌, refl, arith}
-use Rattle.std.proofs.lemmas.List.Sums.{sum_by-cons, sum_by_push}
+use Rattle.std.proofs.Common.{◌≡◌, ℕ, ◌+◌, List, [], ◌∷◌, ◌++◌, min, ap, sym, ◌∙◌, arith}
+use Rattle.std.proofs.lemmas.List.Sums.{sum_by_push}
 use Rattle.roam_trace.specs.Steps.{PlainStep, octets_in, octets_of}
 
 -- what was cut off is cut off again
@@ -16,10 +16,3 @@ pub octets_more : (steps : List PlainStep) (s : PlainStep) (octets m : ℕ) → 
 octets_more steps s octets m is =
     ap (λ (n : ℕ). min (n + min (octets_of s) m) m) is
     ∙ (both_capped (octets_in steps) (octets_of s) m ∙ ap (λ (n : ℕ). min n m) (sym (sum_by_push octets_of steps s)))
-
--- the sum of what a function gives of what another one gives
-pub sum-map : {X Y : Type 0} (f : X → Y) (h : Y → ℕ) (xs : List X) → sum_by h (map f xs) ≡ sum_by (λ x. h (f x)) xs
-sum-map f h [] = refl
-sum-map f h (x ∷ xs) =
-    sum_by-cons h (f x) (map f xs)
-    ∙ (ap (λ (n : ℕ). h (f x) + n) (sum-map f h xs) ∙ sym (sum_by-cons (λ y. h (f y)) x xs))

@@ -93,6 +93,18 @@ pub record Ends (t : TraceView) (states : List RealmState) (before : List PlainS
   pub history : IsHistory (begun t states) (before ++ t.steps)
   pub stands : t.states ≡ end_of (begun t states) (before ++ t.steps)
 
+-- ## Trace
+-- A shard with its stored steps: with those that were let go of before them they are a history from some
+-- states, the shard stands where they end, and they are at most as many as the limit. A new one has no steps,
+-- and begins where its shard stands. A call adds the step of its event and of the answer that it gives, or
+-- changes nothing; it is refused as full exactly when as many steps are stored as the limit. To let go takes
+-- the stored steps out, and changes nothing else.
+-- Source: ours
+-- Rules out: a step that was answered and not stored, or stored and not answered; a full trace that drops a
+-- state with its steps
+-- Stands in: `roam_trace` `History.antt`: `IsTrace`, `Ends`, `Stores`, `with_step`; the invariant of `Traced`,
+-- `Traced::step`, `take`, `tick`, `let_go`
+--
 -- what a trace keeps: there are states in which it began, and steps, as many as were let go of, such that these and
 -- then the stored ones are a history of its shard from there, and where it ends the shard stands. At most as many as
 -- the limit are stored

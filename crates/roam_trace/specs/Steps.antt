@@ -11,6 +11,17 @@ pub record PlainAnswer : Type 0 where
   pub packets : List PlainOut
   pub refusal : Option Refusal
 
+-- ## History of a shard
+-- From a beginning, a list of steps, each an event and an answer, where each event is one of that shard, its
+-- own tick or an arrival that gives a job to one of its realms, and each answer is the written one after the
+-- steps before it: the packets that are sent, or the refusal. Where it ends are the states after all of them.
+-- It begins under a configuration in any states of the realms: those of an opening, or those in which a change
+-- left them. All that a shard went through is such histories, and a change from each to the next.
+-- Source: ours
+-- Rules out: a trace that was not what happened; an event of another shard in it
+-- Stands in: `roam_trace` `Steps.antt`: `PlainStep`, `PlainAnswer`; `History.antt`: `Beginning`, `at_opening`,
+-- `IsHistory`, `IsOfShard`, `IsStep`, `end_of`; `Traced::step`, `take`, `tick`, `cut`
+--
 pub record PlainStep : Type 0 where
   pub event : PlainEvent
   pub answer : PlainAnswer

@@ -17,7 +17,8 @@ pub record IsFront (octets : List ℕ) (x : Attribute × List ℕ) : Type 0 wher
   pub behind : AreOctets x.1
 
 -- the attribute that is found at the front is spelt there
-pub attribute_at_front : (octets : List ℕ) (x : Attribute × List ℕ) → AreOctets octets → attribute_at octets ≡ Some x → IsFront octets x
+pub attribute_at_front : (octets : List ℕ) (x : Attribute × List ℕ) → AreOctets octets → attribute_at octets ≡ Some x
+    → IsFront octets x
 attribute_at_front [] x fits h = absurd (cc)
 attribute_at_front (kind ∷ []) x fits h = absurd (cc)
 attribute_at_front (kind ∷ n ∷ rest) x fits h =
@@ -37,7 +38,8 @@ attribute_at_front (kind ∷ n ∷ rest) x fits h =
     subst (IsFront (kind ∷ n ∷ rest)) found.1 front
 
 -- where an attribute before others is some list, the others are
-with_first-parts : (a : Attribute) (others : Option (List Attribute)) (all : List Attribute) → with_first a others ≡ Some all → (more : List Attribute) × (others ≡ Some more) × (a ∷ more ≡ all)
+with_first-parts : (a : Attribute) (others : Option (List Attribute)) (all : List Attribute) →
+    with_first a others ≡ Some all → (more : List Attribute) × (others ≡ Some more) × (a ∷ more ≡ all)
 with_first-parts a None all h = absurd (cc)
 with_first-parts a (Some more) all h = (more, refl, cc)
 
@@ -47,7 +49,8 @@ pub record Spell (octets : List ℕ) (all : List Attribute) : Type 0 where
   pub attributes : AllByRecursion IsAttribute all
 
 -- what is read from octets spells them
-pub read_spells : (n : ℕ) (octets : List ℕ) (all : List Attribute) → length octets ≤ n → AreOctets octets → attributes_of octets ≡ Some all → Spell octets all
+pub read_spells : (n : ℕ) (octets : List ℕ) (all : List Attribute) → length octets ≤ n → AreOctets octets →
+    attributes_of octets ≡ Some all → Spell octets all
 unfolding attributes_of attributes_within
 read_spells n [] all bound fits h =
     let none : [] ≡ all = cc in
@@ -55,24 +58,35 @@ read_spells n [] all bound fits h =
 read_spells zero (b ∷ bs) all bound fits h = absurd (omega arith)
 read_spells (suc n) (b ∷ bs) all bound fits h =
     let read = sym (attributes_of-cons b bs) ∙ h in
-    option_and_then_some (λ (x : Attribute × List ℕ). with_first x.0 (attributes_of x.1)) (attribute_at (b ∷ bs)) all read (λ x found then.
+    option_and_then_some (λ (x : Attribute × List ℕ). with_first x.0 (attributes_of x.1)) (attribute_at (b ∷ bs)) all
+    read (λ x found then.
     let front = attribute_at_front (b ∷ bs) x fits found in
     let parts = with_first-parts x.0 (attributes_of x.1) all then in
     let fewer = length-behind (b ∷ bs) x found in
     let more = read_spells n x.1 parts.0 (omega arith) front.behind parts.1 in
-    let spelt : (b ∷ bs) ≡ attributes_text (x.0 ∷ parts.0) = front.spelt ∙ ap (λ (t : List ℕ). attribute_text x.0 ++ t) more.spelt in
+    let spelt : (b ∷ bs) ≡ attributes_text (x.0 ∷ parts.0) = front.spelt
+    ∙ ap (λ (t : List ℕ). attribute_text x.0 ++ t) more.spelt in
     subst (Spell (b ∷ bs)) parts.2 (record { spelt = spelt; attributes = (front.attribute, more.attributes) }))
 
 -- an attribute's octets begin with that attribute
-pub attribute_at-attribute_text : (a : Attribute) (rest : List ℕ) → IsAttribute a → attribute_at (attribute_text a ++ rest) ≡ Some (a, rest)
+pub attribute_at-attribute_text : (a : Attribute) (rest : List ℕ) → IsAttribute a →
+    attribute_at (attribute_text a ++ rest) ≡ Some (a, rest)
 attribute_at-attribute_text a rest fits =
     let two : nat_le 2 (length a.value + 2) ≡ true = grind (arith, nat_tests) in
-    let all_there : nat_le (length a.value + 2) (length (a.value ++ rest) + 2) ≡ true = grind (arith, nat_tests, length-append a.value rest) in
+    let all_there : nat_le (length a.value + 2) (length (a.value ++ rest) + 2) ≡ true =
+    grind (arith, nat_tests, length-append a.value rest) in
     let size : length a.value + 2 - 2 ≡ length a.value = omega arith in
-    rw (two, all_there, size, take_at a.value rest (length a.value) refl, drop_at a.value rest (length a.value) refl) refl
+    rw (
+      two,
+      all_there,
+      size,
+      take_at a.value rest (length a.value) refl,
+      drop_at a.value rest (length a.value) refl,
+    ) refl
 
 -- what attributes spell is read as them
-pub attributes_of-attributes_text : (all : List Attribute) → AllByRecursion IsAttribute all → attributes_of (attributes_text all) ≡ Some all
+pub attributes_of-attributes_text : (all : List Attribute) → AllByRecursion IsAttribute all →
+    attributes_of (attributes_text all) ≡ Some all
 unfolding attributes_of attributes_within
 attributes_of-attributes_text [] h = refl
 attributes_of-attributes_text (a ∷ all) h =

@@ -32,7 +32,8 @@ some_answered None q p h = absurd (cc h)
 some_answered (Some all) q p h = (refl, cc h)
 
 -- a datagram whose front is a packet's octets reads as that packet
-front_reads : (d : List ℕ) → AreOctets d → HasLength d → IsSome (attributes_of (drop 20 (front_of d))) → ReadsAs d (packet_of (front_of d))
+front_reads : (d : List ℕ) → AreOctets d → HasLength d → IsSome (attributes_of (drop 20 (front_of d))) →
+    ReadsAs d (packet_of (front_of d))
 front_reads d octets fits some =
     let text = IsPacketText-front d octets fits some in
     let low = fits.at_least_header in
@@ -47,7 +48,8 @@ reads d p octets h =
       | inr long ↦ elim (cases_Bool (has_length d)) [
         | inl fits ↦
             let q : Packet = packet_of (front_of d) in
-            let k : option_map_or (answer q) (attributes_of (drop 20 (front_of d))) (Err refusal.BadAttribute) ≡ Ok p = rw (long, fits) at h in
+            let k : option_map_or (answer q) (attributes_of (drop 20 (front_of d))) (Err refusal.BadAttribute)
+            ≡ Ok p = rw (long, fits) at h in
             let some = some_answered (attributes_of (drop 20 (front_of d))) q p k in
             subst (ReadsAs d) some.1 (front_reads d octets (test_fits d fits) some.0)
         | inr bad ↦ absurd (let k : Err refusal.BadLength ≡ Ok p = rw (long, bad) at h in cc)

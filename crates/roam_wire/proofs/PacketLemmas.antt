@@ -10,12 +10,19 @@ use Rattle.roam_wire.proofs.AttributeLemmas.{read_spells, attributes_of-attribut
 pub packet_of-packet_text : (p : Packet) → IsPacket p → packet_of (packet_text p) ≡ p
 unfolding packet_of
 packet_of-packet_text p h =
-    rw (take_at p.authenticator (attributes_text p.attributes) 16 h.authenticator, drop_at p.authenticator (attributes_text p.attributes) 16 h.authenticator, attributes_of-attributes_text p.attributes h.attributes) refl
+    rw (
+      take_at p.authenticator (attributes_text p.attributes) 16 h.authenticator,
+      drop_at p.authenticator (attributes_text p.attributes) 16 h.authenticator,
+      attributes_of-attributes_text p.attributes h.attributes,
+    ) refl
 
 -- behind the header stand the attributes
 pub attributes_of-packet_text : (p : Packet) → IsPacket p → attributes_of (drop 20 (packet_text p)) ≡ Some p.attributes
 attributes_of-packet_text p h =
-    rw (drop_at p.authenticator (attributes_text p.attributes) 16 h.authenticator, attributes_of-attributes_text p.attributes h.attributes) refl
+    rw (
+      drop_at p.authenticator (attributes_text p.attributes) 16 h.authenticator,
+      attributes_of-attributes_text p.attributes h.attributes,
+    ) refl
 
 pub length-packet_text : (p : Packet) → IsPacket p → length (packet_text p) ≡ packet_length p
 length-packet_text p h = omega (arith, length-append p.authenticator (attributes_text p.attributes), h.authenticator)
@@ -32,26 +39,38 @@ list_of None h = absurd (cc)
 list_of (Some all) h = (all, refl)
 
 -- a header of the right Length, and attributes, are a packet's octets
-header_and_attributes : (a b c e : ℕ) (rest : List ℕ) (all : List Attribute) → AreOctets (a ∷ b ∷ c ∷ e ∷ rest) → 16 ≤ length rest → length rest ≤ 4092 → 256 * c + e ≡ length rest + 4 → attributes_of (drop 16 rest) ≡ Some all → IsPacketText (a ∷ b ∷ c ∷ e ∷ rest)
+header_and_attributes : (a b c e : ℕ) (rest : List ℕ) (all : List Attribute) → AreOctets (a ∷ b ∷ c ∷ e ∷ rest) →
+    16 ≤ length rest → length rest ≤ 4092 → 256 * c + e ≡ length rest + 4 → attributes_of (drop 16 rest) ≡ Some all →
+    IsPacketText (a ∷ b ∷ c ∷ e ∷ rest)
 unfolding packet_of
 header_and_attributes a b c e rest all fits low high field found =
     let fit : AreOctets (drop 16 rest) = AreOctets-drop 20 (a ∷ b ∷ c ∷ e ∷ rest) fits in
     let read = read_spells (length (drop 16 rest)) (drop 16 rest) all (omega arith) fit found in
-    let size : 20 + length (attributes_text all) ≡ 256 * c + e = rw (← read.spelt) (omega (arith, length-drop 16 rest)) in
+    let size : 20 + length (attributes_text all) ≡ 256 * c + e =
+    rw (← read.spelt) (omega (arith, length-drop 16 rest)) in
     let octet : e < 256 = fits 3 in
     let p : Packet = record { code = a; id = b; authenticator = take 16 rest; attributes = all } in
     let is_p : packet_of (a ∷ b ∷ c ∷ e ∷ rest) ≡ p = rw found refl in
     let behind : AreOctets rest = λ i. fits (suc (suc (suc (suc i)))) in
-    let packet : IsPacket p = record { code = fits 0; id = fits 1; octets = AreOctets-take 16 rest behind; authenticator = omega (arith, length-take 16 rest); attributes = read.attributes; size = omega arith } in
+    let packet : IsPacket p = record {
+      code = fits 0;
+      id = fits 1;
+      octets = AreOctets-take 16 rest behind;
+      authenticator = omega (arith, length-take 16 rest);
+      attributes = read.attributes;
+      size = omega arith;
+    } in
     let high_octet : packet_length p / 256 ≡ c = omega arith in
     let low_octet : packet_length p % 256 ≡ e = omega arith in
     let tail : take 16 rest ++ attributes_text all ≡ rest = rw (← read.spelt) (take-append-drop 16 rest) in
     let spelt : packet_text p ≡ a ∷ b ∷ c ∷ e ∷ rest =
-    ap (λ (t : List ℕ). a ∷ b ∷ (packet_length p / 256) ∷ (packet_length p % 256) ∷ t) tail ∙ rw (high_octet, low_octet) refl in
+    ap (λ (t : List ℕ). a ∷ b ∷ (packet_length p / 256) ∷ (packet_length p % 256) ∷ t) tail
+    ∙ rw (high_octet, low_octet) refl in
     record { packet = subst IsPacket (sym is_p) packet; spelt = sym (ap packet_text is_p ∙ spelt) }
 
 -- octets whose Length is their number, and that are attributes behind the header
-pub IsPacketText-octets : (octets : List ℕ) → AreOctets octets → 20 ≤ length octets → length octets ≤ 4096 → length_field octets ≡ length octets → IsSome (attributes_of (drop 20 octets)) → IsPacketText octets
+pub IsPacketText-octets : (octets : List ℕ) → AreOctets octets → 20 ≤ length octets → length octets ≤ 4096 →
+    length_field octets ≡ length octets → IsSome (attributes_of (drop 20 octets)) → IsPacketText octets
 IsPacketText-octets [] fits low high field h = absurd (omega arith)
 IsPacketText-octets (a ∷ []) fits low high field h = absurd (omega arith)
 IsPacketText-octets (a ∷ b ∷ []) fits low high field h = absurd (omega arith)
@@ -65,21 +84,27 @@ abbrev pub front : List ℕ → List ℕ
 front datagram = take (length_field datagram) datagram
 
 -- the front of a datagram has the datagram's Length field
-length_field-front : (datagram : List ℕ) → 4 ≤ length_field datagram → length_field (front datagram) ≡ length_field datagram
+length_field-front : (datagram : List ℕ) → 4 ≤ length_field datagram →
+    length_field (front datagram) ≡ length_field datagram
 length_field-front datagram four =
-    let third : get_or (front datagram) 2 0 ≡ get_or datagram 2 0 = get_or-take (length_field datagram) datagram 2 0 (omega arith) in
-    let fourth : get_or (front datagram) 3 0 ≡ get_or datagram 3 0 = get_or-take (length_field datagram) datagram 3 0 (omega arith) in
+    let third : get_or (front datagram) 2 0 ≡ get_or datagram 2 0 =
+    get_or-take (length_field datagram) datagram 2 0 (omega arith) in
+    let fourth : get_or (front datagram) 3 0 ≡ get_or datagram 3 0 =
+    get_or-take (length_field datagram) datagram 3 0 (omega arith) in
     omega arith
 
 -- a front that is a header and attributes is a packet's octets
-pub IsPacketText-front : (datagram : List ℕ) → AreOctets datagram → HasLength datagram → IsSome (attributes_of (drop 20 (front datagram))) → IsPacketText (front datagram)
+pub IsPacketText-front : (datagram : List ℕ) → AreOctets datagram → HasLength datagram →
+    IsSome (attributes_of (drop 20 (front datagram))) → IsPacketText (front datagram)
 IsPacketText-front datagram fits h some =
     let low = h.at_least_header in
     let high = h.at_most_4096 in
     let came = h.all_came in
-    let size : length (front datagram) ≡ length_field datagram = omega (arith, length-take (length_field datagram) datagram) in
+    let size : length (front datagram) ≡ length_field datagram =
+    omega (arith, length-take (length_field datagram) datagram) in
     let same = length_field-front datagram (omega arith) in
-    IsPacketText-octets (front datagram) (AreOctets-take (length_field datagram) datagram fits) (omega arith) (omega arith) (omega arith) some
+    IsPacketText-octets (front datagram) (AreOctets-take (length_field datagram) datagram fits) (omega arith)
+    (omega arith) (omega arith) some
 
 -- what follows where a datagram reads as a packet
 pub record Follows (datagram : List ℕ) (p : Packet) : Type 0 where
@@ -104,15 +129,21 @@ ReadsAs-follows datagram p reads =
     }
 
 -- octets of a packet have its attributes behind the header
-pub attributes_of-octets : (octets : List ℕ) → IsPacketText octets → attributes_of (drop 20 octets) ≡ Some (packet_of octets).attributes
+pub attributes_of-octets : (octets : List ℕ) → IsPacketText octets →
+    attributes_of (drop 20 octets) ≡ Some (packet_of octets).attributes
 attributes_of-octets octets h =
-    subst (λ (t : List ℕ). attributes_of (drop 20 t) ≡ Some (packet_of octets).attributes) (sym h.spelt) (attributes_of-packet_text (packet_of octets) h.packet)
+    subst (λ (t : List ℕ). attributes_of (drop 20 t) ≡ Some (packet_of octets).attributes) (sym h.spelt)
+    (attributes_of-packet_text (packet_of octets) h.packet)
 
 -- each attribute takes two octets at least
 length-attributes_text : (all : List Attribute) → 2 * length all ≤ length (attributes_text all)
 length-attributes_text [] = omega arith
 length-attributes_text (a ∷ all) =
-    omega (arith, length-attributes_text all, length-append (a.kind ∷ (length a.value + 2) ∷ a.value) (attributes_text all))
+    omega (
+      arith,
+      length-attributes_text all,
+      length-append (a.kind ∷ (length a.value + 2) ∷ a.value) (attributes_text all),
+    )
 
 -- so a packet has at most 2038
 pub length-attributes : (p : Packet) → IsPacket p → length p.attributes ≤ 2038

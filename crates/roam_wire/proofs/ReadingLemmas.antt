@@ -34,7 +34,8 @@ none_some : (o : Option (List Attribute)) → (IsSome o → ⊥) → o ≡ None
 none_some None h = refl
 none_some (Some all) h = absurd (h refl)
 
-pub reading-bad_attribute : (d : List ℕ) → 20 ≤ length d → HasLength d → (IsSome (attributes_of (drop 20 (front_of d))) → ⊥) → reading d ≡ Err refusal.BadAttribute
+pub reading-bad_attribute : (d : List ℕ) → 20 ≤ length d → HasLength d →
+    (IsSome (attributes_of (drop 20 (front_of d))) → ⊥) → reading d ≡ Err refusal.BadAttribute
 unfolding reading
 reading-bad_attribute d enough fits none =
     rw (header_came d enough, has_length-true d fits, none_some (attributes_of (drop 20 (front_of d))) none) refl
@@ -44,11 +45,14 @@ abbrev answer : Packet → List Attribute → Result Packet Refusal
 answer p all = Ok p
 
 -- where there are
-some_mapped : (o : Option (List Attribute)) (p : Packet) → IsSome o → option_map_or (answer p) o (Err refusal.BadAttribute) ≡ Ok p
+some_mapped : (o : Option (List Attribute)) (p : Packet) → IsSome o →
+    option_map_or (answer p) o (Err refusal.BadAttribute) ≡ Ok p
 some_mapped None p h = absurd (cc)
 some_mapped (Some all) p h = refl
 
-pub reading-ok : (d : List ℕ) → 20 ≤ length d → HasLength d → IsSome (attributes_of (drop 20 (front_of d))) → reading d ≡ Ok (packet_of (front_of d))
+pub reading-ok : (d : List ℕ) → 20 ≤ length d → HasLength d → IsSome (attributes_of (drop 20 (front_of d))) →
+    reading d ≡ Ok (packet_of (front_of d))
 unfolding reading
 reading-ok d enough fits some =
-    rw (header_came d enough, has_length-true d fits) (some_mapped (attributes_of (drop 20 (front_of d))) (packet_of (front_of d)) some)
+    rw (header_came d enough, has_length-true d fits)
+    (some_mapped (attributes_of (drop 20 (front_of d))) (packet_of (front_of d)) some)

@@ -27,12 +27,14 @@ abbrev then_all : Front → Option (List Attribute)
 then_all x = with_first x.0 (attributes_of x.1)
 
 -- a step that is alike at the front that was found is alike
-same_steps : (f g : Front → Option (List Attribute)) (found : Option Front) → ((x : Front) → found ≡ Some x → f x ≡ g x) → option_and_then f found ≡ option_and_then g found
+same_steps : (f g : Front → Option (List Attribute)) (found : Option Front) →
+    ((x : Front) → found ≡ Some x → f x ≡ g x) → option_and_then f found ≡ option_and_then g found
 same_steps f g None same = refl
 same_steps f g (Some x) same = same x refl
 
 -- any bound that the octets keep serves as well as another
-pub attributes_within-bound : (n m : ℕ) (octets : List ℕ) → length octets ≤ n → length octets ≤ m → attributes_within n octets ≡ attributes_within m octets
+pub attributes_within-bound : (n m : ℕ) (octets : List ℕ) → length octets ≤ n → length octets ≤ m →
+    attributes_within n octets ≡ attributes_within m octets
 unfolding attributes_within
 attributes_within-bound n m [] p q = refl
 attributes_within-bound zero m (b ∷ bs) p q = absurd (omega arith)
@@ -43,7 +45,8 @@ attributes_within-bound (suc n) (suc m) (b ∷ bs) p q =
     ap (with_first x.0) (attributes_within-bound n m x.1 (omega arith) (omega arith)))
 
 -- all octets as attributes: the first one, then the rest
-pub attributes_of-cons : (b : ℕ) (bs : List ℕ) → attributes_of (b ∷ bs) ≡ option_and_then (λ x. with_first x.0 (attributes_of x.1)) (attribute_at (b ∷ bs))
+pub attributes_of-cons : (b : ℕ) (bs : List ℕ) →
+    attributes_of (b ∷ bs) ≡ option_and_then (λ x. with_first x.0 (attributes_of x.1)) (attribute_at (b ∷ bs))
 unfolding attributes_of attributes_within
 attributes_of-cons b bs =
     same_steps (then_within (length bs)) then_all (attribute_at (b ∷ bs)) (λ x found.
@@ -56,13 +59,15 @@ IsSome-with_first a None = (λ h. h, λ h. h)
 IsSome-with_first a (Some more) = (λ h. h, λ h. h)
 
 -- octets are attributes just where those behind the first one are
-pub IsSome-behind : (octets : List ℕ) (x : Front) → attribute_at octets ≡ Some x → IsSome (attributes_of octets) ↔ IsSome (attributes_of x.1)
+pub IsSome-behind : (octets : List ℕ) (x : Front) → attribute_at octets ≡ Some x → IsSome (attributes_of octets)
+    ↔ IsSome (attributes_of x.1)
 IsSome-behind [] x found = absurd (cc)
 IsSome-behind (b ∷ bs) x found =
     rw (attributes_of-cons b bs, found) (IsSome-with_first x.0 (attributes_of x.1))
 
 -- octets with no attribute at the front are no attributes
-pub none_at_front : (octets : List ℕ) → length octets ≢ 0 → attribute_at octets ≡ None → IsSome (attributes_of octets) → ⊥
+pub none_at_front : (octets : List ℕ) → length octets ≢ 0 → attribute_at octets ≡ None →
+    IsSome (attributes_of octets) → ⊥
 none_at_front [] some none h = some refl
 none_at_front (b ∷ bs) some none h = absurd (cc (rw (attributes_of-cons b bs, none) at h))
 
@@ -73,20 +78,24 @@ IsSome-empty [] h = refl
 IsSome-empty (b ∷ bs) h = absurd (omega arith)
 
 -- the list of an attribute before others
-unwrap_or-with_first : (a : Attribute) (others : Option (List Attribute)) → IsSome (with_first a others) → unwrap_or (with_first a others) [] ≡ a ∷ unwrap_or others []
+unwrap_or-with_first : (a : Attribute) (others : Option (List Attribute)) → IsSome (with_first a others) →
+    unwrap_or (with_first a others) [] ≡ a ∷ unwrap_or others []
 unwrap_or-with_first a None h = absurd (cc h)
 unwrap_or-with_first a (Some more) h = refl
 
 -- the attributes of octets: the first one, and those behind it
-pub first_and_others : (octets : List ℕ) (x : Front) → attribute_at octets ≡ Some x → IsSome (attributes_of octets) → unwrap_or (attributes_of octets) [] ≡ x.0 ∷ unwrap_or (attributes_of x.1) []
+pub first_and_others : (octets : List ℕ) (x : Front) → attribute_at octets ≡ Some x → IsSome (attributes_of octets) →
+    unwrap_or (attributes_of octets) [] ≡ x.0 ∷ unwrap_or (attributes_of x.1) []
 first_and_others [] x found h = absurd (cc)
 first_and_others (b ∷ bs) x found h =
-    let whole : attributes_of (b ∷ bs) ≡ with_first x.0 (attributes_of x.1) = rw (attributes_of-cons b bs, found) refl in
+    let whole : attributes_of (b ∷ bs) ≡ with_first x.0 (attributes_of x.1) =
+    rw (attributes_of-cons b bs, found) refl in
     ap (λ (o : Option (List Attribute)). unwrap_or o []) whole
     ∙ unwrap_or-with_first x.0 (attributes_of x.1) (subst IsSome whole h)
 
 -- where no attribute is at the front, none is left
-pub none_left : (octets : List ℕ) → attribute_at octets ≡ None → IsSome (attributes_of octets) → unwrap_or (attributes_of octets) [] ≡ []
+pub none_left : (octets : List ℕ) → attribute_at octets ≡ None → IsSome (attributes_of octets) →
+    unwrap_or (attributes_of octets) [] ≡ []
 unfolding attributes_of attributes_within
 none_left [] none h = refl
 none_left (b ∷ bs) none h = absurd (none_at_front (b ∷ bs) (λ e. omega arith) none h)

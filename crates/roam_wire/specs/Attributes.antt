@@ -6,6 +6,13 @@ use Rattle.roam_wire.specs.Packet.{Attribute}
 abbrev pub has_kind : ℕ → Attribute → Bool
 has_kind kind a = a.kind == kind
 
+-- ## First value, count
+-- The Value of the first attribute of a Type; how many attributes have that Type. Wherever a rule speaks of
+-- "the first" attribute of a Type, that one alone decides.
+-- Source: RFC 2865 section 5, ours
+-- Rules out: a later attribute that mends a bad first one
+-- Stands in: `roam_wire` `Attributes.antt`: `first_value`, `count_of`; `View::first`, `View::count`
+--
 -- the Value of the first attribute of a Type, if there is one
 abbrev pub first_value : ℕ → List Attribute → Option (List ℕ)
 first_value kind attributes = option_map (λ a. a.value) (find (has_kind kind) attributes)

@@ -1,4 +1,5 @@
--- The numbers of codes and attribute types, and the size of the largest packet, as the RFCs give them. Each is a clause of a function of
+-- The numbers of codes and attribute types, and the size of the largest packet, as the RFCs give them. Each is a
+-- clause of a function of
 -- src/laws.rt.
 use Rattle.std.specs.Prelude.{◌≡◌, [], ◌∷◌}
 use Rattle.roam_wire.specs.declared.attribute_type.TheConstants as kind

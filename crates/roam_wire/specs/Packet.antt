@@ -8,6 +8,13 @@ pub record Attribute : Type 0 where
   pub kind : ℕ
   pub value : List ℕ
 
+-- ## Packet
+-- A Code, an Identifier, an Authenticator of 16 octets, and a list of attributes, each a Type and a Value of 0
+-- to 253 octets; each of them a number below 256; at most 4096 octets in all, for every code.
+-- Source: RFC 2865 section 3; the limit for accounting is ours
+-- Rules out: a list of attributes that no datagram can hold
+-- Stands in: `roam_wire` `Packet.antt`: `Packet`, `IsPacket`
+--
 -- a packet: Code, Identifier, Authenticator, attributes (RFC 2865, section 3)
 pub record Packet : Type 0 where
   pub code : ℕ
@@ -27,6 +34,13 @@ attributes_text attributes = flat_map attribute_text attributes
 abbrev pub packet_length : Packet → ℕ
 packet_length p = 20 + length (attributes_text p.attributes)
 
+-- ## Packet text
+-- The packet's octets: Code, Identifier, Length in two octets with the high one first, Authenticator, and each
+-- attribute as Type, Length, Value.
+-- Source: RFC 2865 sections 3 and 5
+-- Rules out: a Length that counts something else
+-- Stands in: `roam_wire` `Packet.antt`: `packet_text`; `PacketBuf::finish`
+--
 -- the octets of a packet: Code, Identifier, Length in two octets with the high one first,
 -- Authenticator, attributes (RFC 2865, section 3)
 abbrev pub packet_text : Packet → List ℕ

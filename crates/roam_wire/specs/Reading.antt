@@ -17,6 +17,14 @@ pub record HasLength (datagram : List ℕ) : Type 0 where
   pub at_most_4096 : length_field datagram ≤ MAX_PACKET_LENGTH
   pub all_came : length_field datagram ≤ length datagram
 
+-- ## Reads as
+-- A datagram of at least 20 octets reads as a packet where its first octets, as many as its Length field says,
+-- are the packet's text. What stands behind them is padding. It asks whether a packet exists, and not how one
+-- looks for it.
+-- Source: RFC 2865 section 3
+-- Rules out: padding read as attributes; an attribute of length 0 or 1; an attribute that passes the end
+-- Stands in: `roam_wire` `Reading.antt`: `ReadsAs`, `Reads`, `HasLength`; `View::read`
+--
 -- a datagram reads as a packet where its first octets, as many as its Length field says, are the
 -- packet's octets; the octets behind them are padding (RFC 2865, section 3)
 pub record ReadsAs (datagram : List ℕ) (p : Packet) : Type 0 where

@@ -3,6 +3,14 @@
 //!
 //! Nothing here reads a socket or a clock. A datagram is a slice, and a packet is looked at where it
 //! lies in it. What reads takes no memory and copies no octets.
+//!
+//! # Proved
+//!
+//! - a datagram reads as the packet that its octets are, and as no other | `View::read`
+//! - `Short`, `BadLength`, `BadAttribute` come exactly when their causes hold, in that order | `View::read`
+//! - the octets built are those of what was pushed; `TooLong` just past 4096 | `PacketBuf`
+//! - the numbers of codes and attribute types are those of the RFCs, and so is the size of the largest packet,
+//!   4096 octets | laws `numbers_of_codes`, `numbers_of_attribute_types`, `largest_packet`
 #![tactic(auto)]
 
 mod attribute_grammar;

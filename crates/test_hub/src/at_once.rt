@@ -180,7 +180,7 @@ pub(crate) fn called_at_once<N: Opened + Send + Sync, R: Abort + Threads + Wait 
     Ended {
         receipts: (first.receipt, second.receipt),
         seats: (first.seat, second.seat),
-        report: hub.close().expect(rt, "a report"),
+        report: hub.close(rt).expect(rt, "a report"),
         stage: meeting.stage.load(Ordering::SeqCst),
         shards: meeting.shards.load(Ordering::SeqCst),
     }

@@ -211,7 +211,7 @@ pub(crate) fn paused<A: Allocator + Copy, N: Opened + Send + Sync, R: Abort + Wa
     let (hub, mut seat) = Hub::<A, N>::open(alloc, config, starts, blanks).expect(rt, "a hub");
     assert!(rt; are_answered(rt, alloc, config, &hub, &mut seat, &BEFORE));
     let room = hub.pause_room().expect(rt, "memory");
-    let PausedHub { shards, .. } = hub.pause(room).expect(rt, "shards");
+    let PausedHub { shards, .. } = hub.pause(rt, room).expect(rt, "shards");
     shards
 }
 

@@ -65,7 +65,7 @@ fn due<N: Opened + Send + Sync, R: Abort + Wait>(
     };
     let no_shard = caller.tick_if_due(rt, 1000, 1).err();
     let _seat = caller.into_seat();
-    let report = hub.close().expect(rt, "a report");
+    let report = hub.close(rt).expect(rt, "a report");
     let steps = report.steps.first().map(|steps| steps.len()).unwrap_or(0);
     (at_first, too_soon, looks, tick, no_shard, steps)
 }

@@ -176,7 +176,7 @@ fn closed<'r, N: Opened + Send + Sync, R: Abort + Wait>(
     let _receipt = caller.submit(rt, &Open).expect(rt, "a receipt");
     let _seat = caller.into_seat();
     over.refuse_nth(n);
-    let report = hub.close().ok()?;
+    let report = hub.close(rt).ok()?;
     report.steps.first().map(|steps| steps.len())
 }
 

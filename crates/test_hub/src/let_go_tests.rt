@@ -115,7 +115,7 @@ fn full<N: Opened + Send + Sync, R: Abort + Wait>(
     let (_, none) = arrive(rt, alloc, config, &hub, &mut seat, &first);
     let (answered, gone) = arrive(rt, alloc, config, &hub, &mut seat, &second);
     let is_second = sends(rt, alloc, &answered.answer, SECOND_OF_HUB);
-    let report = hub.close().expect(rt, "a report");
+    let report = hub.close(rt).expect(rt, "a report");
     let stored = report.steps.first().map(|steps| steps.len()).unwrap_or(0);
     let all = report.fronts.first().map(|front| front.len()).unwrap_or(0);
     let mut seats = Vec::new(alloc);

@@ -38,7 +38,7 @@ fn called_twice<N: Opened + Send + Sync, R: Abort + Wait>(
     let _first = caller.submit(rt, &Open).expect(rt, "a receipt");
     let second = caller.submit(rt, &Open).err();
     let _seat = caller.into_seat();
-    let report = hub.close().expect(rt, "a report");
+    let report = hub.close(rt).expect(rt, "a report");
     let steps = report.steps.first().map(|steps| steps.len());
     (second, steps, report.starts)
 }

@@ -85,7 +85,7 @@ fn roll_both<N: Opened + Send + Sync, R: Abort + Threads + Wait + Sync>(
     let first = Caller::new(rt, alloc, config, &hub, first, REQUEST_7);
     let second = Caller::new(rt, alloc, config, &hub, second, REQUEST_7);
     let (first, second) = thread::join(rt, || roll(rt, first), || roll(rt, second));
-    let report = hub.close().expect(rt, "a report");
+    let report = hub.close(rt).expect(rt, "a report");
     let stored = report.steps.first().map(|steps| steps.len()).unwrap_or(0) as u64;
     let all = report.fronts.first().map(|front| front.len()).unwrap_or(0);
     let gone = first.gone.saturating_add(second.gone);

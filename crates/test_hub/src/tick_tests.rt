@@ -42,7 +42,7 @@ fn ticked<N: Opened + Send + Sync, R: Abort + Wait>(
     let tick = caller.tick(rt, 1000, 0, &Open).expect(rt, "a receipt");
     let no_shard = caller.tick(rt, 1000, 1, &Open).err();
     let _seat = caller.into_seat();
-    let report = hub.close().expect(rt, "a report");
+    let report = hub.close(rt).expect(rt, "a report");
     let steps = report.steps.first().map(|steps| steps.len());
     let start = report.starts.first().copied();
     (

@@ -194,7 +194,7 @@ impl<'p, 'r> Player<'p, 'r> {
         let mut caller = Caller::new(self.over, config, &hub, seat, no_receipts);
         self.calls_all(rt, row, &mut caller, meets_refusals);
         let (seat, receipts) = caller.into_parts();
-        match hub.close() {
+        match hub.close(rt) {
             Ok(report) => self.audits(row.line, &report, &[seat], &receipts, meets_refusals),
             Err(_) => self.tell(row.line, "hub", "a report", "a fault"),
         }

@@ -1,6 +1,6 @@
 //! A program that plays the rows of a folder over the broker, and says which differ. It is a test alone.
 //!
-//! It reads three folders where it runs: `rows/` has worked rows, `random/` random ones, and `configurations/` those
+//! It reads three folders where it runs: `oracle/` has worked rows, `random/` random ones, and `configurations/` those
 //! that the rows name; `faulty-lines` has lines that are none of a script. What a row is stands in `row`; it is played
 //! with memory in `playing`, with growths refused in `growths` and `losses`, and through a hub in `hubs`. `stored` looks
 //! at the steps that a broker over traces stored.
@@ -67,7 +67,7 @@ fn plays_through_hubs<R: Wait>(
     Ok(())
 }
 
-/// Plays all rows, and says how many: all of them over each broker, and those of `rows/` through hubs. Over traces no
+/// Plays all rows, and says how many: all of them over each broker, and those of `oracle/` through hubs. Over traces no
 /// growths of random rows are refused. Whether all is as they say.
 fn plays_all<R: Wait>(rt: &HostRuntime, waiting: &R) -> io::Result<bool> {
     let refusing = Refusing::new(rt.alloc());

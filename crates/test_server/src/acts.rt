@@ -22,7 +22,7 @@ fn carried(octets: &[u8]) -> &[u8] {
 
 /// Sends an Accounting-Request until the home server hears it, with its attributes and a ticket. It
 /// isn't answered.
-fn send_until_heard(ends: &Ends, request: &[u8]) -> Result<Arrival, &'static str> {
+pub(crate) fn send_until_heard(ends: &Ends, request: &[u8]) -> Result<Arrival, &'static str> {
     let attributes = request.get(20..).unwrap_or(&[]);
     for _ in 0..SENDS {
         if ends.client.send_to(request, local(11813)).is_err() {
@@ -56,7 +56,7 @@ pub(crate) fn let_go(ends: &Ends) -> Verdict {
 }
 
 /// An exchange, and what else comes of a request that was sent more than once.
-fn alone(ends: &Ends, to: SocketAddr, home: &UdpSocket, exchange: &Exchange) -> Verdict {
+pub(crate) fn alone(ends: &Ends, to: SocketAddr, home: &UdpSocket, exchange: &Exchange) -> Verdict {
     complete(ends, to, home, exchange)?;
     pass_over(ends);
     Ok(())

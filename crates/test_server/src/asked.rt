@@ -49,21 +49,23 @@ fn answer<R: Net>(stage: &Stage<'_, R>, alloc: Global, request: &[u8]) -> Option
     None
 }
 
-/// Whether an answer begins so.
-fn begins(answer: &Option<Vec<u8>>, beginning: &[u8]) -> bool {
-    match answer {
+/// Whether a request is answered so.
+fn is_answered<R: Net>(
+    stage: &Stage<'_, R>,
+    alloc: Global,
+    request: &[u8],
+    beginning: &[u8],
+) -> bool {
+    match answer(stage, alloc, request) {
         Some(answer) => answer.as_slice().starts_with(beginning),
         None => false,
     }
 }
 
-/// Whether a line stands in an answer.
-fn has_line(answer: &Option<Vec<u8>>, line: &[u8]) -> bool {
+/// Whether a line stands in a page.
+fn has_line(page: &[u8], line: &[u8]) -> bool {
     let size = line.len();
-    match answer {
-        Some(answer) if size > 0 => answer.as_slice().windows(size).any(|part| part == line),
-        _ => false,
-    }
+    size > 0 && page.windows(size).any(|part| part == line)
 }
 
 /// What a page says of the exchange.
@@ -74,47 +76,81 @@ const LINES: [&str; 4] = [
     "\nroam_peer_returned_total{peer=\"nas1\",code=\"access_accept\",} 1\n",
 ];
 
-/// An exchange, and who asks for the counts of it, while others say nothing, too slowly or too much.
-pub(crate) fn metrics<R: Clock + Net>(stage: &Stage<'_, R>, ends: &Ends, alloc: Global) -> Verdict {
-    complete(ends, local(11812), &ends.home, &ACCESS)?;
-    let mut silent = Vec::new(alloc);
-    for _ in 0..SILENT {
-        let Some(mut stream) = connect(stage) else {
-            return Err("no connection is taken");
-        };
-        if stream.write(b"G").is_err() || silent.push(stream).is_err() {
-            return Err("nothing can be written to a connection");
+/// Whether a page says all of it.
+fn has_lines(page: &[u8]) -> bool {
+    for line in &LINES {
+        if !has_line(page, line.as_bytes()) {
+            return false;
         }
     }
-    let page = answer(
-        stage,
-        alloc,
-        b"GET /metrics HTTP/1.1\r\nHost: 127.0.0.1\r\n\r\n",
-    );
-    if !begins(&page, b"HTTP/1.1 200 ") {
-        return Err("the counts aren't answered");
-    }
-    for line in LINES {
-        if !has_line(&page, line.as_bytes()) {
-            return Err("the counts aren't what was done");
+    true
+}
+
+/// What asks for the counts.
+const COUNTS: &[u8] = b"GET /metrics HTTP/1.1\r\nHost: 127.0.0.1\r\n\r\n";
+
+/// Whether the counts are answered, and are what was done.
+fn are_counted<R: Net>(stage: &Stage<'_, R>, alloc: Global) -> bool {
+    match answer(stage, alloc, COUNTS) {
+        Some(page) => {
+            page.as_slice().starts_with(b"HTTP/1.1 200 ") && has_lines(page.as_slice())
         }
+        None => false,
     }
-    let other = answer(stage, alloc, b"GET / HTTP/1.1\r\nHost: 127.0.0.1\r\n\r\n");
-    let posted = answer(
-        stage,
-        alloc,
+}
+
+/// Other requests, and with what their answers begin.
+const OTHERS: [(&[u8], &[u8]); 3] = [
+    (
+        b"GET / HTTP/1.1\r\nHost: 127.0.0.1\r\n\r\n",
+        b"HTTP/1.1 404 ",
+    ),
+    (
         b"POST /metrics HTTP/1.1\r\nHost: 127.0.0.1\r\nContent-Length: 0\r\n\r\n",
-    );
-    let unread = answer(stage, alloc, b"\0\r\n\r\n");
+        b"HTTP/1.1 405 ",
+    ),
+    (b"\0\r\n\r\n", b"HTTP/1.1 400 "),
+];
+
+/// Whether other requests, and one that is too long, are answered as they should be.
+fn are_others_answered<R: Net>(stage: &Stage<'_, R>, alloc: Global) -> bool {
+    for (request, beginning) in &OTHERS {
+        if !is_answered(stage, alloc, request, beginning) {
+            return false;
+        }
+    }
     let mut long = [b'a'; 20_000];
     long[..14].copy_from_slice(b"GET /metrics?a");
-    let long = answer(stage, alloc, &long);
-    if !begins(&other, b"HTTP/1.1 404 ")
-        || !begins(&posted, b"HTTP/1.1 405 ")
-        || !begins(&unread, b"HTTP/1.1 400 ")
-        || !begins(&long, b"HTTP/1.1 414 ")
-    {
+    is_answered(stage, alloc, &long, b"HTTP/1.1 414 ")
+}
+
+/// Connections that begin to ask, and say no more: none where one of them can't be had.
+fn begin_to_ask<R: Net>(stage: &Stage<'_, R>, alloc: Global) -> Option<Vec<R::Stream>> {
+    let mut silent = Vec::new(alloc);
+    for _ in 0..SILENT {
+        let mut stream = connect(stage)?;
+        stream.write(b"G").ok()?;
+        silent.push(stream).ok()?;
+    }
+    Some(silent)
+}
+
+/// What is answered to those who ask.
+fn ask<R: Net>(stage: &Stage<'_, R>, alloc: Global) -> Verdict {
+    if !are_counted(stage, alloc) {
+        return Err("the counts aren't what was done");
+    }
+    if !are_others_answered(stage, alloc) {
         return Err("a request is answered otherwise");
     }
     Ok(())
+}
+
+/// An exchange, and who asks for the counts of it, while others say nothing, too slowly or too much.
+pub(crate) fn metrics<R: Clock + Net>(stage: &Stage<'_, R>, ends: &Ends, alloc: Global) -> Verdict {
+    complete(ends, local(11812), &ends.home, &ACCESS)?;
+    match begin_to_ask(stage, alloc) {
+        Some(_silent) => ask(stage, alloc),
+        None => Err("no connection is taken"),
+    }
 }

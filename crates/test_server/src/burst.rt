@@ -189,30 +189,57 @@ fn ask_again(ends: &Ends, realm: u16, identifier: u8) -> Verdict {
     Err("a reply is lost")
 }
 
-/// Two thousand replies of 250 realms, which all wait at their sockets while the server is held. All requests are
-/// answered then.
-pub(crate) fn burst<R: Clock>(stage: &Stage<'_, R>, ends: &Ends, alloc: Global) -> Verdict {
+/// The requests of all realms. The replies to them are for later.
+fn forward_all(ends: &Ends, alloc: Global) -> Result<Vec<Reply>, &'static str> {
     let mut replies = Vec::new(alloc);
     for realm in 0..REALMS {
         forward(ends, realm, &mut replies)?;
     }
-    stage.turnstile.shut();
-    for reply in &replies {
+    Ok(replies)
+}
+
+/// Sends all replies. Answers whether they could be sent.
+fn send_replies(ends: &Ends, replies: &[Reply]) -> bool {
+    for reply in replies {
         if ends.home.send_to(reply.packet.octets(), reply.to).is_err() {
-            return Err("the home server can't reply");
+            return false;
         }
     }
+    true
+}
+
+/// Hears what comes, at most so many.
+fn hear_all(ends: &Ends) {
+    for _ in 0..u32::from(REALMS) * u32::from(EACH) {
+        if hear(&ends.client).is_none() {
+            return;
+        }
+    }
+}
+
+/// Sends all requests of a realm again, until their replies come.
+fn ask_all_again(ends: &Ends, realm: u16) -> Verdict {
+    for identifier in 0..EACH {
+        ask_again(ends, realm, identifier)?;
+    }
+    Ok(())
+}
+
+/// Two thousand replies of 250 realms, which all wait at their sockets while the server is held. All requests are
+/// answered then.
+pub(crate) fn burst<R: Clock>(stage: &Stage<'_, R>, ends: &Ends, alloc: Global) -> Verdict {
+    let replies = forward_all(ends, alloc)?;
+    stage.turnstile.shut();
+    let is_sent = send_replies(ends, replies.as_slice());
+    drop(replies);
     thread::sleep(stage, Duration::from_millis(100));
     stage.turnstile.open();
-    for _ in 0..replies.len() {
-        if hear(&ends.client).is_none() {
-            break;
-        }
+    if !is_sent {
+        return Err("the home server can't reply");
     }
+    hear_all(ends);
     for realm in 0..REALMS {
-        for identifier in 0..EACH {
-            ask_again(ends, realm, identifier)?;
-        }
+        ask_all_again(ends, realm)?;
     }
     Ok(())
 }

@@ -15,7 +15,7 @@ const WAIT: u64 = 100;
 pub(crate) const LARGEST: usize = 4096;
 
 /// The descriptor of standard error.
-const STANDARD_ERROR: i32 = 2;
+pub(crate) const STANDARD_ERROR: i32 = 2;
 
 /// The sockets of the access server and of the home server, and what else a row holds while its
 /// server runs.

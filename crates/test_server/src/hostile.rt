@@ -64,13 +64,13 @@ fn begin<R: Clock>(stage: &Stage<'_, R>, ends: &Ends) -> Verdict {
 /// numbers.
 fn send_hostile<R: Clock>(stage: &Stage<'_, R>, ends: &Ends) -> Result<u64, &'static str> {
     let mut numbers = 0u64;
-    for (to, octet, size, number) in HOSTILE {
-        let octets = [octet; LARGEST];
-        if size > LARGEST || ends.client.send_to(&octets[..size], local(to)).is_err() {
+    for (to, octet, size, number) in &HOSTILE {
+        let octets = [*octet; LARGEST];
+        if *size > LARGEST || ends.client.send_to(&octets[..*size], local(*to)).is_err() {
             return Err("the client can't send");
         }
         thread::sleep(stage, Duration::from_millis(20));
-        numbers = numbers.saturating_add(number);
+        numbers = numbers.saturating_add(*number);
     }
     Ok(numbers)
 }

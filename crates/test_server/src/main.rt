@@ -17,25 +17,56 @@ mod ends;
 mod exchange;
 mod hostile;
 mod packets;
+mod reload;
 mod row;
 mod stage;
 
 use crate::ends::Ends;
+use crate::exchange::Verdict;
+use crate::reload::Next;
 use crate::row::{ROWS, Row, TAKEN};
-use crate::stage::Stage;
-use roam_serve::{NoSource, ServeFault, ServeOptions, Watch, serve};
+use crate::stage::{Stage, Turnstile};
+use roam_serve::{ControlSocket, ServeFault, ServeOptions, Watch, serve};
 use std::sync::atomic::AtomicU64;
 use std::{io, thread};
 
 /// Who watches the server of a row.
-fn watch<'s, R>(stage: &'s Stage<'_, R>, row: Row) -> Option<Watch<'s>> {
+fn watch<'s, R>(
+    stage: &'s Stage<'_, R>,
+    row: Row,
+    control: Option<&'s ControlSocket>,
+) -> Option<Watch<'s>> {
     match &stage.counters {
         Some(counters) => Some(Watch {
             counters,
             metrics: row.metrics(),
-            control: None,
+            control,
         }),
         None => None,
+    }
+}
+
+/// How the server of a row serves.
+fn options<'s, 't, R>(
+    stage: &'s Stage<'t, R>,
+    row: Row,
+    watch: Option<Watch<'s>>,
+) -> ServeOptions<'s, Turnstile<'t, R>> {
+    ServeOptions {
+        watch,
+        are_exchanges_told: true,
+        milliseconds: Some(row.milliseconds()),
+        gate: &stage.turnstile,
+    }
+}
+
+/// What is said of a second server beside the first, where the row wants one: it has no port left.
+fn verdict_beside(row: Row, second: Option<Result<(), ServeFault>>) -> Verdict {
+    match second {
+        None if row.has_second() => Err("the second server's configuration can't be had"),
+        None => Ok(()),
+        Some(served) if served == TAKEN => Ok(()),
+        Some(_) => Err("a second server has the ports too"),
     }
 }
 
@@ -49,47 +80,39 @@ fn main(rt: HostRuntime) -> io::Result<()> {
         if let Some(Ok(config)) = &config {
             stage.counters = row.counters(alloc, config);
         }
+        let mut next = Next {
+            alloc,
+            config: row.following(&rt, alloc),
+        };
+        let control = row.control(&rt);
+        let control = control.as_ref();
         let stage = &stage;
         let verdict = match (config, Ends::bind(&rt, row)) {
             (Some(Ok(config)), Ok(ends)) => {
                 let (acted, served) = thread::scope(thread::scope_env(), &rt, |scope| {
                     let server = scope.spawn(move || {
-                        let none = &mut NoSource { alloc };
-                        let options = ServeOptions {
-                            watch: watch(stage, row),
-                            are_exchanges_told: true,
-                            milliseconds: Some(row.milliseconds()),
-                            gate: &stage.turnstile,
-                        };
-                        let served = serve(stage, alloc, config, options, none);
+                        let watch = watch(stage, row, control);
+                        let options = options(stage, row, watch);
+                        let served = serve(stage, alloc, config, options, &mut next);
                         stage.note_end();
                         served
                     });
-                    let mut acted = row.act(stage, &ends, alloc);
-                    match second {
+                    let acted = row.act(&rt, stage, &ends, alloc);
+                    let beside = match second {
                         Some(config) => {
-                            let none = &mut NoSource { alloc };
-                            let options = ServeOptions {
-                                watch: None,
-                                are_exchanges_told: true,
-                                milliseconds: Some(row.milliseconds()),
-                                gate: &stage.turnstile,
+                            let none = &mut Next {
+                                alloc,
+                                config: None,
                             };
-                            if serve(stage, alloc, config, options, none) != TAKEN {
-                                acted = Err("a second server has the ports too");
-                            }
+                            Some(serve(stage, alloc, config, options(stage, row, None), none))
                         }
-                        None => {
-                            if row.has_second() {
-                                acted = Err("the second server's configuration can't be had");
-                            }
-                        }
-                    }
+                        None => None,
+                    };
                     if row.ends_early() {
                         stage.end();
                     }
                     match server {
-                        Ok(server) => (acted, server.join(&rt)),
+                        Ok(server) => (acted.and(verdict_beside(row, beside)), server.join(&rt)),
                         Err(_) => (acted, Err(ServeFault::Memory)),
                     }
                 });

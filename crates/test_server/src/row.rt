@@ -3,11 +3,12 @@
 use crate::asked::METRICS;
 use crate::ends::Ends;
 use crate::exchange::Verdict;
+use crate::reload::CONTROL;
 use crate::stage::Stage;
-use crate::{acts, asked, burst, counted, crowd, hostile};
+use crate::{acts, asked, burst, counted, crowd, hostile, reload};
 use roam_conf::{Config, Endpoint};
 use roam_conf_reader::read_config;
-use roam_serve::{Counters, Reason, ServeFault, with_drawn_seed};
+use roam_serve::{ControlSocket, Counters, Reason, ServeFault, with_drawn_seed};
 use std::alloc::Global;
 use std::fs;
 use std::net::Net;
@@ -32,6 +33,8 @@ pub(crate) enum Row {
     Taken,
     /// Requests on both sides of steps that are let go of.
     LetGo,
+    /// A configuration that follows the first one.
+    Reload,
     /// A request of one shard while a call of the other is held.
     Held,
     /// A socket at which every receive fails.
@@ -61,13 +64,14 @@ pub(crate) enum Row {
 }
 
 /// All rows. The last one takes standard error away.
-pub(crate) const ROWS: [Row; 19] = [
+pub(crate) const ROWS: [Row; 20] = [
     Row::Accounting,
     Row::Hostile,
     Row::Flood,
     Row::Metrics,
     Row::Taken,
     Row::LetGo,
+    Row::Reload,
     Row::Held,
     Row::Deaf,
     Row::Unreachable,
@@ -146,6 +150,7 @@ impl Row {
             Row::Metrics => "counts that are asked for, beside those who ask for nothing",
             Row::Taken => "a port that is taken",
             Row::LetGo => "requests on both sides of steps that are let go of",
+            Row::Reload => "a configuration that follows, with a request that waits across it",
             Row::Held => "a request of one shard while a call of the other is held",
             Row::Deaf => "a socket at which every receive fails, beside one that is busy",
             Row::Unreachable => "a server to which nothing can be sent",
@@ -165,6 +170,7 @@ impl Row {
     fn configuration(self) -> &'static str {
         match self {
             Row::LetGo => "short-trace.conf",
+            Row::Reload => "before.conf",
             Row::Spread => "spread.conf",
             Row::Held => "two-shards.conf",
             Row::Unreachable => "unreachable.conf",
@@ -205,7 +211,7 @@ impl Row {
             Row::Taken => Err(ServeFault::Bind(REVERSE, IN_USE)),
             Row::Deaf => Err(ServeFault::Receive),
             Row::NoClock => Err(ServeFault::Clock),
-            Row::Descriptors => Err(ServeFault::Descriptors(13)),
+            Row::Descriptors => Err(ServeFault::Descriptors(58)),
             Row::NoSeed => Err(ServeFault::Seed),
             _ => Ok(()),
         }
@@ -229,9 +235,26 @@ impl Row {
         self.config(stage, rt, alloc)?.ok()
     }
 
+    /// The configuration that follows the first one, where one is to follow; none too where it can't be read.
+    pub(crate) fn following<R: Files>(self, rt: &R, alloc: Global) -> Option<Config> {
+        match self {
+            Row::Reload => read(rt, alloc, "after.conf"),
+            _ => None,
+        }
+    }
+
+    /// Where the server is asked, if anywhere; none too where it can't be had.
+    pub(crate) fn control<R: Files + Net + Clock>(self, rt: &R) -> Option<ControlSocket> {
+        match self {
+            Row::Reload => ControlSocket::bind(rt, CONTROL).ok(),
+            _ => None,
+        }
+    }
+
     /// What happens while the server runs.
     pub(crate) fn act<R: Clock + Net>(
         self,
+        rt: &R,
         stage: &Stage<'_, R>,
         ends: &Ends,
         alloc: Global,
@@ -242,6 +265,7 @@ impl Row {
             Row::Flood => hostile::flood(stage, ends),
             Row::Metrics => asked::metrics(stage, ends, alloc),
             Row::LetGo => acts::let_go(ends),
+            Row::Reload => reload::reload(rt, ends),
             Row::Burst => burst::burst(stage, ends, alloc),
             Row::Spread => burst::spread(stage, ends),
             Row::Drawn | Row::DrawnAgain => acts::drawn(stage, ends),
@@ -292,6 +316,7 @@ impl Row {
     fn servings(self) -> u64 {
         match self {
             Row::Taken | Row::NoClock | Row::Descriptors | Row::NoSeed => 0,
+            Row::Reload => 2,
             _ => 1,
         }
     }

@@ -1,7 +1,10 @@
 //! What a server runs over: the system's runtime, but for the clock, one socket and the notices;
 //! and the gate.
 
+use crate::ends::STANDARD_ERROR;
 use crate::row::Row;
+use libc::net::{POLLOUT, poll};
+use libc::types::pollfd;
 use log::kv::Source;
 use log::span::Spans;
 use log::{Log, Metadata, Record};
@@ -346,9 +349,20 @@ impl Write for Line {
     }
 }
 
+/// Whether standard error has room for a line.
+fn has_room() -> bool {
+    let mut fds = [pollfd {
+        fd: STANDARD_ERROR,
+        events: POLLOUT,
+        revents: 0,
+    }];
+    poll(&mut fds, 0) == 1
+}
+
 impl<R: Log + Clock> Log for Stage<'_, R> {
+    /// Whether there is room for it too: a server's log holds nobody up.
     fn enabled(&self, metadata: &Metadata<'_>) -> bool {
-        self.rt.enabled(metadata)
+        self.rt.enabled(metadata) && has_room()
     }
 
     fn log<D: Display, K: Source, S: Spans>(&self, record: &Record<'_, D, K, S>) {

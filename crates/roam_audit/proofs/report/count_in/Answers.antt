@@ -19,7 +19,8 @@ loop-front-preserved g c =
     let i = c.loop-front.front-index in
     let m = 2 ^ 64 - 1 in
     let sum = count_of_steps (take i fronts) in
-    let more = sum_by_more (λ front. length (steps_in front.entries)) fronts i c.front-item.result c.loop-front-test.true in
+    let more = sum_by_more (λ front. length (steps_in front.entries)) fronts i c.front-item.result
+    c.loop-front-test.true in
     let one : c.len.result ≡ length (steps_in c.front-item.result.entries) = c.len.ensures in
     let item = ap (λ front. length (steps_in front.entries)) c.front-item.is in
     c.saturating_add-count.ensures

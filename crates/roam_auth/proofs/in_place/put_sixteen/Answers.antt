@@ -9,4 +9,8 @@ returns c =
     let sixteen : List ℕ = c.args.sixteen.now in
     let at : ℕ = c.args.at in
     let size : at + 16 - at ≡ 16 = omega arith in
-    rw (size, c.copy_from_slice.ensures.after, drop-drop 16 at octets) (sym (append_assoc (take at octets) sixteen (drop (at + 16) octets)))
+    rw (
+      size,
+      c.copy_from_slice.ensures.after,
+      drop-drop 16 at octets,
+    ) (sym (append_assoc (take at octets) sixteen (drop (at + 16) octets)))

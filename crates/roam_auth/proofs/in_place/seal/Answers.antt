@@ -11,14 +11,16 @@ use Rattle.roam_auth.proofs.in_place.seal.Goals as goal
 pub returns-in_default : goal.returns-in_default
 returns-in_default c =
     let p : Packet = packet_of c.args.octets.now in
-    let stays = with_value-none (message_authenticator c.args.secret.now c.args.authenticator p) p c.in_default.ensures in
+    let stays = with_value-none (message_authenticator c.args.secret.now c.args.authenticator p) p
+    c.in_default.ensures in
     c.requires.packet.spelt ∙ sym (ap packet_text stays)
 
 -- the Value stands within the packet
 pub put_sixteen-requires : goal.put_sixteen-requires
 put_sixteen-requires c =
     let p : Packet = packet_of c.args.octets.now in
-    let within : c.in-Some.at + 16 ≤ length (packet_text p) = place_within c.in-Some.at p c.requires.packet.packet c.requires.at_most_one c.in-Some.ensures in
+    let within : c.in-Some.at + 16 ≤ length (packet_text p) =
+    place_within c.in-Some.at p c.requires.packet.packet c.requires.at_most_one c.in-Some.ensures in
     subst (λ (o : List ℕ). c.in-Some.at + 16 ≤ length o) (sym c.requires.packet.spelt) within
 
 -- the digest stands where the Value stood
@@ -28,7 +30,9 @@ returns-in-Some-digest_of c =
     let p : Packet = packet_of octets in
     let at : ℕ = c.in-Some.at in
     let seal : List ℕ = message_authenticator c.args.secret.now c.args.authenticator p in
-    let written = value_written at p seal c.requires.packet.packet c.requires.at_most_one c.in-Some.ensures (length-message_authenticator c.args.secret.now c.args.authenticator p) in
+    let written = value_written at p seal c.requires.packet.packet c.requires.at_most_one c.in-Some.ensures
+    (length-message_authenticator c.args.secret.now c.args.authenticator p) in
     let in_octets : take at octets ++ seal ++ drop (at + 16) octets ≡ packet_text (with_value seal p) =
-    subst (λ (o : List ℕ). take at o ++ seal ++ drop (at + 16) o ≡ packet_text (with_value seal p)) (sym c.requires.packet.spelt) written in
+    subst (λ (o : List ℕ). take at o ++ seal ++ drop (at + 16) o ≡ packet_text (with_value seal p))
+    (sym c.requires.packet.spelt) written in
     rw (c.put_sixteen.ensures, c.in-Some-digest_of.ensures.some) in_octets

@@ -7,4 +7,8 @@ use Rattle.roam_auth.proofs.in_place.sign_request.Goals as goal
 pub returns : goal.returns
 returns c =
     let digest = request_authenticator c.args.secret.now (packet_of c.args.octets.now) in
-    rw (c.put_sixteen.ensures, c.request_auth-digest.ensures, c.of_packet.ensures) (field_written digest c.args.octets.now c.requires.packet)
+    rw (
+      c.put_sixteen.ensures,
+      c.request_auth-digest.ensures,
+      c.of_packet.ensures,
+    ) (field_written digest c.args.octets.now c.requires.packet)

@@ -6,4 +6,5 @@ use Rattle.roam_auth.proofs.in_place.value_place.Goals as goal
 -- the walk goes one attribute on
 pub loop-attribute-preserved : goal.loop-attribute-preserved
 loop-attribute-preserved c =
-    IsAt-more _ _ (shown c.in-Some.attribute) _ (search rules) (IsAt-next _ _ _ _ c.in-Some.ensures.steps c.loop-attribute.invariant)
+    IsAt-more _ _ (shown c.in-Some.attribute) _ (search rules)
+    (IsAt-next _ _ _ _ c.in-Some.ensures.steps c.loop-attribute.invariant)

@@ -2,4 +2,10 @@ use Rattle.roam_auth.proofs.DigestLemmas.{IsPacket-with_authenticator, sixteen-r
 use Rattle.roam_auth.proofs.laws.digests.Goals as goal
 
 pub returns : goal.returns
-returns c = record { response = sixteen-response_authenticator; request = sixteen-request_authenticator; message = sixteen-message_authenticator; field = IsPacket-with_authenticator }
+returns c = record {
+  response = sixteen-response_authenticator;
+  request = sixteen-request_authenticator;
+  message =
+      sixteen-message_authenticator;
+  field = IsPacket-with_authenticator;
+}

@@ -9,7 +9,8 @@ returns-clause-packet c = λ r reply request h.
 
 pub returns-clause-reads : goal.returns-clause-reads
 returns-clause-reads c = λ r reply request h.
-    ReadsAs-packet_text (returned r reply request) (IsPacket-returned r reply request h.reply_is_packet h.request_is_packet h.at_most_one h.short)
+    ReadsAs-packet_text (returned r reply request)
+    (IsPacket-returned r reply request h.reply_is_packet h.request_is_packet h.at_most_one h.short)
 
 pub returns-clause-length : goal.returns-clause-length
 returns-clause-length c = packet_length-returned

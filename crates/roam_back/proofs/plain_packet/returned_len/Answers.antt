@@ -6,11 +6,20 @@ use Rattle.roam_back.proofs.plain_packet.returned_len.Goals as goal
 -- the sum of its parts
 pub returns-clause-plain : goal.returns-clause-plain
 returns-clause-plain c =
-    let size = packet_length-plain c.args.reply.now c.args.request.now c.is_access_reply-access.result (c.is_access_reply-access.ensures ∙ ap is_access_reply c.code.ensures) in
+    let size = packet_length-plain c.args.reply.now c.args.request.now c.is_access_reply-access.result
+    (c.is_access_reply-access.ensures ∙ ap is_access_reply c.code.ensures) in
     omega (arith, size, c.seal_len.ensures, c.carried_len.ensures.all, c.proxy_states_len.ensures.all)
 
 -- whatever it is returned with
 pub returns-clause-returned : goal.returns-clause-returned
 returns-clause-returned c = λ r.
-    let size = packet_length-plain c.args.reply.now c.args.request.now c.is_access_reply-access.result (c.is_access_reply-access.ensures ∙ ap is_access_reply c.code.ensures) in
-    omega (arith, size, returned_length-plain r c.args.reply.now c.args.request.now, c.seal_len.ensures, c.carried_len.ensures.all, c.proxy_states_len.ensures.all)
+    let size = packet_length-plain c.args.reply.now c.args.request.now c.is_access_reply-access.result
+    (c.is_access_reply-access.ensures ∙ ap is_access_reply c.code.ensures) in
+    omega (
+      arith,
+      size,
+      returned_length-plain r c.args.reply.now c.args.request.now,
+      c.seal_len.ensures,
+      c.carried_len.ensures.all,
+      c.proxy_states_len.ensures.all,
+    )

@@ -7,4 +7,5 @@ pub returns-then-not-is_rightly_sealed-clause-fault : goal.returns-then-not-is_r
 returns-then-not-is_rightly_sealed-clause-fault c =
     let code = rw (c.code.ensures, c.code-2.ensures) at (c.if-not-answers.ensures.0 refl) in
     let signed = rw c.authenticator.ensures at (c.if-not-response_ok.ensures.0 refl) in
-    bad_seal-fault c.args.secret.now c.args.seal_required c.args.reply.now c.args.forwarded.now code signed (λ sealed. absurd (cc (c.if-not-is_rightly_sealed.ensures.1 sealed)))
+    bad_seal-fault c.args.secret.now c.args.seal_required c.args.reply.now c.args.forwarded.now code signed
+    (λ sealed. absurd (cc (c.if-not-is_rightly_sealed.ensures.1 sealed)))

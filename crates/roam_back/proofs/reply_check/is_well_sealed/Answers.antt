@@ -8,6 +8,8 @@ use Rattle.roam_back.proofs.reply_check.is_well_sealed.Goals as goal
 pub returns-then-not-is_access_reply : goal.returns-then-not-is_access_reply
 returns-then-not-is_access_reply c =
     let other : is_access_reply c.args.reply.now.code ≡ false = search rules in
-    let request : IsTrue c.message_ok.result ↔ IsWellSealed c.args.secret.now (c.args.forwarded.now.authenticator ∷ []) c.args.reply.now =
+    let request : IsTrue c.message_ok.result
+    ↔ IsWellSealed c.args.secret.now (c.args.forwarded.now.authenticator ∷ []) c.args.reply.now =
     rw (← c.authenticator.ensures) c.message_ok.ensures in
-    well_sealed_over_zeros c.args.secret.now c.args.reply.now c.args.forwarded.now c.message_ok.result _ other c.if-message_ok.false request c.message_ok-then-not-is_access_reply.ensures
+    well_sealed_over_zeros c.args.secret.now c.args.reply.now c.args.forwarded.now c.message_ok.result _ other
+    c.if-message_ok.false request c.message_ok-then-not-is_access_reply.ensures

@@ -19,14 +19,19 @@ rehide_packet-requires-clause-can_be c = can_be-salted (packet_of c.args.octets.
 pub returns-then-code-eq-ACCESS_ACCEPT : goal.returns-then-code-eq-ACCESS_ACCEPT
 returns-then-code-eq-ACCESS_ACCEPT c =
     let r : Returning = shown c.args.returning.now in
-    let accept : (c.args.reply.now.code == ACCESS_ACCEPT) ≡ true = eq-eqb c.args.reply.now.code ACCESS_ACCEPT (sym c.code.ensures ∙ c.if-code-eq-ACCESS_ACCEPT.true) in
+    let accept : (c.args.reply.now.code == ACCESS_ACCEPT) ≡ true =
+    eq-eqb c.args.reply.now.code ACCESS_ACCEPT (sym c.code.ensures ∙ c.if-code-eq-ACCESS_ACCEPT.true) in
     c.rehide_packet.ensures
-    ∙ ap (λ (first : List ℕ). packet_text (packet_anew SaltedStrings (from_key r) (record { secret = r.client_secret; first = first }) (packet_of c.args.octets.now))) c.authenticator.ensures
+    ∙ ap (λ (first : List ℕ). packet_text
+    (packet_anew SaltedStrings (from_key r) (record { secret = r.client_secret; first = first })
+    (packet_of c.args.octets.now))) c.authenticator.ensures
     ∙ rehidden_text r c.args.reply.now c.args.request.now (packet_of c.args.octets.now) c.requires.plain.packet accept
 
 -- any other reply stays
 pub returns-else-code-eq-ACCESS_ACCEPT : goal.returns-else-code-eq-ACCESS_ACCEPT
 returns-else-code-eq-ACCESS_ACCEPT c =
     let r : Returning = shown c.args.returning.now in
-    let other : (c.args.reply.now.code == ACCESS_ACCEPT) ≡ false = ne_eqb c.args.reply.now.code ACCESS_ACCEPT (λ e. c.if-code-eq-ACCESS_ACCEPT.false (c.code.ensures ∙ e)) in
-    c.requires.plain.text.spelt ∙ plain_text_stays r c.args.reply.now c.args.request.now (packet_of c.args.octets.now) c.requires.plain.packet other
+    let other : (c.args.reply.now.code == ACCESS_ACCEPT) ≡ false =
+    ne_eqb c.args.reply.now.code ACCESS_ACCEPT (λ e. c.if-code-eq-ACCESS_ACCEPT.false (c.code.ensures ∙ e)) in
+    c.requires.plain.text.spelt ∙ plain_text_stays r c.args.reply.now c.args.request.now
+    (packet_of c.args.octets.now) c.requires.plain.packet other

@@ -13,19 +13,27 @@ use Rattle.roam_back.proofs.returning.seal_for_requester.Goals as goal
 pub seal_and_sign-requires-clause-packet : goal.seal_and_sign-requires-clause-packet
 seal_and_sign-requires-clause-packet c =
     let r : Returning = shown c.args.returning.now in
-    let there : AreTextOf (unsealed_return r c.args.reply.now c.args.request.now) c.rehide_accept.new.octets = unsealed_there r c.args.reply.now c.args.request.now c.args.octets.now c.rehide_accept.new.octets c.requires.plain.text c.requires.plain.packet c.rehide_accept.ensures in
+    let there : AreTextOf (unsealed_return r c.args.reply.now c.args.request.now) c.rehide_accept.new.octets =
+    unsealed_there r c.args.reply.now c.args.request.now c.args.octets.now c.rehide_accept.new.octets
+    c.requires.plain.text c.requires.plain.packet c.rehide_accept.ensures in
     there.text
 
 -- with at most one Message-Authenticator
 pub seal_and_sign-requires-clause-at_most_one : goal.seal_and_sign-requires-clause-at_most_one
 seal_and_sign-requires-clause-at_most_one c =
     let r : Returning = shown c.args.returning.now in
-    let there : AreTextOf (unsealed_return r c.args.reply.now c.args.request.now) c.rehide_accept.new.octets = unsealed_there r c.args.reply.now c.args.request.now c.args.octets.now c.rehide_accept.new.octets c.requires.plain.text c.requires.plain.packet c.rehide_accept.ensures in
-    subst HasAtMostOneMessageAuthenticator (sym there.packet) (AtMostOne-unsealed r c.args.reply.now c.args.request.now c.requires.at_most_one)
+    let there : AreTextOf (unsealed_return r c.args.reply.now c.args.request.now) c.rehide_accept.new.octets =
+    unsealed_there r c.args.reply.now c.args.request.now c.args.octets.now c.rehide_accept.new.octets
+    c.requires.plain.text c.requires.plain.packet c.rehide_accept.ensures in
+    subst HasAtMostOneMessageAuthenticator (sym there.packet)
+    (AtMostOne-unsealed r c.args.reply.now c.args.request.now c.requires.at_most_one)
 
 -- sealed and signed, it is the returned packet
 pub returns : goal.returns
 returns c =
     let r : Returning = shown c.args.returning.now in
-    let there : AreTextOf (unsealed_return r c.args.reply.now c.args.request.now) c.rehide_accept.new.octets = unsealed_there r c.args.reply.now c.args.request.now c.args.octets.now c.rehide_accept.new.octets c.requires.plain.text c.requires.plain.packet c.rehide_accept.ensures in
-    c.seal_and_sign.ensures ∙ returned_text r c.args.reply.now c.args.request.now (packet_of c.rehide_accept.new.octets) c.authenticator.result c.authenticator.ensures there.packet
+    let there : AreTextOf (unsealed_return r c.args.reply.now c.args.request.now) c.rehide_accept.new.octets =
+    unsealed_there r c.args.reply.now c.args.request.now c.args.octets.now c.rehide_accept.new.octets
+    c.requires.plain.text c.requires.plain.packet c.rehide_accept.ensures in
+    c.seal_and_sign.ensures ∙ returned_text r c.args.reply.now c.args.request.now
+    (packet_of c.rehide_accept.new.octets) c.authenticator.result c.authenticator.ensures there.packet

@@ -70,6 +70,10 @@ pub returns-clause-isolated : goal.returns-clause-isolated
 returns-clause-isolated g c =
     (has_run_all _ _ _ _ _ _ _ _ (omega (arith, length-map c.args.events.now shown_event)) c.loop-place.invariant.has_run).isolated
 
+pub returns-clause-lost_for_itself : goal.returns-clause-lost_for_itself
+returns-clause-lost_for_itself g c =
+    (has_run_all _ _ _ _ _ _ _ _ (omega (arith, length-map c.args.events.now shown_event)) c.loop-place.invariant.has_run).own_losses
+
 pub returns-clause-rejects : goal.returns-clause-rejects
 returns-clause-rejects g c =
     (has_run_all _ _ _ _ _ _ _ _ (omega (arith, length-map c.args.events.now shown_event)) c.loop-place.invariant.has_run).rejects

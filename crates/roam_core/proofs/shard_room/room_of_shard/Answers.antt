@@ -1,7 +1,8 @@
 use Rattle.std.proofs.Common.{ℕ, List, take, subst, arith}
-use Rattle.std.specs.Prelude.{◌==◌}
+use Rattle.std.specs.Prelude.{◌==◌, ◌&&◌, not}
 use Rattle.std.proofs.lemmas.List.{take_all}
 use Rattle.roam_book.specs.BookView.{BookView}
+use Rattle.roam_book.specs.Rooms.{only_done_due}
 use Rattle.roam_core.specs.BrokerView.{states_of}
 use Rattle.roam_conf.specs.Shown.{shown}
 use Rattle.roam_core.specs.ShardRooms.{AreRooms, IsRealmRoom}
@@ -12,7 +13,9 @@ pub loop-realm-preserved : goal.loop-realm-preserved
 loop-realm-preserved g c =
     let book = c.index-books-realm.result in
     let room = c.in_ok-room.room in
-    let own = subst (λ (n : ℕ). IsRealmRoom c.args.now (n == c.args.shard) book.state.entries room) c.shard_of.ensures.value c.in_ok-room.ensures in
+    let own = subst (λ (n : ℕ). IsRealmRoom c.args.now
+    (n == c.args.shard && not (only_done_due c.args.now book.state.entries)) book.state.entries room)
+    c.shard_of.ensures.value c.in_ok-room.ensures in
     rw c.in_ok-push.ensures.items
     (one-more-gathered (shown c.args.config.now) c.args.now c.args.shard c.loop-realm.realm c.args.books.now c.loop-realm.rooms.items c.loop-realm.most _ book room
     c.loop-realm.invariant c.loop-realm-test.true c.index-books-realm.is own c.in_ok-most.ensures)

@@ -28,9 +28,12 @@ rehide_packet-requires-clause-packet c =
     let f : Forwarding = shown c.args.forwarding.now in
     let q : Packet = packet_of (take c.args.len octets) in
     let id : f.id < 256 = id_there _ _ _ _ c.put_header.ensures.header c.put_header.ensures.octets in
-    let sixteen : AreSixteenOctets f.authenticator = sixteen_there _ _ _ _ _ _ _ c.put_header.ensures.header c.put_header.ensures.octets (search rules) in
+    let sixteen : AreSixteenOctets f.authenticator =
+    sixteen_there _ _ _ _ _ _ _ c.put_header.ensures.header c.put_header.ensures.octets (search rules) in
     let same : length c.arrange.new.octets ≡ length octets = omega arith in
-    let headed : AreTextOf (arranged_packet f q) c.put_header.new.octets = headed_text f c.args.len octets c.arrange.new.octets c.put_header.new.octets h id sixteen c.arrange.ensures same c.put_header.ensures.header in
+    let headed : AreTextOf (arranged_packet f q) c.put_header.new.octets =
+    headed_text f c.args.len octets c.arrange.new.octets c.put_header.new.octets h id sixteen c.arrange.ensures
+    same c.put_header.ensures.header in
     headed.text
 
 -- whose passwords have whole blocks
@@ -41,9 +44,12 @@ rehide_packet-requires-clause-can_be c =
     let f : Forwarding = shown c.args.forwarding.now in
     let q : Packet = packet_of (take c.args.len octets) in
     let id : f.id < 256 = id_there _ _ _ _ c.put_header.ensures.header c.put_header.ensures.octets in
-    let sixteen : AreSixteenOctets f.authenticator = sixteen_there _ _ _ _ _ _ _ c.put_header.ensures.header c.put_header.ensures.octets (search rules) in
+    let sixteen : AreSixteenOctets f.authenticator =
+    sixteen_there _ _ _ _ _ _ _ c.put_header.ensures.header c.put_header.ensures.octets (search rules) in
     let same : length c.arrange.new.octets ≡ length octets = omega arith in
-    let headed : AreTextOf (arranged_packet f q) c.put_header.new.octets = headed_text f c.args.len octets c.arrange.new.octets c.put_header.new.octets h id sixteen c.arrange.ensures same c.put_header.ensures.header in
+    let headed : AreTextOf (arranged_packet f q) c.put_header.new.octets =
+    headed_text f c.args.len octets c.arrange.new.octets c.put_header.new.octets h id sixteen c.arrange.ensures
+    same c.put_header.ensures.header in
     let can = can_be-arranged f q (c.requires.rewritable.can_be_forwarded.passwords c.requires.access) in
     subst (λ (p : Packet). AllByRecursion (CanBeHiddenAnew UserPassword) p.attributes) (sym headed.packet) can
 
@@ -55,14 +61,23 @@ seal-requires-clause-packet c =
     let f : Forwarding = shown c.args.forwarding.now in
     let q : Packet = packet_of (take c.args.len octets) in
     let id : f.id < 256 = id_there _ _ _ _ c.put_header.ensures.header c.put_header.ensures.octets in
-    let sixteen : AreSixteenOctets f.authenticator = sixteen_there _ _ _ _ _ _ _ c.put_header.ensures.header c.put_header.ensures.octets (search rules) in
+    let sixteen : AreSixteenOctets f.authenticator =
+    sixteen_there _ _ _ _ _ _ _ c.put_header.ensures.header c.put_header.ensures.octets (search rules) in
     let same : length c.arrange.new.octets ≡ length octets = omega arith in
-    let headed : AreTextOf (arranged_packet f q) c.put_header.new.octets = headed_text f c.args.len octets c.arrange.new.octets c.put_header.new.octets h id sixteen c.arrange.ensures same c.put_header.ensures.header in
-    let requesters : c.authenticator-requesters.result ≡ q.authenticator = c.authenticator-requesters.ensures ∙ ap (λ (p : Packet). p.authenticator) c.front_packet.ensures in
-    let anew : c.rehide_packet.new.octets ≡ packet_text (packet_anew UserPassword (from_key f q) (to_key f) (packet_of c.put_header.new.octets)) =
+    let headed : AreTextOf (arranged_packet f q) c.put_header.new.octets =
+    headed_text f c.args.len octets c.arrange.new.octets c.put_header.new.octets h id sixteen c.arrange.ensures
+    same c.put_header.ensures.header in
+    let requesters : c.authenticator-requesters.result ≡ q.authenticator = c.authenticator-requesters.ensures
+    ∙ ap (λ (p : Packet). p.authenticator) c.front_packet.ensures in
+    let anew : c.rehide_packet.new.octets
+    ≡ packet_text (packet_anew UserPassword (from_key f q) (to_key f) (packet_of c.put_header.new.octets)) =
     c.rehide_packet.ensures
-    ∙ ap (λ (first : List ℕ). packet_text (packet_anew UserPassword (record { secret = f.from_secret; first = first }) (to_key f) (packet_of c.put_header.new.octets))) requesters in
-    let hidden : AreTextOf (access_unsealed f q) c.rehide_packet.new.octets = unsealed_access f c.args.len octets c.put_header.new.octets c.rehide_packet.new.octets h id sixteen headed anew in
+    ∙ ap (λ (first : List ℕ). packet_text
+    (packet_anew UserPassword (record { secret = f.from_secret; first = first }) (to_key f)
+    (packet_of c.put_header.new.octets))) requesters in
+    let hidden : AreTextOf (access_unsealed f q) c.rehide_packet.new.octets =
+    unsealed_access f c.args.len octets c.put_header.new.octets c.rehide_packet.new.octets h id sixteen headed
+    anew in
     hidden.text
 
 -- with one Message-Authenticator
@@ -73,14 +88,23 @@ seal-requires-clause-at_most_one c =
     let f : Forwarding = shown c.args.forwarding.now in
     let q : Packet = packet_of (take c.args.len octets) in
     let id : f.id < 256 = id_there _ _ _ _ c.put_header.ensures.header c.put_header.ensures.octets in
-    let sixteen : AreSixteenOctets f.authenticator = sixteen_there _ _ _ _ _ _ _ c.put_header.ensures.header c.put_header.ensures.octets (search rules) in
+    let sixteen : AreSixteenOctets f.authenticator =
+    sixteen_there _ _ _ _ _ _ _ c.put_header.ensures.header c.put_header.ensures.octets (search rules) in
     let same : length c.arrange.new.octets ≡ length octets = omega arith in
-    let headed : AreTextOf (arranged_packet f q) c.put_header.new.octets = headed_text f c.args.len octets c.arrange.new.octets c.put_header.new.octets h id sixteen c.arrange.ensures same c.put_header.ensures.header in
-    let requesters : c.authenticator-requesters.result ≡ q.authenticator = c.authenticator-requesters.ensures ∙ ap (λ (p : Packet). p.authenticator) c.front_packet.ensures in
-    let anew : c.rehide_packet.new.octets ≡ packet_text (packet_anew UserPassword (from_key f q) (to_key f) (packet_of c.put_header.new.octets)) =
+    let headed : AreTextOf (arranged_packet f q) c.put_header.new.octets =
+    headed_text f c.args.len octets c.arrange.new.octets c.put_header.new.octets h id sixteen c.arrange.ensures
+    same c.put_header.ensures.header in
+    let requesters : c.authenticator-requesters.result ≡ q.authenticator = c.authenticator-requesters.ensures
+    ∙ ap (λ (p : Packet). p.authenticator) c.front_packet.ensures in
+    let anew : c.rehide_packet.new.octets
+    ≡ packet_text (packet_anew UserPassword (from_key f q) (to_key f) (packet_of c.put_header.new.octets)) =
     c.rehide_packet.ensures
-    ∙ ap (λ (first : List ℕ). packet_text (packet_anew UserPassword (record { secret = f.from_secret; first = first }) (to_key f) (packet_of c.put_header.new.octets))) requesters in
-    let hidden : AreTextOf (access_unsealed f q) c.rehide_packet.new.octets = unsealed_access f c.args.len octets c.put_header.new.octets c.rehide_packet.new.octets h id sixteen headed anew in
+    ∙ ap (λ (first : List ℕ). packet_text
+    (packet_anew UserPassword (record { secret = f.from_secret; first = first }) (to_key f)
+    (packet_of c.put_header.new.octets))) requesters in
+    let hidden : AreTextOf (access_unsealed f q) c.rehide_packet.new.octets =
+    unsealed_access f c.args.len octets c.put_header.new.octets c.rehide_packet.new.octets h id sixteen headed
+    anew in
     subst HasAtMostOneMessageAuthenticator (sym hidden.packet) (inr (HasOne-access_unsealed f q))
 
 -- and the forwarded packet is left
@@ -91,12 +115,21 @@ returns c =
     let f : Forwarding = shown c.args.forwarding.now in
     let q : Packet = packet_of (take c.args.len octets) in
     let id : f.id < 256 = id_there _ _ _ _ c.put_header.ensures.header c.put_header.ensures.octets in
-    let sixteen : AreSixteenOctets f.authenticator = sixteen_there _ _ _ _ _ _ _ c.put_header.ensures.header c.put_header.ensures.octets (search rules) in
+    let sixteen : AreSixteenOctets f.authenticator =
+    sixteen_there _ _ _ _ _ _ _ c.put_header.ensures.header c.put_header.ensures.octets (search rules) in
     let same : length c.arrange.new.octets ≡ length octets = omega arith in
-    let headed : AreTextOf (arranged_packet f q) c.put_header.new.octets = headed_text f c.args.len octets c.arrange.new.octets c.put_header.new.octets h id sixteen c.arrange.ensures same c.put_header.ensures.header in
-    let requesters : c.authenticator-requesters.result ≡ q.authenticator = c.authenticator-requesters.ensures ∙ ap (λ (p : Packet). p.authenticator) c.front_packet.ensures in
-    let anew : c.rehide_packet.new.octets ≡ packet_text (packet_anew UserPassword (from_key f q) (to_key f) (packet_of c.put_header.new.octets)) =
+    let headed : AreTextOf (arranged_packet f q) c.put_header.new.octets =
+    headed_text f c.args.len octets c.arrange.new.octets c.put_header.new.octets h id sixteen c.arrange.ensures
+    same c.put_header.ensures.header in
+    let requesters : c.authenticator-requesters.result ≡ q.authenticator = c.authenticator-requesters.ensures
+    ∙ ap (λ (p : Packet). p.authenticator) c.front_packet.ensures in
+    let anew : c.rehide_packet.new.octets
+    ≡ packet_text (packet_anew UserPassword (from_key f q) (to_key f) (packet_of c.put_header.new.octets)) =
     c.rehide_packet.ensures
-    ∙ ap (λ (first : List ℕ). packet_text (packet_anew UserPassword (record { secret = f.from_secret; first = first }) (to_key f) (packet_of c.put_header.new.octets))) requesters in
-    let hidden : AreTextOf (access_unsealed f q) c.rehide_packet.new.octets = unsealed_access f c.args.len octets c.put_header.new.octets c.rehide_packet.new.octets h id sixteen headed anew in
+    ∙ ap (λ (first : List ℕ). packet_text
+    (packet_anew UserPassword (record { secret = f.from_secret; first = first }) (to_key f)
+    (packet_of c.put_header.new.octets))) requesters in
+    let hidden : AreTextOf (access_unsealed f q) c.rehide_packet.new.octets =
+    unsealed_access f c.args.len octets c.put_header.new.octets c.rehide_packet.new.octets h id sixteen headed
+    anew in
     sealed_access f q c.rehide_packet.new.octets c.seal.new.octets c.requires.access hidden c.seal.ensures

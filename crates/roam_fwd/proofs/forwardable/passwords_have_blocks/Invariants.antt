@@ -5,4 +5,5 @@ use Rattle.roam_fwd.proofs.forwardable.passwords_have_blocks.Given as goal
 
 -- all have blocks just where those that are left have
 abbrev pub invariant-loop-attribute : goal.invariant-loop-attribute
-invariant-loop-attribute l = AllByRecursion HasPasswordBlocks l.fn.request.attributes ↔ AllByRecursion HasPasswordBlocks l.attribute-iterator
+invariant-loop-attribute l = AllByRecursion HasPasswordBlocks l.fn.request.attributes
+    ↔ AllByRecursion HasPasswordBlocks l.attribute-iterator

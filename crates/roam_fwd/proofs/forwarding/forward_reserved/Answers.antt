@@ -15,7 +15,8 @@ rewrite-requires-clause-rewritable g c =
     let size : ℕ = c.forwarded_len-size.result in
     let zeros : List ℕ = replicate (size - length text) 0 in
     let held : HoldsRequest c.args.request.now start size old text all = record {
-      all-is = appended_twice old text zeros c.append_octets.new.out.items c.append_zeros.new.out.items all c.append_octets.ensures.items c.append_zeros.ensures.items c.as_mut_slice.ensures.value;
+      all-is = appended_twice old text zeros c.append_octets.new.out.items c.append_zeros.new.out.items all
+          c.append_octets.ensures.items c.append_zeros.ensures.items c.as_mut_slice.ensures.value;
       start-is = c.len-start.ensures ∙ c.args.out.now.ok.0;
       text-is = c.octets-text.ensures.text;
       packet = c.octets-text.ensures.packet;
@@ -34,18 +35,27 @@ returns-clause-octets g c =
     let size : ℕ = c.forwarded_len-size.result in
     let zeros : List ℕ = replicate (size - length text) 0 in
     let held : HoldsRequest c.args.request.now start size old text all = record {
-      all-is = appended_twice old text zeros c.append_octets.new.out.items c.append_zeros.new.out.items all c.append_octets.ensures.items c.append_zeros.ensures.items c.as_mut_slice.ensures.value;
+      all-is = appended_twice old text zeros c.append_octets.new.out.items c.append_zeros.new.out.items all
+          c.append_octets.ensures.items c.append_zeros.ensures.items c.as_mut_slice.ensures.value;
       start-is = c.len-start.ensures ∙ c.args.out.now.ok.0;
       text-is = c.octets-text.ensures.text;
       packet = c.octets-text.ensures.packet;
       size-is = c.forwarded_len-size.ensures.size;
       longer = c.forwarded_len-size.ensures.at_least;
     } in
-    let f : Forwarding = forwarding c.args.from_secret.now c.args.to_secret.now c.args.id c.args.authenticator c.args.ticket in
+    let f : Forwarding = forwarding c.args.from_secret.now c.args.to_secret.now c.args.id c.args.authenticator
+    c.args.ticket in
     let written : List ℕ = c.rewrite.new.octets in
     let as_many : length written ≡ length (text ++ zeros) =
-    omega (arith, c.rewrite.auto.octets, ap length (from_start-is start all old (text ++ zeros) held.all-is held.start-is)) in
+    omega (
+      arith,
+      c.rewrite.auto.octets,
+      ap length (from_start-is start all old (text ++ zeros) held.all-is held.start-is),
+    ) in
     let whole : c.append_zeros.new.out.len ≡ length all =
     c.append_zeros.new.out.ok.0 ∙ ap length (sym c.as_mut_slice.ensures.value) in
-    written_back start c.append_zeros.new.out.len all old (text ++ zeros) written c.append_zeros.new.out.items held.all-is held.start-is as_many whole
-    ∙ ap (λ (t : List ℕ). old ++ t) (c.rewrite.ensures ∙ ap (λ (p : Packet). packet_text (forwarded f p)) (packet_of-there c.args.request.now start size old text all held))
+    written_back start c.append_zeros.new.out.len all old (text ++ zeros) written c.append_zeros.new.out.items
+    held.all-is held.start-is as_many whole
+    ∙ ap (λ (t : List ℕ). old ++ t) (c.rewrite.ensures
+    ∙ ap (λ (p : Packet). packet_text (forwarded f p))
+    (packet_of-there c.args.request.now start size old text all held))

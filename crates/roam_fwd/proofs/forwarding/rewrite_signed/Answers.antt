@@ -23,7 +23,8 @@ seal-requires-clause-packet c =
     let h : CanBeRewritten len octets = signed_held len octets c.requires.rewritable c.requires.other_code in
     let f : Forwarding = shown c.args.forwarding.now in
     let id : f.id < 256 = id_there _ _ _ _ c.put_header.ensures.header c.put_header.ensures.octets in
-    let unsealed_is = unsealed_text f len octets c.put_ticket.new.octets c.put_header.new.octets id h c.put_ticket.ensures c.put_header.ensures.header in
+    let unsealed_is = unsealed_text f len octets c.put_ticket.new.octets c.put_header.new.octets id h
+    c.put_ticket.ensures c.put_header.ensures.header in
     unsealed_is.text
 
 -- with at most one Message-Authenticator
@@ -34,8 +35,11 @@ seal-requires-clause-at_most_one c =
     let h : CanBeRewritten len octets = signed_held len octets c.requires.rewritable c.requires.other_code in
     let f : Forwarding = shown c.args.forwarding.now in
     let id : f.id < 256 = id_there _ _ _ _ c.put_header.ensures.header c.put_header.ensures.octets in
-    let unsealed_is = unsealed_text f len octets c.put_ticket.new.octets c.put_header.new.octets id h c.put_ticket.ensures c.put_header.ensures.header in
-    subst HasAtMostOneMessageAuthenticator (sym unsealed_is.packet) (HasAtMostOne-with_ticket f (packet_of (take len octets)) c.requires.rewritable.can_be_forwarded.message_authenticator)
+    let unsealed_is = unsealed_text f len octets c.put_ticket.new.octets c.put_header.new.octets id h
+    c.put_ticket.ensures c.put_header.ensures.header in
+    subst HasAtMostOneMessageAuthenticator (sym unsealed_is.packet)
+    (HasAtMostOne-with_ticket f (packet_of (take len octets))
+    c.requires.rewritable.can_be_forwarded.message_authenticator)
 
 -- what is signed is a packet
 pub sign_request-requires-clause-packet : goal.sign_request-requires-clause-packet
@@ -45,8 +49,10 @@ sign_request-requires-clause-packet c =
     let h : CanBeRewritten len octets = signed_held len octets c.requires.rewritable c.requires.other_code in
     let f : Forwarding = shown c.args.forwarding.now in
     let id : f.id < 256 = id_there _ _ _ _ c.put_header.ensures.header c.put_header.ensures.octets in
-    let unsealed_is = unsealed_text f len octets c.put_ticket.new.octets c.put_header.new.octets id h c.put_ticket.ensures c.put_header.ensures.header in
-    let sealed_is = resealed_text f len octets c.put_header.new.octets c.seal.new.octets id h unsealed_is c.seal.ensures in
+    let unsealed_is = unsealed_text f len octets c.put_ticket.new.octets c.put_header.new.octets id h
+    c.put_ticket.ensures c.put_header.ensures.header in
+    let sealed_is = resealed_text f len octets c.put_header.new.octets c.seal.new.octets id h unsealed_is
+    c.seal.ensures in
     sealed_is.text
 
 -- and the forwarded packet is left
@@ -57,6 +63,8 @@ returns c =
     let h : CanBeRewritten len octets = signed_held len octets c.requires.rewritable c.requires.other_code in
     let f : Forwarding = shown c.args.forwarding.now in
     let id : f.id < 256 = id_there _ _ _ _ c.put_header.ensures.header c.put_header.ensures.octets in
-    let unsealed_is = unsealed_text f len octets c.put_ticket.new.octets c.put_header.new.octets id h c.put_ticket.ensures c.put_header.ensures.header in
-    let sealed_is = resealed_text f len octets c.put_header.new.octets c.seal.new.octets id h unsealed_is c.seal.ensures in
+    let unsealed_is = unsealed_text f len octets c.put_ticket.new.octets c.put_header.new.octets id h
+    c.put_ticket.ensures c.put_header.ensures.header in
+    let sealed_is = resealed_text f len octets c.put_header.new.octets c.seal.new.octets id h unsealed_is
+    c.seal.ensures in
     forwarded_text f len octets c.seal.new.octets c.sign_request.new.octets h sealed_is c.sign_request.ensures

@@ -34,7 +34,9 @@ pub loop-at-preserved : goal.loop-at-preserved
 loop-at-preserved c = λ all spelt can.
     let h = c.loop-at.invariant all spelt can in
     let same_length : length c.rehide_attribute.new.octets ≡ length c.loop-at.octets = omega arith in
-    underway_step _ _ _ all c.loop-at.octets c.rehide_attribute.new.octets c.loop-at.at c.from.result h c.loop-at-test.true c.from.ensures same_length c.rehide_attribute.ensures
+    underway_step _ _ _ all c.loop-at.octets c.rehide_attribute.new.octets c.loop-at.at c.from.result h
+    c.loop-at-test.true c.from.ensures same_length c.rehide_attribute.ensures
 
 pub returns : goal.returns
-returns c = λ all spelt can. underway_done _ _ _ all c.loop-at.octets c.loop-at.at (c.loop-at.invariant all spelt can) c.loop-at-test.false
+returns c = λ all spelt can. underway_done _ _ _ all c.loop-at.octets c.loop-at.at
+    (c.loop-at.invariant all spelt can) c.loop-at-test.false

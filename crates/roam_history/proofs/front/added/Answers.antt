@@ -1,5 +1,6 @@
 -- The entry is added to all that was seen.
-use Rattle.std.proofs.Common.{◌≡◌, ◌≤◌, sym, ◌∙◌, ap, length, arith}
+use Rattle.std.proofs.Common.{sym, subst, ◌∙◌, ap, length, arith}
+use Rattle.roam_history.specs.Entries.{IsOpen}
 use Rattle.roam_history.proofs.Adding.{adds_moves}
 use Rattle.roam_history.proofs.front.added.Goals as goal
 
@@ -15,5 +16,6 @@ compare_exchange-found-requires g c =
       pen.0 ∙ (book ∙ sym (ap (λ w. w.book) h)),
       offer.0,
       rw (ap (λ w. w.key) h, pen.1, offer.1, offer.3 ∙ c.requires.state)
-          (adds_moves c.again-seen.result.log (g.M.Plain.ask c.args.about.now) c.args.entries (omega (arith, ap length log, c.requires.entries))),
+          (adds_moves c.again-seen.result.log (g.M.Plain.ask c.args.about.now) c.args.entries
+          (omega (arith, ap length log, c.requires.entries)) (subst IsOpen (sym log) c.requires.is_open)),
     )

@@ -4,7 +4,7 @@ use Rattle.roam_history.specs.Entries.{HistoryEntry, stored_of}
 use Rattle.roam_history.specs.Fronts.{FrontView, entries_of}
 use Rattle.roam_audit.specs.Shown.{all_in, items_of}
 use Rattle.roam_hub.specs.Closing.{all_steps, stored_steps}
-use Rattle.roam_hub.proofs.HubLemmas.{no_shards, none_closed, one_more_closed, push_shards}
+use Rattle.roam_hub.proofs.HubLemmas.{no_shards, none_closed, none_whole, one_more_closed, push_shards, push_whole}
 use Rattle.roam_hub.proofs.closing.taken_apart.Goals as goal
 
 pub loop-lock-init : goal.loop-lock-init
@@ -14,6 +14,7 @@ loop-lock-init g c =
       closed = rw (c.requires.shards.empty, c.requires.fronts.empty) (none_closed g.N.Opened.opening);
       stored = rw (c.requires.steps.empty, c.requires.fronts.empty) refl;
       of_shards = rw c.requires.fronts.empty no_shards;
+      whole = rw c.requires.fronts.empty none_whole;
       few = c.args.fronts.ok.0 ∙ ap length c.requires.fronts.empty;
       shard_count = c.args.shards.ok.0 ∙ ap length c.requires.shards.empty;
       step_count = c.args.steps.ok.0 ∙ ap length c.requires.steps.empty;
@@ -63,6 +64,7 @@ loop-lock-preserved g c =
           ∙ ((λ j. inv.stored j ++ one.steps j ∷ [])
           ∙ (sym all ∙ ap (λ (l : List FrontView). map stored_of (entries_of l)) (sym c.push_reserved-in-loop-lock-2.ensures.items)));
       of_shards = rw c.push_reserved-in-loop-lock-2.ensures.items (push_shards fronts front inv.of_shards (let n = c.loop-lock.fronts.ok.0 in omega (arith, n, one.shard, inv.few)));
+      whole = rw c.push_reserved-in-loop-lock-2.ensures.items (push_whole fronts front inv.whole one.whole);
       few = (let len = c.push_reserved-in-loop-lock-2.ensures.len in omega (arith, len, inv.few));
       shard_count = (let len = c.push_reserved.ensures.len in omega (arith, len, inv.shard_count));
       step_count = (let len = c.push_reserved-in-loop-lock.ensures.len in omega (arith, len, inv.step_count));

@@ -17,5 +17,10 @@ returns c =
     (add_assoc c.args.position 2 1) second.stands c.next_word-3.ensures in
     let fourth = draws c.args.seed c.args.stream (c.args.position + 3) (c.args.position + 4) _ _ _
     (add_assoc c.args.position 3 1) third.stands c.next_word-4.ensures in
-    rw (c.to_le_bytes-first.ensures, c.to_le_bytes-second.ensures, c.to_le_bytes-third.ensures, c.to_le_bytes-fourth.ensures)
+    rw (
+      c.to_le_bytes-first.ensures,
+      c.to_le_bytes-second.ensures,
+      c.to_le_bytes-third.ensures,
+      c.to_le_bytes-fourth.ensures,
+    )
     (rw (first.word_is, second.word_is, third.word_is, fourth.word_is) refl)

@@ -1,8 +1,10 @@
-use Rattle.std.proofs.Common.{◌<◌, length, subst, arith}
+use Rattle.std.proofs.Common.{◌<◌, ◌&&◌, length, subst, arith}
+use Rattle.std.specs.Prelude.{not}
 use Rattle.std.proofs.lemmas.List.{length-map}
 use Rattle.roam_conf.specs.Parts.{shown_realm}
 use Rattle.roam_tables.specs.Stands.{entries_in}
 use Rattle.roam_tables.proofs.RealmLemmas.{get-read}
+use Rattle.roam_book.specs.Rooms.{only_done_due}
 use Rattle.roam_core.specs.ShardRooms.{IsRealmRoom}
 use Rattle.roam_shard.specs.ShardView.{shown_opening, states_in}
 use Rattle.roam_shard.proofs.RoomLemmas.{all-gathered, one-more-gathered, room_seen}
@@ -32,7 +34,8 @@ loop-realm-preserved g c =
     let own = c.index-numbers-realm.result in
     let at = get-read numbers realm own c.loop-realm-test.true c.index-numbers-realm.is in
     let is = c.requires.own realm own at in
-    let given = subst (λ b. IsRealmRoom c.args.now b (entries_in entries realm) room)
+    let given = subst (λ b. IsRealmRoom c.args.now
+    (b && not (only_done_due c.args.now (entries_in entries realm))) (entries_in entries realm) room)
     c.is_some.ensures c.in_ok-room.ensures.room in
     let seen = room_seen o c.args.now realm (entries_in entries) numbers own room at is given in
     let count = length-states o (entries_in entries) 0 numbers in

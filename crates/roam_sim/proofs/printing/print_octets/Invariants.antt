@@ -8,4 +8,5 @@ invariant-loop-piece g l =
     (goal.iterator-loop-piece g).can_next l.piece-iterator
     × (goal.iterator-loop-piece g).is_finite l.piece-iterator
     × (chunks_size l.piece-iterator ≡ 512)
-    × IsPrinted l.fn.octets (chunks_rest l.piece-iterator) (g.W.Write.contents l.initial.writer) (g.W.Write.contents l.writer)
+    × IsPrinted l.fn.octets (chunks_rest l.piece-iterator) (g.W.Write.contents l.initial.writer)
+    (g.W.Write.contents l.writer)

@@ -6,4 +6,5 @@ use Rattle.roam_sim.proofs.simulation.print_packets.Given as goal
 
 abbrev pub invariant-loop-packet : goal.invariant-loop-packet
 invariant-loop-packet g l =
-    Appends (g.W.Write.contents l.initial.writer) (g.W.Write.contents l.writer) (lines_of (shown_outs (take l.packet-index l.packets)))
+    Appends (g.W.Write.contents l.initial.writer) (g.W.Write.contents l.writer)
+    (lines_of (shown_outs (take l.packet-index l.packets)))

@@ -17,11 +17,14 @@ returns-clause-ok g c =
     let answers = rw c.as_slice.ensures.value at run.packets in
     let isolated = rw c.as_slice.ensures.value at run.isolated_from_start in
     let provenance = rw c.as_slice.ensures.value at run.provenance in
-    let sent : RunSent c.in_ok-broker.broker.config c.in_ok-broker.broker.states (kept outcome.lost.items events) (shown_outs outcome.outs.items) =
+    let sent : RunSent c.in_ok-broker.broker.config c.in_ok-broker.broker.states (kept outcome.lost.items events)
+    (shown_outs outcome.outs.items) =
     record { answers = answers; isolated = isolated; provenance = provenance } in
-    is_simulated c.print_outcome.result (shown c.args.config.now) c.in_ok-broker.broker.config c.in_ok-broker.broker.states c.args.script.now events
+    is_simulated c.print_outcome.result (shown c.args.config.now) c.in_ok-broker.broker.config
+    c.in_ok-broker.broker.states c.args.script.now events
     outcome.lost.items (shown_outs outcome.outs.items) (known c.args.writer.now) (known c.print_outcome.new.writer)
-    c.in_ok-events.ensures.ok c.in_ok-broker.ensures.config c.in_ok-broker.ensures.states sent c.print_outcome.ensures.all c.print_outcome.ensures.ok
+    c.in_ok-events.ensures.ok c.in_ok-broker.ensures.config c.in_ok-broker.ensures.states sent
+    c.print_outcome.ensures.all c.print_outcome.ensures.ok
 
 -- Some events were lost.
 pub returns-clause-memory : goal.returns-clause-memory
@@ -33,12 +36,14 @@ returns-clause-memory g c = λ is.
     let answers = rw c.as_slice.ensures.value at run.packets in
     let isolated = rw c.as_slice.ensures.value at run.isolated_from_start in
     let provenance = rw c.as_slice.ensures.value at run.provenance in
-    let sent : RunSent c.in_ok-broker.broker.config c.in_ok-broker.broker.states (kept outcome.lost.items events) (shown_outs outcome.outs.items) =
+    let sent : RunSent c.in_ok-broker.broker.config c.in_ok-broker.broker.states (kept outcome.lost.items events)
+    (shown_outs outcome.outs.items) =
     record { answers = answers; isolated = isolated; provenance = provenance } in
     let count = length-map c.in_ok-events.events.items shown_event in
     let places = rw (c.as_slice.ensures.value, ← count) at c.in_ok-outcome.ensures.lost in
     let wanted = rw c.as_slice.ensures.value at c.in_ok-outcome.ensures.wanted in
-    inr (is_simulated_in_part (shown c.args.config.now) c.in_ok-broker.broker.config c.in_ok-broker.broker.states c.args.script.now events
+    inr (is_simulated_in_part (shown c.args.config.now) c.in_ok-broker.broker.config c.in_ok-broker.broker.states
+    c.args.script.now events
     outcome.lost.items (shown_outs outcome.outs.items) (known c.args.writer.now) (known c.print_outcome.new.writer)
     c.in_ok-events.ensures.ok c.in_ok-broker.ensures.config c.in_ok-broker.ensures.states sent
     (c.print_outcome.ensures.some_lost is) places wanted (c.print_outcome.ensures.memory is))

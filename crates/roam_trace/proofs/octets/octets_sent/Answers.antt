@@ -8,7 +8,8 @@ pub returns : goal.returns
 returns g c =
     let outs = c.args.outs.now in
     c.loop-out.invariant
-    ∙ ap (λ l. min (sum_by (λ out. length out.bytes) l) (2 ^ 64 - 1)) (take_all c.loop-out.out-index outs c.loop-out-test.false)
+    ∙ ap (λ l. min (sum_by (λ out. length out.bytes) l) (2 ^ 64 - 1))
+    (take_all c.loop-out.out-index outs c.loop-out-test.false)
 
 -- one packet more
 pub loop-out-preserved : goal.loop-out-preserved

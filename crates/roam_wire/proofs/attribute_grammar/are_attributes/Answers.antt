@@ -12,8 +12,11 @@ loop-rest-preserved c =
 
 -- octets are left, and no attribute stands at their front
 pub returns-in-None : goal.returns-in-None
-returns-in-None c =
-    (λ h. absurd (cc h), λ h. absurd (none_at_front _ (λ e. grind (arith, common_steps)) (sym c.in-None.ensures) (c.loop-rest.invariant.0 h)))
+returns-in-None c = (
+  λ h. absurd (cc h),
+  λ h. absurd
+      (none_at_front _ (λ e. grind (arith, common_steps)) (sym c.in-None.ensures) (c.loop-rest.invariant.0 h)),
+)
 
 -- nothing is left
 pub returns : goal.returns

@@ -6,10 +6,13 @@ use Rattle.roam_wire.proofs.writing.proxy_states_len.Goals as goal
 -- what is counted, with this attribute, stays within the packet
 pub overflow_add-size-then-attribute-eq-PROXY_STATE : goal.overflow_add-size-then-attribute-eq-PROXY_STATE
 overflow_add-size-then-attribute-eq-PROXY_STATE c =
-    let next = IsCount-kept _ _ _ _ (shown c.in-Some.attribute) _ c.in-Some.ensures.steps (search rules) c.loop-attribute.invariant in
-    let within : c.loop-attribute.size + (2 + length c.in-Some.attribute.value.now) ≤ 4076 = IsCount-within _ _ _ _ next c.attributes-attribute-items.ensures.packet.size in
+    let next = IsCount-kept _ _ _ _ (shown c.in-Some.attribute) _ c.in-Some.ensures.steps (search rules)
+    c.loop-attribute.invariant in
+    let within : c.loop-attribute.size + (2 + length c.in-Some.attribute.value.now) ≤ 4076 =
+    IsCount-within _ _ _ _ next c.attributes-attribute-items.ensures.packet.size in
     omega (arith, within)
 
 -- and so does all of it
 pub returns-clause-few : goal.returns-clause-few
-returns-clause-few c = IsCount-within _ _ _ _ c.loop-attribute.invariant c.attributes-attribute-items.ensures.packet.size
+returns-clause-few c = IsCount-within _ _ _ _ c.loop-attribute.invariant
+    c.attributes-attribute-items.ensures.packet.size

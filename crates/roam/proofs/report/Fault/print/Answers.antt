@@ -22,6 +22,9 @@ returns-in-Seed g c = rw c.in-Seed.is c.write_all-in-Seed.ensures.bytes
 pub returns-in-Bind : goal.returns-in-Bind
 returns-in-Bind g c = rw c.in-Bind.is c.print_bind.ensures
 
+pub returns-in-Control : goal.returns-in-Control
+returns-in-Control g c = rw c.in-Control.is c.print_control.ensures
+
 pub returns-in-Descriptors : goal.returns-in-Descriptors
 returns-in-Descriptors g c = rw c.in-Descriptors.is c.print_descriptors.ensures
 

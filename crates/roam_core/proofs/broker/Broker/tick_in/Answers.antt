@@ -3,8 +3,8 @@ use Rattle.std.specs.Vec.Iter.{into_iter_items}
 use Rattle.std.proofs.Common.{◌≡◌, ◌++◌, refl, sym, ap, subst, ◌∙◌, arith, length, set}
 use Rattle.roam_conf.specs.Config.{ConfigView}
 use Rattle.roam_book.specs.Turn.{packets_of, shown_outs, state_after}
-use Rattle.roam_core.specs.ManyRealms.{state_at}
-use Rattle.roam_core.specs.ShardRooms.{most_of_all, turn_in}
+use Rattle.roam_core.specs.ManyRealms.{state_at, tick_of}
+use Rattle.roam_core.specs.ShardRooms.{IsRealmRoom, most_of_all, wants_room}
 use Rattle.roam_core.proofs.ShardLemmas.{ticking-start, ticking-next, ticking-turn, ticking-end, nothing-left}
 use Rattle.roam_core.proofs.broker.Broker.tick_in.Goals as goal
 
@@ -13,7 +13,8 @@ pub loop-room-init : goal.loop-room-init
 loop-room-init g c =
     let iter = c.into_iter-room-iterator.ensures.into_iter_gives in
     record {
-      ticking = rw (iter.0, c.requires.empty) (ticking-start c.args.self.now.config c.args.now c.args.self.now.states c.args.room.rooms.items c.requires.rooms);
+      ticking = rw (iter.0, c.requires.empty) (ticking-start c.args.self.now.config c.args.now c.args.shard
+          c.args.self.now.states c.args.room.rooms.items c.requires.rooms);
       config = refl;
       places = rw (iter.0) (omega (arith, c.requires.len, c.requires.places));
       left = iter.1 ∙ c.args.room.rooms.ok.0 ∙ ap length (sym iter.0);
@@ -27,7 +28,13 @@ tick_one-requires-clause-there g c =
 
 pub tick_one-requires-clause-room : goal.tick_one-requires-clause-room
 tick_one-requires-clause-room g c =
-    (ticking-next _ _ _ _ _ _ _ _ _ c.in-Some.room c.in-Some.ensures.steps.0 c.loop-room.invariant.ticking).fits
+    let states = c.loop-room.self.states in
+    let realm = c.loop-room.realm in
+    let next = ticking-next _ _ _ _ _ _ _ _ _ c.in-Some.room c.in-Some.ensures.steps.0
+    c.loop-room.invariant.ticking in
+    subst (λ (x : ConfigView). IsRealmRoom c.args.now
+    (wants_room x c.args.now c.args.shard realm (state_at states realm).entries)
+    (state_at states realm).entries c.in-Some.room) (sym c.loop-room.invariant.config) next.fits
 
 pub overflow_add-realm : goal.overflow_add-realm
 overflow_add-realm g c =
@@ -44,8 +51,12 @@ loop-room-preserved g c =
     let fewer = ap most_of_all steps.0 in
     let states = c.loop-room.self.states in
     let realm = c.loop-room.realm in
-    let packets = subst (λ (x : ConfigView). shown_outs c.tick_one.new.outs.items ≡ shown_outs c.loop-room.outs.items ++ packets_of (turn_in x c.args.now realm (state_at states realm) c.in-Some.room)) inv.config one.packets in
-    let stand = subst (λ (x : ConfigView). c.tick_one.new.self.states ≡ set states realm (state_after (state_at states realm) (turn_in x c.args.now realm (state_at states realm) c.in-Some.room))) inv.config one.states in
+    let packets = subst (λ (x : ConfigView). shown_outs c.tick_one.new.outs.items
+    ≡ shown_outs c.loop-room.outs.items
+    ++ packets_of (tick_of x c.args.now c.args.shard realm (state_at states realm))) inv.config one.packets in
+    let stand = subst (λ (x : ConfigView). c.tick_one.new.self.states ≡ set states realm
+    (state_after (state_at states realm) (tick_of x c.args.now c.args.shard realm (state_at states realm))))
+    inv.config one.states in
     record {
       ticking = ticking-turn _ _ _ _ _ _ _ _ _ _ _ c.in-Some.room steps.0 inv.ticking packets stand;
       config = one.config ∙ inv.config;

@@ -7,7 +7,7 @@ use Rattle.roam_core.proofs.broker.Broker.tick_in.Given as goal
 
 abbrev pub invariant-loop-room : goal.invariant-loop-room
 invariant-loop-room g l = record {
-  ticking : IsTicking l.fn.self.config l.now l.fn.self.states l.self.states l.fn.room.rooms.items
+  ticking : IsTicking l.fn.self.config l.now l.shard l.fn.self.states l.self.states
       (into_iter_items l.room-iterator) l.realm (shown_outs l.outs.items);
   config : l.self.config ≡ l.fn.self.config;
   places : vec_len l.outs + most_of_all (into_iter_items l.room-iterator) ≤ vec_capacity l.outs;

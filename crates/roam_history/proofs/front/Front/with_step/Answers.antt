@@ -1,5 +1,5 @@
 -- It has one entry more, which is a step.
-use Rattle.std.proofs.Common.{◌≡◌, ◌<◌, ◌+◌, ◌++◌, ◌∷◌, [], length, ap, sym, ◌∙◌, arith, length-append}
+use Rattle.std.proofs.Common.{◌∷◌, [], length, ap, ◌∙◌, arith, length-append}
 use Rattle.roam_history.specs.Entries.{last_of, steps_in}
 use Rattle.roam_history.proofs.EntryLemmas.{counts_step, steps-few}
 use Rattle.roam_history.proofs.front.Front.with_step.Goals as goal
@@ -17,6 +17,11 @@ invariant_of-result g c =
     let steps = c.args.traced.now.steps in
     let is = c.in_ok-seen.ensures.log in (
       omega (arith, c.self.invariant.0, ap length is, length-append log (last_of steps ∷ [])),
-      omega (arith, c.self.invariant.1, ap (λ l. length (steps_in l)) is, counts_step log steps c.requires.step.0 c.requires.step.1),
+      omega (
+        arith,
+        c.self.invariant.1,
+        ap (λ l. length (steps_in l)) is,
+        counts_step log steps c.requires.step.0 c.requires.step.1,
+      ),
       c.in_ok-seen.ensures.book ∙ c.self.invariant.2,
     )

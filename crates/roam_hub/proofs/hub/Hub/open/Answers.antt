@@ -41,7 +41,7 @@ loop-blank-preserved g c =
     let short = ap length steps.0 in
     let fronts = c.loop-blank.fronts.items in
     let front : FrontView = c.in_ok-kept.front in
-    let is = c.in_ok-kept.ensures in
+    let is = c.in_ok-kept.ensures.seen in
     let more = c.in_ok-push-2.ensures.items in
     let entries : entries_of (fronts ++ front ∷ []) ≡ entries_of fronts ++ [] ∷ [] =
     map-append (λ (f : FrontView). f.entries) fronts (front ∷ []) ∙ ap (λ (f : FrontView). entries_of fronts ++ f.entries ∷ []) is in

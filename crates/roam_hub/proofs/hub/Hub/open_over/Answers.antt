@@ -74,7 +74,7 @@ loop-blank-preserved g c =
     let its_short = ap length its.items in
     let fronts = c.loop-blank.fronts.items in
     let front : FrontView = c.kept_over-kept.result.1 in
-    let is = c.kept_over-kept.ensures in
+    let is = c.kept_over-kept.ensures.seen in
     let more = c.push_reserved-in-loop-blank.ensures.items in
     let entries : entries_of (fronts ++ front ∷ []) ≡ entries_of fronts ++ [] ∷ [] =
     map-append (λ (f : FrontView). f.entries) fronts (front ∷ []) ∙ ap (λ (f : FrontView). entries_of fronts ++ f.entries ∷ []) is in

@@ -54,4 +54,5 @@ invariant_of-report g c =
       few_shards = omega (arith, few, hub.count, shards, hub.config.now.shards_range.1);
       all_shards = few ∙ hub.count;
       of_shards = c.in_ok-closed.ensures.of_shards;
+      whole = c.in_ok-closed.ensures.whole;
     }

@@ -1,8 +1,8 @@
 -- The stored steps are let go of, and the history says so.
-use Rattle.std.proofs.Common.{◌≡◌, ℕ, ◌++◌, ◌∷◌, [], None, ap, sym, subst, ◌∙◌}
+use Rattle.std.proofs.Common.{◌≡◌, ℕ, ◌++◌, ◌∷◌, [], length, ap, sym, subst, ◌∙◌, arith}
 use mathlib.Core.List.{IsPrefix}
 use Rattle.roam_trace.specs.History.{Ends, TraceView, without_steps}
-use Rattle.roam_history.specs.Entries.{gone_of}
+use Rattle.roam_history.specs.Entries.{gone_of, let_go_entry}
 use Rattle.roam_history.specs.Fronts.{FrontView}
 use Rattle.roam_audit.specs.Seats.{front_of, having_seen}
 use Rattle.roam_hub.specs.Calls.{AreGone, Sees}
@@ -17,7 +17,7 @@ all g c =
     let i = c.self.inside in
     let k : KeptView = record { trace = i.traced; front = i.front } in
     let old = c.args.seat.now in
-    let whole = i.front.entries ++ None ∷ [] in
+    let whole = i.front.entries ++ let_go_entry ∷ [] in
     let here : i.front.shard ≡ c.args.shard = ap (λ (v : KeptView). v.front.shard) c.self.view_is ∙ c.in_ok-check.ensures.shard in
     let begins : IsPrefix (front_of old c.args.shard) i.front.entries =
     subst (λ (v : KeptView). IsPrefix (front_of old c.args.shard) v.front.entries) (sym c.self.view_is) c.in_ok-check.ensures.begins in
@@ -32,12 +32,13 @@ invariant_of-self g c =
     let i = c.self.inside in
     let k : KeptView = record { trace = i.traced; front = i.front } in
     let es = i.front.entries in
-    let after : FrontView = record { shard = i.front.shard; entries = es ++ None ∷ [] } in
+    let after : FrontView = record { shard = i.front.shard; entries = es ++ let_go_entry ∷ [] } in
     let gone : c.let_go-steps.new.self ≡ without_steps i.traced = c.let_go-steps.ensures.gone in
     let first = o.states i.front.shard in
     let ends : Ends (without_steps i.traced) first (gone_of es ++ i.traced.steps) =
     subst (λ (v : TraceView). Ends v first (gone_of es ++ i.traced.steps)) gone (c.let_go-steps.ensures.history first (gone_of es) c.self.invariant.0.ends) in
-    let one : IsKept o (record { trace = without_steps i.traced; front = after }) = kept_gone o k c.self.invariant.0 ends in
+    let one : IsKept o (record { trace = without_steps i.traced; front = after }) = kept_gone o k c.self.invariant.0
+    (let same = ap (λ (v : KeptView). length v.front.entries) c.self.view_is in omega (arith, same, c.in_ok-check.ensures.room)) ends in
     let two : IsKept o (record { trace = c.let_go-steps.new.self; front = after }) =
     subst (λ (v : TraceView). IsKept o (record { trace = v; front = after })) (sym gone) one in (
       subst (λ (f : FrontView). IsKept o (record { trace = c.let_go-steps.new.self; front = f })) (sym c.without_steps.ensures) two,

@@ -1,12 +1,12 @@
 -- The call is the last step of the shard's one history.
-use Rattle.std.proofs.Common.{◌≡◌, ℕ, ◌-◌, ◌^◌, List, min, refl, ap, sym, subst, ◌∙◌}
+use Rattle.std.proofs.Common.{◌≡◌, ℕ, ◌-◌, ◌^◌, ◌++◌, ◌∷◌, [], List, length, min, refl, ap, sym, subst, ◌∙◌, arith}
 use mathlib.Core.List.{IsPrefix}
 use Rattle.roam_route.specs.Events.{arrival_of}
 use Rattle.roam_route.specs.Shown.{shown_job}
 use Rattle.roam_core.specs.Events.{arrives}
 use Rattle.roam_trace.specs.History.{TraceView, with_step}
 use Rattle.roam_trace.specs.Steps.{PlainStep, octets_in, shown_answer}
-use Rattle.roam_history.specs.Entries.{HistoryEntry, last_of, stored_of}
+use Rattle.roam_history.specs.Entries.{HistoryEntry, last_of, step_entry, stored_of}
 use Rattle.roam_history.proofs.EntryLemmas.{last-push}
 use Rattle.roam_history.specs.Fronts.{FrontView}
 use Rattle.roam_audit.specs.Seats.{after_call, front_of}
@@ -34,6 +34,7 @@ all g c =
       here = here;
       there = c.in_default.ensures.there;
       begins = begins;
+      room = (let same = ap (λ (v : KeptView). length v.front.entries) c.self.view_is in omega (arith, same, c.in_default.ensures.room));
       number_is = c.recorded-number.ensures.number;
       noted = c.recorded-number.ensures.seat ∙ ap (λ (n : ℕ). after_call c.args.seat.now n c.recorded-number.result c.recorded-number.new.front.entries) here;
     })
@@ -46,8 +47,8 @@ recorded-number-requires-clause-step g c =
 pub invariant_of-self : goal.invariant_of-self
 invariant_of-self g c = ((all g c).kept, c.self.invariant.1 ∙ sym (ap (λ (f : FrontView). f.shard) c.recorded-number.ensures.front))
 
-pub returns-in-Ok : goal.returns-in-Ok
-returns-in-Ok g c =
+pub returns-in-Ok-clause-calls : goal.returns-in-Ok-clause-calls
+returns-in-Ok-clause-calls g c =
     let it = all g c in
     let are = it.kept.stored ∙ sym (ap (λ (l : List HistoryEntry). stored_of l) it.front) in
     record {
@@ -60,3 +61,10 @@ returns-in-Ok g c =
       full = tt;
       no_shard = tt;
     }
+
+pub returns-in-Ok-clause-one : goal.returns-in-Ok-clause-one
+returns-in-Ok-clause-one g c =
+    let s : PlainStep = record { event = arrives c.args.call.moment (arrival_of (shown_job c.args.job)); answer = shown_answer c.in-Ok.answer } in
+    ap (λ (f : FrontView). f.entries) c.recorded-number.ensures.front
+    ∙ (ap (λ (e : HistoryEntry). c.self.inside.front.entries ++ e ∷ []) (all g c).last
+    ∙ ap (λ (v : KeptView). v.front.entries ++ step_entry s ∷ []) c.self.view_is)

@@ -1,11 +1,11 @@
 -- The call is the last step of the shard's one history.
-use Rattle.std.proofs.Common.{◌≡◌, ℕ, ◌-◌, ◌^◌, ◌++◌, ◌∷◌, [], List, min, ap, sym, subst, ◌∙◌}
+use Rattle.std.proofs.Common.{◌≡◌, ℕ, ◌-◌, ◌^◌, ◌++◌, ◌∷◌, [], List, length, min, ap, sym, subst, ◌∙◌, arith}
 use mathlib.Core.List.{IsPrefix}
 use Rattle.roam_core.specs.Events.{ticks}
 use Rattle.roam_trace.specs.History.{TraceView, with_step}
 use Rattle.roam_trace.specs.Steps.{PlainStep, octets_in, shown_answer}
-use Rattle.roam_history.specs.Entries.{HistoryEntry, last_of, steps_in, stored_of}
-use Rattle.roam_history.proofs.EntryLemmas.{last-push, one-step}
+use Rattle.roam_history.specs.Entries.{HistoryEntry, last_of, step_entry, stored_of}
+use Rattle.roam_history.proofs.EntryLemmas.{last-push}
 use Rattle.roam_history.specs.Fronts.{FrontView}
 use Rattle.roam_audit.specs.Seats.{after_call, front_of}
 use Rattle.roam_hub.specs.Keeping.{KeptView}
@@ -33,6 +33,7 @@ all g c =
       here = here;
       there = c.in_ok-check.ensures.there;
       begins = begins;
+      room = (let same = ap (λ (v : KeptView). length v.front.entries) c.self.view_is in omega (arith, same, c.in_ok-check.ensures.room));
       number_is = c.recorded-number.ensures.number;
       noted = c.recorded-number.ensures.seat ∙ ap (λ (n : ℕ). after_call c.args.seat.now n c.recorded-number.result c.recorded-number.new.front.entries) here;
     })
@@ -40,13 +41,15 @@ all g c =
 pub returns-in-Ok-clause-call : goal.returns-in-Ok-clause-call
 returns-in-Ok-clause-call g c = (all g c).call
 
-pub returns-in-Ok-clause-more : goal.returns-in-Ok-clause-more
-returns-in-Ok-clause-more g c =
-    let es = c.self.inside.front.entries in
+pub returns-in-Ok-clause-one : goal.returns-in-Ok-clause-one
+returns-in-Ok-clause-one g c =
     let s : PlainStep = record { event = ticks c.args.call.moment c.args.shard; answer = shown_answer c.in-Ok.answer } in
-    let last = (all g c).last in
-    let whole = (all g c).front ∙ (ap (λ (f : FrontView). f.entries) c.recorded-number.ensures.front ∙ ap (λ (e : HistoryEntry). es ++ e ∷ []) last) in
-    ap (λ (l : List HistoryEntry). steps_in l) whole ∙ (one-step es s ∙ ap (λ (v : KeptView). steps_in v.front.entries ++ s ∷ []) c.self.view_is)
+    ap (λ (f : FrontView). f.entries) c.recorded-number.ensures.front
+    ∙ (ap (λ (e : HistoryEntry). c.self.inside.front.entries ++ e ∷ []) (all g c).last
+    ∙ ap (λ (v : KeptView). v.front.entries ++ step_entry s ∷ []) c.self.view_is)
+
+pub returns-in-Ok-clause-all : goal.returns-in-Ok-clause-all
+returns-in-Ok-clause-all g c = (all g c).front
 
 pub recorded-number-requires-clause-step : goal.recorded-number-requires-clause-step
 recorded-number-requires-clause-step g c =

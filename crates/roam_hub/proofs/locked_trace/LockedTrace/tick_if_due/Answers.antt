@@ -1,8 +1,8 @@
 -- Something was due where the shard stands, at the end of its history, or nothing.
+use Rattle.roam_history.specs.Entries.{step_entry}
 use Rattle.std.proofs.Common.{◌≡◌, ◌↔◌, ℕ, ◌++◌, ◌∷◌, [], false, Ok, Err, ap, sym, subst, ◌∙◌}
 use Rattle.roam_shard.specs.Twins.{NothingDue}
 use mathlib.Core.List.{IsPrefix}
-use Rattle.roam_history.specs.Entries.{steps_in}
 use Rattle.roam_history.specs.Fronts.{FrontView}
 use Rattle.roam_audit.specs.Seats.{front_of, having_seen}
 use Rattle.roam_hub.specs.Keeping.{KeptView}
@@ -33,7 +33,9 @@ returns-then-is_due-clause-tick g c =
     let a = c.in_ok-tick.field-0 in
     let s = answered_step (ticks c.args.call.moment c.args.shard) a in
     let here : i.front.shard ≡ c.args.shard = ap (λ (v : KeptView). v.front.shard) c.self.view_is ∙ c.in_ok-check.ensures.shard in
-    let call = due_call g.N.Opened.opening k c.args.shard c.args.call.moment c.args.seat.now c.tick.new.seat a.number s c.self.invariant.0 here
+    let begins : IsPrefix (front_of c.args.seat.now c.args.shard) i.front.entries =
+    subst (λ (v : KeptView). IsPrefix (front_of c.args.seat.now c.args.shard) v.front.entries) (sym c.self.view_is) c.in_ok-check.ensures.begins in
+    let call = due_call g.N.Opened.opening k c.args.shard c.args.call.moment c.args.seat.now c.tick.new.seat a.number s c.self.invariant.0 here begins
     (λ none. absurd (let not = c.is_due.ensures.1 none in cc)) c.in_ok-tick.ensures.call
-    (c.in_ok-tick.ensures.more ∙ ap (λ (v : KeptView). steps_in v.front.entries ++ s ∷ []) (sym c.self.view_is)) in
+    (c.in_ok-tick.ensures.all ∙ (c.in_ok-tick.ensures.one ∙ ap (λ (v : KeptView). v.front.entries ++ step_entry s ∷ []) (sym c.self.view_is))) in
     record { tick = call; seen = c.in_ok-tick.ensures.seen; err = tt; full = λ is. absurd (let bad : Ok _ ≡ Err _ = is in cc) }

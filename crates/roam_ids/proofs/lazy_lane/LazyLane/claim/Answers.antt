@@ -8,7 +8,8 @@ use Rattle.roam_ids.proofs.lazy_lane.LazyLane.claim.Goals as goal
 pub returns-then-is_empty : goal.returns-then-is_empty
 returns-then-is_empty g c =
     let l = c.self.inside in
-    let none : length l.lane.items ≡ 0 = grind (arith, nat_tests, c.is_empty.ensures, c.if-is_empty.true, l.lane.ok.0) in
+    let none : length l.lane.items ≡ 0 =
+    grind (arith, nat_tests, c.is_empty.ensures, c.if-is_empty.true, l.lane.ok.0) in
     record {
       ticket = unmade (λ (lane : LaneState). None ≡ ticket_at lane c.args.id) l.tag l.lane.items c.args.self.now
           c.self.view_is none (sym (fresh-ticket l.tag c.args.id));

@@ -17,7 +17,8 @@ pub free-requires : goal.free-requires
 free-requires g c =
     let l = c.self.inside in
     let some = kept-out l.tag l.lane.items c.args.self.now c.args.slot.id c.self.view_is c.requires.out in
-    let same = kept-first l.tag l.lane.items c.args.self.now c.index_mut.result.now c.self.view_is some c.index_mut.ensures.value in
+    let same = kept-first l.tag l.lane.items c.args.self.now c.index_mut.result.now c.self.view_is some
+    c.index_mut.ensures.value in
     record {
       tag = c.requires.tag ∙ ap (λ (lane : LaneState). lane.tag) (sym same);
       out = ap (λ (lane : LaneState). place_at lane c.args.slot.id) same ∙ c.requires.out;
@@ -28,7 +29,8 @@ pub returns-clause-free : goal.returns-clause-free
 returns-clause-free g c =
     let l = c.self.inside in
     let some = kept-out l.tag l.lane.items c.args.self.now c.args.slot.id c.self.view_is c.requires.out in
-    let same = kept-first l.tag l.lane.items c.args.self.now c.index_mut.result.now c.self.view_is some c.index_mut.ensures.value in
+    let same = kept-first l.tag l.lane.items c.args.self.now c.index_mut.result.now c.self.view_is some
+    c.index_mut.ensures.value in
     kept-put l.tag l.lane.items c.free.new.self some
     ∙ ap with_memory c.free.ensures.free ∙ ap (λ (lane : LaneState). put_at lane c.args.slot.id Free) same
 

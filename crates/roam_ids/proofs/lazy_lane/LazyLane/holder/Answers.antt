@@ -8,12 +8,14 @@ use Rattle.roam_ids.proofs.lazy_lane.LazyLane.holder.Goals as goal
 pub returns-then-is_empty-clause-ticket : goal.returns-then-is_empty-clause-ticket
 returns-then-is_empty-clause-ticket g c =
     let l = c.self.inside in
-    let none : length l.lane.items ≡ 0 = grind (arith, nat_tests, c.is_empty.ensures, c.if-is_empty.true, l.lane.ok.0) in
+    let none : length l.lane.items ≡ 0 =
+    grind (arith, nat_tests, c.is_empty.ensures, c.if-is_empty.true, l.lane.ok.0) in
     unmade (λ (lane : LaneState). None ≡ ticket_at lane c.args.id) l.tag l.lane.items c.args.self.now
     c.self.view_is none (sym (fresh-ticket l.tag c.args.id))
 
 pub returns-then-is_empty-clause-whole : goal.returns-then-is_empty-clause-whole
 returns-then-is_empty-clause-whole g c =
     let l = c.self.inside in
-    let none : length l.lane.items ≡ 0 = grind (arith, nat_tests, c.is_empty.ensures, c.if-is_empty.true, l.lane.ok.0) in
+    let none : length l.lane.items ≡ 0 =
+    grind (arith, nat_tests, c.is_empty.ensures, c.if-is_empty.true, l.lane.ok.0) in
     unmade HasIdentifiers l.tag l.lane.items c.args.self.now c.self.view_is none (fresh-whole l.tag)

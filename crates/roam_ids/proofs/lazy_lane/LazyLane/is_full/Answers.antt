@@ -9,7 +9,8 @@ use Rattle.roam_ids.proofs.lazy_lane.LazyLane.is_full.Goals as goal
 pub returns-else-not-is_empty : goal.returns-else-not-is_empty
 returns-else-not-is_empty g c =
     let l = c.self.inside in
-    let none : length l.lane.items ≡ 0 = grind (arith, nat_tests, c.is_empty.ensures, c.if-not-is_empty.false, l.lane.ok.0) in
+    let none : length l.lane.items ≡ 0 =
+    grind (arith, nat_tests, c.is_empty.ensures, c.if-not-is_empty.false, l.lane.ok.0) in
     let unused = unmade (λ (lane : LaneState). AllUsed (is_used lane) → ⊥) l.tag l.lane.items
     c.args.self.now c.self.view_is none (fresh-not_full l.tag) in
     (λ some. absurd (cc), λ all. absurd (unused all))

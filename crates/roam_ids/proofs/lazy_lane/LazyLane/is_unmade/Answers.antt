@@ -1,4 +1,4 @@
-use Rattle.std.proofs.Common.{◌≡◌, ℕ, None, length, arith}
+use Rattle.std.proofs.Common.{◌≡◌, None, length, arith}
 use Rattle.std.proofs.lemmas.Bool.Decides.{nat_tests}
 use Rattle.roam_ids.specs.LaneState.{LaneState, ticket_at}
 use Rattle.roam_ids.proofs.LazyLemmas.{unmade, fresh-ticket}

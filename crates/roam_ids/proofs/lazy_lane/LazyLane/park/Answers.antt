@@ -17,7 +17,8 @@ pub park-requires : goal.park-requires
 park-requires g c =
     let l = c.self.inside in
     let some = kept-out l.tag l.lane.items c.args.self.now c.args.slot.id c.self.view_is c.requires.out in
-    let same = kept-first l.tag l.lane.items c.args.self.now c.index_mut.result.now c.self.view_is some c.index_mut.ensures.value in
+    let same = kept-first l.tag l.lane.items c.args.self.now c.index_mut.result.now c.self.view_is some
+    c.index_mut.ensures.value in
     record {
       tag = c.requires.tag ∙ ap (λ (lane : LaneState). lane.tag) (sym same);
       out = ap (λ (lane : LaneState). place_at lane c.args.slot.id) same ∙ c.requires.out;
@@ -28,9 +29,11 @@ pub returns-clause-parked : goal.returns-clause-parked
 returns-clause-parked g c =
     let l = c.self.inside in
     let some = kept-out l.tag l.lane.items c.args.self.now c.args.slot.id c.self.view_is c.requires.out in
-    let same = kept-first l.tag l.lane.items c.args.self.now c.index_mut.result.now c.self.view_is some c.index_mut.ensures.value in
+    let same = kept-first l.tag l.lane.items c.args.self.now c.index_mut.result.now c.self.view_is some
+    c.index_mut.ensures.value in
     kept-put l.tag l.lane.items c.park.new.self some
-    ∙ ap with_memory c.park.ensures.parked ∙ ap (λ (lane : LaneState). put_at lane c.args.slot.id (Parked c.args.ticket)) same
+    ∙ ap with_memory c.park.ensures.parked
+    ∙ ap (λ (lane : LaneState). put_at lane c.args.slot.id (Parked c.args.ticket)) same
 
 pub returns-clause-whole : goal.returns-clause-whole
 returns-clause-whole g c =

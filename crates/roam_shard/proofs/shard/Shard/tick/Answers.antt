@@ -5,11 +5,10 @@ use Rattle.roam_conf.specs.Parts.{shown_realm}
 use Rattle.roam_book.specs.Turn.{shown_outs}
 use Rattle.roam_core.specs.ManyRealms.{AllRealms, tick_from}
 use Rattle.roam_core.specs.ShardRooms.{AreRooms, only_done_from}
-use Rattle.roam_core.proofs.ShardLemmas.{all-fit, tick-in, ticked}
+use Rattle.roam_core.proofs.ShardLemmas.{ticked}
 use Rattle.roam_shard.specs.ShardView.{HaveNumbers, ShardView, shown_opening, states_in}
 use Rattle.roam_shard.specs.Twins.{NothingDue}
 use Rattle.roam_shard.proofs.DueLemmas.{nothing_ticked}
-use Rattle.roam_shard.proofs.RoomLemmas.{own_rooms}
 use Rattle.roam_shard.proofs.TickLemmas.{too_late}
 use Rattle.roam_shard.proofs.shard.Shard.tick.Goals as goal
 
@@ -143,47 +142,19 @@ tick_in-requires-clause-rooms g c =
     let o = shown_opening i.opening in
     let seen = subst (λ ns. AreRooms o.config c.args.now o.shard 0 (states_in o i.entries ns) rooms)
     c.deref-3.ensures.value c.in_ok-room.ensures.rooms in
-    let are = subst (λ (v : ShardView).
-    AreRooms v.opening.config c.args.now v.opening.shard 0 v.states rooms) c.self.view_is seen
-    in
-    all-fit c.args.self.now.opening.config c.args.now c.args.self.now.opening.shard 0
-    c.args.self.now.states rooms are
-
-pub tick_in-requires-clause-own : goal.tick_in-requires-clause-own
-tick_in-requires-clause-own g c =
-    let i = c.self.inside in
-    let rooms = c.in_ok-room.room.rooms.items in
-    let o = shown_opening i.opening in
-    let seen = subst (λ ns. AreRooms o.config c.args.now o.shard 0 (states_in o i.entries ns) rooms)
-    c.deref-3.ensures.value c.in_ok-room.ensures.rooms in
-    let are = subst (λ (v : ShardView).
-    AreRooms v.opening.config c.args.now v.opening.shard 0 v.states rooms) c.self.view_is seen
-    in
-    own_rooms c.args.self.now.opening c.args.now 0 c.args.self.now.states rooms are
+    subst (λ (v : ShardView). AreRooms v.opening.config c.args.now v.opening.shard 0 v.states rooms)
+    c.self.view_is seen
 
 pub returns-clause-turn : goal.returns-clause-turn
 returns-clause-turn g c =
-    let i = c.self.inside in
-    let rooms = c.in_ok-room.room.rooms.items in
-    let p = shown_opening i.opening in
-    let seen = subst (λ ns. AreRooms p.config c.args.now p.shard 0 (states_in p i.entries ns) rooms)
-    c.deref-3.ensures.value c.in_ok-room.ensures.rooms in
-    let are = subst (λ (v : ShardView).
-    AreRooms v.opening.config c.args.now v.opening.shard 0 v.states rooms) c.self.view_is seen
-    in
     let o = c.args.self.now.opening in
     let states = c.args.self.now.states in
     let there = subst (λ (v : ShardView). v.opening.shard < v.opening.config.shards) c.self.view_is
     c.self.invariant.there in
     let early : c.args.now ≤ 2 ^ 62 = omega (arith, c.if-now-gt-LATEST.false) in
-    let all = tick-in o.config c.args.now o.shard 0 states rooms are in
     let told = c.tick_in.ensures in (
-      ticked c.tick_in.result.answer o.config states c.tick_in.new.self.states c.args.now o.shard
-          there early
-          (told.packets ∙ ap (λ (x : AllRealms). x.packets) all) told.refusal
-          (told.states ∙ ap (λ (x : AllRealms). x.states) all),
-      ticked c.tick_in.result.copy o.config states c.tick_in.new.self.states c.args.now o.shard
-          there early
-          (told.copies ∙ ap (λ (x : AllRealms). x.packets) all) told.copy_refusal
-          (told.states ∙ ap (λ (x : AllRealms). x.states) all),
+      ticked c.tick_in.result.answer o.config states c.tick_in.new.self.states c.args.now o.shard there early
+          told.packets told.refusal told.states,
+      ticked c.tick_in.result.copy o.config states c.tick_in.new.self.states c.args.now o.shard there early
+          told.copies told.copy_refusal told.states,
     )

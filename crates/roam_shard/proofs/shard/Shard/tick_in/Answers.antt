@@ -3,12 +3,12 @@ use Rattle.std.specs.Vec.Iter.{into_iter_items}
 use Rattle.std.proofs.Common.{◌≡◌, ◌++◌, List, refl, sym, ap, subst, ◌∙◌, arith, length, set}
 use Rattle.roam_route.specs.Admission.{PlainOut}
 use Rattle.roam_book.specs.Turn.{packets_of, shown_outs, state_after}
-use Rattle.roam_core.specs.ManyRealms.{state_at}
-use Rattle.roam_core.specs.ShardRooms.{most_of_all, turn_in}
+use Rattle.roam_core.specs.ManyRealms.{state_at, tick_of}
+use Rattle.roam_core.specs.ShardRooms.{IsRealmRoom, most_of_all, wants_room}
 use Rattle.roam_core.proofs.ShardLemmas.{ticking-start, ticking-next, ticking-turn, ticking-end, nothing-left}
 use Rattle.roam_shard.specs.ShardView.{OpeningView}
 use Rattle.roam_shard.specs.Private.Rooms.{HasPlaces}
-use Rattle.roam_shard.proofs.TickLemmas.{next_own, next_twice}
+use Rattle.roam_shard.proofs.TickLemmas.{next_twice}
 use Rattle.roam_shard.proofs.shard.Shard.tick_in.Goals as goal
 
 -- all rooms are left
@@ -18,17 +18,12 @@ loop-room-init g c =
     record {
       ticking =
           rw (iter.0, c.requires.sent)
-          (ticking-start c.args.self.now.opening.config c.args.now c.args.self.now.states
-          c.args.room.rooms.items c.requires.rooms);
+          (ticking-start c.args.self.now.opening.config c.args.now c.args.self.now.opening.shard
+          c.args.self.now.states c.args.room.rooms.items c.requires.rooms);
       copies = rw (c.requires.sent, c.requires.copies) refl;
       opening = refl;
       rooms =
-          rw (iter.0) (record {
-            own = c.requires.own;
-            twice = c.requires.twice;
-            places =
-                c.requires.places;
-          });
+          rw (iter.0) (record { twice = c.requires.twice; places = c.requires.places });
       left = iter.1 ∙ c.args.room.rooms.ok.0 ∙ ap length (sym iter.0);
       count = omega (arith, ap length (iter.0));
     }
@@ -39,17 +34,15 @@ tick_one-requires-clause-there g c =
     (ticking-next _ _ _ _ _ _ _ _ _ c.in-Some.room c.in-Some.ensures.steps.0
     c.loop-room.invariant.ticking).there
 
-pub tick_one-requires-clause-own : goal.tick_one-requires-clause-own
-tick_one-requires-clause-own g c =
-    let inv = c.loop-room.invariant in
-    let own = (next_own c.args.self.now.opening c.loop-room.realm _ _ c.in-Some.room
-    c.in-Some.ensures.steps.0 inv.rooms.own).0 in
-    rw inv.opening own
-
 pub tick_one-requires-clause-room : goal.tick_one-requires-clause-room
 tick_one-requires-clause-room g c =
-    (ticking-next _ _ _ _ _ _ _ _ _ c.in-Some.room c.in-Some.ensures.steps.0
-    c.loop-room.invariant.ticking).fits
+    let states = c.loop-room.self.states in
+    let realm = c.loop-room.realm in
+    let next = ticking-next _ _ _ _ _ _ _ _ _ c.in-Some.room c.in-Some.ensures.steps.0
+    c.loop-room.invariant.ticking in
+    subst (λ (o : OpeningView). IsRealmRoom c.args.now
+    (wants_room o.config c.args.now o.shard realm (state_at states realm).entries)
+    (state_at states realm).entries c.in-Some.room) (sym c.loop-room.invariant.opening) next.fits
 
 pub tick_one-requires-clause-twice : goal.tick_one-requires-clause-twice
 tick_one-requires-clause-twice g c =
@@ -77,12 +70,12 @@ loop-room-preserved g c =
     let realm = c.loop-room.realm in
     let packets = subst (λ (o : OpeningView).
     shown_outs c.tick_one.new.both.sent.items ≡ shown_outs c.loop-room.both.sent.items
-    ++ packets_of (turn_in o.config c.args.now realm (state_at states realm) c.in-Some.room))
+    ++ packets_of (tick_of o.config c.args.now o.shard realm (state_at states realm)))
     inv.opening one.packets in
     let stand = subst (λ (o : OpeningView).
     c.tick_one.new.self.states
     ≡ set states realm (state_after (state_at states realm)
-    (turn_in o.config c.args.now realm (state_at states realm) c.in-Some.room))) inv.opening
+    (tick_of o.config c.args.now o.shard realm (state_at states realm)))) inv.opening
     one.states in
     let has = subst (λ (n : _). HasPlaces n c.loop-room.both) (ap most_of_all steps.0)
     inv.rooms.places in
@@ -90,12 +83,11 @@ loop-room-preserved g c =
       ticking = ticking-turn _ _ _ _ _ _ _ _ _ _ _ c.in-Some.room steps.0 inv.ticking packets stand;
       copies = one.copies
           ∙ ap (λ (l : List PlainOut).
-          l ++ packets_of (turn_in c.loop-room.self.opening.config c.args.now realm
-          (state_at states realm) c.in-Some.room)) inv.copies
+          l ++ packets_of (tick_of c.loop-room.self.opening.config c.args.now
+          c.loop-room.self.opening.shard realm (state_at states realm))) inv.copies
           ∙ sym one.packets;
       opening = one.opening ∙ inv.opening;
       rooms = record {
-        own = (next_own c.args.self.now.opening realm _ _ c.in-Some.room steps.0 inv.rooms.own).1;
         twice = (next_twice _ _ c.in-Some.room steps.0 inv.rooms.twice).1;
         places = one.places _ has;
       };

@@ -7,12 +7,11 @@ use Rattle.roam_shard.proofs.shard.Shard.tick_in.Given as goal
 
 abbrev pub invariant-loop-room : goal.invariant-loop-room
 invariant-loop-room g l = record {
-  ticking : IsTicking l.fn.self.opening.config l.now l.fn.self.states l.self.states
-      l.fn.room.rooms.items
+  ticking : IsTicking l.fn.self.opening.config l.now l.fn.self.opening.shard l.fn.self.states l.self.states
       (into_iter_items l.room-iterator) l.realm (shown_outs l.both.sent.items);
   copies : shown_outs l.both.copies.items ≡ shown_outs l.both.sent.items;
   opening : l.self.opening ≡ l.fn.self.opening;
-  rooms : AreLeft l.fn.self.opening l.realm (into_iter_items l.room-iterator) l.both;
+  rooms : AreLeft (into_iter_items l.room-iterator) l.both;
   left : into_iter_len l.room-iterator ≡ length (into_iter_items l.room-iterator);
   count : l.realm + length (into_iter_items l.room-iterator) ≡ length l.fn.room.rooms.items;
 }

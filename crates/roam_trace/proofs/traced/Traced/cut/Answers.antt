@@ -1,5 +1,5 @@
 -- The history that the type keeps.
-use Rattle.std.proofs.Common.{◌≡◌, List, length, sym, subst}
+use Rattle.std.proofs.Common.{◌≡◌, List, length, subst}
 use Rattle.roam_book.specs.RealmState.{RealmState}
 use Rattle.roam_trace.specs.History.{Ends, TraceView}
 use Rattle.roam_trace.specs.Steps.{PlainStep}
@@ -8,4 +8,8 @@ use Rattle.roam_trace.proofs.traced.Traced.cut.Goals as goal
 pub returns-clause-history : goal.returns-clause-history
 returns-clause-history g c =
     let is = c.self.invariant.0 in
-    subst (λ (v : TraceView). (states : List RealmState) × ((before : List PlainStep) × Ends v states before × (length before ≡ v.gone))) c.self.view_is (is.first, (is.before, is.ends, is.count))
+    subst (λ (v : TraceView). (states : List RealmState)
+    × ((before : List PlainStep) × Ends v states before × (length before ≡ v.gone))) c.self.view_is (
+      is.first,
+      (is.before, is.ends, is.count),
+    )

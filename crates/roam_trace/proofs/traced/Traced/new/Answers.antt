@@ -1,6 +1,5 @@
 -- A shard stands at the end of a history of no steps.
-use Rattle.std.proofs.Common.{◌≡◌, ◌-◌, ◌<◌, ◌^◌, min, refl, arith}
-use Rattle.roam_trace.specs.Steps.{octets_in}
+use Rattle.std.proofs.Common.{◌-◌, ◌<◌, ◌^◌, refl, arith}
 use Rattle.roam_trace.proofs.HistoryLemmas.{new_trace}
 use Rattle.roam_trace.proofs.traced.Traced.new.Goals as goal
 

@@ -18,7 +18,8 @@ returns-then-length-lt20-clause-only c = λ p reads.
 -- what stands behind the header is no list of attributes
 no_attributes : (c : goal.Then-not-are_attributes) → IsSome (attributes_of (drop 20 (front c.args.datagram.now))) → ⊥
 no_attributes c some =
-    let here : IsSome (attributes_of c.behind_header.result.now) = rw (c.behind_header.ensures, c.front_of-octets.ensures, c.length_at-length.ensures) some in
+    let here : IsSome (attributes_of c.behind_header.result.now) =
+    rw (c.behind_header.ensures, c.front_of-octets.ensures, c.length_at-length.ensures) some in
     absurd (cc (c.if-not-are_attributes.ensures.1 here))
 
 pub returns-then-not-are_attributes-clause-only : goal.returns-then-not-are_attributes-clause-only
@@ -34,15 +35,23 @@ has_length c = record {
 }
 
 pub returns-then-not-are_attributes-clause-bad_attribute : goal.returns-then-not-are_attributes-clause-bad_attribute
-returns-then-not-are_attributes-clause-bad_attribute c =
-    (λ _. (omega arith, has_length c, λ reads. no_attributes c (ReadsAs-follows c.args.datagram.now reads.packet reads.reads).attributes), λ _. refl)
+returns-then-not-are_attributes-clause-bad_attribute c = (
+  λ _. (
+    omega arith,
+    has_length c,
+    λ reads. no_attributes c (ReadsAs-follows c.args.datagram.now reads.packet reads.reads).attributes,
+  ),
+  λ _. refl,
+)
 
 -- the front is a packet's octets
 front_is_packet : (c : goal.Else-not-are_attributes) → IsPacketText (front c.args.datagram.now)
 front_is_packet c =
     let some : IsSome (attributes_of c.behind_header.result.now) = c.if-not-are_attributes.ensures.0 refl in
-    let octets : c.front_of-octets.result.now ≡ front c.args.datagram.now = c.front_of-octets.ensures ∙ rw c.length_at-length.ensures refl in
-    let at_front : IsSome (attributes_of (drop 20 (front c.args.datagram.now))) = rw (c.behind_header.ensures, octets) at some in
+    let octets : c.front_of-octets.result.now ≡ front c.args.datagram.now = c.front_of-octets.ensures
+    ∙ rw c.length_at-length.ensures refl in
+    let at_front : IsSome (attributes_of (drop 20 (front c.args.datagram.now))) =
+    rw (c.behind_header.ensures, octets) at some in
     let fits : HasLength c.args.datagram.now = record {
       at_least_header = omega (arith, c.length_at-length.ensures);
       at_most_4096 = omega (arith, c.length_at-length.ensures);
@@ -67,8 +76,11 @@ returns-clause-only c = λ p reads.
     rw (c.front_of-octets.ensures, c.length_at-length.ensures) ((ReadsAs-follows c.args.datagram.now p reads).packet)
 
 pub returns-clause-bad_attribute : goal.returns-clause-bad_attribute
-returns-clause-bad_attribute c =
-    (λ h. absurd (cc h), λ h. absurd (h.2 (record { packet = packet_of (front c.args.datagram.now); reads = reads_front c })))
+returns-clause-bad_attribute c = (
+  λ h. absurd (cc h),
+  λ h. absurd
+      (h.2 (record { packet = packet_of (front c.args.datagram.now); reads = reads_front c })),
+)
 
 -- the same as a function
 pub returns-then-datagram-lt20-clause-answer : goal.returns-then-datagram-lt20-clause-answer
@@ -76,7 +88,8 @@ returns-then-datagram-lt20-clause-answer c = sym (reading-short c.args.datagram.
 
 pub returns-then-length-lt20-clause-answer : goal.returns-then-length-lt20-clause-answer
 returns-then-length-lt20-clause-answer c =
-    let bad : length_fits c.args.datagram.now ≡ false = grind (arith, nat_tests, c.length_at-length.ensures, c.then-length-lt20.either) in
+    let bad : length_fits c.args.datagram.now ≡ false =
+    grind (arith, nat_tests, c.length_at-length.ensures, c.then-length-lt20.either) in
     sym (reading-bad_length c.args.datagram.now (omega arith) bad)
 
 pub returns-then-not-are_attributes-clause-answer : goal.returns-then-not-are_attributes-clause-answer
@@ -86,8 +99,10 @@ returns-then-not-are_attributes-clause-answer c =
 pub returns-clause-answer : goal.returns-clause-answer
 returns-clause-answer c =
     let some : IsSome (attributes_of c.behind_header.result.now) = c.if-not-are_attributes.ensures.0 refl in
-    let octets : c.front_of-octets.result.now ≡ front c.args.datagram.now = c.front_of-octets.ensures ∙ rw c.length_at-length.ensures refl in
-    let at_front : IsSome (attributes_of (drop 20 (front c.args.datagram.now))) = rw (c.behind_header.ensures, octets) at some in
+    let octets : c.front_of-octets.result.now ≡ front c.args.datagram.now = c.front_of-octets.ensures
+    ∙ rw c.length_at-length.ensures refl in
+    let at_front : IsSome (attributes_of (drop 20 (front c.args.datagram.now))) =
+    rw (c.behind_header.ensures, octets) at some in
     let fits : HasLength c.args.datagram.now = record {
       at_least_header = omega (arith, c.length_at-length.ensures);
       at_most_4096 = omega (arith, c.length_at-length.ensures);

@@ -1,0 +1,289 @@
+//! Lines on their way to standard error.
+//!
+//! Whoever tells a line never waits for whoever reads it: the lines lie in memory until a thread of its own has written
+//! them, for which nobody waits. What isn't written isn't counted as told: it stays there, and where there is no room for
+//! more, that is told to who asks before.
+
+ghost use Rattle.std.specs.Prelude.{◌≡◌, ◌↔◌, ◌≤◌, ◌+◌, ◌-◌, ◌^◌, ◌++◌, min, length, take, vec_len, IsTrue, IsFalse};
+ghost use Rattle.std.specs.Io.KnownBytes.{Appends};
+
+use std::alloc::{AllocError, Global};
+use std::fmt::Display;
+use std::io::Write;
+use std::sync::atomic::{AtomicBool, Ordering};
+use std::sync::{Mutex, Wait};
+use std::thread::Parker;
+use std::time::{Clock, Duration};
+use std::{io, thread};
+
+/// How many octets of lines may wait.
+const ROOM: usize = 1 << 20;
+
+/// For how many octets there is room where there is room for one more: more than is told at once.
+const ONE_MORE: usize = 8192;
+
+/// How many octets are written at once: as many as a pipe takes whole (pipe(7), `PIPE_BUF`).
+const AT_ONCE: usize = 4096;
+
+/// How long after a write that failed the next one is made, in milliseconds.
+const PAUSE: u64 = 100;
+
+/// How often it is looked at the end whether all is written, and how long before the next look, in milliseconds: a
+/// second in all.
+const LOOKS: u32 = 100;
+
+const BETWEEN_LOOKS: u64 = 10;
+
+/// Lines that wait.
+#[derive(Drop)]
+struct Waiting {
+    text: Vec<u8>,
+    /// How many lines the thread has that writes them, and hasn't written yet.
+    in_hand: u64,
+    /// For how many lines there was no room, of which that isn't told yet.
+    dropped: u64,
+    ghost in_room: { vec_len text ≤ 1048576 },
+}
+
+/// How many lines end in a text.
+fn lines_in(text: &[u8]) -> u64 {
+    let mut count = 0u64;
+    for octet in text {
+        if *octet == b'\n' {
+            count = count.saturating_add(1);
+        }
+    }
+    count
+}
+
+/// The octets of a line, with its line feed.
+fn octets_of<D: Display + Drop>(alloc: Global, line: D) -> io::Result<Vec<u8>> {
+    let mut octets = Vec::with_capacity(alloc, ONE_MORE)?;
+    writeln!(octets, "{line}")?;
+    Ok(octets)
+}
+
+impl Waiting {
+    /// Whether there is room for one more.
+    fn has_room(&self) -> bool
+        ensures { IsTrue result ↔ (vec_len self.now.text + 8192 ≤ 1048576) }
+    {
+        self.text.len() <= ROOM - ONE_MORE
+    }
+
+    /// Puts octets behind the others. Answers whether there was room, and memory, for them; otherwise all is as it was.
+    fn put(&mut self, octets: &[u8]) -> bool
+        ensures put { IsTrue result → self.new.text.items ≡ self.old.text.items ++ octets.now }
+        ensures full { IsFalse result → self.new.text.items ≡ self.old.text.items }
+        ensures hand { self.new.in_hand ≡ self.old.in_hand }
+        ensures dropped { self.new.dropped ≡ self.old.dropped }
+    {
+        octets.len() <= ROOM - self.text.len() && self.text.extend_from_slice(octets).is_ok()
+    }
+
+    /// Says how many lines were dropped, where there is room for that.
+    fn tell_dropped(&mut self, alloc: Global) {
+        if self.dropped == 0 {
+            return;
+        }
+        let dropped = self.dropped;
+        if let Ok(line) = format!(in alloc; "[WARN  roam::outlet] {dropped} lines dropped\n") {
+            if self.put(line.as_str().as_bytes()) {
+                self.dropped = 0;
+            }
+        }
+    }
+
+    /// Counts that a line is dropped.
+    fn drop_one(&mut self)
+        ensures dropped { self.new.dropped ≡ min (2 ^ 64 - 1) (self.old.dropped + 1) }
+        ensures text { self.new.text ≡ self.old.text }
+    {
+        self.dropped = self.dropped.saturating_add(1);
+    }
+
+    /// Puts a line behind the others. One for which there is no room is dropped, and counted.
+    fn tell(&mut self, line: &[u8]) {
+        if !(self.has_room() && self.put(line)) {
+            self.drop_one();
+        }
+    }
+
+    /// Exchanges the lines for this text, in which nothing is: the thread that writes has them then.
+    fn take(&mut self, text: &mut Vec<u8>)
+        requires { vec_len text.old ≤ 1048576 }
+        ensures taken { text.new ≡ self.old.text }
+        ensures left { self.new.text ≡ text.old }
+    {
+        std::mem::swap(&mut self.text, text);
+        self.in_hand = lines_in(text.as_slice());
+    }
+
+    /// So many lines more of those in hand are written.
+    fn note_written(&mut self, lines: u64)
+        ensures hand { self.new.in_hand ≡ self.old.in_hand - lines }
+        ensures text { self.new.text ≡ self.old.text }
+    {
+        self.in_hand = self.in_hand.saturating_sub(lines);
+    }
+
+    /// Whether all is written, and no line was dropped without a word.
+    fn is_all_told(&self) -> bool
+        ensures { IsTrue result
+            ↔ ((vec_len self.now.text ≡ 0) × (self.now.in_hand ≡ 0) × (self.now.dropped ≡ 0)) }
+    {
+        self.text.is_empty() && self.in_hand == 0 && self.dropped == 0
+    }
+
+    /// How many lines aren't written yet, or found no room.
+    fn left(&self) -> u64 {
+        lines_in(self.text.as_slice())
+            .saturating_add(self.in_hand)
+            .saturating_add(self.dropped)
+    }
+}
+
+/// Lines on their way to standard error.
+#[derive(Drop)]
+pub struct Outlet {
+    alloc: Global,
+    waiting: Mutex<Waiting>,
+    /// What the thread that writes them sleeps on.
+    wake: Parker,
+    /// Whether it is to end once all is written.
+    is_over: AtomicBool,
+}
+
+impl Outlet {
+    /// Nothing waits.
+    pub fn new(alloc: Global) -> Result<Outlet, AllocError> {
+        Ok(Outlet {
+            alloc,
+            waiting: Mutex::new(Waiting {
+                text: Vec::with_capacity(alloc, ROOM)?,
+                in_hand: 0,
+                dropped: 0,
+            }),
+            wake: Parker::new(),
+            is_over: AtomicBool::new(false),
+        })
+    }
+
+    /// Room for what is taken at once.
+    pub fn room(alloc: Global) -> Result<Vec<u8>, AllocError> {
+        Vec::with_capacity(alloc, ROOM)
+    }
+
+    /// Whether there is room for one more.
+    pub fn has_room<R: Wait>(&self, rt: &R) -> bool {
+        self.waiting.lock(rt).has_room()
+    }
+
+    /// Has a line be written, without its line feed. Never waits for that.
+    pub fn tell<R: Wait, D: Display + Drop>(&self, rt: &R, line: D) {
+        let told = octets_of(self.alloc, line);
+        let mut waiting = self.waiting.lock(rt);
+        waiting.tell_dropped(self.alloc);
+        match told {
+            Ok(line) => waiting.tell(line.as_slice()),
+            Err(_) => waiting.drop_one(),
+        }
+        drop(waiting);
+        self.wake.unpark();
+    }
+
+    /// Has octets be written. Answers whether there was room for them.
+    pub fn put<R: Wait>(&self, rt: &R, octets: &[u8]) -> bool {
+        let is_put = self.waiting.lock(rt).put(octets);
+        self.wake.unpark();
+        is_put
+    }
+
+    /// Takes what is to be written in exchange for a text in which nothing is.
+    fn take<R: Wait>(&self, rt: &R, text: &mut Vec<u8>)
+        requires { vec_len text.old ≤ 1048576 }
+    {
+        self.waiting.lock(rt).take(text);
+    }
+
+    /// So many lines more of those in hand are written.
+    fn note_written<R: Wait>(&self, rt: &R, lines: u64) {
+        self.waiting.lock(rt).note_written(lines);
+    }
+
+    /// Whether all is written, and no line was dropped without a word.
+    fn is_all_told<R: Wait>(&self, rt: &R) -> bool {
+        self.waiting.lock(rt).is_all_told()
+    }
+
+    /// How many lines aren't written yet, or found no room.
+    pub fn left<R: Wait>(&self, rt: &R) -> u64 {
+        self.waiting.lock(rt).left()
+    }
+
+    /// Has the thread that writes end once all is written.
+    pub fn end<R: Wait>(&self, rt: &R) {
+        self.waiting.lock(rt).tell_dropped(self.alloc);
+        self.is_over.store(true, Ordering::SeqCst);
+        self.wake.unpark();
+    }
+
+    /// Has the thread that writes end, and gives it a second for the rest. Answers how many lines aren't told then.
+    pub fn finish<R: Wait + Clock>(&self, rt: &R) -> u64 {
+        self.end(rt);
+        for _ in 0..LOOKS {
+            if self.is_all_told(rt) {
+                return 0;
+            }
+            thread::sleep(rt, Duration::from_millis(BETWEEN_LOOKS));
+        }
+        self.left(rt)
+    }
+}
+
+/// Writes the first octets of a text. Answers how many: none where the write failed.
+fn write_some<W: Write>(out: &mut W, text: &[u8]) -> usize
+    ensures bound { result ≤ length text.now }
+    ensures written { Appends (W.contents out.old) (W.contents out.new) (take result text.now) }
+{
+    let first = &text[..text.len().min(AT_ONCE)];
+    out.write(first).unwrap_or(0)
+}
+
+/// Writes a text, however long that takes.
+fn write_out<R: Wait + Clock, W: Write>(rt: &R, outlet: &Outlet, out: &mut W, text: &[u8]) {
+    let mut rest = text;
+    for _ in rt.forever() {
+        if rest.is_empty() {
+            return;
+        }
+        let (written, next) = rest.split_at(write_some(out, rest));
+        if written.is_empty() {
+            thread::sleep(rt, Duration::from_millis(PAUSE));
+        } else {
+            outlet.note_written(rt, lines_in(written));
+        }
+        rest = next;
+    }
+    unreachable!()
+}
+
+/// Writes lines as they come, until all is written of a time that is over. This thread alone waits for whoever reads
+/// them.
+pub fn write_on<R: Wait + Clock, W: Write + Drop>(rt: &R, outlet: &Outlet, out: W, room: Vec<u8>) {
+    let mut out = out;
+    let mut text = room;
+    for _ in rt.forever() {
+        let is_over = outlet.is_over.load(Ordering::SeqCst);
+        text.clear();
+        outlet.take(rt, &mut text);
+        if !text.is_empty() {
+            write_out(rt, outlet, &mut out, text.as_slice());
+        } else if is_over {
+            return;
+        } else {
+            outlet.wake.park(rt);
+        }
+    }
+    unreachable!()
+}

@@ -1,0 +1,351 @@
+//! A thread that answers over HTTP.
+//!
+//! It never waits for one connection: each has a time and a bound on what it may ask, and where there are too many the
+//! one that has been quiet for longest is closed. No other thread waits for it.
+
+use crate::asker::Asker;
+use crate::desk::Office;
+use crate::missing::Handed;
+use crate::pause::Pause;
+use http_server::{Config as Limits, Connection, Reason, State};
+use libc::net::{POLLIN, POLLOUT, poll, shutdown};
+use libc::types::pollfd;
+use log::{Log, warn};
+use mio::net::{UnixListener, UnixStream};
+use roam_sockets::now;
+use std::alloc::Global;
+use std::hash::RandomState;
+use std::io::{ErrorKind, Read, Write};
+use std::net::{TcpListener, TcpStream};
+use std::os::fd::AsRawFd;
+use std::random::RandomSource;
+use std::sync::Wait;
+use std::sync::atomic::Ordering;
+use std::time::{Clock, Duration};
+use std::{io, thread};
+
+/// How many connections are open at once. One more closes the quietest.
+const CONNECTIONS: usize = 16;
+
+/// How many are taken in a round: each can ask before others take its place.
+const TAKEN_AT_ONCE: usize = 8;
+
+/// How long a connection may take to ask, and from then on how long it may take none of its answer, in milliseconds.
+const TIME: u64 = 5000;
+
+/// How long whoever is handed stored steps may take none of them, and from the last one on may take to close the
+/// connection, in milliseconds: until then it isn't known that all were taken.
+const TIME_OF_STEPS: u64 = 60_000;
+
+/// How often a connection reads or writes in a round.
+const TURNS: u32 = 64;
+
+/// How long a round waits for something to happen, in milliseconds. Then it looks whether the server ends.
+const WAIT: i32 = 100;
+
+/// That nothing is written any more (shutdown(2), `SHUT_WR`).
+const NO_MORE: i32 = 1;
+
+/// A socket that takes connections, and doesn't wait for them.
+pub trait Listener: AsRawFd {
+    /// What they are. It doesn't wait either.
+    type Stream: Read + Write + AsRawFd + Drop;
+
+    /// The next connection, or `WouldBlock` where there is none.
+    fn next(&self) -> io::Result<Self::Stream>;
+}
+
+impl Listener for TcpListener {
+    type Stream = TcpStream;
+
+    fn next(&self) -> io::Result<TcpStream> {
+        let (stream, _) = self.accept()?;
+        stream.set_nonblocking(true)?;
+        Ok(stream)
+    }
+}
+
+impl Listener for UnixListener {
+    type Stream = UnixStream;
+
+    fn next(&self) -> io::Result<UnixStream> {
+        let (stream, _) = self.accept()?;
+        Ok(stream)
+    }
+}
+
+/// A connection, and when it is closed at the latest.
+#[derive(Drop)]
+struct OpenConnection<T> {
+    stream: T,
+    connection: Connection,
+    until: u64,
+    /// The stored steps that its answer has, until whoever asked has taken them all.
+    handed: Option<Handed>,
+    /// Whether its answer is written, and only that it is taken is waited for.
+    is_written: bool,
+}
+
+/// How a connection goes on.
+#[derive(Clone, Copy, PartialEq, Eq)]
+enum Turn {
+    /// It waits for the other side. Nothing of its answer was taken.
+    Waits,
+    /// It waits for the other side. Some of its answer was taken.
+    Moved,
+    /// All of its answer was taken, or there is none.
+    Done,
+    /// It ended before that.
+    Cut,
+}
+
+/// Moves octets once. Answers how many were written, or None at the end.
+fn move_once<T: Read + Write>(open: &mut OpenConnection<T>) -> io::Result<Option<usize>> {
+    if open.connection.wants_write() {
+        match open.connection.write_to(&mut open.stream)? {
+            0 => Ok(None),
+            count => Ok(Some(count)),
+        }
+    } else {
+        open.connection.read_from(&mut open.stream)?;
+        Ok(Some(0))
+    }
+}
+
+/// Reads on where an answer is written that has stored steps: its end says that all were taken.
+fn await_end<T: Read>(open: &mut OpenConnection<T>) -> Turn {
+    let mut ignored = [0u8; 64];
+    for _ in 0..TURNS {
+        match open.stream.read(&mut ignored) {
+            Ok(0) => return Turn::Done,
+            Ok(_) => {}
+            Err(error) => match error.kind() {
+                ErrorKind::WouldBlock => return Turn::Waits,
+                ErrorKind::Interrupted => {}
+                _ => return Turn::Cut,
+            },
+        }
+    }
+    Turn::Waits
+}
+
+/// Where an answer is written: done, unless it has stored steps. Then the other side is told that this is all.
+fn end_answer<T: Read + AsRawFd>(open: &mut OpenConnection<T>) -> Turn {
+    if open.handed.is_none() {
+        return Turn::Done;
+    }
+    if open.connection.state() != State::Closing(Reason::Asked) {
+        return Turn::Cut;
+    }
+    if !open.is_written {
+        open.is_written = true;
+        let _is_told = shutdown(open.stream.as_raw_fd(), NO_MORE) == 0;
+        return Turn::Moved;
+    }
+    await_end(open)
+}
+
+/// What an error of a read or a write comes to, where some of an answer was taken before or not; None where it is tried
+/// again.
+fn after_error(error: &io::Error, has_moved: bool) -> Option<Turn> {
+    match error.kind() {
+        ErrorKind::WouldBlock if has_moved => Some(Turn::Moved),
+        ErrorKind::WouldBlock => Some(Turn::Waits),
+        ErrorKind::Interrupted => None,
+        _ => Some(Turn::Cut),
+    }
+}
+
+/// Reads, answers and writes as far as that goes without waiting.
+fn step<R: Wait, T: Read + Write + AsRawFd>(
+    open: &mut OpenConnection<T>,
+    asker: &mut Asker<'_, R>,
+) -> Turn {
+    let mut has_moved = false;
+    for _ in 0..TURNS {
+        open.connection.advance(asker);
+        open.handed = asker.take_handed().or(open.handed);
+        if open.connection.is_done() {
+            return end_answer(open);
+        }
+        match move_once(open) {
+            Ok(Some(count)) => has_moved = has_moved || count > 0,
+            Ok(None) => return Turn::Cut,
+            Err(error) => {
+                if let Some(turn) = after_error(&error, has_moved) {
+                    return turn;
+                }
+            }
+        }
+    }
+    if has_moved { Turn::Moved } else { Turn::Waits }
+}
+
+/// Closes a connection. What was handed over by it and not taken is missing.
+fn close<T: Drop>(open: OpenConnection<T>, office: &Office) {
+    if let Some(handed) = open.handed {
+        office.missing.add(handed);
+    }
+}
+
+/// The place of the connection that is closed first of all.
+fn quietest<T>(open: &[OpenConnection<T>]) -> usize {
+    let mut place = 0;
+    let mut least = u64::MAX;
+    for (at, one) in open.iter().enumerate() {
+        if one.until < least {
+            least = one.until;
+            place = at;
+        }
+    }
+    place
+}
+
+/// Closes the quietest connection where as many are open as may be.
+fn make_room<T: Drop>(open: &mut Vec<OpenConnection<T>>, office: &Office) {
+    let place = quietest(open.as_slice());
+    if open.len() >= CONNECTIONS && place < open.len() {
+        close(open.remove(place), office);
+    }
+}
+
+/// The error of a connection that can't be taken; none where there is no further one.
+fn hindrance(error: io::Error) -> Option<io::Error> {
+    match error.kind() {
+        ErrorKind::WouldBlock | ErrorKind::Interrupted | ErrorKind::ConnectionAborted => None,
+        _ => Some(error),
+    }
+}
+
+/// Takes connections that wait; each closes the quietest where there are too many. Answers
+/// why none can be taken, where that is so.
+fn accept_all<R: RandomSource, L: Listener>(
+    rt: &R,
+    alloc: Global,
+    listener: &L,
+    open: &mut Vec<OpenConnection<L::Stream>>,
+    office: &Office,
+    now: u64,
+) -> Option<io::Error> {
+    for _ in 0..TAKEN_AT_ONCE {
+        let stream = match listener.next() {
+            Ok(stream) => stream,
+            Err(error) => return hindrance(error),
+        };
+        let Ok(keys) = RandomState::new(rt) else {
+            return None;
+        };
+        make_room(open, office);
+        let limits = Limits {
+            max_body_len: 0,
+            ..Limits::default()
+        };
+        let _is_open = open
+            .push(OpenConnection {
+                stream,
+                connection: Connection::new(alloc, keys, limits),
+                until: now.saturating_add(TIME),
+                handed: None,
+                is_written: false,
+            })
+            .is_ok();
+    }
+    None
+}
+
+/// When a connection is closed at the latest of whose answer some was taken at this moment.
+fn time_of<T>(open: &OpenConnection<T>, now: u64) -> u64 {
+    now.saturating_add(if open.handed.is_some() {
+        TIME_OF_STEPS
+    } else {
+        TIME
+    })
+}
+
+/// Goes on with each connection, and closes those that are done or whose time is over.
+fn step_all<R: Wait + Clock, T: Read + Write + AsRawFd + Drop>(
+    open: &mut Vec<OpenConnection<T>>,
+    asker: &mut Asker<'_, R>,
+    mut moment: u64,
+) {
+    let office = asker.office;
+    let mut place = 0;
+    for _ in 0..open.len() {
+        let Some(one) = open.get_mut(place) else {
+            return;
+        };
+        let turn = step(one, asker);
+        moment = now(asker.rt, office.start, moment);
+        match turn {
+            Turn::Moved => one.until = time_of(one, moment),
+            Turn::Done => one.handed = None,
+            Turn::Waits | Turn::Cut => {}
+        }
+        let is_over = turn == Turn::Done || turn == Turn::Cut || one.until <= moment;
+        if is_over {
+            close(open.remove(place), office);
+        } else {
+            place += 1;
+        }
+    }
+}
+
+/// Waits until a connection comes, where some are taken, or one of those that are open can go on, for a short time at
+/// most.
+fn wait<R: Clock, L: Listener>(
+    rt: &R,
+    listener: &L,
+    are_taken: bool,
+    open: &[OpenConnection<L::Stream>],
+) {
+    let mut fds = [pollfd {
+        fd: -1,
+        events: 0,
+        revents: 0,
+    }; CONNECTIONS + 1];
+    if are_taken {
+        fds[0].fd = listener.as_raw_fd();
+        fds[0].events = POLLIN;
+    }
+    for (fd, one) in fds[1..].iter_mut().zip(open.iter()) {
+        fd.fd = one.stream.as_raw_fd();
+        fd.events = if one.connection.wants_write() {
+            POLLOUT
+        } else {
+            POLLIN
+        };
+    }
+    if poll(&mut fds, WAIT) < 0 {
+        thread::sleep(rt, Duration::from_millis(WAIT as u64));
+    }
+}
+
+/// Answers who asks, until the server ends. Where the system gives no further connection it takes none for a second, and
+/// says so once a minute.
+pub fn answer_on<R: Wait + Clock + RandomSource + Log, L: Listener>(
+    alloc: Global,
+    asker: Asker<'_, R>,
+    listener: &L,
+) {
+    let mut asker = asker;
+    let rt = asker.rt;
+    let office = asker.office;
+    let mut open = Vec::new(alloc);
+    let mut pause = Pause::none();
+    let mut moment = 0;
+    for _ in rt.forever() {
+        if office.is_over.load(Ordering::SeqCst) {
+            return;
+        }
+        moment = now(rt, office.start, moment);
+        if pause.is_over(moment) {
+            if let Some(error) = accept_all(rt, alloc, listener, &mut open, office, moment) {
+                if pause.begin(moment) {
+                    warn!(rt; "no connection is taken at {}: {}", asker.door, error);
+                }
+            }
+        }
+        step_all(&mut open, &mut asker, moment);
+        wait(rt, listener, pause.is_over(moment), open.as_slice());
+    }
+}

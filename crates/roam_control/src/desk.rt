@@ -1,0 +1,194 @@
+//! A desk: where a thread that answers over HTTP asks the server's own thread for something, and waits for what that
+//! answers.
+
+ghost use Rattle.std.specs.Prelude.{◌≡◌};
+
+use crate::missing::{Handed, Missing};
+use roam_metrics::StatusForm;
+use std::alloc::{AllocError, Global};
+use std::sync::atomic::{AtomicBool, Ordering};
+use std::sync::{Mutex, Wait};
+use std::thread::Parker;
+use std::time::Instant;
+
+/// What the server's own thread is asked for.
+#[derive(Clone, Copy)]
+pub enum Order {
+    /// The counts, as the page of metrics.
+    Metrics,
+    /// How the server stands.
+    Status(StatusForm),
+    /// To stop.
+    Stop,
+    /// The stored steps of a shard, as a script.
+    Trace(u16),
+    /// To read its configuration again, and to serve that one.
+    Reload,
+}
+
+/// How it went.
+#[derive(Clone, Copy, Debug, PartialEq, Eq)]
+pub enum Course {
+    /// It was done.
+    Done,
+    /// It was begun.
+    Begun,
+    /// There is no such thing.
+    Unknown,
+    /// It was not done, and the body says why. Nothing has changed.
+    Declined,
+    /// Memory is wanting, or the server ends.
+    Unavailable,
+}
+
+/// What is answered.
+#[derive(Drop)]
+pub struct Reply {
+    pub course: Course,
+    pub body: Vec<u8>,
+    /// The stored steps that it has. They are stored no more.
+    pub handed: Option<Handed>,
+}
+
+/// An answer that has no stored steps.
+pub fn plain_reply(course: Course, body: Vec<u8>) -> Reply {
+    Reply {
+        course,
+        body,
+        handed: None,
+    }
+}
+
+/// The answer that it was done.
+pub fn done(body: Vec<u8>) -> Reply {
+    plain_reply(Course::Done, body)
+}
+
+/// What lies on a desk.
+#[derive(Drop)]
+enum Slip {
+    Nothing,
+    Asked(Order),
+    Answered(Reply),
+}
+
+/// A desk, at which one thread asks.
+#[derive(Drop)]
+pub struct Desk {
+    slip: Mutex<Slip>,
+    /// What the one who asks sleeps on.
+    waiting: Parker,
+}
+
+/// The order that lies there and isn't answered yet.
+fn order_on(slip: &Slip) -> Option<Order> {
+    match slip {
+        Slip::Asked(order) => Some(*order),
+        Slip::Nothing | Slip::Answered(_) => None,
+    }
+}
+
+/// Takes the answer away, where there is one.
+fn take_reply(slip: &mut Slip) -> Option<Reply> {
+    match slip {
+        Slip::Answered(_) => {}
+        Slip::Nothing | Slip::Asked(_) => return None,
+    }
+    match std::mem::replace(slip, Slip::Nothing) {
+        Slip::Answered(reply) => Some(reply),
+        Slip::Nothing | Slip::Asked(_) => None,
+    }
+}
+
+impl Desk {
+    /// Nothing lies there.
+    pub fn new() -> Desk {
+        Desk {
+            slip: Mutex::new(Slip::Nothing),
+            waiting: Parker::new(),
+        }
+    }
+
+    /// Puts something there, in place of what lay there.
+    fn put<R: Wait>(&self, rt: &R, slip: Slip) {
+        *self.slip.lock(rt) = slip;
+    }
+
+    /// The answer, where there is one.
+    fn take<R: Wait>(&self, rt: &R) -> Option<Reply> {
+        take_reply(&mut self.slip.lock(rt))
+    }
+
+    /// Asks, wakes the one who answers, and waits for the answer. None where the server ends before.
+    pub fn ask<R: Wait>(
+        &self,
+        rt: &R,
+        attendant: &Parker,
+        is_over: &AtomicBool,
+        order: Order,
+    ) -> Option<Reply> {
+        self.put(rt, Slip::Asked(order));
+        attendant.unpark();
+        for _ in rt.forever() {
+            if let Some(reply) = self.take(rt) {
+                return Some(reply);
+            }
+            if is_over.load(Ordering::SeqCst) {
+                return None;
+            }
+            self.waiting.park(rt);
+        }
+        unreachable!()
+    }
+
+    /// What is asked for, and isn't answered yet.
+    pub fn order<R: Wait>(&self, rt: &R) -> Option<Order> {
+        order_on(&self.slip.lock(rt))
+    }
+
+    /// Answers.
+    pub fn answer<R: Wait>(&self, rt: &R, reply: Reply) {
+        self.put(rt, Slip::Answered(reply));
+        self.waiting.unpark();
+    }
+
+    /// Has the one who waits look whether the server ends.
+    pub fn wake(&self) {
+        self.waiting.unpark();
+    }
+}
+
+/// The desks of a server, and what its own thread sleeps on. They outlast each configuration.
+#[derive(Drop)]
+pub struct Office {
+    pub metrics: Desk,
+    pub control: Desk,
+    pub attendant: Parker,
+    /// What was handed over by answers that weren't taken whole.
+    pub missing: Missing,
+    /// When the server started.
+    pub start: Instant,
+    /// Whether the server ends: nothing is answered any more.
+    pub is_over: AtomicBool,
+}
+
+impl Office {
+    /// Nobody asks yet. There are so many shards.
+    pub fn new(alloc: Global, start: Instant, shards: u16) -> Result<Office, AllocError> {
+        Ok(Office {
+            metrics: Desk::new(),
+            control: Desk::new(),
+            attendant: Parker::new(),
+            missing: Missing::new(alloc, shards)?,
+            start,
+            is_over: AtomicBool::new(false),
+        })
+    }
+
+    /// The server ends: who waits is told.
+    pub fn close(&self) {
+        self.is_over.store(true, Ordering::SeqCst);
+        self.metrics.wake();
+        self.control.wake();
+    }
+}

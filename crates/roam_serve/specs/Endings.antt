@@ -1,8 +1,0 @@
--- What the workers of a server give back at its end. Ours.
-use Rattle.std.specs.Prelude.{List, map}
-use Rattle.roam_serve.specs.declared.run.ending.Ending.{Ending}
-use Rattle.roam_serve.specs.declared.run.ending.WorkerEnd.{WorkerEnd}
-
--- why they ended
-abbrev pub endings_of : {N : Type 0} → List (WorkerEnd N) → List Ending
-endings_of ends = map (λ e. e.ending) ends

@@ -1,0 +1,4 @@
+//! What the server's own thread does while the others serve: it is asked, and answers.
+
+pub mod attending;
+pub mod overview;

@@ -1,0 +1,214 @@
+//! What the server's own thread does while the others serve: it answers what it is asked for.
+
+ghost use Rattle.std.specs.Prelude.{IfSome};
+ghost use Rattle.roam_conf.specs.Shown.{shown};
+ghost use Rattle.roam_reload.specs.Reload.{MayFollow};
+
+use crate::asked::overview::Overview;
+use crate::change::next::{Next, prepare_next};
+use crate::change::source::Source;
+use log::Log;
+use roam_control::{Course, Desk, Handed, Order, Reply, done, grace, plain_reply, script_of};
+use roam_counters::Process;
+use roam_hub::{HubFault, Opened, Seat};
+use roam_metrics::{StatusForm, page, status};
+use roam_sockets::{BoundSocket, now};
+use roam_telling::ThreadCounts;
+use roam_trace::Step;
+use roam_workers::Shared;
+use std::alloc::{AllocError, Global};
+use std::net::Net;
+use std::sync::Wait;
+use std::time::Clock;
+
+/// What the server's own thread has while the others serve.
+#[derive(Drop)]
+pub struct Attendant<'s, 'c, R, G, N: Opened> {
+    pub rt: &'s R,
+    pub shared: &'s Shared<'s, 'c, G, N>,
+    pub sockets: &'s [BoundSocket],
+    /// Through which the stored steps of a shard are let go of.
+    pub seat: Seat<Global, N>,
+    /// In milliseconds since the server's start.
+    pub now: u64,
+}
+
+/// An answer with nothing in it.
+fn bare(alloc: Global, course: Course) -> Reply {
+    plain_reply(course, Vec::new(alloc))
+}
+
+impl<R: Wait + Clock + Net + Log, G, N: Opened> Attendant<'_, '_, R, G, N> {
+    /// The counts of this thread, which are the timer's too.
+    fn counts(&self) -> Option<ThreadCounts<'_>> {
+        let shared = self.shared;
+        shared
+            .counters?
+            .of_thread(usize::from(shared.config.shards))
+    }
+
+    /// What was counted, and how all stands; none where nothing is counted.
+    fn look(&self) -> Result<Option<Overview<'_>>, AllocError> {
+        let shared = self.shared;
+        match shared.counters {
+            Some(counters) => Ok(Some(Overview::look(
+                self.rt, shared, &self.seat, counters, self.now,
+            )?)),
+            None => Ok(None),
+        }
+    }
+
+    /// The counts, as the page of metrics.
+    fn metrics(&self) -> Result<Reply, AllocError> {
+        match self.look()? {
+            Some(standing) => {
+                let page = page(self.shared.alloc, self.shared.config, &standing)?;
+                Ok(done(page))
+            }
+            None => Ok(bare(self.shared.alloc, Course::Unknown)),
+        }
+    }
+
+    /// How the server stands.
+    fn status(&self, form: StatusForm) -> Result<Reply, AllocError> {
+        let Some(standing) = self.look()? else {
+            return Ok(bare(self.shared.alloc, Course::Unknown));
+        };
+        let seconds = self.now / 1000;
+        let text = status(
+            self.shared.alloc,
+            self.shared.config,
+            &standing,
+            seconds,
+            form,
+        )?;
+        let mut body = Vec::new(self.shared.alloc);
+        body.extend_from_slice(text.as_str().as_bytes())?;
+        Ok(done(body))
+    }
+
+    /// Has the server take no request any more, and end when those that wait had time to be answered.
+    fn stop(&self) -> Result<Reply, AllocError> {
+        let shared = self.shared;
+        shared.stopping.ask();
+        let end = self.now.saturating_add(grace(shared.config));
+        if shared.stopping.end_at(end) {
+            shared.rest.wake();
+        }
+        let mut body = Vec::new(self.shared.alloc);
+        body.extend_from_slice(b"stopping\n")?;
+        Ok(plain_reply(Course::Begun, body))
+    }
+
+    /// Counts that so many stored steps of a shard were let go of.
+    fn count_gone(&self, shard: u16, steps: usize) {
+        if let Some(counts) = self.counts() {
+            counts.history_is(shard, 0);
+            counts.process(Process::TimeLetGo, 1);
+            counts.process(Process::StepLetGo, steps as u64);
+        }
+    }
+
+    /// The answer that has these steps of a shard as a script, behind how many are missing before them. Those of a
+    /// script for which there is no memory are missing from then on.
+    fn trace_of(&self, shard: u16, steps: &[Step<Global>]) -> Result<Reply, AllocError> {
+        let missing = &self.shared.office.missing;
+        let before = missing.take(shard);
+        let handed = Handed {
+            shard,
+            steps: before.saturating_add(steps.len() as u64),
+        };
+        match script_of(self.shared.alloc, before, steps) {
+            Ok(body) => Ok(Reply {
+                course: Course::Done,
+                body,
+                handed: Some(handed),
+            }),
+            Err(error) => {
+                missing.add(handed);
+                Err(error)
+            }
+        }
+    }
+
+    /// The stored steps of a shard as a script. They are let go of by that.
+    fn trace(&mut self, shard: u16) -> Result<Reply, AllocError> {
+        match self.shared.hub.let_go(self.rt, &mut self.seat, shard) {
+            Ok(steps) => {
+                self.count_gone(shard, steps.len());
+                let answer = self.trace_of(shard, steps.as_slice());
+                self.shared.old_history.hand_over(self.rt, steps);
+                answer
+            }
+            Err(HubFault::NoShard) => Ok(bare(self.shared.alloc, Course::Unknown)),
+            Err(_) => Ok(bare(self.shared.alloc, Course::Unavailable)),
+        }
+    }
+
+    /// Lets go of all stored steps, so that they needn't be freed while nobody serves.
+    fn let_go_all(&mut self) {
+        for shard in 0..self.shared.config.shards {
+            if let Ok(steps) = self.shared.hub.let_go(self.rt, &mut self.seat, shard) {
+                if !steps.is_empty() {
+                    self.count_gone(shard, steps.len());
+                    self.shared.old_history.hand_over(self.rt, steps);
+                }
+            }
+        }
+    }
+
+    /// Answers an order, unless a configuration comes by it that is to follow.
+    fn attend_to<S: Source>(&mut self, desk: &Desk, order: Order, source: &mut S) -> Option<Next>
+        ensures { IfSome result (λ next.
+            MayFollow N.opening.config (shown next.configured.config)) }
+    {
+        self.now = now(self.rt, self.shared.start, self.now);
+        let reply = match order {
+            Order::Metrics => self.metrics(),
+            Order::Status(form) => self.status(form),
+            Order::Stop => self.stop(),
+            Order::Trace(shard) => self.trace(shard),
+            Order::Reload => {
+                match prepare_next(self.rt, self.shared, self.sockets, source) {
+                    Ok(next) => {
+                        self.let_go_all();
+                        return Some(next);
+                    }
+                    Err(reply) => Ok(reply),
+                }
+            }
+        };
+        let reply = reply.unwrap_or(bare(self.shared.alloc, Course::Unavailable));
+        desk.answer(self.rt, reply);
+        None
+    }
+
+    /// Answers who asks at a desk, unless a configuration comes by it that is to follow.
+    fn attend_at<S: Source>(&mut self, desk: &Desk, source: &mut S) -> Option<Next>
+        ensures { IfSome result (λ next.
+            MayFollow N.opening.config (shown next.configured.config)) }
+    {
+        let order = desk.order(self.rt)?;
+        self.attend_to(desk, order, source)
+    }
+
+    /// Answers who asks, until the threads end or a configuration comes that is to follow.
+    pub fn attend<S: Source>(mut self, source: &mut S) -> Option<Next>
+        ensures { IfSome result (λ next.
+            MayFollow N.opening.config (shown next.configured.config)) }
+    {
+        let office = self.shared.office;
+        for _ in self.rt.forever() {
+            if self.shared.is_over() {
+                return None;
+            }
+            let _never = self.attend_at(&office.metrics, source);
+            let next = self.attend_at(&office.control, source);
+            if next.is_some() {
+                return next;
+            }
+            office.attendant.park(self.rt);
+        }
+        unreachable!()
+    }
+}

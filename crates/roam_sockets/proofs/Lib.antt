@@ -1,0 +1,2 @@
+pub mod BindLemmas
+mod PathLemmas

@@ -1,0 +1,4 @@
+pub mod Descriptors
+pub mod Faults
+pub mod Seeded
+pub mod SocketErrors

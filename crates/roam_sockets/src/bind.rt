@@ -1,0 +1,290 @@
+//! The broker's sockets are bound.
+
+ghost use Rattle.std.specs.Prelude.{◌≡◌, ◌≤◌, ◌^◌, Contains, IfErr};
+ghost use Rattle.roam_conf.specs.Shown.{shown};
+ghost use Rattle.roam_port.specs.Sockets.{socket_endpoints};
+ghost use Rattle.roam_sockets.specs.Faults.{IsFaultOf};
+ghost use Rattle.roam_sockets.specs.Descriptors as spec;
+
+use crate::fault::{ServeFault, reason_of};
+use crate::options::{address_octets, set_option};
+use crate::socket::socket_address;
+use os::FromRawFd;
+use roam_conf::{Config, Endpoint, Place, is_same_endpoint};
+use roam_port::{endpoint_of, place_of, socket_count, worker_of};
+use std::alloc::Global;
+use std::io;
+use std::net::{Net, UdpSocket};
+use std::os::fd::AsRawFd;
+
+/// How many descriptors a server has beside those of its configuration: the three standard streams, the two sockets at
+/// which connections are taken, 32 connections, and the file of its configuration while that is read.
+const BESIDE: u32 = 38;
+
+/// A socket that is bound.
+#[derive(Drop)]
+pub struct BoundSocket {
+    pub place: Place,
+    pub endpoint: Endpoint,
+    /// The worker that hears it.
+    pub worker: usize,
+    /// Whether other workers have one of the same endpoint.
+    pub is_spread: bool,
+    /// Whether it was open before for another configuration.
+    pub was_open: bool,
+    pub socket: UdpSocket,
+}
+
+/// How many descriptors a configuration takes: its sockets, and two to wait with and one to be woken by for each
+/// worker and the timer.
+fn descriptors_of(config: &Config) -> u32
+    ensures value { result ≡ spec.descriptors_of (shown config.now) }
+    ensures bound { result ≤ 2 ^ 20 }
+{
+    let workers = u32::from(config.shards);
+    let more = if config.spread { 2 * (workers - 1) } else { 0 };
+    socket_count(config) as u32 + more + 3 * (workers + 1)
+}
+
+/// How many descriptors a server wants in all that serves one configuration and changes to another: those of both, and
+/// what it has beside them, connections that ask it among it.
+pub fn descriptors_wanted(old: &Config, new: &Config) -> u32
+    ensures { result ≡ spec.descriptors_wanted (shown old.now) (shown new.now) }
+{
+    descriptors_of(old) + descriptors_of(new) + BESIDE
+}
+
+/// A socket that doesn't wait.
+fn bind<R: Net>(rt: &R, endpoint: Endpoint) -> io::Result<UdpSocket> {
+    let socket = UdpSocket::bind(rt, socket_address(endpoint))?;
+    socket.set_nonblocking(true)?;
+    Ok(socket)
+}
+
+/// A socket for datagrams that isn't bound yet, and doesn't wait.
+fn unbound() -> io::Result<UdpSocket> {
+    let kind = libc::net::SOCK_DGRAM | libc::net::SOCK_CLOEXEC | libc::net::SOCK_NONBLOCK;
+    let fd = unsafe { libc::net::socket(libc::net::AF_INET, kind, 0) };
+    if fd < 0 {
+        return Err(io::Error::from_raw_os_error(os::errno()));
+    }
+    Ok(unsafe { UdpSocket::from_raw_fd(fd) })
+}
+
+/// A socket that doesn't wait, beside which others may be bound to the same endpoint: the system picks the
+/// one to which a datagram goes by its source.
+fn bind_beside(endpoint: Endpoint) -> io::Result<UdpSocket> {
+    let socket = unbound()?;
+    let fd = socket.as_raw_fd();
+    if !set_option(fd, libc::net::SO_REUSEPORT, 1) {
+        return Err(io::Error::from_raw_os_error(os::errno()));
+    }
+    let address = address_octets(endpoint);
+    if unsafe { libc::net::bind(fd, &address, 16) } != 0 {
+        return Err(io::Error::from_raw_os_error(os::errno()));
+    }
+    Ok(socket)
+}
+
+/// Whether a socket can be bound to the endpoint of which several are to be bound: nobody else has one there.
+fn is_free<R: Net>(rt: &R, endpoint: Endpoint) -> io::Result<()> {
+    UdpSocket::bind(rt, socket_address(endpoint))?;
+    Ok(())
+}
+
+/// The fault of a socket that can't be bound to an endpoint, where the server wants so many descriptors.
+fn fault_at(config: &Config, endpoint: Endpoint, error: &io::Error, wanted: u32) -> ServeFault
+    requires { Contains (socket_endpoints (shown config.now)) endpoint }
+    ensures { IsFaultOf (shown config.now) result }
+{
+    let reason = reason_of(error);
+    if reason.is_want_of_descriptors() {
+        ServeFault::Descriptors(wanted)
+    } else {
+        ServeFault::Bind(endpoint, reason)
+    }
+}
+
+/// The sockets of a place: one, or one for each worker.
+#[derive(Drop)]
+struct Sockets {
+    bound: Vec<BoundSocket>,
+    /// How many descriptors the server wants.
+    wanted: u32,
+}
+
+impl Sockets {
+    /// Binds the one socket of a place.
+    fn bind_one<R: Net>(
+        &mut self,
+        rt: &R,
+        config: &Config,
+        place: Place,
+        endpoint: Endpoint,
+    ) -> Result<(), ServeFault>
+        requires { Contains (socket_endpoints (shown config.now)) endpoint }
+        ensures { IfErr result (IsFaultOf (shown config.now)) }
+    {
+        match bind(rt, endpoint) {
+            Ok(socket) => {
+                let worker = worker_of(place, usize::from(config.shards), config.spread);
+                self.bound.push(BoundSocket {
+                    place,
+                    endpoint,
+                    worker,
+                    is_spread: false,
+                    was_open: false,
+                    socket,
+                })?;
+                Ok(())
+            }
+            Err(error) => Err(fault_at(config, endpoint, &error, self.wanted)),
+        }
+    }
+
+    /// Binds a socket of a place for each worker.
+    fn bind_spread<R: Net>(
+        &mut self,
+        rt: &R,
+        config: &Config,
+        place: Place,
+        endpoint: Endpoint,
+    ) -> Result<(), ServeFault>
+        requires { Contains (socket_endpoints (shown config.now)) endpoint }
+        ensures { IfErr result (IsFaultOf (shown config.now)) }
+    {
+        if let Err(error) = is_free(rt, endpoint) {
+            return Err(fault_at(config, endpoint, &error, self.wanted));
+        }
+        for worker in 0..usize::from(config.shards) {
+            match bind_beside(endpoint) {
+                Ok(socket) => self.bound.push(BoundSocket {
+                    place,
+                    endpoint,
+                    worker,
+                    is_spread: true,
+                    was_open: false,
+                    socket,
+                })?,
+                Err(error) => return Err(fault_at(config, endpoint, &error, self.wanted)),
+            }
+        }
+        Ok(())
+    }
+}
+
+/// The fault of a socket of which the system gives no second descriptor, where the server wants so many.
+fn fault_of_copy(config: &Config, error: &io::Error, wanted: u32) -> ServeFault
+    ensures { IsFaultOf (shown config.now) result }
+{
+    let reason = reason_of(error);
+    if reason.is_want_of_descriptors() {
+        ServeFault::Descriptors(wanted)
+    } else {
+        ServeFault::Wait(reason)
+    }
+}
+
+impl Sockets {
+    /// Takes the sockets of an endpoint that are open, by a second descriptor each: what lies in their buffers stays
+    /// there. Answers whether there are any.
+    fn take_open(
+        &mut self,
+        config: &Config,
+        place: Place,
+        endpoint: Endpoint,
+        open: &[BoundSocket],
+    ) -> Result<bool, ServeFault>
+        ensures { IfErr result (IsFaultOf (shown config.now)) }
+    {
+        let mut are_open = false;
+        for bound in open {
+            if is_same_endpoint(bound.endpoint, endpoint) {
+                are_open = true;
+                let worker = if bound.is_spread {
+                    bound.worker
+                } else {
+                    worker_of(place, usize::from(config.shards), config.spread)
+                };
+                match bound.socket.try_clone() {
+                    Ok(socket) => self.bound.push(BoundSocket {
+                        place,
+                        endpoint,
+                        worker,
+                        is_spread: bound.is_spread,
+                        was_open: true,
+                        socket,
+                    })?,
+                    Err(error) => return Err(fault_of_copy(config, &error, self.wanted)),
+                }
+            }
+        }
+        Ok(are_open)
+    }
+
+    /// Binds the sockets of a place.
+    fn bind_place<R: Net>(
+        &mut self,
+        rt: &R,
+        config: &Config,
+        place: Place,
+        endpoint: Endpoint,
+    ) -> Result<(), ServeFault>
+        requires { Contains (socket_endpoints (shown config.now)) endpoint }
+        ensures { IfErr result (IsFaultOf (shown config.now)) }
+    {
+        match place {
+            Place::Auth | Place::Acct if config.spread => {
+                self.bind_spread(rt, config, place, endpoint)
+            }
+            _ => self.bind_one(rt, config, place, endpoint),
+        }
+    }
+}
+
+/// The sockets of a configuration that follows another one, in order of their numbers, where the server wants so many
+/// descriptors. Those of endpoints that both have are the same; the others are bound.
+///
+/// # Errors
+///
+/// `Bind` with the first endpoint that can't be bound; `Descriptors`; `Wait` where the system gives no second
+/// descriptor for another reason; `Memory`.
+pub fn bind_following<R: Net>(
+    rt: &R,
+    alloc: Global,
+    config: &Config,
+    open: &[BoundSocket],
+    wanted: u32,
+) -> Result<Vec<BoundSocket>, ServeFault>
+    ensures { IfErr result (IsFaultOf (shown config.now)) }
+{
+    let mut sockets = Sockets {
+        bound: Vec::new(alloc),
+        wanted,
+    };
+    for number in 0..socket_count(config) {
+        let place = place_of(number);
+        if let Some(endpoint) = endpoint_of(config, place) {
+            if !sockets.take_open(config, place, endpoint, open)? {
+                sockets.bind_place(rt, config, place, endpoint)?;
+            }
+        }
+    }
+    Ok(sockets.bound)
+}
+
+/// Binds all sockets of a configuration, in order of their numbers.
+///
+/// # Errors
+///
+/// `Bind` with the first endpoint that can't be bound; `Descriptors`; `Memory`.
+pub fn bind_all<R: Net>(
+    rt: &R,
+    alloc: Global,
+    config: &Config,
+) -> Result<Vec<BoundSocket>, ServeFault>
+    ensures { IfErr result (IsFaultOf (shown config.now)) }
+{
+    let wanted = descriptors_wanted(config, config);
+    bind_following(rt, alloc, config, &[], wanted)
+}

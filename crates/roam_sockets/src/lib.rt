@@ -1,0 +1,35 @@
+//! What the system gives to a server: sockets, a clock, seeds, and what to wait with.
+//!
+//! Nothing here knows a realm's state, a thread or a hub: sockets are bound at the endpoints of a configuration, and
+//! a receive or a send is one call of one of them. Why a server ends is told in this crate's words, since most of it is
+//! what the system refuses.
+//!
+//! # Proved
+//!
+//! - a drawn seed changes the seed alone; without one the fault says so | `with_drawn_seed`: `ok`, `err`
+//! - a socket at which a receive failed is due again from eleven milliseconds later on, and not before. That it
+//!   is received from just then is the loop's code | `Receiver::is_due`: `due`, `waits`; `rest_after_fault`:
+//!   `failed`
+#![tactic(auto)]
+
+mod bind;
+mod clock;
+mod control_socket;
+mod fault;
+mod listener;
+mod options;
+mod polls;
+mod receiver;
+mod seed;
+mod socket;
+
+pub use bind::{BoundSocket, bind_all, bind_following, descriptors_wanted};
+pub use clock::now;
+pub use control_socket::ControlSocket;
+pub use fault::{Reason, ServeFault, SocketPath, reason_of};
+pub use listener::listen_at;
+pub use options::{RECEIVE_BUFFER, widen};
+pub use polls::{Polls, make_polls, make_wakers};
+pub use receiver::{Receiver, WAIT_AFTER_FAULT};
+pub use seed::with_drawn_seed;
+pub use socket::Socket;

@@ -1,0 +1,88 @@
+//! What threads wait with for sockets, and what ends their wait from another thread.
+
+ghost use Rattle.std.specs.Prelude.{IfErr};
+ghost use Rattle.roam_sockets.specs.Faults.{IsAfterBinding};
+
+use crate::fault::{ServeFault, reason_of};
+use mio::unix::SourceFd;
+use mio::{Interest, Poll, Token, Waker};
+use std::alloc::Global;
+use std::io;
+use std::net::Net;
+use std::os::fd::AsRawFd;
+
+/// The mark of a wake, which is that of no socket.
+const WAKE: usize = usize::MAX;
+
+/// The mark of a socket that has room for a packet again, where it had none.
+const HAS_ROOM: usize = usize::MAX - 1;
+
+/// What a thread waits with for sockets.
+#[derive(Drop)]
+pub struct Polls {
+    /// Tells at which sockets something may have arrived.
+    pub arrivals: Poll,
+    /// Tells which sockets that had no room for a packet may have some again. The other one tells that it has
+    /// something to tell.
+    pub room: Poll,
+}
+
+impl Polls {
+    /// Has the one tell of the other.
+    fn new<R: Net>(rt: &R) -> io::Result<Polls> {
+        let arrivals = Poll::new(rt)?;
+        let room = Poll::new(rt)?;
+        let descriptor = room.as_raw_fd();
+        arrivals.registry().register(
+            &mut SourceFd(&descriptor),
+            Token(HAS_ROOM),
+            Interest::READABLE,
+        )?;
+        Ok(Polls { arrivals, room })
+    }
+}
+
+/// The fault of what the system doesn't give to wait with.
+fn fault_of(error: &io::Error, wanted: u32) -> ServeFault
+    ensures { IsAfterBinding result }
+{
+    let reason = reason_of(error);
+    if reason.is_want_of_descriptors() {
+        ServeFault::Descriptors(wanted)
+    } else {
+        ServeFault::Wait(reason)
+    }
+}
+
+/// What each of so many threads waits with, where the server wants so many descriptors.
+pub fn make_polls<R: Net>(
+    rt: &R,
+    alloc: Global,
+    count: u16,
+    wanted: u32,
+) -> Result<Vec<Polls>, ServeFault>
+    ensures { IfErr result IsAfterBinding }
+{
+    let mut polls = Vec::new(alloc);
+    for _ in 0..count {
+        match Polls::new(rt) {
+            Ok(one) => polls.push(one)?,
+            Err(error) => return Err(fault_of(&error, wanted)),
+        }
+    }
+    Ok(polls)
+}
+
+/// What ends the wait of each, from another thread.
+pub fn make_wakers(alloc: Global, polls: &[Polls], wanted: u32) -> Result<Vec<Waker>, ServeFault>
+    ensures { IfErr result IsAfterBinding }
+{
+    let mut wakers = Vec::new(alloc);
+    for one in polls {
+        match Waker::new(one.arrivals.registry(), Token(WAKE)) {
+            Ok(waker) => wakers.push(waker)?,
+            Err(error) => return Err(fault_of(&error, wanted)),
+        }
+    }
+    Ok(wakers)
+}

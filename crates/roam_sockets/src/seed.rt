@@ -1,0 +1,34 @@
+//! The seed of the random words, drawn from the system.
+
+ghost use Rattle.std.specs.Prelude.{◌≡◌, IfOk, IfErr};
+ghost use Rattle.roam_conf.specs.Shown.{shown};
+ghost use Rattle.roam_sockets.specs.Seeded.{seeded};
+
+use crate::fault::ServeFault;
+use roam_conf::Config;
+use std::random::RandomSource;
+
+/// This configuration with another seed.
+fn with_seed(config: Config, seed: [u8; 32]) -> Config
+    ensures { shown result ≡ seeded (shown config) seed }
+{
+    let mut config = config;
+    config.seed = seed;
+    config
+}
+
+/// The configuration with a seed that is drawn from the system. No contract speaks of which it is.
+///
+/// # Errors
+///
+/// `Seed`, where none can be drawn.
+pub fn with_drawn_seed<R: RandomSource>(rt: &R, config: Config) -> Result<Config, ServeFault>
+    ensures ok { IfOk result (λ c. shown c ≡ seeded (shown config) c.seed) }
+    ensures err { IfErr result (λ fault. fault ≡ ServeFault.Seed) }
+{
+    let mut seed = [0; 32];
+    match rt.fill_bytes(&mut seed) {
+        Ok(()) => Ok(with_seed(config, seed)),
+        Err(_) => Err(ServeFault::Seed),
+    }
+}

@@ -1,0 +1,130 @@
+//! A socket of the system as a port.
+
+ghost use Rattle.std.specs.Prelude.{◌≡◌};
+ghost use Rattle.roam_sockets.specs.SocketErrors as spec;
+
+use roam_conf::Endpoint;
+use roam_port::{Port, PortFault, SendFault};
+use std::io::ErrorKind;
+use std::net::{Ipv4Addr, SocketAddr, UdpSocket};
+use std::os::fd::{AsRawFd, RawFd};
+
+/// How often a receive that a signal interrupts is made again before it counts as failed.
+const TRIES: u32 = 16;
+
+/// What it says of a socket that a receive failed.
+#[derive(Clone, Copy, Debug, PartialEq, Eq)]
+pub enum Failed {
+    /// Nothing is there.
+    NothingThere,
+    /// Nothing: a signal came first.
+    Interrupted,
+    /// Something is wrong.
+    Wrong,
+}
+
+/// What it says of a socket that a receive failed so.
+fn said_by(kind: ErrorKind) -> Failed
+    ensures { result ≡ spec.said_by kind }
+{
+    match kind {
+        ErrorKind::WouldBlock => Failed::NothingThere,
+        ErrorKind::Interrupted => Failed::Interrupted,
+        _ => Failed::Wrong,
+    }
+}
+
+/// Why a packet isn't sent, where the send failed so.
+fn send_fault_of(kind: ErrorKind) -> SendFault
+    ensures { result ≡ spec.send_fault_of kind }
+{
+    match kind {
+        ErrorKind::WouldBlock => SendFault::WouldBlock,
+        ErrorKind::HostUnreachable
+        | ErrorKind::NetworkUnreachable
+        | ErrorKind::NetworkDown
+        | ErrorKind::ConnectionRefused => SendFault::Unreachable,
+        ErrorKind::PermissionDenied => SendFault::NotPermitted,
+        _ => SendFault::Other,
+    }
+}
+
+/// A socket that doesn't wait, which every thread may use.
+#[derive(Clone, Copy)]
+pub struct Socket<'s> {
+    socket: &'s UdpSocket,
+    /// Whether it had no room for a packet. It takes none until it is known to have some again.
+    is_blocked: bool,
+}
+
+impl<'s> Socket<'s> {
+    /// The socket is one that doesn't wait.
+    pub fn new(socket: &'s UdpSocket) -> Socket<'s> {
+        Socket {
+            socket,
+            is_blocked: false,
+        }
+    }
+
+    /// The system's number for it.
+    pub fn descriptor(&self) -> RawFd {
+        self.socket.as_raw_fd()
+    }
+
+    /// Whether it had no room for a packet.
+    pub fn is_blocked(&self) -> bool {
+        self.is_blocked
+    }
+
+    /// It may have room for a packet again.
+    pub fn unblock(&mut self) {
+        self.is_blocked = false;
+    }
+}
+
+/// The address of an endpoint, as the system takes it.
+pub fn socket_address(endpoint: Endpoint) -> SocketAddr {
+    SocketAddr::from((Ipv4Addr::from(endpoint.ip), endpoint.port))
+}
+
+impl Port for Socket<'_> {
+    ghost use Rattle.std.specs.Prelude.{None};
+
+    // The system keeps no account of its calls.
+    ghost calls = { λ _. None };
+
+    fn receive(&mut self, buffer: &mut [u8]) -> Result<Option<(usize, Endpoint)>, PortFault> {
+        for _ in 0..TRIES {
+            match self.socket.recv_from(buffer) {
+                Ok((size, SocketAddr::V4(from))) => {
+                    let from = Endpoint {
+                        ip: from.ip().octets(),
+                        port: from.port(),
+                    };
+                    return Ok(Some((size, from)));
+                }
+                Ok((_, SocketAddr::V6(_))) => return Ok(None),
+                Err(error) => match said_by(error.kind()) {
+                    Failed::NothingThere => return Ok(None),
+                    Failed::Wrong => return Err(PortFault),
+                    Failed::Interrupted => {}
+                },
+            }
+        }
+        Err(PortFault)
+    }
+
+    fn send(&mut self, to: Endpoint, octets: &[u8]) -> Result<(), SendFault> {
+        if self.is_blocked {
+            return Err(SendFault::WouldBlock);
+        }
+        match self.socket.send_to(octets, socket_address(to)) {
+            Ok(_) => Ok(()),
+            Err(error) => {
+                let fault = send_fault_of(error.kind());
+                self.is_blocked = fault == SendFault::WouldBlock;
+                Err(fault)
+            }
+        }
+    }
+}

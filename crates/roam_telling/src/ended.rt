@@ -1,0 +1,161 @@
+//! What is told of an exchange that ends, and by what it ends.
+
+use crate::notice::server_endpoint;
+use roam_book::Answer;
+use roam_conf::{Config, Endpoint, Link, Place};
+use roam_counters::NakCause;
+use roam_hub::{Notes, Past, Requester, Stood};
+use roam_notices::{Exchange, ExchangeEnd, RequestWord, Value};
+use roam_route::{Datagram, Side};
+use roam_wire::View;
+use roam_wire::attribute_type::{ERROR_CAUSE, USER_NAME};
+use std::alloc::Global;
+
+/// The station that asks for access (RFC 2865, section 5.31).
+const CALLING_STATION_ID: u8 = 31;
+
+/// What ends by an arrival that is taken.
+#[derive(Clone, Copy)]
+pub enum End {
+    /// The request that waited for this reply.
+    Replied(Past),
+    /// A request that waited: this one took its place.
+    Replaced(Past),
+    /// Nothing: it is a duplicate, to which the reply that is held was sent.
+    AnsweredAgain,
+    /// This reverse request, which was answered by a NAK.
+    Nak,
+    /// Nothing.
+    Nothing,
+}
+
+/// Whether the request waited.
+fn has_waited(past: Past) -> bool {
+    match past.stood {
+        Stood::Waiting { .. } => true,
+        Stood::Held | Stood::Gone => false,
+    }
+}
+
+/// What ends by a request for which a packet leaves from this place.
+fn end_by_request(past: Option<Past>, from: Place) -> End {
+    match (from, past) {
+        (Place::Out(_), Some(past)) if has_waited(past) => End::Replaced(past),
+        (Place::Out(_), _) => End::Nothing,
+        (_, Some(past)) if past.is_same => End::AnsweredAgain,
+        _ => End::Nak,
+    }
+}
+
+/// What ends by an arrival of this side that gives this answer, where this request was noted before.
+pub fn end_of(side: Side, past: Option<Past>, answer: &Answer<Global>) -> End {
+    let Some(out) = answer.outs.first() else {
+        return End::Nothing;
+    };
+    match (side, past) {
+        (Side::Link(_), Some(past)) => End::Replied(past),
+        (Side::Link(_), None) => End::Nothing,
+        (Side::Peer(_) | Side::Home(_), past) => end_by_request(past, out.from),
+    }
+}
+
+/// A value, where there is one.
+fn value_of(octets: Option<&[u8]>) -> Option<Value> {
+    match octets {
+        Some(octets) => Some(Value::new(octets)),
+        None => None,
+    }
+}
+
+/// What of an exchange a request says: nothing of who it is for and how it ended.
+fn said_by(octets: &[u8], outcome: ExchangeEnd) -> Exchange {
+    let mut exchange = Exchange {
+        outcome,
+        asked: RequestWord::Other,
+        realm: None,
+        peer: None,
+        server: None,
+        user: None,
+        station: None,
+        milliseconds: 0,
+        tries: 0,
+    };
+    if let Ok(view) = View::read(octets) {
+        exchange.asked = RequestWord::of(view.code());
+        exchange.user = value_of(view.first(USER_NAME));
+        exchange.station = value_of(view.first(CALLING_STATION_ID));
+    }
+    exchange
+}
+
+/// The endpoint of a home server's link; none where the link is a peer's.
+fn server_at(config: &Config, realm: u16, link: Link) -> Option<Endpoint> {
+    server_endpoint(config.realms.get(usize::from(realm))?, link)
+}
+
+/// How often a request of a realm was sent to its link that may be sent there so often again.
+fn tries_of(config: &Config, realm: u16, sends_left: u8) -> u8 {
+    match config.realms.get(usize::from(realm)) {
+        Some(realm) => realm.tries.saturating_sub(sends_left),
+        None => 0,
+    }
+}
+
+/// What is told of a request that was noted, and whose exchange ended so at this moment; nothing where its octets found
+/// no room, or where it didn't wait.
+pub fn exchange_of(
+    config: &Config,
+    notes: &Notes<Global>,
+    past: Past,
+    outcome: ExchangeEnd,
+    now: u64,
+) -> Option<Exchange> {
+    let Stood::Waiting {
+        link,
+        sends_left,
+        ..
+    } = past.stood
+    else {
+        return None;
+    };
+    let mut exchange = said_by(notes.octets_of(&past)?, outcome);
+    exchange.realm = Some(past.realm);
+    exchange.milliseconds = now.saturating_sub(past.came);
+    exchange.tries = tries_of(config, past.realm, sends_left);
+    exchange.server = server_at(config, past.realm, link);
+    match (past.requester, link) {
+        (Requester::Peer(peer), _) => exchange.peer = Some(peer),
+        (Requester::Home(_), Link::Coa(peer)) => {
+            exchange.peer = Some(peer);
+            exchange.server = Some(past.key.from);
+        }
+        (Requester::Home(_), _) => exchange.server = Some(past.key.from),
+    }
+    Some(exchange)
+}
+
+/// What is told of a reverse request that is answered by a NAK at once.
+pub fn nak_of(datagram: &Datagram<Global>, realm: u16) -> Exchange {
+    let mut exchange = said_by(datagram.octets.as_slice(), ExchangeEnd::Nak);
+    exchange.realm = Some(realm);
+    exchange.server = Some(datagram.from);
+    exchange
+}
+
+/// What is told of a request that the broker rejects by itself.
+pub fn local_reject_of(config: &Config, datagram: &Datagram<Global>) -> Exchange {
+    let mut exchange = said_by(datagram.octets.as_slice(), ExchangeEnd::LocalReject);
+    exchange.peer = config.peer_by_ip(datagram.from.ip);
+    exchange
+}
+
+/// The Error-Cause of a NAK (RFC 5176, section 3.5).
+pub fn cause_of(octets: &[u8]) -> Option<NakCause> {
+    let Ok(view) = View::read(octets) else {
+        return None;
+    };
+    match view.first(ERROR_CAUSE)? {
+        [a, b, c, d] => NakCause::of(u32::from_be_bytes([*a, *b, *c, *d])),
+        _ => None,
+    }
+}

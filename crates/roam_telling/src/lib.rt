@@ -1,0 +1,30 @@
+//! What a server's threads count and tell of what happens, each by its own counts and its own queues.
+//!
+//! Nothing here writes a line or waits: what is told goes into a queue, whose other end the logger has, and what finds no
+//! room there is counted.
+//!
+//! # Proved
+//!
+//! - each refused arrival or tick is counted in the thread's tallies, and logged a second after the first of
+//!   them: with that the notices that its queue was given and those that it dropped are as many more as were
+//!   tallied, up to 2^64 - 1, and nothing is left to log. A notice of lost packets, of dropped lines, of a
+//!   server that rests or answers, and of a stop is the one that the queue is given, or none is. That the loops
+//!   call it then, that what is logged is printed, when the logger is woken for lines of exchanges and which of
+//!   them it writes together, no contract says | `Notices::refused`, `tell_refused`, `tell_due`, `time_left`
+#![tactic(auto)]
+
+mod counted;
+mod counters;
+mod counting;
+mod ended;
+mod exchanges;
+mod notice;
+mod notices;
+
+pub use counted::turn_of;
+pub use counters::{Counters, ThreadCounts};
+pub use counting::Counting;
+pub use ended::{End, cause_of, end_of, exchange_of, local_reject_of, nak_of};
+pub use exchanges::{Exchanges, notes_of_timer, notes_of_worker, queue_of_lines};
+pub use notice::{Notice, notices_in, server_endpoint, serving, tell};
+pub use notices::{Notices, queue_of_notices};

@@ -1,0 +1,131 @@
+//! What is told on standard error.
+
+ghost use Rattle.std.specs.Prelude.{◌≡◌};
+ghost use Rattle.roam_telling.specs.Notices.{notices_in};
+
+use log::{Log, info, warn};
+use roam_conf::{Config, Endpoint, Link, Realm};
+use roam_notices::{RefusalCount, RefusedText};
+use roam_port::LossCause;
+use roam_sockets::Reason;
+
+/// What is told on standard error.
+#[derive(Clone, Copy, Debug, PartialEq, Eq)]
+pub enum Notice {
+    /// Arrivals or ticks were refused.
+    Refused(RefusalCount),
+    /// So many notices were dropped.
+    Dropped(u64),
+    /// So many packets were lost, for this cause.
+    Lost(LossCause, u64),
+    /// The socket of this endpoint has room for so many octets only.
+    Narrow(Endpoint, u32),
+    /// The endpoint for metrics can't be had, for this reason: the server goes on without.
+    NoMetrics(Endpoint, Reason),
+    /// So many lines of exchanges were dropped.
+    LinesDropped(u64),
+    /// A home server of this realm keeps silent: this link to it rests.
+    Silent(u16, Link),
+    /// It answers again.
+    Answers(u16, Link),
+    /// The server is asked to stop.
+    Stopping,
+    /// What serves a configuration can't be started now: that is tried again until it can.
+    TriesAgain,
+    /// A configuration of so many realms, peers and shards is served.
+    Serving(usize, usize, u16),
+    /// The server ended after so many steps, of which stored ones were let go of so many times. They passed the
+    /// audit.
+    Ended(u64, u64),
+}
+
+/// Why packets were lost, in words.
+fn words_of(cause: LossCause) -> &'static str {
+    match cause {
+        LossCause::FullRing => "by a full ring",
+        LossCause::Unreachable => "since their destination is unreachable",
+        LossCause::NotPermitted => "since they may not be sent",
+        LossCause::Other => "by other faults of sockets",
+    }
+}
+
+/// A home server's endpoint, and the name of its realm.
+struct LinkText<'c> {
+    at: Endpoint,
+    realm: &'c str,
+}
+
+/// What isn't configured.
+const NOWHERE: Endpoint = Endpoint {
+    ip: [0; 4],
+    port: 0,
+};
+
+/// The endpoint of a link of a realm, and the realm's name.
+fn link_text(config: &Config, realm: u16, link: Link) -> LinkText<'_> {
+    match config.realms.get(usize::from(realm)) {
+        Some(realm) => LinkText {
+            at: server_endpoint(realm, link).unwrap_or(NOWHERE),
+            realm: realm.name.as_str(),
+        },
+        None => LinkText {
+            at: NOWHERE,
+            realm: "",
+        },
+    }
+}
+
+/// The endpoint of a home server's link; none where the link is a peer's.
+pub fn server_endpoint(realm: &Realm, link: Link) -> Option<Endpoint> {
+    match link {
+        Link::Auth(server) => Some(realm.servers.get(usize::from(server))?.auth),
+        Link::Acct(server) => Some(realm.servers.get(usize::from(server))?.acct),
+        Link::Coa(_) => None,
+    }
+}
+
+/// Tells a notice. Waits where standard error has no room.
+pub fn tell<R: Log>(rt: &R, config: &Config, notice: Notice) {
+    match notice {
+        Notice::Refused(tally) => warn!(rt; "{}", RefusedText::new(config, tally)),
+        Notice::Dropped(count) => warn!(rt; "{} notices dropped", count),
+        Notice::Lost(cause, count) => warn!(rt; "{} packets lost {}", count, words_of(cause)),
+        Notice::Narrow(at, octets) => { warn!(rt; "{} has room for {} octets alone", at, octets) }
+        Notice::NoMetrics(at, Reason(number)) => {
+            warn!(rt; "no metrics at {} (errno {})", at, number)
+        }
+        Notice::LinesDropped(count) => warn!(rt; "{} lines of exchanges dropped", count),
+        Notice::Silent(realm, link) => {
+            let LinkText { at, realm } = link_text(config, realm, link);
+            warn!(rt; "home server {} of {} keeps silent: it rests", at, realm)
+        }
+        Notice::Answers(realm, link) => {
+            let LinkText { at, realm } = link_text(config, realm, link);
+            info!(rt; "home server {} of {} answers again", at, realm)
+        }
+        Notice::Stopping => info!(rt; "asked to stop: no request is taken any more"),
+        Notice::TriesAgain => warn!(rt; "what serves can't be started: tried again"),
+        Notice::Serving(realms, peers, shards) => {
+            info!(rt; "serving realms {} peers {} shards {}", realms, peers, shards)
+        }
+        Notice::Ended(steps, times) => {
+            info!(rt; "ended after {} steps, let go of {} times: audited", steps, times)
+        }
+    }
+}
+
+/// For how many notices one stands: a notice of dropped ones or of refusals for those.
+pub fn notices_in(notice: Notice) -> u64
+    ensures { result ≡ notices_in notice }
+{
+    match notice {
+        Notice::Dropped(count) => count,
+        Notice::Refused(tally) => tally.count,
+        _ => 1,
+    }
+}
+
+/// What is served.
+pub fn serving(config: &Config) -> Notice {
+    Notice::Serving(config.realms.len(), config.peers.len(), config.shards)
+}

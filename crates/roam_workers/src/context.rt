@@ -1,0 +1,287 @@
+//! What a worker has: its seat at the hub, its packets on their way out, and its notices.
+
+ghost use Rattle.std.specs.Prelude.{◌≡◌};
+ghost use Rattle.roam_route.specs.Events.{IsEvent};
+ghost use Rattle.roam_route.specs.Shown.{shown_job};
+ghost use Rattle.roam_workers.specs.Requests as requests;
+ghost use Rattle.roam_workers.specs.Remedies as remedies;
+
+use crate::ending::{Ending, WorkerEnd};
+use crate::outgoing::Outgoing;
+use crate::shared::Shared;
+use roam_hub::{Answered, Call, Gate, HubFault, Opened, Refused, Seat};
+use roam_notices::Origin;
+use roam_route::{Datagram, Job, Prepared, prepare};
+use roam_sockets::now;
+use roam_telling::{Counting, Exchanges, Notices, turn_of};
+use roam_wire::Refusal;
+use roam_wire::code::{
+    ACCESS_REQUEST, ACCOUNTING_REQUEST, COA_REQUEST, DISCONNECT_REQUEST, STATUS_SERVER,
+};
+use std::alloc::Global;
+use std::sync::Wait;
+use std::time::Clock;
+
+/// What a worker or the timer has: its seat at the hub, its packets on their way out, and its notices.
+#[derive(Drop)]
+pub struct WorkerContext<'s, 'c, G, N: Opened> {
+    pub shared: &'s Shared<'s, 'c, G, N>,
+    pub seat: Seat<Global, N>,
+    pub outgoing: Outgoing<'s>,
+    pub notices: Notices,
+    pub exchanges: Exchanges,
+    pub counting: Counting<'s>,
+    /// The last moment, in milliseconds since the server's start.
+    pub now: u64,
+}
+
+/// Whether a datagram is a request, by its code (RFC 2865 section 3, RFC 5997 section 3, RFC 5176 section 2.3).
+fn is_request(octets: &[u8]) -> bool
+    ensures { result ≡ requests.is_request octets.now }
+{
+    match octets.first() {
+        Some(code) => {
+            *code == ACCESS_REQUEST
+                || *code == ACCOUNTING_REQUEST
+                || *code == STATUS_SERVER
+                || *code == DISCONNECT_REQUEST
+                || *code == COA_REQUEST
+        }
+        None => false,
+    }
+}
+
+/// What is done about a call that isn't recorded.
+#[derive(Clone, Copy, Debug, PartialEq, Eq)]
+pub enum Remedy {
+    /// The stored steps of its shard are let go of, and the same call is made again.
+    LetGo,
+    /// The same, and their memory is given back before.
+    FreeMemory,
+    /// Nothing: it is refused.
+    Refuse,
+}
+
+/// What is done about a call that isn't recorded, where so many were tried. A history that is full is let go of
+/// as often as it takes; where memory is wanting, it is let go of once.
+pub fn remedy_for(fault: HubFault, is_second: bool) -> Remedy
+    ensures { result ≡ remedies.remedy_for fault is_second }
+{
+    match (fault, is_second) {
+        (HubFault::TraceFull, _) => Remedy::LetGo,
+        (HubFault::NoMemory, false) => Remedy::FreeMemory,
+        _ => Remedy::Refuse,
+    }
+}
+
+impl<G: Gate, N: Opened> WorkerContext<'_, '_, G, N> {
+    /// Looks at the clock.
+    pub fn look_at_clock<R: Clock>(&mut self, rt: &R) {
+        self.now = now(rt, self.shared.start, self.now);
+    }
+
+    /// Takes a datagram: hands its packets to the sockets, or tells why it is refused. A server that is asked to stop
+    /// takes no request.
+    pub fn arrive<R: Wait>(&mut self, rt: &R, alloc: Global, datagram: &Datagram<Global>) {
+        let origin = Origin::Datagram(datagram.at, datagram.from);
+        self.counting.received(datagram.at);
+        if self.shared.stopping.is_asked() && is_request(datagram.octets.as_slice()) {
+            return;
+        }
+        match prepare(alloc, self.shared.config, datagram) {
+            Ok(Prepared::Job(job)) => self.take(rt, job, datagram),
+            Ok(Prepared::Reject(out)) => {
+                self.counting.answered(&out);
+                self.tell_local(datagram, out.bytes.as_slice());
+                self.outgoing.put(out);
+            }
+            Err(refusal) => {
+                self.counting.refused(refusal, datagram.at, datagram.from);
+                self.refuse(refusal, origin);
+            }
+        }
+    }
+
+    /// Gives a job to the hub: hands its packets to the sockets, or tells why it is refused.
+    fn take<R: Wait>(&mut self, rt: &R, job: Job<Global>, datagram: &Datagram<Global>)
+        requires { IsEvent N.opening.config (shown_job job) }
+    {
+        let origin = Origin::Datagram(datagram.at, datagram.from);
+        let turn = turn_of(&job);
+        self.counting.came(turn);
+        match self.answer(rt, job) {
+            Ok(answered) => {
+                self.shared.rest.wake();
+                self.counting.gave(turn, &answered.answer);
+                self.end_by(turn, datagram, &answered.answer);
+                self.finish(rt, answered, origin);
+            }
+            Err(refusal) => {
+                self.counting.failed(turn, refusal);
+                self.refuse(refusal, origin);
+            }
+        }
+    }
+
+    /// Gives a job to the hub. Where the history is full, or memory is wanting, that of its shard is let go of, and
+    /// the same job handed in again.
+    fn answer<R: Wait>(&mut self, rt: &R, job: Job<Global>) -> Result<Answered<Global>, Refusal>
+        requires { IsEvent N.opening.config (shown_job job) }
+    {
+        let shared = self.shared;
+        let shard = shared.config.shard_of(job.realm);
+        let mut job = job;
+        let mut is_second = false;
+        for _ in rt.forever() {
+            let notes = &mut self.exchanges.notes;
+            let call = Call {
+                rt,
+                gate: shared.gate,
+                moment: self.now,
+            };
+            match shared.hub.answer_noting(call, &mut self.seat, job, notes) {
+                Ok(answered) => return Ok(answered),
+                Err(Refused { fault, job: same }) => {
+                    if !self.remedy(rt, shard, fault, is_second) {
+                        return Err(fault.refusal());
+                    }
+                    job = same;
+                    is_second = true;
+                }
+            }
+        }
+        unreachable!()
+    }
+
+    /// Ticks a shard where something is due there, and hands its packets to the sockets.
+    pub fn tick<R: Wait>(&mut self, rt: &R, shard: u16) {
+        let shared = self.shared;
+        let mut is_second = false;
+        for _ in rt.forever() {
+            let notes = &mut self.exchanges.notes;
+            let call = Call {
+                rt,
+                gate: shared.gate,
+                moment: self.now,
+            };
+            match shared.hub.tick_noting(call, &mut self.seat, shard, notes) {
+                Ok(Some(answered)) => {
+                    self.end_by_tick(&answered.answer);
+                    return self.finish(rt, answered, Origin::Tick(shard));
+                }
+                Ok(None) => return,
+                Err(fault) => {
+                    if !self.remedy(rt, shard, fault, is_second) {
+                        self.counting.refused_here(fault.refusal());
+                        return self.refuse(fault.refusal(), Origin::Tick(shard));
+                    }
+                    is_second = true;
+                }
+            }
+        }
+    }
+
+    /// Whether nothing is due within so many milliseconds in any shard, as they stand, and no packet waits for a
+    /// socket.
+    pub fn can_rest<R: Wait>(&mut self, rt: &R, milliseconds: u64) -> bool {
+        let shared = self.shared;
+        let until = self.now.saturating_add(milliseconds);
+        for shard in 0..shared.config.shards {
+            match shared.hub.is_due(rt, &mut self.seat, until, shard) {
+                Ok(false) => {}
+                _ => return false,
+            }
+        }
+        !self.outgoing.is_blocked
+    }
+
+    /// Does what helps against a fault of a call. Answers whether it can be made again.
+    fn remedy<R: Wait>(&mut self, rt: &R, shard: u16, fault: HubFault, is_second: bool) -> bool {
+        match remedy_for(fault, is_second) {
+            Remedy::LetGo => self.let_go(rt, shard),
+            Remedy::FreeMemory => self.free_history(rt, shard),
+            Remedy::Refuse => false,
+        }
+    }
+
+    /// Lets go of the stored steps of a shard, which are freed beside. Answers whether that was done.
+    fn let_go<R: Wait>(&mut self, rt: &R, shard: u16) -> bool {
+        let shared = self.shared;
+        match shared.hub.let_go(rt, &mut self.seat, shard) {
+            Ok(steps) => {
+                self.counting.let_go(shard, steps.len());
+                shared.old_history.hand_over(rt, steps);
+                true
+            }
+            Err(_) => false,
+        }
+    }
+
+    /// Lets go of the stored steps of a shard, and frees them here and now: their memory is wanted.
+    fn free_history<R: Wait>(&mut self, rt: &R, shard: u16) -> bool {
+        match self.shared.hub.let_go(rt, &mut self.seat, shard) {
+            Ok(steps) => {
+                self.counting.let_go(shard, steps.len());
+                self.shared.old_history.count();
+                drop(steps);
+                self.shared.old_history.free_all(rt);
+                true
+            }
+            Err(_) => false,
+        }
+    }
+
+    /// Hands the packets of an answer on, tells a refusal, and lets go of the shard's steps where their octets are
+    /// more than are to be stored.
+    fn finish<R: Wait>(&mut self, rt: &R, answered: Answered<Global>, origin: Origin) {
+        self.counting.stored(answered.shard, answered.octets);
+        if let Some(refusal) = answered.answer.refusal {
+            self.refuse(refusal, origin);
+        }
+        self.outgoing.put_all(answered.answer.outs);
+        self.shared.old_history.free_beside(answered.number);
+        if answered.octets > u64::from(self.shared.config.trace_octets) {
+            self.let_go(rt, answered.shard);
+        }
+    }
+
+    /// Notes that an arrival or a tick is refused.
+    pub fn refuse(&mut self, refusal: Refusal, origin: Origin) {
+        self.notices.refused(refusal, origin, self.now);
+    }
+
+    /// Hands what was refused to the logger, once a second, and wakes it where there is something for it: for lines of
+    /// exchanges so many milliseconds after the first of them.
+    pub fn wake_logger(&mut self, within: u64) {
+        self.notices.tell_due(self.now);
+        if self.exchanges.dropped() > 0
+            && self
+                .notices
+                .lines_dropped(self.exchanges.dropped(), self.now)
+        {
+            self.exchanges.forget_dropped();
+        }
+        let have_lines = self.exchanges.take_due(self.now, within);
+        if self.notices.take_waiting() || have_lines {
+            self.shared.logger.unpark();
+        }
+    }
+
+    /// Sends what can be sent, gives back the seat and the packets that wait on, and has all workers end.
+    pub fn leave(mut self, ending: Ending) -> WorkerEnd<N>
+        ensures ending { result.ending ≡ ending }
+    {
+        self.outgoing.send();
+        let dropped = self.exchanges.dropped();
+        self.notices.end(dropped);
+        let shared = self.shared;
+        let end = WorkerEnd {
+            ending,
+            seat: self.seat,
+            outbox: self.outgoing.outbox,
+            rests: None,
+        };
+        shared.end_all();
+        end
+    }
+}

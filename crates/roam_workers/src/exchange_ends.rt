@@ -1,0 +1,111 @@
+//! What a worker tells and counts of the exchanges that end by what it does.
+
+use crate::context::WorkerContext;
+use roam_book::Answer;
+use roam_counters::{CountedEvent, CountedTurn, Process};
+use roam_hub::{Gate, Opened, Past, Stood};
+use roam_notices::{Exchange, ExchangeEnd};
+use roam_route::Datagram;
+use roam_telling::{End, end_of, exchange_of, local_reject_of, nak_of};
+use roam_wire::code::ACCESS_REJECT;
+use std::alloc::Global;
+
+impl<G: Gate, N: Opened> WorkerContext<'_, '_, G, N> {
+    /// Has an exchange be told, and counts it where it can't be.
+    fn tell(&mut self, exchange: Option<Exchange>) {
+        let is_dropped = match exchange {
+            Some(exchange) => self.exchanges.tell(exchange),
+            None => self.exchanges.are_told(),
+        };
+        if is_dropped {
+            self.counting.process(Process::LineDropped);
+        }
+    }
+
+    /// Tells and counts a request that the broker rejected by itself.
+    pub fn tell_local(&mut self, datagram: &Datagram<Global>, octets: &[u8]) {
+        if octets.first() == Some(&ACCESS_REJECT) {
+            self.counting.rejected(datagram.at, datagram.from);
+            let exchange = local_reject_of(self.shared.config, datagram);
+            self.tell(Some(exchange));
+        }
+    }
+
+    /// Tells and counts what ends by an arrival that gave this answer.
+    pub fn end_by(
+        &mut self,
+        turn: CountedTurn,
+        datagram: &Datagram<Global>,
+        answer: &Answer<Global>,
+    ) {
+        let past = match self.exchanges.notes.pasts() {
+            [past] => Some(*past),
+            _ => None,
+        };
+        match end_of(turn.side, past, answer) {
+            End::Replied(past) => self.end_by_reply(past, answer),
+            End::Replaced(past) => {
+                self.counting.ended(past, CountedEvent::Replaced);
+                self.tell_past(past, ExchangeEnd::Replaced);
+            }
+            End::AnsweredAgain => self.counting.answered_again(turn),
+            End::Nak => {
+                self.counting.denied(turn, answer);
+                self.tell(Some(nak_of(datagram, turn.realm)));
+            }
+            End::Nothing => {}
+        }
+    }
+
+    /// Tells a request that was noted, where requests are told.
+    fn tell_past(&mut self, past: Past, outcome: ExchangeEnd) {
+        if !self.exchanges.are_told() {
+            return;
+        }
+        let config = self.shared.config;
+        let exchange = exchange_of(config, &self.exchanges.notes, past, outcome, self.now);
+        self.tell(exchange);
+    }
+
+    /// Tells and counts a request whose reply is returned.
+    fn end_by_reply(&mut self, past: Past, answer: &Answer<Global>) {
+        self.counting.replied(past, self.now);
+        let code = match answer.outs.first() {
+            Some(out) => out.bytes.as_slice().first(),
+            None => None,
+        };
+        if let Some(code) = code {
+            if let Some(outcome) = ExchangeEnd::of(*code) {
+                self.tell_past(past, outcome);
+            }
+        }
+    }
+
+    /// Tells and counts what ends by a tick that gave this answer, and what goes to other servers by it.
+    pub fn end_by_tick(&mut self, answer: &Answer<Global>) {
+        self.counting.ticked(answer, self.exchanges.notes.pasts());
+        if answer.refusal.is_some() {
+            return;
+        }
+        self.counting.missed(self.exchanges.notes.missed);
+        for at in 0..self.exchanges.notes.pasts().len() {
+            let past = match self.exchanges.notes.pasts().get(at) {
+                Some(past) => *past,
+                None => return,
+            };
+            self.end_or_go_on(past);
+        }
+    }
+
+    /// Tells and counts a request of which no send was left: it is given up, or another server is asked.
+    fn end_or_go_on(&mut self, past: Past) {
+        match past.stands {
+            Stood::Waiting { .. } => self.counting.ended(past, CountedEvent::FailedOver),
+            Stood::Held | Stood::Gone => {
+                self.counting.ended(past, CountedEvent::GivenUp);
+                self.counting.unanswered(past);
+                self.tell_past(past, ExchangeEnd::GivenUp);
+            }
+        }
+    }
+}

@@ -1,0 +1,42 @@
+//! The threads that serve a configuration, each as it runs, and what they share.
+//!
+//! A worker receives from the sockets that are dealt to it, gives what arrives to the hub, and sends what that answers; the
+//! timer does the same with what is due; the logger writes what they tell. None of them is tied to a realm, and none
+//! starts another.
+//!
+//! What is decided here stands in small functions; the loops round them are the threads.
+//!
+//! # Proved
+//!
+//! - what its threads give to the hub is what the hub takes: jobs that are events of its configuration | what
+//!   `Hub::answer` requires
+//! - which remedy there is for a call that a hub doesn't record: where the history is full it is let go of,
+//!   each time; out of memory it is, once; else the call is refused. That the same event is handed in again is
+//!   the loop's code | `remedy_for`
+#![tactic(auto)]
+
+mod context;
+mod ending;
+mod exchange_ends;
+mod logger;
+mod losses;
+mod old_history;
+mod outgoing;
+mod rest;
+mod rests;
+mod shared;
+mod silence;
+mod timer;
+mod worker;
+
+pub use context::{Remedy, WorkerContext, remedy_for};
+pub use ending::{Ended, Ending, WorkerEnd, has_given_up_after};
+pub use logger::{ExchangeQueues, Logger, log_notices, tell_or_drop};
+pub use losses::{CAUSES, SharedLosses};
+pub use old_history::{OldHistory, Steps};
+pub use outgoing::{Outgoing, ROOM_EVENTS};
+pub use rest::TimerRest;
+pub use rests::Rests;
+pub use shared::Shared;
+pub use timer::{Timer, tick_on};
+pub use worker::{RECEIVED, Worker, receive_on};

@@ -1,0 +1,199 @@
+//! The thread that tells notices. What it tells goes to a log that holds nobody up: where that has no room, what was to
+//! be told is dropped, and counted.
+
+use log::{Level, Line, Log, Metadata, Record, info, log_enabled, target_or};
+use roam_conf::Config;
+use roam_counters::Process;
+use roam_notices::{Exchange, push_exchange};
+use roam_telling::{Notice, ThreadCounts, notices_in, tell};
+use rtrb::Consumer;
+use std::io::Write;
+use std::str;
+use std::sync::Wait;
+use std::thread::Parker;
+
+/// How many octets of lines are told at once: a log has room for 8,192 where it has any, and before the first line stands
+/// its module's name.
+const OCTETS_AT_ONCE: usize = 4000;
+
+/// How many lines are told at once.
+const LINES_AT_ONCE: u32 = 64;
+
+/// Tells a notice where the log has room for it. Answers whether it has.
+pub fn tell_or_drop<R: Log>(rt: &R, config: &Config, notice: Notice) -> bool {
+    let is_told = log_enabled!(rt; Level::Info);
+    if is_told {
+        tell(rt, config, notice);
+    }
+    is_told
+}
+
+/// Tells what lies in one queue, or drops it, and answers how many notices are lost by that.
+fn empty<R: Wait + Log>(rt: &R, config: &Config, queue: &mut Consumer<Notice>) -> u64 {
+    let mut dropped = 0u64;
+    for _ in rt.forever() {
+        match queue.pop() {
+            Ok(notice) if tell_or_drop(rt, config, notice) => {}
+            Ok(notice) => dropped = dropped.saturating_add(notices_in(notice)),
+            Err(_) => return dropped,
+        }
+    }
+    unreachable!()
+}
+
+/// Adds the line of an exchange. Before it, where another one stands there, a line break and what the logger writes
+/// before each line. Answers whether there was memory for it.
+fn push_line<R: Log>(rt: &R, text: &mut Vec<u8>, config: &Config, exchange: &Exchange) -> bool {
+    if !text.is_empty() {
+        let metadata = Metadata::new(Level::Info, target_or(rt, module_path!()));
+        let head = Record::new(metadata, "", (), ());
+        if write!(text, "\n{}", Line::new(&head)).is_err() {
+            return false;
+        }
+    }
+    push_exchange(text, config, exchange).is_ok()
+}
+
+/// Lines of exchanges that are told at once.
+#[derive(Clone, Copy)]
+struct Batch {
+    lines: u64,
+    /// For how many more there was no memory.
+    lost: u64,
+}
+
+/// Takes lines from a queue: as many as are told at once, and one at least where there is one.
+fn take_lines<R: Log>(
+    rt: &R,
+    config: &Config,
+    text: &mut Vec<u8>,
+    queue: &mut Consumer<Exchange>,
+) -> Batch {
+    let mut batch = Batch { lines: 0, lost: 0 };
+    text.clear();
+    for _ in 0..LINES_AT_ONCE {
+        let before = text.len();
+        let Ok(exchange) = queue.peek() else {
+            return batch;
+        };
+        let has_memory = push_line(rt, text, config, exchange);
+        if before > 0 && text.len() > OCTETS_AT_ONCE {
+            text.truncate(before);
+            return batch;
+        }
+        if has_memory {
+            batch.lines = batch.lines.saturating_add(1);
+        } else {
+            text.truncate(before);
+            batch.lost = batch.lost.saturating_add(1);
+        }
+        let _is_taken = queue.pop().is_ok();
+    }
+    batch
+}
+
+/// Tells lines where the log has room for them. Answers whether it has.
+fn tell_lines<R: Log>(rt: &R, text: &[u8]) -> bool {
+    if !log_enabled!(rt; Level::Info) {
+        return false;
+    }
+    match str::from_utf8(text) {
+        Ok(text) => {
+            info!(rt; "{}", text);
+            true
+        }
+        Err(_) => false,
+    }
+}
+
+/// Tells the exchanges that lie in one queue, or drops them, and answers how many are dropped.
+fn empty_lines<R: Wait + Log>(
+    rt: &R,
+    config: &Config,
+    text: &mut Vec<u8>,
+    queue: &mut Consumer<Exchange>,
+) -> u64 {
+    let mut dropped = 0u64;
+    for _ in rt.forever() {
+        let batch = take_lines(rt, config, text, queue);
+        dropped = dropped.saturating_add(batch.lost);
+        if batch.lines == 0 && batch.lost == 0 {
+            return dropped;
+        }
+        if batch.lines > 0 && !tell_lines(rt, text.as_slice()) {
+            dropped = dropped.saturating_add(batch.lines);
+        }
+    }
+    unreachable!()
+}
+
+/// Tells the exchanges that lie in all queues, or drops them and counts that.
+fn empty_all_lines<R: Wait + Log>(
+    rt: &R,
+    config: &Config,
+    line: &mut Vec<u8>,
+    lines: &mut ExchangeQueues<'_>,
+) {
+    for queue in lines.queues.iter_mut() {
+        let dropped = empty_lines(rt, config, line, queue);
+        lines.dropped = lines.dropped.saturating_add(dropped);
+        if let Some(counts) = &lines.counts {
+            counts.process(Process::LineDropped, dropped);
+        }
+    }
+    if lines.dropped > 0 && tell_or_drop(rt, config, Notice::LinesDropped(lines.dropped)) {
+        lines.dropped = 0;
+    }
+}
+
+/// The queues of lines of exchanges.
+#[derive(Drop)]
+pub struct ExchangeQueues<'s> {
+    pub queues: Vec<Consumer<Exchange>>,
+    /// Where it is counted what is dropped.
+    pub counts: Option<ThreadCounts<'s>>,
+    /// How many were dropped of which that isn't said yet.
+    pub dropped: u64,
+}
+
+/// Whether the workers of all queues have ended.
+fn are_abandoned(queues: &mut [Consumer<Notice>]) -> bool {
+    let mut all = true;
+    for queue in queues.iter_mut() {
+        all = queue.is_abandoned() && all;
+    }
+    all
+}
+
+/// What the logger takes with it.
+#[derive(Drop)]
+pub struct Logger<'s> {
+    pub queues: Vec<Consumer<Notice>>,
+    pub lines: ExchangeQueues<'s>,
+    /// Lines of exchanges are built in it.
+    pub line: Vec<u8>,
+}
+
+/// Tells what lies in the queues until their workers have ended.
+pub fn log_notices<R: Wait + Log>(rt: &R, config: &Config, wake: &Parker, logger: Logger<'_>) {
+    let Logger {
+        mut queues,
+        mut lines,
+        mut line,
+    } = logger;
+    let mut dropped = 0u64;
+    for _ in rt.forever() {
+        let have_ended = are_abandoned(queues.as_mut_slice());
+        for queue in queues.iter_mut() {
+            dropped = dropped.saturating_add(empty(rt, config, queue));
+        }
+        empty_all_lines(rt, config, &mut line, &mut lines);
+        if dropped > 0 && tell_or_drop(rt, config, Notice::Dropped(dropped)) {
+            dropped = 0;
+        }
+        if have_ended {
+            return;
+        }
+        wake.park(rt);
+    }
+}

@@ -1,0 +1,83 @@
+//! Which home servers keep silent is told when that changes.
+
+use crate::context::WorkerContext;
+use crate::rests::Rests;
+use crate::shared::Shared;
+use roam_conf::Link;
+use roam_hub::{Gate, Opened, SERVER_LINKS, Seat};
+use std::alloc::Global;
+use std::sync::Wait;
+
+/// From one look to the next, in milliseconds.
+const BETWEEN_LOOKS: u64 = 1000;
+
+/// The link of a place, of so many servers: their `auth`, and then their `acct`.
+fn link_at(servers: usize, place: usize) -> Option<Link> {
+    if place < servers {
+        return Some(Link::Auth(u8::try_from(place).ok()?));
+    }
+    let behind = place - servers;
+    if behind < servers {
+        return Some(Link::Acct(u8::try_from(behind).ok()?));
+    }
+    None
+}
+
+/// Tells which home servers of a realm keep silent now, or answer again.
+fn tell_realm<R: Wait, G: Gate, N: Opened>(
+    rt: &R,
+    context: &mut WorkerContext<'_, '_, G, N>,
+    rests: &mut Rests,
+    number: u16,
+    servers: usize,
+) {
+    let Some(gauges) = context.shared.hub.look(rt, &context.seat, number) else {
+        return;
+    };
+    let Some(silent) = rests.silent.get_mut(usize::from(number)) else {
+        return;
+    };
+    for place in 0..SERVER_LINKS {
+        let Some(link) = link_at(servers, place) else {
+            return;
+        };
+        let is_silent = gauges.rests[place].until.is_some();
+        if is_silent != silent[place] && context.notices.rests(number, link, is_silent) {
+            silent[place] = is_silent;
+        }
+    }
+}
+
+/// Tells once a second which home servers keep silent, or answer again.
+pub fn tell_rests<R: Wait, G: Gate, N: Opened>(
+    rt: &R,
+    context: &mut WorkerContext<'_, '_, G, N>,
+    rests: &mut Rests,
+) {
+    let now = context.now;
+    if now < rests.next {
+        return;
+    }
+    rests.next = now.saturating_add(BETWEEN_LOOKS);
+    let config = context.shared.config;
+    for (number, realm) in config.realms.iter().enumerate() {
+        if realm.rest > 0 {
+            tell_realm(rt, context, rests, number as u16, realm.servers.len());
+        }
+    }
+}
+
+/// Whether a request waits in any realm, no earlier than the seat has seen it.
+pub fn does_any_wait<R: Wait, G, N: Opened>(
+    rt: &R,
+    shared: &Shared<'_, '_, G, N>,
+    seat: &Seat<Global, N>,
+) -> bool {
+    for number in 0..shared.config.realms.len() {
+        match shared.hub.look(rt, seat, number as u16) {
+            Some(gauges) if gauges.in_use == 0 => {}
+            _ => return true,
+        }
+    }
+    false
+}

@@ -1,0 +1,191 @@
+//! The worker that ticks the shards, and tells what was lost.
+
+ghost use Rattle.std.specs.Prelude.{◌≡◌, ◌↔◌, ◌≤◌, ◌+◌, ◌-◌, min, IsTrue, IsFalse, MatchOption};
+
+use crate::context::WorkerContext;
+use crate::ending::{Ending, WorkerEnd};
+use crate::losses::CAUSES;
+use crate::rests::Rests;
+use crate::silence::{does_any_wait, tell_rests};
+use mio::{Events, Poll};
+use roam_hub::{Gate, Opened};
+use std::alloc::Global;
+use std::sync::Wait;
+use std::thread;
+use std::time::{Clock, Duration};
+
+/// From one round of ticks to the next, in milliseconds.
+pub const TICK: u64 = 10;
+
+/// The same, where nothing is due so long in any shard, and no job was given to one.
+pub const REST: u64 = 1000;
+
+/// A server that is asked to stop ends when no request waited for so long, in milliseconds: a worker that had taken one
+/// before has given it to its shard by then.
+pub const QUIET: u64 = 200;
+
+/// Lost packets of one cause are told once in so many milliseconds.
+pub const BETWEEN_LOSSES: u64 = 60_000;
+
+/// The worker that ticks the shards.
+#[derive(Drop)]
+pub struct Timer<'s, 'c, G, N: Opened> {
+    pub context: WorkerContext<'s, 'c, G, N>,
+    /// It is woken through this.
+    pub poll: Poll,
+    pub events: Events<Global>,
+    /// For each cause of a loss, when it was told last.
+    pub told: [Option<u64>; 4],
+    /// Whether it was told that the server is asked to stop.
+    pub is_stop_told: bool,
+    /// Which home servers kept silent when that was looked at last.
+    pub rests: Rests,
+    /// Since when no request waits, where the server is asked to stop.
+    pub quiet_since: Option<u64>,
+}
+
+/// Whether the server's time is over.
+fn is_time_over(now: u64, end: Option<u64>) -> bool
+    ensures { MatchOption end (IsFalse result) (λ moment. IsTrue result ↔ (moment ≤ now)) }
+{
+    match end {
+        Some(end) => now >= end,
+        None => false,
+    }
+}
+
+/// Whether losses can be told again that were told last at this moment.
+fn may_tell(now: u64, last: Option<u64>) -> bool
+    ensures { MatchOption last (IsTrue result) (λ moment. IsTrue result ↔ (moment + 60000 ≤ now)) }
+{
+    match last {
+        Some(moment) => now.saturating_sub(moment) >= BETWEEN_LOSSES,
+        None => true,
+    }
+}
+
+/// Tells what was lost, each cause once a minute at most.
+fn tell_losses<G: Gate, N: Opened>(timer: &mut Timer<'_, '_, G, N>) {
+    let context = &mut timer.context;
+    let now = context.now;
+    for (last, cause) in timer.told.iter_mut().zip(CAUSES.iter()) {
+        if may_tell(now, *last) {
+            let count = context.shared.losses.take(*cause);
+            if count > 0 {
+                *last = Some(now);
+                if !context.notices.lost(*cause, count) {
+                    context.shared.losses.give_back(*cause, count);
+                }
+            }
+        }
+    }
+}
+
+/// When the server's time is over, as far as that is known.
+fn end_of<G, N: Opened>(timer: &Timer<'_, '_, G, N>) -> Option<u64> {
+    let shared = timer.context.shared;
+    shared.stopping.or_earlier(shared.end)
+}
+
+/// Tells once that the server is asked to stop.
+fn tell_stop<G, N: Opened>(timer: &mut Timer<'_, '_, G, N>) {
+    if !timer.is_stop_told && timer.context.shared.stopping.is_asked() {
+        timer.is_stop_told = timer.context.notices.stopping();
+    }
+}
+
+/// Whether all is done where the server is asked to stop: no request waits, nor did so a while ago.
+fn has_done_all<R: Wait, G: Gate, N: Opened>(rt: &R, timer: &mut Timer<'_, '_, G, N>) -> bool {
+    if !timer.context.shared.stopping.is_asked()
+        || does_any_wait(rt, timer.context.shared, &timer.context.seat)
+    {
+        timer.quiet_since = None;
+        return false;
+    }
+    let now = timer.context.now;
+    let since = timer.quiet_since.unwrap_or(now);
+    timer.quiet_since = Some(since);
+    now.saturating_sub(since) >= QUIET
+}
+
+/// One round of ticks: why the timer ends with it, if it does.
+fn round<R: Wait + Clock, G: Gate, N: Opened>(
+    rt: &R,
+    timer: &mut Timer<'_, '_, G, N>,
+) -> Option<Ending> {
+    if timer.context.shared.is_over() {
+        return Some(Ending::Stopped);
+    }
+    timer.context.look_at_clock(rt);
+    tell_stop(timer);
+    if is_time_over(timer.context.now, end_of(timer)) {
+        return Some(Ending::TimeOver);
+    }
+    timer.context.outgoing.send_again();
+    for shard in 0..timer.context.shared.config.shards {
+        if timer.context.shared.is_over() {
+            return Some(Ending::Stopped);
+        }
+        timer.context.tick(rt, shard);
+        timer.context.outgoing.send();
+    }
+    tell_losses(timer);
+    tell_rests(rt, &mut timer.context, &mut timer.rests);
+    timer.context.wake_logger(0);
+    if has_done_all(rt, timer) {
+        return Some(Ending::TimeOver);
+    }
+    None
+}
+
+/// How long to wait where the server's time may be over before, in milliseconds.
+fn until_end(wait: u64, now: u64, end: Option<u64>) -> u64
+    ensures { MatchOption end (result ≡ wait) (λ moment. result ≡ min wait (moment - now)) }
+{
+    match end {
+        Some(end) => wait.min(end.saturating_sub(now)),
+        None => wait,
+    }
+}
+
+/// Waits until the next round, or until it is woken: a short time, where the timer doesn't rest.
+fn wait<R: Clock, G, N: Opened>(rt: &R, timer: &mut Timer<'_, '_, G, N>, milliseconds: u64) {
+    let wait = until_end(milliseconds, timer.context.now, end_of(timer));
+    let timeout = Some(Duration::from_millis(wait));
+    if timer.poll.poll(&mut timer.events, timeout).is_err() {
+        thread::sleep(rt, Duration::from_millis(TICK));
+    }
+}
+
+/// Waits until the next round. Before it rests it says so, and looks at the shards once more: a job that one was
+/// given before that look is seen there, and who gives one a job after it wakes the timer.
+fn rest<R: Wait + Clock, G: Gate, N: Opened>(rt: &R, timer: &mut Timer<'_, '_, G, N>) {
+    if timer.context.shared.stopping.is_asked() || !timer.context.can_rest(rt, REST) {
+        return wait(rt, timer, TICK);
+    }
+    let shared = timer.context.shared;
+    shared.rest.begin();
+    let milliseconds = if timer.context.can_rest(rt, REST) {
+        REST
+    } else {
+        TICK
+    };
+    wait(rt, timer, milliseconds);
+    shared.rest.end();
+}
+
+/// Ticks the shards about every `TICK` milliseconds where something may be due, until the server ends.
+pub fn tick_on<R: Wait + Clock, G: Gate, N: Opened>(
+    rt: &R,
+    mut timer: Timer<'_, '_, G, N>,
+) -> WorkerEnd<N> {
+    for _ in rt.forever() {
+        if let Some(ending) = round(rt, &mut timer) {
+            let mut end = timer.context.leave(ending);
+            end.rests = Some(timer.rests);
+            return end;
+        }
+        rest(rt, &mut timer);
+    }
+    unreachable!()
+}

@@ -1,0 +1,200 @@
+//! The worker that receives from sockets.
+
+use crate::context::WorkerContext;
+use crate::ending::{Ending, WorkerEnd};
+use mio::{Events, Poll, Token};
+use roam_hub::{Gate, Opened};
+use roam_notices::Origin;
+use roam_port::Heard;
+use roam_sockets::{Receiver, WAIT_AFTER_FAULT};
+use roam_wire::Refusal;
+use std::alloc::Global;
+use std::sync::Wait;
+use std::thread;
+use std::time::{Clock, Duration};
+
+/// How long a worker waits for a datagram, in milliseconds, where none comes and nobody wakes it.
+pub const WAIT: u64 = 1000;
+
+/// How long a worker gathers lines of exchanges before it wakes the logger, in milliseconds.
+pub const LINES_WITHIN: u64 = 10;
+
+/// How many datagrams a worker takes of one socket in a round.
+pub const IN_A_ROUND: u32 = 32;
+
+/// How many octets a datagram may have.
+pub const RECEIVED: usize = 65535;
+
+/// The worker that receives from sockets.
+#[derive(Drop)]
+pub struct Worker<'s, 'c, G, N: Opened> {
+    pub context: WorkerContext<'s, 'c, G, N>,
+    pub receivers: Vec<Receiver<'s>>,
+    /// The places of the receivers that are ready, each once. It has room for all of them.
+    pub ready: Vec<usize>,
+    /// The sockets are registered with it, each by its place among the receivers.
+    pub poll: Poll,
+    pub events: Events<Global>,
+    pub buffer: Vec<u8>,
+}
+
+/// Marks a receiver as ready.
+fn mark(receivers: &mut [Receiver<'_>], ready: &mut Vec<usize>, at: usize) {
+    if let Some(receiver) = receivers.get_mut(at) {
+        if !receiver.is_ready {
+            receiver.is_ready = ready.push(at).is_ok();
+        }
+    }
+}
+
+/// Marks the receivers at which something may have arrived.
+fn mark_ready(receivers: &mut [Receiver<'_>], ready: &mut Vec<usize>, events: &Events<Global>) {
+    for event in events.iter() {
+        let Token(at) = event.token();
+        mark(receivers, ready, at);
+    }
+}
+
+/// Marks all receivers.
+fn mark_all_ready(receivers: &mut [Receiver<'_>], ready: &mut Vec<usize>) {
+    for at in 0..receivers.len() {
+        mark(receivers, ready, at);
+    }
+}
+
+/// Whether the receiver of this place is to be received from now.
+fn is_due(receivers: &[Receiver<'_>], at: usize, now: u64) -> bool {
+    receivers
+        .get(at)
+        .is_some_and(|receiver| receiver.is_due(now))
+}
+
+/// How long to wait, in milliseconds: not at all where a socket is to be received from, and a short time where
+/// one is to be tried again.
+fn wait_before(receivers: &[Receiver<'_>], ready: &[usize], now: u64) -> u64 {
+    if ready.iter().any(|at| is_due(receivers, *at, now)) {
+        0
+    } else if ready.is_empty() {
+        WAIT
+    } else {
+        WAIT_AFTER_FAULT
+    }
+}
+
+/// Waits until something arrives, the worker is woken or refusals are to be told, and marks the receivers at which
+/// something did arrive.
+/// Where the wait itself fails, a short time goes by, and then all are marked.
+fn wait<R: Clock, G, N: Opened>(rt: &R, worker: &mut Worker<'_, '_, G, N>) {
+    let receivers = worker.receivers.as_slice();
+    let now = worker.context.now;
+    let wait = wait_before(receivers, worker.ready.as_slice(), now);
+    let wait = wait.min(worker.context.notices.time_left(now));
+    let wait = wait.min(worker.context.exchanges.time_left(now, LINES_WITHIN));
+    let timeout = Some(Duration::from_millis(wait));
+    if worker.poll.poll(&mut worker.events, timeout).is_ok() {
+        mark_ready(
+            worker.receivers.as_mut_slice(),
+            &mut worker.ready,
+            &worker.events,
+        );
+    } else {
+        thread::sleep(rt, Duration::from_millis(WAIT_AFTER_FAULT));
+        mark_all_ready(worker.receivers.as_mut_slice(), &mut worker.ready);
+    }
+    worker.context.outgoing.send_again();
+}
+
+/// Takes what arrived at one socket, up to `IN_A_ROUND` datagrams, and sends what that gives: why the worker
+/// ends with it, if it does. Once all are to end it takes no other one: what is there waits for whoever serves next.
+fn receive_portion<R: Wait + Clock, G: Gate, N: Opened>(
+    rt: &R,
+    alloc: Global,
+    context: &mut WorkerContext<'_, '_, G, N>,
+    receiver: &mut Receiver<'_>,
+    buffer: &mut [u8],
+) -> Option<Ending> {
+    let place = receiver.place;
+    let mut ending = None;
+    for _ in 0..IN_A_ROUND {
+        if context.shared.is_over() {
+            ending = Some(Ending::Stopped);
+            break;
+        }
+        match receiver.receive(alloc, buffer) {
+            Heard::Datagram(datagram) => context.arrive(rt, alloc, &datagram),
+            Heard::NoMemory => {
+                context.counting.refused_here(Refusal::NoMemory);
+                context.refuse(Refusal::NoMemory, Origin::Place(place));
+            }
+            Heard::Nothing => break,
+            Heard::GiveUp => {
+                ending = Some(Ending::GaveUp);
+                break;
+            }
+        }
+    }
+    context.outgoing.send();
+    if receiver.faults > 0 {
+        context.look_at_clock(rt);
+    }
+    receiver.rest_after_fault(context.now);
+    ending
+}
+
+/// Takes what arrived at the sockets that are marked: why the worker ends with it, if it does.
+fn receive_all<R: Wait + Clock, G: Gate, N: Opened>(
+    rt: &R,
+    alloc: Global,
+    worker: &mut Worker<'_, '_, G, N>,
+) -> Option<Ending> {
+    for at in worker.ready.iter() {
+        let Some(receiver) = worker.receivers.get_mut(*at) else {
+            continue;
+        };
+        if receiver.is_due(worker.context.now) {
+            worker.context.look_at_clock(rt);
+            let buffer = worker.buffer.as_mut_slice();
+            let ending = receive_portion(rt, alloc, &mut worker.context, receiver, buffer);
+            if ending.is_some() {
+                return ending;
+            }
+        }
+    }
+    None
+}
+
+/// Keeps the places of the receivers that are still ready.
+fn keep_ready(receivers: &[Receiver<'_>], ready: &mut Vec<usize>) {
+    ready.retain(|at| receivers.get(*at).is_some_and(|receiver| receiver.is_ready));
+}
+
+/// One round over the sockets: why the worker ends with it, if it does.
+fn round<R: Wait + Clock, G: Gate, N: Opened>(
+    rt: &R,
+    alloc: Global,
+    worker: &mut Worker<'_, '_, G, N>,
+) -> Option<Ending> {
+    wait(rt, worker);
+    if worker.context.shared.is_over() {
+        return Some(Ending::Stopped);
+    }
+    worker.context.look_at_clock(rt);
+    let ending = receive_all(rt, alloc, worker);
+    keep_ready(worker.receivers.as_slice(), &mut worker.ready);
+    worker.context.wake_logger(LINES_WITHIN);
+    ending
+}
+
+/// Receives from sockets until the server ends.
+pub fn receive_on<R: Wait + Clock, G: Gate, N: Opened>(
+    rt: &R,
+    alloc: Global,
+    mut worker: Worker<'_, '_, G, N>,
+) -> WorkerEnd<N> {
+    for _ in rt.forever() {
+        if let Some(ending) = round(rt, alloc, &mut worker) {
+            return worker.context.leave(ending);
+        }
+    }
+    unreachable!()
+}

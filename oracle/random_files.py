@@ -1,0 +1,38 @@
+"""The files of random scripts."""
+from random_access import AccessScript
+from random_federation import FederationScript, SilenceScript
+from random_mutated import MutatedScript
+from random_reverse import ReverseScript
+from random_scripts import Script
+
+# For each file: what makes its scripts, their configuration, the first seed and how many scripts it has.
+FILES = {
+    "small": (Script, "small", 1, 50),
+    "small-and-shared": (Script, "small-and-shared", 1001, 50),
+    "small-in-two-shards": (Script, "small-in-two-shards", 2001, 60),
+    "access": (AccessScript, "access", 3001, 70),
+    "access-and-shared": (AccessScript, "access-and-shared", 4001, 70),
+    "access-in-two-shards": (AccessScript, "access-in-two-shards", 5001, 70),
+    "all": (ReverseScript, "all", 6001, 90),
+    "all-and-shared": (ReverseScript, "all-and-shared", 7001, 90),
+    "all-in-two-shards": (ReverseScript, "all-in-two-shards", 8001, 90),
+    "federation": (FederationScript, "federation", 9001, 110),
+    "federation-of-silent-servers": (SilenceScript, "federation-of-silent-servers", 10001, 80),
+    "federation-in-two-shards": (FederationScript, "federation-in-two-shards", 11001, 110),
+    "mutated": (MutatedScript, "all", 12001, 50),
+    "mutated-and-shared": (MutatedScript, "all-and-shared", 13001, 50),
+    "mutated-in-two-shards": (MutatedScript, "all-in-two-shards", 14001, 50),
+    "mutated-in-a-federation": (MutatedScript, "federation", 15001, 50),
+    "mutated-in-a-federation-of-silent-servers": (MutatedScript, "federation-of-silent-servers", 16001, 50),
+    "mutated-in-a-federation-in-two-shards": (MutatedScript, "federation-in-two-shards", 17001, 50),
+}
+
+
+def file_text(name):
+    script, configuration, first, count = FILES[name]
+    source = script.__module__
+    lines = [f"# Random: written by oracle/{source}.py and answered by oracle/broker.py, seeds {first} to "
+             f"{first + count - 1}."]
+    for seed in range(first, first + count):
+        lines += script(configuration, seed).lines
+    return "".join(line + "\n" for line in lines)

@@ -1,0 +1,317 @@
+#!/usr/bin/env python3
+"""try-control.py PROGRAM [RATE]
+
+Serves a configuration with a control socket on loopback, and has `roam ctl` and others ask it, misuse it and stop it.
+It fails unless: the socket is its owner's alone; the sums of `status` are those of the requests that were sent, as text
+and as JSON; a thousand idle connections, an octet a second and ten megabytes of header hold nothing up; a socket that a
+killed server left behind is taken over, one of a server that runs is not; and a server that is asked to stop under load
+answers each request that it took, takes none any more, ends with 0 and removes the socket. The load is RATE requests a
+second (4,000), by as many processes as there are realms, each with a home server in another process.
+"""
+import collections
+import hashlib
+import http.client
+import json
+import multiprocessing
+import os
+import select
+import signal
+import socket
+import stat
+import struct
+import subprocess
+import sys
+import tempfile
+import time
+
+HOME_SECRET = b'a-secret-of-home'
+AUTH, HOME = ('127.0.0.1', 18120), ('127.0.0.1', 28120)
+REALMS = 4
+CONF = '''shards = 2
+seed = "{0}"
+auth = "127.0.0.1:{1}"
+acct = "127.0.0.1:{2}"
+trace_limit = 100000
+control = "{3}"
+
+[[peer]]
+name = "nas1"
+ip = "127.0.0.1"
+secret = "a-secret-of-nas1"
+'''
+REALM = '''
+[[realm]]
+name = "{0}.example"
+out = "127.0.0.1:{1}"
+reverse = "127.0.0.1:{2}"
+tries = 2
+wait = 2000
+hold = 5000
+max_pending = 4096
+max_sessions = 100
+
+[[realm.server]]
+auth = "127.0.0.1:{3}"
+acct = "127.0.0.1:{4}"
+secret = "a-secret-of-home"
+'''
+
+
+class HomeServer(multiprocessing.Process):
+    """Accepts each Access-Request, `delay` seconds after it came. `count` tells whose requests came."""
+
+    def __init__(self, realm, delay):
+        super().__init__(daemon=True)
+        self.delay, self.taken = delay, set()
+        self.near, self.far = multiprocessing.Pipe()
+        self.socket = socket.socket(socket.AF_INET, socket.SOCK_DGRAM)
+        self.socket.setsockopt(socket.SOL_SOCKET, socket.SO_RCVBUF, 1 << 22)
+        self.socket.bind((HOME[0], HOME[1] + realm))
+
+    def count(self):
+        """How many users' requests came since this was asked last."""
+        self.near.send(None)
+        return self.near.recv()
+
+    def run(self):
+        waiting = collections.deque()
+        while True:
+            pause = max(0, waiting[0][0] - time.monotonic()) if waiting else 1
+            ready = select.select([self.socket, self.far], [], [], pause)[0]
+            if self.socket in ready:
+                packet, source = self.socket.recvfrom(4096)
+                self.taken.add(user_name(packet))
+                waiting.append((time.monotonic() + self.delay, packet, source))
+            if self.far in ready:
+                self.far.recv()
+                self.far.send(len(self.taken))
+                self.taken.clear()
+            while waiting and waiting[0][0] <= time.monotonic():
+                _, packet, source = waiting.popleft()
+                self.socket.sendto(accept(packet), source)
+
+
+def attributes(packet):
+    at = 20
+    while at + 2 <= len(packet):
+        yield packet[at], packet[at + 2:at + packet[at + 1]]
+        at += packet[at + 1]
+
+
+def user_name(packet):
+    return next(value for kind, value in attributes(packet) if kind == 1)
+
+
+def accept(request):
+    """RFC 2865, section 3: the Response Authenticator, over the Proxy-States of the request."""
+    states = b''.join(bytes([33, len(v) + 2]) + v for k, v in attributes(request) if k == 33)
+    head = struct.pack('!BBH', 2, request[1], 20 + len(states))
+    return head + hashlib.md5(head + request[4:20] + states + HOME_SECRET).digest() + states
+
+
+class AccessServer:
+    """Sends Access-Requests, each of a user of its own of one realm, and counts the replies."""
+
+    def __init__(self, realm=0):
+        self.realm, self.users, self.answered = b'@%c.example' % b'abcd'[realm], 0, 0
+        self.sockets, self.poll = {}, select.epoll()
+
+    def send(self):
+        number = self.users % 256
+        if number == 0:
+            self.last = socket.socket(socket.AF_INET, socket.SOCK_DGRAM)
+            self.last.setsockopt(socket.SOL_SOCKET, socket.SO_RCVBUF, 1 << 20)
+            self.last.connect(AUTH)
+            self.sockets[self.last.fileno()] = self.last
+            self.poll.register(self.last, select.EPOLLIN)
+        name = b'u%d' % self.users + self.realm
+        body = bytes([1, len(name) + 2]) + name + bytes([4, 6, 192, 0, 2, 1])
+        head = struct.pack('!BBH', 1, number, 20 + len(body)) + os.urandom(16)
+        try:
+            self.last.send(head + body)
+        except ConnectionRefusedError:
+            pass
+        self.users += 1
+
+    def take(self, seconds):
+        """Takes the replies that there are, and waits so long for the first. Answers whether some came."""
+        before = self.answered
+        for at, _ in self.poll.poll(max(0, seconds)):
+            try:
+                self.answered += len(self.sockets[at].recv(4096)) >= 20
+            except ConnectionRefusedError:
+                pass
+        return self.answered > before
+
+    def take_all(self, seconds):
+        """Takes replies until none comes for so long."""
+        while self.take(seconds):
+            pass
+
+
+def ask_for(realm, rate, seconds, told):
+    """Sends so many requests a second, and tells how many were sent and answered at the end."""
+    access, begin = AccessServer(realm), time.monotonic()
+    while time.monotonic() < begin + seconds:
+        while access.users < (time.monotonic() - begin) * rate:
+            access.send()
+        access.take(.001)
+    access.take_all(1)
+    told.send((access.users, access.answered))
+
+
+class Server:
+    def __init__(self, program, work, name='one', port=18120, path=None):
+        self.path = path or os.path.join(work, 'control')
+        self.conf = conf = os.path.join(work, name + '.conf')
+        with open(conf, 'w') as file:
+            file.write(CONF.format('0' * 64, port, port + 10, self.path))
+            for realm in range(REALMS):
+                file.write(REALM.format('abcd'[realm], port + 20 + realm, port + 30 + realm, HOME[1] + realm, HOME[1] + 10 + realm))
+        self.program, self.log = program, open(os.path.join(work, name + '.log'), 'w+')
+        self.process = subprocess.Popen([program, 'serve', conf], stderr=self.log)
+        for _ in range(100):
+            if 'serving' in self.said():
+                return
+            time.sleep(.05)
+        sys.exit('it does not serve: ' + self.said())
+
+    def said(self):
+        with open(self.log.name) as file:
+            return file.read()
+
+    def ctl(self, order, path=None):
+        return subprocess.run([self.program, 'ctl', path or self.path, order], capture_output=True, text=True, timeout=60)
+
+
+class OverUnix(http.client.HTTPConnection):
+    def __init__(self, path):
+        super().__init__('roam', timeout=10)
+        self.path = path
+
+    def connect(self):
+        self.sock = socket.socket(socket.AF_UNIX)
+        self.sock.connect(self.path)
+
+
+def want(holds, what):
+    print('ok  ' if holds else 'FAIL', what)
+    if not holds:
+        sys.exit(1)
+
+
+def asks(server, method, path):
+    connection = OverUnix(server.path)
+    connection.request(method, path)
+    answer = connection.getresponse()
+    return answer.status, answer.read()
+
+
+def try_status(server, sent):
+    answer = server.ctl('status')
+    want(answer.returncode == 0 and 'realms 4 peers 1 shards 2' in answer.stdout, 'status as text')
+    line = f'realm a.example: requests {sent} forwarded {sent} sent again 0 failed over 0 given up 0 duplicates 0 replies {sent} returned {sent} refused 0'
+    want(line in answer.stdout, line)
+    status, body = asks(server, 'GET', '/status.json')
+    told = json.loads(body)
+    want(status == 200 and told['realms'][0]['requests'] == sent and told['realms'][0]['servers'][0]['replies'] == sent
+         and told['peers'][0]['name'] == 'nas1' and told['shards'] == 2, 'status as JSON')
+    metrics = server.ctl('metrics').stdout
+    want(f'roam_realm_requests_total{{realm="a.example",code="access_request",}} {sent}' in metrics, 'metrics')
+    want(all(f'roam_realm_sessions{{realm="{name}.example",}} 0' in metrics for name in 'abcd'), 'and how each realm of each shard stands')
+    want(asks(server, 'GET', '/stop')[0] == 405 and asks(server, 'POST', '/status')[0] == 405
+         and asks(server, 'GET', '/nothing')[0] == 404, 'other methods and paths are refused')
+
+
+def try_hostile(server, access):
+    idle = []
+    for _ in range(1000):
+        one = socket.socket(socket.AF_UNIX)
+        one.setblocking(False)
+        try:
+            one.connect(server.path)
+        except BlockingIOError:
+            pass
+        idle.append(one)
+    slow = socket.socket(socket.AF_UNIX)
+    slow.connect(server.path)
+    long = socket.socket(socket.AF_UNIX)
+    long.connect(server.path)
+    try:
+        long.sendall(b'GET /status HTTP/1.1\r\nx: ' + b'y' * 10_000_000)
+    except OSError:
+        pass
+    for octet in b'GET':
+        try:
+            slow.send(bytes([octet]))
+        except OSError:
+            pass
+        time.sleep(1)
+    before = access.answered
+    for _ in range(100):
+        access.send()
+    access.take_all(1)
+    want(access.answered - before == 100, 'who opens connections and asks nothing holds no request up')
+    want(server.ctl('status').returncode == 0, 'nor `roam ctl`')
+    for one in idle + [slow, long]:
+        one.close()
+
+
+def try_stop(server, homes, rate):
+    """Under load: each request that a home server got was taken, and is to be answered."""
+    for home in homes:
+        home.count()
+    told, loads = [], []
+    for realm in range(REALMS):
+        near, far = multiprocessing.Pipe()
+        loads.append(multiprocessing.Process(target=ask_for, args=(realm, rate / REALMS, 4, far), daemon=True))
+        told.append(near)
+    for load in loads:
+        load.start()
+    time.sleep(2)
+    asked = time.monotonic()
+    answer = server.ctl('stop')
+    end = time.monotonic()
+    status = server.process.wait(timeout=40)
+    sums = [sum(numbers) for numbers in zip(*(near.recv() for near in told))]
+    taken = sum(home.count() for home in homes)
+    print(f'     {sums[0]} sent in 4 s, {taken} taken, {sums[1]} answered, {end - asked:.2f} s from the question to the end')
+    want(.3 * sums[0] < taken < .65 * sums[0], 'it took requests until it was asked, and none after it')
+    want(sums[1] == taken, 'each request that it took was answered')
+    want(answer.returncode == 0 and answer.stdout == 'stopping\n', '`roam ctl` says so')
+    want(status == 0 and 'audited' in server.said() and 'asked to stop' in server.said(), 'it ends with 0, audited')
+    want(not os.path.exists(server.path), 'and removes the socket')
+
+
+def main():
+    if not 2 <= len(sys.argv) <= 3 or not os.access(sys.argv[1], os.X_OK):
+        sys.exit('usage: try-control.py PROGRAM [RATE]')
+    program, rate = os.path.realpath(sys.argv[1]), int(sys.argv[2]) if len(sys.argv) > 2 else 4000
+    with tempfile.TemporaryDirectory() as work:
+        homes, access = [HomeServer(realm, .01) for realm in range(REALMS)], AccessServer()
+        for home in homes:
+            home.start()
+        killed = Server(program, work)
+        mode = os.stat(killed.path).st_mode
+        want(stat.S_ISSOCK(mode) and stat.S_IMODE(mode) == 0o600, "the socket is its owner's alone")
+        killed.process.send_signal(signal.SIGKILL)
+        killed.process.wait()
+        want(os.path.exists(killed.path), 'a killed server leaves its socket behind')
+        want(killed.ctl('status').returncode == 1 and 'no answer' in killed.ctl('status').stderr, 'nobody answers there')
+        server = Server(program, work)
+        want(server.ctl('status').returncode == 0, 'and the next one takes it over')
+        other = subprocess.run([program, 'serve', server.conf], stderr=subprocess.PIPE, text=True, timeout=10)
+        want(other.returncode == 1 and f'cannot listen at {server.path}' in other.stderr and server.ctl('status').returncode == 0,
+             'but not while somebody listens')
+        want(server.ctl('status', os.path.join(work, 'nothing')).stderr.endswith('nothing: no answer\n'), 'nobody: no answer')
+        for _ in range(200):
+            access.send()
+        access.take_all(1)
+        want(access.answered == 200, '200 requests are answered')
+        try_status(server, 200)
+        try_hostile(server, access)
+        try_stop(server, homes, rate)
+
+
+if __name__ == '__main__':
+    main()

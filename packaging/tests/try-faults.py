@@ -1,0 +1,584 @@
+#!/usr/bin/env python3
+"""try-faults.py PROGRAM [CASE ..]
+
+Has what stands beside a server fail, on loopback and in folders of its own, and looks whether the server serves on: a
+terminal or a pipe that nobody reads, a disk that is full, a path of the control socket that is something else or somebody
+else's, a process without a descriptor left, an answer of `roam ctl` that is cut. Each case is bounded in time and prints
+`ok` or `BAD` for each thing that it wants; the status is 1 where one is bad. It needs no root. `try-faults.py PROGRAM help`
+prints the cases.
+"""
+import contextlib
+import hashlib
+import os
+import pty
+import re
+import resource
+import select
+import signal
+import socket
+import stat
+import struct
+import subprocess
+import sys
+import tempfile
+import threading
+import time
+
+HERE, PORT, METRICS, HOME = '127.0.0.1', 37120, 37180, 37220
+SECRET = b'a-secret-of-home'
+CONF = f'''shards = {{shards}}
+seed = "{'0' * 64}"
+auth = "{HERE}:{{port}}"
+acct = "{HERE}:{{acct}}"
+trace_limit = {{limit}}
+{{more}}
+[[peer]]
+name = "nas1"
+ip = "{HERE}"
+secret = "a-secret-of-nas1"
+
+[[realm]]
+name = "a.example"
+out = "{HERE}:{{out}}"
+reverse = "{HERE}:{{reverse}}"
+tries = 2
+wait = 2000
+hold = 1000
+max_pending = 4096
+max_sessions = 100
+
+[[realm.server]]
+auth = "{HERE}:{HOME}"
+acct = "{HERE}:{HOME + 1}"
+secret = "{SECRET.decode()}"
+'''
+
+
+class Home(threading.Thread):
+    """Accepts each Access-Request (RFC 2865, section 3)."""
+
+    def __init__(self):
+        super().__init__(daemon=True)
+        self.socket = socket.socket(socket.AF_INET, socket.SOCK_DGRAM)
+        self.socket.setsockopt(socket.SOL_SOCKET, socket.SO_RCVBUF, 1 << 22)
+        self.socket.bind((HERE, HOME))
+
+    def run(self):
+        while True:
+            packet, source = self.socket.recvfrom(4096)
+            at, states = 20, b''
+            while at + 2 <= len(packet):
+                if packet[at] == 33:
+                    states += packet[at:at + packet[at + 1]]
+                at += max(2, packet[at + 1])
+            head = struct.pack('!BBH', 2, packet[1], 20 + len(states))
+            self.socket.sendto(head + hashlib.md5(head + packet[4:20] + states + SECRET).digest() + states, source)
+
+
+def answered(count, patience=8.0, name=b'u%d'):
+    """Sends so many Access-Requests, 64 at a time, each again after a second without an answer, as access servers do, and
+    answers how many are answered."""
+    done = 0
+    for begin in range(0, count, 64):
+        with socket.socket(socket.AF_INET, socket.SOCK_DGRAM) as one:
+            one.connect((HERE, PORT))
+            waiting = {}
+            for number in range(min(64, count - begin)):
+                user = name % (begin + number) + b'@a.example'
+                body = bytes([1, len(user) + 2]) + user + bytes([4, 6, 192, 0, 2, 1])
+                waiting[number] = struct.pack('!BBH', 1, number, 20 + len(body)) + os.urandom(16) + body
+            sent, end = len(waiting), time.monotonic() + patience
+            while waiting and time.monotonic() < end:
+                for packet in waiting.values():
+                    one.send(packet)
+                again = min(end, time.monotonic() + 1)
+                while waiting and select.select([one], [], [], max(0, again - time.monotonic()))[0]:
+                    waiting.pop(one.recv(4096)[1], None)
+            done += sent - len(waiting)
+            if waiting:
+                break
+    return done
+
+
+class Server:
+    """A server of one realm, whose standard error is this, or a file that is read."""
+
+    def __init__(self, program, work, stderr=None, port=PORT, name='one', path=None, metrics=METRICS, limit=100000,
+                 nofile=None, more='', shards=1):
+        self.program, self.work, self.name = program, work, name
+        self.path = os.path.join(work, name + '.socket') if path is None else path
+        self.conf = os.path.join(work, name + '.conf')
+        more = f'control = "{self.path}"\n' + (f'metrics = "{HERE}:{metrics}"\n' if metrics else '') + more
+        with open(self.conf, 'w') as file:
+            file.write(CONF.format(port=port, acct=port + 10, out=port + 20, reverse=port + 30, more=more, limit=limit, shards=shards))
+        self.log = None if stderr is not None else open(os.path.join(work, name + '.log'), 'w+')
+        limits = (lambda: resource.setrlimit(resource.RLIMIT_NOFILE, (nofile, nofile))) if nofile else None
+        self.process = subprocess.Popen([program, 'serve', self.conf], stdin=subprocess.DEVNULL, stdout=subprocess.DEVNULL,
+                                        stderr=self.log if stderr is None else stderr, preexec_fn=limits)
+
+    def said(self):
+        with open(self.log.name) as file:
+            return file.read()
+
+    def waits(self, seconds=5):
+        """Whether it answers at its control socket within so many seconds."""
+        end = time.monotonic() + seconds
+        while time.monotonic() < end and self.process.poll() is None:
+            if self.ctl('status').returncode == 0:
+                return True
+            time.sleep(.05)
+        return False
+
+    def ctl(self, *order, seconds=12):
+        try:
+            return subprocess.run([self.program, 'ctl', self.path, *order], capture_output=True, timeout=seconds)
+        except subprocess.TimeoutExpired:
+            return subprocess.CompletedProcess(order, 124, b'', b'it takes too long')
+
+    def count(self, begin):
+        """What `roam ctl metrics` says behind this."""
+        said = [line for line in self.ctl('metrics').stdout.decode().splitlines() if line.startswith(begin)]
+        return int(said[0].split()[-1]) if said else -1
+
+    def ends(self, seconds):
+        """Its status, where it ends within so many seconds."""
+        try:
+            return self.process.wait(seconds)
+        except subprocess.TimeoutExpired:
+            return None
+
+    def __enter__(self):
+        return self
+
+    def __exit__(self, *_):
+        if self.process.poll() is None:
+            self.process.kill()
+        self.process.wait()
+
+
+BAD = []
+
+
+def want(holds, what):
+    print('  ok ' if holds else '  BAD', what, flush=True)
+    if not holds:
+        BAD.append(what)
+
+
+def try_log(program, work, stderr, close=()):
+    """Serves 3,000 exchanges, a reload, 50 more, and a stop, while nobody reads what is told."""
+    with Server(program, work, stderr) as server:
+        for fd in close:
+            os.close(fd)
+        want(server.waits(), 'it serves')
+        first = answered(3000)
+        want(first == 3000, f'{first} of 3000 exchanges are answered')
+        begin = time.monotonic()
+        reload = server.ctl('reload')
+        want(reload.returncode == 0, f'a reload ends with {reload.returncode} after {time.monotonic() - begin:.1f} s')
+        more = answered(50, 4)
+        want(more == 50, f'{more} of 50 are answered after it')
+        begin = time.monotonic()
+        stop = server.ctl('stop', seconds=60)
+        status = server.ends(5)
+        took = time.monotonic() - begin
+        want(stop.returncode == 0 and status == 0 and took < 8, f'`ctl stop` ends with {stop.returncode}, the server with {status}, after {took:.1f} s')
+
+
+def log_terminal(program, work):
+    """a terminal that nobody reads"""
+    master, slave = pty.openpty()
+    try:
+        try_log(program, work, slave)
+    finally:
+        os.close(slave)
+        os.close(master)
+
+
+def log_pipe(program, work):
+    """a pipe that nobody reads"""
+    read, write = os.pipe()
+    try:
+        try_log(program, work, write)
+    finally:
+        os.close(read)
+        os.close(write)
+
+
+def log_full(program, work):
+    """a disk that is full"""
+    full = os.open('/dev/full', os.O_WRONLY)
+    try:
+        try_log(program, work, full)
+    finally:
+        os.close(full)
+
+
+def log_dead(program, work):
+    """a pipe without a reader: what isn't written isn't counted as told"""
+    read, write = os.pipe()
+    with Server(program, work, write) as server:
+        os.close(write)
+        os.close(read)
+        want(server.waits(), 'it serves')
+        first = answered(12000)
+        want(first == 12000, f'{first} of 12000 exchanges are answered')
+        time.sleep(1.5)
+        dropped = server.count('roam_exchange_lines_lost_total{cause="dropped"')
+        want(dropped > 1000, f'{dropped} lines are counted as dropped')
+        stop = server.ctl('stop', seconds=60)
+        want(stop.returncode == 0 and server.ends(5) == 0, f'`ctl stop` ends with {stop.returncode}')
+
+
+def log_again(program, work):
+    """a terminal that is read again after a while: the lines come, in order, and how many found no room"""
+    master, slave = pty.openpty()
+    try:
+        with Server(program, work, slave) as server:
+            want(server.waits(), 'it serves')
+            first = answered(3000)
+            want(first == 3000, f'{first} of 3000 exchanges are answered')
+            text, end = b'', time.monotonic() + 5
+            while time.monotonic() < end and b'u2999@' not in text:
+                if select.select([master], [], [], .1)[0]:
+                    text += os.read(master, 65536)
+            users = [int(user) for user in re.findall(rb'user="?u(\d+)@', text)]
+            want(len(users) == 3000 and sorted(users) == list(range(3000)), f'{len(users)} lines of 3000 come when it is read')
+            stop = server.ctl('stop', seconds=60)
+            while select.select([master], [], [], .3)[0]:
+                try:
+                    text += os.read(master, 65536)
+                except OSError:
+                    break
+            want(stop.returncode == 0 and b'audited' in text and server.ends(5) == 0, 'and the last line at the end')
+    finally:
+        os.close(slave)
+        os.close(master)
+
+
+def is_declined(program, work, path, what):
+    """A server whose control socket can't be had ends with 1, and says which path."""
+    with Server(program, work, path=path, name='declined', port=PORT, metrics=METRICS) as server:
+        status = server.ends(3)
+        said = server.said().strip().splitlines()
+        last = said[-1] if said else ''
+        want(status == 1 and path in last and last.startswith('roam: '), f'{what}: it ends with {status}: {last}')
+
+
+def control_file(program, work):
+    """`control` names a regular file, a link, a folder: each stays, and is declined"""
+    file, link, folder = (os.path.join(work, name) for name in ('file', 'link', 'folder'))
+    with open(file, 'w') as it:
+        it.write('precious\n')
+    os.symlink(file, link)
+    os.mkdir(folder)
+    is_declined(program, work, file, 'a regular file')
+    want(os.path.exists(file) and open(file).read() == 'precious\n', 'the file stays')
+    is_declined(program, work, link, 'a link to it')
+    want(os.path.islink(link) and os.path.exists(file), 'the link and the file stay')
+    is_declined(program, work, folder, 'a folder')
+    want(os.path.isdir(folder), 'the folder stays')
+    is_declined(program, work, os.path.join(work, 'nowhere', 'socket'), 'a folder that is missing')
+
+
+def control_foreign(program, work):
+    """a path at which another program listens, and a link to a socket"""
+    path, link = os.path.join(work, 'foreign'), os.path.join(work, 'foreign-link')
+    with socket.socket(socket.AF_UNIX) as foreign:
+        foreign.bind(path)
+        foreign.listen(8)
+        is_declined(program, work, path, 'a socket of another program')
+        want(stat.S_ISSOCK(os.lstat(path).st_mode), 'it stays')
+    os.symlink(path, link)
+    is_declined(program, work, link, 'a link to a socket that was left behind')
+    want(os.path.islink(link) and os.path.exists(path), 'link and socket stay')
+
+
+def control_left(program, work):
+    """a socket that a killed server left behind is taken over"""
+    with Server(program, work) as killed:
+        want(killed.waits(), 'it serves')
+        killed.process.send_signal(signal.SIGKILL)
+        killed.process.wait()
+        want(os.path.exists(killed.path), 'it leaves its socket behind')
+    with Server(program, work) as server:
+        want(server.waits(), 'the next one serves')
+        want(server.ctl('stop', seconds=60).returncode == 0 and server.ends(5) == 0 and not os.path.exists(server.path), 'and takes its socket away at its end')
+
+
+def control_two(program, work):
+    """two servers at one path"""
+    with Server(program, work) as first:
+        want(first.waits(), 'the first serves')
+        with Server(program, work, port=PORT + 5, name='two', path=first.path, metrics=None) as second:
+            want(second.ends(3) == 1 and first.path in second.said(), f'the second declines: {second.said().strip().splitlines()[-1:]}')
+        want(first.ctl('status').returncode == 0, 'and the first is still asked')
+        os.unlink(first.path)
+        with Server(program, work, port=PORT + 5, name='two', path=first.path, metrics=None) as second:
+            want(second.waits(), 'where the socket of the first is gone, the second serves there')
+            first.process.send_signal(signal.SIGTERM)
+            first.process.wait()
+            want(second.ctl('status').returncode == 0, 'it is asked')
+    with Server(program, work, more='') as first:
+        want(first.waits(), 'again, with an end by its time')
+    with open(os.path.join(work, 'one.conf')) as file:
+        text = file.read()
+    conf = os.path.join(work, 'timed.conf')
+    path = os.path.join(work, 'timed.socket')
+    with open(conf, 'w') as file:
+        file.write(text.replace('one.socket', 'timed.socket'))
+    timed = subprocess.Popen([program, 'serve', conf, '2000'], stderr=subprocess.DEVNULL)
+    time.sleep(1)
+    os.unlink(path)
+    with Server(program, work, port=PORT + 5, name='two', path=path, metrics=None) as second:
+        want(second.waits(), 'a second serves where the socket of the first is gone')
+        want(timed.wait(10) == 0, 'the first ends by its time')
+        want(os.path.exists(path) and second.ctl('status').returncode == 0, "and leaves the second's socket")
+
+
+def processor_time(pid):
+    with open(f'/proc/{pid}/stat') as file:
+        words = file.read().rsplit(')', 1)[1].split()
+    return (int(words[11]) + int(words[12])) / os.sysconf('SC_CLK_TCK')
+
+
+def descriptors_none(program, work):
+    """no descriptor is left: it waits, and says so"""
+    # With fewer than 17 the wait for connections itself fails (poll(2), EINVAL).
+    with Server(program, work, shards=4) as server:
+        want(server.waits(), 'it serves')
+        used = {int(fd) for fd in os.listdir(f'/proc/{server.process.pid}/fd')}
+        held = min(set(range(len(used) + 1)) - used)
+        resource.prlimit(server.process.pid, resource.RLIMIT_NOFILE, (held, held))
+        idle = []
+        for _ in range(3):
+            one = socket.create_connection((HERE, METRICS))
+            other = socket.socket(socket.AF_UNIX)
+            other.connect(server.path)
+            idle += [one, other]
+        time.sleep(.5)
+        before = processor_time(server.process.pid)
+        time.sleep(3)
+        used = processor_time(server.process.pid) - before
+        want(used < .3, f'{used / 3 * 100:.0f} % of a processor over 3 s')
+        want(answered(100) == 100, 'requests are answered')
+        lines = [line for line in server.said().splitlines() if 'connection' in line and 'WARN' in line]
+        want(len(lines) == 2, f'it says so, once for each of the two: {lines[:2]}')
+        resource.prlimit(server.process.pid, resource.RLIMIT_NOFILE, (1024, 1024) if hard_limit(server.process.pid) >= 1024 else (held, held))
+        for one in idle:
+            one.close()
+
+
+def hard_limit(pid):
+    return resource.prlimit(pid, resource.RLIMIT_NOFILE)[1]
+
+
+def descriptors_count(program, work):
+    """with as many descriptors as it says that it wants, it starts, takes 32 connections and reloads"""
+    with Server(program, work, nofile=11) as server:
+        status, said = server.ends(3), server.said().strip().splitlines()[-1:]
+        words = said[0].split() if said else []
+        want(status == 1 and 'wanted' in words, f'with 11: {said}')
+    wanted = int(words[words.index('wanted') - 1]) if 'wanted' in words else 20
+    with Server(program, work, nofile=wanted) as server:
+        want(server.waits(), f'with {wanted} it serves')
+        idle = []
+        for _ in range(16):
+            one = socket.create_connection((HERE, METRICS))
+            other = socket.socket(socket.AF_UNIX)
+            other.connect(server.path)
+            idle += [one, other]
+        time.sleep(.3)
+        reload = server.ctl('reload')
+        want(reload.returncode == 0, f'a reload beside 32 connections ends with {reload.returncode}: {reload.stdout[-80:]} {reload.stderr[-80:]}')
+        for one in idle:
+            one.close()
+
+
+def steps_of(text):
+    return sum(line[:2] in (b'A ', b'T ') for line in text.splitlines())
+
+
+def trace_slow(program, work):
+    """a trace whose reader stops for 7 seconds in the middle is whole; one of `ctl` is, or it says that it isn't"""
+    with Server(program, work) as server:
+        want(server.waits(), 'it serves')
+        want(answered(6000) == 6000, '6000 exchanges are answered')
+        with socket.socket(socket.AF_UNIX) as one:
+            one.connect(server.path)
+            one.settimeout(20)
+            one.send(b'GET /trace?shard=0 HTTP/1.1\r\nHost: roam\r\nConnection: close\r\n\r\n')
+            text = one.recv(4096)
+            time.sleep(7)
+            with contextlib.suppress(OSError):
+                while part := one.recv(1 << 16):
+                    text += part
+        head, _, body = text.partition(b'\r\n\r\n')
+        lengths = [int(line.split(b':')[1]) for line in head.lower().split(b'\r\n') if line.startswith(b'content-length')]
+        want(lengths == [len(body)] and steps_of(body) >= 12000, f'{steps_of(body)} of some 12000 steps, {len(body)} of {lengths} octets')
+        want(answered(6000, name=b'v%d') == 6000, '6000 more are answered')
+        read, write = os.pipe()
+        one = subprocess.Popen([program, 'ctl', server.path, 'trace', '0'], stdout=write, stderr=subprocess.PIPE)
+        os.close(write)
+        time.sleep(.05)
+        one.send_signal(signal.SIGSTOP)
+        time.sleep(7)
+        one.send_signal(signal.SIGCONT)
+        text = b''
+        while part := os.read(read, 1 << 16):
+            text += part
+        os.close(read)
+        status, said = one.wait(20), one.stderr.read()[-60:]
+        want(status == 0 and steps_of(text) >= 12000 or status == 1 and said, f'`ctl`: {steps_of(text)} of some 12000 steps, status {status} {said}')
+
+
+def says_missing(server, what):
+    """Whether a trace says that some 12,000 steps before it are missing, or has them."""
+    answer = server.ctl('trace', '0')
+    missing = re.match(rb'# (\d+) steps before these are missing', answer.stdout)
+    holds = answer.returncode == 0 and (steps_of(answer.stdout) >= 12000 or missing and int(missing[1]) >= 12000)
+    return holds, f'{what}: {steps_of(answer.stdout)} steps, status {answer.returncode}, begins with {answer.stdout[:60]}'
+
+
+def trace_killed(program, work):
+    """`ctl trace` that is killed in the middle: the next one says what is missing"""
+    with Server(program, work) as server:
+        want(server.waits(), 'it serves')
+        want(answered(6000) == 6000, '6000 exchanges are answered')
+        one = socket.socket(socket.AF_UNIX)
+        one.connect(server.path)
+        one.send(b'GET /trace?shard=0 HTTP/1.1\r\nHost: roam\r\nConnection: close\r\n\r\n')
+        first = one.recv(4096)
+        one.close()
+        time.sleep(.3)
+        want(first.startswith(b'HTTP/1.1 200'), 'a trace is begun, and the one who asked goes away')
+        want(*says_missing(server, 'the second'))
+        third = server.ctl('trace', '0')
+        want(third.returncode == 0 and not third.stdout.startswith(b'#'), f'a third has nothing missing: {third.stdout[:60]}')
+        want(answered(6000, name=b'v%d') == 6000, '6000 more are answered')
+        read, write = os.pipe()
+        with subprocess.Popen([program, 'ctl', server.path, 'trace', '0'], stdout=write) as one:
+            os.close(write)
+            time.sleep(1)
+            one.kill()
+        os.close(read)
+        time.sleep(.3)
+        # What it had read whole by then was handed over to it: the server can't see whether it is printed.
+        missing, said = says_missing(server, 'where `roam ctl` is killed while nobody reads what it prints, the next one')
+        print('     ', 'counted as missing:' if missing else 'counted as taken:', said)
+
+
+@contextlib.contextmanager
+def foreign_server(path, answer):
+    """Somebody else's server, which gives this answer."""
+    with socket.socket(socket.AF_UNIX) as listener:
+        listener.bind(path)
+        listener.listen(8)
+
+        def serve():
+            while True:
+                try:
+                    one, _ = listener.accept()
+                except OSError:
+                    return
+                with one, contextlib.suppress(OSError):
+                    asked = b''
+                    while b'\r\n\r\n' not in asked and (part := one.recv(4096)):
+                        asked += part
+                    one.sendall(answer)
+        threading.Thread(target=serve, daemon=True).start()
+        yield
+        listener.close()
+    os.unlink(path)
+
+
+def ctl(program, path, *order):
+    return subprocess.run([program, 'ctl', path, *order], capture_output=True, timeout=30)
+
+
+def answer_cut(program, work):
+    """an answer that is cut"""
+    path = os.path.join(work, 'cut')
+    with foreign_server(path, b'HTTP/1.1 200 OK\r\nContent-Length: 1000\r\n\r\nhalf of it\n'):
+        cut = ctl(program, path, 'trace', '0')
+        want(cut.returncode == 1 and b'answer cut' in cut.stderr and cut.stdout == b'half of it\n', f'status {cut.returncode}: {cut.stderr}')
+    with foreign_server(path, b'HTTP/1.1 200 OK\r\n\r\nno length\n'):
+        cut = ctl(program, path, 'status')
+        want(cut.returncode == 1, f'without a length: status {cut.returncode}: {cut.stderr}')
+    with foreign_server(path, b'HTTP/1.1 200 OK\r\ncontent-type: text/plain\r\ncontent-length: 6\r\n\r\nwhole\n'):
+        whole = ctl(program, path, 'status')
+        want(whole.returncode == 0 and whole.stdout == b'whole\n', f'a whole one: status {whole.returncode}: {whole.stdout}')
+
+
+def answer_foreign(program, work):
+    """control characters of a foreign answer don't reach the terminal"""
+    path = os.path.join(work, 'foreign')
+    body = b'a\x1b]0;owned\x07b\x9b31mc\r\xc2\x9b0md\tend\n'
+    for status in (b'200 OK', b'409 Conflict'):
+        with foreign_server(path, b'HTTP/1.1 ' + status + b'\r\nContent-Length: %d\r\n\r\n' % len(body) + body):
+            got = ctl(program, path, 'status')
+            raw = [one for one in got.stdout + got.stderr if (one < 32 and one not in (9, 10)) or 126 < one < 160]
+            want(not raw and b'end' in got.stdout, f'{status.decode()}: {got.stdout}')
+
+
+def scrape_whole(program, work):
+    """idle connections, more than may be open, don't cut a scrape"""
+    with Server(program, work) as server:
+        want(server.waits(), 'it serves')
+        whole, cut, none, stop = 0, 0, 0, threading.Event()
+
+        def crowd():
+            while not stop.is_set():
+                some = []
+                for _ in range(20):
+                    with contextlib.suppress(OSError):
+                        some.append(socket.create_connection((HERE, METRICS), .2))
+                time.sleep(.02)
+                for one in some:
+                    one.close()
+        threading.Thread(target=crowd, daemon=True).start()
+        end = time.monotonic() + 10
+        while time.monotonic() < end:
+            # A connection that isn't even taken counts as none of these.
+            with contextlib.suppress(TimeoutError), socket.create_connection((HERE, METRICS), 3) as one:
+                text = b''
+                with contextlib.suppress(ConnectionError):
+                    one.sendall(b'GET /metrics HTTP/1.1\r\nHost: roam\r\nConnection: close\r\n\r\n')
+                    while part := one.recv(4096):
+                        text += part
+                head, _, body = text.partition(b'\r\n\r\n')
+                lengths = [int(line.split(b':')[1]) for line in head.lower().split(b'\r\n') if line.startswith(b'content-length')]
+                whole += lengths == [len(body)]
+                none += not text
+                cut += bool(text) and lengths != [len(body)]
+        stop.set()
+        want(whole > 5 and cut == 0 and none * 100 <= whole, f'{whole} scrapes are whole, {cut} are cut, {none} made way before a word')
+
+
+CASES = [log_terminal, log_pipe, log_full, log_dead, log_again, control_file, control_foreign, control_left, control_two,
+         descriptors_none, descriptors_count, trace_slow, trace_killed, answer_cut, answer_foreign, scrape_whole]
+
+
+def main():
+    names = {case.__name__: case for case in CASES}
+    if sys.argv[2:] == ['help']:
+        for name, case in names.items():
+            print(f'{name:18} {case.__doc__}')
+        return 0
+    if len(sys.argv) < 2 or not os.access(sys.argv[1], os.X_OK) or not set(sys.argv[2:]) <= set(names):
+        print('usage: try-faults.py PROGRAM [CASE ..], where a CASE is one of', *names, file=sys.stderr)
+        return 2
+    Home().start()
+    for name in sys.argv[2:] or names:
+        print(f'{name}: {names[name].__doc__}', flush=True)
+        with tempfile.TemporaryDirectory() as work:
+            try:
+                names[name](os.path.realpath(sys.argv[1]), work)
+            except (OSError, ValueError, IndexError, subprocess.SubprocessError) as error:
+                want(False, f'{type(error).__name__}: {error}')
+    print('ok' if not BAD else f'BAD: {len(BAD)}')
+    return 1 if BAD else 0
+
+
+if __name__ == '__main__':
+    sys.exit(main())

@@ -1,0 +1,106 @@
+#!/usr/bin/env python3
+"""Writes docs/CLAIMS.md from what the crates' heads say is proved of them, in the order of docs/claims.txt.
+
+    tools/claims.py            writes the page
+    tools/claims.py --check    says what is wrong, or that the page is what the sources give; ends with 1 where something is
+
+In the head of a crate's lib.rt (main.rt, of a program) stands, behind "//! # Proved", a list of what is proved of it:
+
+    //! - the claim, in words | `function`: `clause`, `clause`; the law `name`
+
+Wrong is a page that isn't this, a crate with such a list that docs/claims.txt doesn't name, and a name behind the bar that is no
+function, type, clause, field or definition of the product.
+"""
+import pathlib
+import re
+import sys
+
+ROOT = pathlib.Path(__file__).resolve().parent.parent
+PAGE = ROOT / "docs" / "CLAIMS.md"
+ORDER = ROOT / "docs" / "claims.txt"
+MARK = "<!-- Made by tools/claims.py from the heads of the crates (lib.rt) and docs/claims.txt: change those. -->\n"
+
+
+def head_of(crate: pathlib.Path) -> list[tuple[str, str]]:
+    """What a crate's head says is proved, and where."""
+    path = next(it for it in (crate / "src" / "lib.rt", crate / "src" / "main.rt") if it.exists())
+    rows: list[str] = []
+    is_in = False
+    for line in path.read_text(encoding="utf-8").split("\n"):
+        if not line.startswith("//!"):
+            break
+        text = line[3:].strip()
+        if text == "# Proved":
+            is_in = True
+        elif is_in and text.startswith("- "):
+            rows.append(text[2:])
+        elif is_in and text:
+            rows[-1] += " " + text
+    return [(claim, where) for claim, _, where in (row.partition(" | ") for row in rows)]
+
+
+def names_of_product() -> set[str]:
+    """Functions, types, clauses, fields and definitions of all crates."""
+    names: set[str] = set()
+    for path in ROOT.glob("crates/*/src/**/*.rt"):
+        text = path.read_text(encoding="utf-8")
+        names |= set(re.findall(r"\b(?:fn|struct|enum|trait|type|const|ensures|requires|ghost|mod) ([A-Za-z_0-9]+)", text))
+        names |= set(re.findall(r"^\s+(?:pub )?([A-Za-z_0-9]+)(?::|,$| \{)", text, re.M))
+    for path in ROOT.glob("crates/*/specs/**/*.antt"):
+        names |= set(re.findall(r"\bpub (?:record |data )?([A-Za-z_][A-Za-z0-9_'-]*)", path.read_text(encoding="utf-8")))
+    return names
+
+
+def crates() -> list[pathlib.Path]:
+    return sorted(it.parent for it in ROOT.glob("crates/*/src") if not it.parent.name.startswith(("test_", "bench_")))
+
+
+def written() -> str:
+    """The page."""
+    page = [MARK]
+    for line in ORDER.read_text(encoding="utf-8").split("\n"):
+        if line.startswith(">"):
+            page.append(line[1:].removeprefix(" "))
+        elif line.startswith("### "):
+            page.append(f"\n{line}\n\n| crate | theorem | where |\n|---|---|---|")
+        elif line and not line.startswith("#"):
+            for name in line.split():
+                for place, (claim, where) in enumerate(head_of(ROOT / "crates" / name)):
+                    page.append(f"| {f'`{name}`' if place == 0 else ''} | {claim} | {where} |".replace("|  |", "| |"))
+    return re.sub(r"\n{3,}", "\n\n", "\n".join(page)).rstrip("\n") + "\n"
+
+
+def faults() -> list[str]:
+    """What is wrong with the heads."""
+    said = []
+    named = set(re.findall(r"\w+", "\n".join(it for it in ORDER.read_text(encoding="utf-8").split("\n") if not it.startswith((">", "#")))))
+    names = names_of_product() | {it.name for it in ROOT.glob("crates/*")} | {"Display"}
+    for crate in crates():
+        rows = head_of(crate)
+        if bool(rows) != (crate.name in named):
+            said.append(f"docs/claims.txt and the head of {crate.name} don't agree whether it has claims")
+        for claim, where in rows:
+            if not where:
+                said.append(f"{crate.name}: without a place: {claim}")
+            for quoted in re.findall(r"`([^`]+)`", where):
+                if re.fullmatch(r"[A-Za-z_:]+", quoted) and not set(quoted.split("::")) <= names:
+                    said.append(f"{crate.name}: {quoted} isn't there: {claim[:60]}")
+    return said
+
+
+def main() -> int:
+    if sys.argv[1:] == ["--check"]:
+        said = faults()
+        if not PAGE.exists() or PAGE.read_text(encoding="utf-8") != written():
+            said.append("docs/CLAIMS.md isn't what the sources give: run tools/claims.py")
+        print("\n".join(said) or "the claims' page is what the sources give")
+        return int(bool(said))
+    if sys.argv[1:]:
+        print(__doc__, file=sys.stderr)
+        return 2
+    PAGE.write_text(written(), encoding="utf-8")
+    return 0
+
+
+if __name__ == "__main__":
+    sys.exit(main())

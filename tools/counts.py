@@ -1,0 +1,66 @@
+#!/usr/bin/env python3
+"""Looks whether the counts on the pages are those of the sources.
+
+    tools/counts.py     says each that isn't, with its page and line; ends with 1 where there is one
+
+COUNTS has what a page may count, as it is written, and how it is counted here. Other numbers of things that grow don't belong on pages.
+"""
+import importlib.util
+import pathlib
+import re
+import sys
+
+ROOT = pathlib.Path(__file__).resolve().parent.parent
+
+
+def lines_that_begin(*words: str) -> int:
+    """How many lines of the rows begin so."""
+    found = 0
+    for folder in ("rows", "random"):
+        for path in (ROOT / "crates" / "test_rows" / "data" / folder).iterdir():
+            found += sum(line.startswith(words) for line in path.read_text(encoding="utf-8").split("\n"))
+    return found
+
+
+def diagnosed() -> int:
+    """How many mistakes the trial of diagnoses makes."""
+    path = next(ROOT.glob("packaging/**/try-diagnoses.py"))
+    spec = importlib.util.spec_from_file_location("diagnoses", path)
+    module = importlib.util.module_from_spec(spec)
+    sys.dont_write_bytecode = True
+    spec.loader.exec_module(module)
+    return len(module.MISTAKES)
+
+
+def crates() -> int:
+    return sum(":" in line for line in (ROOT / "crates.txt").read_text(encoding="utf-8").split("\n") if not line.startswith("#"))
+
+
+COUNTS = {
+    r"([\d,]+) rows of\s+events": lambda: lines_that_begin("#@ "),
+    r"([\d,]+) mutated\s+datagrams": lambda: lines_that_begin("# mutated"),
+    r"(\d+) mistakes(?= in a sample| \(`packaging)|(?<=Makes )(\d+) mistakes": diagnosed,
+    r"(\d+) crates\b": crates,
+    r"(\d+) (?:must-fail )?edits\b": lambda: len(list(ROOT.glob("crates/*/must-fail/*.edit"))),
+    r"(\d+) planted mistakes\b": lambda: len(list(ROOT.glob("mistakes/*/*.edit"))),
+    r"all (\d+) refusals|table of all (\d+)\b": lambda: len(re.findall(r"^    [A-Z][A-Za-z]+,$", (
+        ROOT / "crates" / "roam_wire" / "src" / "refusal.rt").read_text(encoding="utf-8").split("pub enum Refusal {")[1].split("}")[0], re.M)),
+}
+
+
+def main() -> int:
+    said, known = [], {}
+    pages = [ROOT / "README.md", *sorted((ROOT / "docs").glob("*.md")), *ROOT.glob("*/README.md"), *ROOT.glob("packaging/**/try-*")]
+    for page in pages:
+        text = page.read_text(encoding="utf-8")
+        for pattern, count in COUNTS.items():
+            for found in re.finditer(pattern, text):
+                number = int(next(it for it in found.groups() if it).replace(",", ""))
+                if known.setdefault(pattern, count()) != number:
+                    said.append(f"{page.relative_to(ROOT)}:{text.count(chr(10), 0, found.start()) + 1}: {found.group(0)!r}: there are {known[pattern]}")
+    print("\n".join(said) or "the counts on the pages are those of the sources")
+    return int(bool(said))
+
+
+if __name__ == "__main__":
+    sys.exit(main())

@@ -1,0 +1,141 @@
+#!/usr/bin/env python3
+"""Reads the processor minutes of each crate while a command proves and tests, and keeps them for the pages.
+
+    tools/minutes.py run FILE CMD ..    runs CMD, and writes into FILE a line for each crate; ends with CMD's status
+    tools/minutes.py take FILE          takes such lines over, of that file or of what .ci/run printed, into docs/minutes.txt, and
+                                        writes the table of docs/CONTRIBUTING.md anew
+    tools/minutes.py --check            says whether that table is what docs/minutes.txt gives; ends with 1 if not
+
+Each second it looks at the processes below CMD: what they took so far, for which crate (`--crate-name`), and what for: proof, tests,
+edits (a proof in a folder of its own), or a program that runs. What a process takes in its last second isn't seen.
+"""
+import collections
+import datetime
+import os
+import pathlib
+import re
+import subprocess
+import sys
+import time
+
+ROOT = pathlib.Path(__file__).resolve().parent.parent
+KEPT = ROOT / "docs" / "minutes.txt"
+PAGE = ROOT / "docs" / "CONTRIBUTING.md"
+BEGIN, END = "<!-- minutes: made by tools/minutes.py -->\n", "<!-- minutes: end -->\n"
+KINDS = ("proof", "tests", "edits", "runs")
+LINE = re.compile(r"^minutes of (\w+): proof ([\d.]+), tests ([\d.]+), edits ([\d.]+), runs ([\d.]+)$", re.M)
+TICKS = os.sysconf("SC_CLK_TCK")
+
+
+def below(process: int) -> list[int]:
+    """A process and all that stand below it."""
+    children = collections.defaultdict(list)
+    for entry in os.listdir("/proc"):
+        if entry.isdigit():
+            try:
+                parent = int(pathlib.Path("/proc", entry, "stat").read_text().rsplit(")", 1)[1].split()[1])
+            except (OSError, IndexError):
+                continue
+            children[parent].append(int(entry))
+    found = [process]
+    for it in found:
+        found += children[it]
+    return found
+
+
+def crate_and_kind(process: int) -> tuple[str, str] | None:
+    """For which crate a process works, and what for."""
+    words = pathlib.Path("/proc", str(process), "cmdline").read_bytes().decode(errors="replace").split("\0")
+    if "--crate-name" in words:
+        crate = words[words.index("--crate-name") + 1].removesuffix("_tests")
+        at_home = os.readlink(f"/proc/{process}/cwd") == str(ROOT / "crates" / crate)
+        return crate, "tests" if "--test" in words else "proof" if at_home else "edits"
+    ran = re.search(r"(\w+)$", os.readlink(f"/proc/{process}/exe").removesuffix(" (deleted)").removesuffix(".by-rattle"))
+    name = ran.group(1).removesuffix("_tests") if ran else ""
+    return (name, "runs") if (ROOT / "crates" / name).is_dir() and name else None
+
+
+def look(process: int, seen: dict[tuple[int, str], tuple[tuple[str, str], float]]) -> None:
+    """Notes what each process below one has taken so far."""
+    for it in below(process):
+        try:
+            fields = pathlib.Path("/proc", str(it), "stat").read_text().rsplit(")", 1)[1].split()
+            what = crate_and_kind(it)
+        except (OSError, IndexError):
+            continue
+        if what:
+            seen[it, fields[19]] = (what, (int(fields[11]) + int(fields[12])) / TICKS)
+
+
+def run(file: str, words: list[str]) -> int:
+    """Runs a command, and writes the minutes of each crate."""
+    seen: dict[tuple[int, str], tuple[tuple[str, str], float]] = {}
+    started = subprocess.Popen(words)
+    while started.poll() is None:
+        try:
+            look(started.pid, seen)
+        except (OSError, ValueError):
+            pass                        # a process that ended while it was looked at: the next look has the others
+        time.sleep(1)
+    minutes: dict[str, dict[str, float]] = {}
+    for (crate, kind), seconds in seen.values():
+        of = minutes.setdefault(crate, dict.fromkeys(KINDS, 0.0))
+        of[kind] += seconds / 60
+    pathlib.Path(file).write_text(lines_of(minutes), encoding="utf-8")
+    return started.returncode if started.returncode >= 0 else 128 - started.returncode
+
+
+def lines_of(minutes: dict[str, dict[str, float]]) -> str:
+    return "".join(f"minutes of {crate}: " + ", ".join(f"{kind} {of[kind]:.1f}" for kind in KINDS) + "\n"
+                   for crate, of in sorted(minutes.items(), key=lambda it: -sum(it[1].values())))
+
+
+def read(text: str) -> dict[str, dict[str, float]]:
+    """The minutes that a text has, by crate."""
+    return {found[0]: dict(zip(KINDS, map(float, found[1:]))) for found in LINE.findall(text)}
+
+
+def table() -> str:
+    """The table of the page: what takes longest of each kind, and what the others take together."""
+    text = KEPT.read_text(encoding="utf-8")
+    minutes, rows = read(text), []
+    names = {"proof": "proofs", "tests": "tests, proved", "edits": "must-fail edits", "runs": "programs and tests, run"}
+    for kind in KINDS:
+        of = sorted(((each[kind], crate) for crate, each in minutes.items() if each[kind] > 0), reverse=True)
+        long = [(taken, crate) for taken, crate in of if taken >= 2]
+        said = ", ".join(f"`{crate}` {taken:.1f}" for taken, crate in long)
+        rest = sum(taken for taken, _ in of) - sum(taken for taken, _ in long)
+        if of:
+            rows.append(f"| {names[kind]} | {sum(taken for taken, _ in of):.0f} | {said}{', ' if said else ''}all others together {rest:.0f} |")
+    whole = sum(sum(each.values()) for each in minutes.values())
+    return (f"{text.splitlines()[0].lstrip('# ')} In all {whole:.0f} processor minutes.\n\n"
+            "| | minutes | |\n|---|---|---|\n" + "\n".join(rows) + "\n")
+
+
+def page() -> str:
+    text = PAGE.read_text(encoding="utf-8")
+    return text.split(BEGIN)[0] + BEGIN + table() + END + text.split(END)[1]
+
+
+def main() -> int:
+    words = sys.argv[1:]
+    if len(words) >= 3 and words[0] == "run":
+        return run(words[1], words[2:])
+    if len(words) == 2 and words[0] == "take":
+        minutes = read(pathlib.Path(words[1]).read_text(encoding="utf-8"))
+        if not minutes:
+            print(f"{words[1]} has no minutes of crates", file=sys.stderr)
+            return 1
+        KEPT.write_text(f"# Read on {datetime.date.today()} by tools/minutes.py.\n" + lines_of(minutes), encoding="utf-8")
+        PAGE.write_text(page(), encoding="utf-8")
+        return 0
+    if words == ["--check"]:
+        same = PAGE.read_text(encoding="utf-8") == page()
+        print("the table of minutes is what docs/minutes.txt gives" if same else "docs/CONTRIBUTING.md: run tools/minutes.py take docs/minutes.txt")
+        return int(not same)
+    print(__doc__, file=sys.stderr)
+    return 2
+
+
+if __name__ == "__main__":
+    sys.exit(main())
