@@ -55,6 +55,7 @@ def roam(directory, options, realms, shards):
             f"hold = {options.hold}",
             f"max_pending = {options.max_pending}",
             f"max_sessions = {options.max_sessions}",
+            "rest = 0",
             "\n[[realm.server]]",
             f'auth = "{HERE}:{home_auth(base, realm)}"',
             f'acct = "{HERE}:{home_acct(base, realm)}"',

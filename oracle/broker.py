@@ -34,15 +34,24 @@ def endpoint(text):
     return (ip, int(port))
 
 
+# What a realm's keys have where they aren't written.
+UNSAID = {"tries": 3, "wait": 2000, "hold": 10000, "max_pending": 4096, "rest": 30000, "rest_after": 3}
+
+
+def with_unsaid(realm):
+    """A realm's table with all keys that have a value where they aren't written."""
+    return UNSAID | {"max_sessions": 20000 if "reverse" in realm else 0} | realm
+
+
 class Config:
     def __init__(self, content):
         document = tomllib.loads(content)
-        self.shards = document["shards"]
-        self.seed = bytes.fromhex(document["seed"])
+        self.shards = document.get("shards", 1)
+        self.seed = bytes.fromhex(document.get("seed", "0" * 64))
         self.max_hops = document.get("max_hops")
         self.status_server = document.get("status_server", False)
         self.peers = document["peer"]
-        self.realms = document["realm"]
+        self.realms = [with_unsaid(realm) for realm in document["realm"]]
         for realm in self.realms:
             for server in realm["server"]:
                 server["links"] = {k: endpoint(server[k]) for k in ("auth", "acct")}
@@ -81,7 +90,9 @@ class Config:
         return None
 
     def home_of(self, realm, ip):
-        """The first home server of the realm with that address."""
+        """The first home server of the realm with that address, where the realm takes Disconnect and CoA."""
+        if "reverse" not in self.realms[realm]:
+            return None
         for server in self.realms[realm]["server"]:
             if ip in (server["links"]["auth"][0], server["links"]["acct"][0]):
                 return server
@@ -163,7 +174,7 @@ class Realm:
 
     def __init__(self, config, index):
         self.config, self.index, self.table = config, index, config.realms[index]
-        self.rest = self.table.get("rest", 0)
+        self.rest = self.table["rest"]
         self.entries = []
         self.ticket = self.built = 0
         self.cursors = {}
@@ -212,7 +223,7 @@ class Realm:
         if link[0] == "coa" or self.rest == 0:
             return
         self.given_up[link] = min(self.given_up.get(link, 0) + 1, MOST_GIVEN_UP)
-        if self.given_up[link] >= self.table.get("rest_after", 1):
+        if self.given_up[link] >= self.table["rest_after"]:
             self.rests[link] = now + self.rest
 
     def is_answered(self, link):

@@ -75,6 +75,30 @@ secret = "{secret}"
 '''
 
 
+LEAST = '''auth = "127.0.0.1:1812"
+acct = "127.0.0.1:1813"
+
+[[peer]]
+name = "nas1"
+ip = "192.0.2.1"
+secret = "xyzzy5461"
+
+[[realm]]
+name = "a.example"
+out = "127.0.0.1:2000"
+
+[[realm.server]]
+auth = "198.51.100.1:1812"
+acct = "198.51.100.1:1813"
+secret = "h1"
+
+[[realm.server]]
+auth = "198.51.100.2:1812"
+acct = "198.51.100.2:1813"
+secret = "h2"
+'''
+
+
 def stated(**keys):
     """The lines of those keys that have a value."""
     values = {name: json.dumps(value) for name, value in keys.items() if value is not None}
@@ -94,12 +118,13 @@ def servers(count):
 
 
 def realm(name, servers, tries=2, wait=1000, hold=5000, max_pending=300, max_sessions=100,
-          also=None, rest=None, rest_after=None):
-    """A realm as a function of its index."""
+          also=None, rest=0, rest_after=None):
+    """A realm as a function of its index. Where it isn't said its servers don't rest, or rest after one silence."""
     def table(index):
         text = REALM.format(name=name, out=2000 + index, reverse=3000 + index, tries=tries, wait=wait,
                             hold=hold, max_pending=max_pending, max_sessions=max_sessions)
-        return text + stated(also=also, rest=rest, rest_after=rest_after) + "".join(servers)
+        after = 1 if rest and rest_after is None else rest_after
+        return text + stated(also=also, rest=rest, rest_after=after) + "".join(servers)
     return table
 
 
@@ -203,6 +228,8 @@ CONFIGURATIONS = {
     "status-server": configuration(realm("a.example", servers(1)), status_server=True),
     "status-server-and-one-hop": configuration(
         realm("a.example", servers(1)), peers=(NAS1 + "require_seal = false\n",), max_hops=1, status_server=True),
+    # What has to be written, and no more.
+    "least": LEAST,
     "rest": resting(2),
     "rest-of-no-time": resting(2, rest=0),
     "rest-and-one-place": resting(2, max_pending=1),

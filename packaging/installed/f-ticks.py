@@ -21,7 +21,7 @@ import sys
 
 # What a user chose stands between quotation marks alone: before the first one there is none of it. So the line's own words
 # are looked for there, and whatever a User-Name says is read as a value.
-LINE = re.compile(r'(?:[^"]*\] )?exchange result=(accept|reject) request=access (.*)')
+LINE = re.compile(r'(?:[^"]*INFO )?exchange result=(accept|reject) request=access (.*)')
 PAIR = re.compile(r'(\w+)=(?:"((?:[^"\\]|\\x[0-9a-f]{2})*)"|([^\s"]+))(?:\s+|$)')
 MAC = re.compile(rb'[0-9A-Fa-f]{2}(?:[-:.]?[0-9A-Fa-f]{2}){5}')
 

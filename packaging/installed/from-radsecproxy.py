@@ -197,11 +197,11 @@ class Conversion:
         hides_users = (top.get("logfullusername") or "on").lower() == "off"
         hides_stations = (top.get("logmac") or "original").lower() != "original"
         if hides_users or hides_stations:
-            out.put("# No line tells of an exchange, for it would have the user and the station.", "log_exchanges = false")
+            out.put("# No line tells of an exchange, for it would have the user and the station.", "log_exchanges = \"none\"")
             if (top.get("fticksreporting") or "none").lower() != "none":
-                out.change("F-Ticks are made of the lines of exchanges, and those are off: `log_exchanges = true` has them")
+                out.change('F-Ticks are made of the lines of exchanges, and those are off: `log_exchanges = "final"` has them')
         else:
-            out.change("each exchange that ends is logged with its user and station: `log_exchanges = false` ends that")
+            out.change('each exchange that ends is logged with its user and station: `log_exchanges = "none"` ends that')
 
     # Clients
 

@@ -44,7 +44,7 @@ def conf(broker, service, sources):
         print(f'\n[[peer]]\nname = "nas{number}"\nip = "{ip}"\nsecret = "{SECRET.decode()}"')
         print(f'coa = "{ip}:{COA}"\nnas_id = "nas{number}"')
     print(f'\n[[realm]]\nname = "{REALM}"\nout = "{broker}:{OUT}"\nreverse = "{broker}:{REVERSE}"')
-    print("tries = 2\nwait = 1000\nhold = 5000\nmax_pending = 1000\nmax_sessions = 1000")
+    print("tries = 2\nwait = 1000\nhold = 5000\nmax_pending = 1000\nmax_sessions = 1000\nrest = 0")
     print(f'\n[[realm.server]]\nauth = "{HOME}:1812"\nacct = "{HOME}:1813"')
     print(f'secret = "{HOME_SECRET.decode()}"')
 

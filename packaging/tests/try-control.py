@@ -49,6 +49,7 @@ wait = 2000
 hold = 5000
 max_pending = 4096
 max_sessions = 100
+rest = 0
 
 [[realm.server]]
 auth = "127.0.0.1:{3}"
@@ -210,12 +211,21 @@ def asks(server, method, path):
 def try_status(server, sent):
     answer = server.ctl('status')
     want(answer.returncode == 0 and 'realms 4 peers 1 shards 2' in answer.stdout, 'status as text')
-    line = f'realm a.example: requests {sent} forwarded {sent} sent again 0 failed over 0 given up 0 duplicates 0 replies {sent} returned {sent} refused 0'
-    want(line in answer.stdout, line)
+    rows = [line.split() for line in answer.stdout.splitlines()]
+    heads, realm = ([row for row in rows if row[:1] == [word]][0] for word in ('REALM', 'a.example'))
+    want(heads[4:7] == ['REQUESTS', 'FORWARDED', 'RETURNED'] and realm[1:4] == ['0', 'of', '4096'] and realm[5:] == ['0', 'of', '100'] + [str(sent)] * 3 + ['0'] * 3,
+         f'of a realm {sent} requests that came, were forwarded and returned')
+    want(len({len(line) for line in answer.stdout.splitlines() if line.startswith('  ') and '.example' in line and '127' not in line}) == 1, 'in columns')
+    auth, acct = ([row for row in rows if row[:3] == [word, f'{HOME[0]}:{HOME[1] + more}', 'a.example']][0] for word, more in (('auth', 0), ('acct', 10)))
+    want(auth[3] == 'answers' and auth[7] == str(sent) and acct[3:5] == ['never', 'asked'], 'of its home server that it answers')
+    want(['nas1', '127.0.0.1', str(sent), str(sent), str(sent), '0', '0', '0'] in rows, 'of the peer its address')
     status, body = asks(server, 'GET', '/status.json')
     told = json.loads(body)
+    same = subprocess.run([server.program, 'ctl', server.path, 'status', '--json'], capture_output=True, text=True, timeout=60)
+    want(same.returncode == 0 and json.loads(same.stdout)['realms'] == told['realms'], '`--json` prints the same as JSON')
     want(status == 200 and told['realms'][0]['requests'] == sent and told['realms'][0]['servers'][0]['replies'] == sent
-         and told['peers'][0]['name'] == 'nas1' and told['shards'] == 2, 'status as JSON')
+         and told['peers'][0]['name'] == 'nas1' and told['shards'] == 2 and told['realms'][0]['servers'][0]['auth']['stands'] == 'answers'
+         and told['realms'][0]['max_pending'] == 4096 and abs(told['began'] + told['seconds'] - time.time()) < 5, 'status as JSON')
     metrics = server.ctl('metrics').stdout
     want(f'roam_realm_requests_total{{realm="a.example",code="access_request",}} {sent}' in metrics, 'metrics')
     want(all(f'roam_realm_sessions{{realm="{name}.example",}} 0' in metrics for name in 'abcd'), 'and how each realm of each shard stands')
@@ -255,6 +265,20 @@ def try_hostile(server, access):
     want(server.ctl('status').returncode == 0, 'nor `roam ctl`')
     for one in idle + [slow, long]:
         one.close()
+
+
+def try_watch(server):
+    """Of a server that is stopped meanwhile."""
+    watch = subprocess.Popen([server.program, 'ctl', server.path, 'status', '--watch'], stdout=subprocess.PIPE, text=True)
+    time.sleep(3.5)
+    want(watch.poll() is None, '`--watch` goes on')
+    return watch
+
+
+def end_watch(watch):
+    shown = watch.communicate(timeout=30)[0].split('\x1b[H\x1b[2J')
+    want(watch.returncode == 0 and len(shown) > 3 and all('serves for' in one for one in shown) and shown[-1].endswith('no answer any more\n'),
+         f'and showed {len(shown)} times how it stands, and that it answers no more')
 
 
 def try_stop(server, homes, rate):
@@ -310,7 +334,9 @@ def main():
         want(access.answered == 200, '200 requests are answered')
         try_status(server, 200)
         try_hostile(server, access)
+        watch = try_watch(server)
         try_stop(server, homes, rate)
+        end_watch(watch)
 
 
 if __name__ == '__main__':

@@ -425,7 +425,7 @@ def main():
     assert [server["acct"] for server in conf["realm"][0]["server"]] == ["198.51.100.17:1813", "198.51.100.18:11813"]
     look_over("five-hundred.conf", five_hundred(), 100, 500, [], [], roam)
     private = look_over("private.conf", "LogFullUsername off\n" + five_hundred(), 100, 500, [], [], roam)
-    assert private["log_exchanges"] is False
+    assert private["log_exchanges"] == "none"
     named = five_hundred().replace("host 192.0.2.100", "host localhost")
     look_over("named.conf", named, 99, 500, [("Not carried over", "localhost is a name")], ["client nas100"], roam)
 

@@ -1,7 +1,7 @@
 #!/usr/bin/env python3
 """try-diagnoses.py PROGRAM [--table]
 
-Makes 119 mistakes in samples/visited-network.conf, one at a time, and runs `PROGRAM check` on each. The diagnosis
+Makes 117 mistakes in samples/visited-network.conf, one at a time, and runs `PROGRAM check` on each. The diagnosis
 must name the fault, and the line, the table and the key where the mistake was made, and what is wrong with it. No
 output may hold a secret of the file. --table prints a row for each.
 """
@@ -27,6 +27,11 @@ class Sample:
     def __init__(self):
         with open(SAMPLE) as file:
             self.lines = file.read().splitlines()
+        for key, text in UNSAID_AT_THE_TOP.items():
+            self.put(TOP, key, text)
+        for nth in (0, 1):
+            for key, text in UNSAID.items():
+                self.put(REALM, key, text, nth)
 
     def header(self, header, nth=0):
         """The index of the line of the nth such header; of the document itself the first line."""
@@ -76,6 +81,9 @@ class Sample:
 
 
 TOP, ONE_PEER, REALM, SERVER = None, "[[peer]]", "[[realm]]", "[[realm.server]]"
+# What the sample leaves to the defaults, and a mistake may be made in.
+UNSAID_AT_THE_TOP = {"shards": "1", "seed": '"' + "0" * 64 + '"'}
+UNSAID = {"tries": "3", "wait": "2000", "rest": "30000", "rest_after": "3", "hold": "10000"}
 NAMES = {TOP: "", ONE_PEER: PEER + ": "}
 
 
@@ -90,7 +98,7 @@ def table(header, nth):
 
 def at(number):
     """The beginning of a line about the line of that number."""
-    return f"line {number}: " if number else ""
+    return f"PATH:{number}: " if number else "PATH: "
 
 
 def value(header, key, text, wrong, nth=0):
@@ -105,7 +113,7 @@ def named(header, text, wrong, shown, nth=0):
     """A mistake: a bad name, by which the table is named too."""
     def make(sample):
         number = sample.put(header, "name", text, nth)
-        return "BadValue", [f"line {number}: {shown}: name: {wrong}"]
+        return "BadValue", [f"PATH:{number}: {shown}: name: {wrong}"]
     return f"{header.strip('[]')}: name = {text}"[:70], make
 
 
@@ -113,7 +121,7 @@ def unknown(header, key, kind, nth=0):
     """A mistake: a key that the table doesn't have."""
     def make(sample):
         number = sample.put(header, key, '"x"', nth)
-        return "BadValue", [f"line {number}: {table(header, nth)}{key}: is no key of {kind}"]
+        return "BadValue", [f"PATH:{number}: {table(header, nth)}{key}: is no key of {kind}"]
     return f"{(header or 'top').strip('[]')}: {key}", make
 
 
@@ -143,17 +151,17 @@ def twice(fault, header, key, nth, first):
         text = sample.lines[i].split(" = ", 1)[1]
         number = sample.put(header, key, text, nth)
         i = sample.key(other_header, other_key, other_nth)
-        return fault, [f"line {number}: {table(header, nth)}{key}: {text} stands also in line {i + 1}: "
+        return fault, [f"PATH:{number}: {table(header, nth)}{key}: {text} stands also in line {i + 1}: "
                        f"{table(other_header, other_nth)}{other_key}"]
     return f"{fault}: {(header or 'top').strip('[]')} {key} as {(first[0] or 'top').strip('[]')} {first[1]}", make
 
 
-def syntax(name, header, key, text, column, nth=0):
-    """A mistake: a line that isn't TOML."""
+def syntax(name, header, key, text, column, nth=0, wanted=""):
+    """A mistake: a line that isn't TOML; and what is wanted there."""
     def make(sample):
         i = sample.key(header, key, nth)
         sample.lines[i] = text
-        return "Syntax", [f"line {i + 1}, column {column}: "]
+        return "Syntax", [(f"PATH:{i + 1}:{column}: ", wanted)]
     return f"Syntax: {name}", make
 
 
@@ -176,7 +184,7 @@ def many_peers(sample):
     for n in range(1024):
         sample.add(PEER_TEXT.format(name=f"p{n}", ip=f"10.0.{n // 256}.{n % 256}"))
     number = sample.header(ONE_PEER) + 1
-    return "BadValue", [f"line {number}: peer: an array of 1025 is no array of 1..1024 tables"]
+    return "BadValue", [f"PATH:{number}: peer: an array of 1025 is no array of 1..1024 tables"]
 
 
 def many_realms(sample):
@@ -184,7 +192,7 @@ def many_realms(sample):
     number = sample.header(REALM) + 1
     for n in range(1023):
         sample.add(REALM_TEXT.format(n=n, out=21000 + n))
-    return "BadValue", [f"line {number}: realm: an array of 1025 is no array of 1..1024 tables"]
+    return "BadValue", [f"PATH:{number}: realm: an array of 1025 is no array of 1..1024 tables"]
 
 
 def one_of_many(sample):
@@ -194,7 +202,7 @@ def one_of_many(sample):
         if n == 200:
             sample.lines[first + 4] = "wait = 5.0"
             number = first + 5
-    return "BadValue", [f'line {number}: realm "r200.example": wait: a float is not in 1..60000']
+    return "BadValue", [f'PATH:{number}: realm "r200.example": wait: a float is not in 1..60000']
 
 
 def many_servers(sample):
@@ -202,14 +210,14 @@ def many_servers(sample):
     number = sample.header(SERVER, 2) + 1
     for n in range(8):
         sample.add(SERVER_TEXT.format(n=n + 1))
-    return "BadValue", [f"line {number}: {COLLEGE}: server: an array of 9 is no array of 1..8 tables"]
+    return "BadValue", [f"PATH:{number}: {COLLEGE}: server: an array of 9 is no array of 1..8 tables"]
 
 
 def single_server(sample):
     """[realm.server] in place of [[realm.server]], once."""
     i = sample.header(SERVER, 2)
     sample.lines[i] = "[realm.server]"
-    return "BadValue", [f"line {i + 1}: {COLLEGE}: server: a table is no array of 1..8 tables"]
+    return "BadValue", [f"PATH:{i + 1}: {COLLEGE}: server: a table is no array of 1..8 tables: write [[realm.server]]"]
 
 
 def single_server_twice(sample):
@@ -217,62 +225,81 @@ def single_server_twice(sample):
     for i in (sample.header(SERVER, 0), sample.header(SERVER, 1)):
         sample.lines[i] = "[realm.server]"
     # The place is that of the second.
-    return "Syntax", [f"line {i + 1}, column "]
+    return "Syntax", [(f"PATH:{i + 1}:", "write [[realm.server]]")]
+
+
+def single_peer_twice(sample):
+    """[peer] twice."""
+    sample.lines[sample.header(ONE_PEER)] = "[peer]"
+    number = sample.add("[peer]")
+    return "Syntax", [(f"PATH:{number}:", "write [[peer]]")]
+
+
+def server_beside(sample):
+    """[[server]] beside the servers of the realms."""
+    number = sample.add("[[server]]")
+    return "BadValue", [(f"PATH:{number}: server: is no key of the top table", "write [[realm.server]]")]
+
+
+def no_name(sample):
+    """A realm without a name."""
+    del sample.lines[sample.key(REALM, "name", 1)]
+    return "Missing", [f"PATH:{sample.header(REALM, 1) + 1}: realm 2: name: is missing"]
 
 
 def server_above(sample):
     """[[server]] in place of [[realm.server]]."""
     for nth in (0, 0, 0):
         sample.lines[sample.header(SERVER, nth)] = "[[server]]"
-    return "Missing", [f"line {sample.header(REALM, 0) + 1}: {UNIVERSITY}: server: is missing",
-                       f"line {sample.header(REALM, 1) + 1}: {COLLEGE}: server: is missing"]
+    return "Missing", [f"PATH:{sample.header(REALM, 0) + 1}: {UNIVERSITY}: server: is missing",
+                       f"PATH:{sample.header(REALM, 1) + 1}: {COLLEGE}: server: is missing"]
 
 
 def no_server(sample):
     """A realm without servers."""
     i = sample.header(SERVER, 2)
     del sample.lines[i:]
-    return "Missing", [f"line {sample.header(REALM, 1) + 1}: {COLLEGE}: server: is missing"]
+    return "Missing", [f"PATH:{sample.header(REALM, 1) + 1}: {COLLEGE}: server: is missing"]
 
 
 def no_peer(sample):
     """No peer."""
     start = sample.header(ONE_PEER)
     del sample.lines[start:sample.end(ONE_PEER)]
-    return "Missing", ["peer: is missing"]
+    return "Missing", ["PATH: peer: is missing"]
 
 
 def nothing(sample):
     """An empty file."""
     sample.lines = []
-    return "Missing", [f"{key}: is missing" for key in ("shards", "seed", "auth", "acct", "trace_limit", "peer", "realm")]
+    return "Missing", [f"PATH: {key}: is missing" for key in ("auth", "acct", "peer", "realm")]
 
 
 def single_realm(sample):
     """[realm] in place of [[realm]]."""
     i = sample.header(REALM, 0)
     sample.lines[i] = "[realm]"
-    return "Syntax", ["line "]
+    return "Syntax", ["PATH:"]
 
 
 def key_twice(sample):
     """A key twice in a table."""
     i = sample.key(REALM, "wait", 1)
     sample.lines.insert(i + 1, "wait = 3000")
-    return "Syntax", [f"line {i + 2}, column "]
+    return "Syntax", [f"PATH:{i + 2}:"]
 
 
 def radsecproxy(sample):
     """A file of radsecproxy."""
     sample.lines = ["ListenUDP *:1812", "client a {", "    host 192.0.2.1", "}"]
-    return "Syntax", ["line 1, column "]
+    return "Syntax", ["PATH:1:"]
 
 
 def nul(sample):
     """An octet of 0."""
     i = sample.key(TOP, "shards")
     sample.lines[i] += "\0"
-    return "Syntax", [f"line {i + 1}, column "]
+    return "Syntax", [f"PATH:{i + 1}:"]
 
 
 def two_peers(key, text):
@@ -283,7 +310,7 @@ def two_peers(key, text):
         first = sample.key(ONE_PEER, key) + 1
         number = sample.add("\n".join(["[[peer]]", *(f"{k} = {v}" for k, v in texts.items())]))
         number += 1 + list(texts).index(key)
-        return "DuplicatePeer", [f"line {number}: peer {texts['name']}: {key}: {text} stands also in line {first}: "
+        return "DuplicatePeer", [f"PATH:{number}: peer {texts['name']}: {key}: {text} stands also in line {first}: "
                                  f"{PEER}: {key}"]
     return f"DuplicatePeer: {key}", make
 
@@ -292,7 +319,7 @@ def two_names(sample):
     """Two realms of one name, in other case."""
     first = sample.key(REALM, "name", 0) + 1
     number = sample.put(REALM, "name", '"UNIVERSITY.example"', 1)
-    return "DuplicateRealm", [f'line {number}: realm "UNIVERSITY.example": name: "UNIVERSITY.example" stands also in '
+    return "DuplicateRealm", [f'PATH:{number}: realm "UNIVERSITY.example": name: "UNIVERSITY.example" stands also in '
                               f"line {first}: {UNIVERSITY}: name"]
 
 
@@ -301,7 +328,7 @@ def name_and_also(sample):
     sample.put(REALM, "also", '["*.example", # all\n"university.EXAMPLE"]', 1)
     number = sample.key(REALM, "also", 1) + 1
     first = sample.key(REALM, "name", 0) + 1
-    return "DuplicateRealm", [f'line {number}: {COLLEGE}: also: "university.EXAMPLE" stands also in line {first}: '
+    return "DuplicateRealm", [f'PATH:{number}: {COLLEGE}: also: "university.EXAMPLE" stands also in line {first}: '
                               f"{UNIVERSITY}: name"]
 
 
@@ -309,13 +336,13 @@ def patterns(sample):
     """One pattern in two realms."""
     first = sample.put(REALM, "also", '["*.example", "*"]', 0)
     number = sample.put(REALM, "also", '["a.example", "*"]', 1)
-    return "DuplicateRealm", [f'line {number}: {COLLEGE}: also: "*" stands also in line {first}: {UNIVERSITY}: also']
+    return "DuplicateRealm", [f'PATH:{number}: {COLLEGE}: also: "*" stands also in line {first}: {UNIVERSITY}: also']
 
 
 def pattern_in_itself(sample):
     """One pattern twice in a realm."""
     number = sample.put(REALM, "also", '["*.example", "*.Example"]', 0)
-    return "DuplicateRealm", [f'line {number}: {UNIVERSITY}: also: "*.Example" stands also in line {number}: '
+    return "DuplicateRealm", [f'PATH:{number}: {UNIVERSITY}: also: "*.Example" stands also in line {number}: '
                               f"{UNIVERSITY}: also"]
 
 
@@ -323,14 +350,14 @@ def coa_twice(sample):
     """Two peers with one coa."""
     first = sample.key(ONE_PEER, "coa") + 1
     number = sample.add(PEER_TEXT.format(name="second", ip="192.0.2.9") + 'coa = "192.0.2.1:3799"') + 4
-    return "DuplicateLink", [f'line {number}: peer "second": coa: "192.0.2.1:3799" stands also in line {first}: {PEER}: coa']
+    return "DuplicateLink", [f'PATH:{number}: peer "second": coa: "192.0.2.1:3799" stands also in line {first}: {PEER}: coa']
 
 
 def coa_is_server(sample):
     """A peer's coa is a server's endpoint."""
     first = sample.put(ONE_PEER, "coa", '"198.51.100.17:1812"')
     number = sample.key(SERVER, "auth", 2) + 1
-    return "DuplicateLink", [f'line {number}: {COLLEGE}, server 1: auth: "198.51.100.17:1812" stands also in line {first}: '
+    return "DuplicateLink", [f'PATH:{number}: {COLLEGE}, server 1: auth: "198.51.100.17:1812" stands also in line {first}: '
                              f"{PEER}: coa"]
 
 
@@ -341,7 +368,7 @@ def several(sample):
                               (REALM, 1, ("tries", "wait", "rest", "rest_after", "hold", "max_pending"))):
         for key in keys:
             number = sample.put(header, key, "-1", nth)
-            lines.append(f"line {number}: {table(header, nth)}{key}: -1 is not in ")
+            lines.append(f"PATH:{number}: {table(header, nth)}{key}: -1 is not in ")
     return "BadValue", lines[:10]
 
 
@@ -349,7 +376,7 @@ def escaped(sample):
     """A name with what isn't printable."""
     number = sample.put(REALM, "name", r'"a\u001b[31m\u00e9\"\\"', 1)
     shown = r'"a\u{1b}[31m\u{e9}\"\\"'
-    return "BadValue", [f"line {number}: realm {shown}: name: {shown} {REALM_NAME}"]
+    return "BadValue", [f"PATH:{number}: realm {shown}: name: {shown} {REALM_NAME}"]
 
 
 def headers_in_texts(sample):
@@ -358,7 +385,7 @@ def headers_in_texts(sample):
     sample.put(REALM, "also", '[ # "]\n"b.example",\n]', 0)
     sample.put(ONE_PEER, "nas_id", '"""\n[[realm]]\nwait = 0\n"""')
     number = max(i for i, line in enumerate(sample.lines) if line == "wait = 0") + 1
-    return "BadValue", [f"line {number}: {COLLEGE}: wait: 0 is not in 1..60000"]
+    return "BadValue", [f"PATH:{number}: {COLLEGE}: wait: 0 is not in 1..60000"]
 
 
 def inline_tables(sample):
@@ -366,27 +393,27 @@ def inline_tables(sample):
     for nth in (1, 0):
         del sample.lines[sample.header(SERVER, nth):sample.end(SERVER, nth)]
     number = sample.put(REALM, "server", '[{auth = "198.51.100.1:1812", acct = "198.51.100.1", secret = "for tests only"}]', 0)
-    return "BadValue", [f'line {number}: {UNIVERSITY}, server 1: acct: "198.51.100.1" {ENDPOINT}']
+    return "BadValue", [f'PATH:{number}: {UNIVERSITY}, server 1: acct: "198.51.100.1" {ENDPOINT}']
 
 
 def marked(sample):
     """A mistake behind a byte order mark."""
     number = sample.put(TOP, "shards", "0")
     sample.lines[0] = "\ufeff" + sample.lines[0]
-    return "BadValue", [f"line {number}: shards: 0 is not in 1..64"]
+    return "BadValue", [f"PATH:{number}: shards: 0 is not in 1..64"]
 
 
 def marked_first(sample):
     """A mistake right behind a byte order mark."""
     sample.lines = ["\ufeffshards = 0", *(line for line in sample.lines if not line.startswith("shards"))]
-    return "BadValue", ["line 1: shards: 0 is not in 1..64"]
+    return "BadValue", ["PATH:1: shards: 0 is not in 1..64"]
 
 
 def carriage_returns(sample):
     """Lines that end with a carriage return and a line feed."""
     number = sample.put(REALM, "wait", "0", 1)
     sample.lines = [line + "\r" for line in sample.lines]
-    return "BadValue", [f"line {number}: {COLLEGE}: wait: 0 is not in 1..60000"]
+    return "BadValue", [f"PATH:{number}: {COLLEGE}: wait: 0 is not in 1..60000"]
 
 
 def spaces(sample):
@@ -395,7 +422,7 @@ def spaces(sample):
                     .replace("tries = ", "  'tries'\t= ") for line in sample.lines]
     number = next(i for i, line in enumerate(sample.lines) if "'tries'" in line) + 1
     sample.lines[number - 1] = "  'tries'\t= 11"
-    return "BadValue", [f"line {number}: {UNIVERSITY}: tries: 11 is not in 1..10"]
+    return "BadValue", [f"PATH:{number}: {UNIVERSITY}: tries: 11 is not in 1..10"]
 
 
 # Those of the review, and then others.
@@ -410,8 +437,7 @@ MISTAKES = [
     value(TOP, "acct", '"203.0.113.10"', '"203.0.113.10" ' + ENDPOINT),
     ("DuplicateRealm: names in other case", two_names),
     ("realm without a server", no_server),
-    missing(REALM, "wait", 1),
-    missing(REALM, "reverse", 0),
+    ("realm without a name", no_name),
     ("no peer", no_peer),
     ("empty file", nothing),
     ("[[server]]", server_above),
@@ -452,13 +478,18 @@ MISTAKES = [
     ("[realm.server] once", single_server),
     ("one of 256 realms", one_of_many),
     # Others.
-    *(missing(TOP, key) for key in ("shards", "seed", "auth", "acct", "trace_limit")),
+    *(missing(TOP, key) for key in ("auth", "acct")),
     *(missing(ONE_PEER, key) for key in ("name", "ip", "secret") if key != "name"),
-    *(missing(REALM, key, nth) for key, nth in (("out", 0), ("tries", 1), ("hold", 0), ("max_pending", 1),
-                                                 ("max_sessions", 0))),
+    missing(REALM, "out", 0),
     *(missing(SERVER, key, nth) for key, nth in (("auth", 0), ("acct", 1), ("secret", 2))),
-    misspelt(TOP, "trace_limit", "tracelimit", "the top table"),
-    misspelt(REALM, "max_pending", "max-pending", "a realm", 1),
+    unknown(TOP, "tracelimit", "the top table"),
+    unknown(REALM, "max-pending", "a realm", 1),
+    unknown(SERVER, "max_hops", "a server: it is one of the top table, so put it before the first table", 2),
+    syntax("True", ONE_PEER, "require_seal", "require_seal = True", 16, wanted="require_seal is true or false"),
+    syntax("2s", REALM, "wait", "wait = 2s", 9, 0, "wait is a whole number in 1..60000"),
+    syntax("backslash", SERVER, "secret", r'secret = "a\d"', 12, 0, "a backslash is itself between"),
+    ("[peer] twice", single_peer_twice),
+    ("[[server]] beside others", server_beside),
     misspelt(SERVER, "acct", "accounting", "a server", 1),
     unknown(TOP, "max_hop", "the top table"),
     unknown(REALM, "require_seal", "a realm", 0),
@@ -520,8 +551,11 @@ def faults_of(told, path, fault, wanted):
     lines = told.splitlines()
     if not lines or lines[0] != f"roam: {path}: {fault}":
         return [f"first line isn't {fault}"]
-    found = [line for line in lines[1:] if re.fullmatch(r"  [ -~]+", line)]
-    faults = [f"no line {line!r}" for line in wanted if not any(l.startswith("  " + line) for l in found)]
+    found = [line for line in lines[1:] if re.fullmatch(r"[ -~]+", line) and line.startswith(path + ":")]
+    pairs = [line if isinstance(line, tuple) else (line, "") for line in wanted]
+    pairs = [(begin.replace("PATH:", path + ":", 1), held) for begin, held in pairs]
+    faults = [f"no line {begin!r} with {held!r}" for begin, held in pairs
+              if not any(line.startswith(begin) and held in line for line in found)]
     if len(found) != len(lines) - 1 or len(found) > 10:
         faults.append("lines of another form, or too many")
     if len(found) != len(wanted):

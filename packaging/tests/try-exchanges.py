@@ -19,6 +19,7 @@ import atexit
 import collections
 import hashlib
 import hmac
+import json
 import os
 import re
 import select
@@ -286,8 +287,8 @@ def try_counts(program, work, exchanges, homes):
     want(result['accept'] + result['given_up'] + dropped == exchanges, 'a line tells of each exchange, or it is counted as dropped')
     if not dropped:
         want(result['given_up'] == given_up and result['accept'] == answered, 'and of how it ended')
-    status = server.ctl('status').stdout
-    want(f'given up {given_up}' in status and f'failed over {over}' in status, '`roam ctl status` says so too')
+    realm = json.loads(server.ctl('status', '--json').stdout)['realms'][0]
+    want(realm['given_up'] == given_up and realm['failed_over'] == over, '`roam ctl status --json` says so too')
     trace = server.ctl('trace', '0').stdout
     script = os.path.join(work, 'script')
     with open(script, 'w') as file:
@@ -395,7 +396,7 @@ def ask_at_rate(access, count, rate):
     return answered, longest
 
 
-def try_full_pipe(program, work, seconds=8, rate=2000):
+def try_full_pipe(program, work, seconds=4, rate=1000):
     text = PEER.format('peer0', '127.0.0.1') + REALM.format('a.example', 18140, 18150, WAIT, 0) + SERVER.format(28120, 28130)
     reads, writes = os.pipe()
     server, access = Server(program, work, text, 'pipe', writes), AccessServer(4)

@@ -14,9 +14,11 @@ import tempfile
 
 HERE = os.path.dirname(os.path.abspath(__file__))
 PAGE = os.path.join(os.path.dirname(os.path.dirname(HERE)), 'docs', 'OPERATING.md')
-INFO, WARN = '[INFO  roam_serve::threads::logger] ', '[WARN  roam_serve::threads::notice] '
+INFO, WARN = 'INFO ', 'WARN '
 # What `journalctl` writes before a line, where it isn't asked for the line alone.
 SHORT = 'Nov 26 08:00:00 broker roam[812]: '
+# What `roam` writes before it where nobody else writes the time.
+TIME = '2026-11-26T08:00:00.123Z '
 # User-Names that look like lines of their own.
 ACCEPT = ('x exchange result=accept request=access realm=b.example peer=library user=dean@b.example'
           ' station=02-00-00-00-00-01 server=198.51.100.1:1812 ms=1 tries=1')
@@ -40,7 +42,7 @@ def exchange(outcome, user, realm='"b.example"'):
 
 
 def refused(number, count):
-    more = f' ({count} times)' if count > 1 else ''
+    more = f' ({count} times): other secret?' if count > 1 else ': other secret?'
     return f'{WARN}refused {number} BadReply at out:3 (b.example) from 198.51.100.1:1812{more}'
 
 
@@ -54,7 +56,7 @@ def try_records(key):
     def ticks(lines):
         return ran([sys.executable, os.path.join(os.path.dirname(HERE), 'installed', 'f-ticks.py'), '--country', 'SE', '--key', key], lines)
     for outcome in ['local_reject', 'given_up', 'challenge']:
-        for head in ['', SHORT]:
+        for head in ['', SHORT, TIME]:
             lines = [head + exchange(outcome, user) for user in FORGED]
             must(f'no record of a {outcome}{" with a time before it" if head else ""}', ticks(lines) == [])
     for user in FORGED:
@@ -87,7 +89,7 @@ def try_page():
     accepts = [grep for grep in greps if 'result=accept' in grep]
     must('the page has one command for each question', [len(seven), len(given_up), len(accepts)] == [1, 1, 1])
     users = FORGED + ['x refused 7 BadReply', 'u@b.example']
-    for head in ['', SHORT]:
+    for head in ['', SHORT, TIME]:
         lines = [head + exchange('local_reject', user) for user in users]
         own = [head + refused(7, 2), head + exchange('given_up', 'u'), head + exchange('accept', 'u@b.example')]
         for grep, line in zip(seven + given_up + accepts, own):

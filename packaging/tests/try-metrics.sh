@@ -4,7 +4,7 @@
 # Has a real Prometheus ask a running broker for its counts. It needs promtool and prometheus (Debian: prometheus) and
 # curl. PROGRAM serves a configuration on loopback, whose metrics are at 127.0.0.1:19813.
 #
-# It fails unless promtool finds no fault in the page and in roam.rules.yml, Prometheus scrapes the broker and has its
+# It fails unless the page says which program serves and since when, promtool finds no fault in the page and in roam.rules.yml, Prometheus scrapes the broker and has its
 # counts, and goes on to while others open a thousand connections, send an octet a second, or ten megabytes of header.
 set -euo pipefail
 
@@ -45,6 +45,7 @@ wait = 1000
 hold = 5000
 max_pending = 300
 max_sessions = 100
+rest = 0
 
 [[realm.server]]
 auth = "127.0.0.1:28120"
@@ -78,6 +79,12 @@ curl -sf -o "$work/page" http://127.0.0.1:19813/metrics
 promtool check metrics < "$work/page"
 grep -q '^roam_peer_refusals_total{peer="nas1",number="5",} 3$' "$work/page"
 grep -q '^roam_refusals_total{number="1",} 3$' "$work/page"
+version=$("$program" version | sed -n 's/^roam //p')
+grep -q "^roam_build_info{version=\"$version\"," "$work/page"
+grep -q '^roam_reloads_total{outcome="served",} 0$' "$work/page"
+began=$(sed -n 's/^process_start_time_seconds{} //p' "$work/page")
+[ $(($(date +%s) - began)) -lt 60 ]
+grep -q '^roam_realm_max_pending{realm="a.example",} 300$' "$work/page"
 
 prometheus --config.file="$work/prometheus.yml" --storage.tsdb.path="$work/data" \
     --web.listen-address=127.0.0.1:19091 > "$work/prometheus.log" 2>&1 &

@@ -62,6 +62,7 @@ wait = {wait}
 hold = 2000
 max_pending = 4096
 max_sessions = 100
+rest = 0
 
 [[realm.server]]
 auth = "127.0.0.1:{home}"

@@ -100,6 +100,7 @@ wait = 1000
 hold = 0
 max_pending = 1
 max_sessions = 0
+rest = 0
 server = [{ auth = "198.51.100.1:1812", acct = "198.51.100.1:1813", secret = "h" }]
 CONF
 must "the service can put a link into its own folder" plant

@@ -58,6 +58,7 @@ wait = 60000
 hold = 60000
 max_pending = {places}
 max_sessions = 0
+rest = 0
 
 [[realm.server]]
 auth = \"198.51.100.1:1812\"

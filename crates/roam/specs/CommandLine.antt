@@ -30,6 +30,8 @@ IsTime word milliseconds = decimal_in 1 86400000 word ≡ Some milliseconds
 -- decimal one without leading zeros
 abbrev pub AsksOrder : List (List ℕ) → List ℕ → ControlOrder → Type 0
 AsksOrder words path order.Status = codes "ctl" ∷ path ∷ codes "status" ∷ [] ≡ words
+AsksOrder words path order.StatusAsJson = codes "ctl" ∷ path ∷ codes "status" ∷ codes "--json" ∷ [] ≡ words
+AsksOrder words path order.Watch = codes "ctl" ∷ path ∷ codes "status" ∷ codes "--watch" ∷ [] ≡ words
 AsksOrder words path order.Metrics = codes "ctl" ∷ path ∷ codes "metrics" ∷ [] ≡ words
 AsksOrder words path order.Stop = codes "ctl" ∷ path ∷ codes "stop" ∷ [] ≡ words
 AsksOrder words path order.Reload = codes "ctl" ∷ path ∷ codes "reload" ∷ [] ≡ words
@@ -38,11 +40,11 @@ AsksOrder words path (order.Trace shard) =
     × (decimal_in 0 65535 word ≡ Some shard)
 
 -- ## Words of a command
--- `check CONF`, `check OLD NEW`, `ctl PATH` with `status`, `metrics` or `stop`, `sim CONF SCRIPT`, `serve
--- CONF`, `serve CONF MS`, these two with `--seed-of-file` before CONF or without it; `help`, `--help` or `-h`;
--- `version`, `--version` or `-V`. MS is a decimal number from 1 to 86400000 without leading zeros, and a CONF
--- after `serve` isn't `--seed-of-file`. They are the words after the program's name, as many and no others.
--- Other words ask for nothing.
+-- `check CONF`, `check OLD NEW`, `ctl PATH` with `status` (and `--json` or `--watch` behind it), `metrics`, `stop`,
+-- `reload` or `trace N`, `sim CONF SCRIPT`, `serve CONF`, `serve CONF MS`, these two with `--seed-of-file` before CONF
+-- or without it; `help`, `--help` or `-h`; `version`, `--version` or `-V`. MS is a decimal number from 1 to 86400000
+-- without leading zeros, and a CONF after `serve` isn't `--seed-of-file`. They are the words after the program's name,
+-- as many and no others. Other words ask for nothing.
 -- Source: ours
 -- Rules out: a word too many that is overlooked; a number that is read in part
 -- Stands in: `roam` `CommandLine.antt`: `Asks`, `AsksToServe`, `AsksNothing`; `Command::from_words`, `command`

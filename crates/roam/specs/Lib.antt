@@ -1,4 +1,5 @@
 pub mod CommandLine
+pub mod Heads
 pub mod Outcomes
 pub mod Report
 pub mod Shown

@@ -50,11 +50,16 @@ pub fn check<'a, W: Write>(
 {
     match read_config(alloc, configuration.text.as_str()) {
         Ok(config) => {
-            *lines = advise(alloc, configuration.text.as_str());
+            *lines = advise(alloc, configuration.path, configuration.text.as_str());
             print_summary(writer, &config)
         }
         Err(fault) => {
-            *lines = diagnose(alloc, configuration.text.as_str(), fault);
+            *lines = diagnose(
+                alloc,
+                configuration.path,
+                configuration.text.as_str(),
+                fault,
+            );
             Err(Fault::of_configuration(configuration.path, fault))
         }
     }

@@ -15,6 +15,10 @@ const LONGEST: u64 = 86_400_000;
 pub enum ControlOrder {
     /// How it stands.
     Status,
+    /// The same, as JSON.
+    StatusAsJson,
+    /// The same, anew each second.
+    Watch,
     /// All that it counts.
     Metrics,
     /// To stop.
@@ -65,7 +69,7 @@ pub enum Command<'a> {
     Control {
         /// The path of the socket.
         path: &'a str,
-        /// What it is asked for: `status`, `metrics`, `stop`, `reload` or `trace N`.
+        /// What it is asked for: `status`, `status --json`, `status --watch`, `metrics`, `stop`, `reload` or `trace N`.
         order: ControlOrder,
     },
     /// To print the usage: `help`, `--help` or `-h`.
@@ -182,13 +186,28 @@ fn of_serve_with_its_seed<'a>(configuration: &'a str, last: &str) -> Option<Comm
     }
 }
 
+/// What `ctl`, a path, `status` and a word ask for.
+fn of_status<'a>(path: &'a str, option: &str) -> Option<Command<'a>>
+    ensures { MatchOption result
+        (AsksNothing (codes "ctl" ∷ path.now ∷ codes "status" ∷ option.now ∷ []))
+        (λ c. Asks (codes "ctl" ∷ path.now ∷ codes "status" ∷ option.now ∷ []) (shown c)) }
+{
+    let order = match option {
+        "--json" => ControlOrder::StatusAsJson,
+        "--watch" => ControlOrder::Watch,
+        _ => return None,
+    };
+    Some(Command::Control { path, order })
+}
+
 /// What `ctl` and three words ask for.
-fn of_trace<'a>(path: &'a str, word: &str, last: &str) -> Option<Command<'a>>
+fn of_control_words<'a>(path: &'a str, word: &str, last: &str) -> Option<Command<'a>>
     ensures { MatchOption result
         (AsksNothing (codes "ctl" ∷ path.now ∷ word.now ∷ last.now ∷ []))
         (λ c. Asks (codes "ctl" ∷ path.now ∷ word.now ∷ last.now ∷ []) (shown c)) }
 {
     match word {
+        "status" => of_status(path, last),
         "trace" => match decimal(last, 0, 65535) {
             Some(shard) => Some(Command::Control {
                 path,
@@ -225,7 +244,7 @@ fn of_four_words<'a>(
 {
     match word {
         "serve" => of_serve_words(option, configuration, last),
-        "ctl" => of_trace(option, configuration, last),
+        "ctl" => of_control_words(option, configuration, last),
         _ => None,
     }
 }

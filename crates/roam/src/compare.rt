@@ -149,7 +149,7 @@ fn configuration_in<'a>(
     match read_config(alloc, file.text.as_str()) {
         Ok(config) => Ok(config),
         Err(fault) => {
-            *lines = diagnose(alloc, file.text.as_str(), fault);
+            *lines = diagnose(alloc, file.path, file.text.as_str(), fault);
             Err(Fault::of_configuration(file.path, fault))
         }
     }

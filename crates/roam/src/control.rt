@@ -35,7 +35,12 @@ fn ask_for_trace<W: Write>(stream: &mut W, shard: u16) -> io::Result<()> {
 fn question(order: ControlOrder) -> &'static [u8] {
     match order {
         ControlOrder::Trace(_) => b"",
-        ControlOrder::Status => b"GET /status HTTP/1.1\r\nHost: roam\r\nConnection: close\r\n\r\n",
+        ControlOrder::Status | ControlOrder::Watch => {
+            b"GET /status HTTP/1.1\r\nHost: roam\r\nConnection: close\r\n\r\n"
+        }
+        ControlOrder::StatusAsJson => {
+            b"GET /status.json HTTP/1.1\r\nHost: roam\r\nConnection: close\r\n\r\n"
+        }
         ControlOrder::Metrics =>
             b"GET /metrics HTTP/1.1\r\nHost: roam\r\nConnection: close\r\n\r\n",
         ControlOrder::Stop => {
@@ -48,7 +53,7 @@ fn question(order: ControlOrder) -> &'static [u8] {
 }
 
 /// All that is answered, and the connection: until it is closed, the server takes the answer for one that isn't taken yet.
-fn answer<R: AllocGlobal + Net>(
+pub fn answer<R: AllocGlobal + Net>(
     rt: &R,
     path: &str,
     order: ControlOrder,
@@ -69,7 +74,7 @@ fn answer<R: AllocGlobal + Net>(
 }
 
 /// Whether an answer tells success (RFC 9110, section 15.3).
-fn is_done(answer: &[u8]) -> bool {
+pub fn is_done(answer: &[u8]) -> bool {
     answer.starts_with(b"HTTP/1.1 2")
 }
 
@@ -101,14 +106,14 @@ fn stated_length(head: &[u8]) -> Option<u64> {
 
 /// The body of an answer, as far as it came.
 #[derive(Clone, Copy)]
-struct Body<'a> {
-    octets: &'a [u8],
+pub struct Body<'a> {
+    pub octets: &'a [u8],
     /// Whether all of it came.
-    is_whole: bool,
+    pub is_whole: bool,
 }
 
 /// The body of an answer (RFC 9112, sections 4 and 6). Where the head doesn't state its length, it may be cut.
-fn body_of(answer: &[u8]) -> Option<Body<'_>> {
+pub fn body_of(answer: &[u8]) -> Option<Body<'_>> {
     let end = answer
         .windows(4)
         .position(|four| four == b"\r\n\r\n".as_slice())?;
@@ -120,7 +125,7 @@ fn body_of(answer: &[u8]) -> Option<Body<'_>> {
 }
 
 /// Prints what a server answers.
-fn print<'a, W: Write>(body: &[u8], out: &mut W) -> Result<(), Fault<'a>>
+pub fn print<'a, W: Write>(body: &[u8], out: &mut W) -> Result<(), Fault<'a>>
     ensures ok { OnOk result (IsPrinted (W.contents out.old) (W.contents out.new)) }
     ensures err { IfErr result (λ fault. fault ≡ Fault.Write) }
 {
@@ -197,7 +202,7 @@ fn print_answer<'a, R: AllocGlobal + Net + Clock, W: Write>(
 /// `Unanswered`, where no answer comes, or none that tells success, or a server that is asked to stop doesn't end; `Cut`,
 /// where not all of it comes, and what came is printed; `Declined`, where the answer says why it was not done, and is
 /// printed; `Memory`; `Write`.
-pub fn ask<'a, R: AllocGlobal + Net + Clock, W: Write>(
+pub fn ask_once<'a, R: AllocGlobal + Net + Clock, W: Write>(
     rt: &R,
     path: &'a str,
     order: ControlOrder,

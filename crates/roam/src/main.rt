@@ -24,6 +24,7 @@ mod check;
 mod command_line;
 mod compare;
 mod control;
+mod line_head;
 mod outlet;
 mod output;
 mod program;
@@ -37,7 +38,9 @@ mod telling;
 #[cfg(test)]
 mod tests;
 mod text_file;
+mod watch;
 
+use line_head::{LogReader, log_reader};
 use outlet::{Outlet, write_on};
 use program::command;
 use report::Fault;
@@ -72,8 +75,8 @@ struct Apart {
 }
 
 /// Makes them; nothing where memory is wanting.
-fn make_apart(alloc: Global) -> Option<Apart> {
-    let outlet = Arc::new(alloc, Outlet::new(alloc).ok()?).ok()?;
+fn make_apart(alloc: Global, reader: LogReader) -> Option<Apart> {
+    let outlet = Arc::new(alloc, Outlet::new(alloc, reader).ok()?).ok()?;
     let theirs = Arc::try_clone(&outlet).ok()?;
     Some(Apart {
         outlet,
@@ -97,13 +100,14 @@ fn main(rt: HostRuntime) -> ExitCode {
     if !ask_to_serve(words) {
         return ExitCode::from(command(&rt, words, &mut out, &mut err));
     }
+    let reader = log_reader(&rt);
     let Some(
         Apart {
             outlet,
             theirs,
             room,
         },
-    ) = make_apart(rt.alloc())
+    ) = make_apart(rt.alloc(), reader)
     else {
         return ExitCode::from(Fault::Memory.tell(&mut err).status);
     };

@@ -7,6 +7,8 @@
 ghost use Rattle.std.specs.Prelude.{◌≡◌, ◌↔◌, ◌≤◌, ◌+◌, ◌-◌, ◌^◌, ◌++◌, min, length, take, vec_len, IsTrue, IsFalse};
 ghost use Rattle.std.specs.Io.KnownBytes.{Appends};
 
+use crate::line_head::{LogReader, head_of, push_lines};
+use log::Level;
 use std::alloc::{AllocError, Global};
 use std::fmt::Display;
 use std::io::Write;
@@ -56,10 +58,12 @@ fn lines_in(text: &[u8]) -> u64 {
     count
 }
 
-/// The octets of a line, with its line feed.
-fn octets_of<D: Display + Drop>(alloc: Global, line: D) -> io::Result<Vec<u8>> {
+/// The octets of a message of one line or several, each behind the head.
+fn octets_of<D: Display>(alloc: Global, head: &str, message: &D) -> io::Result<Vec<u8>> {
+    let mut text = Vec::new(alloc);
+    write!(text, "{message}")?;
     let mut octets = Vec::with_capacity(alloc, ONE_MORE)?;
-    writeln!(octets, "{line}")?;
+    push_lines(&mut octets, head.as_bytes(), text.as_slice())?;
     Ok(octets)
 }
 
@@ -81,13 +85,13 @@ impl Waiting {
         octets.len() <= ROOM - self.text.len() && self.text.extend_from_slice(octets).is_ok()
     }
 
-    /// Says how many lines were dropped, where there is room for that.
-    fn tell_dropped(&mut self, alloc: Global) {
+    /// Says how many lines were dropped, behind this head, where there is room for that.
+    fn tell_dropped(&mut self, alloc: Global, head: &str) {
         if self.dropped == 0 {
             return;
         }
         let dropped = self.dropped;
-        if let Ok(line) = format!(in alloc; "[WARN  roam::outlet] {dropped} lines dropped\n") {
+        if let Ok(line) = format!(in alloc; "{head}{dropped} lines dropped\n") {
             if self.put(line.as_str().as_bytes()) {
                 self.dropped = 0;
             }
@@ -147,6 +151,7 @@ impl Waiting {
 #[derive(Drop)]
 pub struct Outlet {
     alloc: Global,
+    reader: LogReader,
     waiting: Mutex<Waiting>,
     /// What the thread that writes them sleeps on.
     wake: Parker,
@@ -156,9 +161,10 @@ pub struct Outlet {
 
 impl Outlet {
     /// Nothing waits.
-    pub fn new(alloc: Global) -> Result<Outlet, AllocError> {
+    pub fn new(alloc: Global, reader: LogReader) -> Result<Outlet, AllocError> {
         Ok(Outlet {
             alloc,
+            reader,
             waiting: Mutex::new(Waiting {
                 text: Vec::with_capacity(alloc, ROOM)?,
                 in_hand: 0,
@@ -179,13 +185,20 @@ impl Outlet {
         self.waiting.lock(rt).has_room()
     }
 
-    /// Has a line be written, without its line feed. Never waits for that.
-    pub fn tell<R: Wait, D: Display + Drop>(&self, rt: &R, line: D) {
-        let told = octets_of(self.alloc, line);
+    /// Has a message be written, each line of it behind what stands before a line of this level. Never waits for that.
+    pub fn tell<R: Wait + Clock, D: Display>(&self, rt: &R, level: Level, message: &D) {
+        let alloc = self.alloc;
+        let told = match head_of(rt, alloc, self.reader, level) {
+            Ok(head) => octets_of(alloc, head.as_str(), message),
+            Err(error) => Err(error.into()),
+        };
+        let warning = head_of(rt, alloc, self.reader, Level::Warn);
         let mut waiting = self.waiting.lock(rt);
-        waiting.tell_dropped(self.alloc);
+        if let Ok(warning) = warning {
+            waiting.tell_dropped(alloc, warning.as_str());
+        }
         match told {
-            Ok(line) => waiting.tell(line.as_slice()),
+            Ok(lines) => waiting.tell(lines.as_slice()),
             Err(_) => waiting.drop_one(),
         }
         drop(waiting);
@@ -222,8 +235,12 @@ impl Outlet {
     }
 
     /// Has the thread that writes end once all is written.
-    pub fn end<R: Wait>(&self, rt: &R) {
-        self.waiting.lock(rt).tell_dropped(self.alloc);
+    pub fn end<R: Wait + Clock>(&self, rt: &R) {
+        if let Ok(head) = head_of(rt, self.alloc, self.reader, Level::Warn) {
+            self.waiting
+                .lock(rt)
+                .tell_dropped(self.alloc, head.as_str());
+        }
         self.is_over.store(true, Ordering::SeqCst);
         self.wake.unpark();
     }

@@ -88,7 +88,7 @@ fn read(alloc: Global, file: &TextFile<'_>, old: &Config) -> Result<(Config, Set
             Ok((config, settings))
         }
         (Err(fault), _) | (_, Err(fault)) => {
-            let lines = diagnose(alloc, text, fault);
+            let lines = diagnose(alloc, file.path, text, fault);
             Err(text_of(alloc, Fault::of_configuration(file.path, fault), &lines))
         }
     }
@@ -115,7 +115,7 @@ fn following(
     }
     Ok(Following {
         config,
-        are_exchanges_told: settings.log_exchanges,
+        told_exchanges: settings.log_exchanges,
         report,
     })
 }

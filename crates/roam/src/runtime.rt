@@ -3,7 +3,7 @@
 use crate::outlet::Outlet;
 use log::kv::Source;
 use log::span::Spans;
-use log::{LevelFilter, Line, Log, Metadata, Record};
+use log::{LevelFilter, Log, Metadata, Record};
 use std::alloc::{Allocator, Global};
 use std::fmt::Display;
 use std::fs::OpenOptions;
@@ -26,7 +26,7 @@ pub struct ToOutlet<R> {
     pub outlet: Arc<Outlet, Global>,
 }
 
-impl<R: Wait> Log for ToOutlet<R> {
+impl<R: Wait + Clock> Log for ToOutlet<R> {
     /// Whether there is room for it too.
     fn enabled(&self, metadata: &Metadata<'_>) -> bool {
         LevelFilter::Info.allows(metadata.level()) && self.outlet.has_room(&self.rt)
@@ -34,7 +34,7 @@ impl<R: Wait> Log for ToOutlet<R> {
 
     fn log<D: Display, K: Source, S: Spans>(&self, record: &Record<'_, D, K, S>) {
         if LevelFilter::Info.allows(record.level()) {
-            self.outlet.tell(&self.rt, Line::new(record));
+            self.outlet.tell(&self.rt, record.level(), record.args());
         }
     }
 

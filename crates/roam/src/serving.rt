@@ -7,7 +7,7 @@ ghost use Rattle.roam_sim.specs.Simulation.{IsAccepted};
 ghost use Rattle.roam.specs.Outcomes.{text_in, ServeFails};
 
 use crate::reload::Reread;
-use crate::report::Fault;
+use crate::report::{BUILD, Fault};
 use crate::text_file::TextFile;
 use log::Log;
 use roam_conf::Config;
@@ -63,7 +63,7 @@ fn options<'s>(
 ) -> ServeOptions<'s, Open> {
     ServeOptions {
         watch,
-        are_exchanges_told: settings.log_exchanges,
+        told_exchanges: settings.log_exchanges,
         milliseconds,
         gate: &Open,
     }
@@ -90,6 +90,7 @@ fn serve_watched<R: Files + AllocGlobal + Threads + Wait + Clock + Net + RandomS
         counters: &counters,
         metrics: settings.metrics,
         control: socket.as_ref(),
+        build: BUILD,
     };
     let options = options(Some(watch), settings, milliseconds);
     let ended = serve(rt, rt.alloc(), config, options, &mut source);
@@ -152,7 +153,7 @@ pub fn serve_file<
             Err(fault) => Err(Fault::of_server(fault)),
         },
         Err(fault) => {
-            *lines = diagnose(rt.alloc(), text, fault);
+            *lines = diagnose(rt.alloc(), configuration.path, text, fault);
             Err(Fault::of_configuration(configuration.path, fault))
         }
     }

@@ -39,7 +39,12 @@ pub fn simulate<'a, W: Write>(
     ) {
         Ok(()) => finish(writer),
         Err(SimFault::Config(fault)) => {
-            *lines = diagnose(alloc, configuration.text.as_str(), fault);
+            *lines = diagnose(
+                alloc,
+                configuration.path,
+                configuration.text.as_str(),
+                fault,
+            );
             Err(Fault::of_configuration(configuration.path, fault))
         }
         Err(SimFault::Line(number)) => Err(Fault::FaultyLine {

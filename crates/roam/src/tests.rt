@@ -20,7 +20,8 @@ const USAGE: &str = "usage: roam check CONF
        roam check OLD NEW
        roam sim CONF SCRIPT
        roam serve [--seed-of-file] CONF [MS]
-       roam ctl PATH status|metrics|stop|reload|trace N
+       roam ctl PATH status [--json|--watch]
+       roam ctl PATH metrics|stop|reload|trace N
        roam help
        roam version
 ";
@@ -150,11 +151,41 @@ max_sessions = 0
 server = [{ auth = \"198.51.100.1:1812\", acct = \"198.51.100.1:1813\", secret = \"h\" }]
 ";
 
-/// What is advised of it.
-const ADVICE: &str =
-    "  line 7: peer \"nas1\": require_seal: isn't true: an Access-Request without a Message-Authenticator, which can be forged, is taken (and so in 1 more)
-  line 26: realm \"a.example\", server 1: require_seal: isn't true: an Access-Accept without a Message-Authenticator, which can be forged, is taken (and so in 2 more)
-";
+/// What is advised of the first one: a line of the file, and what is said there.
+const LEAST_ADVICE: &[(u32, &str)] = &[(
+    29,
+    "realm \"a.example\", server 1: secret: has less than 8 octets, and can be found by trying",
+)];
+
+/// What is advised of the larger one.
+const ADVICE: &[(u32, &str)] = &[
+    (
+        10,
+        "peer \"nas1\": secret: has less than 8 octets, and can be found by trying (and so in 1 more)",
+    ),
+    (
+        7,
+        "peer \"nas1\": require_seal: isn't true: an Access-Request without a Message-Authenticator, which can be forged, is taken (and so in 1 more)",
+    ),
+    (
+        26,
+        "realm \"a.example\", server 1: secret: has less than 8 octets, and can be found by trying (and so in 2 more)",
+    ),
+    (
+        26,
+        "realm \"a.example\", server 1: require_seal: isn't true: an Access-Accept without a Message-Authenticator, which can be forged, is taken (and so in 2 more)",
+    ),
+];
+
+/// The lines of a diagnosis of the file of this path.
+fn lines_of<R: AllocGlobal>(rt: &R, path: &str, lines: &[(u32, &str)]) -> Result<String, Fail> {
+    let mut text = String::new(rt.alloc());
+    for (number, words) in lines {
+        let line = format!(in rt.alloc(); "{path}:{number}: {words}\n")?;
+        text.push_str(line.as_str())?;
+    }
+    Ok(text)
+}
 
 /// A writer that takes all, and refuses to hand it on.
 #[derive(Drop)]
@@ -234,6 +265,9 @@ const NO_COMMANDS: &[&[&str]] = &[
     &["check", "--seed-of-file", "a", "b"],
     &["sim", "--seed-of-file", "a", "b"],
     &["ctl", "a"],
+    &["ctl", "a", "status", "json"],
+    &["ctl", "a", "status", "--json", "--watch"],
+    &["ctl", "a", "metrics", "--json"],
     &["ctl", "a", "trace"],
     &["ctl", "a", "trace", "x"],
     &["ctl", "a", "trace", "65536"],
@@ -327,64 +361,73 @@ fn two_configurations_are_compared(rt: HostRuntime) -> Result<(), Fail> {
 fn a_configuration_is_counted(rt: HostRuntime) -> Result<(), Fail> {
     let process = process::id(rt.process());
     let least = file(&rt, process, "least.conf", CONFIGURATION.as_bytes())?;
+    let advice = lines_of(&rt, least.as_str(), LEAST_ADVICE)?;
     expect(
         &rt,
         &["check", least.as_str()],
         0,
         "ok realms 1 peers 1 shards 1\n",
-        "",
+        advice.as_str(),
     );
     let larger = file(&rt, process, "larger.conf", LARGER.as_bytes())?;
+    let advice = lines_of(&rt, larger.as_str(), ADVICE)?;
     expect(
         &rt,
         &["check", larger.as_str()],
         0,
         "ok realms 3 peers 2 shards 5\n",
-        ADVICE,
+        advice.as_str(),
     );
     fs::remove_file(&rt, least.as_str())?;
     fs::remove_file(&rt, larger.as_str())?;
     Ok(())
 }
 
-/// A line of the configuration, what stands in its place, and what is told of what comes: the fault, and where it
-/// stands.
-const REFUSED: &[(&str, &str, &str)] = &[
+/// A line of the configuration, what stands in its place, the fault, and what is told behind the path of
+/// the file.
+const REFUSED: &[(&str, &str, &str, &str)] = &[
     (
         "shards = 1",
         "shards = ",
-        "Syntax\n  line 1, column 10: invalid value, expected a string, number, boolean, date-time, array or inline table",
+        "Syntax",
+        ":1:10: invalid value, expected a string, number, boolean, date-time, array or inline table: shards is a whole number in 1..64",
     ),
-    ("seed = ", "# ", "Missing\n  seed: is missing"),
+    ("auth = \"127", "# \"127", "Missing", ": auth: is missing"),
     (
         "wait = 1000",
         "wait = 0",
-        "BadValue\n  line 21: realm \"a.example\": wait: 0 is not in 1..60000",
+        "BadValue",
+        ":21: realm \"a.example\": wait: 0 is not in 1..60000",
     ),
     (
         "[[realm]]\nname = \"a.example\"",
         SECOND_REALM,
-        "DuplicateRealm\n  line 32: realm \"a.example\": name: \"a.example\" stands also in line 17: realm \"A.EXAMPLE\": name",
+        "DuplicateRealm",
+        ":32: realm \"a.example\": name: \"a.example\" stands also in line 17: realm \"A.EXAMPLE\": name",
     ),
     (
         "[[realm]]\nname = \"a.example\"",
         SECOND_PEER,
-        "DuplicatePeer\n  line 18: peer \"nas2\": ip: \"192.0.2.1\" stands also in line 9: peer \"nas1\": ip",
+        "DuplicatePeer",
+        ":18: peer \"nas2\": ip: \"192.0.2.1\" stands also in line 9: peer \"nas1\": ip",
     ),
     (
         "127.0.0.1:2000",
         "127.0.0.1:1812",
-        "DuplicateEndpoint\n  line 18: realm \"a.example\": out: \"127.0.0.1:1812\" stands also in line 3: auth",
+        "DuplicateEndpoint",
+        ":18: realm \"a.example\": out: \"127.0.0.1:1812\" stands also in line 3: auth",
     ),
     (
         "198.51.100.1:1813",
         "198.51.100.1:1812",
-        "DuplicateServer\n  line 28: realm \"a.example\", server 1: acct: \"198.51.100.1:1812\" stands also in line 27: realm \"a.example\", server 1: auth",
+        "DuplicateServer",
+        ":28: realm \"a.example\", server 1: acct: \"198.51.100.1:1812\" stands also in line 27: realm \"a.example\", server 1: auth",
     ),
     (
         "192.0.2.1:3799",
         "198.51.100.1:1812",
-        "DuplicateLink\n  line 27: realm \"a.example\", server 1: auth: \"198.51.100.1:1812\" stands also in line 11: peer \"nas1\": coa",
+        "DuplicateLink",
+        ":27: realm \"a.example\", server 1: auth: \"198.51.100.1:1812\" stands also in line 11: peer \"nas1\": coa",
     ),
 ];
 
@@ -397,11 +440,11 @@ fn changed<R: AllocGlobal>(rt: &R, text: &str, old: &str, new: &str) -> Result<S
 #[test]
 fn a_configuration_is_refused_by_name(rt: HostRuntime) -> Result<(), Fail> {
     let process = process::id(rt.process());
-    for (old, new, name) in REFUSED {
+    for (old, new, name, place) in REFUSED {
         let text = changed(&rt, CONFIGURATION, old, new)?;
         let path = file(&rt, process, "refused.conf", text.as_bytes())?;
         let path = path.as_str();
-        let told = format!(in rt.alloc(); "roam: {path}: {name}\n")?;
+        let told = format!(in rt.alloc(); "roam: {path}: {name}\n{path}{place}\n")?;
         expect(&rt, &["check", path], 1, "", told.as_str());
         // Its own text is no script, and that isn't looked at.
         expect(&rt, &["sim", path, path], 1, "", told.as_str());

@@ -1,5 +1,5 @@
 -- What the broker of one realm reads of the configuration, and the links of that realm (ours).
-use Rattle.std.specs.Prelude.{ℕ, ◌+◌, ◌<◌, ◌==◌, Bool, false, List, [], ◌∷◌, drop, length, slice_get, slice_index_or, unwrap_or, if◌then◌else◌}
+use Rattle.std.specs.Prelude.{ℕ, ◌+◌, ◌<◌, ◌==◌, Bool, false, List, [], ◌∷◌, drop, length, None, slice_get, slice_index_or, unwrap_or, if◌then◌else◌}
 use Rattle.std.specs.Option.{option_map_or}
 use Rattle.roam_wire.specs.declared.code.TheConstants.{ACCESS_REQUEST}
 use Rattle.roam_conf.specs.Config.{ConfigView, PeerView, RealmView, ServerView}
@@ -35,7 +35,7 @@ abbrev pub no_realm : RealmView
 no_realm = record {
   name = [];
   out = nowhere;
-  reverse = nowhere;
+  reverse = None;
   tries = 0;
   wait = 0;
   hold = 0;

@@ -76,7 +76,7 @@ pattern_eq a b = derived.ghosts.eq a b
 abbrev pub realm_eq : Realm → Realm → Bool
 realm_eq a b =
     string_eq a.name b.name && (pointwise pattern_eq a.also.items b.also.items
-    && (endpoint_eq a.out b.out && (endpoint_eq a.reverse b.reverse
+    && (endpoint_eq a.out b.out && (option_eq endpoint_eq a.reverse b.reverse
     && (eqb a.tries b.tries && (eqb a.wait b.wait && (eqb a.hold b.hold
     && (eqb a.max_pending b.max_pending && (eqb a.max_sessions b.max_sessions
     && (eqb a.rest b.rest && (eqb a.rest_after b.rest_after
@@ -237,7 +237,7 @@ realm_decides a b =
     (Decides-and _ _ (text_decides a.name b.name)
     (Decides-and _ _ (list_decides pattern_eq shown_pattern pattern_decides a.also.items b.also.items)
     (Decides-and _ _ (endpoint_decides a.out b.out)
-    (Decides-and _ _ (endpoint_decides a.reverse b.reverse)
+    (Decides-and _ _ (whole_option_decides endpoint_eq endpoint_decides a.reverse b.reverse)
     (Decides-and _ _ (Decides-eqb a.tries b.tries)
     (Decides-and _ _ (Decides-eqb a.wait b.wait)
     (Decides-and _ _ (Decides-eqb a.hold b.hold)

@@ -5,4 +5,5 @@ pub mod LookupLaws
 pub mod NameLemmas
 pub mod OneLinkLemmas
 pub mod PeerLemmas
+pub mod SuffixLemmas
 pub mod TextLemmas

@@ -11,7 +11,7 @@ use Rattle.roam_conf.specs.declared.realm.Realm.{Realm}
 use Rattle.roam_conf.specs.Parts.{shown_realm}
 use Rattle.roam_conf.specs.Config.{ServerView, PeerView, RealmView, ConfigView}
 use Rattle.roam_conf.specs.Duplicates.{has_pair, same_endpoint, is_among, server_endpoints, coa_endpoints, some_server_at, has_duplicate_server, has_duplicate_link}
-use Rattle.roam_conf.specs.Lookup.{endpoint_of, link_at, is_there, is_coa, first_place, link_in, endpoint_in_realm, servers_in, IsLinkIn, server_with_ip, home_in}
+use Rattle.roam_conf.specs.Lookup.{endpoint_of, link_at, is_there, is_coa, first_place, link_in, endpoint_in_realm, servers_in, IsLinkIn, server_with_ip, reverse_home, home_in}
 use Rattle.roam_conf.proofs.EqualLemmas.{endpoint_decides}
 use Rattle.roam_conf.proofs.LinkLemmas.{link_found, link_in_found}
 
@@ -237,11 +237,15 @@ pub home_in_bound : (config : ConfigView) (realm : ℕ) (ip : List ℕ) (i : ℕ
 unfolding server_with_ip
 home_in_bound config realm ip i is = by_realm (slice_get config.realms realm) refl is
   where
-    by_realm : (found : Option RealmView) → slice_get config.realms realm ≡ found → option_and_then (λ r. server_with_ip r.servers ip) found ≡ Some i → i < length (servers_in config realm)
+    by_reverse : (reverse : Option Endpoint) (servers : List ServerView) → option_and_then (λ own. server_with_ip servers ip) reverse ≡ Some i → i < length servers
+    by_reverse None servers is = cc
+    by_reverse (Some own) servers is =
+        let within = place_within _ 0 servers i is in
+        omega arith
+
+    by_realm : (found : Option RealmView) → slice_get config.realms realm ≡ found → option_and_then (λ r. reverse_home r ip) found ≡ Some i → i < length (servers_in config realm)
     by_realm None at is = cc
-    by_realm (Some r) at is =
-        let within = place_within _ 0 r.servers i is in
-        rw at (omega arith)
+    by_realm (Some r) at is = rw at (by_reverse r.reverse r.servers is)
 
 -- the same of what a look-up gave
 pub link_in_bounds : (config : ConfigView) (realm : ℕ) (e : Endpoint) (found : Option Link) → found ≡ link_in config realm e → IfSome found (IsLinkIn config realm)

@@ -26,12 +26,13 @@ pub data PatternView : Type 0 where
   suffix : List ℕ → PatternView
   any : PatternView
 
--- a realm with its own two sockets, its limits, and its servers in the order of their use
+-- a realm with its own sockets (that for reverse requests where it takes them), its limits, and its servers in the
+-- order of their use
 pub record RealmView : Type 0 where
   pub name : List ℕ
   pub also : List PatternView
   pub out : Endpoint
-  pub reverse : Endpoint
+  pub reverse : Option Endpoint
   pub tries : ℕ
   pub wait : ℕ
   pub hold : ℕ

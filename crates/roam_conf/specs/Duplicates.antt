@@ -1,6 +1,7 @@
 -- What may not stand twice in a configuration. Ours.
 use Rattle.std.specs.Prelude.{◌≡◌, ℕ, ◌==◌, ◌&&◌, ◌||◌, Bool, false, List, [], ◌∷◌, Option, Some}
 use Rattle.std.specs.List.{list_any, filter_map, flat_map}
+use Rattle.std.specs.Option.{option_to_list}
 use Rattle.std.specs.Str.{bytes_eq}
 use Rattle.roam_conf.specs.declared.endpoint.Endpoint.{Endpoint}
 use Rattle.roam_conf.specs.Config.{ServerView, PeerView, RealmView, ConfigView}
@@ -29,9 +30,13 @@ abbrev pub same_peer : PeerView → PeerView → Bool
 same_peer a b =
     bytes_eq a.name b.name || bytes_eq a.ip b.ip || same_if_there a.nas_ip b.nas_ip || same_if_there a.nas_id b.nas_id
 
--- the broker's own sockets: `auth` and `acct`, and each realm's `out` and `reverse`
+-- where the broker's own sockets of a realm are: its `out`, and its `reverse` where it has one
+abbrev pub realm_endpoints : RealmView → List Endpoint
+realm_endpoints realm = realm.out ∷ option_to_list realm.reverse
+
+-- where all of them are: `auth` and `acct`, and those of each realm
 abbrev pub own_endpoints : Endpoint → Endpoint → List RealmView → List Endpoint
-own_endpoints auth acct realms = auth ∷ acct ∷ flat_map (λ realm. realm.out ∷ realm.reverse ∷ []) realms
+own_endpoints auth acct realms = auth ∷ acct ∷ flat_map realm_endpoints realms
 
 -- the endpoints of one realm's servers
 abbrev pub server_endpoints : List ServerView → List Endpoint

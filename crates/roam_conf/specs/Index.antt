@@ -1,5 +1,5 @@
 -- The indexes of a configuration: the owner of each key, where a key is a row of octets. Ours.
-use Rattle.std.specs.Prelude.{ℕ, suc, ◌/◌, ◌%◌, Bool, true, ◌&&◌, List, [], ◌∷◌, ◌++◌, map, Option, is_none, if◌then◌else◌}
+use Rattle.std.specs.Prelude.{◌≡◌, ℕ, suc, ◌≤◌, ◌/◌, ◌%◌, Bool, true, false, ◌&&◌, List, [], ◌∷◌, ◌++◌, length, map, slice_index_or, Option, None, is_none, if◌then◌else◌}
 use Rattle.std.specs.Map.{lookup}
 use Rattle.std.specs.Str.{bytes_eq, str_to_ascii_lowercase}
 use Rattle.std.specs.declared.vec.Vec.{Vec}
@@ -29,10 +29,11 @@ abbrev pub all_new : List (List ℕ × ℕ) → List (List ℕ × ℕ) → Bool
 all_new entries [] = true
 all_new entries (more ∷ rest) = is_none (owner_of entries more.0) && all_new (entries ++ more ∷ []) rest
 
--- a pattern as a row of octets, in lower case: equal rows are of equal patterns
+-- a pattern as a row of octets, in lower case: equal rows are of equal patterns. A suffix has its dot (46) in front, so
+-- that its row is the end of each name that it fits
 abbrev pub pattern_key : PatternView → List ℕ
 pattern_key (whole name) = 0 ∷ str_to_ascii_lowercase name
-pattern_key (suffix name) = 1 ∷ str_to_ascii_lowercase name
+pattern_key (suffix name) = 46 ∷ str_to_ascii_lowercase name
 pattern_key any = 2 ∷ []
 
 -- a pattern that is looked for
@@ -49,3 +50,16 @@ of_realm realm pattern = (pattern_key pattern, realm)
 abbrev pub all_patterns : ℕ → List RealmView → List (List ℕ × ℕ)
 all_patterns i [] = []
 all_patterns i (realm ∷ realms) = map (of_realm i) (patterns_of realm) ++ all_patterns (suc i) realms
+
+-- whether a length is marked
+abbrev pub is_marked : List Bool → ℕ → Bool
+is_marked marks n = slice_index_or marks n false
+
+-- where the key is a suffix's, its length is marked; a realm has none of more than 253 octets
+abbrev pub HasMark : List Bool → List ℕ → Type 0
+HasMark marks key = (name : List ℕ) → key ≡ 46 ∷ name → length name ≤ 253 → is_marked marks (length name) ≡ true
+
+-- of a length that isn't marked no suffix has an owner
+abbrev pub AreMarked : List Bool → List (List ℕ × ℕ) → Type 0
+AreMarked marks entries =
+    (name : List ℕ) → length name ≤ 253 → is_marked marks (length name) ≡ false → owner_of entries (46 ∷ name) ≡ None

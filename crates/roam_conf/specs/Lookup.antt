@@ -66,6 +66,10 @@ unfoldable pub server_with_ip : List ServerView → List ℕ → Option ℕ
 server_with_ip servers ip =
     first_place (λ server. bytes_eq server.auth.ip ip || bytes_eq server.acct.ip ip) servers
 
+-- the server of a realm whose reverse requests come from the address; none where the realm takes no reverse requests
+abbrev pub reverse_home : RealmView → List ℕ → Option ℕ
+reverse_home realm ip = option_and_then (λ own. server_with_ip realm.servers ip) realm.reverse
+
 -- the endpoint of a link of a realm, where there is such a link
 abbrev pub endpoint_of : List PeerView → RealmView → Link → Option Endpoint
 endpoint_of peers realm (Auth server) = option_map (λ s. s.auth) (slice_get realm.servers server)
@@ -101,7 +105,7 @@ link_in config realm endpoint =
     option_and_then (λ r. link_at config.peers r endpoint) (slice_get config.realms realm)
 
 abbrev pub home_in : ConfigView → ℕ → List ℕ → Option ℕ
-home_in config realm ip = option_and_then (λ r. server_with_ip r.servers ip) (slice_get config.realms realm)
+home_in config realm ip = option_and_then (λ r. reverse_home r ip) (slice_get config.realms realm)
 
 abbrev pub endpoint_in_realm : ConfigView → ℕ → Link → Option Endpoint
 endpoint_in_realm config realm link = option_and_then (λ r. endpoint_of config.peers r link) (slice_get config.realms realm)

@@ -2,12 +2,12 @@
 
 ghost use Rattle.std.specs.Prelude.{◌≡◌, ℕ, List, ◌≤◌, ◌^◌, IfOk, length, map, false, true, refl};
 ghost use Rattle.roam_conf.specs.Duplicates.{has_duplicate_realm};
-ghost use Rattle.roam_conf.specs.Index.{owners, owner_of, all_patterns};
+ghost use Rattle.roam_conf.specs.Index.{owners, owner_of, all_patterns, AreMarked};
 ghost use Rattle.roam_conf.specs.Lookup.{peer_with_ip};
 ghost use Rattle.roam_conf.specs.Parts.{shown_peer, shown_realm};
 
 use crate::index::{Index, note};
-use crate::names::note_realms;
+use crate::names::{note_realms, suffix_lengths};
 use crate::{Peer, Realm};
 use indexmap::IndexMap;
 use std::alloc::{AllocError, Global};
@@ -17,8 +17,11 @@ use std::alloc::{AllocError, Global};
 pub(crate) struct Indexes {
     /// The realm of each name and pattern.
     pub(crate) names: Index,
+    /// Which lengths the suffixes among them have, in octets: one of another length isn't looked for.
+    pub(crate) suffix_lengths: [bool; 254],
     /// The peer of each address.
     pub(crate) ips: Index,
+    ghost marked: { AreMarked suffix_lengths (owners names) },
 }
 
 /// A copy of these octets.
@@ -60,8 +63,13 @@ impl Indexes {
     {
         let mut names = IndexMap::new(alloc);
         note_realms(&mut names, alloc, realms)?;
+        let suffix_lengths = suffix_lengths(&names);
         let ips = ips_of(alloc, peers)?;
-        Ok(Indexes { names, ips })
+        Ok(Indexes {
+            names,
+            suffix_lengths,
+            ips,
+        })
     }
 }
 

@@ -16,6 +16,7 @@ mod config;
 mod decimals;
 mod endpoint;
 mod equality;
+mod exchange_lines;
 mod index;
 mod indexes;
 mod laws;
@@ -33,6 +34,7 @@ pub use comparison::{is_same_endpoint, is_same_name};
 pub use config::Config;
 pub use decimals::{address, decimal};
 pub use endpoint::Endpoint;
+pub use exchange_lines::ExchangeLines;
 pub use indexes::has_duplicate_realm;
 pub use laws::{
     any_name_comes_last, link_of_finds_each_link, link_of_finds_its_endpoint,

@@ -3,12 +3,12 @@
 ghost use Rattle.std.specs.Prelude.{◌≡◌, ◌≤◌, length, drop};
 
 use crate::index::owner_of;
-use crate::names::{PatternRef, kind_and_name, realm_of};
+use crate::names::{PatternRef, kind_and_name, lower_in, realm_of};
 use crate::{Config, Endpoint, Link, Peer, Realm, list_search};
 
 impl Realm {
     ghost use Rattle.std.specs.Prelude.{◌≡◌, ◌≤◌, length, map};
-    ghost use Rattle.roam_conf.specs.Lookup.{server_with_ip, link_at, acct_or_coa_at};
+    ghost use Rattle.roam_conf.specs.Lookup.{reverse_home, link_at, acct_or_coa_at};
     ghost use Rattle.roam_conf.specs.Parts.{shown_peer, shown_realm};
 
     /// The link that the endpoint is, of this realm among these peers.
@@ -34,10 +34,13 @@ impl Realm {
         }
     }
 
-    /// The first server with the address.
+    /// The first server with the address, where the realm takes reverse requests.
     fn home_of(&self, ip: [u8; 4]) -> Option<u8>
-        ensures { result ≡ server_with_ip (shown_realm self.now).servers ip }
+        ensures { result ≡ reverse_home (shown_realm self.now) ip }
     {
+        if self.reverse.is_none() {
+            return None;
+        }
         match list_search::server_with_ip(self.servers.as_slice(), ip) {
             Some(server) => Some(server as u8),
             None => None,
@@ -54,9 +57,12 @@ fn from_place(octets: &[u8], place: usize) -> &[u8]
 }
 
 impl Config {
-    ghost use Rattle.std.specs.Prelude.{◌≡◌, ◌%◌, ◌<◌, IfSome, length, vec_len};
+    ghost use Rattle.std.specs.Prelude.{◌≡◌, ℕ, List, ◌+◌, ◌%◌, ◌<◌, ◌≤◌, IfSome, IsTrue, IsFalse, None, length, drop, get_or};
+    ghost use Rattle.std.specs.Prelude.{vec_len};
+    ghost use Rattle.std.specs.Option.{option_or};
+    ghost use Rattle.std.specs.Str.{str_to_ascii_lowercase};
     ghost use Rattle.roam_conf.specs.Config.{suffix};
-    ghost use Rattle.roam_conf.specs.Index.{pattern_seen};
+    ghost use Rattle.roam_conf.specs.Index.{pattern_key, pattern_seen};
     ghost use Rattle.roam_conf.specs.Lookup.{realm_named, realm_with, after_dots, further_patterns, first_answer};
     ghost use Rattle.roam_conf.specs.Lookup.{peer_with_ip, link_in, home_in, servers_in, IsLinkIn};
     ghost use Rattle.roam_conf.specs.Shown.{shown};
@@ -72,16 +78,88 @@ impl Config {
         realm_of(&self.found_by.names, kind, name)
     }
 
-    /// The realm of the longest suffix that follows one of the dots.
+    /// Whether a realm may have a suffix of so many octets.
+    fn may_have_suffix(&self, octets: usize) -> bool
+        ensures short { IsTrue result → octets ≤ 253 }
+        ensures none { IsFalse result → (name : List ℕ) → length name ≡ octets
+            → realm_with (shown self.now).realms (suffix name) ≡ None }
+    {
+        octets < 254 && self.found_by.suffix_lengths[octets]
+    }
+
+    /// Whether there is a dot at the place, and a realm may have a suffix as long as what follows it.
+    fn may_follow(&self, text: &[u8], place: usize) -> bool
+        requires { place < length text.now }
+        ensures short { IsTrue result → length text.now ≤ place + 254 }
+        ensures dot { IsTrue result → get_or text.now place 0 ≡ 46 }
+        ensures none { IsFalse result
+            → first_answer (λ name. realm_with (shown self.now).realms (suffix name))
+            (after_dots (drop (place + 1) text.now))
+            ≡ first_answer (λ name. realm_with (shown self.now).realms (suffix name))
+            (after_dots (drop place text.now)) }
+    {
+        text[place] == b'.' && self.may_have_suffix(text.len() - place - 1)
+    }
+
+    /// The realm that has the suffix of this key.
+    fn realm_of_suffix(&self, key: &[u8]) -> Option<u16>
+        ensures { (name : List ℕ) → key.now ≡ pattern_key (suffix name)
+            → result ≡ realm_with (shown self.now).realms (suffix name) }
+    {
+        owner_of(&self.found_by.names, key)
+    }
+
+    /// The realm that has the suffix behind a place of a text, which stands there in lower case too: what begins at a
+    /// dot there is a suffix's key.
+    fn realm_behind(&self, text: &[u8], lowered: &[u8], place: usize) -> Option<u16>
+        requires same { lowered.now ≡ str_to_ascii_lowercase text.now }
+        requires within { place < length text.now }
+        ensures { option_or result (first_answer (λ name. realm_with (shown self.now).realms (suffix name))
+            (after_dots (drop (place + 1) text.now)))
+            ≡ first_answer (λ name. realm_with (shown self.now).realms (suffix name))
+            (after_dots (drop place text.now)) }
+    {
+        if self.may_follow(text, place) {
+            self.realm_of_suffix(from_place(lowered, place))
+        } else {
+            None
+        }
+    }
+
+    /// The realm of the longest suffix that follows one of the dots of a text, which stands there in lower case too.
+    fn realm_with_lowered_suffix(&self, text: &[u8], lowered: &[u8]) -> Option<u16>
+        requires { lowered.now ≡ str_to_ascii_lowercase text.now }
+        ensures { result ≡ first_answer (λ name. realm_with (shown self.now).realms (suffix name))
+            (after_dots text.now) }
+    {
+        for i in 0..text.len() {
+            if let Some(realm) = self.realm_behind(text, lowered, i) {
+                return Some(realm);
+            }
+        }
+        None
+    }
+
+    /// The same of a text that no realm's suffix with its dot is longer than.
+    fn realm_with_near_suffix(&self, text: &[u8]) -> Option<u16>
+        requires { length text.now ≤ 254 }
+        ensures { result ≡ first_answer (λ name. realm_with (shown self.now).realms (suffix name))
+            (after_dots text.now) }
+    {
+        let mut buffer = [0; 254];
+        lower_in(&mut buffer, text);
+        self.realm_with_lowered_suffix(text, &buffer[..text.len()])
+    }
+
+    /// The realm of the longest suffix that follows one of the dots. Nothing is copied where no realm has a
+    /// suffix as long as what follows any of them.
     fn realm_with_suffix(&self, rest: &[u8]) -> Option<u16>
         ensures { result ≡ first_answer (λ name. realm_with (shown self.now).realms (suffix name))
             (after_dots rest.now) }
     {
         for i in 0..rest.len() {
-            if rest[i] == b'.' {
-                if let Some(realm) = self.realm_with(PatternRef::Suffix(from_place(rest, i + 1))) {
-                    return Some(realm);
-                }
+            if self.may_follow(rest, i) {
+                return self.realm_with_near_suffix(from_place(rest, i));
             }
         }
         None
@@ -133,8 +211,9 @@ impl Config {
         }
     }
 
-    /// The first server of a realm, in the order of use, that has the address in its `auth` or its
-    /// `acct` endpoint; `None` also where the realm isn't configured.
+    /// Whose reverse requests come to a realm from the address: the first server, in the order of use, that
+    /// has it in its `auth` or its `acct` endpoint; `None` also where the realm takes no reverse requests, or
+    /// isn't configured.
     pub fn home_of(&self, realm: u16, ip: [u8; 4]) -> Option<u8>
         ensures value { result ≡ home_in (shown self.now) realm ip }
         ensures bound { IfSome result (λ server. server < length (servers_in (shown self.now) realm)) }

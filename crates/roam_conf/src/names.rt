@@ -1,9 +1,10 @@
 //! The index of the names and patterns of all realms.
 
 ghost use Rattle.std.specs.Prelude.{◌≡◌, ◌≤◌, ◌+◌, ◌^◌, ◌∷◌, ◌++◌, IfOk, length, map};
-ghost use Rattle.std.specs.Prelude.{take, drop, true};
+ghost use Rattle.std.specs.Prelude.{ℕ, take, drop, true};
 ghost use Rattle.std.specs.Str.{str_to_ascii_lowercase};
 ghost use Rattle.roam_conf.specs.Index.{owners, owner_of, all_new, pattern_key, of_realm, all_patterns, pattern_seen};
+ghost use Rattle.roam_conf.specs.Index.{is_marked, HasMark, AreMarked};
 ghost use Rattle.roam_conf.specs.Parts.{shown_realm};
 ghost use Rattle.roam_conf.specs.Patterns.{shown_pattern, patterns_of};
 
@@ -11,10 +12,10 @@ use crate::index::{Index, note, owner_of};
 use crate::{Realm, RealmPattern};
 use std::alloc::{AllocError, Global};
 
-/// The first octet of a key, by the kind of its pattern.
+/// The first octet of a key, by the kind of its pattern: a suffix's is its dot.
 const WHOLE: u8 = 0;
 
-const SUFFIX: u8 = 1;
+const SUFFIX: u8 = b'.';
 
 const ANY: u8 = 2;
 
@@ -120,6 +121,16 @@ fn key_in(buffer: &mut [u8; 254], kind: u8, name: &[u8])
     }
 }
 
+/// A text in lower case, in front of a buffer that has room for it.
+pub(crate) fn lower_in(buffer: &mut [u8; 254], text: &[u8])
+    requires { length text.now ≤ 254 }
+    ensures { take (length text.now) buffer.new ≡ str_to_ascii_lowercase text.now }
+{
+    for (place, octet) in text.iter().enumerate() {
+        buffer[place] = octet.to_ascii_lowercase();
+    }
+}
+
 /// The kind and the name of a pattern that is looked for.
 pub(crate) fn kind_and_name(pattern: PatternRef<'_>) -> (u8, &[u8])
     ensures { result.0 ∷ str_to_ascii_lowercase result.1.now ≡ pattern_key (pattern_seen pattern.entry) }
@@ -139,4 +150,27 @@ pub(crate) fn realm_of(index: &Index, kind: u8, name: &[u8]) -> Option<u16>
     let mut buffer = [0; 254];
     key_in(&mut buffer, kind, name);
     owner_of(index, &buffer[..1 + name.len()])
+}
+
+/// Marks the length of a suffix, where the key is one's.
+fn mark_suffix(marks: &mut [bool; 254], key: &[u8])
+    ensures own { HasMark marks.new key.now }
+    ensures others { (n : ℕ) → is_marked marks.old n ≡ true → is_marked marks.new n ≡ true }
+{
+    if let Some((kind, name)) = key.split_first() {
+        if *kind == SUFFIX && name.len() <= 253 {
+            marks[name.len()] = true;
+        }
+    }
+}
+
+/// The lengths of the suffixes that have an owner.
+pub(crate) fn suffix_lengths(index: &Index) -> [bool; 254]
+    ensures { AreMarked result (owners index.now) }
+{
+    let mut marks = [false; 254];
+    for key in index.keys().as_slice() {
+        mark_suffix(&mut marks, key.as_slice());
+    }
+    marks
 }

@@ -10,7 +10,8 @@ pub enum Place {
     /// The outgoing socket of the realm of this index: what is forwarded for it leaves here, and the
     /// replies come in here.
     Out(u16),
-    /// Takes Disconnect- and CoA-Requests of the home servers of the realm of this index (RFC 5176).
+    /// Takes Disconnect- and CoA-Requests of the home servers of the realm of this index (RFC 5176), where it
+    /// takes them.
     Reverse(u16),
 }
 

@@ -2,12 +2,13 @@
 
 ghost use Rattle.std.specs.Prelude.{◌≤◌, length, map, string_bytes, vec_len, ◌≡◌, true};
 ghost use Rattle.std.specs.List.{list_all};
+ghost use Rattle.std.specs.Option.{ForSome};
 ghost use Rattle.roam_conf.specs.Letters.{is_realm_letter};
 ghost use Rattle.roam_conf.specs.Patterns.{is_pattern, shown_pattern};
 
 use crate::{Endpoint, RealmPattern, Server};
 
-/// A realm: its home servers, and the two sockets that the broker keeps for it.
+/// A realm: its home servers, and the sockets that the broker keeps for it.
 #[derive(Drop, PartialEq, Eq)]
 pub struct Realm {
     /// 1 to 253 ASCII letters, digits, `.` and `-`.
@@ -16,8 +17,9 @@ pub struct Realm {
     pub also: Vec<RealmPattern>,
     /// The broker's socket from which the realm's packets are forwarded; its port isn't 0.
     pub out: Endpoint,
-    /// The broker's socket that takes the realm's reverse requests (RFC 5176); its port isn't 0.
-    pub reverse: Endpoint,
+    /// The broker's socket that takes the realm's reverse requests (RFC 5176), where it takes them; its port
+    /// isn't 0.
+    pub reverse: Option<Endpoint>,
     /// How often a packet is sent to one server: 1 to 10.
     pub tries: u8,
     /// The time from one sending to the next, in milliseconds: 1 to 60000.
@@ -39,7 +41,7 @@ pub struct Realm {
     ghost name_letters: { list_all is_realm_letter (string_bytes name) ≡ true },
     ghost also_count: { vec_len also ≤ 256 },
     ghost also_names: { list_all is_pattern (map shown_pattern also.items) ≡ true },
-    ghost ports: { (1 ≤ out.port) × (1 ≤ reverse.port) },
+    ghost ports: { (1 ≤ out.port) × ForSome reverse (λ e. 1 ≤ e.port) },
     ghost tries_range: { (1 ≤ tries) × (tries ≤ 10) },
     ghost wait_range: { (1 ≤ wait) × (wait ≤ 60000) },
     ghost hold_range: { hold ≤ 60000 },

@@ -64,11 +64,6 @@ pub port_at : (key : List ℕ) (members : Members) (e : Endpoint) → value_at e
 port_at key members e is =
     option_and_then_some endpoint (get_member key members) e is (λ value there states. endpoint_range value e states)
 
-pub number_at : (least most : ℕ) (key : List ℕ) (members : Members) (n : ℕ) → value_at (number least most) key members ≡ Some n → (least ≤ n) × (n ≤ most)
-number_at least most key members n is =
-    option_and_then_some (number least most) (get_member key members) n is
-    (λ value there states. number_range least most value n states)
-
 pub count_at : (most : ℕ) (key : List ℕ) (members : Members) (items : Items) → value_at (array_of most) key members ≡ Some items → (1 ≤ item_count items) × (item_count items ≤ most)
 count_at most key members items is =
     option_and_then_some (array_of most) (get_member key members) items is

@@ -4,8 +4,9 @@ use Rattle.std.specs.List.{list_any, list_all}
 use Rattle.std.specs.Str.{bytes_eq}
 use Rattle.toml.specs.Data.{Data, array, table, Items, no_items, item, Members, no_members, member, get_member}
 use Rattle.roam_conf_reader.specs.declared.values.Letters.TheVariants.{Any, PeerName, RealmName}
+use Rattle.roam_conf.specs.declared.endpoint.Endpoint.{Endpoint}
 use Rattle.roam_conf.specs.Config.{ServerView, PeerView, RealmView, ConfigView}
-use Rattle.roam_conf_reader.specs.Values.{number, letters_of, text, address, endpoint, seed, flag, flag_or_true, number_or, patterns, array_of, value_at, optional_at, socket_path}
+use Rattle.roam_conf_reader.specs.Values.{number, letters_of, text, address, endpoint, seed_or_zeros, flag, exchange_lines, number_or, patterns, array_of, value_at, optional_at, socket_path}
 
 -- the required keys of the four tables
 abbrev pub server_required : List (List ℕ)
@@ -16,13 +17,11 @@ peer_required = codes "name" ∷ codes "ip" ∷ codes "secret" ∷ []
 
 abbrev pub realm_required : List (List ℕ)
 realm_required =
-    codes "name" ∷ codes "out" ∷ codes "reverse" ∷ codes "tries" ∷ codes "wait" ∷ codes "hold"
-    ∷ codes "max_pending" ∷ codes "max_sessions" ∷ codes "server" ∷ []
+    codes "name" ∷ codes "out" ∷ codes "server" ∷ []
 
 abbrev pub top_required : List (List ℕ)
 top_required =
-    codes "shards" ∷ codes "seed" ∷ codes "auth" ∷ codes "acct" ∷ codes "trace_limit"
-    ∷ codes "peer" ∷ codes "realm" ∷ []
+    codes "auth" ∷ codes "acct" ∷ codes "peer" ∷ codes "realm" ∷ []
 
 -- the keys that the four may have besides
 abbrev pub server_optional : List (List ℕ)
@@ -32,11 +31,13 @@ abbrev pub peer_optional : List (List ℕ)
 peer_optional = codes "coa" ∷ codes "nas_ip" ∷ codes "nas_id" ∷ codes "require_seal" ∷ []
 
 abbrev pub realm_optional : List (List ℕ)
-realm_optional = codes "also" ∷ codes "rest" ∷ codes "rest_after" ∷ []
+realm_optional =
+    codes "also" ∷ codes "reverse" ∷ codes "tries" ∷ codes "wait" ∷ codes "hold" ∷ codes "max_pending"
+    ∷ codes "max_sessions" ∷ codes "rest" ∷ codes "rest_after" ∷ []
 
 abbrev pub top_optional : List (List ℕ)
 top_optional =
-    codes "max_hops" ∷ codes "status_server" ∷ codes "trace_octets" ∷ codes "spread" ∷ codes "metrics"
+    codes "shards" ∷ codes "seed" ∷ codes "trace_limit" ∷ codes "max_hops" ∷ codes "status_server" ∷ codes "trace_octets" ∷ codes "spread" ∷ codes "metrics"
     ∷ codes "control" ∷ codes "log_exchanges" ∷ []
 
 -- the key is one of these
@@ -79,36 +80,45 @@ pub record StatesPeer (members : Members) (peer : PeerView) : Type 0 where
   pub require_seal : flag (get_member (codes "require_seal") members) ≡ Some peer.require_seal
   pub no_other_key : has_only peer_required peer_optional members ≡ true
 
+-- how many sessions a realm remembers where its table doesn't say it: none where it takes no reverse requests
+abbrev pub sessions_unless_said : Option Endpoint → ℕ
+sessions_unless_said None = 0
+sessions_unless_said (Some reverse) = 20000
+
 -- a table of the array `realm`; `wait`, `hold` and `rest` are in milliseconds
 pub record StatesRealm (members : Members) (realm : RealmView) : Type 0 where
   pub name : value_at (text 253 (letters_of RealmName)) (codes "name") members ≡ Some realm.name
   pub also : patterns (get_member (codes "also") members) ≡ Some realm.also
   pub out : value_at endpoint (codes "out") members ≡ Some realm.out
-  pub reverse : value_at endpoint (codes "reverse") members ≡ Some realm.reverse
-  pub tries : value_at (number 1 10) (codes "tries") members ≡ Some realm.tries
-  pub wait : value_at (number 1 60000) (codes "wait") members ≡ Some realm.wait
-  pub hold : value_at (number 0 60000) (codes "hold") members ≡ Some realm.hold
-  pub max_pending : value_at (number 1 4096) (codes "max_pending") members ≡ Some realm.max_pending
-  pub max_sessions : value_at (number 0 65536) (codes "max_sessions") members ≡ Some realm.max_sessions
-  pub rest : number_or 0 0 3600000 (get_member (codes "rest") members) ≡ Some realm.rest
-  pub rest_after : number_or 1 1 256 (get_member (codes "rest_after") members) ≡ Some realm.rest_after
+  pub reverse : optional_at endpoint (codes "reverse") members ≡ Some realm.reverse
+  pub tries : number_or 3 1 10 (get_member (codes "tries") members) ≡ Some realm.tries
+  pub wait : number_or 2000 1 60000 (get_member (codes "wait") members) ≡ Some realm.wait
+  pub hold : number_or 10000 0 60000 (get_member (codes "hold") members) ≡ Some realm.hold
+  pub max_pending : number_or 4096 1 4096 (get_member (codes "max_pending") members) ≡ Some realm.max_pending
+  pub max_sessions :
+      number_or (sessions_unless_said realm.reverse) 0 65536 (get_member (codes "max_sessions") members)
+      ≡ Some realm.max_sessions
+  pub rest : number_or 30000 0 3600000 (get_member (codes "rest") members) ≡ Some realm.rest
+  pub rest_after : number_or 3 1 256 (get_member (codes "rest_after") members) ≡ Some realm.rest_after
   pub servers : StatesTables StatesServer (value_at (array_of 8) (codes "server") members) realm.servers
   pub no_other_key : has_only realm_required realm_optional members ≡ true
 
 -- ## Stated configuration
 -- A text states a configuration where it is a TOML document (as the toolchain's `toml` defines it) whose tables
--- hold just the keys of the format, each with a value of its kind and range.
+-- hold just the keys of the format, each with a value of its kind and range. A number that may be absent has a
+-- default; of `max_sessions` it depends on whether the realm has a `reverse`.
 -- Source: ours
 -- Rules out: a key that is overlooked; a port with a leading zero
 -- Stands in: `roam_conf_reader` `Document.antt`: `StatesConfig`, `Faults.antt`: `States`; `read_config`
 --
 -- the whole document
 pub record StatesConfig (members : Members) (config : ConfigView) : Type 0 where
-  pub shards : value_at (number 1 64) (codes "shards") members ≡ Some config.shards
-  pub seed_octets : value_at seed (codes "seed") members ≡ Some config.seed
+  pub shards : number_or 1 1 64 (get_member (codes "shards") members) ≡ Some config.shards
+  pub seed_octets : seed_or_zeros (get_member (codes "seed") members) ≡ Some config.seed
   pub auth : value_at endpoint (codes "auth") members ≡ Some config.auth
   pub acct : value_at endpoint (codes "acct") members ≡ Some config.acct
-  pub trace_limit : value_at (number 1 1000000) (codes "trace_limit") members ≡ Some config.trace_limit
+  pub trace_limit :
+      number_or 100000 1 1000000 (get_member (codes "trace_limit") members) ≡ Some config.trace_limit
   pub trace_octets :
       number_or 67108864 1 1073741824 (get_member (codes "trace_octets") members) ≡ Some config.trace_octets
   pub max_hops : optional_at (number 1 100) (codes "max_hops") members ≡ Some config.max_hops
@@ -119,7 +129,7 @@ pub record StatesConfig (members : Members) (config : ConfigView) : Type 0 where
   -- what serves isn't the broker's: here it only has to be such a value
   pub metrics : is_some (optional_at endpoint (codes "metrics") members) ≡ true
   pub control : is_some (optional_at socket_path (codes "control") members) ≡ true
-  pub log_exchanges : is_some (flag_or_true (get_member (codes "log_exchanges") members)) ≡ true
+  pub log_exchanges : is_some (exchange_lines (get_member (codes "log_exchanges") members)) ≡ true
   pub no_other_key : has_only top_required top_optional members ≡ true
 
 -- each of the keys stands in the table

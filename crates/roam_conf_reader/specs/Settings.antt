@@ -5,7 +5,7 @@ use Rattle.toml.specs.Parse.{parse_document}
 use Rattle.roam_conf_reader.specs.declared.fault.ConfFault.{ConfFault}
 use Rattle.roam_conf_reader.specs.declared.fault.ConfFault.TheVariants.{Syntax, BadValue}
 use Rattle.roam_conf_reader.specs.declared.settings.Settings.{Settings}
-use Rattle.roam_conf_reader.specs.Values.{endpoint, flag_or_true, optional_at, socket_path}
+use Rattle.roam_conf_reader.specs.Values.{endpoint, exchange_lines, optional_at, socket_path}
 
 -- the text is a TOML document that states the settings
 pub record StatesSettings (text : List ℕ) (settings : Settings) : Type 0 where
@@ -13,14 +13,14 @@ pub record StatesSettings (text : List ℕ) (settings : Settings) : Type 0 where
   pub parsed : parse_document text ≡ Some members
   pub metrics : optional_at endpoint (codes "metrics") members ≡ Some settings.metrics
   pub control : optional_at socket_path (codes "control") members ≡ Some (option_map string_bytes settings.control)
-  pub log_exchanges : flag_or_true (get_member (codes "log_exchanges") members) ≡ Some settings.log_exchanges
+  pub log_exchanges : exchange_lines (get_member (codes "log_exchanges") members) ≡ Some settings.log_exchanges
 
 -- the text is a document with a bad value of one of their keys
 pub record HasBadSettings (text : List ℕ) : Type 0 where
   pub members : Members
   pub parsed : parse_document text ≡ Some members
   pub bad : (optional_at endpoint (codes "metrics") members ≡ None) ⊎ (optional_at socket_path (codes "control") members ≡ None)
-      ⊎ (flag_or_true (get_member (codes "log_exchanges") members) ≡ None)
+      ⊎ (exchange_lines (get_member (codes "log_exchanges") members) ≡ None)
 
 -- the text states none, for this fault
 abbrev pub IsNoSettings : List ℕ → ConfFault → Type 0

@@ -1,11 +1,13 @@
 -- What a single TOML value states: a number, a text, an address, an endpoint, a seed, an array. Ours.
-use Rattle.std.specs.Prelude.{ℕ, suc, pos, ◌&&◌, ◌==◌, not, nat_le, Bool, true, false, if◌then◌else◌, List, [], ◌∷◌, take, drop, length, Option, Some, None, option_map, option_and_then}
-use Rattle.std.specs.List.{list_all}
+use Rattle.std.specs.Prelude.{ℕ, suc, pos, ◌&&◌, ◌==◌, not, nat_le, Bool, true, false, if◌then◌else◌, codes, List, [], ◌∷◌, take, drop, length, Option, Some, None, option_map, option_and_then}
+use Rattle.std.specs.List.{list_all, repeat}
 use Rattle.std.specs.Result.{result_ok}
 use Rattle.std.specs.Str.{bytes_eq}
 use Rattle.hex.specs.Hex.{decode_sized}
 use Rattle.toml.specs.Data.{Data, string, integer, boolean, array, Items, no_items, item, Members, get_member}
 use Rattle.roam_conf.specs.declared.endpoint.Endpoint.{Endpoint}
+use Rattle.roam_conf.specs.declared.exchange_lines.ExchangeLines.{ExchangeLines}
+use Rattle.roam_conf.specs.declared.exchange_lines.ExchangeLines.TheVariants as lines
 use Rattle.roam_conf_reader.specs.declared.values.Letters.{Letters}
 use Rattle.roam_conf_reader.specs.declared.values.Letters.TheVariants.{Any, NoZero, PeerName, RealmName}
 use Rattle.roam_conf.specs.Config.{PatternView, whole, suffix, any}
@@ -54,17 +56,30 @@ unfoldable pub seed : Data → Option (List ℕ)
 seed (string digits) = result_ok (decode_sized digits 32)
 seed _ = None
 
+-- such a text, and 32 zeros where it is absent
+unfoldable pub seed_or_zeros : Option Data → Option (List ℕ)
+seed_or_zeros None = Some (repeat 32 (0 ∷ []))
+seed_or_zeros (Some found) = seed found
+
 -- a boolean, false where it is absent
 unfoldable pub flag : Option Data → Option Bool
 flag None = Some false
 flag (Some (boolean b)) = Some b
 flag (Some _) = None
 
--- a boolean that is true where the key is absent
-unfoldable pub flag_or_true : Option Data → Option Bool
-flag_or_true None = Some true
-flag_or_true (Some (boolean b)) = Some b
-flag_or_true (Some _) = None
+-- of which exchanges lines tell: `all`, which is true; `final`; `none`, which is false; all where the key is absent
+unfoldable pub exchange_lines_in : List ℕ → Option ExchangeLines
+exchange_lines_in octets =
+    if bytes_eq octets (codes "all") then Some lines.OfAll
+    else if bytes_eq octets (codes "final") then Some lines.OfFinal
+    else if bytes_eq octets (codes "none") then Some lines.OfNone else None
+
+unfoldable pub exchange_lines : Option Data → Option ExchangeLines
+exchange_lines None = Some lines.OfAll
+exchange_lines (Some (boolean true)) = Some lines.OfAll
+exchange_lines (Some (boolean false)) = Some lines.OfNone
+exchange_lines (Some (string octets)) = exchange_lines_in octets
+exchange_lines (Some _) = None
 
 -- an integer from `least` to `most`, and this one where it is absent
 unfoldable pub number_or : ℕ → ℕ → ℕ → Option Data → Option ℕ

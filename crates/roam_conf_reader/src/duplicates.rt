@@ -116,7 +116,9 @@ fn own_endpoints(
     endpoints.push(acct)?;
     for realm in realms {
         endpoints.push(realm.out)?;
-        endpoints.push(realm.reverse)?;
+        if let Some(reverse) = realm.reverse {
+            endpoints.push(reverse)?;
+        }
     }
     Ok(endpoints)
 }

@@ -8,17 +8,9 @@ ghost use Rattle.roam_conf_reader.specs.Values as spec;
 ghost use Rattle.roam_conf_reader.specs.Values.{letters_of, value_at, optional_at};
 
 use crate::values::{self, Letters, value};
-use roam_conf::Endpoint;
+use roam_conf::{Endpoint, ExchangeLines};
 use toml::Table;
 use toml::value::Array;
-
-/// An integer from `least` to `most`.
-pub(crate) fn number(table: &Table, key: &str, least: u32, most: u32) -> Option<u32>
-    ensures value { result ≡ value_at (spec.number least most) key.now (table_view table.now) }
-    ensures bounds { IfSome result (λ n. (least ≤ n) × (n ≤ most)) }
-{
-    values::number_of(value(table, key)?, least, most)
-}
 
 pub(crate) fn address(table: &Table, key: &str) -> Option<[u8; 4]>
     ensures { result ≡ value_at spec.address key.now (table_view table.now) }
@@ -32,11 +24,15 @@ pub(crate) fn endpoint(table: &Table, key: &str) -> Option<Endpoint>
     values::endpoint_of(value(table, key)?)
 }
 
-/// 32 octets, written as 64 hexadecimal digits.
-pub(crate) fn seed(table: &Table, key: &str) -> Option<[u8; 32]>
-    ensures { result ≡ value_at spec.seed key.now (table_view table.now) }
+/// 32 octets, written as 64 hexadecimal digits, or 32 zeros where the key is absent.
+#[tactic(auto, unfolding(crate::specs::Values::seed_or_zeros))]
+pub(crate) fn seed_or_zeros(table: &Table, key: &str) -> Option<[u8; 32]>
+    ensures { result ≡ spec.seed_or_zeros (get_member key.now (table_view table.now)) }
 {
-    values::seed_of(value(table, key)?)
+    match value(table, key) {
+        Some(value) => values::seed_of(value),
+        None => Some([0; 32]),
+    }
 }
 
 /// An array of 1 to `most` items.
@@ -132,14 +128,14 @@ pub(crate) fn optional_socket_path<'a>(table: &'a Table, key: &str) -> Option<Op
     }
 }
 
-/// A boolean, true where the key is absent.
-#[tactic(auto, unfolding(crate::specs::Values::flag_or_true))]
-pub(crate) fn flag_or_true(table: &Table, key: &str) -> Option<bool>
-    ensures { result ≡ spec.flag_or_true (get_member key.now (table_view table.now)) }
+/// Of which exchanges lines tell: of all where the key is absent.
+#[tactic(auto, unfolding(crate::specs::Values::exchange_lines))]
+pub(crate) fn exchange_lines(table: &Table, key: &str) -> Option<ExchangeLines>
+    ensures { result ≡ spec.exchange_lines (get_member key.now (table_view table.now)) }
 {
     match value(table, key) {
-        Some(value) => value.as_bool(),
-        None => Some(true),
+        Some(value) => values::exchange_lines_of(value),
+        None => Some(ExchangeLines::OfAll),
     }
 }
 

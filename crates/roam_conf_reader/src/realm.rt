@@ -1,11 +1,11 @@
 //! The realms that tables state.
 
-ghost use Rattle.std.specs.Prelude.{◌≡◌, codes, Err, IfOk, List, MatchOption, Some, map};
+ghost use Rattle.std.specs.Prelude.{◌≡◌, ◌≤◌, codes, Err, IfOk, List, MatchOption, Some, map};
 ghost use Rattle.toml.specs.View.{array_view, table_view};
 ghost use Rattle.roam_conf.specs.Config.{RealmView};
 ghost use Rattle.roam_conf.specs.Parts.{shown_realm};
 ghost use Rattle.roam_conf_reader.specs.declared.realm.RealmText.{RealmText};
-ghost use Rattle.roam_conf_reader.specs.Document.{StatesEach, StatesRealm};
+ghost use Rattle.roam_conf_reader.specs.Document.{StatesEach, StatesRealm, sessions_unless_said};
 ghost use Rattle.roam_conf_reader.specs.Reading.{IsValueFault};
 ghost use Rattle.roam_conf_reader.specs.Texts.{StatesBesideLists};
 ghost use Rattle.roam_conf_reader.specs.Values.{array_of, value_at};
@@ -24,7 +24,7 @@ use toml::value::Array;
 struct RealmText<'a> {
     name: &'a str,
     out: Endpoint,
-    reverse: Endpoint,
+    reverse: Option<Endpoint>,
     tries: u8,
     wait: u32,
     hold: u32,
@@ -33,6 +33,17 @@ struct RealmText<'a> {
     rest: u32,
     rest_after: u16,
     servers: &'a Array,
+}
+
+/// How many sessions a realm remembers where its table doesn't say it.
+fn sessions_unless_said(reverse: Option<Endpoint>) -> u32
+    ensures value { result ≡ sessions_unless_said reverse }
+    ensures bound { result ≤ 65536 }
+{
+    match reverse {
+        Some(_) => 20000,
+        None => 0,
+    }
 }
 
 /// What a table states of a realm; nothing where one of its own values is bad.
@@ -45,17 +56,24 @@ fn realm_text(table: &Table) -> Option<RealmText<'_>>
     if !has_only(table, &REALM_KEYS, &REALM_OPTIONAL_KEYS) {
         return None;
     }
+    let reverse = keys::optional_endpoint(table, "reverse")?;
     Some(RealmText {
         name: keys::text(table, "name", 253, Letters::RealmName)?,
         out: keys::endpoint(table, "out")?,
-        reverse: keys::endpoint(table, "reverse")?,
-        tries: keys::number(table, "tries", 1, 10)? as u8,
-        wait: keys::number(table, "wait", 1, 60000)?,
-        hold: keys::number(table, "hold", 0, 60000)?,
-        max_pending: keys::number(table, "max_pending", 1, 4096)? as u16,
-        max_sessions: keys::number(table, "max_sessions", 0, 65536)?,
-        rest: keys::number_or(table, "rest", 0, 0, 3600000)?,
-        rest_after: keys::number_or(table, "rest_after", 1, 1, 256)? as u16,
+        reverse,
+        tries: keys::number_or(table, "tries", 3, 1, 10)? as u8,
+        wait: keys::number_or(table, "wait", 2000, 1, 60000)?,
+        hold: keys::number_or(table, "hold", 10000, 0, 60000)?,
+        max_pending: keys::number_or(table, "max_pending", 4096, 1, 4096)? as u16,
+        max_sessions: keys::number_or(
+            table,
+            "max_sessions",
+            sessions_unless_said(reverse),
+            0,
+            65536,
+        )?,
+        rest: keys::number_or(table, "rest", 30000, 0, 3600000)?,
+        rest_after: keys::number_or(table, "rest_after", 3, 1, 256)? as u16,
         servers: keys::array(table, "server", 8)?,
     })
 }

@@ -6,7 +6,7 @@ ghost use Rattle.roam_conf_reader.specs.Settings.{IsNoSettings, StatesSettings};
 use crate::document::document;
 use crate::peer::copied;
 use crate::{ConfFault, keys};
-use roam_conf::Endpoint;
+use roam_conf::{Endpoint, ExchangeLines};
 use std::alloc::Global;
 
 /// How a configuration is served.
@@ -17,8 +17,8 @@ pub struct Settings {
     /// The path of the UNIX socket through which the server is asked and stopped; none where the key `control` is
     /// absent.
     pub control: Option<String>,
-    /// Whether a line tells of each exchange that ends: not where the key `log_exchanges` is false.
-    pub log_exchanges: bool,
+    /// Of which exchanges that end a line tells: of all where the key `log_exchanges` is absent.
+    pub log_exchanges: ExchangeLines,
 }
 
 /// Reads the settings of a configuration from its text.
@@ -38,7 +38,7 @@ pub fn read_settings(alloc: Global, text: &str) -> Result<Settings, ConfFault>
     let Some(control) = keys::optional_socket_path(&table, "control") else {
         return Err(ConfFault::BadValue);
     };
-    let Some(log_exchanges) = keys::flag_or_true(&table, "log_exchanges") else {
+    let Some(log_exchanges) = keys::exchange_lines(&table, "log_exchanges") else {
         return Err(ConfFault::BadValue);
     };
     Ok(Settings {

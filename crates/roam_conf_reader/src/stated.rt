@@ -46,13 +46,13 @@ fn top_text(table: &Table) -> Option<TopText<'_>>
     }
     let _metrics = keys::optional_endpoint(table, "metrics")?;
     let _control = keys::optional_socket_path(table, "control")?;
-    let _log_exchanges = keys::flag_or_true(table, "log_exchanges")?;
+    let _log_exchanges = keys::exchange_lines(table, "log_exchanges")?;
     Some(TopText {
-        shards: keys::number(table, "shards", 1, 64)? as u16,
-        seed: keys::seed(table, "seed")?,
+        shards: keys::number_or(table, "shards", 1, 1, 64)? as u16,
+        seed: keys::seed_or_zeros(table, "seed")?,
         auth: keys::endpoint(table, "auth")?,
         acct: keys::endpoint(table, "acct")?,
-        trace_limit: keys::number(table, "trace_limit", 1, 1000000)?,
+        trace_limit: keys::number_or(table, "trace_limit", 100000, 1, 1000000)?,
         trace_octets: keys::number_or(table, "trace_octets", 67108864, 1, 1073741824)?,
         max_hops: keys::optional_octet(table, "max_hops", 100)?,
         status_server: keys::flag(table, "status_server")?,

@@ -24,34 +24,29 @@ pub(crate) const PEER_KEYS: [&str; 3] = ["name", "ip", "secret"];
 pub(crate) const PEER_OPTIONAL_KEYS: [&str; 4] = ["coa", "nas_ip", "nas_id", "require_seal"];
 
 /// The keys that a realm's table must have.
-pub(crate) const REALM_KEYS: [&str; 9] = [
-    "name",
-    "out",
+pub(crate) const REALM_KEYS: [&str; 3] = ["name", "out", "server"];
+
+/// The keys that a realm's table may have besides.
+pub(crate) const REALM_OPTIONAL_KEYS: [&str; 9] = [
+    "also",
     "reverse",
     "tries",
     "wait",
     "hold",
     "max_pending",
     "max_sessions",
-    "server",
+    "rest",
+    "rest_after",
 ];
-
-/// The keys that a realm's table may have besides.
-pub(crate) const REALM_OPTIONAL_KEYS: [&str; 3] = ["also", "rest", "rest_after"];
 
 /// The keys that the document itself must have.
-pub(crate) const TOP_KEYS: [&str; 7] = [
-    "shards",
-    "seed",
-    "auth",
-    "acct",
-    "trace_limit",
-    "peer",
-    "realm",
-];
+pub(crate) const TOP_KEYS: [&str; 4] = ["auth", "acct", "peer", "realm"];
 
 /// The keys that the document itself may have besides.
-pub(crate) const TOP_OPTIONAL_KEYS: [&str; 7] = [
+pub(crate) const TOP_OPTIONAL_KEYS: [&str; 10] = [
+    "shards",
+    "seed",
+    "trace_limit",
     "max_hops",
     "status_server",
     "trace_octets",

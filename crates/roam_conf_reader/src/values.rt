@@ -11,7 +11,7 @@ ghost use Rattle.roam_conf_reader.specs.Values as spec;
 ghost use Rattle.roam_conf_reader.specs.Values.{letters_of, text_fits, value_at, optional_at};
 
 use hex::FromHex;
-use roam_conf::{Endpoint, address};
+use roam_conf::{Endpoint, ExchangeLines, address};
 use toml::value::Array;
 use toml::{Table, Value};
 
@@ -105,6 +105,36 @@ pub(crate) fn endpoint_of(value: &Value) -> Option<Endpoint>
     ensures { result ≡ spec.endpoint (view value.now) }
 {
     Endpoint::from_text(value.as_str()?)
+}
+
+/// Of which exchanges lines tell, by a text.
+#[tactic(auto, unfolding(crate::specs::Values::exchange_lines_in))]
+fn exchange_lines_in(text: &str) -> Option<ExchangeLines>
+    ensures { result ≡ spec.exchange_lines_in text.now }
+{
+    if text == "all" {
+        return Some(ExchangeLines::OfAll);
+    }
+    if text == "final" {
+        return Some(ExchangeLines::OfFinal);
+    }
+    if text == "none" {
+        return Some(ExchangeLines::OfNone);
+    }
+    None
+}
+
+/// Of which exchanges lines tell: a boolean, or one of three texts.
+#[tactic(auto, unfolding(crate::specs::Values::exchange_lines))]
+pub(crate) fn exchange_lines_of(value: &Value) -> Option<ExchangeLines>
+    ensures { result ≡ spec.exchange_lines (Some (view value.now)) }
+{
+    match value {
+        Value::Boolean(true) => Some(ExchangeLines::OfAll),
+        Value::Boolean(false) => Some(ExchangeLines::OfNone),
+        Value::String(text) => exchange_lines_in(text.as_str()),
+        _ => None,
+    }
 }
 
 #[tactic(auto, unfolding(crate::specs::Values::seed))]

@@ -4,12 +4,13 @@
 ghost use Rattle.std.specs.Prelude.{◌≡◌};
 
 use crate::missing::{Handed, Missing};
-use roam_metrics::StatusForm;
+use crate::reloads::{Build, Tally};
+use roam_metrics::{About, StatusForm};
 use std::alloc::{AllocError, Global};
 use std::sync::atomic::{AtomicBool, Ordering};
 use std::sync::{Mutex, Wait};
 use std::thread::Parker;
-use std::time::Instant;
+use std::time::{Clock, Instant};
 
 /// What the server's own thread is asked for.
 #[derive(Clone, Copy)]
@@ -166,23 +167,70 @@ pub struct Office {
     pub attendant: Parker,
     /// What was handed over by answers that weren't taken whole.
     pub missing: Missing,
+    /// Which program serves.
+    pub build: Build,
+    /// The reloads after which another configuration was served.
+    pub served: Tally,
+    /// Those that changed nothing.
+    pub declined: Tally,
     /// When the server started.
     pub start: Instant,
+    /// The same in seconds since 1970, where the system's clock told it.
+    pub began: Option<u64>,
     /// Whether the server ends: nothing is answered any more.
     pub is_over: AtomicBool,
 }
 
+/// The seconds since 1970, where the system's clock tells them.
+fn seconds_since_1970<R: Clock>(rt: &R) -> Option<u64> {
+    match rt.since_1970() {
+        Ok(time) => Some(time.as_secs()),
+        Err(_) => None,
+    }
+}
+
 impl Office {
     /// Nobody asks yet. There are so many shards.
-    pub fn new(alloc: Global, start: Instant, shards: u16) -> Result<Office, AllocError> {
+    pub fn new<R: Clock>(
+        rt: &R,
+        alloc: Global,
+        start: Instant,
+        shards: u16,
+        build: Build,
+    ) -> Result<Office, AllocError> {
         Ok(Office {
             metrics: Desk::new(),
             control: Desk::new(),
             attendant: Parker::new(),
             missing: Missing::new(alloc, shards)?,
+            build,
+            served: Tally::new(),
+            declined: Tally::new(),
             start,
+            began: seconds_since_1970(rt),
             is_over: AtomicBool::new(false),
         })
+    }
+
+    /// A reload went so, at this moment, in milliseconds since the start.
+    pub fn count_reload(&self, course: Course, now: u64) {
+        if course == Course::Done {
+            self.served.add(now);
+        } else {
+            self.declined.add(now);
+        }
+    }
+
+    /// Which server is told of at this moment, in milliseconds since the start.
+    pub fn about(&self, now: u64) -> About {
+        About {
+            version: self.build.version,
+            toolchain: self.build.toolchain,
+            began: self.began,
+            uptime: now,
+            served: self.served.reloads(),
+            declined: self.declined.reloads(),
+        }
     }
 
     /// The server ends: who waits is told.

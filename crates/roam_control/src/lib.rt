@@ -14,6 +14,7 @@ mod connections;
 mod desk;
 mod missing;
 mod pause;
+mod reloads;
 mod script;
 mod stopping;
 
@@ -21,5 +22,6 @@ pub use asker::{Asker, Door};
 pub use connections::{Listener, answer_on};
 pub use desk::{Course, Desk, Office, Order, Reply, done, plain_reply};
 pub use missing::{Handed, Missing};
+pub use reloads::{Build, Tally};
 pub use script::script_of;
 pub use stopping::{Stopping, grace};

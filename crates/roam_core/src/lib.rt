@@ -62,8 +62,9 @@
 //! - of one request, by its ticket: at most `tries` packets to each of its targets, and one back | law
 //!   `sent_for_one_request`
 //! - no entry waits longer than `tries` x targets x (`wait` + g), while moments don't go back and no event
-//!   comes more than g after the tick before it. That ticks come is the premise, and not claimed | law
-//!   `bounded_waits`; `bounded_waits_in_histories`
+//!   comes more than g after the tick before it. That ticks come is the premise, and not claimed; where a tick
+//!   has a part of what is due, moments go back, by 100 ms at most, and the law says nothing of that stretch |
+//!   law `bounded_waits`; `bounded_waits_in_histories`
 #![tactic(auto)]
 
 mod bounds;

@@ -4,6 +4,7 @@ use Rattle.std.proofs.lemmas.List.{length-append, get_or-set_same, get_or-set_ot
 use mathlib.Core.List.{IsPrefix}
 use Rattle.roam_trace.specs.History.{Beginning, Ends, GoesOn, IsHistory, begun, TraceView, end_of, with_step, without_steps}
 use Rattle.roam_shard.specs.Twins.{NothingDue}
+use Rattle.roam_due.specs.Moments.{IsTickMoment}
 use Rattle.roam_trace.specs.Steps.{PlainStep}
 use Rattle.roam_book.specs.declared.state.gauges.Gauges.{Gauges}
 use Rattle.roam_core.specs.ManyRealms.{state_at}
@@ -218,10 +219,10 @@ look o k shard now old new due kept here there begins is seen =
     )
 
 -- a tick was recorded where something was due
-pub due_call : (o : HubOpening) (k : KeptView) (shard now : ℕ) (old new : SeatView) (number : ℕ) (s : PlainStep) → IsKept o k
-    → k.front.shard ≡ shard → IsPrefix (front_of old shard) k.front.entries → (NothingDue now k.trace.states → ⊥) → IsCall o shard old new number s
-    → front_of new shard ≡ k.front.entries ++ step_entry s ∷ [] → IsDueCall o shard now old new number s
-due_call o k shard now old new number s kept here begins due call more =
+pub due_call : (o : HubOpening) (k : KeptView) (shard now moment : ℕ) (old new : SeatView) (number : ℕ) (s : PlainStep) → IsKept o k
+    → k.front.shard ≡ shard → IsPrefix (front_of old shard) k.front.entries → (NothingDue now k.trace.states → ⊥) → IsTickMoment now k.trace.states moment → IsCall o shard old new number s
+    → front_of new shard ≡ k.front.entries ++ step_entry s ∷ [] → IsDueCall o shard now moment old new number s
+due_call o k shard now moment old new number s kept here begins due part call more =
     let end = whole_end o k kept ∙ ap (λ (n : ℕ). end_of (opening_at o n) (steps_in k.front.entries)) here in
     record {
       call = record {
@@ -235,6 +236,7 @@ due_call o k shard now old new number s kept here begins due call more =
         history = call.history;
       };
       due = λ none. due (subst (λ states. NothingDue now states) (sym end) none);
+      part = subst (λ states. IsTickMoment now states moment) end part;
     }
 
 -- as many steps are stored as the trace can hold

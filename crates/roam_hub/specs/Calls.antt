@@ -8,6 +8,7 @@ use Rattle.roam_route.specs.Events.{arrival_of}
 use Rattle.roam_route.specs.Shown.{shown_job}
 use Rattle.roam_core.specs.Events.{PlainEvent, arrives, ticks}
 use Rattle.roam_shard.specs.Twins.{NothingDue}
+use Rattle.roam_due.specs.Moments.{IsTickMoment}
 use Rattle.roam_trace.specs.History.{IsHistory, end_of}
 use Rattle.roam_trace.specs.Steps.{PlainStep, octets_in, shown_answer}
 use Rattle.roam_history.specs.Entries.{HistoryEntry, let_go_entry, step_entry, steps_in, stored_of}
@@ -15,17 +16,10 @@ use Rattle.roam_history.specs.HubOpening.{HubOpening, opening_at}
 use Rattle.roam_audit.specs.Seats.{SeatView, front_of, noted}
 use Rattle.roam_hub.specs.declared.answered.Answered.{Answered}
 use Rattle.roam_hub.specs.declared.answered.Refused.{Refused}
+use Rattle.roam_hub.specs.declared.answered.Ticked.{Ticked}
 use Rattle.roam_hub.specs.declared.fault.HubFault.{HubFault}
 use Rattle.roam_hub.specs.declared.fault.HubFault.TheVariants as hub
 
--- ## Tick where something is due
--- It was recorded, and where the steps before it end something was due; or nothing was recorded, since nothing
--- was due where what the seat has then seen of the history ends.
--- Source: ours
--- Rules out: a due entry that is passed over; a broker at rest that stores ticks
--- Stands in: `roam_hub` `Calls.antt`: `IsTick`, `IsDueCall`; with what an error leaves, `TicksIfDue`;
--- `Hub::tick_if_due`, `tick_noting`
---
 -- whatever a call of a shard gives: all that the seat had seen of that shard begins what it has then seen.
 -- Of other shards it has seen what it had
 pub record Sees (shard : ℕ) (old new : SeatView) : Type 0 where
@@ -72,11 +66,12 @@ pub record IsCall (o : HubOpening) (shard : ℕ) (old new : SeatView) (number : 
 abbrev pub IsFull : HubOpening → ℕ → SeatView → Type 0
 IsFull o shard seat = length (stored_of (front_of seat shard)) ≡ o.config.trace_limit
 
--- a call was recorded where something was due: where the steps before this one end
-pub record IsDueCall (o : HubOpening) (shard now : ℕ) (old new : SeatView) (number : ℕ) (step : PlainStep)
+-- a call was recorded where something was due, at a moment that parts what is due: where the steps before this one end
+pub record IsDueCall (o : HubOpening) (shard now moment : ℕ) (old new : SeatView) (number : ℕ) (step : PlainStep)
     : Type 0 where
   pub call : IsCall o shard old new number step
   pub due : NothingDue now (end_of (opening_at o shard) (steps_in call.before)) → ⊥
+  pub part : IsTickMoment now (end_of (opening_at o shard) (steps_in call.before)) moment
 
 -- ## Look at a shard
 -- Nothing was recorded; whether anything is due, just as it is where what the seat has then seen of the history
@@ -112,12 +107,24 @@ module _ {A : Type 0} where
   abbrev pub answered_step : PlainEvent → Answered A → PlainStep
   answered_step event a = record { event = event; answer = shown_answer a.answer }
 
-  -- a tick was recorded where something was due, or nothing was due and nothing recorded
-  abbrev pub IsTick :
-      HubOpening → ℕ → ℕ → PlainEvent → SeatView → SeatView → Option (Answered A) → Type 0
-  IsTick o shard now event old new (Some a) =
-      IsDueCall o shard now old new a.number (answered_step event a)
-  IsTick o shard now event old new None = IsLook o shard now old new false
+  -- a tick was recorded where something was due, and whether anything is due after it
+  pub record IsTicked (o : HubOpening) (shard now : ℕ) (old new : SeatView) (t : Ticked A) : Type 0 where
+    pub call : IsDueCall o shard now t.moment old new t.answered.number (answered_step (ticks t.moment shard) t.answered)
+    pub more : t.is_more ≡ false ↔ NothingDue now (end_of (opening_at o shard) (steps_in (front_of new shard)))
+
+  -- ## Tick where something is due
+  -- It was recorded, and where the steps before it end something was due; its moment parts what is due there; and it
+  -- says whether anything is due after it. Or nothing was recorded, since nothing was due where what the seat has
+  -- then seen of the history ends.
+  -- Source: ours
+  -- Rules out: a due entry that is passed over; a broker at rest that stores ticks
+  -- Stands in: `roam_hub` `Calls.antt`: `IsTick`, `IsTicked`, `IsDueCall`; with what an error leaves, `TicksIfDue`;
+  -- `Hub::tick_if_due`, `tick_noting`
+  --
+  -- that, or nothing was due and nothing recorded
+  abbrev pub IsTick : HubOpening → ℕ → ℕ → SeatView → SeatView → Option (Ticked A) → Type 0
+  IsTick o shard now old new (Some t) = IsTicked o shard now old new t
+  IsTick o shard now old new None = IsLook o shard now old new false
 
   -- what a call with a job does. Where it was recorded, its step stands in the history of its shard with the answer
   -- that is returned, and the octets are those of the steps that are then stored. Whatever it gives, of that shard's
@@ -140,8 +147,8 @@ module _ {A : Type 0} where
   -- has seen more. With an error the seat counts nothing, and it is full only where as many steps are stored as the
   -- trace can hold
   pub record TicksIfDue (o : HubOpening) (shard now : ℕ) (old new : SeatView)
-      (result : Result (Option (Answered A)) HubFault) : Type 0 where
-    pub tick : IfOk result (IsTick o shard now (ticks now shard) old new)
+      (result : Result (Option (Ticked A)) HubFault) : Type 0 where
+    pub tick : IfOk result (IsTick o shard now old new)
     pub seen : Sees shard old new
     pub err : OnErr result (new.tallies ≡ old.tallies)
     pub full : IsErrOf result hub.TraceFull → IsFull o shard new

@@ -4,6 +4,7 @@ use Rattle.roam_conf.specs.Config.{ConfigView}
 use Rattle.roam_book.specs.RealmState.{RealmState}
 use Rattle.roam_shard.specs.ShardView.{ShardView}
 use Rattle.roam_shard.specs.Pausing.{StandsUnder, states_under}
+pub use Rattle.roam_follow.specs.Paused.{ArePaused, IsPaused}
 use Rattle.roam_shard.specs.declared.paused.Paused.{Paused}
 use Rattle.roam_trace.specs.History.{end_of}
 use Rattle.roam_trace.specs.Steps.{PlainStep}
@@ -11,28 +12,11 @@ use Rattle.roam_history.specs.HubOpening.{HubOpening, opening_at}
 use Rattle.roam_audit.specs.Audit.{steps_of}
 
 module _ {A : Type 0} where
-  -- a paused shard of this number stands under a configuration
-  pub record IsPaused (config : ConfigView) (number : ℕ) (p : Paused A) : Type 0 where
-    pub shard : p.shard ≡ number
-    pub stands : StandsUnder config p
-
   -- a shard was taken from its configuration
   pub record IsPausedShard (s : ShardView) (p : Paused A) : Type 0 where
     pub shard : p.shard ≡ s.opening.shard
     pub stands : StandsUnder s.opening.config p
     pub states : states_under s.opening.config p ≡ s.states
-
-  -- ## Shards at the end
-  -- When a hub is paused its shards come back, one for each number. Each stands under the hub's configuration
-  -- where its history ends.
-  -- Source: ours
-  -- Rules out: a shard that goes on elsewhere than where its last answer left it
-  -- Stands in: `roam_hub` `Pausing.antt`: `ArePaused`, `StandAtEnd`; `Hub::pause`: `paused`, `stand`
-  --
-  -- one for each number
-  pub record ArePaused (config : ConfigView) (shards : List (Paused A)) : Type 0 where
-    pub count : length shards ≡ config.shards
-    pub each : (k : ℕ) (p : Paused A) → slice_get shards k ≡ Some p → IsPaused config k p
 
   -- the states of a shard's realms: none of a shard that isn't there
   abbrev pub states_of_one : ConfigView → Option (Paused A) → List RealmState

@@ -17,6 +17,16 @@ pub struct Answered<A: Allocator> {
     pub octets: u64,
 }
 
+/// A tick that was recorded.
+#[derive(Drop)]
+pub struct Ticked<A: Allocator> {
+    /// Its moment, in milliseconds: that of the call, or an earlier one, at which few entries were due.
+    pub moment: u64,
+    pub answered: Answered<A>,
+    /// Whether anything is due at the call's moment still.
+    pub is_more: bool,
+}
+
 /// Why a job isn't recorded, and the job, as it was.
 #[derive(Drop)]
 pub struct Refused<A: Allocator> {

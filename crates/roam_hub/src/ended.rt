@@ -5,12 +5,11 @@ ghost use Rattle.roam_route.specs.Events.{IsEvent};
 ghost use Rattle.roam_route.specs.Shown.{shown_job};
 ghost use Rattle.roam_hub.specs.Calls.{Calls, TicksIfDue};
 
-use crate::answered::{Answered, Refused};
+use crate::answered::{Answered, Refused, Ticked};
 use crate::call::Call;
 use crate::fault::HubFault;
 use crate::gate::Gate;
 use crate::hub::Hub;
-use crate::locked_trace::LockedTrace;
 use crate::locking::wait_for;
 use crate::notes::{Notes, Stood, standing_of};
 use roam_audit::Seat;
@@ -79,7 +78,7 @@ fn note_last_sent<R: Wait, A: Allocator + Copy>(
 }
 
 /// Notes how the entries stand that are noted.
-fn note_after<A: Allocator + Copy>(shard: &Shard<'_, A>, notes: &mut Notes<A>) {
+pub(crate) fn note_after<A: Allocator + Copy>(shard: &Shard<'_, A>, notes: &mut Notes<A>) {
     for past in notes.pasts_mut().iter_mut() {
         past.stands = match shard.entry_with(past.realm, past.ticket) {
             Some(entry) => standing_of(entry),
@@ -88,16 +87,15 @@ fn note_after<A: Allocator + Copy>(shard: &Shard<'_, A>, notes: &mut Notes<A>) {
     }
 }
 
-impl<A: Allocator + Copy, N: Opened> LockedTrace<'_, A, N> {
-    /// Notes of all entries that are due those that wait and aren't sent to their link again.
-    fn note_due<R: Wait>(&self, rt: &R, realms: u16, now: u64, notes: &mut Notes<A>) {
-        let shard = self.traced.shard();
-        if !self.traced.is_due(now) {
-            return;
-        }
-        for realm in 0..realms {
-            note_last_sent(rt, shard, realm, now, notes);
-        }
+/// Notes of all entries that are due at a moment those that wait and aren't sent to their link again.
+pub(crate) fn note_due<R: Wait, A: Allocator + Copy>(
+    rt: &R,
+    shard: &Shard<'_, A>,
+    now: u64,
+    notes: &mut Notes<A>,
+) {
+    for realm in 0..shard.opening().config.realms.len() {
+        note_last_sent(rt, shard, realm as u16, now, notes);
     }
 }
 
@@ -127,8 +125,8 @@ impl<'c, A: Allocator + Copy, N: Opened> Hub<'c, A, N> {
         kept.take(call, seat, shard, job)
     }
 
-    /// As `tick_if_due`; and it notes of the entries that are due those that wait and aren't sent to their link again,
-    /// and how they stand after the tick. That takes no memory.
+    /// As `tick_if_due`; and it notes of the entries that are due at the tick's moment those that wait and aren't sent to
+    /// their link again, and how they stand after the tick. That takes no memory.
     ///
     /// # Errors
     ///
@@ -139,7 +137,7 @@ impl<'c, A: Allocator + Copy, N: Opened> Hub<'c, A, N> {
         seat: &mut Seat<A, N>,
         shard: u16,
         notes: &mut Notes<A>,
-    ) -> Result<Option<Answered<A>>, HubFault>
+    ) -> Result<Option<Ticked<A>>, HubFault>
         ensures tick { TicksIfDue N.opening shard call.entry.moment seat.old seat.new result }
         ensures no_shard { IsErrOf result HubFault.NoShard ↔ N.opening.config.shards ≤ shard }
     {
@@ -149,9 +147,6 @@ impl<'c, A: Allocator + Copy, N: Opened> Hub<'c, A, N> {
         let mut kept = wait_for(call.rt, &self.locks[usize::from(shard)]);
         call.gate.inside(shard);
         notes.clear();
-        kept.note_due(call.rt, self.config.realms.len() as u16, call.moment, notes);
-        let answered = kept.tick_if_due(call, seat, shard)?;
-        note_after(kept.traced.shard(), notes);
-        Ok(answered)
+        kept.tick_if_due(call, seat, shard, notes)
     }
 }

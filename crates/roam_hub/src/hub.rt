@@ -12,12 +12,13 @@ ghost use Rattle.roam_audit.specs.Seats.{front_of};
 ghost use Rattle.roam_audit.specs.Shown.{shown_step};
 ghost use Rattle.roam_hub.specs.Calls.{AreGone, Calls, IsCall, IsFull, IsLook, Sees, TicksIfDue, answered_step};
 
-use crate::answered::{Answered, Refused};
+use crate::answered::{Answered, Refused, Ticked};
 use crate::call::Call;
 use crate::fault::HubFault;
 use crate::gate::Gate;
 use crate::locked_trace::LockedTrace;
 use crate::locking::wait_for;
+use crate::notes::Notes;
 use roam_audit::{Receipt, Seat};
 use roam_conf::Config;
 use roam_core::Event;
@@ -150,6 +151,10 @@ impl<'c, A: Allocator + Copy, N: Opened> Hub<'c, A, N> {
     /// A tick of a shard where something is due in it at the call's moment, and no receipt. None where nothing is
     /// due: nothing is stored then, and no memory is wanted.
     ///
+    /// Where many entries are due, the tick's moment is an earlier one, at which few were, or the first at which any was;
+    /// only what has been due for long is worked off at once. The caller asks again until no more is due: between two
+    /// calls others have the lock.
+    ///
     /// # Errors
     ///
     /// As `tick`.
@@ -158,16 +163,11 @@ impl<'c, A: Allocator + Copy, N: Opened> Hub<'c, A, N> {
         call: Call<'_, R, G>,
         seat: &mut Seat<A, N>,
         shard: u16,
-    ) -> Result<Option<Answered<A>>, HubFault>
+    ) -> Result<Option<Ticked<A>>, HubFault>
         ensures tick { TicksIfDue N.opening shard call.entry.moment seat.old seat.new result }
         ensures no_shard { IsErrOf result HubFault.NoShard ↔ N.opening.config.shards ≤ shard }
     {
-        if usize::from(shard) >= self.locks.len() {
-            return Err(HubFault::NoShard);
-        }
-        let mut kept = wait_for(call.rt, &self.locks[usize::from(shard)]);
-        call.gate.inside(shard);
-        kept.tick_if_due(call, seat, shard)
+        self.tick_noting(call, seat, shard, &mut Notes::none(self.alloc))
     }
 
     /// Whether anything of a shard is due at a moment in milliseconds, as it stands. Waits for the shard's

@@ -16,8 +16,9 @@
 //!   nothing, and a job comes back unchanged; full (22) is answered only where as many steps are stored as may
 //!   be | `Hub::tick`, `tick_if_due`, `let_go`: `no_shard`, and `err` (of `tick_if_due` in `TicksIfDue`);
 //!   `answer`: `Calls`, its `no_shard`, `err`, `back`, `full`
-//! - where `tick_if_due` answers none, nothing was due, and the seat counts nothing; it may tick where nothing
-//!   is due, and that is recorded | `Hub::tick_if_due`: `TicksIfDue`, its `tick`
+//! - where `tick_if_due` answers none, nothing was due, and the seat counts nothing; where it ticks, something
+//!   was due, at most 64 entries are due at the tick's moment (or they can't be parted, or were due 100 ms ago),
+//!   and it says whether more is due after it | `Hub::tick_if_due`: `TicksIfDue`, its `tick`
 //! - what is let go of is what was stored, and the history goes on with a mark for it | `Hub::let_go`: `gone`,
 //!   `seen`
 //! - the octets that are reported are those of the stored steps, up to 2^64 - 1 | `Hub::answer`: `Calls`, its
@@ -36,8 +37,6 @@
 //!   histories begin where they stand, or they come back as they were (by the contract it may always be so:
 //!   tested that it opens) | `Hub::pause_room`, `pause`: `histories`, `paused`, `stand`, `causes`; `open_over`:
 //!   `seat`, `err`
-//! - all shards follow another configuration, or out of memory none does, and each realm is in the state in
-//!   which it was | `follow`: `ok`, `err`
 //! - over any number of such changes a realm that each of them carries over is sent, in order and byte for
 //!   byte, what its own written broker sends for its own events before and after them; it goes on in its state
 //!   under its part of the next configuration. Of a realm that isn't carried over, that it begins anew where it
@@ -57,7 +56,6 @@ mod call;
 mod closing;
 mod ended;
 mod fault;
-mod following;
 mod gate;
 mod hub;
 mod laws;
@@ -70,11 +68,10 @@ mod pause_room;
 mod pausing;
 mod writing;
 
-pub use answered::{Answered, Refused};
+pub use answered::{Answered, Refused, Ticked};
 pub use bounds::{bounded_in_histories, bounded_waits_in_histories};
 pub use call::Call;
 pub use fault::HubFault;
-pub use following::follow;
 pub use gate::{Gate, Open};
 pub use hub::Hub;
 pub use laws::{
@@ -86,7 +83,8 @@ pub use pause_room::PauseRoom;
 pub use pausing::PausedHub;
 pub use roam_audit::{AuditFault, Audited, Receipt, Report, Seat, split};
 pub use roam_book::{Gauges, Rest, SERVER_LINKS};
+pub use roam_due::{LATE, MOST};
+pub use roam_follow::follow;
 pub use roam_history::{Blanks, Front, Opened};
 pub use roam_pending::Requester;
-pub use roam_port::{Intake, Outlet, ring};
 pub use roam_shard::Paused;

@@ -78,6 +78,16 @@ impl<A: Allocator + Copy> Notes<A> {
         })
     }
 
+    /// No room. Takes no memory.
+    pub(crate) fn none(alloc: A) -> Notes<A> {
+        Notes {
+            pasts: Vec::new(alloc),
+            octets: Vec::new(alloc),
+            used: 0,
+            missed: 0,
+        }
+    }
+
     /// Nothing is noted.
     pub(crate) fn clear(&mut self) {
         self.pasts.clear();

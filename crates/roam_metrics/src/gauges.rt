@@ -15,10 +15,14 @@ pub enum Gauge {
     AuthInUse(u16, u8),
     /// The same of its `acct` endpoint.
     AcctInUse(u16, u8),
-    /// Whether its `auth` endpoint rests since it kept silent: 1, or 0.
-    AuthRests(u16, u8),
+    /// For how many milliseconds more its `auth` endpoint rests since it kept silent; 0 where it doesn't.
+    AuthRest(u16, u8),
     /// The same of its `acct` endpoint.
-    AcctRests(u16, u8),
+    AcctRest(u16, u8),
+    /// How many requests were given up at its `auth` endpoint since a reply of it was last taken: at most 256.
+    AuthUnanswered(u16, u8),
+    /// The same of its `acct` endpoint.
+    AcctUnanswered(u16, u8),
     /// How many octets the datagrams and packets of all stored steps have.
     HistoryOctets,
 }
@@ -31,15 +35,17 @@ pub(crate) enum OfGauges {
     Sessions,
     InUse,
     Rests,
+    Unanswered,
 }
 
 /// All of them.
-pub(crate) const OF_GAUGES: [OfGauges; 5] = [
+pub(crate) const OF_GAUGES: [OfGauges; 6] = [
     OfGauges::Waiting,
     OfGauges::Held,
     OfGauges::Sessions,
     OfGauges::InUse,
     OfGauges::Rests,
+    OfGauges::Unanswered,
 ];
 
 impl OfGauges {
@@ -51,6 +57,7 @@ impl OfGauges {
             OfGauges::Sessions => "roam_realm_sessions",
             OfGauges::InUse => "roam_server_identifiers_in_use",
             OfGauges::Rests => "roam_server_rests",
+            OfGauges::Unanswered => "roam_server_unanswered_requests",
         }
     }
 
@@ -63,6 +70,9 @@ impl OfGauges {
             OfGauges::InUse =>
                 "Identifiers that are in use toward a home server's endpoint, of 256.",
             OfGauges::Rests => "Whether a home server's endpoint rests since it kept silent.",
+            OfGauges::Unanswered => {
+                "Requests that were given up there since a reply was last taken, 256 at most."
+            }
         }
     }
 
@@ -72,7 +82,7 @@ impl OfGauges {
             OfGauges::Waiting => Some(Gauge::Waiting(realm)),
             OfGauges::Held => Some(Gauge::Held(realm)),
             OfGauges::Sessions => Some(Gauge::Sessions(realm)),
-            OfGauges::InUse | OfGauges::Rests => None,
+            OfGauges::InUse | OfGauges::Rests | OfGauges::Unanswered => None,
         }
     }
 
@@ -84,10 +94,22 @@ impl OfGauges {
                 Some(Gauge::AcctInUse(realm, server)),
             ],
             OfGauges::Rests => [
-                Some(Gauge::AuthRests(realm, server)),
-                Some(Gauge::AcctRests(realm, server)),
+                Some(Gauge::AuthRest(realm, server)),
+                Some(Gauge::AcctRest(realm, server)),
+            ],
+            OfGauges::Unanswered => [
+                Some(Gauge::AuthUnanswered(realm, server)),
+                Some(Gauge::AcctUnanswered(realm, server)),
             ],
             OfGauges::Waiting | OfGauges::Held | OfGauges::Sessions => [None, None],
+        }
+    }
+
+    /// The value that a sample has: of a rest only whether there is one.
+    pub(crate) fn sample(self, value: u64) -> u64 {
+        match self {
+            OfGauges::Rests => value.min(1),
+            _ => value,
         }
     }
 

@@ -3,6 +3,8 @@
 ghost use Rattle.std.specs.Prelude.{OnOk, IfOk};
 ghost use Rattle.roam_metrics.specs.Pages.{AreLines, MoreLines};
 
+use crate::about::About;
+use crate::about_page::push_about;
 use crate::families::{
     OF_REPLIES, OF_REQUESTS, OF_SERVER, OfReplies, OfRequests, OfServer, REFUSALS, SCOPES, SINGLES,
     Scope, Single,
@@ -500,7 +502,7 @@ fn push_gauge_of<C: Counts>(
             name: "service",
             value: *service,
         };
-        push_standing(page, family.name(), named, label, value)?;
+        push_standing(page, family.name(), named, label, family.sample(value))?;
     }
     Ok(())
 }
@@ -554,11 +556,17 @@ fn push_history<C: Counts>(page: &mut Vec<u8>, counts: &C) -> Result<(), AllocEr
 
 /// A page of all counts of a server with this configuration. A realm's, home server's or peer's count that is 0 has no
 /// line.
-pub fn page<C: Counts>(alloc: Global, config: &Config, counts: &C) -> Result<Vec<u8>, AllocError>
+pub fn page<C: Counts>(
+    alloc: Global,
+    config: &Config,
+    counts: &C,
+    about: &About,
+) -> Result<Vec<u8>, AllocError>
     ensures { IfOk result (λ page. AreLines page.items) }
 {
     let all = all_named(alloc, config)?;
     let mut page = Vec::new(alloc);
+    push_about(&mut page, config, about)?;
     push_server(&mut page, counts)?;
     push_all_refusals(&mut page, counts)?;
     for scope in &SCOPES {

@@ -1,15 +1,19 @@
 -- The line of an exchange that ended. Ours.
-use Rattle.std.specs.Prelude.{ℕ, ◌+◌, ◌==◌, ◌&&◌, ◌/◌, ◌%◌, Bool, not, nat_le, nat_lt, min, take, List, [], ◌∷◌, ◌++◌, Option, Some, None, option_map, if◌then◌else◌, codes, slice_get, slice_index}
+use Rattle.std.specs.Prelude.{ℕ, ◌+◌, ◌==◌, ◌&&◌, ◌/◌, ◌%◌, Bool, true, false, not, nat_le, nat_lt, min, take, List, [], ◌∷◌, ◌++◌, Option, Some, None, option_map, if◌then◌else◌, codes, slice_get, slice_index}
 use Rattle.std.specs.Borrow.{Bor}
 use Rattle.std.specs.Fmt.{decimal}
 use Rattle.std.specs.List.{flat_map}
 use Rattle.roam_conf.specs.Config.{ConfigView, PeerView, RealmView}
 use Rattle.roam_conf.specs.declared.endpoint.Endpoint.{Endpoint}
+use Rattle.roam_conf.specs.declared.exchange_lines.ExchangeLines.{ExchangeLines}
+use Rattle.roam_conf.specs.declared.exchange_lines.ExchangeLines.TheVariants as lines
 use Rattle.roam_notices.specs.declared.exchange.RequestWord.{RequestWord}
 use Rattle.roam_notices.specs.declared.exchange.RequestWord.TheVariants as asked
 use Rattle.roam_notices.specs.declared.exchange.Exchange.{Exchange}
 use Rattle.roam_notices.specs.declared.exchange.ExchangeEnd.{ExchangeEnd}
 use Rattle.roam_notices.specs.declared.exchange.ExchangeEnd.TheVariants as outcome
+use Rattle.roam_notices.specs.declared.exchange.RejectCause.{RejectCause}
+use Rattle.roam_notices.specs.declared.exchange.RejectCause.TheVariants as cause
 use Rattle.roam_notices.specs.declared.exchange.Value.{Value}
 
 -- ## Line of an exchange
@@ -35,6 +39,25 @@ outcome_of code =
     else if code == 42 then Some outcome.Nak
     else if code == 45 then Some outcome.Nak
     else None
+
+-- an accept, a reject, an answer to session control, or none from any server: what ends a login, and not a round of EAP
+abbrev pub is_final : ExchangeEnd → Bool
+is_final outcome.Challenge = false
+is_final outcome.Response = false
+is_final outcome.Replaced = false
+is_final _ = true
+
+-- ## Exchanges of which a line tells
+-- All; or final ones, which are those of an accept, a reject, session control, or no answer of any server; or none.
+-- Source: ours
+-- Stands in: `roam_notices` `Exchanges.antt`: `is_final`, `is_told`; `ExchangeEnd::is_told`, `Exchanges::are_told`;
+-- `roam_conf_reader` `Values.antt`: `exchange_lines`
+--
+-- whether a line tells of it
+abbrev pub is_told : ExchangeLines → ExchangeEnd → Bool
+is_told lines.OfAll end = true
+is_told lines.OfFinal end = is_final end
+is_told lines.OfNone end = false
 
 -- what was asked, by the request's code
 abbrev pub asked_of : ℕ → RequestWord
@@ -124,14 +147,34 @@ who_text config exchange =
     value_text (codes " realm=") (realm_name config.realms exchange.realm) ++
     value_text (codes " peer=") (peer_name config.peers exchange.peer)
 
--- for whom it was, where it went, and how long it took
+-- how many they were, where it was not one
+abbrev pub times_text : ℕ → List ℕ
+times_text times = if times == 1 then [] else (codes " times=" ++ decimal times)
+
+-- why the broker rejected it by itself
+abbrev pub cause_word : RejectCause → List ℕ
+cause_word cause.NoUserName = codes "no_user_name"
+cause_word cause.NoRealmPart = codes "no_realm_part"
+cause_word cause.UnknownRealm = codes "unknown_realm"
+cause_word cause.Passwords = codes "passwords"
+cause_word cause.TooManyHops = codes "too_many_hops"
+
+abbrev pub why_text : Option RejectCause → List ℕ
+why_text None = []
+why_text (Some cause) = codes " why=" ++ cause_word cause
+
+abbrev pub like_text : Exchange → List ℕ
+like_text exchange = why_text exchange.why ++ times_text exchange.times
+
+-- for whom it was, where it went, how long it took, and, where that is said, why it was rejected and how many were so
 abbrev pub rest_text : Exchange → List ℕ
 rest_text exchange =
     value_text (codes " user=") (octets_if exchange.user) ++
     value_text (codes " station=") (octets_if exchange.station) ++
     server_text exchange.server ++
     codes " ms=" ++ decimal exchange.milliseconds ++
-    codes " tries=" ++ decimal exchange.tries
+    codes " tries=" ++ decimal exchange.tries ++
+    like_text exchange
 
 -- the line
 abbrev pub exchange_text : ConfigView → Exchange → List ℕ

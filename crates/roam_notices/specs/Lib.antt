@@ -1,8 +1,12 @@
+pub mod Dropped
 pub mod Exchanges
+pub mod Folded
 pub mod Lines
 pub mod Names
 pub mod Origins
 pub mod Printable
 pub mod Quoted
+pub mod Reloads
 pub mod Repeats
+pub mod Senders
 pub mod Tallies

@@ -2,6 +2,7 @@
 use Rattle.std.specs.Prelude.{ℕ, ◌==◌, List, [], ◌++◌, Option, Some, None, if◌then◌else◌, codes}
 use Rattle.std.specs.Fmt.{decimal}
 use Rattle.roam_conf.specs.Texts.{endpoint_text}
+use Rattle.roam_conf.specs.declared.endpoint.Endpoint.{Endpoint}
 use Rattle.roam_conf.specs.declared.place.Place.{Place}
 use Rattle.roam_conf.specs.declared.place.Place.TheVariants as place
 use Rattle.roam_wire.specs.Refusal.{number_of}
@@ -9,6 +10,8 @@ use Rattle.roam_wire.specs.declared.refusal.Refusal.{Refusal}
 use Rattle.roam_wire.specs.declared.refusal.Refusal.TheVariants as refusal
 use Rattle.roam_notices.specs.declared.origin.Origin.{Origin}
 use Rattle.roam_notices.specs.declared.origin.Origin.TheVariants as origin
+use Rattle.roam_notices.specs.declared.sender.Sender.{Sender}
+use Rattle.roam_notices.specs.declared.sender.Sender.TheVariants as sender
 use Rattle.roam_notices.specs.declared.tally.RefusalCount.{RefusalCount}
 
 -- the name of a refusal
@@ -45,27 +48,53 @@ place_text place.Acct realm = codes "acct"
 place_text (place.Out number) realm = codes "out:" ++ decimal number ++ codes " (" ++ realm ++ codes ")"
 place_text (place.Reverse number) realm = codes "reverse:" ++ decimal number ++ codes " (" ++ realm ++ codes ")"
 
+-- who sent it, where that is configured
+abbrev pub sender_text : Sender → List ℕ
+sender_text (sender.Peer name) = codes " (peer " ++ name.now ++ codes ")"
+sender_text sender.HomeServer = codes " (home server)"
+sender_text sender.Unknown = []
+
+-- from whom it came, at which place
+abbrev pub source_text : Place → Endpoint → List ℕ → Sender → List ℕ
+source_text place from realm who =
+    codes " at " ++ place_text place realm ++ codes " from " ++ endpoint_text from ++ sender_text who
+
 -- where it was; of those that are tallied nowhere else no more is known
-abbrev pub origin_text : Option Origin → List ℕ → List ℕ
-origin_text (Some (origin.Datagram place from)) realm =
-    codes " at " ++ place_text place realm ++ codes " from " ++ endpoint_text from
-origin_text (Some (origin.Place place)) realm = codes " at " ++ place_text place realm
-origin_text (Some (origin.Tick shard)) realm = codes " at tick:" ++ decimal shard
-origin_text None realm = codes " elsewhere"
+abbrev pub origin_text : Option Origin → List ℕ → Sender → List ℕ
+origin_text (Some (origin.Datagram place from)) realm who = source_text place from realm who
+origin_text (Some (origin.Unsealed place from)) realm who = source_text place from realm who
+origin_text (Some (origin.Place place)) realm who = codes " at " ++ place_text place realm
+origin_text (Some (origin.Tick shard)) realm who = codes " at tick:" ++ decimal shard
+origin_text None realm who = codes " elsewhere"
 
 -- how often, where it was not once
 abbrev pub count_text : ℕ → List ℕ
 count_text count = if count == 1 then [] else (codes " (" ++ decimal count ++ codes " times)")
 
+-- what is wrong with the seal of a reply
+abbrev pub seal_hint : Option Origin → List ℕ
+seal_hint (Some (origin.Unsealed place from)) = codes ": no Message-Authenticator"
+seal_hint (Some (origin.Datagram place from)) = codes ": wrong Message-Authenticator"
+seal_hint _ = []
+
+-- what is usually wrong
+abbrev pub hint_text : Refusal → Option Origin → List ℕ
+hint_text refusal.BadAuthenticator at = codes ": other secret?"
+hint_text refusal.BadMessageAuthenticator at = codes ": other secret?"
+hint_text refusal.BadReply at = codes ": other secret?"
+hint_text refusal.BadReplyMessageAuthenticator at = seal_hint at
+hint_text _ at = []
+
 -- ## Line of refusals
--- `refused`, the number and the name, the place with its realm's name, the source, and how often where it
--- wasn't once. No octet of a packet stands in it.
+-- `refused`, the number and the name, the place with its realm's name, the source and which peer or home server
+-- that is, how often where it wasn't once, and what is usually wrong. No octet of a packet stands in it.
 -- Source: ours
--- Rules out: a line that a packet's octets forge
--- Stands in: `roam_notices` `Lines.antt`: `refused_text`; what the `Display` of `RefusedText` writes
+-- Rules out: a line that a packet's octets forge; the name of another peer than the source's
+-- Stands in: `roam_notices` `Lines.antt`: `refused_text`; `Senders.antt`: `who_sent`; `RefusedText::new`, what its `Display` writes;
+-- `roam_telling` `Causes.antt`: `origin_of`
 --
 -- the line: no octet of a packet stands in it
-abbrev pub refused_text : RefusalCount → List ℕ → List ℕ
-refused_text tally realm =
+abbrev pub refused_text : RefusalCount → List ℕ → Sender → List ℕ
+refused_text tally realm who =
     codes "refused " ++ decimal (number_of tally.refusal) ++ codes " " ++ refusal_name tally.refusal ++
-    origin_text tally.origin realm ++ count_text tally.count
+    origin_text tally.origin realm who ++ count_text tally.count ++ hint_text tally.refusal tally.origin

@@ -8,7 +8,8 @@ use Rattle.roam_notices.specs.declared.origin.OriginKind.{OriginKind}
 use Rattle.roam_notices.specs.declared.origin.OriginKind.TheVariants as kind
 
 -- ## Kind of a refusal
--- Its number, the place and the address that it came from, without the port; of a tick the shard.
+-- Its number, the place and the address that it came from, without the port; of a tick the shard. A reply without a
+-- Message-Authenticator is of another kind than one with a wrong one.
 -- Source: ours
 -- Rules out: a flood from many ports logged as many
 -- Stands in: `roam_notices` `Origins.antt`: `kind_of`, `realm_of`; `Names.antt`: `realm_name`; `Origin::kind`,
@@ -17,6 +18,7 @@ use Rattle.roam_notices.specs.declared.origin.OriginKind.TheVariants as kind
 -- what of it is compared: the port that a datagram came from is not
 abbrev pub kind_of : Origin → OriginKind
 kind_of (origin.Datagram place from) = kind.Source place from.ip
+kind_of (origin.Unsealed place from) = kind.UnsealedSource place from.ip
 kind_of (origin.Place place) = kind.Place place
 kind_of (origin.Tick shard) = kind.Tick shard
 
@@ -30,5 +32,6 @@ realm_at (place.Reverse realm) = Some realm
 -- the realm whose name stands in a line
 abbrev pub realm_of : Origin → Option ℕ
 realm_of (origin.Datagram place from) = realm_at place
+realm_of (origin.Unsealed place from) = realm_at place
 realm_of (origin.Place place) = realm_at place
 realm_of (origin.Tick shard) = None

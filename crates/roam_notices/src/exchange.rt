@@ -2,8 +2,9 @@
 
 ghost use Rattle.std.specs.Prelude.{◌≡◌, take};
 ghost use Rattle.roam_notices.specs.Exchanges as spec;
+ghost use Rattle.roam_notices.specs.Folded.{once_more};
 
-use roam_conf::Endpoint;
+use roam_conf::{Endpoint, ExchangeLines};
 use roam_wire::code;
 
 /// How many octets an attribute's value has at most (RFC 2865, section 5).
@@ -27,6 +28,21 @@ pub enum ExchangeEnd {
     LocalReject,
 }
 
+/// Why the broker rejected an Access-Request by itself.
+#[derive(Clone, Copy, Debug, PartialEq, Eq)]
+pub enum RejectCause {
+    /// It has no User-Name.
+    NoUserName,
+    /// Its User-Name has no `@`.
+    NoRealmPart,
+    /// No realm is configured that what follows the `@` means.
+    UnknownRealm,
+    /// Its passwords can't be carried (RFC 2865, sections 4.1 and 5.2).
+    Passwords,
+    /// More proxies forwarded it than may.
+    TooManyHops,
+}
+
 /// A request's code, as a line names it.
 #[derive(Clone, Copy, Debug, PartialEq, Eq)]
 pub enum RequestWord {
@@ -48,6 +64,8 @@ pub struct Value {
 #[derive(Clone, Copy)]
 pub struct Exchange {
     pub outcome: ExchangeEnd,
+    /// Of one that the broker rejected by itself.
+    pub why: Option<RejectCause>,
     pub asked: RequestWord,
     /// The index of its realm; none where the broker rejected it before a realm was asked.
     pub realm: Option<u16>,
@@ -62,6 +80,8 @@ pub struct Exchange {
     pub milliseconds: u64,
     /// How often it was sent to that server or peer.
     pub tries: u8,
+    /// How many were like it within a second: local rejects, or replaced requests, that are alike are one line.
+    pub times: u64,
 }
 
 impl ExchangeEnd {
@@ -81,6 +101,34 @@ impl ExchangeEnd {
     }
 }
 
+impl ExchangeEnd {
+    /// Whether it ends a login or an order: not one of EAP's rounds, nor accounting.
+    fn is_final(self) -> bool
+        ensures { result ≡ spec.is_final self }
+    {
+        match self {
+            ExchangeEnd::Challenge | ExchangeEnd::Response | ExchangeEnd::Replaced => false,
+            ExchangeEnd::Accept
+            | ExchangeEnd::Reject
+            | ExchangeEnd::Ack
+            | ExchangeEnd::Nak
+            | ExchangeEnd::GivenUp
+            | ExchangeEnd::LocalReject => true,
+        }
+    }
+
+    /// Whether a line tells of it, where these are told.
+    pub fn is_told(self, lines: ExchangeLines) -> bool
+        ensures { result ≡ spec.is_told lines self }
+    {
+        match lines {
+            ExchangeLines::OfAll => true,
+            ExchangeLines::OfFinal => self.is_final(),
+            ExchangeLines::OfNone => false,
+        }
+    }
+}
+
 impl RequestWord {
     /// That of a request's code.
     pub fn of(code: u8) -> RequestWord
@@ -93,6 +141,15 @@ impl RequestWord {
             code::COA_REQUEST => RequestWord::Coa,
             _ => RequestWord::Other,
         }
+    }
+}
+
+impl Exchange {
+    /// Counts one more like it.
+    pub(crate) fn count_one(&mut self)
+        ensures { self.new ≡ once_more self.old }
+    {
+        self.times = self.times.saturating_add(1);
     }
 }
 

@@ -5,7 +5,7 @@ ghost use Rattle.std.specs.Fmt.{decimal};
 ghost use Rattle.roam_conf.specs.Shown.{shown};
 ghost use Rattle.roam_notices.specs.Exchanges as spec;
 
-use crate::exchange::{Exchange, ExchangeEnd, RequestWord, Value};
+use crate::exchange::{Exchange, ExchangeEnd, RejectCause, RequestWord, Value};
 use itoa::Buffer;
 use roam_conf::{Config, Endpoint};
 use std::alloc::AllocError;
@@ -176,7 +176,49 @@ fn push_who(line: &mut Vec<u8>, config: &Config, exchange: &Exchange) -> Result<
     push_value(line, " peer=", peer_name(config, exchange.peer))
 }
 
-/// Adds for whom it was, where it went and how long it took.
+/// The word of a cause.
+fn cause_word(cause: RejectCause) -> &'static str
+    ensures { result.now ≡ spec.cause_word cause }
+{
+    match cause {
+        RejectCause::NoUserName => "no_user_name",
+        RejectCause::NoRealmPart => "no_realm_part",
+        RejectCause::UnknownRealm => "unknown_realm",
+        RejectCause::Passwords => "passwords",
+        RejectCause::TooManyHops => "too_many_hops",
+    }
+}
+
+/// Adds why the broker rejected it by itself, where it did.
+fn push_why(line: &mut Vec<u8>, why: Option<RejectCause>) -> Result<(), AllocError>
+    ensures { OnOk result (line.new.items ≡ line.old.items ++ spec.why_text why) }
+{
+    let Some(cause) = why else {
+        return Ok(());
+    };
+    push(line, b" why=")?;
+    push(line, cause_word(cause).as_bytes())
+}
+
+/// Adds how many they were, where it was not one.
+fn push_times(line: &mut Vec<u8>, times: u64) -> Result<(), AllocError>
+    ensures { OnOk result (line.new.items ≡ line.old.items ++ spec.times_text times) }
+{
+    if times == 1 {
+        return Ok(());
+    }
+    push_number(line, " times=", times)
+}
+
+/// Adds why it was rejected here, and how many were so.
+fn push_like(line: &mut Vec<u8>, exchange: &Exchange) -> Result<(), AllocError>
+    ensures { OnOk result (line.new.items ≡ line.old.items ++ spec.like_text exchange.now) }
+{
+    push_why(line, exchange.why)?;
+    push_times(line, exchange.times)
+}
+
+/// Adds for whom it was, where it went, how long it took, and what `push_like` adds.
 fn push_rest(line: &mut Vec<u8>, exchange: &Exchange) -> Result<(), AllocError>
     ensures { OnOk result (line.new.items ≡ line.old.items ++ spec.rest_text exchange.now) }
 {
@@ -184,7 +226,8 @@ fn push_rest(line: &mut Vec<u8>, exchange: &Exchange) -> Result<(), AllocError>
     push_value(line, " station=", octets_of(&exchange.station))?;
     push_server(line, exchange.server)?;
     push_number(line, " ms=", exchange.milliseconds)?;
-    push_number(line, " tries=", u64::from(exchange.tries))
+    push_number(line, " tries=", u64::from(exchange.tries))?;
+    push_like(line, exchange)
 }
 
 /// Adds the line of an exchange: no octet stands in it that isn't printable in ASCII, and each value that isn't the

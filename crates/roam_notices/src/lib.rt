@@ -1,5 +1,5 @@
-//! What is told of refusals: equal ones within a second are one line with a count, and a flood of one number hides
-//! no other.
+//! What is told of refusals, of exchanges that end, and of reloads. Equal refusals, local rejects and replaced requests
+//! within a second are one line with a count, and a flood of one kind hides no other.
 //!
 //! Nothing here writes a line, reads a clock or starts a thread.
 //!
@@ -16,21 +16,29 @@
 //!   `push_exchange`; laws `values_are_printable`, `values_read_back`
 #![tactic(auto)]
 
+mod dropped_text;
 mod exchange;
 mod exchange_line;
+mod folded;
 pub mod laws;
 mod origin;
+mod reload_text;
 mod repeats;
 mod row;
+mod sender;
 mod tally;
 #[cfg(test)]
 mod tests;
 mod text;
 
-pub use exchange::{Exchange, ExchangeEnd, RequestWord, Value};
+pub use dropped_text::{DropCause, DroppedText};
+pub use exchange::{Exchange, ExchangeEnd, RejectCause, RequestWord, Value};
 pub use exchange_line::push_exchange;
+pub use folded::FoldedLines;
 pub use origin::{Origin, OriginKind};
+pub use reload_text::{ReloadEnd, ReloadText};
 pub use repeats::Repeats;
 pub use row::{KINDS, Row};
+pub use sender::Sender;
 pub use tally::RefusalCount;
 pub use text::RefusedText;

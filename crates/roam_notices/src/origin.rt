@@ -10,6 +10,8 @@ use roam_conf::{Endpoint, Place};
 pub enum Origin {
     /// A datagram that came to this place from this endpoint.
     Datagram(Place, Endpoint),
+    /// The same, where the datagram has no Message-Authenticator, which its refusal is about.
+    Unsealed(Place, Endpoint),
     /// A datagram that came to this place, of which no more is known.
     Place(Place),
     /// A tick of this shard.
@@ -20,6 +22,7 @@ pub enum Origin {
 #[derive(Clone, Copy, Debug, PartialEq, Eq)]
 pub enum OriginKind {
     Source(Place, [u8; 4]),
+    UnsealedSource(Place, [u8; 4]),
     Place(Place),
     Tick(u16),
 }
@@ -41,6 +44,7 @@ impl Origin {
     {
         match self {
             Origin::Datagram(place, from) => OriginKind::Source(place, from.ip),
+            Origin::Unsealed(place, from) => OriginKind::UnsealedSource(place, from.ip),
             Origin::Place(place) => OriginKind::Place(place),
             Origin::Tick(shard) => OriginKind::Tick(shard),
         }
@@ -51,7 +55,9 @@ impl Origin {
         ensures { result ≡ spec.realm_of self }
     {
         match self {
-            Origin::Datagram(place, _) | Origin::Place(place) => realm_at(place),
+            Origin::Datagram(place, _) | Origin::Unsealed(place, _) | Origin::Place(place) => {
+                realm_at(place)
+            }
             Origin::Tick(_) => None,
         }
     }

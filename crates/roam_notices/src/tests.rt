@@ -1,6 +1,6 @@
 //! The lines of refusals.
 
-use crate::{Origin, RefusalCount, RefusedText};
+use crate::{Origin, RefusalCount, RefusedText, Sender};
 use roam_conf::{Endpoint, Place};
 use roam_wire::Refusal;
 use std::process::Abort;
@@ -27,6 +27,7 @@ fn expect<R: AllocGlobal + Abort>(
     let text = RefusedText {
         tally,
         realm: "b.example",
+        sender: Sender::Peer("north"),
     };
     let written = format!(in rt.alloc(); "{text}");
     assert!(rt;
@@ -42,21 +43,29 @@ fn lines(rt: HostRuntime) {
         Refusal::BadReply,
         Some(Origin::Datagram(Place::Out(3), SOURCE)),
         1,
-        "refused 16 BadReply at out:3 (b.example) from 198.51.100.1:1812",
+        "refused 16 BadReply at out:3 (b.example) from 198.51.100.1:1812 (peer north): other secret?",
+    );
+    expect(
+        &rt,
+        Refusal::BadReplyMessageAuthenticator,
+        Some(Origin::Unsealed(Place::Out(3), SOURCE)),
+        2,
+        "refused 17 BadReplyMessageAuthenticator at out:3 (b.example) from 198.51.100.1:1812 (peer north) \
+            (2 times): no Message-Authenticator",
     );
     expect(
         &rt,
         Refusal::UnknownSource,
         Some(Origin::Datagram(Place::Auth, SOURCE)),
         1234,
-        "refused 4 UnknownSource at auth from 198.51.100.1:1812 (1234 times)",
+        "refused 4 UnknownSource at auth from 198.51.100.1:1812 (peer north) (1234 times)",
     );
     expect(
         &rt,
         Refusal::WrongCode,
         Some(Origin::Datagram(Place::Reverse(0), SOURCE)),
         2,
-        "refused 5 WrongCode at reverse:0 (b.example) from 198.51.100.1:1812 (2 times)",
+        "refused 5 WrongCode at reverse:0 (b.example) from 198.51.100.1:1812 (peer north) (2 times)",
     );
     expect(
         &rt,

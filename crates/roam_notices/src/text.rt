@@ -4,10 +4,12 @@ ghost use Rattle.std.specs.Prelude.{◌≡◌, Some};
 ghost use Rattle.roam_conf.specs.Shown.{shown};
 ghost use Rattle.roam_notices.specs.Lines as lines;
 ghost use Rattle.roam_notices.specs.Names.{name_of, realm_name};
+ghost use Rattle.roam_notices.specs.Senders.{shown_sender, who_sent};
 
 use crate::origin::Origin;
+use crate::sender::{Sender, sender_of};
 use crate::tally::RefusalCount;
-use roam_conf::{Config, Place};
+use roam_conf::{Config, Endpoint, Place};
 use roam_wire::Refusal;
 use std::fmt;
 use std::fmt::{Display, Formatter, Write};
@@ -33,13 +35,15 @@ impl Display for PlaceText<'_> {
     }
 }
 
-/// Refusals as a line: `refused NUMBER NAME at PLACE (REALM) from ADDRESS:PORT`, and behind it how many they were
-/// where they were several. No octet of a packet stands in it.
+/// Refusals as a line: `refused NUMBER NAME at PLACE (REALM) from ADDRESS:PORT (peer NAME)`, behind it how many they
+/// were where they were several, and what is usually wrong. No octet of a packet stands in it.
 #[derive(Clone, Copy)]
 pub struct RefusedText<'n> {
     pub tally: RefusalCount,
     /// The name of the realm that the place belongs to, where it belongs to one.
     pub realm: &'n str,
+    /// Who sent it, where that is configured.
+    pub sender: Sender<'n>,
 }
 
 /// The name of the realm of this index; empty where there is none.
@@ -60,6 +64,7 @@ impl<'n> RefusedText<'n> {
     pub fn new(config: &'n Config, tally: RefusalCount) -> RefusedText<'n>
         ensures tally { result.tally ≡ tally }
         ensures realm { result.realm.now ≡ realm_name (shown config.now).realms tally }
+        ensures sender { shown_sender result.sender ≡ who_sent (shown config.now) tally.origin }
     {
         let realm = match tally.origin {
             Some(origin) => origin.realm(),
@@ -68,7 +73,47 @@ impl<'n> RefusedText<'n> {
         RefusedText {
             tally,
             realm: name_of(config, realm),
+            sender: sender_of(config, tally.origin),
         }
+    }
+}
+
+/// Who sent it, behind a blank, where that is configured.
+#[derive(Clone, Copy)]
+struct SenderText<'n>(Sender<'n>);
+
+impl Display for SenderText<'_> {
+    ghost output = { λ text. Some (lines.sender_text text.0) };
+
+    fn fmt<W: Write>(&self, f: &mut Formatter<W>) -> fmt::Result {
+        match self.0 {
+            Sender::Peer(name) => write!(f, " (peer {name})"),
+            Sender::HomeServer => f.write_str(" (home server)"),
+            Sender::Unknown => f.write_str(""),
+        }
+    }
+}
+
+/// From whom it came, at which place, behind a blank.
+#[derive(Clone, Copy)]
+struct SourceText<'n> {
+    place: Place,
+    from: Endpoint,
+    realm: &'n str,
+    sender: Sender<'n>,
+}
+
+impl Display for SourceText<'_> {
+    ghost output = { λ text. Some (lines.source_text text.place text.from text.realm.now text.sender) };
+
+    fn fmt<W: Write>(&self, f: &mut Formatter<W>) -> fmt::Result {
+        let place = PlaceText {
+            place: self.place,
+            realm: self.realm,
+        };
+        let from = self.from;
+        let sender = SenderText(self.sender);
+        write!(f, " at {place} from {from}{sender}")
     }
 }
 
@@ -77,17 +122,24 @@ impl<'n> RefusedText<'n> {
 struct OriginText<'n> {
     origin: Option<Origin>,
     realm: &'n str,
+    sender: Sender<'n>,
 }
 
 impl Display for OriginText<'_> {
-    ghost output = { λ text. Some (lines.origin_text text.origin text.realm.now) };
+    ghost output = { λ text. Some (lines.origin_text text.origin text.realm.now text.sender) };
 
     fn fmt<W: Write>(&self, f: &mut Formatter<W>) -> fmt::Result {
         let realm = self.realm;
+        let sender = self.sender;
         match self.origin {
-            Some(Origin::Datagram(place, from)) => {
-                let place = PlaceText { place, realm };
-                write!(f, " at {place} from {from}")
+            Some(Origin::Datagram(place, from) | Origin::Unsealed(place, from)) => {
+                let source = SourceText {
+                    place,
+                    from,
+                    realm,
+                    sender,
+                };
+                write!(f, "{source}")
             }
             Some(Origin::Place(place)) => {
                 let place = PlaceText { place, realm };
@@ -148,8 +200,32 @@ fn refusal_name(refusal: Refusal) -> &'static str
     }
 }
 
+/// What is wrong with the seal of a reply that was refused here.
+fn seal_hint(origin: Option<Origin>) -> &'static str
+    ensures { result.now ≡ lines.seal_hint origin }
+{
+    match origin {
+        Some(Origin::Unsealed(_, _)) => ": no Message-Authenticator",
+        Some(Origin::Datagram(_, _)) => ": wrong Message-Authenticator",
+        Some(Origin::Place(_) | Origin::Tick(_)) | None => "",
+    }
+}
+
+/// What is usually wrong where this is refused.
+fn hint(refusal: Refusal, origin: Option<Origin>) -> &'static str
+    ensures { result.now ≡ lines.hint_text refusal origin }
+{
+    match refusal {
+        Refusal::BadAuthenticator | Refusal::BadMessageAuthenticator | Refusal::BadReply => {
+            ": other secret?"
+        }
+        Refusal::BadReplyMessageAuthenticator => seal_hint(origin),
+        _ => "",
+    }
+}
+
 impl Display for RefusedText<'_> {
-    ghost output = { λ text. Some (lines.refused_text text.tally text.realm.now) };
+    ghost output = { λ text. Some (lines.refused_text text.tally text.realm.now text.sender) };
 
     fn fmt<W: Write>(&self, f: &mut Formatter<W>) -> fmt::Result {
         let RefusalCount {
@@ -162,8 +238,10 @@ impl Display for RefusedText<'_> {
         let place = OriginText {
             origin,
             realm: self.realm,
+            sender: self.sender,
         };
         let count = CountText(count);
-        write!(f, "refused {number} {name}{place}{count}")
+        let hint = hint(refusal, origin);
+        write!(f, "refused {number} {name}{place}{count}{hint}")
     }
 }

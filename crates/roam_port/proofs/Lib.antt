@@ -1,2 +1,4 @@
-pub mod OutboxLemmas
+pub mod BalanceLemmas
+pub mod ListedLemmas
+pub mod QueueLemmas
 pub mod SocketLemmas

@@ -1,7 +1,10 @@
+pub mod Accounts
 pub mod Listening
 pub mod Losses
 pub mod Outbox
 pub mod Port
+pub mod PortQueue
+pub mod Queues
 pub mod Ring
-pub mod Sending
+pub mod Sharing
 pub mod Sockets

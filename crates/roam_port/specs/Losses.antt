@@ -10,7 +10,7 @@ abbrev pub no_losses : Losses
 no_losses = record { full_ring = 0; unreachable = 0; not_permitted = 0; other = 0 }
 
 -- one more, up to 2^64 - 1
-abbrev one_more : ℕ → ℕ
+abbrev pub one_more : ℕ → ℕ
 one_more count = min (2 ^ 64 - 1) (count + 1)
 
 -- one more of this cause
@@ -33,3 +33,12 @@ cause_of (Err fault.WouldBlock) = None
 cause_of (Err fault.Unreachable) = Some cause.Unreachable
 cause_of (Err fault.NotPermitted) = Some cause.NotPermitted
 cause_of (Err fault.Other) = Some cause.Other
+
+-- what was counted since
+abbrev pub losses_since : Losses → Losses → Losses
+losses_since losses earlier = record {
+  full_ring = losses.full_ring - earlier.full_ring;
+  unreachable = losses.unreachable - earlier.unreachable;
+  not_permitted = losses.not_permitted - earlier.not_permitted;
+  other = losses.other - earlier.other;
+}

@@ -1,6 +1,6 @@
 -- Which socket is which place's, by its number: `auth`, `acct`, then `out` and `reverse` of each
--- realm (ours).
-use Rattle.std.specs.Prelude.{ℕ, ◌+◌, ◌*◌, ◌%◌, List, Bool, true, false}
+-- realm; the number of a `reverse` that isn't there is nobody's (ours).
+use Rattle.std.specs.Prelude.{ℕ, ◌+◌, ◌*◌, ◌%◌, List, Bool, true, false, Option, Some, option_map, option_and_then, slice_get}
 use Rattle.roam_conf.specs.declared.endpoint.Endpoint.{Endpoint}
 use Rattle.roam_conf.specs.declared.place.Place.{Place}
 use Rattle.roam_conf.specs.declared.place.Place.TheVariants as place
@@ -8,13 +8,13 @@ use Rattle.roam_conf.specs.Config.{ConfigView}
 use Rattle.roam_conf.specs.Duplicates.{own_endpoints}
 
 -- ## Socket numbers
--- `auth` is 0, `acct` 1, `out` of realm i is 2i + 2, its `reverse` 2i + 3; bound where the configuration says.
--- Socket k is served by worker k modulo their number; with `spread` a realm's two by the worker of its shard,
--- and each worker has an `auth` and an `acct` of its own.
+-- `auth` is 0, `acct` 1, `out` of realm i is 2i + 2, its `reverse` 2i + 3; bound where the configuration says, and
+-- the number of a `reverse` that isn't there is nobody's. Socket k is served by worker k modulo their number; with
+-- `spread` a realm's two by the worker of its shard, and each worker has an `auth` and an `acct` of its own.
 -- Source: ours
--- Rules out: two places with one socket; a place without one
--- Stands in: `roam_port` `Sockets.antt`: `socket_number`, `socket_endpoints`, `worker_number`; `socket_of`,
--- `place_of`, `endpoint_of`, `socket_count`, `worker_of`
+-- Rules out: two places with one socket; a place that is configured without one
+-- Stands in: `roam_port` `Sockets.antt`: `socket_number`, `socket_endpoint`, `socket_endpoints`, `worker_number`;
+-- `socket_of`, `place_of`, `endpoint_of`, `socket_numbers`, `socket_count`, `worker_of`
 --
 -- the number of a place's socket
 abbrev pub socket_number : Place → ℕ
@@ -26,6 +26,13 @@ socket_number (place.Reverse realm) = 2 * realm + 3
 -- where the sockets are bound, in order of their numbers
 abbrev pub socket_endpoints : ConfigView → List Endpoint
 socket_endpoints config = own_endpoints config.auth config.acct config.realms
+
+-- where the socket of a place is bound; none where the realm isn't configured, or takes no reverse requests
+abbrev pub socket_endpoint : ConfigView → Place → Option Endpoint
+socket_endpoint config place.Auth = Some config.auth
+socket_endpoint config place.Acct = Some config.acct
+socket_endpoint config (place.Out realm) = option_map (λ r. r.out) (slice_get config.realms realm)
+socket_endpoint config (place.Reverse realm) = option_and_then (λ r. r.reverse) (slice_get config.realms realm)
 
 -- the worker that hears a place's socket, of so many: in turn; or, where `auth` and `acct` are spread over the workers,
 -- that of the realm's shard, and of those two the first worker, beside which each other has its own

@@ -13,19 +13,27 @@
 //! - what finds the ring full comes back, and nothing was put; where room is known, a packet is put |
 //!   `Outlet::put`: `back`, `err`, `full`, `succeeds`
 //! - a ring has room for 1,024 packets | `ring`, `Outlet::room_beside`
-//! - a thread's packets are put behind all others, and sent the oldest first; one is lost only where 1,024 wait
-//!   or where its port fails, and is counted by that cause; one whose socket has no room now waits on |
-//!   `Outbox::put`, `send_next`, `take_losses`
+//! - a packet is put behind those of its port, and no other port's change; one is lost only where that very
+//!   port's share is full, or where its port fails, and is counted by that cause | `Outbox::put`: `puts`;
+//!   `share_of`
+//! - what was put is what is sent, what is lost by a full share or by a port, and what waits; what the metrics are
+//!   told is what was counted of it since they were told last | `Outbox`: `balanced`; `take_account`;
+//!   `Outgoing::settle`
+//! - a port's packets are handed to it in order, each once, until it has no room: what waits for it then stands
+//!   aside, and no other port's packet meets it; no port for which packets wait is forgotten |
+//!   `Outbox::send_all`, `put_sending`, `try_again`
 //! - to listen is one receive, and gives the datagram that came, at its place, from its source; or it is lost,
 //!   out of memory | `listen`
 //! - a receive that doesn't fail sets the count of faults to 0; at 100 in a row the answer is that the socket
 //!   is to be given up | `listen`
 //! - a packet is handed to the port of its place, once, and to no other: of any port that keeps account of its
-//!   calls, and so of the code for all; a socket of the system keeps none | `send_packet`, `send_next`
+//!   calls, and so of the code for all; a socket of the system keeps none | `Outbox::send_all`
 //! - which place has which socket, where that is to be bound, and which worker is to serve it, with `spread`
-//!   and without | `socket_of`, `place_of`, `endpoint_of`, `socket_count`, `worker_of`
+//!   and without | `socket_of`, `place_of`, `endpoint_of`, `socket_numbers`, `socket_count`,
+//!   `worker_of`
 #![tactic(auto)]
 
+mod account;
 mod heard;
 mod intake;
 mod listening;
@@ -34,16 +42,22 @@ mod making;
 mod outbox;
 mod outlet;
 mod port;
-mod sending;
+mod port_queue;
+mod queues;
+mod sent;
+mod sharing;
 mod sockets;
 
+pub use account::Account;
 pub use heard::{FAULTS_TO_GIVE_UP, Heard};
 pub use intake::Intake;
 pub use listening::listen;
 pub use losses::{LossCause, Losses};
 pub use making::{RING_CAPACITY, ring};
-pub use outbox::{Outbox, Sending};
+pub use outbox::Outbox;
 pub use outlet::Outlet;
 pub use port::{Port, PortFault, SendFault};
-pub use sending::send_packet;
-pub use sockets::{endpoint_of, place_of, socket_count, socket_of, worker_of};
+pub use port_queue::Standing;
+pub use sent::Sent;
+pub use sharing::{GREATEST_SHARE, LEAST_SHARE, share_of};
+pub use sockets::{endpoint_of, place_of, socket_count, socket_numbers, socket_of, worker_of};

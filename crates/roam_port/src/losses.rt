@@ -1,7 +1,7 @@
 //! How many packets were lost, by their cause.
 
 ghost use Rattle.std.specs.Prelude.{◌≡◌};
-ghost use Rattle.roam_port.specs.Losses.{counted, no_losses};
+ghost use Rattle.roam_port.specs.Losses.{counted, losses_since, no_losses};
 
 /// Why a packet that was to leave is lost.
 #[derive(Clone, Copy, Debug, PartialEq, Eq)]
@@ -47,6 +47,18 @@ impl Losses {
             LossCause::Unreachable => self.unreachable = self.unreachable.saturating_add(1),
             LossCause::NotPermitted => self.not_permitted = self.not_permitted.saturating_add(1),
             LossCause::Other => self.other = self.other.saturating_add(1),
+        }
+    }
+
+    /// What was counted since.
+    pub fn since(self, earlier: Losses) -> Losses
+        ensures { result ≡ losses_since self earlier }
+    {
+        Losses {
+            full_ring: self.full_ring.saturating_sub(earlier.full_ring),
+            unreachable: self.unreachable.saturating_sub(earlier.unreachable),
+            not_permitted: self.not_permitted.saturating_sub(earlier.not_permitted),
+            other: self.other.saturating_sub(earlier.other),
         }
     }
 }

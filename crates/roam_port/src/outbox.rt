@@ -1,175 +1,248 @@
-//! The packets of a thread that are to leave.
+//! The packets of a thread that are to leave, each port's apart.
 
-ghost use Rattle.std.specs.Prelude.{◌≡◌, ◌≤◌, ◌+◌, length};
-ghost use Rattle.roam_port.specs.Ring.{AreOneRing, IsFirstInFirstOut, put_packets, taken_packets};
-ghost use Rattle.roam_port.specs.declared.making.TheConstants.{RING_CAPACITY};
-ghost use Rattle.roam_port.specs.Losses as spec;
+ghost use Rattle.std.specs.Prelude.{◌≡◌, ◌≤◌, max, length};
+ghost use Rattle.std.specs.Vec.{vec_len, vec_capacity};
+ghost use Rattle.roam_port.specs.Accounts.{IsBalanced};
+ghost use Rattle.roam_port.specs.Queues.{AreListed, count_listed, count_waiting};
+ghost use Rattle.roam_port.specs.Sharing.{share_of};
 
-use crate::{Intake, LossCause, Losses, Outlet, Port, RING_CAPACITY, SendFault, ring, send_packet};
+use crate::port_queue::{PortQueue, Standing};
+use crate::queues::{add_queues, send_at};
+use crate::{Account, Port, Sent, socket_of};
+use roam_conf::Place;
 use roam_route::Out;
 use roam_wire::NoMemory;
 use std::alloc::Allocator;
 
-/// Why a packet is lost, by what its port answered; none where it isn't.
-fn cause_of(answer: Result<(), SendFault>) -> Option<LossCause>
-    ensures { result ≡ spec.cause_of answer }
-{
-    match answer {
-        Ok(()) | Err(SendFault::WouldBlock) => None,
-        Err(SendFault::Unreachable) => Some(LossCause::Unreachable),
-        Err(SendFault::NotPermitted) => Some(LossCause::NotPermitted),
-        Err(SendFault::Other) => Some(LossCause::Other),
-    }
-}
-
-/// What became of the oldest packet that waited.
-#[derive(Clone, Copy, Debug, PartialEq, Eq)]
-pub enum Sending {
-    /// None waited.
-    NoPacket,
-    /// It was sent, or is lost and counted.
-    Gone,
-    /// Its socket has no room for it now: it waits on, behind the others.
-    Waits,
-}
-
-/// The packets of a thread that are to leave, the oldest first, and how many were lost. The thread holds
-/// both ends of their ring. Putting and sending take no memory.
+/// The packets of a thread that are to leave, each port's apart, and what became of those that were put. What waits for
+/// a port that has no room stands aside: no other port's packet meets it. Putting and sending take no memory.
 #[derive(Drop)]
 pub struct Outbox<A: Allocator> {
-    pub(crate) outlet: Outlet<A>,
-    pub(crate) intake: Intake<A>,
-    pub(crate) losses: Losses,
-    ghost one_ring: { AreOneRing outlet intake },
-    ghost in_order: { IsFirstInFirstOut outlet intake },
-    ghost fits: { length (put_packets outlet) ≤ RING_CAPACITY + length (taken_packets intake) },
+    /// In the order of the sockets' numbers.
+    pub(crate) queues: Vec<PortQueue<A>, A>,
+    /// The sockets whose packets are handed on at the next sending.
+    pub(crate) listed: Vec<usize, A>,
+    pub(crate) account: Account,
+    /// The account as it was when it was asked for last.
+    pub(crate) told: Account,
+    ghost room: { vec_len queues ≤ vec_capacity listed },
+    ghost few: { vec_len listed ≤ count_listed queues.items },
+    ghost all: { AreListed queues.items listed.items },
+    ghost balanced: { IsBalanced account (count_waiting queues.items) },
 }
 
 impl<A: Allocator + Copy> Outbox<A> {
-    ghost use Rattle.std.specs.Prelude.{IfOk, []};
-    ghost use Rattle.roam_port.specs.Losses.{no_losses};
-    ghost use Rattle.roam_port.specs.Outbox.{waiting_packets};
+    ghost use Rattle.std.specs.Prelude.{IfOk, OnOk};
+    ghost use Rattle.std.specs.List.{AllByRecursion};
+    ghost use Rattle.roam_port.specs.Accounts.{none_put};
+    ghost use Rattle.roam_port.specs.Outbox.{port_count};
+    ghost use Rattle.roam_port.specs.Queues.{AreMore, IsUnused};
 
-    /// An outbox in which nothing waits, and of which nothing was lost.
-    pub fn new(alloc: A) -> Result<Outbox<A>, NoMemory>
-        ensures waiting { IfOk result (λ o. waiting_packets o ≡ []) }
-        ensures losses { IfOk result (λ o. o.losses ≡ no_losses) }
+    /// An outbox for so many ports, in which nothing waits, and into which nothing was put.
+    pub fn new(alloc: A, ports: usize) -> Result<Outbox<A>, NoMemory>
+        ensures ports { IfOk result (λ o. port_count o ≡ ports) }
+        ensures unused { IfOk result (λ o. AllByRecursion (IsUnused (share_of ports)) o.queues.items) }
+        ensures account { IfOk result (λ o. o.account ≡ none_put) }
     {
-        let (outlet, intake) = ring(alloc)?;
-        Ok(Outbox {
-            outlet,
-            intake,
-            losses: Losses::none(),
-        })
+        let mut outbox = Outbox {
+            queues: Vec::new(alloc),
+            listed: Vec::new(alloc),
+            account: Account::none(),
+            told: Account::none(),
+        };
+        outbox.add_ports(alloc, ports)?;
+        Ok(outbox)
+    }
+
+    /// Adds ports, until there are so many. Those that there are keep what waits for them, and their shares. Where a
+    /// growth is refused, some may have been added.
+    pub fn add_ports(&mut self, alloc: A, ports: usize) -> Result<(), NoMemory>
+        ensures ok { OnOk result (port_count self.new ≡ max ports (port_count self.old)) }
+        ensures more { AreMore (share_of ports) self.old.queues.items self.new.queues.items }
+        ensures account { self.new.account ≡ self.old.account }
+    {
+        self.listed
+            .reserve(ports.saturating_sub(self.listed.len()))?;
+        add_queues(alloc, &mut self.queues, ports)
     }
 }
 
 impl<A: Allocator> Outbox<A> {
-    ghost use Rattle.std.specs.Prelude.{◌⊎◌, ◌↔◌, ◌<◌, ◌∷◌, [], IsTrue, IfSome, IfNone};
-    ghost use Rattle.roam_port.specs.Ring.{known_room};
-    ghost use Rattle.roam_port.specs.Losses.{no_losses, counted_if};
-    ghost use Rattle.roam_port.specs.Outbox.{waiting_packets, IsPut, IsLostBehind, IsLeft, SendsNext};
+    ghost use Rattle.std.specs.Prelude.{◌+◌, ◌<◌, ◌↔◌, true, false, Some, IsTrue};
+    ghost use Rattle.roam_port.specs.declared.port_queue.Standing.{Standing};
+    ghost use Rattle.roam_port.specs.Accounts.{after_put, since};
+    ghost use Rattle.roam_port.specs.Sockets.{socket_number};
+    ghost use Rattle.roam_port.specs.Queues.{AtPort, IsBehind, IsListedAgain};
+    ghost use Rattle.roam_port.specs.Outbox.{IsFullAt, IsTriedAgain, Puts, PutsSending, SendsAll, SendsLast};
+    ghost use Rattle.roam_port.specs.Outbox.{account_of, is_idle_at, port_count, standing_at, told_of, waits_at};
 
-    /// How many packets wait.
-    pub fn len(&mut self) -> usize
-        ensures value { result ≡ length (waiting_packets self.new) }
-        ensures waiting { waiting_packets self.new ≡ waiting_packets self.old }
-        ensures losses { self.new.losses ≡ self.old.losses }
+    /// How many ports there are.
+    pub fn port_count(&self) -> usize
+        ensures { result ≡ port_count self.now }
     {
-        self.intake.count_beside(&mut self.outlet)
+        self.queues.len()
     }
 
-    /// Whether as many packets wait as can.
-    pub fn is_full(&mut self) -> bool
-        ensures value { IsTrue result ↔ (length (waiting_packets self.old) ≡ RING_CAPACITY) }
-        ensures waiting { waiting_packets self.new ≡ waiting_packets self.old }
-        ensures losses { self.new.losses ≡ self.old.losses }
+    /// How the packets stand that wait for the port of this number; none where there is no such port.
+    pub fn standing_of(&self, socket: usize) -> Option<Standing>
+        ensures { result ≡ standing_at self.now socket }
     {
-        self.len() >= RING_CAPACITY
+        match self.queues.get(socket) {
+            Some(queue) => Some(queue.standing),
+            None => None,
+        }
     }
 
-    /// How many more packets find room.
-    fn room(&mut self) -> usize
-        ensures value { result + length (waiting_packets self.new) ≡ RING_CAPACITY }
-        ensures room { result ≤ known_room self.new.outlet }
-        ensures waiting { waiting_packets self.new ≡ waiting_packets self.old }
-        ensures losses { self.new.losses ≡ self.old.losses }
+    /// How many packets wait for the port of this number.
+    pub fn waiting_at(&self, socket: usize) -> usize
+        ensures { result ≡ length (waits_at self.now socket) }
     {
-        let room = self.outlet.room_beside(&mut self.intake);
-        self.intake.count_beside(&mut self.outlet);
-        room
+        match self.queues.get(socket) {
+            Some(queue) => queue.waiting.len(),
+            None => 0,
+        }
     }
 
-    /// Puts a packet behind all that wait, where there is room for it.
-    fn put_behind(&mut self, out: Out<A>)
-        requires { 0 < known_room self.old.outlet }
-        ensures { IsPut out self.old self.new }
+    /// Whether as many packets wait for the port of a place as may. For a port that isn't there, none may.
+    pub fn is_full_at(&self, place: Place) -> bool
+        ensures { IsTrue result ↔ IsFullAt self.now (socket_number place) }
     {
-        self.outlet.put(out).unwrap();
-        self.intake.count_beside(&mut self.outlet);
+        match self.queues.get(socket_of(place)) {
+            Some(queue) => queue.is_full(),
+            None => true,
+        }
     }
 
-    /// Puts a packet behind all that wait. Where 1,024 do, it is lost, and counted.
+    /// Puts a packet behind those that wait for its port, where there is room for it.
+    fn put_behind(&mut self, socket: usize, out: Out<A>)
+        requires waits { is_idle_at self.old socket ≡ false }
+        requires room { ¬ IsFullAt self.old socket }
+        ensures queues { AtPort (IsBehind out) self.old.queues.items self.new.queues.items socket }
+        ensures account { self.new.account ≡ after_put self.old.account }
+    {
+        self.queues[socket].put(out);
+        self.account.count_put();
+    }
+
+    /// Puts a packet where none waits for its port, and lists that port.
+    fn put_first(&mut self, socket: usize, out: Out<A>)
+        requires idle { is_idle_at self.old socket ≡ true }
+        requires room { ¬ IsFullAt self.old socket }
+        ensures queues { AtPort (IsBehind out) self.old.queues.items self.new.queues.items socket }
+        ensures account { self.new.account ≡ after_put self.old.account }
+    {
+        self.queues[socket].put(out);
+        self.account.count_put();
+        self.listed.push_reserved(socket);
+    }
+
+    /// Whether no packet waits for a port.
+    fn is_idle_at(&self, socket: usize) -> bool
+        ensures { result ≡ is_idle_at self.now socket }
+    {
+        match self.queues.get(socket) {
+            Some(queue) => queue.is_idle(),
+            None => true,
+        }
+    }
+
+    /// Puts a packet behind those that wait for the port of its place. Where as many wait for that port as may, the
+    /// packet is lost, and counted.
     pub fn put(&mut self, out: Out<A>)
-        ensures { IsPut out self.old self.new ⊎ IsLostBehind self.old self.new }
+        ensures puts { Puts out self.old self.new }
+        ensures count { port_count self.new ≡ port_count self.old }
     {
-        if self.room() > 0 {
-            self.put_behind(out);
+        let socket = socket_of(out.from);
+        if self.is_full_at(out.from) {
+            self.account.count_loss();
+        } else if self.is_idle_at(socket) {
+            self.put_first(socket, out);
         } else {
-            self.losses.count(LossCause::FullRing);
+            self.put_behind(socket, out);
         }
     }
 
-    /// Takes the oldest packet that waits.
-    fn take(&mut self) -> Option<Out<A>>
-        ensures some { IfSome result (λ out. waiting_packets self.old ≡ out ∷ waiting_packets self.new) }
-        ensures none { IfNone result (waiting_packets self.old ≡ [] × waiting_packets self.new ≡ []) }
-        ensures losses { self.new.losses ≡ self.old.losses }
+    /// Hands the packets that wait for the port that was listed last to it, where they are listed still.
+    fn send_last<P: Port>(&mut self, ports: &mut [P]) -> Sent
+        requires listed { 0 < length self.old.listed.items }
+        requires ports { port_count self.old ≤ length ports.old }
+        ensures sends { SendsLast P.calls ports.old ports.new self.old self.new result }
+        ensures listed { length self.new.listed.items + 1 ≡ length self.old.listed.items }
+        ensures count { port_count self.new ≡ port_count self.old }
+        ensures ports { length ports.new ≡ length ports.old }
     {
-        let out = self.intake.take();
-        self.intake.count_beside(&mut self.outlet);
-        out
+        let socket = self.listed.pop().unwrap();
+        send_at(&mut self.queues, ports, &mut self.account, socket)
     }
 
-    /// Counts a packet that was handed to its port, or has it wait on, by what that answered.
-    fn settle(&mut self, out: Out<A>, answer: Result<(), SendFault>) -> Sending
-        requires { length (waiting_packets self.old) < RING_CAPACITY }
-        ensures left { IsLeft out (waiting_packets self.old) (waiting_packets self.new) result answer }
-        ensures losses { self.new.losses ≡ counted_if self.old.losses (spec.cause_of answer) }
+    /// Hands the packets that wait to their ports, each port's the oldest first and each packet once, until none waits
+    /// for a port or it has no room for one: it and those behind it stand aside, until the port is tried again.
+    ///
+    /// The ports stand in the order of the sockets' numbers.
+    pub fn send_all<P: Port>(&mut self, ports: &mut [P]) -> Sent
+        requires { port_count self.old ≤ length ports.old }
+        ensures sends { SendsAll P.calls ports.old ports.new self.old self.new result }
+        ensures count { port_count self.new ≡ port_count self.old }
     {
-        if let Err(SendFault::WouldBlock) = answer {
-            self.room();
-            self.put_behind(out);
-            return Sending::Waits;
+        let mut sent = Sent::none();
+        for _ in 0..self.listed.len() {
+            sent = sent.and(self.send_last(ports));
         }
-        if let Some(cause) = cause_of(answer) {
-            self.losses.count(cause);
-        }
-        Sending::Gone
+        sent
     }
 
-    /// Hands the oldest packet that waits to the port of its place, once.
-    pub fn send_next<P: Port>(&mut self, ports: &mut [P]) -> Sending
-        ensures { SendsNext P.calls ports.old ports.new self.old self.new result }
+    /// Puts a packet behind those that wait for its port. Where as many wait as may, what waits is sent first.
+    pub fn put_sending<P: Port>(&mut self, ports: &mut [P], out: Out<A>) -> Sent
+        requires { port_count self.old ≤ length ports.old }
+        ensures puts { PutsSending P.calls out ports.old ports.new self.old self.new result }
+        ensures count { port_count self.new ≡ port_count self.old }
     {
-        self.room();
-        match self.take() {
-            Some(out) => {
-                let answer = send_packet(ports, &out);
-                self.settle(out, answer)
-            }
-            None => Sending::NoPacket,
+        if !self.is_full_at(out.from) {
+            self.put(out);
+            return Sent::none();
+        }
+        let sent = self.send_all(ports);
+        self.put(out);
+        sent
+    }
+
+    /// Lists again what stands aside for a port.
+    fn list_again(&mut self, socket: usize)
+        requires aside { standing_at self.old socket ≡ Some Standing.Aside }
+        requires within { socket < length self.old.queues.items }
+        ensures queues { AtPort IsListedAgain self.old.queues.items self.new.queues.items socket }
+        ensures account { self.new.account ≡ self.old.account }
+    {
+        self.queues[socket].list_again();
+        self.listed.push_reserved(socket);
+    }
+
+    /// The port of this number may have room again: what stands aside for it is handed to it at the next sending.
+    pub fn try_again(&mut self, socket: usize)
+        ensures again { IsTriedAgain socket self.old self.new }
+        ensures count { port_count self.new ≡ port_count self.old }
+    {
+        if let Some(Standing::Aside) = self.standing_of(socket) {
+            self.list_again(socket);
         }
     }
 
-    /// How many packets were lost since this was asked last.
-    pub fn take_losses(&mut self) -> Losses
-        ensures value { result ≡ self.old.losses }
-        ensures taken { self.new.losses ≡ no_losses }
-        ensures waiting { waiting_packets self.new ≡ waiting_packets self.old }
+    /// What became of all packets that were put so far.
+    pub fn account(&self) -> Account
+        ensures { result ≡ account_of self.now }
     {
-        let losses = self.losses;
-        self.losses = Losses::none();
-        losses
+        self.account
+    }
+
+    /// What was counted of them since this was asked last.
+    pub fn take_account(&mut self) -> Account
+        ensures value { result ≡ since (account_of self.old) (told_of self.old) }
+        ensures told { told_of self.new ≡ account_of self.old }
+        ensures account { account_of self.new ≡ account_of self.old }
+        ensures waiting { self.new.queues ≡ self.old.queues }
+    {
+        let since = self.account.since(self.told);
+        self.told = self.account;
+        since
     }
 }

@@ -1,11 +1,14 @@
 //! The broker's sockets by number: which place is whose, where they are bound, which worker serves
 //! one.
 
-ghost use Rattle.std.specs.Prelude.{◌≡◌, ◌<◌, ◌≤◌, ◌%◌, length, option_map, slice_get};
+ghost use Rattle.std.specs.Prelude.{◌≡◌, ◌<◌, ◌≤◌, ◌+◌, ◌*◌, length, map};
+ghost use Rattle.std.specs.List.{flat_map};
+ghost use Rattle.roam_conf.specs.Duplicates.{realm_endpoints};
+ghost use Rattle.roam_conf.specs.Parts.{shown_realm};
 ghost use Rattle.roam_conf.specs.Shown.{shown};
-ghost use Rattle.roam_port.specs.Sockets.{socket_number, socket_endpoints, worker_number};
+ghost use Rattle.roam_port.specs.Sockets.{socket_number, socket_endpoint, socket_endpoints, worker_number};
 
-use roam_conf::{Config, Endpoint, Place};
+use roam_conf::{Config, Endpoint, Place, Realm};
 
 /// The number of a place's socket.
 pub fn socket_of(place: Place) -> usize
@@ -38,45 +41,62 @@ pub fn place_of(socket: usize) -> Place
     }
 }
 
+/// How many numbers the sockets of a configuration are among: two for each realm, also where it takes no
+/// reverse requests.
+pub fn socket_numbers(config: &Config) -> usize
+    ensures value { result ≡ 2 * length (shown config.now).realms + 2 }
+    ensures bound { result ≤ 2050 }
+{
+    2 * config.realms.len() + 2
+}
+
+/// How many sockets a realm has.
+fn sockets_of(realm: &Realm) -> usize
+    ensures value { result ≡ length (realm_endpoints (shown_realm realm.now)) }
+    ensures bound { result ≤ 2 }
+{
+    match realm.reverse {
+        Some(_) => 2,
+        None => 1,
+    }
+}
+
+/// How many sockets realms have
+fn sockets_of_all(realms: &[Realm]) -> usize
+    requires { length realms.now ≤ 1024 }
+    ensures value { result ≡ length (flat_map realm_endpoints (map shown_realm realms.now)) }
+    ensures bound { result ≤ 2048 }
+{
+    let mut count = 0;
+    for realm in realms {
+        count += sockets_of(realm);
+    }
+    count
+}
+
 /// How many sockets a configuration wants.
 pub fn socket_count(config: &Config) -> usize
     ensures value { result ≡ length (socket_endpoints (shown config.now)) }
     ensures bound { result ≤ 2050 }
 {
-    2 + 2 * config.realms.len()
+    2 + sockets_of_all(config.realms.as_slice())
 }
 
-/// Where the socket of a place is bound; none where the realm isn't configured.
+/// Where the socket of a place is bound; none where the realm isn't configured, or takes no reverse requests.
 pub fn endpoint_of(config: &Config, place: Place) -> Option<Endpoint>
-    ensures { result ≡ slice_get (socket_endpoints (shown config.now)) (socket_number place) }
+    ensures { result ≡ socket_endpoint (shown config.now) place }
 {
     match place {
         Place::Auth => Some(config.auth),
         Place::Acct => Some(config.acct),
-        Place::Out(realm) => match realm_endpoints(config, realm) {
-            Some((out, _)) => Some(out),
+        Place::Out(realm) => match config.realms.get(usize::from(realm)) {
+            Some(realm) => Some(realm.out),
             None => None,
         },
-        Place::Reverse(realm) => match realm_endpoints(config, realm) {
-            Some((_, reverse)) => Some(reverse),
+        Place::Reverse(realm) => match config.realms.get(usize::from(realm)) {
+            Some(realm) => realm.reverse,
             None => None,
         },
-    }
-}
-
-/// Where the two sockets of a realm are bound, `out` and `reverse`; none where it isn't configured.
-fn realm_endpoints(config: &Config, realm: u16) -> Option<(Endpoint, Endpoint)>
-    ensures out { option_map (λ e. e.0) result
-        ≡ option_map (λ r. r.out) (slice_get (shown config.now).realms realm) }
-    ensures reverse { option_map (λ e. e.1) result
-        ≡ option_map (λ r. r.reverse) (slice_get (shown config.now).realms realm) }
-{
-    let realm = usize::from(realm);
-    if realm < config.realms.len() {
-        let realm = &config.realms[realm];
-        Some((realm.out, realm.reverse))
-    } else {
-        None
     }
 }
 

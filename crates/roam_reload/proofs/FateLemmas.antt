@@ -14,7 +14,7 @@ no_realm = record {
   name = [];
   also = [];
   out = record { ip = []; port = 0 };
-  reverse = record { ip = []; port = 0 };
+  reverse = None;
   tries = 0;
   wait = 0;
   hold = 0;

@@ -1,5 +1,6 @@
 -- When a configuration may follow another while the broker serves, and which realms are carried over then. Ours.
 use Rattle.std.specs.Prelude.{◌≡◌, ℕ, ◌<◌, ◌≤◌, true, false, List, [], ◌∷◌, ◌++◌, map, option_map, length, slice_get}
+use Rattle.std.specs.List.{filter_map}
 use Rattle.roam_conf.specs.Config.{ConfigView, PeerView, RealmView}
 use Rattle.roam_conf.specs.Duplicates.{is_among}
 use Rattle.roam_conf.specs.declared.endpoint.Endpoint.{Endpoint}
@@ -42,7 +43,7 @@ abbrev pub endpoints_of : ConfigView → PlaceKind → List Endpoint
 endpoints_of config Auth = config.auth ∷ []
 endpoints_of config Acct = config.acct ∷ []
 endpoints_of config Out = map (λ realm. realm.out) config.realms
-endpoints_of config Reverse = map (λ realm. realm.reverse) config.realms
+endpoints_of config Reverse = filter_map (λ realm. realm.reverse) config.realms
 
 -- an endpoint that both have is at places of one kind
 abbrev pub KeepsKinds : ConfigView → ConfigView → Type 0

@@ -1,7 +1,7 @@
 //! Why a configuration may not follow another.
 
 ghost use Rattle.std.specs.Prelude.{◌≡◌, IfNone, IfSome, map};
-ghost use Rattle.std.specs.List.{find};
+ghost use Rattle.std.specs.List.{filter_map, find};
 ghost use Rattle.roam_conf.specs.Parts.{shown_realm};
 ghost use Rattle.roam_conf.specs.Shown.{shown};
 ghost use Rattle.roam_reload.specs.Differences.{HasMoved, Hinders};
@@ -44,11 +44,13 @@ fn moved_out(realms: &[Realm], new: &Config) -> Option<Endpoint>
 /// The first `reverse` of some realms that is at a place of another kind.
 fn moved_reverse(realms: &[Realm], new: &Config) -> Option<Endpoint>
     ensures { result ≡ find (is_moved (shown new.now) kind.Reverse)
-        (map (λ realm. realm.reverse) (map shown_realm realms.now)) }
+        (filter_map (λ realm. realm.reverse) (map shown_realm realms.now)) }
 {
     for realm in realms {
-        if is_moved(new, PlaceKind::Reverse, realm.reverse) {
-            return Some(realm.reverse);
+        if let Some(reverse) = realm.reverse {
+            if is_moved(new, PlaceKind::Reverse, reverse) {
+                return Some(reverse);
+            }
         }
     }
     None

@@ -1,6 +1,7 @@
 //! The kinds of the broker's own places.
 
 ghost use Rattle.std.specs.Prelude.{◌≡◌, map};
+ghost use Rattle.std.specs.List.{filter_map};
 ghost use Rattle.roam_conf.specs.Duplicates.{is_among};
 ghost use Rattle.roam_conf.specs.Parts.{shown_realm};
 ghost use Rattle.roam_conf.specs.Shown.{shown};
@@ -36,11 +37,13 @@ fn is_out(realms: &[Realm], endpoint: Endpoint) -> bool
 
 /// Whether an endpoint is a realm's `reverse`.
 fn is_reverse(realms: &[Realm], endpoint: Endpoint) -> bool
-    ensures { result ≡ is_among (map (λ realm. realm.reverse) (map shown_realm realms.now)) endpoint }
+    ensures { result ≡ is_among (filter_map (λ realm. realm.reverse) (map shown_realm realms.now)) endpoint }
 {
     for realm in realms {
-        if is_same_endpoint(endpoint, realm.reverse) {
-            return true;
+        if let Some(reverse) = realm.reverse {
+            if is_same_endpoint(endpoint, reverse) {
+                return true;
+            }
         }
     }
     false

@@ -1,13 +1,13 @@
 //! In which key two tables of a realm differ.
 
-ghost use Rattle.std.specs.Prelude.{◌≡◌, IfNone, IfSome};
+ghost use Rattle.std.specs.Prelude.{◌≡◌, ◌≢◌, IfNone, IfSome, IsFalse, IsTrue};
 ghost use Rattle.roam_conf.specs.Parts.{shown_realm};
 ghost use Rattle.roam_reload.specs.Differences.{RealmsDiffer};
 ghost use Rattle.roam_reload.specs.Reload.{realm_part};
 ghost use Rattle.roam_reload.specs.SameLimits.{HaveSameLimits};
 
 use crate::keys::RealmKey;
-use roam_conf::{Realm, is_same_endpoint};
+use roam_conf::{Endpoint, Realm, is_same_endpoint};
 
 /// The first key of a realm's times and limits in which two tables differ.
 fn limit_difference(old: &Realm, new: &Realm) -> Option<RealmKey>
@@ -33,6 +33,18 @@ fn limit_difference(old: &Realm, new: &Realm) -> Option<RealmKey>
     }
 }
 
+/// Whether two realms take reverse requests at one endpoint, or neither takes them.
+fn is_same_reverse(a: Option<Endpoint>, b: Option<Endpoint>) -> bool
+    ensures same { IsTrue result → a ≡ b }
+    ensures other { IsFalse result → a ≢ b }
+{
+    match (a, b) {
+        (Some(a), Some(b)) => is_same_endpoint(a, b),
+        (None, None) => true,
+        _ => false,
+    }
+}
+
 /// The first key in which two tables of a realm differ, its `name` and `also` aside.
 pub fn realm_difference(old: &Realm, new: &Realm) -> Option<RealmKey>
     ensures none { IfNone result (realm_part (shown_realm new.now) ≡ realm_part (shown_realm old.now)) }
@@ -40,7 +52,7 @@ pub fn realm_difference(old: &Realm, new: &Realm) -> Option<RealmKey>
 {
     if !is_same_endpoint(old.out, new.out) {
         Some(RealmKey::Out)
-    } else if !is_same_endpoint(old.reverse, new.reverse) {
+    } else if !is_same_reverse(new.reverse, old.reverse) {
         Some(RealmKey::Reverse)
     } else if old.servers != new.servers {
         Some(RealmKey::Servers)

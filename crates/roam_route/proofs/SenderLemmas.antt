@@ -7,7 +7,7 @@ use Rattle.roam_wire.specs.Packet.{Attribute}
 use Rattle.roam_wire.specs.Attributes.{first_value}
 use Rattle.roam_wire.specs.declared.attribute_type.TheConstants.{USER_NAME}
 use Rattle.roam_conf.specs.Config.{ConfigView, PeerView, RealmView}
-use Rattle.roam_conf.specs.Lookup.{realm_named, peer_with_ip, link_at, link_in, home_in, server_with_ip}
+use Rattle.roam_conf.specs.Lookup.{realm_named, peer_with_ip, link_at, link_in, home_in, reverse_home}
 use Rattle.roam_conf.specs.declared.place.Link.{Link}
 use Rattle.roam_conf.specs.declared.place.Place.TheVariants as place
 use Rattle.roam_conf.proofs.NameLemmas.{realm_named_within}
@@ -90,7 +90,7 @@ pub home_known : (config : ConfigView) (a : Arrival) (realm i : ℕ)
     → (realm < length config.realms) × IsConfigured config realm (side.Home i)
 home_known config a realm i from =
     let found = home_found (home_in config realm a.from.ip) i from in
-    let homes : RealmView → Option ℕ = λ r. server_with_ip r.servers a.from.ip in
+    let homes : RealmView → Option ℕ = λ r. reverse_home r a.from.ip in
     let in_realm = there homes (slice_get config.realms realm) i found in
     let within = slice_get_within config.realms realm in_realm.0 in_realm.1 in
     (within, home_in_bound config realm a.from.ip i found)

@@ -28,6 +28,7 @@ mod threads;
 mod watch;
 
 pub use change::source::{Following, NoSource, Source};
+pub use roam_control::Build;
 pub use roam_sockets::{
     ControlSocket, Reason, ServeFault, SocketPath, descriptors_wanted, reason_of, with_drawn_seed,
 };

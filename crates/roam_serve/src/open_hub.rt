@@ -134,7 +134,7 @@ fn run<
         rest: &rest,
         losses: parts.losses,
         counters: configured.counters(counters_of(parts.watch)),
-        are_exchanges_told: configured.are_exchanges_told,
+        told_exchanges: configured.told_exchanges,
         office: parts.office,
         stopping: parts.stopping,
         old_history: parts.old_history,

@@ -14,9 +14,10 @@ use crate::threads::behind::{Behind, start_behind};
 use crate::threads::kits::{make_kits, make_outboxes};
 use crate::watch::Watch;
 use log::Log;
-use roam_conf::Config;
-use roam_control::{Office, Stopping};
+use roam_conf::{Config, ExchangeLines};
+use roam_control::{Build, Office, Stopping};
 use roam_hub::Gate;
+use roam_port::socket_numbers;
 use roam_sockets::{ServeFault, bind_all, descriptors_wanted, listen_at, reason_of};
 use roam_telling::Notice;
 use roam_workers::{CAUSES, OldHistory, Rests, SharedLosses, tell_or_drop};
@@ -33,8 +34,8 @@ use std::time::{Clock, Instant};
 pub struct ServeOptions<'s, G> {
     /// Where what its threads do is counted, and who may ask for that; none where nobody watches it.
     pub watch: Option<Watch<'s>>,
-    /// Whether a line tells of each exchange that ends.
-    pub are_exchanges_told: bool,
+    /// Of which exchanges that end a line tells.
+    pub told_exchanges: ExchangeLines,
     /// For how long it serves; none where that has no end.
     pub milliseconds: Option<u64>,
     /// Called while a lock is held.
@@ -58,6 +59,14 @@ fn listener<R: Log>(rt: &R, config: &Config, watch: Option<Watch<'_>>) -> Option
             tell_or_drop(rt, config, Notice::NoMetrics(endpoint, reason_of(&error)));
             None
         }
+    }
+}
+
+/// Which program serves, as whoever watches it is told.
+fn build_of(watch: Option<Watch<'_>>) -> Build {
+    match watch {
+        Some(watch) => watch.build,
+        None => Build::unnamed(),
     }
 }
 
@@ -178,7 +187,7 @@ pub fn serve<
 {
     let ServeOptions {
         watch,
-        are_exchanges_told,
+        told_exchanges,
         milliseconds,
         gate,
     } = options;
@@ -190,7 +199,7 @@ pub fn serve<
     let listener = listener(rt, &config, watch);
     let losses = SharedLosses::new();
     let old_history = OldHistory::new(alloc, config.shards)?;
-    let office = Office::new(alloc, start, config.shards)?;
+    let office = Office::new(rt, alloc, start, config.shards, build_of(watch))?;
     let stopping = Stopping::new();
     let wanted = descriptors_wanted(&config, &config);
     let means = Means {
@@ -199,10 +208,10 @@ pub fn serve<
             alloc,
             &config,
             sockets.as_slice(),
-            are_exchanges_told,
+            told_exchanges,
             wanted,
         )?,
-        outboxes: make_outboxes(alloc, config.shards)?,
+        outboxes: make_outboxes(alloc, config.shards, socket_numbers(&config))?,
         rests: Rests::new(alloc, &config)?,
         handover: Handover {
             reply: None,
@@ -212,7 +221,7 @@ pub fn serve<
     let configured = Configured {
         config,
         sockets,
-        are_exchanges_told,
+        told_exchanges,
         counters: None,
     };
     let mut parts = ServerParts {

@@ -16,7 +16,7 @@ use crate::parts::{HubEnd, Means, Served, ServerParts, Unserved};
 use crate::threads::kits::{Kits, fill_outboxes, make_kits};
 use log::Log;
 use roam_hub::{Blanks, Gate};
-use roam_port::Outbox;
+use roam_port::{Outbox, socket_numbers};
 use roam_shard::{Paused, first_starts};
 use roam_sockets::{ServeFault, descriptors_wanted, now};
 use roam_telling::Notice;
@@ -104,15 +104,15 @@ fn take_again<R: Net, G, S>(
 {
     let config = &configured.config;
     let sockets = configured.sockets.as_slice();
-    fill_outboxes(parts.alloc, config.shards, outboxes)?;
-    let are_told = configured.are_exchanges_told;
+    fill_outboxes(parts.alloc, config.shards, socket_numbers(config), outboxes)?;
+    let told = configured.told_exchanges;
     Ok(Again {
         kits: make_kits(
             parts.rt,
             parts.alloc,
             config,
             sockets,
-            are_told,
+            told,
             descriptors_wanted(config, config),
         )?,
         rests: Rests::new(parts.alloc, config)?,

@@ -1,6 +1,7 @@
 //! Who watches a server.
 
 use roam_conf::Endpoint;
+use roam_control::Build;
 use roam_sockets::ControlSocket;
 use roam_telling::Counters;
 
@@ -12,4 +13,6 @@ pub struct Watch<'w> {
     pub metrics: Option<Endpoint>,
     /// Through which it is answered and the server is stopped, if through any.
     pub control: Option<&'w ControlSocket>,
+    /// Which program it is of.
+    pub build: Build,
 }

@@ -8,3 +8,4 @@ pub mod RoomLemmas
 pub mod TickLemmas
 pub mod AcrossLemmas
 pub mod LostLemmas
+pub mod FewLemmas

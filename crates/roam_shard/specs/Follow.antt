@@ -19,7 +19,7 @@ use Rattle.roam_core.specs.Openings.{next_start}
 -- realm that goes on in part
 -- Stands in: `roam_core` `Openings.antt`: `next_start`; `roam_shard` `Follow.antt`: `Follows`, `AllFollow`;
 -- `Paused::follow`; of all shards
--- `roam_hub` `Following.antt`: `HaveFollowed`, `StandAsBefore`; `follow`
+-- `roam_follow` `Following.antt`: `HaveFollowed`, `StandAsBefore`; `follow`
 --
 -- a realm that is carried over goes on in its state. Any other begins anew: with no entries, no sessions, cursors 0 and
 -- no rests

@@ -8,8 +8,9 @@
 //! - a shard answers each job and tick twice, once to send and once to keep, and both are the written answer;
 //!   or memory is refused, and it is unchanged | `Shard::step`, `tick`: `turn`
 //! - no memory is wanted where a job sends no packet, where nothing is due, where each entry that is due was
-//!   answered, so that they only go, or where a tick is refused; whether something is due, it says |
-//!   `Shard::step`: `succeeds`; `tick`: `nothing_due`, `only_done`, `too_late`; `is_due`
+//!   answered, so that they only go, or where a tick is refused; whether something is due, it says, and whether
+//!   at most so many entries are | `Shard::step`: `succeeds`; `tick`: `nothing_due`, `only_done`, `too_late`;
+//!   `is_due`, `has_few_due`
 //! - its realms begin at the starts that it is given; where one of them would go on, it says | `Shard::new`,
 //!   `opening`, `start`
 //! - over one shard for each number stands the same broker, from any starts | `Shards::new`, `fresh`; it is a
@@ -31,6 +32,7 @@
 mod answer_pair;
 mod answers;
 mod any_due;
+mod few_due;
 mod following;
 mod jobs;
 mod look;

@@ -1,2 +1,1 @@
-pub mod BindLemmas
 mod PathLemmas

@@ -11,7 +11,7 @@ use crate::options::{address_octets, set_option};
 use crate::socket::socket_address;
 use os::FromRawFd;
 use roam_conf::{Config, Endpoint, Place, is_same_endpoint};
-use roam_port::{endpoint_of, place_of, socket_count, worker_of};
+use roam_port::{endpoint_of, place_of, socket_count, socket_numbers, worker_of};
 use std::alloc::Global;
 use std::io;
 use std::net::{Net, UdpSocket};
@@ -262,7 +262,7 @@ pub fn bind_following<R: Net>(
         bound: Vec::new(alloc),
         wanted,
     };
-    for number in 0..socket_count(config) {
+    for number in 0..socket_numbers(config) {
         let place = place_of(number);
         if let Some(endpoint) = endpoint_of(config, place) {
             if !sockets.take_open(config, place, endpoint, open)? {

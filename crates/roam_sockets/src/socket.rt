@@ -53,8 +53,8 @@ fn send_fault_of(kind: ErrorKind) -> SendFault
 #[derive(Clone, Copy)]
 pub struct Socket<'s> {
     socket: &'s UdpSocket,
-    /// Whether it had no room for a packet. It takes none until it is known to have some again.
-    is_blocked: bool,
+    /// Whether the system is asked to tell when it has room for a packet.
+    is_watched: bool,
 }
 
 impl<'s> Socket<'s> {
@@ -62,7 +62,7 @@ impl<'s> Socket<'s> {
     pub fn new(socket: &'s UdpSocket) -> Socket<'s> {
         Socket {
             socket,
-            is_blocked: false,
+            is_watched: false,
         }
     }
 
@@ -71,14 +71,18 @@ impl<'s> Socket<'s> {
         self.socket.as_raw_fd()
     }
 
-    /// Whether it had no room for a packet.
-    pub fn is_blocked(&self) -> bool {
-        self.is_blocked
+    /// Whether the system is asked to tell when it has room for a packet.
+    pub fn is_watched(&self) -> bool
+        ensures { result ≡ self.now.is_watched }
+    {
+        self.is_watched
     }
 
-    /// It may have room for a packet again.
-    pub fn unblock(&mut self) {
-        self.is_blocked = false;
+    /// The system is asked to tell when it has room for a packet, or is asked no more.
+    pub fn set_watched(&mut self, is_watched: bool)
+        ensures { self.new.is_watched ≡ is_watched }
+    {
+        self.is_watched = is_watched;
     }
 }
 
@@ -115,16 +119,9 @@ impl Port for Socket<'_> {
     }
 
     fn send(&mut self, to: Endpoint, octets: &[u8]) -> Result<(), SendFault> {
-        if self.is_blocked {
-            return Err(SendFault::WouldBlock);
-        }
         match self.socket.send_to(octets, socket_address(to)) {
             Ok(_) => Ok(()),
-            Err(error) => {
-                let fault = send_fault_of(error.kind());
-                self.is_blocked = fault == SendFault::WouldBlock;
-                Err(fault)
-            }
+            Err(error) => Err(send_fault_of(error.kind())),
         }
     }
 }

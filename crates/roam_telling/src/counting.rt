@@ -10,7 +10,7 @@ use roam_counters::{
     tick_event,
 };
 use roam_hub::{Past, Requester, Stood};
-use roam_port::Losses;
+use roam_port::Account;
 use roam_route::Out;
 use roam_wire::Refusal;
 use std::alloc::Global;
@@ -234,6 +234,13 @@ impl Counting<'_> {
         }
     }
 
+    /// So many lines of exchanges were dropped.
+    pub fn lines_dropped(&self, count: u64) {
+        if let Some(counts) = &self.counts {
+            counts.process(Process::LineDropped, count);
+        }
+    }
+
     /// So many requests found no room to be noted.
     pub fn missed(&self, count: u64) {
         if let Some(counts) = &self.counts {
@@ -258,14 +265,11 @@ impl Counting<'_> {
         }
     }
 
-    /// So many packets left the ring for their sockets, and of all packets these were lost.
-    pub fn sent(&self, gone: u64, losses: Losses) {
+    /// What became of packets since this was counted last.
+    pub fn sent(&self, account: Account) {
         if let Some(counts) = &self.counts {
-            let failed = losses
-                .unreachable
-                .saturating_add(losses.not_permitted)
-                .saturating_add(losses.other);
-            counts.process(Process::Sent, gone.saturating_sub(failed));
+            let losses = account.losses;
+            counts.process(Process::Sent, account.sent);
             counts.process(Process::LostFullRing, losses.full_ring);
             counts.process(Process::LostUnreachable, losses.unreachable);
             counts.process(Process::LostNotPermitted, losses.not_permitted);

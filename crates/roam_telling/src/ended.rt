@@ -1,14 +1,21 @@
 //! What is told of an exchange that ends, and by what it ends.
 
+ghost use Rattle.std.specs.Prelude.{◌≡◌};
+ghost use Rattle.roam_conf.specs.Shown.{shown};
+ghost use Rattle.roam_notices.specs.Exchanges.{shown_value};
+ghost use Rattle.roam_route.specs.LocalReject.{has_too_many_hops};
+ghost use Rattle.roam_telling.specs.Causes as causes;
+ghost use Rattle.roam_wire.specs.Reading.{reading};
+
 use crate::notice::server_endpoint;
 use roam_book::Answer;
 use roam_conf::{Config, Endpoint, Link, Place};
 use roam_counters::NakCause;
 use roam_hub::{Notes, Past, Requester, Stood};
-use roam_notices::{Exchange, ExchangeEnd, RequestWord, Value};
-use roam_route::{Datagram, Side};
-use roam_wire::View;
-use roam_wire::attribute_type::{ERROR_CAUSE, USER_NAME};
+use roam_notices::{Exchange, ExchangeEnd, Origin, RejectCause, RequestWord, Value};
+use roam_route::{Datagram, Side, realm_of, realm_part};
+use roam_wire::attribute_type::{ERROR_CAUSE, MESSAGE_AUTHENTICATOR, PROXY_STATE, USER_NAME};
+use roam_wire::{Refusal, View};
 use std::alloc::Global;
 
 /// The station that asks for access (RFC 2865, section 5.31).
@@ -71,6 +78,7 @@ fn value_of(octets: Option<&[u8]>) -> Option<Value> {
 fn said_by(octets: &[u8], outcome: ExchangeEnd) -> Exchange {
     let mut exchange = Exchange {
         outcome,
+        why: None,
         asked: RequestWord::Other,
         realm: None,
         peer: None,
@@ -79,6 +87,7 @@ fn said_by(octets: &[u8], outcome: ExchangeEnd) -> Exchange {
         station: None,
         milliseconds: 0,
         tries: 0,
+        times: 1,
     };
     if let Ok(view) = View::read(octets) {
         exchange.asked = RequestWord::of(view.code());
@@ -142,11 +151,81 @@ pub fn nak_of(datagram: &Datagram<Global>, realm: u16) -> Exchange {
     exchange
 }
 
+/// Whether more proxies forwarded a request than may (RFC 2865, section 5.33).
+fn has_too_many_hops(config: &Config, request: &View<'_>) -> bool
+    ensures { result ≡ has_too_many_hops (shown config.now).max_hops request.now }
+{
+    match config.max_hops {
+        Some(most) => request.count(PROXY_STATE) > usize::from(most),
+        None => false,
+    }
+}
+
+/// What is wrong with what follows the `@`, where it means this realm.
+fn cause_of_part(part: Option<&[u8]>, realm: Option<u16>) -> Option<RejectCause>
+    ensures { result ≡ causes.cause_of_part (shown_value part.entry) realm }
+{
+    match (part, realm) {
+        (None, _) => Some(RejectCause::NoRealmPart),
+        (Some(_), None) => Some(RejectCause::UnknownRealm),
+        (Some(_), Some(_)) => None,
+    }
+}
+
+/// What is wrong with a User-Name that means this realm.
+fn cause_of_name(name: Option<&[u8]>, realm: Option<u16>) -> Option<RejectCause>
+    ensures { result ≡ causes.cause_of_name (shown_value name.entry) realm }
+{
+    match name {
+        None => Some(RejectCause::NoUserName),
+        Some(name) => cause_of_part(realm_part(name), realm),
+    }
+}
+
+/// Why the broker rejects an Access-Request by itself, where it does.
+fn reject_cause(config: &Config, request: &View<'_>) -> RejectCause
+    ensures { result ≡ causes.reject_cause (shown config.now) request.now }
+{
+    match cause_of_name(request.first(USER_NAME), realm_of(config, request)) {
+        Some(cause) => cause,
+        None if has_too_many_hops(config, request) => RejectCause::TooManyHops,
+        None => RejectCause::Passwords,
+    }
+}
+
 /// What is told of a request that the broker rejects by itself.
 pub fn local_reject_of(config: &Config, datagram: &Datagram<Global>) -> Exchange {
-    let mut exchange = said_by(datagram.octets.as_slice(), ExchangeEnd::LocalReject);
+    let octets = datagram.octets.as_slice();
+    let mut exchange = said_by(octets, ExchangeEnd::LocalReject);
     exchange.peer = config.peer_by_ip(datagram.from.ip);
+    if let Ok(view) = View::read(octets) {
+        exchange.why = Some(reject_cause(config, &view));
+    }
     exchange
+}
+
+/// Where a reply was refused for its seal: whether it has one.
+fn seal_origin(datagram: &Datagram<Global>) -> Origin
+    ensures { result ≡ causes.seal_origin datagram.now.at datagram.now.from (reading datagram.now.octets) }
+{
+    match View::read(datagram.octets.as_slice()) {
+        Ok(view) if view.count(MESSAGE_AUTHENTICATOR) == 0 => {
+            Origin::Unsealed(datagram.at, datagram.from)
+        }
+        _ => Origin::Datagram(datagram.at, datagram.from),
+    }
+}
+
+/// Where a datagram came that was refused so, or wasn't: of a reply that is refused for its seal it is said whether it has
+/// one.
+pub fn origin_of(datagram: &Datagram<Global>, refusal: Option<Refusal>) -> Origin
+    ensures { result
+        ≡ causes.origin_of datagram.now.at datagram.now.from datagram.now.octets refusal }
+{
+    match refusal {
+        Some(Refusal::BadReplyMessageAuthenticator) => seal_origin(datagram),
+        _ => Origin::Datagram(datagram.at, datagram.from),
+    }
 }
 
 /// The Error-Cause of a NAK (RFC 5176, section 3.5).

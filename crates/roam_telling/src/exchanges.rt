@@ -1,11 +1,14 @@
 //! A thread's end of its queue of lines of exchanges, and what it notes before a call that may end some.
 
-ghost use Rattle.std.specs.Prelude.{◌≡◌, ◌++◌, ◌∷◌, [], IsTrue, IsFalse};
-ghost use Rattle.rtrb.specs.Ring.{sent};
+ghost use Rattle.std.specs.Prelude.{◌≡◌, ◌+◌, ◌-◌, ◌^◌, ◌<◌, ◌≤◌, [], Some, None, IfSome, min, unwrap_or};
+ghost use Rattle.std.specs.Option.{ForSome};
+ghost use Rattle.roam_notices.specs.Exchanges.{is_told};
+ghost use Rattle.roam_notices.specs.Folded.{IsCounted};
 
-use roam_conf::Config;
+use crate::notices::SECOND;
+use roam_conf::{Config, ExchangeLines};
 use roam_hub::Notes;
-use roam_notices::Exchange;
+use roam_notices::{Exchange, ExchangeEnd, FoldedLines};
 use rtrb::{Consumer, Producer, RingBuffer};
 use std::alloc::{AllocError, Global};
 
@@ -21,16 +24,59 @@ const MOST_AT_ONCE: usize = 65_536;
 /// How many octets of requests it notes.
 const OCTETS_AT_ONCE: usize = 1_048_576;
 
+/// A thread's end of its queue of lines. What finds it full is dropped, and counted.
+#[derive(Drop)]
+struct LineQueue {
+    /// None where no lines are told.
+    lines: Option<Producer<Exchange>>,
+    /// Of lines that tell of several requests all of these.
+    dropped: u64,
+    /// Whether a line was put since the logger was woken.
+    is_waiting: bool,
+}
+
+impl LineQueue {
+    /// Puts a line behind the others, unless too many wait. Answers whether it was dropped.
+    fn put(&mut self, exchange: Exchange) -> bool {
+        let Some(lines) = &mut self.lines else {
+            return false;
+        };
+        let is_put = lines.push(exchange).is_ok();
+        self.is_waiting = self.is_waiting || is_put;
+        if !is_put {
+            self.dropped = self.dropped.saturating_add(exchange.times);
+        }
+        !is_put
+    }
+
+    /// Puts folded lines behind the others. Answers how many were dropped.
+    fn put_all(&mut self, folded: &mut FoldedLines) -> u64
+        ensures { folded.new ≡ [] }
+    {
+        let mut dropped = 0u64;
+        while let Some(exchange) = folded.take_first() {
+            if self.put(exchange) {
+                dropped = dropped.saturating_add(1);
+            }
+        }
+        dropped
+    }
+}
+
 /// A thread's end of its queue of lines, and what it notes.
 #[derive(Drop)]
 pub struct Exchanges {
     pub notes: Notes<Global>,
-    /// None where no lines are told.
-    queue: Option<Producer<Exchange>>,
-    dropped: u64,
-    /// Whether a line was put since the logger was woken.
-    is_waiting: bool,
-    /// Since when that is known, in milliseconds.
+    queue: LineQueue,
+    /// Of which exchanges lines tell.
+    told: ExchangeLines,
+    /// What the broker rejected by itself since that was told last.
+    rejected: FoldedLines,
+    /// What was replaced by another request since then.
+    replaced: FoldedLines,
+    /// When both are told, where there is any.
+    folded_due: Option<u64>,
+    /// Since when it is known that a line waits, in milliseconds.
     waits_since: Option<u64>,
 }
 
@@ -53,75 +99,142 @@ pub fn notes_of_timer(alloc: Global, config: &Config) -> Result<Notes<Global>, A
     Notes::new(alloc, most_pending(config), OCTETS_AT_ONCE)
 }
 
-/// A queue of lines: the end of the thread that has them, and that of the one who tells them.
+/// A queue of lines, of exchanges of which these tell: the end of the thread that has them, and that of the one who
+/// tells them.
 pub fn queue_of_lines(
     alloc: Global,
     notes: Notes<Global>,
-    is_told: bool,
+    told: ExchangeLines,
 ) -> Result<(Exchanges, Option<Consumer<Exchange>>), AllocError> {
-    let (queue, told) = if is_told {
-        let (queue, told) = RingBuffer::new(alloc, LINES)?;
-        (Some(queue), Some(told))
-    } else {
+    let (lines, consumer) = if matches!(told, ExchangeLines::OfNone) {
         (None, None)
+    } else {
+        let (lines, consumer) = RingBuffer::new(alloc, LINES)?;
+        (Some(lines), Some(consumer))
     };
     let exchanges = Exchanges {
         notes,
-        queue,
-        dropped: 0,
-        is_waiting: false,
+        queue: LineQueue {
+            lines,
+            dropped: 0,
+            is_waiting: false,
+        },
+        told,
+        rejected: FoldedLines::new(alloc)?,
+        replaced: FoldedLines::new(alloc)?,
+        folded_due: None,
         waits_since: None,
     };
-    Ok((exchanges, told))
+    Ok((exchanges, consumer))
 }
 
 impl Exchanges {
-    /// Whether lines are told.
-    pub fn are_told(&self) -> bool {
-        self.queue.is_some()
+    /// Whether a line tells of exchanges that end so.
+    pub fn are_told(&self, outcome: ExchangeEnd) -> bool
+        ensures { result ≡ is_told self.now.told outcome }
+    {
+        outcome.is_told(self.told)
     }
 
     /// Has an exchange be told, unless too many wait. Never waits. Answers whether it was dropped.
-    pub fn tell(&mut self, exchange: Exchange) -> bool {
-        let Some(queue) = &mut self.queue else {
-            return false;
-        };
-        let is_put = queue.push(exchange).is_ok();
-        self.is_waiting = self.is_waiting || is_put;
-        if !is_put {
-            self.dropped = self.dropped.saturating_add(1);
+    pub fn tell(&mut self, exchange: Exchange) -> bool
+        ensures rejected { self.new.rejected ≡ self.old.rejected }
+        ensures replaced { self.new.replaced ≡ self.old.replaced }
+        ensures due { self.new.folded_due ≡ self.old.folded_due }
+        ensures told { self.new.told ≡ self.old.told }
+    {
+        self.queue.put(exchange)
+    }
+
+    /// Notes that something is told within a second from this moment, and the time of a round more.
+    fn tell_within_a_second(&mut self, now: u64)
+        ensures rejected { self.new.rejected ≡ self.old.rejected }
+        ensures replaced { self.new.replaced ≡ self.old.replaced }
+        ensures due { self.new.folded_due
+            ≡ Some (unwrap_or self.old.folded_due (min (2 ^ 64 - 1) (now + 1000))) }
+    {
+        self.folded_due = Some(self.folded_due.unwrap_or(now.saturating_add(SECOND)));
+    }
+
+    /// Counts a request that the broker rejected by itself at this moment: it is told within a second, and the time of a
+    /// round more, with those that are like it.
+    pub fn reject(&mut self, exchange: &Exchange, now: u64)
+        ensures rejected { IsCounted exchange.now self.old.rejected self.new.rejected }
+        ensures replaced { self.new.replaced ≡ self.old.replaced }
+        ensures due { self.new.folded_due
+            ≡ Some (unwrap_or self.old.folded_due (min (2 ^ 64 - 1) (now + 1000))) }
+    {
+        self.rejected.count(exchange);
+        self.tell_within_a_second(now);
+    }
+
+    /// Counts a request that another one replaced at this moment: it is told so too.
+    pub fn replace(&mut self, exchange: &Exchange, now: u64)
+        ensures replaced { IsCounted exchange.now self.old.replaced self.new.replaced }
+        ensures rejected { self.new.rejected ≡ self.old.rejected }
+        ensures due { self.new.folded_due
+            ≡ Some (unwrap_or self.old.folded_due (min (2 ^ 64 - 1) (now + 1000))) }
+    {
+        self.replaced.count(exchange);
+        self.tell_within_a_second(now);
+    }
+
+    /// Has all be told that was rejected or replaced. Answers how many lines were dropped.
+    pub fn tell_folded(&mut self) -> u64
+        ensures rejected { self.new.rejected ≡ [] }
+        ensures replaced { self.new.replaced ≡ [] }
+        ensures due { self.new.folded_due ≡ None }
+    {
+        let of_rejected = self.queue.put_all(&mut self.rejected);
+        let of_replaced = self.queue.put_all(&mut self.replaced);
+        self.folded_due = None;
+        of_rejected.saturating_add(of_replaced)
+    }
+
+    /// Has what was rejected or replaced be told, where its second is over. Answers how many lines were dropped.
+    pub fn tell_due(&mut self, now: u64) -> u64
+        ensures later { ForSome self.old.folded_due (λ due. now < due)
+            → (self.new.rejected ≡ self.old.rejected) × (self.new.replaced ≡ self.old.replaced) }
+        ensures due { IfSome self.old.folded_due (λ due. due ≤ now
+            → (self.new.rejected ≡ []) × (self.new.replaced ≡ [])) }
+    {
+        if let Some(due) = self.folded_due {
+            if due <= now {
+                return self.tell_folded();
+            }
         }
-        !is_put
+        0
     }
 
     /// Whether the logger is to be woken at this moment: a line was put, and it was known so many milliseconds ago.
     pub fn take_due(&mut self, now: u64, within: u64) -> bool {
-        if !self.is_waiting {
+        if !self.queue.is_waiting {
             return false;
         }
         let since = self.waits_since.unwrap_or(now);
         let is_due = now.saturating_sub(since) >= within;
         self.waits_since = if is_due { None } else { Some(since) };
-        self.is_waiting = !is_due;
+        self.queue.is_waiting = !is_due;
         is_due
     }
 
-    /// In how many milliseconds the logger is to be woken that is woken so long after a line was put; 2^64 - 1 where no
-    /// line waits for that.
+    /// In how many milliseconds a line is to be put, or the logger to be woken, which is woken so long after a line was
+    /// put; 2^64 - 1 where no line waits for that.
     pub fn time_left(&self, now: u64, within: u64) -> u64 {
+        let due = self.folded_due.unwrap_or(u64::MAX);
         match self.waits_since {
-            Some(since) => since.saturating_add(within).saturating_sub(now),
-            None => u64::MAX,
+            Some(since) => due.min(since.saturating_add(within)).saturating_sub(now),
+            None => due.saturating_sub(now),
         }
     }
 
     /// How many lines were dropped of which that isn't said yet.
     pub fn dropped(&self) -> u64 {
-        self.dropped
+        self.queue.dropped
     }
 
     /// It is said.
     pub fn forget_dropped(&mut self) {
-        self.dropped = 0;
+        self.queue.dropped = 0;
     }
 }

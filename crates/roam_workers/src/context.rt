@@ -9,11 +9,11 @@ ghost use Rattle.roam_workers.specs.Remedies as remedies;
 use crate::ending::{Ending, WorkerEnd};
 use crate::outgoing::Outgoing;
 use crate::shared::Shared;
-use roam_hub::{Answered, Call, Gate, HubFault, Opened, Refused, Seat};
+use roam_hub::{Answered, Call, Gate, HubFault, Opened, Refused, Seat, Ticked};
 use roam_notices::Origin;
 use roam_route::{Datagram, Job, Prepared, prepare};
 use roam_sockets::now;
-use roam_telling::{Counting, Exchanges, Notices, turn_of};
+use roam_telling::{Counting, Exchanges, Notices, origin_of, turn_of};
 use roam_wire::Refusal;
 use roam_wire::code::{
     ACCESS_REQUEST, ACCOUNTING_REQUEST, COA_REQUEST, DISCONNECT_REQUEST, STATUS_SERVER,
@@ -106,7 +106,6 @@ impl<G: Gate, N: Opened> WorkerContext<'_, '_, G, N> {
     fn take<R: Wait>(&mut self, rt: &R, job: Job<Global>, datagram: &Datagram<Global>)
         requires { IsEvent N.opening.config (shown_job job) }
     {
-        let origin = Origin::Datagram(datagram.at, datagram.from);
         let turn = turn_of(&job);
         self.counting.came(turn);
         match self.answer(rt, job) {
@@ -114,11 +113,12 @@ impl<G: Gate, N: Opened> WorkerContext<'_, '_, G, N> {
                 self.shared.rest.wake();
                 self.counting.gave(turn, &answered.answer);
                 self.end_by(turn, datagram, &answered.answer);
+                let origin = origin_of(datagram, answered.answer.refusal);
                 self.finish(rt, answered, origin);
             }
             Err(refusal) => {
                 self.counting.failed(turn, refusal);
-                self.refuse(refusal, origin);
+                self.refuse(refusal, Origin::Datagram(datagram.at, datagram.from));
             }
         }
     }
@@ -153,8 +153,9 @@ impl<G: Gate, N: Opened> WorkerContext<'_, '_, G, N> {
         unreachable!()
     }
 
-    /// Ticks a shard where something is due there, and hands its packets to the sockets.
-    pub fn tick<R: Wait>(&mut self, rt: &R, shard: u16) {
+    /// Ticks a shard where something is due there, and hands its packets to the sockets. Answers whether more is due: the
+    /// tick had a part of it.
+    pub fn tick<R: Wait>(&mut self, rt: &R, shard: u16) -> bool {
         let shared = self.shared;
         let mut is_second = false;
         for _ in rt.forever() {
@@ -165,20 +166,32 @@ impl<G: Gate, N: Opened> WorkerContext<'_, '_, G, N> {
                 moment: self.now,
             };
             match shared.hub.tick_noting(call, &mut self.seat, shard, notes) {
-                Ok(Some(answered)) => {
+                Ok(
+                    Some(
+                        Ticked {
+                            answered,
+                            is_more,
+                            ..
+                        },
+                    ),
+                ) => {
                     self.end_by_tick(&answered.answer);
-                    return self.finish(rt, answered, Origin::Tick(shard));
+                    let goes_on = is_more && answered.answer.refusal.is_none();
+                    self.finish(rt, answered, Origin::Tick(shard));
+                    return goes_on;
                 }
-                Ok(None) => return,
+                Ok(None) => return false,
                 Err(fault) => {
                     if !self.remedy(rt, shard, fault, is_second) {
                         self.counting.refused_here(fault.refusal());
-                        return self.refuse(fault.refusal(), Origin::Tick(shard));
+                        self.refuse(fault.refusal(), Origin::Tick(shard));
+                        return false;
                     }
                     is_second = true;
                 }
             }
         }
+        unreachable!()
     }
 
     /// Whether nothing is due within so many milliseconds in any shard, as they stand, and no packet waits for a
@@ -192,7 +205,7 @@ impl<G: Gate, N: Opened> WorkerContext<'_, '_, G, N> {
                 _ => return false,
             }
         }
-        !self.outgoing.is_blocked
+        !self.outgoing.is_blocked()
     }
 
     /// Does what helps against a fault of a call. Answers whether it can be made again.
@@ -250,10 +263,12 @@ impl<G: Gate, N: Opened> WorkerContext<'_, '_, G, N> {
         self.notices.refused(refusal, origin, self.now);
     }
 
-    /// Hands what was refused to the logger, once a second, and wakes it where there is something for it: for lines of
-    /// exchanges so many milliseconds after the first of them.
+    /// Hands what was refused, rejected or replaced to the logger, once a second, and wakes it where there is something for it: for
+    /// lines of exchanges so many milliseconds after the first of them.
     pub fn wake_logger(&mut self, within: u64) {
         self.notices.tell_due(self.now);
+        let dropped = self.exchanges.tell_due(self.now);
+        self.counting.lines_dropped(dropped);
         if self.exchanges.dropped() > 0
             && self
                 .notices
@@ -272,6 +287,8 @@ impl<G: Gate, N: Opened> WorkerContext<'_, '_, G, N> {
         ensures ending { result.ending ≡ ending }
     {
         self.outgoing.send();
+        let dropped = self.exchanges.tell_folded();
+        self.counting.lines_dropped(dropped);
         let dropped = self.exchanges.dropped();
         self.notices.end(dropped);
         let shared = self.shared;

@@ -11,23 +11,25 @@ use roam_wire::code::ACCESS_REJECT;
 use std::alloc::Global;
 
 impl<G: Gate, N: Opened> WorkerContext<'_, '_, G, N> {
-    /// Has an exchange be told, and counts it where it can't be.
+    /// Has an exchange be told of which lines tell, and counts it where it can't be.
     fn tell(&mut self, exchange: Option<Exchange>) {
         let is_dropped = match exchange {
             Some(exchange) => self.exchanges.tell(exchange),
-            None => self.exchanges.are_told(),
+            None => true,
         };
         if is_dropped {
             self.counting.process(Process::LineDropped);
         }
     }
 
-    /// Tells and counts a request that the broker rejected by itself.
+    /// Counts a request that the broker rejected by itself, and has it be told with those that are like it.
     pub fn tell_local(&mut self, datagram: &Datagram<Global>, octets: &[u8]) {
         if octets.first() == Some(&ACCESS_REJECT) {
             self.counting.rejected(datagram.at, datagram.from);
-            let exchange = local_reject_of(self.shared.config, datagram);
-            self.tell(Some(exchange));
+            if self.exchanges.are_told(ExchangeEnd::LocalReject) {
+                let exchange = local_reject_of(self.shared.config, datagram);
+                self.exchanges.reject(&exchange, self.now);
+            }
         }
     }
 
@@ -46,20 +48,35 @@ impl<G: Gate, N: Opened> WorkerContext<'_, '_, G, N> {
             End::Replied(past) => self.end_by_reply(past, answer),
             End::Replaced(past) => {
                 self.counting.ended(past, CountedEvent::Replaced);
-                self.tell_past(past, ExchangeEnd::Replaced);
+                self.tell_replaced(past);
             }
             End::AnsweredAgain => self.counting.answered_again(turn),
             End::Nak => {
                 self.counting.denied(turn, answer);
-                self.tell(Some(nak_of(datagram, turn.realm)));
+                if self.exchanges.are_told(ExchangeEnd::Nak) {
+                    self.tell(Some(nak_of(datagram, turn.realm)));
+                }
             }
             End::Nothing => {}
         }
     }
 
-    /// Tells a request that was noted, where requests are told.
+    /// Has a request that was noted, and that another one replaced, be told with those that are like it.
+    fn tell_replaced(&mut self, past: Past) {
+        if !self.exchanges.are_told(ExchangeEnd::Replaced) {
+            return;
+        }
+        let config = self.shared.config;
+        let notes = &self.exchanges.notes;
+        match exchange_of(config, notes, past, ExchangeEnd::Replaced, self.now) {
+            Some(exchange) => self.exchanges.replace(&exchange, self.now),
+            None => self.counting.process(Process::LineDropped),
+        }
+    }
+
+    /// Tells a request that was noted, where lines tell of those that end so.
     fn tell_past(&mut self, past: Past, outcome: ExchangeEnd) {
-        if !self.exchanges.are_told() {
+        if !self.exchanges.are_told(outcome) {
             return;
         }
         let config = self.shared.config;

@@ -34,7 +34,7 @@ pub use ending::{Ended, Ending, WorkerEnd, has_given_up_after};
 pub use logger::{ExchangeQueues, Logger, log_notices, tell_or_drop};
 pub use losses::{CAUSES, SharedLosses};
 pub use old_history::{OldHistory, Steps};
-pub use outgoing::{Outgoing, ROOM_EVENTS};
+pub use outgoing::{Outgoing, ROOM_EVENTS, RoomEvents};
 pub use rest::TimerRest;
 pub use rests::Rests;
 pub use shared::Shared;

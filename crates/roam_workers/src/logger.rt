@@ -1,19 +1,18 @@
 //! The thread that tells notices. What it tells goes to a log that holds nobody up: where that has no room, what was to
 //! be told is dropped, and counted.
 
-use log::{Level, Line, Log, Metadata, Record, info, log_enabled, target_or};
+use log::{Level, Log, info, log_enabled};
 use roam_conf::Config;
 use roam_counters::Process;
 use roam_notices::{Exchange, push_exchange};
 use roam_telling::{Notice, ThreadCounts, notices_in, tell};
 use rtrb::Consumer;
-use std::io::Write;
 use std::str;
 use std::sync::Wait;
 use std::thread::Parker;
 
-/// How many octets of lines are told at once: a log has room for 8,192 where it has any, and before the first line stands
-/// its module's name.
+/// How many octets of lines are told at once: a log has room for 8,192 where it has any, and before each line stands its
+/// time.
 const OCTETS_AT_ONCE: usize = 4000;
 
 /// How many lines are told at once.
@@ -41,15 +40,11 @@ fn empty<R: Wait + Log>(rt: &R, config: &Config, queue: &mut Consumer<Notice>) -
     unreachable!()
 }
 
-/// Adds the line of an exchange. Before it, where another one stands there, a line break and what the logger writes
-/// before each line. Answers whether there was memory for it.
-fn push_line<R: Log>(rt: &R, text: &mut Vec<u8>, config: &Config, exchange: &Exchange) -> bool {
-    if !text.is_empty() {
-        let metadata = Metadata::new(Level::Info, target_or(rt, module_path!()));
-        let head = Record::new(metadata, "", (), ());
-        if write!(text, "\n{}", Line::new(&head)).is_err() {
-            return false;
-        }
+/// Adds the line of an exchange, behind a line break where another one stands there: what is told stands before each
+/// line of it. Answers whether there was memory for it.
+fn push_line(text: &mut Vec<u8>, config: &Config, exchange: &Exchange) -> bool {
+    if !text.is_empty() && text.push(b'\n').is_err() {
+        return false;
     }
     push_exchange(text, config, exchange).is_ok()
 }
@@ -76,7 +71,7 @@ fn take_lines<R: Log>(
         let Ok(exchange) = queue.peek() else {
             return batch;
         };
-        let has_memory = push_line(rt, text, config, exchange);
+        let has_memory = push_line(text, config, exchange);
         if before > 0 && text.len() > OCTETS_AT_ONCE {
             text.truncate(before);
             return batch;

@@ -1,96 +1,222 @@
 //! The packets of a thread on their way to the sockets.
 
+ghost use Rattle.std.specs.Prelude.{◌≡◌, ◌≤◌, IfOk};
+ghost use Rattle.std.specs.Vec.{vec_len};
+ghost use Rattle.roam_port.specs.Outbox.{account_of, port_count, told_of};
+
 use crate::losses::SharedLosses;
 use mio::unix::SourceFd;
 use mio::{Events, Interest, Poll, Token};
-use roam_port::{Outbox, Sending};
+use roam_port::{Outbox, Sent, Standing};
 use roam_route::Out;
 use roam_sockets::{Polls, Socket};
 use roam_telling::Counting;
+use roam_wire::NoMemory;
 use std::alloc::Global;
 use std::time::Duration;
 
 /// How many sockets that have room again are looked at in one go.
 pub const ROOM_EVENTS: usize = 64;
 
-/// The packets of a thread that are to leave, and the sockets from which they do.
+/// What tells which sockets have room again.
 #[derive(Drop)]
-pub struct Outgoing<'s> {
-    pub outbox: Outbox<Global>,
-    /// In the order of their numbers, one of each place.
-    pub ports: Vec<Socket<'s>>,
-    pub losses: &'s SharedLosses,
-    pub counting: Counting<'s>,
-    /// Tells which sockets that had no room may have some again.
-    pub room: Poll,
+pub struct RoomEvents {
+    pub poll: Poll,
     pub events: Events<Global>,
-    /// Whether a socket had no room: some packet waits for it.
-    pub is_blocked: bool,
 }
 
-impl Outgoing<'_> {
-    /// Puts packets behind those that wait. Where there is no more room for them, what waits is sent first.
+/// The packets of a thread that are to leave, and the sockets from which they do.
+///
+/// A socket without room is handed nothing more until it has some: the system is asked once, each time, to tell so.
+#[derive(Drop)]
+pub struct Outgoing<'s> {
+    pub(crate) outbox: Outbox<Global>,
+    /// In the order of their numbers, one of each place.
+    ports: Vec<Socket<'s>>,
+    losses: &'s SharedLosses,
+    counting: Counting<'s>,
+    room: RoomEvents,
+    /// How many sockets had no room and are watched.
+    watched: usize,
+    /// Whether a socket had no room, and the system can't be asked to tell when it has some.
+    is_unwatched: bool,
+    ghost as_many: { port_count outbox ≤ vec_len ports },
+}
+
+/// An outbox for so many ports, in which the packets wait that waited in another one: each port is tried again.
+fn outbox_for(
+    alloc: Global,
+    before: Outbox<Global>,
+    ports: usize,
+) -> Result<Outbox<Global>, NoMemory>
+    ensures { IfOk result (λ o. port_count o ≤ ports) }
+{
+    // No configuration that may follow has fewer sockets.
+    if before.port_count() > ports {
+        return Outbox::new(alloc, ports);
+    }
+    let mut outbox = before;
+    outbox.add_ports(alloc, ports)?;
+    for socket in 0..ports {
+        outbox.try_again(socket);
+    }
+    Ok(outbox)
+}
+
+impl<'s> Outgoing<'s> {
+    /// The packets that wait in an outbox that another thread left, and those to come. What can be sent is sent.
+    pub fn new(
+        alloc: Global,
+        before: Outbox<Global>,
+        ports: Vec<Socket<'s>>,
+        losses: &'s SharedLosses,
+        counting: Counting<'s>,
+        room: RoomEvents,
+    ) -> Result<Outgoing<'s>, NoMemory> {
+        let outbox = outbox_for(alloc, before, ports.len())?;
+        let mut outgoing = Outgoing {
+            outbox,
+            ports,
+            losses,
+            counting,
+            room,
+            watched: 0,
+            is_unwatched: false,
+        };
+        outgoing.send();
+        Ok(outgoing)
+    }
+
+    /// Whether a socket had no room, and isn't known to have some again.
+    pub fn is_blocked(&self) -> bool {
+        self.watched > 0 || self.is_unwatched
+    }
+
+    /// Puts packets behind those that wait. Where there is no more room for one, what waits is sent first.
     pub fn put_all(&mut self, outs: Vec<Out<Global>>) {
         for out in outs {
             self.put(out);
         }
     }
 
-    /// Puts a packet behind those that wait. Where there is no more room for it, what waits is sent first.
+    /// Puts a packet behind those that wait for its socket. Where there is no more room for it, what waits is sent
+    /// first.
     pub fn put(&mut self, out: Out<Global>) {
-        if self.outbox.is_full() {
-            self.send();
+        let sent = self.outbox.put_sending(self.ports.as_mut_slice(), out);
+        if sent != Sent::none() {
+            self.settle(sent);
         }
-        self.outbox.put(out);
     }
 
-    /// Hands each packet that waits to its socket once. Those whose socket has no room wait on.
+    /// Hands the packets that wait to their sockets, each once, but for those whose socket has no room: they wait on.
     pub fn send(&mut self) {
-        let mut gone = 0u64;
-        for _ in 0..self.outbox.len() {
-            if let Sending::Gone = self.outbox.send_next(self.ports.as_mut_slice()) {
-                gone = gone.saturating_add(1);
-            }
-        }
-        let losses = self.outbox.take_losses();
-        self.losses.add(losses);
-        self.counting.sent(gone, losses);
-        if self.outbox.len() > 0 {
+        let sent = self.outbox.send_all(self.ports.as_mut_slice());
+        self.settle(sent);
+    }
+
+    /// Asks to be told when the sockets that have no room have some, and has counted what was counted of the packets.
+    fn settle(&mut self, sent: Sent)
+        ensures { told_of self.new.outbox ≡ account_of self.new.outbox }
+    {
+        if sent.is_blocked {
             self.watch();
         }
+        let account = self.outbox.take_account();
+        self.losses.add(account.losses);
+        self.counting.sent(account);
     }
 
-    /// Asks to be told when the sockets that have no room have some.
+    /// Asks to be told when the sockets for which packets stand aside have room, where that wasn't asked yet.
     fn watch(&mut self) {
-        for (number, port) in self.ports.iter().enumerate() {
-            if port.is_blocked() {
-                self.is_blocked = true;
-                let fd = port.descriptor();
-                let registry = self.room.registry();
-                let _is_watched = registry
-                    .register(&mut SourceFd(&fd), Token(number), Interest::WRITABLE)
-                    .is_ok();
+        for number in 0..self.ports.len() {
+            if self.outbox.standing_of(number) == Some(Standing::Aside) {
+                self.watch_at(number);
+            }
+        }
+    }
+
+    /// Asks to be told when the socket of this number has room, where that wasn't asked yet. It is told at once where
+    /// the socket has some by now.
+    fn watch_at(&mut self, number: usize) {
+        let Some(port) = self.ports.get_mut(number) else {
+            return;
+        };
+        if port.is_watched() {
+            return;
+        }
+        let fd = port.descriptor();
+        let registry = self.room.poll.registry();
+        match registry.register(&mut SourceFd(&fd), Token(number), Interest::WRITABLE) {
+            Ok(()) => {
+                port.set_watched(true);
+                self.watched = self.watched.saturating_add(1);
+            }
+            Err(_) => self.is_unwatched = true,
+        }
+    }
+
+    /// The socket of this number may have room again: what stands aside for it is sent next.
+    fn room_came(&mut self, number: usize) {
+        let Some(port) = self.ports.get_mut(number) else {
+            return;
+        };
+        if port.is_watched() {
+            let fd = port.descriptor();
+            let registry = self.room.poll.registry();
+            let _is_forgotten = registry.deregister(&mut SourceFd(&fd)).is_ok();
+            port.set_watched(false);
+            self.watched = self.watched.saturating_sub(1);
+        }
+        self.outbox.try_again(number);
+    }
+
+    /// Asks which sockets have room again, up to `ROOM_EVENTS`. Answers whether there were so many that there may be
+    /// more.
+    fn ask_for_room(&mut self) -> bool {
+        let RoomEvents { poll, events } = &mut self.room;
+        if poll.poll(events, Some(Duration::ZERO)).is_err() {
+            return false;
+        }
+        let mut numbers = [None; ROOM_EVENTS];
+        for (place, event) in numbers.iter_mut().zip(self.room.events.iter()) {
+            let Token(number) = event.token();
+            *place = Some(number);
+        }
+        for number in numbers {
+            match number {
+                Some(number) => self.room_came(number),
+                None => return false,
+            }
+        }
+        true
+    }
+
+    /// Tries the sockets again that had no room and can't be watched.
+    fn try_unwatched(&mut self) {
+        self.is_unwatched = false;
+        for number in 0..self.ports.len() {
+            if self
+                .ports
+                .get(number)
+                .is_some_and(|port| !port.is_watched())
+            {
+                self.outbox.try_again(number);
             }
         }
     }
 
     /// Sends to the sockets that have room again.
     pub fn send_again(&mut self) {
-        if !self.is_blocked {
+        if !self.is_blocked() {
             return;
         }
-        let _is_told = self
-            .room
-            .poll(&mut self.events, Some(Duration::ZERO))
-            .is_ok();
-        self.is_blocked = false;
-        for (number, port) in self.ports.iter_mut().enumerate() {
-            if port.is_blocked() {
-                let fd = port.descriptor();
-                let registry = self.room.registry();
-                let _ = registry.deregister(&mut SourceFd(&fd)).is_ok();
-                port.unblock();
+        for _ in 0..=self.ports.len() / ROOM_EVENTS {
+            if !self.ask_for_room() {
+                break;
             }
+        }
+        if self.is_unwatched {
+            self.try_unwatched();
         }
         self.send();
     }

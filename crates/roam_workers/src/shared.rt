@@ -7,7 +7,7 @@ use crate::losses::SharedLosses;
 use crate::old_history::OldHistory;
 use crate::rest::TimerRest;
 use mio::Waker;
-use roam_conf::Config;
+use roam_conf::{Config, ExchangeLines};
 use roam_control::{Office, Stopping};
 use roam_hub::{Hub, Opened};
 use roam_telling::Counters;
@@ -31,8 +31,8 @@ pub struct Shared<'s, 'c, G, N: Opened> {
     pub losses: &'s SharedLosses,
     /// What is counted, where somebody reads it.
     pub counters: Option<&'s Counters>,
-    /// Whether a line tells of each exchange that ends.
-    pub are_exchanges_told: bool,
+    /// Of which exchanges that end a line tells.
+    pub told_exchanges: ExchangeLines,
     /// Where the server's own thread is asked for something.
     pub office: &'s Office,
     pub stopping: &'s Stopping,

@@ -8,7 +8,7 @@ use crate::losses::CAUSES;
 use crate::rests::Rests;
 use crate::silence::{does_any_wait, tell_rests};
 use mio::{Events, Poll};
-use roam_hub::{Gate, Opened};
+use roam_hub::{Gate, LATE, Opened};
 use std::alloc::Global;
 use std::sync::Wait;
 use std::thread;
@@ -108,6 +108,18 @@ fn has_done_all<R: Wait, G: Gate, N: Opened>(rt: &R, timer: &mut Timer<'_, '_, G
     now.saturating_sub(since) >= QUIET
 }
 
+/// Ticks a shard until no more is due in it, and sends after each tick: between two others have its lock. Each has a later
+/// moment than the one before, and none is later than `LATE` milliseconds, so there are no more than that.
+fn tick_shard<R: Wait, G: Gate, N: Opened>(rt: &R, timer: &mut Timer<'_, '_, G, N>, shard: u16) {
+    for _ in 0..LATE {
+        let is_more = timer.context.tick(rt, shard);
+        timer.context.outgoing.send();
+        if !is_more {
+            return;
+        }
+    }
+}
+
 /// One round of ticks: why the timer ends with it, if it does.
 fn round<R: Wait + Clock, G: Gate, N: Opened>(
     rt: &R,
@@ -126,8 +138,7 @@ fn round<R: Wait + Clock, G: Gate, N: Opened>(
         if timer.context.shared.is_over() {
             return Some(Ending::Stopped);
         }
-        timer.context.tick(rt, shard);
-        timer.context.outgoing.send();
+        tick_shard(rt, timer, shard);
     }
     tell_losses(timer);
     tell_rests(rt, &mut timer.context, &mut timer.rests);

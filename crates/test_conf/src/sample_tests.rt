@@ -6,7 +6,9 @@ use roam_conf_reader::read_config;
 use std::alloc::Global;
 use std::process::Abort;
 use std::test::Fail;
-use test_fixtures::configuration::{PEER, REALM, SECOND_REALM, SECOND_SERVER, SERVER, TOP};
+use test_fixtures::configuration::{
+    PEER, PLAIN_PEER, REALM, SECOND_REALM, SECOND_SERVER, SERVER, TOP,
+};
 
 /// An endpoint of the broker's own.
 fn own(port: u16) -> Endpoint {
@@ -35,13 +37,12 @@ fn numbers(config: &Config, realm: &Realm) -> [u32; 7] {
 }
 
 /// The endpoints of a configuration, of its first realm and of that realm's first server.
-fn endpoints(config: &Config, realm: &Realm) -> [Endpoint; 6] {
+fn endpoints(config: &Config, realm: &Realm) -> [Endpoint; 5] {
     let server = &realm.servers[0];
     [
         config.auth,
         config.acct,
         realm.out,
-        realm.reverse,
         server.auth,
         server.acct,
     ]
@@ -73,12 +74,51 @@ fn the_sample_is_read(rt: HostRuntime) -> Result<(), Fail> {
                 own(1812),
                 own(1813),
                 own(2000),
-                own(3000),
                 home_server(1, 1812),
                 home_server(1, 1813),
             ]
     );
+    assert!(rt; realm.reverse == Some(own(3000)));
     assert!(rt; texts(&config.peers[0], realm) == ["nas1", "xyzzy5461", "nas1", "a.example", "h1"]);
+    Ok(())
+}
+
+/// The keys that must be written of a configuration, one realm and its server.
+const LEAST_TOP: &str = "auth = \"127.0.0.1:1812\"\nacct = \"127.0.0.1:1813\"\n";
+
+const LEAST_REALM: &str = "\n[[realm]]\nname = \"a.example\"\nout = \"127.0.0.1:2000\"\n";
+
+const LEAST: [&str; 4] = [LEAST_TOP, PLAIN_PEER, LEAST_REALM, SERVER];
+
+/// The same where the realm takes reverse requests.
+const LEAST_WITH_REVERSE: [&str; 5] = [
+    LEAST_TOP,
+    PLAIN_PEER,
+    LEAST_REALM,
+    "reverse = \"127.0.0.1:3000\"\n",
+    SERVER,
+];
+
+// What holds where a number isn't written.
+#[test]
+fn numbers_that_are_not_written(rt: HostRuntime) -> Result<(), Fail> {
+    let config = config_of(rt.alloc(), &LEAST)?;
+    let realm = &config.realms[0];
+    assert!(rt; numbers(&config, realm) == [1, 100000, 3, 2000, 10000, 4096, 0]);
+    assert!(rt; (realm.rest, realm.rest_after) == (30000, 3));
+    assert!(rt; config.seed == [0; 32]);
+    Ok(())
+}
+
+// A realm without a place for reverse requests is nobody's there; with one it remembers sessions.
+#[test]
+fn a_realm_may_take_no_reverse_requests(rt: HostRuntime) -> Result<(), Fail> {
+    let config = config_of(rt.alloc(), &LEAST)?;
+    assert!(rt; config.realms[0].reverse.is_none());
+    assert!(rt; config.home_of(0, [198, 51, 100, 1]).is_none());
+    let config = config_of(rt.alloc(), &LEAST_WITH_REVERSE)?;
+    assert!(rt; config.realms[0].max_sessions == 20000);
+    assert!(rt; config.home_of(0, [198, 51, 100, 1]) == Some(0));
     Ok(())
 }
 
@@ -276,7 +316,7 @@ fn what_absent_keys_say(rt: HostRuntime) -> Result<(), Fail> {
         (
             optional_numbers(&config, realm),
             optional_flags(&config, realm)
-        ) == ([0, 67108864, 0, 1, 0], [false, false, false])
+        ) == ([0, 67108864, 30000, 3, 0], [false, false, false])
     );
     Ok(())
 }

@@ -197,35 +197,35 @@ const SPELLINGS: [Change; 28] = [
 ];
 
 /// Every required key, and the tables of which one is required, left out.
-const WITHOUT_REQUIRED: [Change; 21] = [
-    ("shards = 1\n", "", MISSING),
-    (SEED, "", MISSING),
+const WITHOUT_REQUIRED: [Change; 12] = [
     ("auth = \"127.0.0.1:1812\"\n", "", MISSING),
     ("acct = \"127.0.0.1:1813\"\n", "", MISSING),
-    ("trace_limit = 1000\n", "", MISSING),
     (PEER, "", MISSING),
     ("name = \"nas1\"\n", "", MISSING),
     ("ip = \"192.0.2.1\"\n", "", MISSING),
     ("secret = \"xyzzy5461\"\n", "", MISSING),
     ("name = \"a.example\"\n", "", MISSING),
     ("out = \"127.0.0.1:2000\"\n", "", MISSING),
-    ("reverse = \"127.0.0.1:3000\"\n", "", MISSING),
-    ("tries = 2\n", "", MISSING),
-    ("wait = 1000\n", "", MISSING),
-    ("hold = 5000\n", "", MISSING),
-    ("max_pending = 300\n", "", MISSING),
-    ("max_sessions = 100\n", "", MISSING),
     (SERVER, "", MISSING),
     ("auth = \"198.51.100.1:1812\"\n", "", MISSING),
     ("acct = \"198.51.100.1:1813\"\n", "", MISSING),
     ("secret = \"h1\"\n", "", MISSING),
 ];
 
-/// The optional keys of a peer, left out.
-const WITHOUT_OPTIONAL: [Change; 3] = [
+/// The keys that may be absent, left out.
+const WITHOUT_OPTIONAL: [Change; 12] = [
     ("coa = \"192.0.2.1:3799\"\n", "", None),
     ("nas_ip = \"192.0.2.1\"\n", "", None),
     ("nas_id = \"nas1\"\n", "", None),
+    ("shards = 1\n", "", None),
+    (SEED, "", None),
+    ("trace_limit = 1000\n", "", None),
+    ("reverse = \"127.0.0.1:3000\"\n", "", None),
+    ("tries = 2\n", "", None),
+    ("wait = 1000\n", "", None),
+    ("hold = 5000\n", "", None),
+    ("max_pending = 300\n", "", None),
+    ("max_sessions = 100\n", "", None),
 ];
 
 /// Every key with a value of a wrong type, and keys that no table has.

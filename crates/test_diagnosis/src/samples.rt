@@ -7,6 +7,9 @@ use std::io::Write;
 use std::process::Abort;
 use std::test::Fail;
 
+/// The path that is said of it.
+const PATH: &str = "a.conf";
+
 /// Nothing is wrong with it, and nothing unwise. The lines are counted from 1 in what is wanted.
 pub const SAMPLE: &str = "shards = 1
 seed = \"0000000000000000000000000000000000000000000000000000000000000001\"
@@ -34,7 +37,7 @@ max_sessions = 100
 [[realm.server]]
 auth = \"198.51.100.1:1812\"
 acct = \"198.51.100.1:1813\"
-secret = \"h1\"
+secret = \"of the first server\"
 require_seal = true
 ";
 
@@ -56,8 +59,8 @@ fn changed(alloc: Global, old: &str, new: &str) -> Result<String, Fail> {
 /// The fault of a text, and what is said of it.
 fn judged(alloc: Global, text: &str) -> (Option<ConfFault>, Lines) {
     match read_config(alloc, text) {
-        Ok(_) => (None, advise(alloc, text)),
-        Err(fault) => (Some(fault), diagnose(alloc, text, fault)),
+        Ok(_) => (None, advise(alloc, PATH, text)),
+        Err(fault) => (Some(fault), diagnose(alloc, PATH, text, fault)),
     }
 }
 

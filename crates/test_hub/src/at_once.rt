@@ -3,14 +3,11 @@
 
 ghost use Rattle.std.specs.Prelude.{◌≡◌};
 ghost use Rattle.roam_conf.specs.Shown.{shown};
-ghost use Rattle.roam_shard.specs.ShardView.{AreStarts};
-ghost use Rattle.roam_history.specs.HubOpening.{fresh_opening};
-ghost use Rattle.roam_history.specs.Books.{books_of, count_of};
 
-use crate::caller::{Caller, OTHER_REQUEST_7, REQUEST_7};
+use crate::caller::{Caller, FIRST, OTHER_FIRST, OTHER_REQUEST_7, REQUEST_7, sends};
 use roam_book::Start;
 use roam_conf::Config;
-use roam_hub::{Blanks, Gate, Hub, Opened, Receipt, Report, Seat, split};
+use roam_hub::{Gate, Hub, Opened, Receipt, Report, Seat, split};
 use std::alloc::Global;
 use std::process::Abort;
 use std::sync::Wait;
@@ -20,19 +17,19 @@ use std::thread::Threads;
 use std::time::{Clock, Duration};
 
 /// How far two calls are.
-pub(crate) type Stage = u64;
+type Stage = u64;
 
 /// No call is inside shard 0 yet.
-pub(crate) const OUTSIDE: Stage = 0;
+const OUTSIDE: Stage = 0;
 
 /// The first call is inside shard 0.
-pub(crate) const INSIDE: Stage = 1;
+const INSIDE: Stage = 1;
 
 /// The second call was answered meanwhile.
-pub(crate) const ANSWERED: Stage = 2;
+const ANSWERED: Stage = 2;
 
 /// The first call waited for that in vain, and goes on.
-pub(crate) const IN_VAIN: Stage = 3;
+const IN_VAIN: Stage = 3;
 
 /// How often a thread looks whether the other is inside.
 const TURNS: u64 = 1_000_000;
@@ -141,23 +138,19 @@ fn request_of(realm: u16) -> &'static str {
     }
 }
 
-/// A hub that two threads call at once. The first submits a request of the first realm; the second one
-/// of this realm, for whose answer the first waits so many turns.
+/// Two threads call a hub at once. The first submits a request of the first realm; the second one of this realm, for
+/// whose answer the first waits so many turns.
 pub(crate) fn called_at_once<N: Opened + Send + Sync, R: Abort + Threads + Wait + Clock + Sync>(
     rt: &R,
     alloc: Global,
     config: &Config,
-    starts: &[Start],
-    blanks: Blanks<Global>,
+    hub: Hub<'_, Global, N>,
+    seat: Seat<Global, N>,
     realm: u16,
     turns: u64,
 ) -> Ended<N>
-    requires opening { N.opening ≡ fresh_opening (shown config.now) starts.now }
-    requires books { N.books ≡ books_of blanks }
-    requires blanks { count_of blanks ≡ config.now.shards }
-    requires starts { AreStarts (shown config.now) starts.now }
+    requires { shown config.now ≡ N.opening.config }
 {
-    let (hub, seat) = Hub::<Global, N>::open(alloc, config, starts, blanks).expect(rt, "a hub");
     let Ok((first, second)) = split(seat) else {
         panic!(rt; "no second seat");
     };
@@ -184,4 +177,73 @@ pub(crate) fn called_at_once<N: Opened + Send + Sync, R: Abort + Threads + Wait 
         stage: meeting.stage.load(Ordering::SeqCst),
         shards: meeting.shards.load(Ordering::SeqCst),
     }
+}
+
+/// Whether a receipt is of this shard and number, and has just this packet, or none.
+fn is_receipt<N: Opened>(
+    rt: &impl Abort,
+    alloc: Global,
+    receipt: &Receipt<Global, N>,
+    (shard, number): (u16, u64),
+    packet: Option<&str>,
+) -> bool {
+    let has_packet = match packet {
+        Some(packet) => sends(rt, alloc, &receipt.answer, packet),
+        None => receipt.answer.outs.is_empty(),
+    };
+    has_packet && receipt.shard == shard && receipt.number == number
+}
+
+/// How many steps a shard has at the end; none where it isn't there.
+fn steps_of<N: Opened>(report: &Report<Global, N>, shard: usize) -> Option<usize> {
+    report.steps.get(shard).map(|steps| steps.len())
+}
+
+/// Whether the realms go on so, where each forwarded one Access-Request: it took four words and a ticket.
+fn go_on<N: Opened>(report: &Report<Global, N>) -> bool {
+    let next = Start {
+        place: 4,
+        ticket: 1,
+    };
+    report.starts.iter().all(|start| *start == next)
+}
+
+/// A shard in which a call is held keeps up its own calls: the second call, of the same request, is answered after the
+/// first, which waits some 50 milliseconds in vain, and sends nothing.
+pub(crate) fn holds_up_its_own<N: Opened + Send + Sync, R: Abort + Threads + Wait + Clock + Sync>(
+    rt: &R,
+    alloc: Global,
+    config: &Config,
+    hub: Hub<'_, Global, N>,
+    seat: Seat<Global, N>,
+) -> bool
+    requires { shown config.now ≡ N.opening.config }
+{
+    let ended = called_at_once(rt, alloc, config, hub, seat, 0, 5_000);
+    let (first, second) = (&ended.receipts.0, &ended.receipts.1);
+    let is_first = is_receipt(rt, alloc, first, (0, 0), Some(FIRST));
+    let is_second = is_receipt(rt, alloc, second, (0, 1), None);
+    let steps = [steps_of(&ended.report, 0), steps_of(&ended.report, 1)];
+    let told = (ended.stage, ended.shards) == (IN_VAIN, 2);
+    is_first && is_second && told && steps == [Some(2), None] && go_on(&ended.report)
+}
+
+/// It keeps up no call of another shard: a request of a second realm, which has a shard of its own, is answered
+/// meanwhile.
+pub(crate) fn holds_up_no_other<N: Opened + Send + Sync, R: Abort + Threads + Wait + Clock + Sync>(
+    rt: &R,
+    alloc: Global,
+    config: &Config,
+    hub: Hub<'_, Global, N>,
+    seat: Seat<Global, N>,
+) -> bool
+    requires { shown config.now ≡ N.opening.config }
+{
+    let ended = called_at_once(rt, alloc, config, hub, seat, 1, TURNS);
+    let (first, second) = (&ended.receipts.0, &ended.receipts.1);
+    let is_first = is_receipt(rt, alloc, first, (0, 0), Some(FIRST));
+    let is_second = is_receipt(rt, alloc, second, (1, 0), Some(OTHER_FIRST));
+    let steps = [steps_of(&ended.report, 0), steps_of(&ended.report, 1)];
+    let told = (ended.stage, ended.shards) == (ANSWERED, 3);
+    is_first && is_second && told && steps == [Some(1), Some(1)] && go_on(&ended.report)
 }

@@ -7,7 +7,7 @@ ghost use Rattle.roam_route.specs.Shown.{shown_job};
 
 use roam_book::Answer;
 use roam_conf::{Config, Endpoint, Place};
-use roam_hub::{Answered, Call, Gate, Hub, HubFault, Open, Opened, Receipt, Seat};
+use roam_hub::{Call, Gate, Hub, HubFault, Open, Opened, Receipt, Seat, Ticked};
 use roam_route::{Datagram, Job, Prepared, prepare};
 use roam_wire::Octets;
 use std::alloc::Allocator;
@@ -114,7 +114,7 @@ impl<'h, 'c, A: Allocator + Copy, N: Opened> Caller<'h, 'c, A, N> {
         rt: &R,
         now: u64,
         shard: u16,
-    ) -> Result<Option<Answered<A>>, HubFault> {
+    ) -> Result<Option<Ticked<A>>, HubFault> {
         let call = Call {
             rt,
             gate: &Open,

@@ -1,30 +1,33 @@
 //! Hubs by example: their calls, with steps that are let go of between them, their end and its audit, and
 //! the growths of their calls refused in turn.
+//!
+//! What a hub is played for is a case: a function that is lent an open hub of its own, and answers whether all is as it
+//! says. One test plays all cases, since a test costs the proof more than a case.
 #![tactic(auto)]
 
 #[cfg(test)]
 mod at_once;
 #[cfg(test)]
-mod audit_tests;
+mod audits;
 #[cfg(test)]
 mod caller;
 #[cfg(test)]
-mod change_growth_tests;
+mod cases;
 #[cfg(test)]
-mod change_tests;
+mod changes;
 #[cfg(test)]
 mod configuration;
 #[cfg(test)]
-mod due_tests;
+mod dues;
 #[cfg(test)]
-mod growth_tests;
+mod growths;
 #[cfg(test)]
-mod let_go_tests;
+mod growths_of_changes;
 #[cfg(test)]
-mod limit_tests;
+mod let_go;
 #[cfg(test)]
-mod rolling_tests;
+mod limits;
 #[cfg(test)]
-mod threads_tests;
+mod portions;
 #[cfg(test)]
-mod tick_tests;
+mod rolling;

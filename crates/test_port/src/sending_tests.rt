@@ -2,11 +2,12 @@
 
 use crate::tape::Tape;
 use roam_conf::{Endpoint, Place};
-use roam_port::{Losses, Outbox, SendFault, Sending};
+use roam_port::{Losses, Outbox, SendFault, Sent, Standing, share_of};
 use roam_route::Out;
 use roam_wire::{NoMemory, Octets};
 use std::alloc::Global;
 use std::test::Fail;
+use test_allocator::Refusing;
 
 const ACCESS_SERVER: Endpoint = Endpoint {
     ip: [192, 0, 2, 1],
@@ -37,51 +38,54 @@ fn tape<'a>(alloc: Global, failing: &'a [(usize, SendFault)]) -> Tape<'a> {
     }
 }
 
-/// What three packets in an outbox leave, which are handed on four times: what became of each, how many wait, and
-/// how many are lost.
+/// How many sockets a realm's broker has.
+const PORTS: usize = 4;
+
+/// What went of three packets of `auth` at the first sending, at a second one and at a third one, before which the
+/// port is tried again; how many wait then, and how many are lost.
 fn send_three(
     alloc: Global,
     ports: &mut [Tape<'_>],
-) -> Result<([Sending; 4], usize, Losses), NoMemory> {
-    let mut outbox = Outbox::new(alloc)?;
+) -> Result<([(u64, bool); 3], usize, Losses), NoMemory> {
+    let mut outbox = Outbox::new(alloc, ports.len())?;
     for octet in 1..4 {
         outbox.put(packet(alloc, Place::Auth, octet)?);
     }
-    let mut sendings = [Sending::NoPacket; 4];
-    for sending in &mut sendings {
-        *sending = outbox.send_next(ports);
+    let mut sent = [(0, false); 3];
+    for (round, sent) in sent.iter_mut().enumerate() {
+        if round == 2 {
+            outbox.try_again(0);
+        }
+        if outbox.port_count() <= ports.len() {
+            let Sent { gone, is_blocked } = outbox.send_all(ports);
+            *sent = (gone, is_blocked);
+        }
     }
-    Ok((sendings, outbox.len(), outbox.take_losses()))
+    Ok((sent, outbox.waiting_at(0), outbox.take_account().losses))
 }
 
 #[test]
 fn packet_whose_send_fails_is_lost_and_counted(rt: HostRuntime) -> Result<(), Fail> {
     let mut ports = [tape(rt.alloc(), &[(1, SendFault::Unreachable)])];
-    let (sendings, waiting, losses) = send_three(rt.alloc(), &mut ports)?;
-    let gone = [
-        Sending::Gone,
-        Sending::Gone,
-        Sending::Gone,
-        Sending::NoPacket,
-    ];
+    let (sent, waiting, losses) = send_three(rt.alloc(), &mut ports)?;
     let one = Losses {
         full_ring: 0,
         unreachable: 1,
         not_permitted: 0,
         other: 0,
     };
-    assert!(rt; sendings == gone && waiting == 0 && losses == one);
+    assert!(rt; sent == [(3, false), (0, false), (0, false)] && waiting == 0 && losses == one);
     assert!(rt; ports[0].sends == 3 && ports[0].went.as_slice() == [1, 3].as_slice());
     Ok(())
 }
 
 #[test]
-fn packet_whose_socket_has_no_room_waits(rt: HostRuntime) -> Result<(), Fail> {
-    let mut ports = [tape(rt.alloc(), &[(0, SendFault::WouldBlock)])];
-    let (sendings, waiting, losses) = send_three(rt.alloc(), &mut ports)?;
-    let last = [Sending::Waits, Sending::Gone, Sending::Gone, Sending::Gone];
-    assert!(rt; sendings == last && waiting == 0 && losses == Losses::none());
-    assert!(rt; ports[0].sends == 4 && ports[0].went.as_slice() == [2, 3, 1].as_slice());
+fn packets_whose_socket_has_no_room_stand_aside_in_order(rt: HostRuntime) -> Result<(), Fail> {
+    let mut ports = [tape(rt.alloc(), &[(1, SendFault::WouldBlock)])];
+    let (sent, waiting, losses) = send_three(rt.alloc(), &mut ports)?;
+    let last = [(1, true), (0, false), (2, false)];
+    assert!(rt; sent == last && waiting == 0 && losses == Losses::none());
+    assert!(rt; ports[0].sends == 4 && ports[0].went.as_slice() == [1, 2, 3].as_slice());
     Ok(())
 }
 
@@ -104,32 +108,102 @@ fn each_fault_counts_as_its_own(rt: HostRuntime) -> Result<(), Fail> {
     Ok(())
 }
 
-/// How many of 1,025 packets wait, whether the outbox is full, and how many are lost.
-fn one_too_many(alloc: Global) -> Result<(usize, bool, Losses), NoMemory> {
-    let mut outbox = Outbox::new(alloc)?;
-    for _ in 0..1025 {
-        outbox.put(packet(alloc, Place::Auth, 1)?);
+/// The four sockets of a realm's broker, of which `out` has no room once.
+fn with_a_blocked_socket(alloc: Global) -> [Tape<'static>; PORTS] {
+    [
+        tape(alloc, &[]),
+        tape(alloc, &[]),
+        tape(alloc, &[(0, SendFault::WouldBlock)]),
+        tape(alloc, &[]),
+    ]
+}
+
+/// What a flood of packets left that leave by `out` while it has no room, and one behind it that leaves by `auth`.
+#[derive(Drop)]
+struct AfterFlood {
+    /// How often each of the two sockets was handed a packet.
+    sends: [usize; 2],
+    /// How many packets wait for `out`, and how they stand.
+    waiting: usize,
+    standing: Option<Standing>,
+    lost: u64,
+    /// How many leave by `out` once it has room, and whether they are the first of the flood, in order.
+    gone: u64,
+    are_in_order: bool,
+}
+
+/// Whether octets count up from 0.
+fn count_up(octets: &[u8]) -> bool {
+    for (at, octet) in octets.iter().enumerate() {
+        if at % 256 != usize::from(*octet) {
+            return false;
+        }
     }
-    Ok((outbox.len(), outbox.is_full(), outbox.take_losses()))
+    true
+}
+
+/// Puts so many packets that leave by `out`, which has no room, then one that leaves by `auth`; and sends all once
+/// `out` has room.
+fn flood(alloc: Global, count: u16) -> Result<AfterFlood, NoMemory> {
+    let mut ports = with_a_blocked_socket(alloc);
+    let mut outbox = Outbox::new(alloc, PORTS)?;
+    for n in 0..count {
+        let out = packet(alloc, Place::Out(0), (n % 256) as u8)?;
+        if outbox.port_count() <= ports.len() {
+            outbox.put_sending(&mut ports, out);
+        }
+    }
+    outbox.put(packet(alloc, Place::Auth, 7)?);
+    if outbox.port_count() <= ports.len() {
+        outbox.send_all(&mut ports);
+    }
+    let sends = [ports[2].sends, ports[0].sends];
+    let (waiting, standing) = (outbox.waiting_at(2), outbox.standing_of(2));
+    outbox.try_again(2);
+    let mut gone = 0;
+    if outbox.port_count() <= ports.len() {
+        gone = outbox.send_all(&mut ports).gone;
+    }
+    Ok(AfterFlood {
+        sends,
+        waiting,
+        standing,
+        lost: outbox.take_account().losses.full_ring,
+        gone,
+        are_in_order: count_up(ports[2].went.as_slice()),
+    })
 }
 
 #[test]
-fn packet_1025_is_lost_and_counted(rt: HostRuntime) -> Result<(), Fail> {
-    let (waiting, is_full, losses) = one_too_many(rt.alloc())?;
-    let one = Losses {
-        full_ring: 1,
-        unreachable: 0,
-        not_permitted: 0,
-        other: 0,
-    };
-    assert!(rt; waiting == 1024 && is_full && losses == one);
+fn flood_for_a_socket_without_room_costs_no_other_socket_its_packet(
+    rt: HostRuntime,
+) -> Result<(), Fail> {
+    let after = flood(rt.alloc(), 1024)?;
+    assert!(rt; after.sends == [1, 1], "each socket was tried once");
+    assert!(rt; after.waiting == 256 && after.standing == Some(Standing::Aside));
+    assert!(rt; after.lost == 1024 - 256 && after.gone == 256 && after.are_in_order);
+    Ok(())
+}
+
+#[test]
+fn packet_257_finds_the_share_of_its_socket_full(rt: HostRuntime) -> Result<(), Fail> {
+    let last = flood(rt.alloc(), 256)?.lost;
+    let first = flood(rt.alloc(), 257)?.lost;
+    assert!(rt; (last, first) == (0, 1));
+    Ok(())
+}
+
+#[test]
+fn shares_shrink_where_there_are_many_sockets(rt: HostRuntime) -> Result<(), Fail> {
+    let shares = [share_of(4), share_of(256), share_of(512), share_of(2050)];
+    assert!(rt; shares == [256, 256, 128, 32]);
     Ok(())
 }
 
 /// Sends a packet from each of these places by four ports, the sockets of one realm: what went out
 /// of each, and how many packets are lost.
-fn send_by_place(alloc: Global, places: &[Place]) -> Result<([u8; 4], u64), NoMemory> {
-    let mut outbox = Outbox::new(alloc)?;
+fn send_by_place(alloc: Global, places: &[Place]) -> Result<([u8; PORTS], u64), NoMemory> {
+    let mut outbox = Outbox::new(alloc, PORTS)?;
     for (octet, place) in (1..).zip(places) {
         outbox.put(packet(alloc, *place, octet)?);
     }
@@ -139,14 +213,14 @@ fn send_by_place(alloc: Global, places: &[Place]) -> Result<([u8; 4], u64), NoMe
         tape(alloc, &[]),
         tape(alloc, &[]),
     ];
-    for _ in 0..10 {
-        outbox.send_next(&mut ports);
+    if outbox.port_count() <= ports.len() {
+        outbox.send_all(&mut ports);
     }
-    let mut went = [0; 4];
+    let mut went = [0; PORTS];
     for (last, port) in went.iter_mut().zip(&ports) {
         *last = port.went.last().copied().unwrap_or(0);
     }
-    Ok((went, outbox.take_losses().other))
+    Ok((went, outbox.take_account().losses.full_ring))
 }
 
 #[test]
@@ -160,5 +234,16 @@ fn packet_leaves_from_its_place(rt: HostRuntime) -> Result<(), Fail> {
     ];
     let sent = send_by_place(rt.alloc(), &places)?;
     assert!(rt; sent == ([4, 3, 2, 1], 1));
+    Ok(())
+}
+
+#[test]
+fn each_growth_of_an_outbox(rt: HostRuntime) -> Result<(), Fail> {
+    let refusing = Refusing::new(rt.alloc());
+    for n in refusing.each_growth() {
+        refusing.refuse_nth(n);
+        let is_refused = Outbox::new(&refusing, PORTS).is_err();
+        assert!(rt; is_refused == refusing.was_refused(), "at growth {n}");
+    }
     Ok(())
 }

@@ -44,7 +44,7 @@ fn add_realm(text: &mut String, realm: u16) -> bool {
         .is_ok()
         && text
             .push_str(
-                "tries = 1\nwait = 60000\nhold = 60000\nmax_pending = 300\nmax_sessions = 0\n",
+                "tries = 1\nwait = 60000\nhold = 60000\nmax_pending = 300\nmax_sessions = 0\nrest = 0\n",
             )
             .is_ok()
         && text

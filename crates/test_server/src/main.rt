@@ -26,7 +26,8 @@ use crate::exchange::Verdict;
 use crate::reload::Next;
 use crate::row::{ROWS, Row, TAKEN};
 use crate::stage::{Stage, Turnstile};
-use roam_serve::{ControlSocket, ServeFault, ServeOptions, Watch, serve};
+use roam_conf::ExchangeLines;
+use roam_serve::{Build, ControlSocket, ServeFault, ServeOptions, Watch, serve};
 use std::sync::atomic::AtomicU64;
 use std::{io, thread};
 
@@ -41,6 +42,10 @@ fn watch<'s, R>(
             counters,
             metrics: row.metrics(),
             control,
+            build: Build {
+                version: "0",
+                toolchain: "none",
+            },
         }),
         None => None,
     }
@@ -54,7 +59,7 @@ fn options<'s, 't, R>(
 ) -> ServeOptions<'s, Turnstile<'t, R>> {
     ServeOptions {
         watch,
-        are_exchanges_told: true,
+        told_exchanges: ExchangeLines::OfAll,
         milliseconds: Some(row.milliseconds()),
         gate: &stage.turnstile,
     }

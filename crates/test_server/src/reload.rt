@@ -7,7 +7,7 @@ use crate::packets::{
     ACCESS, DISCONNECT, Exchange, LEDGER, OTHER_FORWARDED, OTHER_START, SECOND_ACCESS,
     SECOND_ACCOUNTING,
 };
-use roam_conf::Config;
+use roam_conf::{Config, ExchangeLines};
 use roam_reload::hindrance_of;
 use roam_serve::{Following, ServeFault, Source};
 use std::alloc::Global;
@@ -38,7 +38,7 @@ impl Source for Next {
         match hindrance_of(old, &config) {
             None => Ok(Following {
                 config,
-                are_exchanges_told: true,
+                told_exchanges: ExchangeLines::OfAll,
                 report: Vec::new(self.alloc),
             }),
             Some(_) => Err(Vec::new(self.alloc)),

@@ -8,12 +8,15 @@ use crate::asked::overview::Overview;
 use crate::change::next::{Next, prepare_next};
 use crate::change::source::Source;
 use log::Log;
+use roam_conf::Config;
 use roam_control::{Course, Desk, Handed, Order, Reply, done, grace, plain_reply, script_of};
 use roam_counters::Process;
 use roam_hub::{HubFault, Opened, Seat};
 use roam_metrics::{StatusForm, page, status};
+use roam_notices::{DropCause, DroppedText, ReloadEnd};
+use roam_reload::{Fate, fate_of};
 use roam_sockets::{BoundSocket, now};
-use roam_telling::ThreadCounts;
+use roam_telling::{ThreadCounts, tell_dropped, tell_reload};
 use roam_trace::Step;
 use roam_workers::Shared;
 use std::alloc::{AllocError, Global};
@@ -60,9 +63,10 @@ impl<R: Wait + Clock + Net + Log, G, N: Opened> Attendant<'_, '_, R, G, N> {
 
     /// The counts, as the page of metrics.
     fn metrics(&self) -> Result<Reply, AllocError> {
+        let about = self.shared.office.about(self.now);
         match self.look()? {
             Some(standing) => {
-                let page = page(self.shared.alloc, self.shared.config, &standing)?;
+                let page = page(self.shared.alloc, self.shared.config, &standing, &about)?;
                 Ok(done(page))
             }
             None => Ok(bare(self.shared.alloc, Course::Unknown)),
@@ -74,16 +78,14 @@ impl<R: Wait + Clock + Net + Log, G, N: Opened> Attendant<'_, '_, R, G, N> {
         let Some(standing) = self.look()? else {
             return Ok(bare(self.shared.alloc, Course::Unknown));
         };
-        let seconds = self.now / 1000;
-        let text = status(
+        let about = self.shared.office.about(self.now);
+        let body = status(
             self.shared.alloc,
             self.shared.config,
             &standing,
-            seconds,
+            &about,
             form,
         )?;
-        let mut body = Vec::new(self.shared.alloc);
-        body.extend_from_slice(text.as_str().as_bytes())?;
         Ok(done(body))
     }
 
@@ -157,6 +159,41 @@ impl<R: Wait + Clock + Net + Log, G, N: Opened> Attendant<'_, '_, R, G, N> {
         }
     }
 
+    /// Tells what of the realm of an index is dropped for this cause.
+    fn tell_dropped_of(&self, index: u16, cause: DropCause) {
+        let shared = self.shared;
+        let Some(realm) = shared.config.realms.get(usize::from(index)) else {
+            return;
+        };
+        if let Some(gauges) = shared.hub.look(self.rt, &self.seat, index) {
+            let dropped = DroppedText {
+                cause,
+                realm: realm.name.as_str(),
+                waiting: gauges.in_use as u64,
+                sessions: gauges.sessions as u64,
+            };
+            tell_dropped(self.rt, dropped);
+        }
+    }
+
+    /// Tells what the realms drop that begin anew, or aren't there, under the configuration that follows.
+    fn tell_dropped_by(&self, next: &Config) {
+        let config = self.shared.config;
+        for index in 0..config.realms.len() {
+            match fate_of(config, next, index as u16) {
+                Fate::CarriedOver | Fate::Added => {}
+                _ => self.tell_dropped_of(index as u16, DropCause::Reload),
+            }
+        }
+    }
+
+    /// Tells what all realms drop, since the server ends.
+    fn tell_dropped_at_end(&self) {
+        for index in 0..self.shared.config.realms.len() {
+            self.tell_dropped_of(index as u16, DropCause::End);
+        }
+    }
+
     /// Answers an order, unless a configuration comes by it that is to follow.
     fn attend_to<S: Source>(&mut self, desk: &Desk, order: Order, source: &mut S) -> Option<Next>
         ensures { IfSome result (λ next.
@@ -171,10 +208,15 @@ impl<R: Wait + Clock + Net + Log, G, N: Opened> Attendant<'_, '_, R, G, N> {
             Order::Reload => {
                 match prepare_next(self.rt, self.shared, self.sockets, source) {
                     Ok(next) => {
+                        self.tell_dropped_by(&next.configured.config);
                         self.let_go_all();
                         return Some(next);
                     }
-                    Err(reply) => Ok(reply),
+                    Err(reply) => {
+                        tell_reload(self.rt, ReloadEnd::Declined, reply.body.as_slice());
+                        self.shared.office.count_reload(reply.course, self.now);
+                        Ok(reply)
+                    }
                 }
             }
         };
@@ -200,6 +242,7 @@ impl<R: Wait + Clock + Net + Log, G, N: Opened> Attendant<'_, '_, R, G, N> {
         let office = self.shared.office;
         for _ in self.rt.forever() {
             if self.shared.is_over() {
+                self.tell_dropped_at_end();
                 return None;
             }
             let _never = self.attend_at(&office.metrics, source);

@@ -60,12 +60,17 @@ impl<'p> Overview<'p> {
         Some(u64::from(*self.of(realm)?.in_use_at.get(place)?))
     }
 
-    /// Whether a link of a realm rests: 1, or 0.
-    fn rests(&self, realm: u16, place: usize) -> Option<u64> {
+    /// For how many milliseconds more a link of a realm rests; 0 where it doesn't.
+    fn rest(&self, realm: u16, place: usize) -> Option<u64> {
         match self.of(realm)?.rests.get(place)?.until {
-            Some(until) if self.now < until => Some(1),
-            _ => Some(0),
+            Some(until) => Some(until.saturating_sub(self.now)),
+            None => Some(0),
         }
+    }
+
+    /// How many requests were given up at a link of a realm since a reply was last taken.
+    fn unanswered(&self, realm: u16, place: usize) -> Option<u64> {
+        Some(u64::from(self.of(realm)?.rests.get(place)?.given_up))
     }
 }
 
@@ -90,8 +95,12 @@ impl Counts for Overview<'_> {
             Gauge::AcctInUse(realm, server) => {
                 self.in_use(realm, self.acct_place(realm, server)?)
             }
-            Gauge::AuthRests(realm, server) => self.rests(realm, usize::from(server)),
-            Gauge::AcctRests(realm, server) => self.rests(realm, self.acct_place(realm, server)?),
+            Gauge::AuthRest(realm, server) => self.rest(realm, usize::from(server)),
+            Gauge::AcctRest(realm, server) => self.rest(realm, self.acct_place(realm, server)?),
+            Gauge::AuthUnanswered(realm, server) => self.unanswered(realm, usize::from(server)),
+            Gauge::AcctUnanswered(realm, server) => {
+                self.unanswered(realm, self.acct_place(realm, server)?)
+            }
             Gauge::HistoryOctets => Some(self.counters.history_octets()),
         }
     }

@@ -1,6 +1,6 @@
 //! A configuration that is served, with what belongs to it alone.
 
-use roam_conf::Config;
+use roam_conf::{Config, ExchangeLines};
 use roam_control::Reply;
 use roam_sockets::BoundSocket;
 use roam_telling::Counters;
@@ -10,8 +10,8 @@ use roam_telling::Counters;
 pub struct Configured {
     pub config: Config,
     pub sockets: Vec<BoundSocket>,
-    /// Whether a line tells of each exchange that ends.
-    pub are_exchanges_told: bool,
+    /// Of which exchanges that end a line tells.
+    pub told_exchanges: ExchangeLines,
     /// What is counted; none where nothing is, or where the counts are those of whoever watches the server.
     pub counters: Option<Counters>,
 }

@@ -96,7 +96,7 @@ fn make_next<R: Net + Log, G, N: Opened>(
 {
     let Following {
         config,
-        are_exchanges_told,
+        told_exchanges,
         report,
     } = following;
     let alloc = shared.alloc;
@@ -108,7 +108,7 @@ fn make_next<R: Net + Log, G, N: Opened>(
         alloc,
         &config,
         sockets.as_slice(),
-        are_exchanges_told,
+        told_exchanges,
         wanted,
     )?;
     let rests = Rests::new(alloc, &config)?;
@@ -122,7 +122,7 @@ fn make_next<R: Net + Log, G, N: Opened>(
         configured: Configured {
             config,
             sockets,
-            are_exchanges_told,
+            told_exchanges,
             counters,
         },
         report,

@@ -4,7 +4,7 @@ ghost use Rattle.std.specs.Prelude.{IfOk};
 ghost use Rattle.roam_conf.specs.Shown.{shown};
 ghost use Rattle.roam_reload.specs.Reload.{MayFollow};
 
-use roam_conf::Config;
+use roam_conf::{Config, ExchangeLines};
 use roam_sockets::ServeFault;
 use std::alloc::Global;
 
@@ -12,8 +12,8 @@ use std::alloc::Global;
 #[derive(Drop)]
 pub struct Following {
     pub config: Config,
-    /// Whether a line tells of each exchange that ends.
-    pub are_exchanges_told: bool,
+    /// Of which exchanges that end a line tells.
+    pub told_exchanges: ExchangeLines,
     /// What is answered to who asked for it, once it is served.
     pub report: Vec<u8>,
 }

@@ -5,6 +5,7 @@ ghost use Rattle.roam_sockets.specs.Faults.{IsAfterBinding};
 
 use mio::unix::SourceFd;
 use mio::{Interest, Poll, Token};
+use roam_port::socket_of;
 use roam_sockets::{BoundSocket, Receiver, ServeFault, Socket, reason_of};
 use std::alloc::Global;
 use std::os::fd::AsRawFd;
@@ -56,7 +57,22 @@ pub fn register(poll: &Poll, sockets: &[BoundSocket], worker: usize) -> Result<(
     Ok(())
 }
 
-/// The sockets from which a worker sends, in the order of their numbers: of a place that has several, its own.
+/// Ports up to this number: where there are fewer, the further ones are this socket. The number of a `reverse` that
+/// isn't there is nobody's, so no packet leaves by it.
+fn fill_up<'s>(
+    ports: &mut Vec<Socket<'s>>,
+    count: usize,
+    socket: Socket<'s>,
+) -> Result<(), ServeFault>
+    ensures { IfErr result IsAfterBinding }
+{
+    for _ in ports.len()..count {
+        ports.push(socket)?;
+    }
+    Ok(())
+}
+
+/// The sockets from which a worker sends, each at its number, of so many numbers: of a place that has several, its own.
 /// The timer, whose number is above those of the workers, has those of the first one.
 ///
 /// # Errors
@@ -65,17 +81,26 @@ pub fn register(poll: &Poll, sockets: &[BoundSocket], worker: usize) -> Result<(
 pub fn ports(
     alloc: Global,
     sockets: &[BoundSocket],
-    number: usize,
+    numbers: usize,
+    worker: usize,
     workers: usize,
 ) -> Result<Vec<Socket<'_>>, ServeFault>
     requires { 1 ≤ workers }
     ensures { IfErr result IsAfterBinding }
 {
-    let mut ports = Vec::new(alloc);
+    let mut ports = Vec::with_capacity(alloc, numbers)?;
     for bound in sockets {
-        if !bound.is_spread || bound.worker == number % workers {
+        if !bound.is_spread || bound.worker == worker % workers {
+            fill_up(
+                &mut ports,
+                socket_of(bound.place),
+                Socket::new(&bound.socket),
+            )?;
             ports.push(Socket::new(&bound.socket))?;
         }
+    }
+    if let Some(last) = sockets.last() {
+        fill_up(&mut ports, numbers, Socket::new(&last.socket))?;
     }
     Ok(ports)
 }

@@ -6,7 +6,7 @@ ghost use Rattle.roam_sockets.specs.Faults.{IsAfterBinding};
 
 use crate::threads::dealing::register;
 use mio::{Events, Waker};
-use roam_conf::Config;
+use roam_conf::{Config, ExchangeLines};
 use roam_hub::Notes;
 use roam_notices::Exchange;
 use roam_port::Outbox;
@@ -55,13 +55,13 @@ fn make_kit(
     alloc: Global,
     polls: Polls,
     notes: Notes<Global>,
-    are_told: bool,
+    told: ExchangeLines,
     room: usize,
 ) -> Result<Kit, ServeFault>
     ensures { IfErr result IsAfterBinding }
 {
     let (notices, queue) = queue_of_notices(alloc)?;
-    let (exchanges, lines) = queue_of_lines(alloc, notes, are_told)?;
+    let (exchanges, lines) = queue_of_lines(alloc, notes, told)?;
     Ok(Kit {
         polls,
         notices,
@@ -80,7 +80,7 @@ pub fn make_kits<R: Net>(
     alloc: Global,
     config: &Config,
     sockets: &[BoundSocket],
-    are_told: bool,
+    told: ExchangeLines,
     wanted: u32,
 ) -> Result<Kits, ServeFault>
     ensures { IfErr result IsAfterBinding }
@@ -93,37 +93,43 @@ pub fn make_kits<R: Net>(
             return Err(ServeFault::Memory);
         };
         register(&one.arrivals, sockets, usize::from(worker))?;
-        workers.push(make_kit(alloc, one, notes_of_worker(alloc)?, are_told, RECEIVED)?)?;
+        workers.push(make_kit(alloc, one, notes_of_worker(alloc)?, told, RECEIVED)?)?;
     }
     let Some(one) = polls.pop() else {
         return Err(ServeFault::Memory);
     };
-    let timer = make_kit(alloc, one, notes_of_timer(alloc, config)?, are_told, 0)?;
+    let timer = make_kit(alloc, one, notes_of_timer(alloc, config)?, told, 0)?;
     Ok(Kits {
         wakers,
         threads: ThreadKits { timer, workers },
     })
 }
 
-/// Adds outboxes in which nothing waits, until there is one for each worker and for the timer.
+/// Adds outboxes in which nothing waits, until there is one for each worker and for the timer, each with a queue for
+/// each of so many sockets.
 pub fn fill_outboxes(
     alloc: Global,
     shards: u16,
+    sockets: usize,
     outboxes: &mut Vec<Outbox<Global>>,
 ) -> Result<(), ServeFault>
     ensures { IfErr result IsAfterBinding }
 {
     for _ in outboxes.len()..=usize::from(shards) {
-        outboxes.push(Outbox::new(alloc)?)?;
+        outboxes.push(Outbox::new(alloc, sockets)?)?;
     }
     Ok(())
 }
 
-/// An outbox for each worker and for the timer, in which nothing waits.
-pub fn make_outboxes(alloc: Global, shards: u16) -> Result<Vec<Outbox<Global>>, ServeFault>
+/// An outbox for each worker and for the timer, in which nothing waits, with a queue for each of so many sockets.
+pub fn make_outboxes(
+    alloc: Global,
+    shards: u16,
+    sockets: usize,
+) -> Result<Vec<Outbox<Global>>, ServeFault>
     ensures { IfErr result IsAfterBinding }
 {
     let mut outboxes = Vec::new(alloc);
-    fill_outboxes(alloc, shards, &mut outboxes)?;
+    fill_outboxes(alloc, shards, sockets, &mut outboxes)?;
     Ok(outboxes)
 }

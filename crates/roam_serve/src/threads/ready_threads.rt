@@ -8,10 +8,12 @@ use crate::threads::kits::{Kit, ThreadKits};
 use mio::{Events, Poll};
 use roam_hub::{Opened, Seat, split};
 use roam_notices::Exchange;
-use roam_port::Outbox;
+use roam_port::{Outbox, socket_numbers};
 use roam_sockets::{BoundSocket, ServeFault};
 use roam_telling::{Counting, Notice};
-use roam_workers::{ExchangeQueues, Logger, Outgoing, Rests, Shared, Timer, Worker, WorkerContext};
+use roam_workers::{
+    ExchangeQueues, Logger, Outgoing, Rests, RoomEvents, Shared, Timer, Worker, WorkerContext,
+};
 use rtrb::Consumer;
 use std::alloc::Global;
 
@@ -117,16 +119,13 @@ impl<'s, 'c, G, N: Opened> Builder<'s, 'c, G, N> {
                 None => None,
             },
         };
-        let mut outgoing = Outgoing {
-            outbox,
-            ports: ports(shared.alloc, self.sockets, number, workers)?,
-            losses: shared.losses,
-            counting,
-            room: polls.room,
+        let numbers = socket_numbers(shared.config);
+        let ports = ports(shared.alloc, self.sockets, numbers, number, workers)?;
+        let room = RoomEvents {
+            poll: polls.room,
             events: room_events,
-            is_blocked: false,
         };
-        outgoing.send();
+        let outgoing = Outgoing::new(shared.alloc, outbox, ports, shared.losses, counting, room)?;
         let context = WorkerContext {
             shared,
             seat,

@@ -8,9 +8,11 @@ use crate::change::source::Source;
 use crate::parts::HubEnd;
 use crate::threads::ready_threads::ReadyThreads;
 use log::Log;
+use roam_control::Course;
 use roam_hub::{Gate, Opened};
-use roam_sockets::ServeFault;
-use roam_telling::serving;
+use roam_notices::ReloadEnd;
+use roam_sockets::{ServeFault, now};
+use roam_telling::{serving, tell_reload};
 use roam_workers::{Shared, Worker, WorkerEnd, log_notices, receive_on, tell_or_drop, tick_on};
 use std::alloc::{AllocError, Global};
 use std::net::Net;
@@ -77,8 +79,17 @@ fn start_all<
     }
 }
 
-/// Tells that a configuration is served, answers who asked for it, and closes what the one of before had.
-fn tell_start<R: Wait + Log, G, N: Opened>(
+/// How a reload went, by what is answered.
+fn reload_end(course: Course) -> ReloadEnd {
+    match course {
+        Course::Done => ReloadEnd::Done,
+        _ => ReloadEnd::Declined,
+    }
+}
+
+/// Tells that a configuration is served, and how the reload went where one was asked for, answers who did, and closes what
+/// the one of before had.
+fn tell_start<R: Wait + Clock + Log, G, N: Opened>(
     rt: &R,
     shared: &Shared<'_, '_, G, N>,
     handover: Handover,
@@ -87,7 +98,10 @@ fn tell_start<R: Wait + Log, G, N: Opened>(
     tell_or_drop(rt, shared.config, serving(shared.config));
     drop(before);
     if let Some(reply) = reply {
-        shared.office.control.answer(rt, reply);
+        let office = shared.office;
+        tell_reload(rt, reload_end(reply.course), reply.body.as_slice());
+        office.count_reload(reply.course, now(rt, office.start, 0));
+        office.control.answer(rt, reply);
     }
 }
 

@@ -2,7 +2,7 @@ use Rattle.toml.specs.View.{table_view, array_view}
 use Rattle.std.proofs.Common.{codes, map, arith}
 use Rattle.roam_conf.specs.Parts.{shown_peer, shown_realm}
 use Rattle.roam_conf_reader.specs.Document.{StatesPeer, StatesRealm}
-use Rattle.roam_conf_reader.proofs.RangeLemmas.{port_at, number_at, number_or_at, optional_number_at, each_range}
+use Rattle.roam_conf_reader.proofs.RangeLemmas.{port_at, number_or_at, optional_number_at, each_range}
 use Rattle.roam_conf_reader.proofs.stated.parts_from.Goals as goal
 
 -- What is stated is in its range.
@@ -15,9 +15,9 @@ invariant_of-result c =
     let of_peers = each_range StatesPeer shown_peer 1024 (codes "peer") members (array_view c.in-Some.text.peers.now) peers.items c.in-Some.ensures.1 c.in_ok-all_from.ensures.ok in
     let of_realms = each_range StatesRealm shown_realm 1024 (codes "realm") members (array_view c.in-Some.text.realms.now) realms.items c.in-Some.ensures.2 c.in_ok-all_from-2.ensures.ok in
     record {
-      shards_range = number_at 1 64 (codes "shards") members _ stated.shards;
+      shards_range = number_or_at 1 1 64 (codes "shards") members _ (omega arith) (omega arith) stated.shards;
       ports = (port_at (codes "auth") members _ stated.auth, port_at (codes "acct") members _ stated.acct);
-      trace_limit_range = number_at 1 1000000 (codes "trace_limit") members _ stated.trace_limit;
+      trace_limit_range = number_or_at 100000 1 1000000 (codes "trace_limit") members _ (omega arith) (omega arith) stated.trace_limit;
       trace_octets_range = number_or_at 67108864 1 1073741824 (codes "trace_octets") members _ (omega arith) (omega arith) stated.trace_octets;
       max_hops_range = optional_number_at 1 100 (codes "max_hops") members _ stated.max_hops;
       peer_count = (omega (arith, of_peers, peers.ok), omega (arith, of_peers, peers.ok));

@@ -4,4 +4,5 @@ use Rattle.roam_metrics.proofs.pages.page.Goals as goal
 
 pub loop-scope-init : goal.loop-scope-init
 loop-scope-init g c =
-    c.in_ok-push_all_refusals.ensures (c.in_ok-push_server.ensures (subst AreLines (sym c.new-page.ensures.items) none))
+    c.in_ok-push_all_refusals.ensures
+    (c.in_ok-push_server.ensures (c.in_ok-push_about.ensures (subst AreLines (sym c.new-page.ensures.items) none)))

@@ -10,7 +10,8 @@ use Rattle.roam_reload.specs.SameLimits.{HaveSameLimits}
 use Rattle.roam_reload.proofs.realms.realm_difference.Goals as goal
 
 -- servers of another list
-others : (a b : List Server) (test : Bool) → test ≡ not (pointwise server_eq a b) → test ≡ true → map shown_server b ≡ map shown_server a → ⊥
+others : (a b : List Server) (test : Bool) → test ≡ not (pointwise server_eq a b) → test ≡ true →
+    map shown_server b ≡ map shown_server a → ⊥
 others a b test is yes' same =
     true≢false (sym (yes'') ∙ ap not ((list_decides server_eq shown_server server_decides a b).1 (sym same)))
   where
@@ -18,15 +19,18 @@ others a b test is yes' same =
     yes'' = sym is ∙ yes'
 
 -- the same servers
-sames : (a b : List Server) (test : Bool) → test ≡ not (pointwise server_eq a b) → test ≡ false → map shown_server b ≡ map shown_server a
-sames a b test is no' = sym ((list_decides server_eq shown_server server_decides a b).0 (passed (pointwise server_eq a b) (sym is ∙ no')))
+sames : (a b : List Server) (test : Bool) → test ≡ not (pointwise server_eq a b) → test ≡ false →
+    map shown_server b ≡ map shown_server a
+sames a b test is no' = sym ((list_decides server_eq shown_server server_decides a b).0
+    (passed (pointwise server_eq a b) (sym is ∙ no')))
   where
     passed : (t : Bool) → not t ≡ false → t ≡ true
     passed true e = refl
     passed false e = absurd (true≢false e)
 
 -- the same tables in this part
-same_part : (a b : RealmView) → b.out ≡ a.out → b.reverse ≡ a.reverse → b.servers ≡ a.servers → HaveSameLimits a b → realm_part b ≡ realm_part a
+same_part : (a b : RealmView) → b.out ≡ a.out → b.reverse ≡ a.reverse → b.servers ≡ a.servers → HaveSameLimits a b →
+    realm_part b ≡ realm_part a
 same_part a b out reverse servers limits = λ i. record {
   name = [];
   also = [];
@@ -57,8 +61,7 @@ returns-else-ne-clause-none c =
     let out : new.out ≡ old.out =
     sym ((endpoint_decides old.out new.out).0 (sym c.is_same_endpoint.ensures ∙ c.if-not-is_same_endpoint.false)) in
     let reverse : new.reverse ≡ old.reverse =
-    sym ((endpoint_decides old.reverse new.reverse).0
-    (sym c.is_same_endpoint-else-not-is_same_endpoint.ensures ∙ c.if-not-is_same_endpoint-2.false)) in
+    c.is_same_reverse.ensures.same c.if-not-is_same_reverse.false in
     if_none c.limit_difference.result
     (same_part (shown_realm old) (shown_realm new) out reverse
     (sames old.servers.items new.servers.items c.ne.result c.ne.ensures c.if-ne.false))

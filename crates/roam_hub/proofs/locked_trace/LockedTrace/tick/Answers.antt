@@ -2,14 +2,15 @@
 use Rattle.std.proofs.Common.{◌≡◌, ℕ, ◌-◌, ◌^◌, ◌++◌, ◌∷◌, [], List, length, min, ap, sym, subst, ◌∙◌, arith}
 use mathlib.Core.List.{IsPrefix}
 use Rattle.roam_core.specs.Events.{ticks}
-use Rattle.roam_trace.specs.History.{TraceView, with_step}
+use Rattle.roam_trace.specs.History.{TraceView, end_of, with_step}
+use Rattle.roam_history.specs.HubOpening.{opening_at}
 use Rattle.roam_trace.specs.Steps.{PlainStep, octets_in, shown_answer}
-use Rattle.roam_history.specs.Entries.{HistoryEntry, last_of, step_entry, stored_of}
+use Rattle.roam_history.specs.Entries.{HistoryEntry, last_of, step_entry, stored_of, steps_in}
 use Rattle.roam_history.proofs.EntryLemmas.{last-push}
 use Rattle.roam_history.specs.Fronts.{FrontView}
 use Rattle.roam_audit.specs.Seats.{after_call, front_of}
 use Rattle.roam_hub.specs.Keeping.{KeptView}
-use Rattle.roam_hub.proofs.KeptLemmas.{Recorded, recorded}
+use Rattle.roam_hub.proofs.KeptLemmas.{Recorded, recorded, whole_end}
 use Rattle.roam_hub.proofs.locked_trace.LockedTrace.tick.Given.{Over}
 use Rattle.roam_hub.proofs.locked_trace.LockedTrace.tick.Goals as goal
 
@@ -66,3 +67,12 @@ returns-in-Ok-clause-octets g c =
 
 pub returns-in-Ok-clause-seen : goal.returns-in-Ok-clause-seen
 returns-in-Ok-clause-seen g c = (all g c).sees
+
+pub returns-in-Ok-clause-ends : goal.returns-in-Ok-clause-ends
+returns-in-Ok-clause-ends g c =
+    let o = g.N.Opened.opening in
+    let f = c.recorded-number.new.front in
+    let k : KeptView = record { trace = c.tick.new.self; front = f } in
+    let here : f.shard ≡ c.args.shard =
+    ap (λ (x : FrontView). x.shard) c.recorded-number.ensures.front ∙ (ap (λ (v : KeptView). v.front.shard) c.self.view_is ∙ c.in_ok-check.ensures.shard) in
+    whole_end o k (all g c).kept ∙ ap (λ (n : ℕ). end_of (opening_at o n) (steps_in f.entries)) here

@@ -1,12 +1,64 @@
-use Rattle.std.proofs.Common.{refl, ◌∙◌}
-use Rattle.roam_port.proofs.OutboxLemmas.{waits_behind}
+use Rattle.std.proofs.Common.{ap, ◌∙◌, arith}
+use Rattle.roam_port.specs.Queues.{IsBehind, listed_one}
+use Rattle.roam_port.proofs.ListedLemmas.{at_set, after_same, count_set, get-read, idle_is, set_same, room_is}
+use Rattle.roam_port.proofs.ListedLemmas.{room_within}
+use Rattle.std.proofs.Common.{[], ◌∷◌, length}
+use Rattle.std.proofs.lemmas.List.{length-append}
+use Rattle.roam_port.specs.Queues.{count_waiting}
+use Rattle.roam_port.proofs.BalanceLemmas.{behind_waiting, put_kept}
 use Rattle.roam_port.proofs.outbox.Outbox.put_behind.Goals as goal
 
--- What waits is what waited, and the packet that was put.
-pub returns : goal.returns
-returns g c = let put = rw c.unwrap.ensures at c.put.ensures.ok in record {
-  behind = waits_behind _ _ _ _ _ _ c.args.out c.args.self.now.in_order
-      c.count_beside.ensures.intake.nothing_taken (c.count_beside.ensures.outlet.nothing_put ∙ put)
-      c.count_beside.ensures.fifo;
-  none_lost = refl;
-}
+-- It is listed as before.
+pub invariant_of-self-clause-few : goal.invariant_of-self-clause-few
+invariant_of-self-clause-few g c =
+    let qs = c.args.self.now.queues.items in
+    let q = c.index_mut.result.now in
+    let at = get-read qs c.args.socket q (room_within qs c.args.socket c.requires.room) c.index_mut.ensures.value in
+    let same = c.put.ensures.standing ∙ after_same q.standing (idle_is qs c.args.socket q _ at c.requires.waits) in
+    let counts = count_set qs c.args.socket q c.put.new.self at in
+    let one = ap listed_one same in
+    let few = c.args.self.now.few in
+    omega arith
+
+pub invariant_of-self-clause-all : goal.invariant_of-self-clause-all
+invariant_of-self-clause-all g c =
+    let qs = c.args.self.now.queues.items in
+    let q = c.index_mut.result.now in
+    let at = get-read qs c.args.socket q (room_within qs c.args.socket c.requires.room) c.index_mut.ensures.value in
+    let same = c.put.ensures.standing ∙ after_same q.standing (idle_is qs c.args.socket q _ at c.requires.waits) in
+    set_same qs c.args.socket q c.put.new.self at c.args.self.now.listed.items same c.args.self.now.all
+
+-- It is there, and has room.
+pub index_mut-requires : goal.index_mut-requires
+index_mut-requires g c =
+    let within = room_within c.args.self.now.queues.items c.args.socket c.requires.room in
+    let size = c.args.self.now.queues.ok.0 in
+    omega arith
+
+pub put-requires : goal.put-requires
+put-requires g c =
+    let qs = c.args.self.now.queues.items in
+    let q = c.index_mut.result.now in
+    let at = get-read qs c.args.socket q (room_within qs c.args.socket c.requires.room) c.index_mut.ensures.value in
+    let not_full = room_is qs c.args.socket q at c.requires.room in
+    let within = q.within in
+    let size = q.waiting.ok.0 in
+    omega arith
+
+pub returns-clause-queues : goal.returns-clause-queues
+returns-clause-queues g c =
+    let qs = c.args.self.now.queues.items in
+    at_set (IsBehind c.args.out) qs c.args.socket c.index_mut.result.now c.put.new.self
+    (room_within qs c.args.socket c.requires.room) c.index_mut.ensures.value
+    (record { behind = c.put.ensures.behind; share_stays = c.put.ensures.share })
+
+-- One more was put, and waits.
+pub invariant_of-self-clause-balanced : goal.invariant_of-self-clause-balanced
+invariant_of-self-clause-balanced g c =
+    let qs = c.args.self.now.queues.items in
+    let q = c.index_mut.result.now in
+    let at = get-read qs c.args.socket q (room_within qs c.args.socket c.requires.room) c.index_mut.ensures.value in
+    let longer = ap length c.put.ensures.behind ∙ length-append q.waiting.items (c.args.out ∷ []) in
+    let waiting = behind_waiting qs c.args.socket q c.put.new.self at longer in
+    put_kept c.args.self.now.account c.count_put.new.self (count_waiting qs) _ c.count_put.ensures waiting
+    c.args.self.now.balanced

@@ -1,0 +1,122 @@
+//! What is shown of an answer, whether it is whole, and what a log writes whose writer fails.
+
+use crate::control::is_whole;
+use crate::line_head::LogReader;
+use crate::outlet::{Outlet, write_on};
+use crate::report::Fault;
+use crate::shown::shown;
+use log::Level;
+use roam_serve::{Reason, ServeFault, SocketPath};
+use std::io;
+use std::io::{ErrorKind, Write};
+use std::test::Fail;
+
+/// Octets, and what is shown of them.
+const SHOWN: &[(&[u8], &str)] = &[
+    (
+        b"realm a.example: requests 1\n\tb",
+        "realm a.example: requests 1\n\tb",
+    ),
+    (b"\x1b]0;title\x07", "\\x1b]0;title\\x07"),
+    (b"a\rb\x00c\x7f", "a\\x0db\\x00c\\x7f"),
+    (b"\xc3\xa9\xe2\x82\xac", "\u{e9}\u{20ac}"),
+    (b"\xc2\x9b31m", "\\x9b31m"),
+    (b"\x9b31m\xc3\xa9", "\\x9b31m\\xc3\\xa9"),
+];
+
+#[test]
+fn nothing_that_is_shown_steers_a_terminal(rt: HostRuntime) -> Result<(), Fail> {
+    for (octets, wanted) in SHOWN {
+        let shown = shown(rt.alloc(), octets)?;
+        assert!(rt;
+            shown.as_slice() == wanted.as_bytes(),
+            "{octets:?} is shown as {shown:?}"
+        );
+    }
+    Ok(())
+}
+
+/// Answers, and whether each is whole (RFC 9110, section 8.6).
+const ANSWERS: &[(&[u8], bool)] = &[
+    (b"HTTP/1.1 200 OK\r\ncontent-length: 5\r\n\r\nwhole", true),
+    (
+        b"HTTP/1.1 200 OK\r\nA: b\r\nContent-Length:5\r\nC: d\r\n\r\nwhole",
+        true,
+    ),
+    (b"HTTP/1.1 200 OK\r\nContent-Length: 0\r\n\r\n", true),
+    (b"HTTP/1.1 200 OK\r\ncontent-length: 6\r\n\r\nshort", false),
+    (b"HTTP/1.1 200 OK\r\ncontent-length: 3\r\n\r\nlong", false),
+    (b"HTTP/1.1 200 OK\r\ncontent-length: +5\r\n\r\nwhole", false),
+    (b"HTTP/1.1 200 OK\r\n\r\nwhole", false),
+    (b"HTTP/1.1 200 OK\r\ncontent-length: 5\r\n", false),
+    (b"", false),
+];
+
+#[test]
+fn an_answer_is_whole_or_cut(rt: HostRuntime) {
+    for (answer, whole) in ANSWERS {
+        assert!(rt; is_whole(answer) == *whole, "{answer:?}");
+    }
+}
+
+/// Takes three octets at a time, and refuses each second write.
+#[derive(Drop)]
+struct Reluctant {
+    taken: [u8; 64],
+    size: usize,
+    refuses: bool,
+}
+
+impl Write for Reluctant {
+    fn write(&mut self, octets: &[u8]) -> io::Result<usize> {
+        self.refuses = !self.refuses;
+        if self.refuses {
+            return Err(io::Error::from(ErrorKind::Other));
+        }
+        let mut count = 0;
+        for octet in octets {
+            if count < 3 && self.size < 64 {
+                self.taken[self.size] = *octet;
+                self.size += 1;
+                count += 1;
+            }
+        }
+        Ok(count)
+    }
+
+    fn flush(&mut self) -> io::Result<()> {
+        Ok(())
+    }
+}
+
+#[test]
+fn a_log_writes_each_line_once_where_writes_fail(rt: HostRuntime) -> Result<(), Fail> {
+    let outlet = Outlet::new(rt.alloc(), LogReader::Journal)?;
+    let mut writer = Reluctant {
+        taken: [0; 64],
+        size: 0,
+        refuses: false,
+    };
+    outlet.tell(&rt, Level::Info, &"first");
+    outlet.tell(&rt, Level::Warn, &"second\nthird");
+    outlet.end(&rt);
+    write_on(&rt, &outlet, &mut writer, Outlet::room(rt.alloc())?);
+    assert!(rt;
+        writer
+            .taken
+            .starts_with(b"<6>INFO first\n<4>WARN second\n<4>WARN third\n")
+            && writer.size == 43
+    );
+    assert!(rt; outlet.left(&rt) == 0);
+    Ok(())
+}
+
+#[test]
+fn a_control_socket_that_cannot_be_had_is_told(rt: HostRuntime) {
+    let mut err = Vec::new(rt.alloc());
+    let fault = ServeFault::Control(SocketPath::new("/run/roam/control"), Reason(98));
+    let ended = Fault::of_server(fault).tell(&mut err);
+    let told = "roam: cannot listen at /run/roam/control: Address already in use\n";
+    assert!(rt; err.as_slice() == told.as_bytes(), "{err:?}");
+    assert!(rt; ended.status == 1);
+}

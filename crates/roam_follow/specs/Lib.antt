@@ -1,0 +1,2 @@
+pub mod Paused
+pub mod Following

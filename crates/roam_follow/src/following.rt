@@ -1,0 +1,76 @@
+//! All shards of a paused hub follow another configuration.
+
+ghost use Rattle.std.specs.Prelude.{◌≡◌, IfOk, OnErr, OnOk};
+ghost use Rattle.roam_conf.specs.Shown.{shown};
+ghost use Rattle.roam_follow.specs.Following.{AreReady, HaveFollowed, StandAsBefore};
+ghost use Rattle.roam_follow.specs.Paused.{ArePaused};
+
+use roam_conf::Config;
+use roam_shard::{FreshNumbers, Paused};
+use roam_wire::NoMemory;
+use std::alloc::Allocator;
+
+/// Takes the memory with which each shard follows another configuration, by number.
+fn all_reserved<A: Allocator + Copy>(
+    alloc: A,
+    old: &Config,
+    new: &Config,
+    shards: &mut Vec<Paused<A>, A>,
+) -> Result<Vec<FreshNumbers<A>, A>, NoMemory>
+    requires paused { ArePaused (shown old.now) shards.old.items }
+    requires shards { new.now.shards ≡ old.now.shards }
+    ensures still { StandAsBefore (shown old.now) shards.old.items shards.new.items }
+    ensures ready { IfOk result (λ fresh. AreReady (shown old.now) (shown new.now) shards.new.items fresh.items) }
+{
+    let mut fresh = Vec::with_capacity(alloc, shards.len())?;
+    for number in 0..shards.len() {
+        let numbers = shards[number].reserve(old, new)?;
+        fresh.push_reserved(numbers);
+    }
+    Ok(fresh)
+}
+
+/// Each shard follows another configuration, for which all memory is there. Takes no memory.
+fn all_follow<A: Allocator + Copy>(
+    old: &Config,
+    new: &Config,
+    shards: &mut Vec<Paused<A>, A>,
+    fresh: Vec<FreshNumbers<A>, A>,
+)
+    requires paused { ArePaused (shown old.now) shards.old.items }
+    requires ready { AreReady (shown old.now) (shown new.now) shards.old.items fresh.items }
+    requires shards { new.now.shards ≡ old.now.shards }
+    requires seed { new.now.seed ≡ old.now.seed }
+    ensures { HaveFollowed (shown old.now) (shown new.now) shards.old.items shards.new.items }
+{
+    let mut number = 0;
+    for numbers in fresh {
+        shards[number].follow(old, new, numbers);
+        number += 1;
+    }
+}
+
+/// All shards of a paused hub follow another configuration: in each shard the realms that are carried over go on as
+/// they stand, and any other begins anew.
+///
+/// # Errors
+///
+/// `NoMemory` where a growth was refused: all memory is taken first, and then no shard follows. They stand as they did.
+pub fn follow<A: Allocator + Copy>(
+    alloc: A,
+    old: &Config,
+    new: &Config,
+    shards: &mut Vec<Paused<A>, A>,
+) -> Result<(), NoMemory>
+    requires paused { ArePaused (shown old.now) shards.old.items }
+    requires shards { new.now.shards ≡ old.now.shards }
+    requires seed { new.now.seed ≡ old.now.seed }
+    ensures ok { OnOk result
+        (HaveFollowed (shown old.now) (shown new.now) shards.old.items shards.new.items) }
+    ensures err { OnErr result
+        (StandAsBefore (shown old.now) shards.old.items shards.new.items) }
+{
+    let fresh = all_reserved(alloc, old, new, shards)?;
+    all_follow(old, new, shards, fresh);
+    Ok(())
+}

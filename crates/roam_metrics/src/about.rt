@@ -1,0 +1,49 @@
+//! Which server is told of, since when it serves, and what came of its reloads.
+
+ghost use Rattle.std.specs.Prelude.{◌≡◌};
+ghost use Rattle.roam_metrics.specs.About as spec;
+
+/// The reloads of which one thing came.
+#[derive(Clone, Copy, Debug, PartialEq, Eq)]
+pub struct Reloads {
+    /// How many there were.
+    pub times: u64,
+    /// When the last one was, in milliseconds since the server's start; none where there was none.
+    pub last: Option<u64>,
+}
+
+/// Which server is told of.
+#[derive(Clone, Copy, Debug, PartialEq, Eq)]
+pub struct About {
+    /// The version of the program.
+    pub version: &'static str,
+    /// The line of the toolchain that proved it.
+    pub toolchain: &'static str,
+    /// When the server started, in seconds since 1970; none where the system's clock didn't tell.
+    pub began: Option<u64>,
+    /// For how long it serves, in milliseconds.
+    pub uptime: u64,
+    /// The reloads after which another configuration was served.
+    pub served: Reloads,
+    /// Those that changed nothing.
+    pub declined: Reloads,
+}
+
+impl About {
+    /// A moment, in milliseconds since the start, as seconds since 1970.
+    pub(crate) fn second_at(&self, moment: u64) -> Option<u64>
+        ensures { result ≡ spec.second_at self.now.began moment }
+    {
+        match self.began {
+            Some(began) => Some(began.saturating_add(moment / 1000)),
+            None => None,
+        }
+    }
+
+    /// How long ago a moment was, in seconds.
+    pub(crate) fn seconds_since(&self, moment: u64) -> u64
+        ensures { result ≡ spec.seconds_since self.now.uptime moment }
+    {
+        self.uptime.saturating_sub(moment) / 1000
+    }
+}

@@ -1,0 +1,87 @@
+//! How the endpoints of home servers stand.
+
+ghost use Rattle.std.specs.Prelude.{◌≡◌};
+ghost use Rattle.roam_metrics.specs.Servers as spec;
+
+use std::fmt;
+use std::fmt::{Display, Formatter, Write};
+
+/// What was seen of a home server's endpoint.
+#[derive(Clone, Copy, Debug, PartialEq, Eq)]
+pub struct Seen {
+    /// For how many milliseconds more it rests since it kept silent.
+    pub rest: u64,
+    /// How many requests were given up there since a reply was last taken.
+    pub unanswered: u64,
+    /// How many packets were sent there.
+    pub asked: u64,
+    /// How many replies came from there.
+    pub replied: u64,
+    /// How many of them were taken.
+    pub taken: u64,
+}
+
+/// How a home server's endpoint stands.
+#[derive(Clone, Copy, Debug, PartialEq, Eq)]
+pub enum Standing {
+    /// It kept silent, and no request goes there for so many seconds more where another server is left.
+    Rests(u64),
+    /// Replies came from there, and all were refused.
+    IsRefused,
+    /// So many requests were given up there since it last answered.
+    Unanswered(u64),
+    /// It answers.
+    Answers,
+    /// It was asked, and hasn't answered yet.
+    Asked,
+    /// It was never asked.
+    NeverAsked,
+}
+
+impl Seen {
+    /// How it stands.
+    pub fn standing(self) -> Standing
+        ensures { result ≡ spec.standing_of self }
+    {
+        if self.rest > 0 {
+            Standing::Rests(self.rest / 1000 + u64::from(self.rest % 1000 > 0))
+        } else if self.taken == 0 && self.replied > 0 {
+            Standing::IsRefused
+        } else if self.unanswered > 0 {
+            Standing::Unanswered(self.unanswered)
+        } else if self.taken > 0 {
+            Standing::Answers
+        } else if self.asked > 0 {
+            Standing::Asked
+        } else {
+            Standing::NeverAsked
+        }
+    }
+}
+
+impl Standing {
+    /// It as a word of JSON.
+    pub fn word(self) -> &'static str {
+        match self {
+            Standing::Rests(_) => "rests",
+            Standing::IsRefused => "is_refused",
+            Standing::Unanswered(_) => "unanswered",
+            Standing::Answers => "answers",
+            Standing::Asked => "asked",
+            Standing::NeverAsked => "never_asked",
+        }
+    }
+}
+
+impl Display for Standing {
+    fn fmt<W: Write>(&self, f: &mut Formatter<W>) -> fmt::Result {
+        match self {
+            Standing::Rests(seconds) => write!(f, "rests {seconds} s more"),
+            Standing::IsRefused => f.write_str("replies refused"),
+            Standing::Unanswered(requests) => write!(f, "{requests} unanswered"),
+            Standing::Answers => f.write_str("answers"),
+            Standing::Asked => f.write_str("asked"),
+            Standing::NeverAsked => f.write_str("never asked"),
+        }
+    }
+}

@@ -1,0 +1,65 @@
+-- Who sent a datagram that was refused: a peer or a home server of the configuration, by where it came to. Ours.
+use Rattle.std.specs.Prelude.{◌≡◌, ℕ, List, [], Option, Some, None, option_map, slice_get}
+use Rattle.roam_conf.specs.Config.{ConfigView, PeerView}
+use Rattle.roam_conf.specs.Lookup.{peer_with_ip, link_in, home_in}
+use Rattle.roam_conf.specs.declared.endpoint.Endpoint.{Endpoint}
+use Rattle.roam_conf.specs.declared.place.Link.{Link}
+use Rattle.roam_conf.specs.declared.place.Link.TheVariants as link
+use Rattle.roam_conf.specs.declared.place.Place.{Place}
+use Rattle.roam_conf.specs.declared.place.Place.TheVariants as place
+use Rattle.roam_notices.specs.declared.origin.Origin.{Origin}
+use Rattle.roam_notices.specs.declared.origin.Origin.TheVariants as origin
+use Rattle.roam_notices.specs.declared.sender.Sender.{Sender}
+use Rattle.roam_notices.specs.declared.sender.Sender.TheVariants as sender
+
+-- who it is, with a peer's name
+pub data Who : Type 0 where
+  peer : List ℕ → Who
+  home : Who
+  unknown : Who
+
+-- what a line has of it
+abbrev pub shown_sender : Sender → Who
+shown_sender (sender.Peer name) = peer name.now
+shown_sender sender.HomeServer = home
+shown_sender sender.Unknown = unknown
+
+abbrev peer_if : Option PeerView → Who
+peer_if None = unknown
+peer_if (Some p) = peer p.name
+
+-- a peer by its index
+abbrev pub peer_at : List PeerView → Option ℕ → Who
+peer_at peers None = unknown
+peer_at peers (Some i) = peer_if (slice_get peers i)
+
+-- whose link it is
+abbrev pub who_at_link : List PeerView → Option Link → Who
+who_at_link peers None = unknown
+who_at_link peers (Some (link.Coa i)) = peer_at peers (Some i)
+who_at_link peers (Some (link.Auth i)) = home
+who_at_link peers (Some (link.Acct i)) = home
+
+abbrev home_if : Option ℕ → Who
+home_if None = unknown
+home_if (Some i) = home
+
+-- who sends from this endpoint to this place
+abbrev pub who_sends : ConfigView → Place → Endpoint → Who
+who_sends config place.Auth from = peer_at config.peers (peer_with_ip config.peers from.ip)
+who_sends config place.Acct from = peer_at config.peers (peer_with_ip config.peers from.ip)
+who_sends config (place.Out realm) from = who_at_link config.peers (link_in config realm from)
+who_sends config (place.Reverse realm) from = home_if (home_in config realm from.ip)
+
+-- ## Sender of what was refused
+-- At `auth` and `acct` the peer of its address; at a realm's `out` the home server or the peer whose link its endpoint is; at
+-- `reverse` a home server of its address; else nobody that is known.
+-- Source: ours
+-- Rules out: the name of another peer than the source's
+-- Stands in: `roam_notices` `Senders.antt`: `who_sent`; `RefusedText::new`
+--
+-- who sent what was refused
+abbrev pub who_sent : ConfigView → Option Origin → Who
+who_sent config (Some (origin.Datagram place from)) = who_sends config place from
+who_sent config (Some (origin.Unsealed place from)) = who_sends config place from
+who_sent config _ = unknown

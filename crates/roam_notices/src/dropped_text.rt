@@ -1,0 +1,53 @@
+//! The line of what a reload or the server's end drops of a realm.
+
+ghost use Rattle.std.specs.Prelude.{◌≡◌, Some};
+ghost use Rattle.roam_notices.specs.Dropped as spec;
+
+use std::fmt;
+use std::fmt::{Display, Formatter, Write};
+
+/// By what a realm loses what it has.
+#[derive(Clone, Copy, Debug, PartialEq, Eq)]
+pub enum DropCause {
+    /// A configuration follows, under which the realm begins anew, or isn't there.
+    Reload,
+    /// The server ends.
+    End,
+}
+
+/// What of a realm is dropped.
+#[derive(Clone, Copy)]
+pub struct DroppedText<'n> {
+    pub cause: DropCause,
+    /// The realm's name.
+    pub realm: &'n str,
+    /// How many requests wait.
+    pub waiting: u64,
+    /// How many sessions are open.
+    pub sessions: u64,
+}
+
+/// The word of a cause.
+fn cause_word(cause: DropCause) -> &'static str
+    ensures { result.now ≡ spec.drop_word cause }
+{
+    match cause {
+        DropCause::Reload => "reload",
+        DropCause::End => "end",
+    }
+}
+
+impl Display for DroppedText<'_> {
+    ghost output = { λ text. Some (spec.dropped_text text.cause text.realm.now text.waiting text.sessions) };
+
+    fn fmt<W: Write>(&self, f: &mut Formatter<W>) -> fmt::Result {
+        let word = cause_word(self.cause);
+        let realm = self.realm;
+        let waiting = self.waiting;
+        let sessions = self.sessions;
+        write!(
+            f,
+            "{word}: realm {realm}: dropped: {waiting} waiting requests, {sessions} sessions"
+        )
+    }
+}

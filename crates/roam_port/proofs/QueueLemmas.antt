@@ -1,0 +1,114 @@
+-- What was handed to a port, packet by packet.
+use Rattle.std.proofs.Common.{◌≡◌, ◌≢◌, ℕ, suc, ◌+◌, List, [], ◌∷◌, ◌++◌, length, Bool, true, false, Option, Some, None}
+use Rattle.std.proofs.Common.{option_map, Result, Ok, Err, refl, ap, sym, ◌∙◌, subst, arith, append_assoc}
+use Rattle.std.specs.List.{AllByRecursion}
+use Rattle.std.proofs.lemmas.List.{length-append, append-nil}
+use Rattle.roam_route.specs.declared.datagram.Out.{Out}
+use Rattle.roam_port.specs.Accounts.{accounted}
+use Rattle.roam_port.specs.Port.{PortCall, send_call, IsOneCall}
+use Rattle.roam_port.specs.PortQueue.{Handed, HandsOldest, HandsOver, IsLeft, packets_of, calls_of, account_after}
+use Rattle.roam_port.specs.declared.account.Account.{Account}
+use Rattle.roam_port.specs.declared.port.SendFault.{SendFault}
+use Rattle.roam_port.specs.declared.port.SendFault.TheVariants as fault
+
+pub packets_one_more : {A : Type 0} (hs : List (Handed A)) (h : Handed A) (left : List (Out A))
+    → packets_of (hs ++ h ∷ []) ++ left ≡ packets_of hs ++ h.out ∷ left
+packets_one_more [] h left = refl
+packets_one_more (g ∷ hs) h left = ap (λ ps. g.out ∷ ps) (packets_one_more hs h left)
+
+pub calls_one_more : {A : Type 0} (hs : List (Handed A)) (h : Handed A)
+    → calls_of (hs ++ h ∷ []) ≡ calls_of hs ++ send_call h.answer h.out.to h.out.bytes ∷ []
+calls_one_more [] h = refl
+calls_one_more (g ∷ hs) h =
+    ap (λ cs. send_call g.answer g.out.to g.out.bytes ∷ cs) (calls_one_more hs h)
+
+pub account_one_more : {A : Type 0} (account : Account) (hs : List (Handed A)) (h : Handed A)
+    → account_after account (hs ++ h ∷ []) ≡ accounted (account_after account hs) h.answer
+account_one_more account [] h = refl
+account_one_more account (g ∷ hs) h = account_one_more (accounted account g.answer) hs h
+
+pub none_one_more : {A : Type 0} (hs : List (Handed A)) (h : Handed A)
+    → AllByRecursion (λ (h : Handed A). h.answer ≢ Err fault.WouldBlock) hs → h.answer ≢ Err fault.WouldBlock
+    → AllByRecursion (λ (h : Handed A). h.answer ≢ Err fault.WouldBlock) (hs ++ h ∷ [])
+none_one_more [] h all one = (one, tt)
+none_one_more (g ∷ hs) h all one = (all.0, none_one_more hs h all.1 one)
+
+pub made_one_more : (old mid new : Option (List PortCall)) (cs : List PortCall) (c : PortCall)
+    → mid ≡ option_map (λ calls. calls ++ cs) old → IsOneCall mid new c
+    → new ≡ option_map (λ calls. calls ++ (cs ++ c ∷ [])) old
+made_one_more None mid new cs c was one = one ∙ ap (option_map (λ calls. calls ++ c ∷ [])) was
+made_one_more (Some calls) mid new cs c was one =
+    one ∙ ap (option_map (λ calls. calls ++ c ∷ [])) was ∙ ap Some (append_assoc calls cs (c ∷ []))
+
+pub gone_is : {A : Type 0} (out : Out A) (behind left : List (Out A)) (answer : Result (Unit {0}) SendFault)
+    → IsLeft out behind left true answer → (answer ≢ Err fault.WouldBlock) × (left ≡ behind)
+gone_is out behind left (Ok done) is = ((λ same. cc), is.1)
+gone_is out behind left (Err fault.WouldBlock) is = absurd (let bad : true ≡ false = is.0 in cc)
+gone_is out behind left (Err fault.Unreachable) is = ((λ same. cc), is.1)
+gone_is out behind left (Err fault.NotPermitted) is = ((λ same. cc), is.1)
+gone_is out behind left (Err fault.Other) is = ((λ same. cc), is.1)
+
+pub waits_is : {A : Type 0} (out : Out A) (behind left : List (Out A)) (answer : Result (Unit {0}) SendFault)
+    → IsLeft out behind left false answer → (answer ≡ Err fault.WouldBlock) × (left ≡ out ∷ behind)
+waits_is out behind left (Err fault.WouldBlock) is = (refl, is.1)
+waits_is out behind left (Ok done) is = absurd (let bad : false ≡ true = is.0 in cc)
+waits_is out behind left (Err fault.Unreachable) is = absurd (let bad : false ≡ true = is.0 in cc)
+waits_is out behind left (Err fault.NotPermitted) is = absurd (let bad : false ≡ true = is.0 in cc)
+waits_is out behind left (Err fault.Other) is = absurd (let bad : false ≡ true = is.0 in cc)
+
+module _ {A P : Type 0} (calls : P → Option (List PortCall)) (start port next : P) (waited left rest : List (Out A))
+    (account_0 account_1 account_2 : Account) (n : ℕ)
+    (so_far : HandsOver calls start port waited left account_0 account_1 n) where
+  -- one more packet is gone
+  pub one_more : (r : Bool) → r ≡ true → HandsOldest calls port next left rest account_1 account_2 r
+      → HandsOver calls start next waited rest account_0 account_2 (n + 1)
+  one_more r is_gone one =
+      let h : Handed A = record { out = one.out; answer = one.answer } in
+      let is = gone_is one.out one.behind rest one.answer
+      (subst (λ b. IsLeft one.out one.behind rest b one.answer) is_gone one.left) in
+      let size = length-append so_far.handed (h ∷ []) in
+      let many = so_far.as_many in
+      record {
+        handed = so_far.handed ++ h ∷ [];
+        as_many = omega arith;
+        in_order = so_far.in_order
+            ∙ ap (λ w. packets_of so_far.handed ++ w) (one.oldest ∙ ap (λ b. one.out ∷ b) (sym is.1))
+            ∙ sym (packets_one_more so_far.handed h rest);
+        none_blocked = none_one_more so_far.handed h so_far.none_blocked is.0;
+        made = made_one_more (calls start) (calls port) (calls next) (calls_of so_far.handed)
+            (send_call h.answer h.out.to h.out.bytes) so_far.made one.made
+            ∙ ap (λ cs. option_map (λ c. c ++ cs) (calls start)) (sym (calls_one_more so_far.handed h));
+        counted = one.counted_once ∙ ap (λ l. accounted l one.answer) so_far.counted
+            ∙ sym (account_one_more account_0 so_far.handed h);
+      }
+
+-- none were handed on yet
+pub none_yet : {A P : Type 0} (calls : P → Option (List PortCall)) (port : P) (waited : List (Out A))
+    (account : Account)
+    → HandsOver calls port port waited waited account account 0
+none_yet calls port waited account = record {
+  handed = [];
+  as_many = refl;
+  in_order = refl;
+  none_blocked = tt;
+  made = same (calls port);
+  counted = refl;
+}
+  where
+    same : (o : Option (List PortCall)) → o ≡ option_map (λ c. c ++ []) o
+    same None = refl
+    same (Some cs) = ap Some (sym (append-nil cs))
+
+-- what waits, and what is gone, are as many as waited
+pub all_left : {A P : Type 0} (calls : P → Option (List PortCall)) (start port : P) (waited left : List (Out A))
+    (l m : Account) (n : ℕ) → HandsOver calls start port waited left l m n → n + length left ≡ length waited
+all_left calls start port waited left l m n so_far =
+    let size = length-append (packets_of so_far.handed) left in
+    let packets = length_packets so_far.handed in
+    let many = so_far.as_many in
+    let whole = ap length so_far.in_order in
+    omega arith
+  where
+    length_packets : {A : Type 0} (hs : List (Handed A)) → length (packets_of hs) ≡ length hs
+    length_packets [] = refl
+    length_packets (h ∷ hs) = ap suc (length_packets hs)

@@ -1,0 +1,22 @@
+//! How many packets may wait for one port.
+
+ghost use Rattle.std.specs.Prelude.{◌≡◌, ◌≤◌};
+ghost use Rattle.roam_port.specs.Sharing as spec;
+
+/// How many packets may wait for one port at most.
+pub const GREATEST_SHARE: usize = 256;
+
+/// How many may wait for each, however many ports there are.
+pub const LEAST_SHARE: usize = 32;
+
+/// How many places the ports share, where they are not so many that each has the least share.
+pub const PLACES: usize = 65536;
+
+/// How many packets may wait for each port, of so many ports.
+pub fn share_of(ports: usize) -> usize
+    ensures value { result ≡ spec.share_of ports }
+    ensures least { LEAST_SHARE ≤ result }
+    ensures greatest { result ≤ GREATEST_SHARE }
+{
+    LEAST_SHARE.max(GREATEST_SHARE.min(PLACES / ports.max(1)))
+}

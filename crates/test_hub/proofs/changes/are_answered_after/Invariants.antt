@@ -1,0 +1,13 @@
+use Rattle.roam_conf.specs.Shown.{shown}
+use Rattle.roam_history.specs.Books.{books_of}
+use Rattle.roam_history.specs.HubOpening.{fresh_opening}
+use Rattle.roam_hub.specs.Pausing.{opening_over}
+use Rattle.test_hub.proofs.changes.are_answered_after.Given as goal
+
+-- the hub that is paused
+abbrev pub ghosts-paused : goal.ghosts-paused
+ghosts-paused g a = record { opening = fresh_opening (shown a.config.now) a.starts.now; books = books_of a.blanks }
+
+-- the hub that is opened over its shards
+abbrev pub ghosts-goes_on : goal.ghosts-goes_on
+ghosts-goes_on g a = record { opening = opening_over (shown a.config.now) a.shards.items; books = books_of a.blanks }

@@ -1,8 +1,0 @@
-use Rattle.roam_conf.specs.Shown.{shown}
-use Rattle.roam_history.specs.Books.{books_of}
-use Rattle.roam_history.specs.HubOpening.{fresh_opening}
-use Rattle.test_hub.proofs.tick_tests.two_servers.Given as goal
-
--- the hub that is opened here
-abbrev pub ghosts-ticked : goal.ghosts-ticked
-ghosts-ticked g a = record { opening = fresh_opening (shown a.config.now) a.starts.now; books = books_of a.blanks }
