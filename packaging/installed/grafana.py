@@ -30,7 +30,7 @@ import urllib.parse
 import urllib.request
 
 HERE = pathlib.Path(__file__).resolve().parent
-ROOT = HERE.parent
+ROOT = HERE.parent.parent
 FILE = HERE / "grafana.json"
 DATA = ROOT / "docs" / "pictures" / "dashboard.data"
 PICTURE = ROOT / "docs" / "pictures" / "dashboard.svg"

@@ -396,7 +396,7 @@ def ask_at_rate(access, count, rate):
     return answered, longest
 
 
-def try_full_pipe(program, work, seconds=4, rate=1000):
+def try_full_pipe(program, work, seconds=8, rate=2000):
     text = PEER.format('peer0', '127.0.0.1') + REALM.format('a.example', 18140, 18150, WAIT, 0) + SERVER.format(28120, 28130)
     reads, writes = os.pipe()
     server, access = Server(program, work, text, 'pipe', writes), AccessServer(4)
