@@ -1,6 +1,6 @@
 //! What is shown of an answer, whether it is whole, and what a log writes whose writer fails.
 
-use crate::control::is_whole;
+use crate::control::body_of;
 use crate::line_head::LogReader;
 use crate::outlet::{Outlet, write_on};
 use crate::report::Fault;
@@ -24,8 +24,7 @@ const SHOWN: &[(&[u8], &str)] = &[
     (b"\x9b31m\xc3\xa9", "\\x9b31m\\xc3\\xa9"),
 ];
 
-#[test]
-fn nothing_that_is_shown_steers_a_terminal(rt: HostRuntime) -> Result<(), Fail> {
+pub(crate) fn nothing_that_is_shown_steers_a_terminal(rt: &HostRuntime) -> Result<(), Fail> {
     for (octets, wanted) in SHOWN {
         let shown = shown(rt.alloc(), octets)?;
         assert!(rt;
@@ -52,8 +51,15 @@ const ANSWERS: &[(&[u8], bool)] = &[
     (b"", false),
 ];
 
-#[test]
-fn an_answer_is_whole_or_cut(rt: HostRuntime) {
+/// Whether all of an answer's body came.
+fn is_whole(answer: &[u8]) -> bool {
+    match body_of(answer) {
+        Some(body) => body.is_whole,
+        None => false,
+    }
+}
+
+pub(crate) fn an_answer_is_whole_or_cut(rt: &HostRuntime) {
     for (answer, whole) in ANSWERS {
         assert!(rt; is_whole(answer) == *whole, "{answer:?}");
     }
@@ -62,8 +68,7 @@ fn an_answer_is_whole_or_cut(rt: HostRuntime) {
 /// Takes three octets at a time, and refuses each second write.
 #[derive(Drop)]
 struct Reluctant {
-    taken: [u8; 64],
-    size: usize,
+    taken: Vec<u8>,
     refuses: bool,
 }
 
@@ -73,15 +78,9 @@ impl Write for Reluctant {
         if self.refuses {
             return Err(io::Error::from(ErrorKind::Other));
         }
-        let mut count = 0;
-        for octet in octets {
-            if count < 3 && self.size < 64 {
-                self.taken[self.size] = *octet;
-                self.size += 1;
-                count += 1;
-            }
-        }
-        Ok(count)
+        let first = &octets[..octets.len().min(3)];
+        self.taken.extend_from_slice(first)?;
+        Ok(first.len())
     }
 
     fn flush(&mut self) -> io::Result<()> {
@@ -89,30 +88,24 @@ impl Write for Reluctant {
     }
 }
 
-#[test]
-fn a_log_writes_each_line_once_where_writes_fail(rt: HostRuntime) -> Result<(), Fail> {
+pub(crate) fn a_log_writes_each_line_once_where_writes_fail(rt: &HostRuntime) -> Result<(), Fail> {
     let outlet = Outlet::new(rt.alloc(), LogReader::Journal)?;
     let mut writer = Reluctant {
-        taken: [0; 64],
-        size: 0,
+        taken: Vec::new(rt.alloc()),
         refuses: false,
     };
-    outlet.tell(&rt, Level::Info, &"first");
-    outlet.tell(&rt, Level::Warn, &"second\nthird");
-    outlet.end(&rt);
-    write_on(&rt, &outlet, &mut writer, Outlet::room(rt.alloc())?);
+    outlet.tell(rt, Level::Info, &"first");
+    outlet.tell(rt, Level::Warn, &"second\nthird");
+    outlet.end(rt);
+    write_on(rt, &outlet, &mut writer, Outlet::room(rt.alloc())?);
     assert!(rt;
-        writer
-            .taken
-            .starts_with(b"<6>INFO first\n<4>WARN second\n<4>WARN third\n")
-            && writer.size == 43
+        writer.taken.as_slice() == b"<6>INFO first\n<4>WARN second\n<4>WARN third\n".as_slice()
     );
-    assert!(rt; outlet.left(&rt) == 0);
+    assert!(rt; outlet.left(rt) == 0);
     Ok(())
 }
 
-#[test]
-fn a_control_socket_that_cannot_be_had_is_told(rt: HostRuntime) {
+pub(crate) fn a_control_socket_that_cannot_be_had_is_told(rt: &HostRuntime) {
     let mut err = Vec::new(rt.alloc());
     let fault = ServeFault::Control(SocketPath::new("/run/roam/control"), Reason(98));
     let ended = Fault::of_server(fault).tell(&mut err);

@@ -20,10 +20,14 @@
 //!   write; 2 comes exactly when nothing was asked for | `command`: `status`, `fault`, `usage`, `untouched`
 #![tactic(auto)]
 
+#[cfg(test)]
+mod answer_tests;
 mod check;
 mod command_line;
 mod compare;
 mod control;
+#[cfg(test)]
+mod examples;
 mod line_head;
 mod outlet;
 mod output;

@@ -285,34 +285,31 @@ const NO_COMMANDS: &[&[&str]] = &[
     &["a", "b", "c"],
 ];
 
-#[test]
-fn other_words_give_the_usage(rt: HostRuntime) {
+pub(crate) fn other_words_give_the_usage(rt: &HostRuntime) {
     for words in NO_COMMANDS {
-        expect(&rt, words, 2, "", USAGE);
+        expect(rt, words, 2, "", USAGE);
     }
 }
 
-#[test]
-fn usage_and_version_are_printed(rt: HostRuntime) {
+pub(crate) fn usage_and_version_are_printed(rt: &HostRuntime) {
     for word in ["help", "--help", "-h"] {
-        expect(&rt, &[word], 0, USAGE, "");
+        expect(rt, &[word], 0, USAGE, "");
     }
     for word in ["version", "--version", "-V"] {
-        expect(&rt, &[word], 0, VERSION, "");
+        expect(rt, &[word], 0, VERSION, "");
     }
 }
 
-#[test]
-fn where_nobody_listens_there_is_no_answer(rt: HostRuntime) -> Result<(), Fail> {
+pub(crate) fn where_nobody_listens_there_is_no_answer(rt: &HostRuntime) -> Result<(), Fail> {
     let process = process::id(rt.process());
-    let path = file(&rt, process, "no-socket", b"")?;
+    let path = file(rt, process, "no-socket", b"")?;
     for path in ["/nowhere/control", path.as_str()] {
         let told = format!(in rt.alloc(); "roam: {path}: no answer\n")?;
         for order in ["status", "metrics", "stop", "reload"] {
-            expect(&rt, &["ctl", path, order], 1, "", told.as_str());
+            expect(rt, &["ctl", path, order], 1, "", told.as_str());
         }
     }
-    fs::remove_file(&rt, path.as_str())?;
+    fs::remove_file(rt, path.as_str())?;
     Ok(())
 }
 
@@ -342,44 +339,42 @@ fn expect_comparison<
     Ok(())
 }
 
-#[test]
-fn two_configurations_are_compared(rt: HostRuntime) -> Result<(), Fail> {
+pub(crate) fn two_configurations_are_compared(rt: &HostRuntime) -> Result<(), Fail> {
     let process = process::id(rt.process());
     let all =
         "realm a.example: carried over\nrealm b.example: carried over\nrealm c.example: carried over\n";
     let more = format!(in rt.alloc(); "{LARGER}{FOURTH}")?;
     let added = format!(in rt.alloc(); "may follow\n{all}realm d.example: added\n")?;
-    expect_comparison(&rt, process, LARGER, more.as_str(), added.as_str())?;
+    expect_comparison(rt, process, LARGER, more.as_str(), added.as_str())?;
     let removed = format!(in rt.alloc();
         "may not follow: fewer realms\n{all}realm d.example: removed\n"
     )?;
-    expect_comparison(&rt, process, more.as_str(), LARGER, removed.as_str())?;
+    expect_comparison(rt, process, more.as_str(), LARGER, removed.as_str())?;
     Ok(())
 }
 
-#[test]
-fn a_configuration_is_counted(rt: HostRuntime) -> Result<(), Fail> {
+pub(crate) fn a_configuration_is_counted(rt: &HostRuntime) -> Result<(), Fail> {
     let process = process::id(rt.process());
-    let least = file(&rt, process, "least.conf", CONFIGURATION.as_bytes())?;
-    let advice = lines_of(&rt, least.as_str(), LEAST_ADVICE)?;
+    let least = file(rt, process, "least.conf", CONFIGURATION.as_bytes())?;
+    let advice = lines_of(rt, least.as_str(), LEAST_ADVICE)?;
     expect(
-        &rt,
+        rt,
         &["check", least.as_str()],
         0,
         "ok realms 1 peers 1 shards 1\n",
         advice.as_str(),
     );
-    let larger = file(&rt, process, "larger.conf", LARGER.as_bytes())?;
-    let advice = lines_of(&rt, larger.as_str(), ADVICE)?;
+    let larger = file(rt, process, "larger.conf", LARGER.as_bytes())?;
+    let advice = lines_of(rt, larger.as_str(), ADVICE)?;
     expect(
-        &rt,
+        rt,
         &["check", larger.as_str()],
         0,
         "ok realms 3 peers 2 shards 5\n",
         advice.as_str(),
     );
-    fs::remove_file(&rt, least.as_str())?;
-    fs::remove_file(&rt, larger.as_str())?;
+    fs::remove_file(rt, least.as_str())?;
+    fs::remove_file(rt, larger.as_str())?;
     Ok(())
 }
 
@@ -437,20 +432,19 @@ fn changed<R: AllocGlobal>(rt: &R, text: &str, old: &str, new: &str) -> Result<S
     Ok(format!(in rt.alloc(); "{front}{new}{back}")?)
 }
 
-#[test]
-fn a_configuration_is_refused_by_name(rt: HostRuntime) -> Result<(), Fail> {
+pub(crate) fn a_configuration_is_refused_by_name(rt: &HostRuntime) -> Result<(), Fail> {
     let process = process::id(rt.process());
     for (old, new, name, place) in REFUSED {
-        let text = changed(&rt, CONFIGURATION, old, new)?;
-        let path = file(&rt, process, "refused.conf", text.as_bytes())?;
+        let text = changed(rt, CONFIGURATION, old, new)?;
+        let path = file(rt, process, "refused.conf", text.as_bytes())?;
         let path = path.as_str();
         let told = format!(in rt.alloc(); "roam: {path}: {name}\n{path}{place}\n")?;
-        expect(&rt, &["check", path], 1, "", told.as_str());
+        expect(rt, &["check", path], 1, "", told.as_str());
         // Its own text is no script, and that isn't looked at.
-        expect(&rt, &["sim", path, path], 1, "", told.as_str());
-        expect(&rt, &["serve", path], 1, "", told.as_str());
-        expect(&rt, &["serve", path, "86400000"], 1, "", told.as_str());
-        fs::remove_file(&rt, path)?;
+        expect(rt, &["sim", path, path], 1, "", told.as_str());
+        expect(rt, &["serve", path], 1, "", told.as_str());
+        expect(rt, &["serve", path, "86400000"], 1, "", told.as_str());
+        fs::remove_file(rt, path)?;
     }
     Ok(())
 }
@@ -469,20 +463,19 @@ fn expect_unreadable<
     Ok(())
 }
 
-#[test]
-fn what_is_no_text_is_unreadable(rt: HostRuntime) -> Result<(), Fail> {
+pub(crate) fn what_is_no_text_is_unreadable(rt: &HostRuntime) -> Result<(), Fail> {
     let process = process::id(rt.process());
-    let accepted = file(&rt, process, "good.conf", CONFIGURATION.as_bytes())?;
-    let refused = file(&rt, process, "bad.conf", b"shards = \n")?;
-    let binary = file(&rt, process, "binary", &[b'#', 0xff, b'\n'])?;
-    let folder = env::temp_dir(&rt)?;
-    expect_unreadable(&rt, accepted.as_str(), refused.as_str(), binary.as_str())?;
-    expect_unreadable(&rt, accepted.as_str(), refused.as_str(), folder.as_str())?;
-    expect_unreadable(&rt, accepted.as_str(), refused.as_str(), "/nowhere/at/all")?;
-    expect_unreadable(&rt, accepted.as_str(), refused.as_str(), "")?;
-    fs::remove_file(&rt, accepted.as_str())?;
-    fs::remove_file(&rt, refused.as_str())?;
-    fs::remove_file(&rt, binary.as_str())?;
+    let accepted = file(rt, process, "good.conf", CONFIGURATION.as_bytes())?;
+    let refused = file(rt, process, "bad.conf", b"shards = \n")?;
+    let binary = file(rt, process, "binary", &[b'#', 0xff, b'\n'])?;
+    let folder = env::temp_dir(rt)?;
+    expect_unreadable(rt, accepted.as_str(), refused.as_str(), binary.as_str())?;
+    expect_unreadable(rt, accepted.as_str(), refused.as_str(), folder.as_str())?;
+    expect_unreadable(rt, accepted.as_str(), refused.as_str(), "/nowhere/at/all")?;
+    expect_unreadable(rt, accepted.as_str(), refused.as_str(), "")?;
+    fs::remove_file(rt, accepted.as_str())?;
+    fs::remove_file(rt, refused.as_str())?;
+    fs::remove_file(rt, binary.as_str())?;
     Ok(())
 }
 
@@ -518,43 +511,41 @@ fn expect_faulty<
     Ok(())
 }
 
-#[test]
-fn a_faulty_line_is_refused_by_its_number(rt: HostRuntime) -> Result<(), Fail> {
+pub(crate) fn a_faulty_line_is_refused_by_its_number(rt: &HostRuntime) -> Result<(), Fail> {
     let process = process::id(rt.process());
-    let configuration = file(&rt, process, "faulty.conf", CONFIGURATION.as_bytes())?;
+    let configuration = file(rt, process, "faulty.conf", CONFIGURATION.as_bytes())?;
     for (_, line) in FAULTY {
-        expect_faulty(&rt, process, configuration.as_str(), line)?;
+        expect_faulty(rt, process, configuration.as_str(), line)?;
     }
     let mut too_long = String::from_str(rt.alloc(), "A 0 acct 192.0.2.1:5000 ")?;
     for _ in 0..65536u32 {
         too_long.push_str("0a")?;
     }
-    expect_faulty(&rt, process, configuration.as_str(), too_long.as_str())?;
-    fs::remove_file(&rt, configuration.as_str())?;
+    expect_faulty(rt, process, configuration.as_str(), too_long.as_str())?;
+    fs::remove_file(rt, configuration.as_str())?;
     Ok(())
 }
 
-#[test]
-fn a_script_is_run(rt: HostRuntime) -> Result<(), Fail> {
+pub(crate) fn a_script_is_run(rt: &HostRuntime) -> Result<(), Fail> {
     let process = process::id(rt.process());
-    let configuration = file(&rt, process, "run.conf", CONFIGURATION.as_bytes())?;
+    let configuration = file(rt, process, "run.conf", CONFIGURATION.as_bytes())?;
     for (text, printed) in [
         (EXCHANGE, EXCHANGED),
         ("", ""),
         ("# T\n\n", ""),
         ("T 0 0", ""),
     ] {
-        let script = file(&rt, process, "run.script", text.as_bytes())?;
+        let script = file(rt, process, "run.script", text.as_bytes())?;
         expect(
-            &rt,
+            rt,
             &["sim", configuration.as_str(), script.as_str()],
             0,
             printed,
             "",
         );
-        fs::remove_file(&rt, script.as_str())?;
+        fs::remove_file(rt, script.as_str())?;
     }
-    fs::remove_file(&rt, configuration.as_str())?;
+    fs::remove_file(rt, configuration.as_str())?;
     Ok(())
 }
 
@@ -590,19 +581,18 @@ fn expect_refused<
     assert!(rt; status == 1, "{words:?} ends with {status}");
 }
 
-#[test]
-fn a_refused_write_is_told(rt: HostRuntime) -> Result<(), Fail> {
+pub(crate) fn a_refused_write_is_told(rt: &HostRuntime) -> Result<(), Fail> {
     let process = process::id(rt.process());
-    let configuration = file(&rt, process, "write.conf", CONFIGURATION.as_bytes())?;
-    let script = file(&rt, process, "write.script", EXCHANGE.as_bytes())?;
-    expect_refused(&rt, &["check", configuration.as_str()], 29);
+    let configuration = file(rt, process, "write.conf", CONFIGURATION.as_bytes())?;
+    let script = file(rt, process, "write.script", EXCHANGE.as_bytes())?;
+    expect_refused(rt, &["check", configuration.as_str()], 29);
     expect_refused(
-        &rt,
+        rt,
         &["sim", configuration.as_str(), script.as_str()],
         EXCHANGED.len(),
     );
-    fs::remove_file(&rt, configuration.as_str())?;
-    fs::remove_file(&rt, script.as_str())?;
+    fs::remove_file(rt, configuration.as_str())?;
+    fs::remove_file(rt, script.as_str())?;
     Ok(())
 }
 
@@ -616,10 +606,9 @@ fn status_untold<R: Files + AllocGlobal + Threads + Wait + Clock + Net + RandomS
     command(rt, words, &mut out, &mut room.as_mut_slice())
 }
 
-#[test]
-fn a_fault_that_cannot_be_told_keeps_its_status(rt: HostRuntime) {
-    assert!(rt; status_untold(&rt, &[]) == 2);
-    assert!(rt; status_untold(&rt, &["check", "/nowhere"]) == 1);
+pub(crate) fn a_fault_that_cannot_be_told_keeps_its_status(rt: &HostRuntime) {
+    assert!(rt; status_untold(rt, &[]) == 2);
+    assert!(rt; status_untold(rt, &["check", "/nowhere"]) == 1);
     assert!(rt; Fault::Memory.tell(&mut Stuck).status == 3);
     let mut err = Vec::new(rt.alloc());
     assert!(rt; Fault::Memory.tell(&mut err).status == 3);
@@ -666,8 +655,7 @@ const SERVER_FAULTS: &[(ServeFault, u8, &str)] = &[
     (ServeFault::Memory, 3, "roam: out of memory\n"),
 ];
 
-#[test]
-fn what_ends_a_server_is_told(rt: HostRuntime) {
+pub(crate) fn what_ends_a_server_is_told(rt: &HostRuntime) {
     for (fault, status, told) in SERVER_FAULTS {
         let mut err = Vec::new(rt.alloc());
         let ended = Fault::of_server(*fault).tell(&mut err).status;

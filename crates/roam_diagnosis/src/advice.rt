@@ -4,9 +4,10 @@ use crate::document::{Document, Located};
 use crate::lines::Lines;
 use crate::place::TableKind;
 use crate::unsaid::Unsaid;
+use crate::{names, servers};
 use std::fmt::Write;
 
-/// What is unwise in a table.
+/// What is unwise in a table, in what stands under a key.
 #[derive(Clone, Copy)]
 enum Unwise {
     /// `require_seal` isn't true.
@@ -15,18 +16,67 @@ enum Unwise {
     LongHold,
     /// One exchange a second, each held for `hold`, takes more entries than there may be.
     FewEntries,
-    /// The seed is all zeros.
-    ZeroSeed,
+    /// A server rests for a shorter time than it takes to find that it is silent.
+    ShortRest,
+    /// A secret of less than 8 octets.
+    ShortSecret,
+    /// A secret of a sample.
+    SampleSecret,
+    /// A socket at all addresses.
+    AnyAddress,
+    /// A home server at one of the broker's own endpoints.
+    OwnServer,
+    /// Another secret than an earlier server has that is the same for the broker.
+    OtherSecret,
+    /// The name of what FreeRADIUS has for all other names.
+    Default,
+    /// Names below this one go to the realm of all names.
+    OpenBelow,
+}
+
+/// The numbers of a realm that the advice is about, also where they aren't written.
+fn number(at: Located<'_>, key: &str) -> u64 {
+    let default = match key {
+        "tries" => 3,
+        "wait" => 2000,
+        "hold" => 10000,
+        "max_pending" => 4096,
+        _ => 30000,
+    };
+    at.keys.number_or(key, default)
+}
+
+/// Whether a server that rests does so for a shorter time than it takes to find that it is silent.
+fn has_short_rest(at: Located<'_>) -> bool {
+    let rest = number(at, "rest");
+    0 < rest && rest < number(at, "tries").saturating_mul(number(at, "wait"))
+}
+
+/// Whether the text under the key is an endpoint at all addresses.
+fn is_at_any_address(at: Located<'_>, key: &str) -> bool {
+    match at.keys.text(key) {
+        Some(endpoint) => endpoint.starts_with("0.0.0.0:"),
+        None => false,
+    }
 }
 
 impl Unwise {
-    fn is_in(self, at: Located<'_>) -> bool {
-        let keys = at.keys;
+    fn is_in(self, document: &Document<'_>, at: Located<'_>, key: &str) -> bool {
         match self {
-            Unwise::Unsealed => !keys.is_set("require_seal"),
-            Unwise::LongHold => keys.number("hold") > 30000,
-            Unwise::FewEntries => keys.number("max_pending") < keys.number("hold") / 1000,
-            Unwise::ZeroSeed => keys.has_seed_of_zeros(),
+            Unwise::Unsealed => !at.keys.is_set("require_seal"),
+            Unwise::LongHold => number(at, "hold") > 30000,
+            Unwise::FewEntries => number(at, "max_pending") < number(at, "hold") / 1000,
+            Unwise::ShortRest => has_short_rest(at),
+            Unwise::ShortSecret => match at.keys.secret_length() {
+                Some(length) => length < 8,
+                None => false,
+            },
+            Unwise::SampleSecret => at.keys.has_sample_secret(),
+            Unwise::AnyAddress => is_at_any_address(at, key),
+            Unwise::OwnServer => servers::is_own(document, at, key),
+            Unwise::OtherSecret => servers::has_other_secret(document, at),
+            Unwise::Default => names::has_default(at, key),
+            Unwise::OpenBelow => names::is_open_below(document, at),
         }
     }
 }
@@ -35,18 +85,55 @@ impl Unwise {
 #[derive(Clone, Copy)]
 struct Advice(TableKind, &'static str, Unwise, &'static str);
 
-const ADVICE: [Advice; 5] = [
+const SHORT_SECRET: &str = "has less than 8 octets, and can be found by trying";
+
+const SAMPLE_SECRET: &str = "is a sample's, which everybody knows: make one of your own";
+
+const ANY_ADDRESS: &str =
+    "is 0.0.0.0: replies may leave from another address than the one that was asked";
+
+const OWN_SERVER: &str = "is the broker's own: what is sent there comes back to it";
+
+const DEFAULT: &str = "is a name as any other: what FreeRADIUS calls DEFAULT is also = [\"*\"]";
+
+/// The advice for each kind of tables; that for sockets first.
+const OF_SOCKETS: [Advice; 4] = [
+    Advice(TableKind::Top, "auth", Unwise::AnyAddress, ANY_ADDRESS),
+    Advice(TableKind::Top, "acct", Unwise::AnyAddress, ANY_ADDRESS),
+    Advice(TableKind::Realm, "out", Unwise::AnyAddress, ANY_ADDRESS),
+    Advice(TableKind::Realm, "reverse", Unwise::AnyAddress, ANY_ADDRESS),
+];
+
+const OF_PEERS: [Advice; 3] = [
     Advice(
-        TableKind::Top,
-        "seed",
-        Unwise::ZeroSeed,
-        "is all zeros, so with --seed-of-file what is drawn from it can be guessed",
+        TableKind::Peer,
+        "secret",
+        Unwise::SampleSecret,
+        SAMPLE_SECRET,
     ),
+    Advice(TableKind::Peer, "secret", Unwise::ShortSecret, SHORT_SECRET),
     Advice(
         TableKind::Peer,
         "require_seal",
         Unwise::Unsealed,
         "isn't true: an Access-Request without a Message-Authenticator, which can be forged, is taken",
+    ),
+];
+
+const OF_REALMS: [Advice; 6] = [
+    Advice(TableKind::Realm, "name", Unwise::Default, DEFAULT),
+    Advice(TableKind::Realm, "also", Unwise::Default, DEFAULT),
+    Advice(
+        TableKind::Realm,
+        "name",
+        Unwise::OpenBelow,
+        "is without *. and this name in also: names below it go to the realm of *",
+    ),
+    Advice(
+        TableKind::Realm,
+        "rest",
+        Unwise::ShortRest,
+        "is less than tries times wait, which it takes to find that a server is silent",
     ),
     Advice(
         TableKind::Realm,
@@ -59,6 +146,29 @@ const ADVICE: [Advice; 5] = [
         "max_pending",
         Unwise::FewEntries,
         "is less than what one exchange a second takes, with replies held for hold",
+    ),
+];
+
+const OF_SERVERS: [Advice; 6] = [
+    Advice(TableKind::Server, "auth", Unwise::OwnServer, OWN_SERVER),
+    Advice(TableKind::Server, "acct", Unwise::OwnServer, OWN_SERVER),
+    Advice(
+        TableKind::Server,
+        "secret",
+        Unwise::SampleSecret,
+        SAMPLE_SECRET,
+    ),
+    Advice(
+        TableKind::Server,
+        "secret",
+        Unwise::ShortSecret,
+        SHORT_SECRET,
+    ),
+    Advice(
+        TableKind::Server,
+        "secret",
+        Unwise::OtherSecret,
+        "isn't what this server has in another realm: it knows the broker by one address, so one is wrong",
     ),
     Advice(
         TableKind::Server,
@@ -74,7 +184,7 @@ fn say(document: &Document<'_>, advice: Advice, lines: &mut Lines) -> Result<(),
     let mut first = None;
     let mut more = 0u32;
     for at in document.tables.as_slice() {
-        if at.place.kind == kind && unwise.is_in(*at) {
+        if at.place.kind == kind && unwise.is_in(document, *at, key) {
             match first {
                 None => first = Some(*at),
                 Some(_) => more = more.saturating_add(1),
@@ -92,10 +202,17 @@ fn say(document: &Document<'_>, advice: Advice, lines: &mut Lines) -> Result<(),
     lines.push(line)
 }
 
-/// Says what is unwise.
-pub(crate) fn say_advice(document: &Document<'_>, lines: &mut Lines) -> Result<(), Unsaid> {
-    for advice in &ADVICE {
+fn say_all(document: &Document<'_>, advices: &[Advice], lines: &mut Lines) -> Result<(), Unsaid> {
+    for advice in advices {
         say(document, *advice, lines)?;
     }
     Ok(())
+}
+
+/// Says what is unwise.
+pub(crate) fn say_advice(document: &Document<'_>, lines: &mut Lines) -> Result<(), Unsaid> {
+    say_all(document, &OF_SOCKETS, lines)?;
+    say_all(document, &OF_PEERS, lines)?;
+    say_all(document, &OF_REALMS, lines)?;
+    say_all(document, &OF_SERVERS, lines)
 }

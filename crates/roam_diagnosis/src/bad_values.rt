@@ -4,8 +4,9 @@ use crate::document::{Document, Located};
 use crate::forms::{ValueForm, misfit};
 use crate::line::Line;
 use crate::lines::Lines;
+use crate::place::TableKind;
 use crate::quoted::Quoted;
-use crate::rules::{Rule, has_rule, rules_of};
+use crate::rules::{Rule, has_rule, header_of, owner_of, rules_of};
 use crate::unsaid::Unsaid;
 use std::fmt;
 use std::fmt::Write;
@@ -22,6 +23,35 @@ fn write_value(line: &mut Line, value: &Value) -> fmt::Result {
     }
 }
 
+/// Writes how a value that isn't of its form is mended, where that can be told by its type.
+fn write_remedy(line: &mut Line, form: ValueForm, value: &Value, header: &str) -> fmt::Result {
+    match (form, value) {
+        (ValueForm::Number(..) | ValueForm::Flag, Value::String(_)) => {
+            line.write_str(": leave the quotation marks out")
+        }
+        (ValueForm::Number(..), Value::Float(_)) => line.write_str(": it is a whole number"),
+        (ValueForm::Names, Value::String(text)) => {
+            write!(line, ": write [{}]", Quoted(text.as_str()))
+        }
+        (ValueForm::Tables(_), Value::Table(_)) => write!(line, ": write [[{header}]]"),
+        (ValueForm::Number(..) | ValueForm::Flag | ValueForm::Names | ValueForm::Tables(_), _) => {
+            Ok(())
+        }
+        (_, Value::Integer(_) | Value::Float(_) | Value::Boolean(_)) => {
+            line.write_str(": put it in quotation marks")
+        }
+        _ => Ok(()),
+    }
+}
+
+/// Writes how long a secret is that isn't of its form, or that it is no text.
+fn write_length(line: &mut Line, length: Option<usize>) -> fmt::Result {
+    match length {
+        Some(length) => write!(line, ": it has {length}"),
+        None => line.write_str(": put it in quotation marks"),
+    }
+}
+
 /// Says that what stands under a key isn't of its form. A secret isn't shown.
 fn say_bad(
     document: &Document<'_>,
@@ -32,11 +62,32 @@ fn say_bad(
 ) -> Result<(), Unsaid> {
     let mut line = document.line_at(at, key)?;
     line.write_str(": ")?;
-    if let Some(value) = at.keys.value(key) {
-        write_value(&mut line, misfit(form, value))?;
+    match at.keys.value(key) {
+        Some(value) => {
+            write_value(&mut line, misfit(form, value))?;
+            write!(line, "{form}")?;
+            write_remedy(&mut line, form, value, header_of(key))?;
+        }
+        None => {
+            write!(line, "{form}")?;
+            if let ValueForm::Secret = form {
+                write_length(&mut line, at.keys.secret_length())?;
+            }
+        }
     }
-    write!(line, "{form}")?;
     lines.push(line)
+}
+
+/// Writes where a key belongs that stands in a table of another kind.
+fn write_owner(line: &mut Line, here: TableKind, key: &str) -> fmt::Result {
+    match owner_of(here, key) {
+        Some(TableKind::Top) => {
+            line.write_str(": it is one of the top table, so put it before the first table")
+        }
+        Some(TableKind::Realm) if key == "server" => line.write_str(": write [[realm.server]]"),
+        Some(owner) => write!(line, ": it is one of {owner}"),
+        None => Ok(()),
+    }
 }
 
 /// Says that a table of the kind doesn't have a key.
@@ -48,6 +99,7 @@ fn say_unknown(
 ) -> Result<(), Unsaid> {
     let mut line = document.line_at(at, key)?;
     write!(line, ": is no key of {}", at.place.kind)?;
+    write_owner(&mut line, at.place.kind, key)?;
     lines.push(line)
 }
 

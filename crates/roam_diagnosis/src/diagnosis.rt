@@ -15,12 +15,13 @@ use toml::Table;
 /// Says where the fault of a document stands.
 fn say_fault(
     alloc: Global,
+    path: &str,
     text: &str,
     table: &Table,
     fault: ConfFault,
     lines: &mut Lines,
 ) -> Result<(), Unsaid> {
-    let document = Document::new(alloc, text, table)?;
+    let document = Document::new(alloc, path, text, table)?;
     match fault {
         ConfFault::Missing => say_missing(&document, lines),
         ConfFault::BadValue => say_bad_values(&document, lines),
@@ -29,8 +30,14 @@ fn say_fault(
 }
 
 /// Says what is unwise in a document.
-fn say_unwise(alloc: Global, text: &str, table: &Table, lines: &mut Lines) -> Result<(), Unsaid> {
-    let document = Document::new(alloc, text, table)?;
+fn say_unwise(
+    alloc: Global,
+    path: &str,
+    text: &str,
+    table: &Table,
+    lines: &mut Lines,
+) -> Result<(), Unsaid> {
+    let document = Document::new(alloc, path, text, table)?;
     say_advice(&document, lines)
 }
 
@@ -45,22 +52,22 @@ fn unless_unsaid(alloc: Global, said: Result<(), Unsaid>, lines: Lines) -> Lines
 /// Where the fault stands for which a configuration is refused: a line for each place, ten at most. There are none
 /// where memory is wanting.
 ///
-/// `fault` is what `read_config` answered for the text.
-pub fn diagnose(alloc: Global, text: &str, fault: ConfFault) -> Lines {
+/// Each begins with the path of the file and the line in it. `fault` is what `read_config` answered for the text.
+pub fn diagnose(alloc: Global, path: &str, text: &str, fault: ConfFault) -> Lines {
     let mut lines = Lines::new(alloc);
     let said = match toml::table_from_str(alloc, text) {
-        Ok(table) => say_fault(alloc, text, &table, fault, &mut lines),
-        Err(error) => say_syntax(alloc, text, &error, &mut lines),
+        Ok(table) => say_fault(alloc, path, text, &table, fault, &mut lines),
+        Err(error) => say_syntax(alloc, path, text, &error, &mut lines),
     };
     unless_unsaid(alloc, said, lines)
 }
 
 /// What is unwise in a configuration that was accepted: a line for each advice, with the first place that it is for,
 /// ten at most. There are none where memory is wanting.
-pub fn advise(alloc: Global, text: &str) -> Lines {
+pub fn advise(alloc: Global, path: &str, text: &str) -> Lines {
     let mut lines = Lines::new(alloc);
     let said = match toml::table_from_str(alloc, text) {
-        Ok(table) => say_unwise(alloc, text, &table, &mut lines),
+        Ok(table) => say_unwise(alloc, path, text, &table, &mut lines),
         Err(_) => Ok(()),
     };
     unless_unsaid(alloc, said, lines)

@@ -20,10 +20,11 @@ pub(crate) struct Located<'a> {
     pub named: Keys<'a>,
 }
 
-/// A document: its text, and its tables that a configuration may have, in the order of the text.
+/// A document: its path, its text, and its tables that a configuration may have, in the order of the text.
 #[derive(Drop)]
 pub(crate) struct Document<'a> {
     pub alloc: Global,
+    pub path: &'a str,
     pub text: &'a str,
     pub tables: Vec<Located<'a>>,
 }
@@ -40,11 +41,13 @@ impl<'a> Document<'a> {
     /// The document of a text that has this table.
     pub(crate) fn new(
         alloc: Global,
+        path: &'a str,
         text: &'a str,
         table: &'a Table,
     ) -> Result<Document<'a>, Unsaid> {
         let mut document = Document {
             alloc,
+            path,
             text,
             tables: Vec::new(alloc),
         };
@@ -96,14 +99,28 @@ impl<'a> Document<'a> {
         Ok(())
     }
 
-    /// A line that begins with the place of a key: its line in the text, its table and its name.
+    /// The top table, which has a place in each document.
+    pub(crate) fn top(&self) -> Option<Keys<'a>> {
+        match self.tables.first() {
+            Some(at) => Some(at.keys),
+            None => None,
+        }
+    }
+
+    /// A line that begins with the place of a key, as `PATH:LINE:`, its table and its name.
     pub(crate) fn line_at(&self, at: Located<'_>, key: &str) -> Result<Line, Unsaid> {
-        let mut line = Line::new(self.alloc)?;
-        self.write_place(&mut line, at, key)?;
+        let mut line = Line::new(self.alloc);
+        let path = self.path;
+        match nearest_line(self.text, at.place, key) {
+            0 => write!(line, "{path}: ")?,
+            number => write!(line, "{path}:{number}: ")?,
+        }
+        write_table(&mut line, at)?;
+        line.write_str(key)?;
         Ok(line)
     }
 
-    /// Writes the place of a key.
+    /// Writes the place of a key, within a line.
     pub(crate) fn write_place(&self, line: &mut Line, at: Located<'_>, key: &str) -> fmt::Result {
         write_number(line, nearest_line(self.text, at.place, key))?;
         write_table(line, at)?;

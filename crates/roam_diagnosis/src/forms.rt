@@ -10,6 +10,8 @@ pub(crate) enum ValueForm {
     /// An integer from the first to the second.
     Number(u32, u32),
     Flag,
+    /// A boolean, or one of three texts: of which exchanges lines tell.
+    ExchangeLines,
     /// 64 hexadecimal digits.
     Seed,
     /// An IPv4 address.
@@ -88,6 +90,7 @@ fn text_fits(form: ValueForm, text: &str) -> bool {
         ValueForm::PeerName => is_name(text, 64, true),
         ValueForm::RealmName => is_name(text, 253, false),
         ValueForm::Names => is_pattern(text),
+        ValueForm::ExchangeLines => text == "all" || text == "final" || text == "none",
         _ => false,
     }
 }
@@ -126,7 +129,7 @@ pub(crate) fn fits(form: ValueForm, value: &Value) -> bool {
             _ => false,
         },
         Value::Boolean(_) => match form {
-            ValueForm::Flag => true,
+            ValueForm::Flag | ValueForm::ExchangeLines => true,
             _ => false,
         },
         Value::String(text) => match form {
@@ -158,6 +161,11 @@ impl fmt::Display for ValueForm {
         match *self {
             ValueForm::Number(least, most) => write!(f, "is not in {least}..{most}"),
             ValueForm::Flag => f.write_str("is neither true nor false"),
+            ValueForm::ExchangeLines => {
+                f.write_str(
+                    "is none of \"all\", \"final\" and \"none\", and neither true nor false",
+                )
+            }
             ValueForm::Seed => f.write_str("is not a text of 64 hexadecimal digits"),
             ValueForm::Address => f.write_str("is no IPv4 address in decimal, as \"192.0.2.1\""),
             ValueForm::Endpoint => {
@@ -175,5 +183,16 @@ impl fmt::Display for ValueForm {
             }
             ValueForm::Tables(most) => write!(f, "is no array of 1..{most} tables"),
         }
+    }
+}
+
+/// What a value of the form is, for one that no document can have.
+pub(crate) fn write_wanted<W: fmt::Write>(form: ValueForm, f: &mut W) -> fmt::Result {
+    match form {
+        ValueForm::Number(least, most) => write!(f, "a whole number in {least}..{most}"),
+        ValueForm::Flag => f.write_str("true or false"),
+        ValueForm::Names => f.write_str("an array of texts, as [\"*.example.org\"]"),
+        ValueForm::Tables(_) => f.write_str("tables, each below a header of its own"),
+        _ => f.write_str("a text in quotation marks"),
     }
 }

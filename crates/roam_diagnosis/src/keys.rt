@@ -30,10 +30,34 @@ impl<'a> Keys<'a> {
         }
     }
 
-    /// Whether a seed stands there that is all zeros.
-    pub(crate) fn has_seed_of_zeros(self) -> bool {
-        match self.table.get("seed") {
-            Some(Value::String(seed)) => seed.as_bytes().iter().all(|octet| *octet == b'0'),
+    /// The secret, where a text stands there.
+    fn secret(self) -> Option<&'a str> {
+        match self.table.get("secret") {
+            Some(Value::String(secret)) => Some(secret.as_str()),
+            _ => None,
+        }
+    }
+
+    /// How many octets the secret has, where it is a text.
+    pub(crate) fn secret_length(self) -> Option<usize> {
+        match self.secret() {
+            Some(secret) => Some(secret.len()),
+            None => None,
+        }
+    }
+
+    /// Whether the secret is one of a sample's.
+    pub(crate) fn has_sample_secret(self) -> bool {
+        match self.secret() {
+            Some(secret) => secret.starts_with("change me"),
+            None => false,
+        }
+    }
+
+    /// Whether two tables have the same secret.
+    pub(crate) fn has_secret_of(self, other: Keys<'_>) -> bool {
+        match (self.secret(), other.secret()) {
+            (Some(one), Some(another)) => one == another,
             _ => false,
         }
     }
@@ -65,11 +89,11 @@ impl<'a> Keys<'a> {
         }
     }
 
-    /// The integer under a key, or 0.
-    pub(crate) fn number(self, key: &str) -> i64 {
+    /// The integer under a key, or what holds where it is absent.
+    pub(crate) fn number_or(self, key: &str, default: u32) -> u64 {
         match self.value(key) {
-            Some(Value::Integer(number)) => *number,
-            _ => 0,
+            Some(Value::Integer(number)) if 0 <= *number => *number as u64,
+            _ => u64::from(default),
         }
     }
 

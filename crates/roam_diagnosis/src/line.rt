@@ -3,12 +3,11 @@
 ghost use Rattle.std.specs.Prelude.{◌≡◌, List, ℕ, IsTrue, IfOk, string_bytes};
 ghost use Rattle.roam_diagnosis.specs.Line.{is_line, is_printable};
 
-use crate::unsaid::Unsaid;
 use std::alloc::{AllocError, Global};
 use std::fmt;
 use std::marker::Model;
 
-/// A line, without its line feed: two spaces, and then printable characters of ASCII alone.
+/// A line, without its line feed: printable characters of ASCII alone.
 ///
 /// Contracts see the octets of its text.
 #[derive(Drop)]
@@ -33,13 +32,13 @@ fn is_printable(octet: u8) -> bool
 
 impl Line {
     /// A line on which nothing is said yet.
-    pub(crate) fn new(alloc: Global) -> Result<Line, Unsaid> {
-        Ok(Line {
-            text: String::from_str(alloc, "  ")?,
-        })
+    pub(crate) fn new(alloc: Global) -> Line {
+        Line {
+            text: String::new(alloc),
+        }
     }
 
-    /// What is said, with the two spaces before it.
+    /// What is said.
     pub fn as_str(&self) -> &str
         ensures text { result.now ≡ self.now }
         ensures line { IsTrue (is_line self.now) }

@@ -17,6 +17,14 @@ fn first_unknown<'a>(at: Located<'a>) -> Option<&'a str> {
     None
 }
 
+/// Whether the top table has servers, which belong to a realm.
+fn has_servers_apart(document: &Document<'_>) -> bool {
+    match document.top() {
+        Some(top) => top.has("server"),
+        None => false,
+    }
+}
+
 /// Says that a key is absent.
 fn say(
     document: &Document<'_>,
@@ -33,6 +41,9 @@ fn say(
             Quoted(unknown),
             at.place.kind
         )?;
+    }
+    if key == "server" && has_servers_apart(document) {
+        line.write_str(": write [[realm.server]] in place of [[server]]")?;
     }
     lines.push(line)
 }

@@ -8,18 +8,18 @@ use crate::place::TableKind;
 pub(crate) struct Rule(pub &'static str, pub bool, pub ValueForm);
 
 const TOP: [Rule; 14] = [
-    Rule("shards", true, ValueForm::Number(1, 64)),
-    Rule("seed", true, ValueForm::Seed),
+    Rule("shards", false, ValueForm::Number(1, 64)),
+    Rule("seed", false, ValueForm::Seed),
     Rule("auth", true, ValueForm::Endpoint),
     Rule("acct", true, ValueForm::Endpoint),
-    Rule("trace_limit", true, ValueForm::Number(1, 1000000)),
+    Rule("trace_limit", false, ValueForm::Number(1, 1000000)),
     Rule("trace_octets", false, ValueForm::Number(1, 1073741824)),
     Rule("max_hops", false, ValueForm::Number(1, 100)),
     Rule("status_server", false, ValueForm::Flag),
     Rule("spread", false, ValueForm::Flag),
     Rule("metrics", false, ValueForm::Endpoint),
     Rule("control", false, ValueForm::SocketPath),
-    Rule("log_exchanges", false, ValueForm::Flag),
+    Rule("log_exchanges", false, ValueForm::ExchangeLines),
     Rule("peer", true, ValueForm::Tables(1024)),
     Rule("realm", true, ValueForm::Tables(1024)),
 ];
@@ -38,14 +38,14 @@ const REALM: [Rule; 12] = [
     Rule("name", true, ValueForm::RealmName),
     Rule("also", false, ValueForm::Names),
     Rule("out", true, ValueForm::Endpoint),
-    Rule("reverse", true, ValueForm::Endpoint),
-    Rule("tries", true, ValueForm::Number(1, 10)),
-    Rule("wait", true, ValueForm::Number(1, 60000)),
+    Rule("reverse", false, ValueForm::Endpoint),
+    Rule("tries", false, ValueForm::Number(1, 10)),
+    Rule("wait", false, ValueForm::Number(1, 60000)),
     Rule("rest", false, ValueForm::Number(0, 3600000)),
     Rule("rest_after", false, ValueForm::Number(1, 256)),
-    Rule("hold", true, ValueForm::Number(0, 60000)),
-    Rule("max_pending", true, ValueForm::Number(1, 4096)),
-    Rule("max_sessions", true, ValueForm::Number(0, 65536)),
+    Rule("hold", false, ValueForm::Number(0, 60000)),
+    Rule("max_pending", false, ValueForm::Number(1, 4096)),
+    Rule("max_sessions", false, ValueForm::Number(0, 65536)),
     Rule("server", true, ValueForm::Tables(8)),
 ];
 
@@ -54,6 +54,14 @@ const SERVER: [Rule; 4] = [
     Rule("acct", true, ValueForm::Endpoint),
     Rule("secret", true, ValueForm::Secret),
     Rule("require_seal", false, ValueForm::Flag),
+];
+
+/// The kinds of tables that a configuration has.
+const KINDS: [TableKind; 4] = [
+    TableKind::Top,
+    TableKind::Peer,
+    TableKind::Realm,
+    TableKind::Server,
 ];
 
 /// The keys of the tables of a kind.
@@ -75,4 +83,35 @@ pub(crate) fn has_rule(kind: TableKind, key: &str) -> bool {
         }
     }
     false
+}
+
+/// The kind of tables, other than this, that have the key; the first where several have it.
+pub(crate) fn owner_of(here: TableKind, key: &str) -> Option<TableKind> {
+    for kind in &KINDS {
+        if *kind != here && has_rule(*kind, key) {
+            return Some(*kind);
+        }
+    }
+    None
+}
+
+/// The form of what stands under a key, in the first kind of tables that has it.
+pub(crate) fn form_of(key: &str) -> Option<ValueForm> {
+    for kind in &KINDS {
+        for rule in rules_of(*kind) {
+            if rule.0 == key {
+                return Some(rule.2);
+            }
+        }
+    }
+    None
+}
+
+/// What stands in the double brackets before the tables of a key.
+pub(crate) fn header_of(key: &str) -> &'static str {
+    match key {
+        "peer" => "peer",
+        "realm" => "realm",
+        _ => "realm.server",
+    }
 }

@@ -43,7 +43,7 @@ fn header_of(line: &str) -> Option<&str> {
 }
 
 /// The first key of a line `key = value`.
-fn key_of(line: &str) -> Option<&str> {
+pub(crate) fn key_of(line: &str) -> Option<&str> {
     match line.split_once('=') {
         Some((key, _)) => Some(first_key(key).0),
         None => None,

@@ -3,8 +3,7 @@
 use roam_audit::AuditFault;
 use std::test::Fail;
 
-#[test]
-fn faults_are_told(rt: HostRuntime) -> Result<(), Fail> {
+pub(crate) fn faults_are_told(rt: &HostRuntime) -> Result<(), Fail> {
     let seats = AuditFault::Seats { shard: 3 }.to_string(rt.alloc())?;
     let receipt = AuditFault::Receipt {
         shard: 3,

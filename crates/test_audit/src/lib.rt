@@ -2,6 +2,8 @@
 #![tactic(auto)]
 
 #[cfg(test)]
+mod examples;
+#[cfg(test)]
 mod fault_tests;
 #[cfg(test)]
 mod seat_tests;

@@ -115,9 +115,8 @@ fn are_noted(rt: &impl Abort, alloc: Global) -> bool {
     true
 }
 
-#[test]
-fn calls_are_noted(rt: HostRuntime) {
-    assert!(rt; are_noted(&rt, rt.alloc()));
+pub(crate) fn calls_are_noted(rt: &HostRuntime) {
+    assert!(rt; are_noted(rt, rt.alloc()));
 }
 
 /// An allocator that refuses growths.
@@ -171,7 +170,6 @@ fn splits_are_refused(rt: &impl Abort, alloc: Global) -> bool {
     true
 }
 
-#[test]
-fn each_growth_of_a_split(rt: HostRuntime) {
-    assert!(rt; splits_are_refused(&rt, rt.alloc()));
+pub(crate) fn each_growth_of_a_split(rt: &HostRuntime) {
+    assert!(rt; splits_are_refused(rt, rt.alloc()));
 }

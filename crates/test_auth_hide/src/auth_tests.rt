@@ -69,8 +69,7 @@ const DIGESTS: [[u8; 16]; 5] = [
     *b"\x1b\x09\x09\x46\xd2\x9e\xc5\x04\xdb\x18\xa4\x11\x48\x31\xe2\xe1",
 ];
 
-#[test]
-fn digests_are_those_of_the_rfcs(rt: HostRuntime) {
+pub(crate) fn digests_are_those_of_the_rfcs(rt: &HostRuntime) {
     assert!(rt; digests() == DIGESTS);
 }
 
@@ -98,8 +97,7 @@ fn reply_is_signed(place: usize, bit: u8) -> [bool; 4] {
 /// whole, the last octet of the Authenticator, and the last attribute's (RFC 2865, section 7.1).
 const CHANGED: [(usize, u8, bool); 3] = [(0, 0, true), (19, 1, false), (37, 1, false)];
 
-#[test]
-fn the_access_accept_of_the_rfc_is_signed(rt: HostRuntime) {
+pub(crate) fn the_access_accept_of_the_rfc_is_signed(rt: &HostRuntime) {
     for (place, bit, signed) in CHANGED {
         let signatures = reply_is_signed(place, bit);
         assert!(rt;
@@ -147,8 +145,7 @@ fn is_signed_over(text: &str, over: [u8; 16]) -> [bool; 2] {
     }
 }
 
-#[test]
-fn published_replies_are_signed(rt: HostRuntime) {
+pub(crate) fn published_replies_are_signed(rt: &HostRuntime) {
     for &(text, over) in &PUBLISHED_REPLIES {
         assert!(rt; is_signed_over(text, over) == [true; 2], "{text}");
     }
@@ -189,8 +186,7 @@ fn request_facts(text: &str, digest: [u8; 16], secret: &[u8]) -> [bool; 5] {
     }
 }
 
-#[test]
-fn accounting_and_reverse_requests_are_signed(rt: HostRuntime) {
+pub(crate) fn accounting_and_reverse_requests_are_signed(rt: &HostRuntime) {
     for (text, digest, secret) in SIGNED {
         assert!(rt; request_facts(text, digest, secret) == [true; 5], "{text}");
     }
@@ -261,8 +257,7 @@ fn seal_facts(text: &str, over: [u8; 16], seal: [u8; 16], place: usize, bit: u8)
 }
 
 // As it stands, and with one bit changed of the first octet of its seal, and of the last.
-#[test]
-fn packets_are_well_sealed(rt: HostRuntime) {
+pub(crate) fn packets_are_well_sealed(rt: &HostRuntime) {
     for &(text, over, seal, at) in &SEALED {
         let facts = [
             seal_facts(text, over, seal, at, 0),
@@ -288,8 +283,7 @@ fn sealed_are_signed() -> [bool; 2] {
     }
 }
 
-#[test]
-fn sealed_packets_are_signed(rt: HostRuntime) {
+pub(crate) fn sealed_packets_are_signed(rt: &HostRuntime) {
     assert!(rt; sealed_are_signed() == [true; 2]);
 }
 
@@ -333,8 +327,7 @@ fn unsealed_facts(text: &str) -> [bool; 2] {
     }
 }
 
-#[test]
-fn just_one_message_authenticator_of_sixteen_octets(rt: HostRuntime) {
+pub(crate) fn just_one_message_authenticator_of_sixteen_octets(rt: &HostRuntime) {
     for (text, well_sealed) in NOT_SEALED {
         assert!(rt; unsealed_facts(text) == [true, well_sealed], "{text}");
     }

@@ -68,8 +68,7 @@ const PASSWORDS: [(&str, &str); 3] = [
     ),
 ];
 
-#[test]
-fn passwords_are_hidden_anew(rt: HostRuntime) {
+pub(crate) fn passwords_are_hidden_anew(rt: &HostRuntime) {
     for (by_p, by_h) in PASSWORDS {
         let anew = [
             is_password_anew(by_p, p(), by_h, h()),
@@ -95,8 +94,7 @@ const PUBLISHED_PASSWORDS: [([u8; 16], &str, &str); 2] = [
     ),
 ];
 
-#[test]
-fn published_passwords_are_hidden_anew(rt: HostRuntime) {
+pub(crate) fn published_passwords_are_hidden_anew(rt: &HostRuntime) {
     for (authenticator, by_rfc, by_h) in &PUBLISHED_PASSWORDS {
         let rfc = HidingKey {
             secret: b"xyzzy5461",
@@ -124,8 +122,7 @@ const SIZES: [(usize, bool); 14] = [
     (144, false),
 ];
 
-#[test]
-fn passwords_of_these_sizes_fit(rt: HostRuntime) {
+pub(crate) fn passwords_of_these_sizes_fit(rt: &HostRuntime) {
     for (size, fits) in SIZES {
         assert!(rt; password_fits(size) == fits, "{size}");
     }
@@ -175,8 +172,7 @@ fn is_tunnel_anew(from_home_server: &str, to_access_server: &str) -> bool {
     *value == *octets(to_access_server, &mut expected)
 }
 
-#[test]
-fn tunnel_passwords_are_hidden_anew(rt: HostRuntime) {
+pub(crate) fn tunnel_passwords_are_hidden_anew(rt: &HostRuntime) {
     for &(from_home_server, to_access_server) in &TUNNEL_PASSWORDS {
         assert!(rt;
             is_tunnel_anew(from_home_server, to_access_server),
@@ -212,8 +208,7 @@ fn is_vendor_anew(from_home_server: &str, to_access_server: &str) -> bool {
     *value == *octets(to_access_server, &mut expected)
 }
 
-#[test]
-fn salted_strings_are_hidden_anew(rt: HostRuntime) {
+pub(crate) fn salted_strings_are_hidden_anew(rt: &HostRuntime) {
     assert!(rt; [is_salted_anew(), is_vendor_anew(KEYS.0, KEYS.1)] == [true; 2]);
 }
 
@@ -245,8 +240,7 @@ const OTHER_VENDOR_SPECIFICS: [&str; 18] = [
     "00000137",
 ];
 
-#[test]
-fn other_vendor_specifics_stay(rt: HostRuntime) {
+pub(crate) fn other_vendor_specifics_stay(rt: &HostRuntime) {
     for text in OTHER_VENDOR_SPECIFICS {
         assert!(rt; is_vendor_anew(text, text), "{text}");
     }
@@ -317,8 +311,7 @@ fn is_salted(text: &str) -> Option<bool> {
     }
 }
 
-#[test]
-fn salted_packets_are_told(rt: HostRuntime) {
+pub(crate) fn salted_packets_are_told(rt: &HostRuntime) {
     for (text, want) in PACKETS {
         assert!(rt; is_salted(text) == Some(want), "{text}");
     }

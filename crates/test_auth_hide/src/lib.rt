@@ -4,4 +4,6 @@
 #[cfg(test)]
 mod auth_tests;
 #[cfg(test)]
+mod examples;
+#[cfg(test)]
 mod hide_tests;

@@ -47,11 +47,10 @@ fn is_found(
     sim(alloc, &configuration, script, &mut text) == Err(fault) && text.is_empty()
 }
 
-#[test]
-fn texts_at_fault_are_found_in_order(rt: HostRuntime) {
+pub(crate) fn texts_at_fault_are_found_in_order(rt: &HostRuntime) {
     for (configuration, script, fault) in FAULTS {
         assert!(rt;
-            is_found(&rt, rt.alloc(), configuration, script, *fault),
+            is_found(rt, rt.alloc(), configuration, script, *fault),
             "{script:?}"
         );
     }
@@ -65,8 +64,7 @@ fn is_text(alloc: Global, fault: SimFault, text: &str) -> bool {
     }
 }
 
-#[test]
-fn faults_have_texts(rt: HostRuntime) {
+pub(crate) fn faults_have_texts(rt: &HostRuntime) {
     for (fault, text) in TEXTS {
         assert!(rt; is_text(rt.alloc(), *fault, text), "{text:?}");
     }
@@ -80,7 +78,6 @@ fn is_write_told(rt: &impl Abort, alloc: Global) -> bool {
     sim(alloc, &configuration, SCRIPT, &mut writer) == Err(SimFault::Write)
 }
 
-#[test]
-fn a_refused_write_is_told(rt: HostRuntime) {
-    assert!(rt; is_write_told(&rt, rt.alloc()));
+pub(crate) fn a_refused_write_is_told(rt: &HostRuntime) {
+    assert!(rt; is_write_told(rt, rt.alloc()));
 }

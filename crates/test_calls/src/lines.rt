@@ -35,7 +35,6 @@ fn are_lines(alloc: Global) -> bool {
     print_lines(&mut text).is_ok() && text.as_slice() == LINES.as_bytes()
 }
 
-#[test]
-fn lines_of_packets(rt: HostRuntime) {
+pub(crate) fn lines_of_packets(rt: &HostRuntime) {
     assert!(rt; are_lines(rt.alloc()));
 }

@@ -54,15 +54,13 @@ fn has_events(rt: &impl Abort, alloc: Global, script: &str, events: &str) -> boo
     text.as_slice() == events.as_bytes()
 }
 
-#[test]
-fn events_are_read_in_order(rt: HostRuntime) {
-    assert!(rt; has_events(&rt, rt.alloc(), SCRIPT, EVENTS));
+pub(crate) fn events_are_read_in_order(rt: &HostRuntime) {
+    assert!(rt; has_events(rt, rt.alloc(), SCRIPT, EVENTS));
 }
 
-#[test]
-fn comments_and_empty_lines_are_no_events(rt: HostRuntime) {
+pub(crate) fn comments_and_empty_lines_are_no_events(rt: &HostRuntime) {
     for script in EMPTY {
-        assert!(rt; has_events(&rt, rt.alloc(), script, ""), "{script:?}");
+        assert!(rt; has_events(rt, rt.alloc(), script, ""), "{script:?}");
     }
 }
 
@@ -79,8 +77,7 @@ fn faulty_line(rt: &impl Abort, alloc: Global, octets: u32) -> u64 {
     }
 }
 
-#[test]
-fn a_datagram_has_65535_octets_at_most(rt: HostRuntime) {
-    let lines = [65535, 65536].map(|octets| faulty_line(&rt, rt.alloc(), octets));
+pub(crate) fn a_datagram_has_65535_octets_at_most(rt: &HostRuntime) {
+    let lines = [65535, 65536].map(|octets| faulty_line(rt, rt.alloc(), octets));
     assert!(rt; lines == [0, 1]);
 }

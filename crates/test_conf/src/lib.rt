@@ -8,6 +8,8 @@
 #[cfg(test)]
 mod documents;
 #[cfg(test)]
+mod examples;
+#[cfg(test)]
 mod name_tests;
 #[cfg(test)]
 mod order_tests;

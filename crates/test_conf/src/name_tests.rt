@@ -76,25 +76,23 @@ fn expect_named(rt: &impl Abort, config: &Config, names: &[(&str, Option<u16>)])
     }
 }
 
-#[test]
-fn the_realm_of_a_name(rt: HostRuntime) -> Result<(), Fail> {
+pub(crate) fn the_realm_of_a_name(rt: &HostRuntime) -> Result<(), Fail> {
     let config = config_with(
         rt.alloc(),
         "also = [\"*.a.example\", \"*\"]\n",
         "also = [\"x.a.example\", \"*.b.a.example\"]\n",
     )?;
-    expect_named(&rt, &config, &NAMED);
+    expect_named(rt, &config, &NAMED);
     Ok(())
 }
 
-#[test]
-fn the_realm_of_a_name_without_a_default(rt: HostRuntime) -> Result<(), Fail> {
+pub(crate) fn the_realm_of_a_name_without_a_default(rt: &HostRuntime) -> Result<(), Fail> {
     let config = config_with(
         rt.alloc(),
         "also = [\"*.Test\"]\n",
         "also = [\"*.test.test\"]\n",
     )?;
-    expect_named(&rt, &config, &NAMED_BY_SUFFIX);
+    expect_named(rt, &config, &NAMED_BY_SUFFIX);
     Ok(())
 }
 
@@ -114,8 +112,7 @@ fn realm_of_long(
 }
 
 // A name longer than any that a realm can have still ends in a suffix.
-#[test]
-fn the_realm_of_a_long_name(rt: HostRuntime) -> Result<(), Fail> {
+pub(crate) fn the_realm_of_a_long_name(rt: &HostRuntime) -> Result<(), Fail> {
     let config = config_with(rt.alloc(), "also = [\"*.c.d\"]\n", "")?;
     let found = [
         realm_of_long(rt.alloc(), &config, 300, ".c.d")?,
@@ -183,7 +180,6 @@ fn expect_lines(
     Ok(())
 }
 
-#[test]
-fn the_faults_of_patterns(rt: HostRuntime) -> Result<(), Fail> {
-    expect_lines(&rt, rt.alloc(), &LINES)
+pub(crate) fn the_faults_of_patterns(rt: &HostRuntime) -> Result<(), Fail> {
+    expect_lines(rt, rt.alloc(), &LINES)
 }

@@ -217,16 +217,14 @@ const ARRAYS: [Document; 3] = [
     ),
 ];
 
-#[test]
-fn the_earlier_of_two_faults(rt: HostRuntime) -> Result<(), Fail> {
-    expect_documents(&rt, rt.alloc(), &TWO_FAULTS)
+pub(crate) fn the_earlier_of_two_faults(rt: &HostRuntime) -> Result<(), Fail> {
+    expect_documents(rt, rt.alloc(), &TWO_FAULTS)
 }
 
-#[test]
-fn what_may_not_stand_twice(rt: HostRuntime) -> Result<(), Fail> {
-    expect_changes(&rt, rt.alloc(), &ENDPOINTS_TWICE)?;
-    expect_documents(&rt, rt.alloc(), &SECOND_ONES)?;
-    expect_documents(&rt, rt.alloc(), &ARRAYS)
+pub(crate) fn what_may_not_stand_twice(rt: &HostRuntime) -> Result<(), Fail> {
+    expect_changes(rt, rt.alloc(), &ENDPOINTS_TWICE)?;
+    expect_documents(rt, rt.alloc(), &SECOND_ONES)?;
+    expect_documents(rt, rt.alloc(), &ARRAYS)
 }
 
 /// Each fault, and its name.
@@ -251,7 +249,6 @@ fn expect_names(rt: &impl Abort, alloc: Global, names: &[(ConfFault, &str)]) -> 
     Ok(())
 }
 
-#[test]
-fn a_faults_text_is_its_name(rt: HostRuntime) -> Result<(), Fail> {
-    expect_names(&rt, rt.alloc(), &NAMES)
+pub(crate) fn a_faults_text_is_its_name(rt: &HostRuntime) -> Result<(), Fail> {
+    expect_names(rt, rt.alloc(), &NAMES)
 }

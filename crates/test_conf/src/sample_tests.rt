@@ -63,8 +63,7 @@ fn texts<'a>(peer: &'a Peer, realm: &'a Realm) -> [&'a str; 5] {
 }
 
 // The values of the sample, as the file has them.
-#[test]
-fn the_sample_is_read(rt: HostRuntime) -> Result<(), Fail> {
+pub(crate) fn the_sample_is_read(rt: &HostRuntime) -> Result<(), Fail> {
     let config = config_of(rt.alloc(), &SAMPLE)?;
     let realm = &config.realms[0];
     assert!(rt; numbers(&config, realm) == [1, 1000, 2, 1000, 5000, 300, 100]);
@@ -100,8 +99,7 @@ const LEAST_WITH_REVERSE: [&str; 5] = [
 ];
 
 // What holds where a number isn't written.
-#[test]
-fn numbers_that_are_not_written(rt: HostRuntime) -> Result<(), Fail> {
+pub(crate) fn numbers_that_are_not_written(rt: &HostRuntime) -> Result<(), Fail> {
     let config = config_of(rt.alloc(), &LEAST)?;
     let realm = &config.realms[0];
     assert!(rt; numbers(&config, realm) == [1, 100000, 3, 2000, 10000, 4096, 0]);
@@ -111,8 +109,7 @@ fn numbers_that_are_not_written(rt: HostRuntime) -> Result<(), Fail> {
 }
 
 // A realm without a place for reverse requests is nobody's there; with one it remembers sessions.
-#[test]
-fn a_realm_may_take_no_reverse_requests(rt: HostRuntime) -> Result<(), Fail> {
+pub(crate) fn a_realm_may_take_no_reverse_requests(rt: &HostRuntime) -> Result<(), Fail> {
     let config = config_of(rt.alloc(), &LEAST)?;
     assert!(rt; config.realms[0].reverse.is_none());
     assert!(rt; config.home_of(0, [198, 51, 100, 1]).is_none());
@@ -134,8 +131,7 @@ fn others(peer: &Peer) -> ([u8; 4], Option<Endpoint>, Option<[u8; 4]>, bool, boo
 }
 
 // The optional keys of a peer, there and left out.
-#[test]
-fn the_keys_of_peers_are_read(rt: HostRuntime) -> Result<(), Fail> {
+pub(crate) fn the_keys_of_peers_are_read(rt: &HostRuntime) -> Result<(), Fail> {
     let parts = [
         TOP,
         PEER,
@@ -147,7 +143,7 @@ fn the_keys_of_peers_are_read(rt: HostRuntime) -> Result<(), Fail> {
     let config = config_of(rt.alloc(), &parts)?;
     let first = ([192, 0, 2, 1], Some(COA), Some([192, 0, 2, 1]), true, false);
     let second = ([192, 0, 2, 2], None, None, false, true);
-    let found = others(config.peers.get(1).expect(&rt, "a second peer"));
+    let found = others(config.peers.get(1).expect(rt, "a second peer"));
     assert!(rt; (others(&config.peers[0]), found) == (first, second));
     Ok(())
 }
@@ -210,8 +206,7 @@ fn homes(config: &Config) -> [Option<u8>; 4] {
     ]
 }
 
-#[test]
-fn realms_peers_links_and_home_servers_are_found(rt: HostRuntime) -> Result<(), Fail> {
+pub(crate) fn realms_peers_links_and_home_servers_are_found(rt: &HostRuntime) -> Result<(), Fail> {
     let config = two_of_each(rt.alloc())?;
     assert!(rt;
         found(&config)
@@ -276,8 +271,7 @@ fn some_same(alloc: Global, config: &Config, changes: &[(&str, &str)]) -> Result
 }
 
 // Equal texts give equal configurations, and a changed value an unequal one.
-#[test]
-fn equality(rt: HostRuntime) -> Result<(), Fail> {
+pub(crate) fn equality(rt: &HostRuntime) -> Result<(), Fail> {
     let config = config_of(rt.alloc(), &SAMPLE)?;
     let again = config_of(rt.alloc(), &SAMPLE)?;
     assert!(rt; config == again && !some_same(rt.alloc(), &config, &OTHER_VALUES)?);
@@ -308,8 +302,7 @@ fn optional_flags(config: &Config, realm: &Realm) -> [bool; 3] {
 }
 
 // What counts where a key is absent.
-#[test]
-fn what_absent_keys_say(rt: HostRuntime) -> Result<(), Fail> {
+pub(crate) fn what_absent_keys_say(rt: &HostRuntime) -> Result<(), Fail> {
     let config = config_of(rt.alloc(), &SAMPLE)?;
     let realm = &config.realms[0];
     assert!(rt;
@@ -332,8 +325,7 @@ const ALL_KEYS: [&str; 7] = [
     "require_seal = true\n",
 ];
 
-#[test]
-fn the_keys_that_may_be_absent_are_read(rt: HostRuntime) -> Result<(), Fail> {
+pub(crate) fn the_keys_that_may_be_absent_are_read(rt: &HostRuntime) -> Result<(), Fail> {
     let config = config_of(rt.alloc(), &ALL_KEYS)?;
     let realm = &config.realms[0];
     assert!(rt;

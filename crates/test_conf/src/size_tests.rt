@@ -58,9 +58,8 @@ fn expect_lengths(rt: &impl Abort, alloc: Global, lengths: &[Length]) -> Result<
     Ok(())
 }
 
-#[test]
-fn the_lengths_of_texts(rt: HostRuntime) -> Result<(), Fail> {
-    expect_lengths(&rt, rt.alloc(), &LENGTHS)
+pub(crate) fn the_lengths_of_texts(rt: &HostRuntime) -> Result<(), Fail> {
+    expect_lengths(rt, rt.alloc(), &LENGTHS)
 }
 
 /// Appends a home server of these last two octets.
@@ -135,9 +134,8 @@ fn expect_counts(
     Ok(())
 }
 
-#[test]
-fn the_most_peers_realms_and_servers(rt: HostRuntime) -> Result<(), Fail> {
-    expect_counts(&rt, rt.alloc(), &COUNTS)
+pub(crate) fn the_most_peers_realms_and_servers(rt: &HostRuntime) -> Result<(), Fail> {
+    expect_counts(rt, rt.alloc(), &COUNTS)
 }
 
 /// A line of so many patterns, each with a name of its own.
@@ -178,8 +176,7 @@ fn faults_of_patterns(alloc: Global) -> Result<[Option<ConfFault>; 6], Fail> {
     ])
 }
 
-#[test]
-fn the_most_and_the_longest_patterns(rt: HostRuntime) -> Result<(), Fail> {
+pub(crate) fn the_most_and_the_longest_patterns(rt: &HostRuntime) -> Result<(), Fail> {
     let faults = faults_of_patterns(rt.alloc())?;
     assert!(rt; faults == [None, BAD_VALUE, None, BAD_VALUE, None, BAD_VALUE]);
     Ok(())

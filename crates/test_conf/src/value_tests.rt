@@ -267,22 +267,19 @@ const BAD_VALUES: [Change; 31] = [
     ("tries = 2", "tries = 2\nTries = 2", BAD_VALUE),
 ];
 
-#[test]
-fn the_ranges_of_numbers(rt: HostRuntime) -> Result<(), Fail> {
-    expect_changes(&rt, rt.alloc(), &INSIDE)?;
-    expect_changes(&rt, rt.alloc(), &OUTSIDE)?;
-    expect_changes(&rt, rt.alloc(), &OPTIONAL_NUMBERS)
+pub(crate) fn the_ranges_of_numbers(rt: &HostRuntime) -> Result<(), Fail> {
+    expect_changes(rt, rt.alloc(), &INSIDE)?;
+    expect_changes(rt, rt.alloc(), &OUTSIDE)?;
+    expect_changes(rt, rt.alloc(), &OPTIONAL_NUMBERS)
 }
 
-#[test]
-fn the_spellings_of_texts(rt: HostRuntime) -> Result<(), Fail> {
-    expect_changes(&rt, rt.alloc(), &SPELLINGS)
+pub(crate) fn the_spellings_of_texts(rt: &HostRuntime) -> Result<(), Fail> {
+    expect_changes(rt, rt.alloc(), &SPELLINGS)
 }
 
-#[test]
-fn keys_that_are_missing_wrong_or_unknown(rt: HostRuntime) -> Result<(), Fail> {
-    expect_changes(&rt, rt.alloc(), &WITHOUT_REQUIRED)?;
-    expect_changes(&rt, rt.alloc(), &WITHOUT_OPTIONAL)?;
-    expect_changes(&rt, rt.alloc(), &BAD_VALUES)?;
-    expect_changes(&rt, rt.alloc(), &BAD_OPTIONAL_VALUES)
+pub(crate) fn keys_that_are_missing_wrong_or_unknown(rt: &HostRuntime) -> Result<(), Fail> {
+    expect_changes(rt, rt.alloc(), &WITHOUT_REQUIRED)?;
+    expect_changes(rt, rt.alloc(), &WITHOUT_OPTIONAL)?;
+    expect_changes(rt, rt.alloc(), &BAD_VALUES)?;
+    expect_changes(rt, rt.alloc(), &BAD_OPTIONAL_VALUES)
 }

@@ -81,7 +81,6 @@ const ADVICE: [Change; 19] = [
     ),
 ];
 
-#[test]
-fn what_is_unwise_is_said(rt: HostRuntime) -> Result<(), Fail> {
-    expect_told(&rt, rt.alloc(), &ADVICE)
+pub(crate) fn what_is_unwise_is_said(rt: &HostRuntime) -> Result<(), Fail> {
+    expect_told(rt, rt.alloc(), &ADVICE)
 }

@@ -6,6 +6,8 @@
 #[cfg(test)]
 mod advice_tests;
 #[cfg(test)]
+mod examples;
+#[cfg(test)]
 mod mistake_tests;
 #[cfg(test)]
 mod mistakes;

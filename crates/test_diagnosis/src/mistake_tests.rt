@@ -4,10 +4,9 @@ use crate::mistakes::{BAD_VALUES, DUPLICATES, MISSING, SYNTAX};
 use crate::samples::expect_told;
 use std::test::Fail;
 
-#[test]
-fn a_mistake_is_said_where_it_stands(rt: HostRuntime) -> Result<(), Fail> {
-    expect_told(&rt, rt.alloc(), &SYNTAX)?;
-    expect_told(&rt, rt.alloc(), &MISSING)?;
-    expect_told(&rt, rt.alloc(), &BAD_VALUES)?;
-    expect_told(&rt, rt.alloc(), &DUPLICATES)
+pub(crate) fn a_mistake_is_said_where_it_stands(rt: &HostRuntime) -> Result<(), Fail> {
+    expect_told(rt, rt.alloc(), &SYNTAX)?;
+    expect_told(rt, rt.alloc(), &MISSING)?;
+    expect_told(rt, rt.alloc(), &BAD_VALUES)?;
+    expect_told(rt, rt.alloc(), &DUPLICATES)
 }

@@ -57,8 +57,7 @@ fn is_returned<A: Allocator>(alloc: A, reply: &str, request: &str, expected: &st
     appended && out.as_slice().split_first() == Some((&0xee, octets(expected, &mut third)))
 }
 
-#[test]
-fn reverse_replies_go_back_to_the_home_server(rt: HostRuntime) {
+pub(crate) fn reverse_replies_go_back_to_the_home_server(rt: &HostRuntime) {
     for (reply, expected) in REVERSE_REPLIES {
         assert!(rt;
             refusal(reply, COA_FORWARDED, ACCESS_SERVER) == 0,
@@ -69,8 +68,7 @@ fn reverse_replies_go_back_to_the_home_server(rt: HostRuntime) {
 }
 
 // Each growth refused in turn leaves what stood there; then the packet stands behind it.
-#[test]
-fn each_growth_of_back_is_refused(rt: HostRuntime) -> Result<(), Fail> {
+pub(crate) fn each_growth_of_back_is_refused(rt: &HostRuntime) -> Result<(), Fail> {
     let (mut room, mut other, mut third) = ([0; 160], [0; 160], [0; 160]);
     let reply = octets(SEALED_OVER_ZEROS, &mut room);
     let request = octets(SEALED, &mut other);

@@ -64,16 +64,14 @@ fn is_forwarded<A: Allocator>(alloc: A, row: Row) -> bool {
     appended.is_ok() && out.as_slice() == octets(forwarded, &mut expected)
 }
 
-#[test]
-fn requests_are_forwarded(rt: HostRuntime) {
+pub(crate) fn requests_are_forwarded(rt: &HostRuntime) {
     for row in FORWARDED {
         assert!(rt; is_forwarded(rt.alloc(), row), "{}", row.3);
     }
 }
 
 // Each growth refused in turn leaves what stood there; then the packet stands behind it.
-#[test]
-fn each_growth_refused_leaves_the_buffer(rt: HostRuntime) -> Result<(), Fail> {
+pub(crate) fn each_growth_refused_leaves_the_buffer(rt: &HostRuntime) -> Result<(), Fail> {
     let refusing = Refusing::new(rt.alloc());
     let mut room = [0; 160];
     let request = octets(SEALED, &mut room);
@@ -142,8 +140,7 @@ fn size_of(request: &str) -> usize {
     }
 }
 
-#[test]
-fn an_access_request_gains_what_it_lacks(rt: HostRuntime) {
+pub(crate) fn an_access_request_gains_what_it_lacks(rt: &HostRuntime) {
     for (request, size) in ACCESS_REQUESTS {
         assert!(rt; size_of(request) == size, "{request}");
     }
@@ -179,8 +176,7 @@ fn can(request: &str) -> Option<bool> {
     Some(can_be_forwarded(&view))
 }
 
-#[test]
-fn a_request_has_at_most_one_message_authenticator(rt: HostRuntime) {
+pub(crate) fn a_request_has_at_most_one_message_authenticator(rt: &HostRuntime) {
     for (request, expected) in SEALS {
         assert!(rt; can(request) == Some(expected), "{request}");
     }

@@ -101,8 +101,7 @@ fn is_refused_with<A: Allocator + Copy>(alloc: A, row: &Nak) -> bool {
     alone.as_slice() == expected && behind.as_slice().split_first() == Some((&0xee, expected))
 }
 
-#[test]
-fn reverse_requests_are_refused(rt: HostRuntime) {
+pub(crate) fn reverse_requests_are_refused(rt: &HostRuntime) {
     for row in &NAKS {
         assert!(rt; is_refused_with(rt.alloc(), row), "{}", row.0);
     }
@@ -119,8 +118,7 @@ fn refusal_of_nak<A: Allocator>(alloc: A) -> u8 {
 }
 
 // Each growth refused in turn, and the same call again.
-#[test]
-fn each_growth_of_nak_is_refused(rt: HostRuntime) {
+pub(crate) fn each_growth_of_nak_is_refused(rt: &HostRuntime) {
     let refusing = Refusing::new(rt.alloc());
     for n in refusing.each_growth() {
         refusing.refuse_nth(n);

@@ -94,8 +94,7 @@ const REPLIES: [Reply; 7] = [
     ),
 ];
 
-#[test]
-fn replies_are_refused_for_the_first_cause(rt: HostRuntime) {
+pub(crate) fn replies_are_refused_for_the_first_cause(rt: &HostRuntime) {
     for (what, reply, forwarded, secret, expected) in REPLIES {
         assert!(rt; refusal(reply, forwarded, secret) == expected, "{what}");
     }
@@ -179,8 +178,7 @@ const REQUIRED_SEALS: [RequiredReply; 10] = [
     ),
 ];
 
-#[test]
-fn access_replies_without_a_seal_are_refused_where_one_is_required(rt: HostRuntime) {
+pub(crate) fn access_replies_without_a_seal_are_refused_where_one_is_required(rt: &HostRuntime) {
     for (what, reply, forwarded, required, free) in REQUIRED_SEALS {
         let found = (
             refusal_from(reply, forwarded, HOME_SERVER, true),
@@ -221,8 +219,7 @@ fn refusal_of_codes(request_code: u8, reply_code: u8) -> u8 {
     }
 }
 
-#[test]
-fn each_code_answers_its_request(rt: HostRuntime) {
+pub(crate) fn each_code_answers_its_request(rt: &HostRuntime) {
     for request in 0..=255u8 {
         for reply in 0..=255u8 {
             let answers = ANSWERS.contains(&(request, reply));

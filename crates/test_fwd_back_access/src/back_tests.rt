@@ -95,10 +95,9 @@ fn check_returned(rt: &impl Abort, alloc: Global, row: Row) -> Result<(), Fail> 
     Ok(())
 }
 
-#[test]
-fn access_replies_are_returned(rt: HostRuntime) -> Result<(), Fail> {
+pub(crate) fn access_replies_are_returned(rt: &HostRuntime) -> Result<(), Fail> {
     for row in ROWS {
-        check_returned(&rt, rt.alloc(), row)?;
+        check_returned(rt, rt.alloc(), row)?;
     }
     Ok(())
 }

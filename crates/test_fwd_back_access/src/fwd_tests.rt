@@ -182,10 +182,9 @@ fn check_forwarded(rt: &impl Abort, alloc: Global, row: &Row) -> Result<(), Fail
     Ok(())
 }
 
-#[test]
-fn access_requests_are_forwarded(rt: HostRuntime) -> Result<(), Fail> {
+pub(crate) fn access_requests_are_forwarded(rt: &HostRuntime) -> Result<(), Fail> {
     for row in &ROWS {
-        check_forwarded(&rt, rt.alloc(), row)?;
+        check_forwarded(rt, rt.alloc(), row)?;
     }
     Ok(())
 }
@@ -216,11 +215,10 @@ const ODD: [(&str, bool); 6] = [
     ),
 ];
 
-#[test]
-fn odd_passwords_and_seals_are_not_forwarded(rt: HostRuntime) {
+pub(crate) fn odd_passwords_and_seals_are_not_forwarded(rt: &HostRuntime) {
     for &(request, can) in &ODD {
-        let octets = octets(&rt, rt.alloc(), request);
-        let view = View::read(&octets).expect(&rt, "a packet");
+        let octets = octets(rt, rt.alloc(), request);
+        let view = View::read(&octets).expect(rt, "a packet");
         assert!(rt; can_be_forwarded(&view) == can, "{request}");
     }
 }

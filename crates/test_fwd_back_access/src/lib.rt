@@ -5,6 +5,8 @@
 #[cfg(test)]
 mod back_tests;
 #[cfg(test)]
+mod examples;
+#[cfg(test)]
 mod exchanges;
 #[cfg(test)]
 mod fwd_tests;

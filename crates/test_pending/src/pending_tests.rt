@@ -110,8 +110,7 @@ fn tickets<A: Allocator>(pending: &Pending<A>) -> [Option<u64>; 4] {
     ]
 }
 
-#[test]
-fn entries_stand_in_order_of_ticket(rt: HostRuntime) -> Result<(), Fail> {
+fn entries_stand_in_order_of_ticket(rt: &HostRuntime) -> Result<(), Fail> {
     let pending = three(rt.alloc())?;
     assert_eq!(rt; tickets(&pending), [Some(2), Some(5), Some(9), None]);
     Ok(())
@@ -129,8 +128,7 @@ fn gap_of_five<A: Allocator>(pending: &mut Pending<A>) -> [Option<u64>; 4] {
     ]
 }
 
-#[test]
-fn the_gap_of_an_entry_closes(rt: HostRuntime) -> Result<(), Fail> {
+fn the_gap_of_an_entry_closes(rt: &HostRuntime) -> Result<(), Fail> {
     let mut pending = three(rt.alloc())?;
     let gap = gap_of_five(&mut pending);
     assert_eq!(rt; gap, [Some(5), None, Some(9), None]);
@@ -154,8 +152,7 @@ fn found<A: Allocator>(pending: &Pending<A>) -> [Option<u64>; 6] {
     ]
 }
 
-#[test]
-fn entries_are_found_by_ticket_and_key(rt: HostRuntime) -> Result<(), Fail> {
+fn entries_are_found_by_ticket_and_key(rt: &HostRuntime) -> Result<(), Fail> {
     let pending = three(rt.alloc())?;
     assert_eq!(rt;
         found(&pending),
@@ -179,8 +176,7 @@ fn dues<A: Allocator>(pending: &Pending<A>) -> [Option<u64>; 6] {
     ]
 }
 
-#[test]
-fn due_entries_come_by_deadline_and_ticket(rt: HostRuntime) -> Result<(), Fail> {
+fn due_entries_come_by_deadline_and_ticket(rt: &HostRuntime) -> Result<(), Fail> {
     let pending = three(rt.alloc())?;
     assert_eq!(rt;
         dues(&pending),
@@ -218,8 +214,7 @@ fn once_sent<A: Allocator + Copy>(alloc: A, pending: &mut Pending<A>) -> [Option
     ]
 }
 
-#[test]
-fn entry_that_was_sent_again_waits_longer(rt: HostRuntime) -> Result<(), Fail> {
+fn entry_that_was_sent_again_waits_longer(rt: &HostRuntime) -> Result<(), Fail> {
     let mut pending = three(rt.alloc())?;
     let sent = once_sent(rt.alloc(), &mut pending);
     assert_eq!(rt; sent, [Some(1), Some(2)]);
@@ -247,8 +242,7 @@ fn once_answered<A: Allocator + Copy>(alloc: A, pending: &mut Pending<A>) -> [Op
     ]
 }
 
-#[test]
-fn entry_that_was_answered_is_done(rt: HostRuntime) -> Result<(), Fail> {
+fn entry_that_was_answered_is_done(rt: &HostRuntime) -> Result<(), Fail> {
     let mut pending = three(rt.alloc())?;
     let answered = once_answered(rt.alloc(), &mut pending);
     assert_eq!(rt; answered, [None, Some(5), Some(5), None]);
@@ -269,8 +263,7 @@ fn insert_refused<A: Allocator + Copy>(
     Ok((refused, held, ticket_of(pending.at(2))))
 }
 
-#[test]
-fn each_growth_of_an_insert(rt: HostRuntime) -> Result<(), Fail> {
+fn each_growth_of_an_insert(rt: &HostRuntime) -> Result<(), Fail> {
     let refusing = Refusing::new(rt.alloc());
     for n in refusing.each_growth() {
         let mut pending = three(&refusing)?;
@@ -289,8 +282,7 @@ fn each_growth_of_an_insert(rt: HostRuntime) -> Result<(), Fail> {
     Ok(())
 }
 
-#[test]
-fn each_growth_of_reserve(rt: HostRuntime) -> Result<(), Fail> {
+fn each_growth_of_reserve(rt: &HostRuntime) -> Result<(), Fail> {
     let refusing = Refusing::new(rt.alloc());
     for n in refusing.each_growth() {
         let mut pending = three(&refusing)?;
@@ -307,8 +299,7 @@ fn replaced<A: Allocator + Copy>(alloc: A, pending: &mut Pending<A>) -> bool {
     pending.remove(2).is_some() && add(pending, waiting(alloc, 1, 10, 10)).is_ok()
 }
 
-#[test]
-fn removal_makes_room_for_one_insert(rt: HostRuntime) -> Result<(), Fail> {
+fn removal_makes_room_for_one_insert(rt: &HostRuntime) -> Result<(), Fail> {
     let refusing = Refusing::new(rt.alloc());
     let mut pending = three(&refusing)?;
     refusing.refuse_nth(1);
@@ -318,5 +309,20 @@ fn removal_makes_room_for_one_insert(rt: HostRuntime) -> Result<(), Fail> {
         done && first == Some(1) && refusing.growths() == 0,
         "no growth is asked for"
     );
+    Ok(())
+}
+
+/// All of them, in one test: a test costs the proof more than an example.
+#[test]
+fn all_examples(rt: HostRuntime) -> Result<(), Fail> {
+    entries_stand_in_order_of_ticket(&rt)?;
+    the_gap_of_an_entry_closes(&rt)?;
+    entries_are_found_by_ticket_and_key(&rt)?;
+    due_entries_come_by_deadline_and_ticket(&rt)?;
+    entry_that_was_sent_again_waits_longer(&rt)?;
+    entry_that_was_answered_is_done(&rt)?;
+    each_growth_of_an_insert(&rt)?;
+    each_growth_of_reserve(&rt)?;
+    removal_makes_room_for_one_insert(&rt)?;
     Ok(())
 }

@@ -4,6 +4,8 @@
 
 pub mod callers;
 #[cfg(test)]
+mod examples;
+#[cfg(test)]
 mod listening_tests;
 #[cfg(test)]
 mod packets;

@@ -74,8 +74,7 @@ fn answers() -> [Answer; 100] {
     answers
 }
 
-#[test]
-fn hundred_faults_in_a_row_give_up(rt: HostRuntime) -> Result<(), Fail> {
+pub(crate) fn hundred_faults_in_a_row_give_up(rt: &HostRuntime) -> Result<(), Fail> {
     let answers = answers();
     let mut port = tape(rt.alloc(), &answers);
     let mut faults = 0;
@@ -85,8 +84,7 @@ fn hundred_faults_in_a_row_give_up(rt: HostRuntime) -> Result<(), Fail> {
     Ok(())
 }
 
-#[test]
-fn datagram_without_memory_is_lost(rt: HostRuntime) -> Result<(), Fail> {
+pub(crate) fn datagram_without_memory_is_lost(rt: &HostRuntime) -> Result<(), Fail> {
     let answers = answers();
     let mut port = tape(rt.alloc(), &answers);
     let mut faults = 0;
@@ -98,8 +96,7 @@ fn datagram_without_memory_is_lost(rt: HostRuntime) -> Result<(), Fail> {
     Ok(())
 }
 
-#[test]
-fn silence_ends_a_row_of_faults(rt: HostRuntime) -> Result<(), Fail> {
+pub(crate) fn silence_ends_a_row_of_faults(rt: &HostRuntime) -> Result<(), Fail> {
     let mut answers = [Answer::Fault; 60];
     answers[50] = Answer::Nothing;
     let mut port = tape(rt.alloc(), &answers);

@@ -22,8 +22,7 @@ fn fill<A: Allocator + Copy>(
     Ok(None)
 }
 
-#[test]
-fn ring_holds_1024_packets_in_order(rt: HostRuntime) -> Result<(), Fail> {
+pub(crate) fn ring_holds_1024_packets_in_order(rt: &HostRuntime) -> Result<(), Fail> {
     let (mut outlet, mut intake) = ring(rt.alloc())?;
     let back = fill(rt.alloc(), &mut outlet, 2000)?;
     let taken = taken_in_order(&mut intake);
@@ -44,8 +43,7 @@ fn after_the_worker<A: Allocator + Copy>(alloc: A) -> Result<(bool, bool, u16, b
     Ok((before, after, taken, intake.is_empty()))
 }
 
-#[test]
-fn packets_outlive_their_worker(rt: HostRuntime) -> Result<(), Fail> {
+pub(crate) fn packets_outlive_their_worker(rt: &HostRuntime) -> Result<(), Fail> {
     let seen = after_the_worker(rt.alloc())?;
     assert!(rt; seen == (false, true, 3, true));
     Ok(())
@@ -62,15 +60,13 @@ fn room<A: Allocator + Copy>(alloc: A) -> Result<[usize; 3], NoMemory> {
     Ok([before, count, outlet.room_beside(&mut intake)])
 }
 
-#[test]
-fn room_is_what_no_packet_takes(rt: HostRuntime) -> Result<(), Fail> {
+pub(crate) fn room_is_what_no_packet_takes(rt: &HostRuntime) -> Result<(), Fail> {
     let room = room(rt.alloc())?;
     assert!(rt; room == [1023, 1, 1024]);
     Ok(())
 }
 
-#[test]
-fn two_packets_go_through(rt: HostRuntime) -> Result<(), Fail> {
+pub(crate) fn two_packets_go_through(rt: &HostRuntime) -> Result<(), Fail> {
     let alloc = rt.alloc();
     let (first, second) = through(alloc, packet(alloc, 7)?, packet(alloc, 8)?)?;
     let numbers = (number(&first), number(&second));
@@ -78,8 +74,7 @@ fn two_packets_go_through(rt: HostRuntime) -> Result<(), Fail> {
     Ok(())
 }
 
-#[test]
-fn each_growth_of_a_ring(rt: HostRuntime) -> Result<(), Fail> {
+pub(crate) fn each_growth_of_a_ring(rt: &HostRuntime) -> Result<(), Fail> {
     let refusing = Refusing::new(rt.alloc());
     for n in refusing.each_growth() {
         refusing.refuse_nth(n);

@@ -64,8 +64,7 @@ fn send_three(
     Ok((sent, outbox.waiting_at(0), outbox.take_account().losses))
 }
 
-#[test]
-fn packet_whose_send_fails_is_lost_and_counted(rt: HostRuntime) -> Result<(), Fail> {
+pub(crate) fn packet_whose_send_fails_is_lost_and_counted(rt: &HostRuntime) -> Result<(), Fail> {
     let mut ports = [tape(rt.alloc(), &[(1, SendFault::Unreachable)])];
     let (sent, waiting, losses) = send_three(rt.alloc(), &mut ports)?;
     let one = Losses {
@@ -79,8 +78,9 @@ fn packet_whose_send_fails_is_lost_and_counted(rt: HostRuntime) -> Result<(), Fa
     Ok(())
 }
 
-#[test]
-fn packets_whose_socket_has_no_room_stand_aside_in_order(rt: HostRuntime) -> Result<(), Fail> {
+pub(crate) fn packets_whose_socket_has_no_room_stand_aside_in_order(
+    rt: &HostRuntime,
+) -> Result<(), Fail> {
     let mut ports = [tape(rt.alloc(), &[(1, SendFault::WouldBlock)])];
     let (sent, waiting, losses) = send_three(rt.alloc(), &mut ports)?;
     let last = [(1, true), (0, false), (2, false)];
@@ -89,8 +89,7 @@ fn packets_whose_socket_has_no_room_stand_aside_in_order(rt: HostRuntime) -> Res
     Ok(())
 }
 
-#[test]
-fn each_fault_counts_as_its_own(rt: HostRuntime) -> Result<(), Fail> {
+pub(crate) fn each_fault_counts_as_its_own(rt: &HostRuntime) -> Result<(), Fail> {
     let faults = [
         (0, SendFault::NotPermitted),
         (1, SendFault::Other),
@@ -174,9 +173,8 @@ fn flood(alloc: Global, count: u16) -> Result<AfterFlood, NoMemory> {
     })
 }
 
-#[test]
-fn flood_for_a_socket_without_room_costs_no_other_socket_its_packet(
-    rt: HostRuntime,
+pub(crate) fn flood_for_a_socket_without_room_costs_no_other_socket_its_packet(
+    rt: &HostRuntime,
 ) -> Result<(), Fail> {
     let after = flood(rt.alloc(), 1024)?;
     assert!(rt; after.sends == [1, 1], "each socket was tried once");
@@ -185,16 +183,14 @@ fn flood_for_a_socket_without_room_costs_no_other_socket_its_packet(
     Ok(())
 }
 
-#[test]
-fn packet_257_finds_the_share_of_its_socket_full(rt: HostRuntime) -> Result<(), Fail> {
+pub(crate) fn packet_257_finds_the_share_of_its_socket_full(rt: &HostRuntime) -> Result<(), Fail> {
     let last = flood(rt.alloc(), 256)?.lost;
     let first = flood(rt.alloc(), 257)?.lost;
     assert!(rt; (last, first) == (0, 1));
     Ok(())
 }
 
-#[test]
-fn shares_shrink_where_there_are_many_sockets(rt: HostRuntime) -> Result<(), Fail> {
+pub(crate) fn shares_shrink_where_there_are_many_sockets(rt: &HostRuntime) -> Result<(), Fail> {
     let shares = [share_of(4), share_of(256), share_of(512), share_of(2050)];
     assert!(rt; shares == [256, 256, 128, 32]);
     Ok(())
@@ -223,8 +219,7 @@ fn send_by_place(alloc: Global, places: &[Place]) -> Result<([u8; PORTS], u64), 
     Ok((went, outbox.take_account().losses.full_ring))
 }
 
-#[test]
-fn packet_leaves_from_its_place(rt: HostRuntime) -> Result<(), Fail> {
+pub(crate) fn packet_leaves_from_its_place(rt: &HostRuntime) -> Result<(), Fail> {
     let places = [
         Place::Reverse(0),
         Place::Out(0),
@@ -237,8 +232,7 @@ fn packet_leaves_from_its_place(rt: HostRuntime) -> Result<(), Fail> {
     Ok(())
 }
 
-#[test]
-fn each_growth_of_an_outbox(rt: HostRuntime) -> Result<(), Fail> {
+pub(crate) fn each_growth_of_an_outbox(rt: &HostRuntime) -> Result<(), Fail> {
     let refusing = Refusing::new(rt.alloc());
     for n in refusing.each_growth() {
         refusing.refuse_nth(n);

@@ -24,8 +24,7 @@ fn first_wrong(sockets: &[(usize, Place)]) -> Option<Place> {
     None
 }
 
-#[test]
-fn sockets_stand_in_order(rt: HostRuntime) -> Result<(), Fail> {
+pub(crate) fn sockets_stand_in_order(rt: &HostRuntime) -> Result<(), Fail> {
     assert!(rt; first_wrong(&SOCKETS).is_none());
     Ok(())
 }
@@ -50,8 +49,7 @@ fn first_elsewhere(workers: &[(Place, usize, usize)]) -> Option<Place> {
     None
 }
 
-#[test]
-fn sockets_are_dealt_out(rt: HostRuntime) -> Result<(), Fail> {
+pub(crate) fn sockets_are_dealt_out(rt: &HostRuntime) -> Result<(), Fail> {
     assert!(rt; first_elsewhere(&WORKERS).is_none());
     Ok(())
 }

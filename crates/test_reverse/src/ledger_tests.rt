@@ -92,12 +92,11 @@ fn check_steps(rt: &impl Abort, alloc: Global, limit: u32, steps: &[Step]) -> Re
     Ok(())
 }
 
-#[test]
-fn requests_change_the_ledger(rt: HostRuntime) -> Result<(), Fail> {
-    check_steps(&rt, rt.alloc(), 2, &OF_TWO_AT_MOST)?;
-    check_steps(&rt, rt.alloc(), 1, &OF_ONE_AT_MOST)?;
-    check_steps(&rt, rt.alloc(), 0, &OF_NONE)?;
-    check_steps(&rt, rt.alloc(), 100, &OF_MANY)
+pub(crate) fn requests_change_the_ledger(rt: &HostRuntime) -> Result<(), Fail> {
+    check_steps(rt, rt.alloc(), 2, &OF_TWO_AT_MOST)?;
+    check_steps(rt, rt.alloc(), 1, &OF_ONE_AT_MOST)?;
+    check_steps(rt, rt.alloc(), 0, &OF_NONE)?;
+    check_steps(rt, rt.alloc(), 100, &OF_MANY)
 }
 
 /// A request of peer 0 to a ledger of `01` and `02` at most, the sessions that are open then, and
@@ -152,20 +151,18 @@ fn check_growths(
     Ok(())
 }
 
-#[test]
-fn a_refused_growth_changes_nothing(rt: HostRuntime) -> Result<(), Fail> {
+pub(crate) fn a_refused_growth_changes_nothing(rt: &HostRuntime) -> Result<(), Fail> {
     for (request, expected, at_most) in GROWTHS {
-        check_growths(&rt, rt.alloc(), request, expected, at_most)?;
+        check_growths(rt, rt.alloc(), request, expected, at_most)?;
     }
     Ok(())
 }
 
 /// A change that was prepared is made without memory.
-#[test]
-fn a_prepared_change_wants_no_memory(rt: HostRuntime) -> Result<(), Fail> {
+pub(crate) fn a_prepared_change_wants_no_memory(rt: &HostRuntime) -> Result<(), Fail> {
     let refusing = Refusing::new(rt.alloc());
-    let mut sessions = two_sessions(&rt, rt.alloc(), &refusing);
-    let start = octets(&rt, rt.alloc(), START_03);
+    let mut sessions = two_sessions(rt, rt.alloc(), &refusing);
+    let start = octets(rt, rt.alloc(), START_03);
     let prepared = sessions.prepare(0, &View::read(&start)?)?;
     assert!(rt; open(&sessions) == 0b000110, "prepared");
     refusing.refuse_nth(1);

@@ -5,6 +5,8 @@
 #[cfg(test)]
 mod cause_tests;
 #[cfg(test)]
+mod examples;
+#[cfg(test)]
 mod ledger_tests;
 #[cfg(test)]
 mod requests;

@@ -52,10 +52,9 @@ fn expect_names(
     Ok(())
 }
 
-#[test]
-fn the_first_of_each_name_counts(rt: HostRuntime) -> Result<(), Fail> {
+fn the_first_of_each_name_counts(rt: &HostRuntime) -> Result<(), Fail> {
     let config = config(rt.alloc(), "")?;
-    expect_names(&rt, rt.alloc(), &config, &NAMED)
+    expect_names(rt, rt.alloc(), &config, &NAMED)
 }
 
 /// Whether a job is of this sender, and has the place, the source and the packet of its arrival.
@@ -197,11 +196,18 @@ fn expect_rows(rt: &impl Abort, alloc: Global, config: &Config, tables: &[Rows])
     }
 }
 
-#[test]
-fn each_arrival_gives_what_it_should(rt: HostRuntime) -> Result<(), Fail> {
+fn each_arrival_gives_what_it_should(rt: &HostRuntime) -> Result<(), Fail> {
     let plain = config(rt.alloc(), "")?;
-    expect_rows(&rt, rt.alloc(), &plain, &ARRIVALS);
+    expect_rows(rt, rt.alloc(), &plain, &ARRIVALS);
     let federated = config(rt.alloc(), federation::KEYS)?;
-    expect_rows(&rt, rt.alloc(), &federated, &federation::ARRIVALS);
+    expect_rows(rt, rt.alloc(), &federated, &federation::ARRIVALS);
+    Ok(())
+}
+
+/// All of them, in one test: a test costs the proof more than an example.
+#[test]
+fn all_examples(rt: HostRuntime) -> Result<(), Fail> {
+    the_first_of_each_name_counts(&rt)?;
+    each_arrival_gives_what_it_should(&rt)?;
     Ok(())
 }

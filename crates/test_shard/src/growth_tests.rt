@@ -19,10 +19,9 @@ fn answers_twice(rt: &impl Abort, alloc: Global, script: &str) -> bool {
     texts.sent.as_slice() == script.as_bytes() && texts.kept.as_slice() == script.as_bytes()
 }
 
-#[test]
-fn each_growth_of_steps_and_ticks(rt: HostRuntime) {
+pub(crate) fn each_growth_of_steps_and_ticks(rt: &HostRuntime) {
     for (what, script) in GIVEN {
-        assert!(rt; answers_twice(&rt, rt.alloc(), script), "{what}");
+        assert!(rt; answers_twice(rt, rt.alloc(), script), "{what}");
     }
 }
 
@@ -60,9 +59,8 @@ fn new_is_refused(rt: &impl Abort, alloc: Global) -> bool {
     is_refused(&over, &config)
 }
 
-#[test]
-fn each_growth_of_a_new_shard(rt: HostRuntime) {
-    assert!(rt; new_is_refused(&rt, rt.alloc()));
+pub(crate) fn each_growth_of_a_new_shard(rt: &HostRuntime) {
+    assert!(rt; new_is_refused(rt, rt.alloc()));
 }
 
 /// Makes the broker of all shards, with each growth refused in turn: whether each refusal is told.
@@ -89,7 +87,6 @@ fn answer_from_later_starts(rt: &impl Abort, alloc: Global) -> bool {
     texts.sent.as_slice() == LATER_STARTS.as_bytes()
 }
 
-#[test]
-fn each_growth_from_later_starts(rt: HostRuntime) {
-    assert!(rt; answer_from_later_starts(&rt, rt.alloc()));
+pub(crate) fn each_growth_from_later_starts(rt: &HostRuntime) {
+    assert!(rt; answer_from_later_starts(rt, rt.alloc()));
 }

@@ -4,6 +4,8 @@
 #[cfg(test)]
 mod configuration;
 #[cfg(test)]
+mod examples;
+#[cfg(test)]
 mod given;
 #[cfg(test)]
 mod growth_tests;

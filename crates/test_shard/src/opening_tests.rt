@@ -40,12 +40,11 @@ fn goes_on(rt: &impl Abort, alloc: Global, config: &Config) -> (bool, Option<Sta
 }
 
 // One Access-Request was forwarded: its Request Authenticator took four words, and its Proxy-State a ticket.
-#[test]
-fn a_shard_says_how_it_began_and_where_it_would_go_on(rt: HostRuntime) {
-    let config = two_realms(&rt, rt.alloc(), 2);
+pub(crate) fn a_shard_says_how_it_began_and_where_it_would_go_on(rt: &HostRuntime) {
+    let config = two_realms(rt, rt.alloc(), 2);
     let later = Start {
         place: 8,
         ticket: 6,
     };
-    assert!(rt; goes_on(&rt, rt.alloc(), &config) == (true, Some(later), true));
+    assert!(rt; goes_on(rt, rt.alloc(), &config) == (true, Some(later), true));
 }

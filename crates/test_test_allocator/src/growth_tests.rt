@@ -115,18 +115,17 @@ fn is_refused<A: Allocator + Copy>(alloc: A) -> bool {
 }
 
 // By the meaning of `refuse_nth`.
-#[test]
-fn the_nth_growth_alone_is_refused(rt: HostRuntime) {
+fn the_nth_growth_alone_is_refused(rt: &HostRuntime) {
     let refusing = Refusing::new(rt.alloc());
     for n in 0..5u64 {
         refusing.refuse_nth(n);
         let none = refusing.growths() == 0 && !refusing.was_refused();
-        expect(&rt, none, "before any growth", n);
+        expect(rt, none, "before any growth", n);
         for k in 1..5u64 {
             let was_refused = n != 0 && n <= k;
-            expect(&rt, is_refused(&refusing) == (k == n), "refused alone", n);
-            expect(&rt, refusing.growths() == k, "counted", n);
-            expect(&rt, refusing.was_refused() == was_refused, "told", n);
+            expect(rt, is_refused(&refusing) == (k == n), "refused alone", n);
+            expect(rt, refusing.growths() == k, "counted", n);
+            expect(rt, refusing.was_refused() == was_refused, "told", n);
         }
     }
 }
@@ -148,11 +147,10 @@ fn growths_of_a_list(refusing: &Refusing<Global>) -> Result<[u64; 6], AllocError
 }
 
 // A larger block and a smaller one count as the first does, and giving one back does not.
-#[test]
-fn what_counts_as_a_growth(rt: HostRuntime) -> Result<(), Fail> {
+fn what_counts_as_a_growth(rt: &HostRuntime) -> Result<(), Fail> {
     let refusing = Refusing::new(rt.alloc());
     let growths = growths_of_a_list(&refusing)?;
-    expect(&rt, growths == [0, 1, 1, 2, 3, 3], "growths", 0);
+    expect(rt, growths == [0, 1, 1, 2, 3, 3], "growths", 0);
     Ok(())
 }
 
@@ -166,35 +164,32 @@ fn keeps_the_larger_block(refusing: &Refusing<Global>) -> Result<bool, AllocErro
     Ok(is_refused && octets.as_slice() == [7].as_slice() && octets.capacity() == 3)
 }
 
-#[test]
-fn a_smaller_block_that_is_refused_leaves_the_larger_one(rt: HostRuntime) -> Result<(), Fail> {
+fn a_smaller_block_that_is_refused_leaves_the_larger_one(rt: &HostRuntime) -> Result<(), Fail> {
     let refusing = Refusing::new(rt.alloc());
     let keeps = keeps_the_larger_block(&refusing)?;
-    expect(&rt, keeps, "the larger block", 1);
+    expect(rt, keeps, "the larger block", 1);
     Ok(())
 }
 
 // What the allocator below refuses counts too, and is no refusal of this one.
-#[test]
-fn an_error_from_below(rt: HostRuntime) {
+fn an_error_from_below(rt: &HostRuntime) {
     let below = Refusing::new(rt.alloc());
     let above = Refusing::new(&below);
     below.refuse_nth(1);
-    expect(&rt, is_refused(&above), "refused below", 1);
+    expect(rt, is_refused(&above), "refused below", 1);
     let told_below = below.was_refused() && !above.was_refused();
-    expect(&rt, told_below, "told below alone", 1);
+    expect(rt, told_below, "told below alone", 1);
     let counts = [below.growths(), above.growths()];
-    expect(&rt, counts == [1, 1], "counted", 1);
+    expect(rt, counts == [1, 1], "counted", 1);
     // What is refused above isn't asked for below.
     above.refuse_nth(1);
-    expect(&rt, is_refused(&above), "refused above", 2);
+    expect(rt, is_refused(&above), "refused above", 2);
     let counts = [below.growths(), above.growths()];
-    expect(&rt, counts == [1, 1], "counted", 2);
+    expect(rt, counts == [1, 1], "counted", 2);
 }
 
 // The runs are 1, 2, .. and end with the first that meets no refusal: three growths, four runs.
-#[test]
-fn the_runs_end_with_the_first_that_meets_no_refusal(rt: HostRuntime) -> Result<(), Fail> {
+fn the_runs_end_with_the_first_that_meets_no_refusal(rt: &HostRuntime) -> Result<(), Fail> {
     let refusing = Refusing::new(rt.alloc());
     let mut runs = Vec::new(rt.alloc());
     for n in refusing.each_growth() {
@@ -207,38 +202,32 @@ fn the_runs_end_with_the_first_that_meets_no_refusal(rt: HostRuntime) -> Result<
         }
     }
     let expected = [(1, 0), (2, 0), (3, 0), (4, 0)];
-    expect(&rt, runs.as_slice() == expected.as_slice(), "the runs", 4);
+    expect(rt, runs.as_slice() == expected.as_slice(), "the runs", 4);
     // No refusal is left for what comes after.
     for _ in 0..9 {
-        expect(&rt, !is_refused(&refusing), "none is left", 4);
+        expect(rt, !is_refused(&refusing), "none is left", 4);
     }
     Ok(())
 }
 
 // A call that makes a value: the same call then succeeds, with the same value.
-#[test]
-fn each_growth_of_a_call(rt: HostRuntime) -> Result<(), Fail> {
+fn each_growth_of_a_call(rt: &HostRuntime) -> Result<(), Fail> {
     let refusing = Refusing::new(rt.alloc());
     let mut runs = 0;
     for n in refusing.each_growth() {
         refusing.refuse_nth(n);
         let result = joined(&refusing, b"ab", b"cdefghijklm");
-        expect(
-            &rt,
-            result.is_err() == refusing.was_refused(),
-            "an error",
-            n,
-        );
+        expect(rt, result.is_err() == refusing.was_refused(), "an error", n);
         let octets = match result {
             Ok(octets) => octets,
             Err(_) => joined(&refusing, b"ab", b"cdefghijklm")?,
         };
         let is_joined = octets.as_slice() == b"abcdefghijklm".as_slice();
-        expect(&rt, is_joined, "the octets", n);
+        expect(rt, is_joined, "the octets", n);
         runs = n;
     }
     // The blocks of `from_slice`, `with_capacity` and `clone` at least, and the last run.
-    expect(&rt, 4 <= runs, "there are enough", runs);
+    expect(rt, 4 <= runs, "there are enough", runs);
     Ok(())
 }
 
@@ -265,28 +254,22 @@ fn check_values<A: Allocator + Copy>(
 
 // A call that changes a value: what it needs is built before `refuse_nth`. Both lists are full, so
 // the change asks for two blocks, and the third run meets no refusal.
-#[test]
-fn each_growth_of_a_change(rt: HostRuntime) -> Result<(), Fail> {
+fn each_growth_of_a_change(rt: &HostRuntime) -> Result<(), Fail> {
     let refusing = Refusing::new(rt.alloc());
     let mut runs = 0;
     for n in refusing.each_growth() {
         let mut values = full(&refusing)?;
         refusing.refuse_nth(n);
         let result = values.push(b"cde");
-        expect(
-            &rt,
-            result.is_err() == refusing.was_refused(),
-            "an error",
-            n,
-        );
+        expect(rt, result.is_err() == refusing.was_refused(), "an error", n);
         if result.is_err() {
-            check_values(&rt, &values, b"ab", &[0], n);
+            check_values(rt, &values, b"ab", &[0], n);
             values.push(b"cde")?;
         }
-        check_values(&rt, &values, b"abcde", &[0, 2], n);
+        check_values(rt, &values, b"abcde", &[0, 2], n);
         runs = n;
     }
-    expect(&rt, runs == 3, "there are three", runs);
+    expect(rt, runs == 3, "there are three", runs);
     Ok(())
 }
 
@@ -317,19 +300,32 @@ fn check_entries<A: Allocator + Copy>(rt: &impl Abort, entries: &Entries<A>, n: 
 }
 
 // A slab and a map of the kit over the same allocator.
-#[test]
-fn each_growth_of_a_map_and_a_slab(rt: HostRuntime) -> Result<(), Fail> {
+fn each_growth_of_a_map_and_a_slab(rt: &HostRuntime) -> Result<(), Fail> {
     let refusing = Refusing::new(rt.alloc());
     let mut runs = 0;
     for n in refusing.each_growth() {
         let mut entries = Entries::new(&refusing);
         entries.add(1, 10)?;
         refusing.refuse_nth(n);
-        add_all(&rt, &mut entries, &refusing)?;
-        check_entries(&rt, &entries, n);
+        add_all(rt, &mut entries, &refusing)?;
+        check_entries(rt, &entries, n);
         runs = n;
     }
     // The slab outgrows its block, and so does the map.
-    expect(&rt, 3 <= runs, "there are enough", runs);
+    expect(rt, 3 <= runs, "there are enough", runs);
+    Ok(())
+}
+
+/// All of them, in one test: a test costs the proof more than an example.
+#[test]
+fn all_examples(rt: HostRuntime) -> Result<(), Fail> {
+    the_nth_growth_alone_is_refused(&rt);
+    what_counts_as_a_growth(&rt)?;
+    a_smaller_block_that_is_refused_leaves_the_larger_one(&rt)?;
+    an_error_from_below(&rt);
+    the_runs_end_with_the_first_that_meets_no_refusal(&rt)?;
+    each_growth_of_a_call(&rt)?;
+    each_growth_of_a_change(&rt)?;
+    each_growth_of_a_map_and_a_slab(&rt)?;
     Ok(())
 }

@@ -2,6 +2,8 @@
 #![tactic(auto)]
 
 #[cfg(test)]
+mod examples;
+#[cfg(test)]
 mod ids_tests;
 #[cfg(test)]
 mod random_tests;

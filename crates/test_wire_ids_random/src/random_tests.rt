@@ -78,8 +78,7 @@ const AUTHENTICATORS: [([u8; 32], u64, u128, u128); 21] = [
     (ZERO_SEED, 0, LAST_TWO, 0x3328845607b1768976b8e0ada0f13d90),
 ];
 
-#[test]
-fn request_authenticators_are_words_of_the_stream(rt: HostRuntime) {
+pub(crate) fn request_authenticators_are_words_of_the_stream(rt: &HostRuntime) {
     for &(seed, stream, position, expected) in &AUTHENTICATORS {
         let drawn = u128::from_be_bytes(request_authenticator(seed, stream, position));
         assert!(rt; drawn == expected, "stream {stream} at {position}");
@@ -89,8 +88,7 @@ fn request_authenticators_are_words_of_the_stream(rt: HostRuntime) {
 /// A position, and the next one.
 const NEXT_POSITIONS: [(u128, u128); 4] = [(0, 4), (1000, 1004), (LAST_TWO - 2, 0), (LAST_TWO, 2)];
 
-#[test]
-fn four_words_are_taken_at_a_time(rt: HostRuntime) {
+pub(crate) fn four_words_are_taken_at_a_time(rt: &HostRuntime) {
     for (position, next) in NEXT_POSITIONS {
         assert!(rt; next_position(position) == next, "after {position}");
     }

@@ -1,0 +1,13 @@
+//! All examples, in one test: a test costs the proof more than an example.
+
+use crate::{cause_tests, ledger_tests};
+use std::test::Fail;
+
+#[test]
+fn all_examples(rt: HostRuntime) -> Result<(), Fail> {
+    cause_tests::a_request_that_cannot_be_forwarded_has_a_cause(&rt)?;
+    ledger_tests::requests_change_the_ledger(&rt)?;
+    ledger_tests::a_refused_growth_changes_nothing(&rt)?;
+    ledger_tests::a_prepared_change_wants_no_memory(&rt)?;
+    Ok(())
+}
