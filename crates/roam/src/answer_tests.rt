@@ -9,7 +9,10 @@ use log::Level;
 use roam_serve::{Reason, ServeFault, SocketPath};
 use std::io;
 use std::io::{ErrorKind, Write};
+use std::process::Abort;
+use std::sync::Wait;
 use std::test::Fail;
+use std::time::Clock;
 
 /// Octets, and what is shown of them.
 const SHOWN: &[(&[u8], &str)] = &[
@@ -24,7 +27,9 @@ const SHOWN: &[(&[u8], &str)] = &[
     (b"\x9b31m\xc3\xa9", "\\x9b31m\\xc3\\xa9"),
 ];
 
-pub(crate) fn nothing_that_is_shown_steers_a_terminal(rt: &HostRuntime) -> Result<(), Fail> {
+pub(crate) fn nothing_that_is_shown_steers_a_terminal<R: Abort + AllocGlobal>(
+    rt: &R,
+) -> Result<(), Fail> {
     for (octets, wanted) in SHOWN {
         let shown = shown(rt.alloc(), octets)?;
         assert!(rt;
@@ -59,7 +64,7 @@ fn is_whole(answer: &[u8]) -> bool {
     }
 }
 
-pub(crate) fn an_answer_is_whole_or_cut(rt: &HostRuntime) {
+pub(crate) fn an_answer_is_whole_or_cut<R: Abort + AllocGlobal>(rt: &R) {
     for (answer, whole) in ANSWERS {
         assert!(rt; is_whole(answer) == *whole, "{answer:?}");
     }
@@ -88,7 +93,9 @@ impl Write for Reluctant {
     }
 }
 
-pub(crate) fn a_log_writes_each_line_once_where_writes_fail(rt: &HostRuntime) -> Result<(), Fail> {
+pub(crate) fn a_log_writes_each_line_once_where_writes_fail<R: Abort + AllocGlobal + Wait + Clock>(
+    rt: &R,
+) -> Result<(), Fail> {
     let outlet = Outlet::new(rt.alloc(), LogReader::Journal)?;
     let mut writer = Reluctant {
         taken: Vec::new(rt.alloc()),
@@ -105,7 +112,7 @@ pub(crate) fn a_log_writes_each_line_once_where_writes_fail(rt: &HostRuntime) ->
     Ok(())
 }
 
-pub(crate) fn a_control_socket_that_cannot_be_had_is_told(rt: &HostRuntime) {
+pub(crate) fn a_control_socket_that_cannot_be_had_is_told<R: Abort + AllocGlobal>(rt: &R) {
     let mut err = Vec::new(rt.alloc());
     let fault = ServeFault::Control(SocketPath::new("/run/roam/control"), Reason(98));
     let ended = Fault::of_server(fault).tell(&mut err);

@@ -14,7 +14,7 @@ use std::sync::Wait;
 use std::test::Fail;
 use std::thread::Threads;
 use std::time::Clock;
-use std::{env, fs, io, process};
+use std::{env, fs, io};
 
 const USAGE: &str = "usage: roam check CONF
        roam check OLD NEW
@@ -285,13 +285,17 @@ const NO_COMMANDS: &[&[&str]] = &[
     &["a", "b", "c"],
 ];
 
-pub(crate) fn other_words_give_the_usage(rt: &HostRuntime) {
+pub(crate) fn other_words_give_the_usage<
+    R: Files + Env + AllocGlobal + Threads + Wait + Clock + Net + RandomSource + Log + Sync + Abort,
+>(rt: &R) {
     for words in NO_COMMANDS {
         expect(rt, words, 2, "", USAGE);
     }
 }
 
-pub(crate) fn usage_and_version_are_printed(rt: &HostRuntime) {
+pub(crate) fn usage_and_version_are_printed<
+    R: Files + Env + AllocGlobal + Threads + Wait + Clock + Net + RandomSource + Log + Sync + Abort,
+>(rt: &R) {
     for word in ["help", "--help", "-h"] {
         expect(rt, &[word], 0, USAGE, "");
     }
@@ -300,8 +304,9 @@ pub(crate) fn usage_and_version_are_printed(rt: &HostRuntime) {
     }
 }
 
-pub(crate) fn where_nobody_listens_there_is_no_answer(rt: &HostRuntime) -> Result<(), Fail> {
-    let process = process::id(rt.process());
+pub(crate) fn where_nobody_listens_there_is_no_answer<
+    R: Files + Env + AllocGlobal + Threads + Wait + Clock + Net + RandomSource + Log + Sync + Abort,
+>(rt: &R, process: u32) -> Result<(), Fail> {
     let path = file(rt, process, "no-socket", b"")?;
     for path in ["/nowhere/control", path.as_str()] {
         let told = format!(in rt.alloc(); "roam: {path}: no answer\n")?;
@@ -339,8 +344,9 @@ fn expect_comparison<
     Ok(())
 }
 
-pub(crate) fn two_configurations_are_compared(rt: &HostRuntime) -> Result<(), Fail> {
-    let process = process::id(rt.process());
+pub(crate) fn two_configurations_are_compared<
+    R: Files + Env + AllocGlobal + Threads + Wait + Clock + Net + RandomSource + Log + Sync + Abort,
+>(rt: &R, process: u32) -> Result<(), Fail> {
     let all =
         "realm a.example: carried over\nrealm b.example: carried over\nrealm c.example: carried over\n";
     let more = format!(in rt.alloc(); "{LARGER}{FOURTH}")?;
@@ -353,8 +359,9 @@ pub(crate) fn two_configurations_are_compared(rt: &HostRuntime) -> Result<(), Fa
     Ok(())
 }
 
-pub(crate) fn a_configuration_is_counted(rt: &HostRuntime) -> Result<(), Fail> {
-    let process = process::id(rt.process());
+pub(crate) fn a_configuration_is_counted<
+    R: Files + Env + AllocGlobal + Threads + Wait + Clock + Net + RandomSource + Log + Sync + Abort,
+>(rt: &R, process: u32) -> Result<(), Fail> {
     let least = file(rt, process, "least.conf", CONFIGURATION.as_bytes())?;
     let advice = lines_of(rt, least.as_str(), LEAST_ADVICE)?;
     expect(
@@ -432,8 +439,9 @@ fn changed<R: AllocGlobal>(rt: &R, text: &str, old: &str, new: &str) -> Result<S
     Ok(format!(in rt.alloc(); "{front}{new}{back}")?)
 }
 
-pub(crate) fn a_configuration_is_refused_by_name(rt: &HostRuntime) -> Result<(), Fail> {
-    let process = process::id(rt.process());
+pub(crate) fn a_configuration_is_refused_by_name<
+    R: Files + Env + AllocGlobal + Threads + Wait + Clock + Net + RandomSource + Log + Sync + Abort,
+>(rt: &R, process: u32) -> Result<(), Fail> {
     for (old, new, name, place) in REFUSED {
         let text = changed(rt, CONFIGURATION, old, new)?;
         let path = file(rt, process, "refused.conf", text.as_bytes())?;
@@ -463,8 +471,9 @@ fn expect_unreadable<
     Ok(())
 }
 
-pub(crate) fn what_is_no_text_is_unreadable(rt: &HostRuntime) -> Result<(), Fail> {
-    let process = process::id(rt.process());
+pub(crate) fn what_is_no_text_is_unreadable<
+    R: Files + Env + AllocGlobal + Threads + Wait + Clock + Net + RandomSource + Log + Sync + Abort,
+>(rt: &R, process: u32) -> Result<(), Fail> {
     let accepted = file(rt, process, "good.conf", CONFIGURATION.as_bytes())?;
     let refused = file(rt, process, "bad.conf", b"shards = \n")?;
     let binary = file(rt, process, "binary", &[b'#', 0xff, b'\n'])?;
@@ -511,8 +520,9 @@ fn expect_faulty<
     Ok(())
 }
 
-pub(crate) fn a_faulty_line_is_refused_by_its_number(rt: &HostRuntime) -> Result<(), Fail> {
-    let process = process::id(rt.process());
+pub(crate) fn a_faulty_line_is_refused_by_its_number<
+    R: Files + Env + AllocGlobal + Threads + Wait + Clock + Net + RandomSource + Log + Sync + Abort,
+>(rt: &R, process: u32) -> Result<(), Fail> {
     let configuration = file(rt, process, "faulty.conf", CONFIGURATION.as_bytes())?;
     for (_, line) in FAULTY {
         expect_faulty(rt, process, configuration.as_str(), line)?;
@@ -526,8 +536,9 @@ pub(crate) fn a_faulty_line_is_refused_by_its_number(rt: &HostRuntime) -> Result
     Ok(())
 }
 
-pub(crate) fn a_script_is_run(rt: &HostRuntime) -> Result<(), Fail> {
-    let process = process::id(rt.process());
+pub(crate) fn a_script_is_run<
+    R: Files + Env + AllocGlobal + Threads + Wait + Clock + Net + RandomSource + Log + Sync + Abort,
+>(rt: &R, process: u32) -> Result<(), Fail> {
     let configuration = file(rt, process, "run.conf", CONFIGURATION.as_bytes())?;
     for (text, printed) in [
         (EXCHANGE, EXCHANGED),
@@ -581,8 +592,9 @@ fn expect_refused<
     assert!(rt; status == 1, "{words:?} ends with {status}");
 }
 
-pub(crate) fn a_refused_write_is_told(rt: &HostRuntime) -> Result<(), Fail> {
-    let process = process::id(rt.process());
+pub(crate) fn a_refused_write_is_told<
+    R: Files + Env + AllocGlobal + Threads + Wait + Clock + Net + RandomSource + Log + Sync + Abort,
+>(rt: &R, process: u32) -> Result<(), Fail> {
     let configuration = file(rt, process, "write.conf", CONFIGURATION.as_bytes())?;
     let script = file(rt, process, "write.script", EXCHANGE.as_bytes())?;
     expect_refused(rt, &["check", configuration.as_str()], 29);
@@ -606,7 +618,9 @@ fn status_untold<R: Files + AllocGlobal + Threads + Wait + Clock + Net + RandomS
     command(rt, words, &mut out, &mut room.as_mut_slice())
 }
 
-pub(crate) fn a_fault_that_cannot_be_told_keeps_its_status(rt: &HostRuntime) {
+pub(crate) fn a_fault_that_cannot_be_told_keeps_its_status<
+    R: Files + Env + AllocGlobal + Threads + Wait + Clock + Net + RandomSource + Log + Sync + Abort,
+>(rt: &R) {
     assert!(rt; status_untold(rt, &[]) == 2);
     assert!(rt; status_untold(rt, &["check", "/nowhere"]) == 1);
     assert!(rt; Fault::Memory.tell(&mut Stuck).status == 3);
@@ -655,7 +669,9 @@ const SERVER_FAULTS: &[(ServeFault, u8, &str)] = &[
     (ServeFault::Memory, 3, "roam: out of memory\n"),
 ];
 
-pub(crate) fn what_ends_a_server_is_told(rt: &HostRuntime) {
+pub(crate) fn what_ends_a_server_is_told<
+    R: Files + Env + AllocGlobal + Threads + Wait + Clock + Net + RandomSource + Log + Sync + Abort,
+>(rt: &R) {
     for (fault, status, told) in SERVER_FAULTS {
         let mut err = Vec::new(rt.alloc());
         let ended = Fault::of_server(*fault).tell(&mut err).status;

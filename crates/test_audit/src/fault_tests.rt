@@ -1,9 +1,10 @@
 //! What the faults of an audit are told as.
 
 use roam_audit::AuditFault;
+use std::process::Abort;
 use std::test::Fail;
 
-pub(crate) fn faults_are_told(rt: &HostRuntime) -> Result<(), Fail> {
+pub(crate) fn faults_are_told<R: Abort + AllocGlobal>(rt: &R) -> Result<(), Fail> {
     let seats = AuditFault::Seats { shard: 3 }.to_string(rt.alloc())?;
     let receipt = AuditFault::Receipt {
         shard: 3,

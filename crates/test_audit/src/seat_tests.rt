@@ -115,7 +115,7 @@ fn are_noted(rt: &impl Abort, alloc: Global) -> bool {
     true
 }
 
-pub(crate) fn calls_are_noted(rt: &HostRuntime) {
+pub(crate) fn calls_are_noted<R: Abort + AllocGlobal>(rt: &R) {
     assert!(rt; are_noted(rt, rt.alloc()));
 }
 
@@ -170,6 +170,6 @@ fn splits_are_refused(rt: &impl Abort, alloc: Global) -> bool {
     true
 }
 
-pub(crate) fn each_growth_of_a_split(rt: &HostRuntime) {
+pub(crate) fn each_growth_of_a_split<R: Abort + AllocGlobal>(rt: &R) {
     assert!(rt; splits_are_refused(rt, rt.alloc()));
 }

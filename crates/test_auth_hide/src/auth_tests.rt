@@ -9,6 +9,7 @@ use roam_auth::{
     hmac_md5, message_auth, message_ok, request_auth, request_ok, response_auth, response_ok,
 };
 use roam_wire::View;
+use std::process::Abort;
 use test_fixtures::{octets, octets_mut};
 
 const SECRET: [u8; 9] = *b"xyzzy5461";
@@ -69,7 +70,7 @@ const DIGESTS: [[u8; 16]; 5] = [
     *b"\x1b\x09\x09\x46\xd2\x9e\xc5\x04\xdb\x18\xa4\x11\x48\x31\xe2\xe1",
 ];
 
-pub(crate) fn digests_are_those_of_the_rfcs(rt: &HostRuntime) {
+pub(crate) fn digests_are_those_of_the_rfcs<R: Abort + AllocGlobal>(rt: &R) {
     assert!(rt; digests() == DIGESTS);
 }
 
@@ -97,7 +98,7 @@ fn reply_is_signed(place: usize, bit: u8) -> [bool; 4] {
 /// whole, the last octet of the Authenticator, and the last attribute's (RFC 2865, section 7.1).
 const CHANGED: [(usize, u8, bool); 3] = [(0, 0, true), (19, 1, false), (37, 1, false)];
 
-pub(crate) fn the_access_accept_of_the_rfc_is_signed(rt: &HostRuntime) {
+pub(crate) fn the_access_accept_of_the_rfc_is_signed<R: Abort + AllocGlobal>(rt: &R) {
     for (place, bit, signed) in CHANGED {
         let signatures = reply_is_signed(place, bit);
         assert!(rt;
@@ -145,7 +146,7 @@ fn is_signed_over(text: &str, over: [u8; 16]) -> [bool; 2] {
     }
 }
 
-pub(crate) fn published_replies_are_signed(rt: &HostRuntime) {
+pub(crate) fn published_replies_are_signed<R: Abort + AllocGlobal>(rt: &R) {
     for &(text, over) in &PUBLISHED_REPLIES {
         assert!(rt; is_signed_over(text, over) == [true; 2], "{text}");
     }
@@ -186,7 +187,7 @@ fn request_facts(text: &str, digest: [u8; 16], secret: &[u8]) -> [bool; 5] {
     }
 }
 
-pub(crate) fn accounting_and_reverse_requests_are_signed(rt: &HostRuntime) {
+pub(crate) fn accounting_and_reverse_requests_are_signed<R: Abort + AllocGlobal>(rt: &R) {
     for (text, digest, secret) in SIGNED {
         assert!(rt; request_facts(text, digest, secret) == [true; 5], "{text}");
     }
@@ -257,7 +258,7 @@ fn seal_facts(text: &str, over: [u8; 16], seal: [u8; 16], place: usize, bit: u8)
 }
 
 // As it stands, and with one bit changed of the first octet of its seal, and of the last.
-pub(crate) fn packets_are_well_sealed(rt: &HostRuntime) {
+pub(crate) fn packets_are_well_sealed<R: Abort + AllocGlobal>(rt: &R) {
     for &(text, over, seal, at) in &SEALED {
         let facts = [
             seal_facts(text, over, seal, at, 0),
@@ -283,7 +284,7 @@ fn sealed_are_signed() -> [bool; 2] {
     }
 }
 
-pub(crate) fn sealed_packets_are_signed(rt: &HostRuntime) {
+pub(crate) fn sealed_packets_are_signed<R: Abort + AllocGlobal>(rt: &R) {
     assert!(rt; sealed_are_signed() == [true; 2]);
 }
 
@@ -327,7 +328,7 @@ fn unsealed_facts(text: &str) -> [bool; 2] {
     }
 }
 
-pub(crate) fn just_one_message_authenticator_of_sixteen_octets(rt: &HostRuntime) {
+pub(crate) fn just_one_message_authenticator_of_sixteen_octets<R: Abort + AllocGlobal>(rt: &R) {
     for (text, well_sealed) in NOT_SEALED {
         assert!(rt; unsealed_facts(text) == [true, well_sealed], "{text}");
     }

@@ -7,6 +7,7 @@ use roam_hide::{
     HidingKey, password_fits, rehide_password, rehide_salted, rehide_tunnel, rehide_vendor, salted,
 };
 use roam_wire::View;
+use std::process::Abort;
 use test_fixtures::{octets, octets_mut};
 
 const P_AUTHENTICATOR: [u8; 16] = [
@@ -68,7 +69,7 @@ const PASSWORDS: [(&str, &str); 3] = [
     ),
 ];
 
-pub(crate) fn passwords_are_hidden_anew(rt: &HostRuntime) {
+pub(crate) fn passwords_are_hidden_anew<R: Abort + AllocGlobal>(rt: &R) {
     for (by_p, by_h) in PASSWORDS {
         let anew = [
             is_password_anew(by_p, p(), by_h, h()),
@@ -94,7 +95,7 @@ const PUBLISHED_PASSWORDS: [([u8; 16], &str, &str); 2] = [
     ),
 ];
 
-pub(crate) fn published_passwords_are_hidden_anew(rt: &HostRuntime) {
+pub(crate) fn published_passwords_are_hidden_anew<R: Abort + AllocGlobal>(rt: &R) {
     for (authenticator, by_rfc, by_h) in &PUBLISHED_PASSWORDS {
         let rfc = HidingKey {
             secret: b"xyzzy5461",
@@ -122,7 +123,7 @@ const SIZES: [(usize, bool); 14] = [
     (144, false),
 ];
 
-pub(crate) fn passwords_of_these_sizes_fit(rt: &HostRuntime) {
+pub(crate) fn passwords_of_these_sizes_fit<R: Abort + AllocGlobal>(rt: &R) {
     for (size, fits) in SIZES {
         assert!(rt; password_fits(size) == fits, "{size}");
     }
@@ -172,7 +173,7 @@ fn is_tunnel_anew(from_home_server: &str, to_access_server: &str) -> bool {
     *value == *octets(to_access_server, &mut expected)
 }
 
-pub(crate) fn tunnel_passwords_are_hidden_anew(rt: &HostRuntime) {
+pub(crate) fn tunnel_passwords_are_hidden_anew<R: Abort + AllocGlobal>(rt: &R) {
     for &(from_home_server, to_access_server) in &TUNNEL_PASSWORDS {
         assert!(rt;
             is_tunnel_anew(from_home_server, to_access_server),
@@ -208,7 +209,7 @@ fn is_vendor_anew(from_home_server: &str, to_access_server: &str) -> bool {
     *value == *octets(to_access_server, &mut expected)
 }
 
-pub(crate) fn salted_strings_are_hidden_anew(rt: &HostRuntime) {
+pub(crate) fn salted_strings_are_hidden_anew<R: Abort + AllocGlobal>(rt: &R) {
     assert!(rt; [is_salted_anew(), is_vendor_anew(KEYS.0, KEYS.1)] == [true; 2]);
 }
 
@@ -240,7 +241,7 @@ const OTHER_VENDOR_SPECIFICS: [&str; 18] = [
     "00000137",
 ];
 
-pub(crate) fn other_vendor_specifics_stay(rt: &HostRuntime) {
+pub(crate) fn other_vendor_specifics_stay<R: Abort + AllocGlobal>(rt: &R) {
     for text in OTHER_VENDOR_SPECIFICS {
         assert!(rt; is_vendor_anew(text, text), "{text}");
     }
@@ -311,7 +312,7 @@ fn is_salted(text: &str) -> Option<bool> {
     }
 }
 
-pub(crate) fn salted_packets_are_told(rt: &HostRuntime) {
+pub(crate) fn salted_packets_are_told<R: Abort + AllocGlobal>(rt: &R) {
     for (text, want) in PACKETS {
         assert!(rt; is_salted(text) == Some(want), "{text}");
     }

@@ -47,7 +47,7 @@ fn is_found(
     sim(alloc, &configuration, script, &mut text) == Err(fault) && text.is_empty()
 }
 
-pub(crate) fn texts_at_fault_are_found_in_order(rt: &HostRuntime) {
+pub(crate) fn texts_at_fault_are_found_in_order<R: Abort + AllocGlobal>(rt: &R) {
     for (configuration, script, fault) in FAULTS {
         assert!(rt;
             is_found(rt, rt.alloc(), configuration, script, *fault),
@@ -64,7 +64,7 @@ fn is_text(alloc: Global, fault: SimFault, text: &str) -> bool {
     }
 }
 
-pub(crate) fn faults_have_texts(rt: &HostRuntime) {
+pub(crate) fn faults_have_texts<R: Abort + AllocGlobal>(rt: &R) {
     for (fault, text) in TEXTS {
         assert!(rt; is_text(rt.alloc(), *fault, text), "{text:?}");
     }
@@ -78,6 +78,6 @@ fn is_write_told(rt: &impl Abort, alloc: Global) -> bool {
     sim(alloc, &configuration, SCRIPT, &mut writer) == Err(SimFault::Write)
 }
 
-pub(crate) fn a_refused_write_is_told(rt: &HostRuntime) {
+pub(crate) fn a_refused_write_is_told<R: Abort + AllocGlobal>(rt: &R) {
     assert!(rt; is_write_told(rt, rt.alloc()));
 }

@@ -108,6 +108,6 @@ fn is_answered(rt: &impl Abort, alloc: Global) -> bool {
 }
 
 // A realm whose next ticket is 2^63 - 1.
-pub(crate) fn last_ticket_is_given_once(rt: &HostRuntime) {
+pub(crate) fn last_ticket_is_given_once<R: Abort + AllocGlobal>(rt: &R) {
     assert!(rt; is_answered(rt, rt.alloc()));
 }

@@ -4,6 +4,7 @@ use roam_conf::{Endpoint, Place};
 use roam_sim::print_packet;
 use std::alloc::Global;
 use std::io;
+use std::process::Abort;
 
 const NAS: Endpoint = Endpoint {
     ip: [192, 0, 2, 1],
@@ -35,6 +36,6 @@ fn are_lines(alloc: Global) -> bool {
     print_lines(&mut text).is_ok() && text.as_slice() == LINES.as_bytes()
 }
 
-pub(crate) fn lines_of_packets(rt: &HostRuntime) {
+pub(crate) fn lines_of_packets<R: Abort + AllocGlobal>(rt: &R) {
     assert!(rt; are_lines(rt.alloc()));
 }

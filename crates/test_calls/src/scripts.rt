@@ -54,11 +54,11 @@ fn has_events(rt: &impl Abort, alloc: Global, script: &str, events: &str) -> boo
     text.as_slice() == events.as_bytes()
 }
 
-pub(crate) fn events_are_read_in_order(rt: &HostRuntime) {
+pub(crate) fn events_are_read_in_order<R: Abort + AllocGlobal>(rt: &R) {
     assert!(rt; has_events(rt, rt.alloc(), SCRIPT, EVENTS));
 }
 
-pub(crate) fn comments_and_empty_lines_are_no_events(rt: &HostRuntime) {
+pub(crate) fn comments_and_empty_lines_are_no_events<R: Abort + AllocGlobal>(rt: &R) {
     for script in EMPTY {
         assert!(rt; has_events(rt, rt.alloc(), script, ""), "{script:?}");
     }
@@ -77,7 +77,7 @@ fn faulty_line(rt: &impl Abort, alloc: Global, octets: u32) -> u64 {
     }
 }
 
-pub(crate) fn a_datagram_has_65535_octets_at_most(rt: &HostRuntime) {
+pub(crate) fn a_datagram_has_65535_octets_at_most<R: Abort + AllocGlobal>(rt: &R) {
     let lines = [65535, 65536].map(|octets| faulty_line(rt, rt.alloc(), octets));
     assert!(rt; lines == [0, 1]);
 }

@@ -48,6 +48,6 @@ fn counts(rt: &impl Abort, alloc: Global) -> [[u64; 3]; 2] {
 }
 
 // Two are moved and one is sent again; the held reply, which goes, has its place too. The three wait until 7000.
-pub(crate) fn tick_in_its_room_wants_no_memory(rt: &HostRuntime) {
+pub(crate) fn tick_in_its_room_wants_no_memory<R: Abort + AllocGlobal>(rt: &R) {
     assert!(rt; counts(rt, rt.alloc()) == [[4, 3, 0], [0, 0, 0]]);
 }

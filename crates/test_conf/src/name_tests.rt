@@ -76,7 +76,7 @@ fn expect_named(rt: &impl Abort, config: &Config, names: &[(&str, Option<u16>)])
     }
 }
 
-pub(crate) fn the_realm_of_a_name(rt: &HostRuntime) -> Result<(), Fail> {
+pub(crate) fn the_realm_of_a_name<R: Abort + AllocGlobal>(rt: &R) -> Result<(), Fail> {
     let config = config_with(
         rt.alloc(),
         "also = [\"*.a.example\", \"*\"]\n",
@@ -86,7 +86,9 @@ pub(crate) fn the_realm_of_a_name(rt: &HostRuntime) -> Result<(), Fail> {
     Ok(())
 }
 
-pub(crate) fn the_realm_of_a_name_without_a_default(rt: &HostRuntime) -> Result<(), Fail> {
+pub(crate) fn the_realm_of_a_name_without_a_default<R: Abort + AllocGlobal>(
+    rt: &R,
+) -> Result<(), Fail> {
     let config = config_with(
         rt.alloc(),
         "also = [\"*.Test\"]\n",
@@ -112,7 +114,7 @@ fn realm_of_long(
 }
 
 // A name longer than any that a realm can have still ends in a suffix.
-pub(crate) fn the_realm_of_a_long_name(rt: &HostRuntime) -> Result<(), Fail> {
+pub(crate) fn the_realm_of_a_long_name<R: Abort + AllocGlobal>(rt: &R) -> Result<(), Fail> {
     let config = config_with(rt.alloc(), "also = [\"*.c.d\"]\n", "")?;
     let found = [
         realm_of_long(rt.alloc(), &config, 300, ".c.d")?,
@@ -180,6 +182,6 @@ fn expect_lines(
     Ok(())
 }
 
-pub(crate) fn the_faults_of_patterns(rt: &HostRuntime) -> Result<(), Fail> {
+pub(crate) fn the_faults_of_patterns<R: Abort + AllocGlobal>(rt: &R) -> Result<(), Fail> {
     expect_lines(rt, rt.alloc(), &LINES)
 }

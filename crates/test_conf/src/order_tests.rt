@@ -217,11 +217,11 @@ const ARRAYS: [Document; 3] = [
     ),
 ];
 
-pub(crate) fn the_earlier_of_two_faults(rt: &HostRuntime) -> Result<(), Fail> {
+pub(crate) fn the_earlier_of_two_faults<R: Abort + AllocGlobal>(rt: &R) -> Result<(), Fail> {
     expect_documents(rt, rt.alloc(), &TWO_FAULTS)
 }
 
-pub(crate) fn what_may_not_stand_twice(rt: &HostRuntime) -> Result<(), Fail> {
+pub(crate) fn what_may_not_stand_twice<R: Abort + AllocGlobal>(rt: &R) -> Result<(), Fail> {
     expect_changes(rt, rt.alloc(), &ENDPOINTS_TWICE)?;
     expect_documents(rt, rt.alloc(), &SECOND_ONES)?;
     expect_documents(rt, rt.alloc(), &ARRAYS)
@@ -249,6 +249,6 @@ fn expect_names(rt: &impl Abort, alloc: Global, names: &[(ConfFault, &str)]) -> 
     Ok(())
 }
 
-pub(crate) fn a_faults_text_is_its_name(rt: &HostRuntime) -> Result<(), Fail> {
+pub(crate) fn a_faults_text_is_its_name<R: Abort + AllocGlobal>(rt: &R) -> Result<(), Fail> {
     expect_names(rt, rt.alloc(), &NAMES)
 }

@@ -63,7 +63,7 @@ fn texts<'a>(peer: &'a Peer, realm: &'a Realm) -> [&'a str; 5] {
 }
 
 // The values of the sample, as the file has them.
-pub(crate) fn the_sample_is_read(rt: &HostRuntime) -> Result<(), Fail> {
+pub(crate) fn the_sample_is_read<R: Abort + AllocGlobal>(rt: &R) -> Result<(), Fail> {
     let config = config_of(rt.alloc(), &SAMPLE)?;
     let realm = &config.realms[0];
     assert!(rt; numbers(&config, realm) == [1, 1000, 2, 1000, 5000, 300, 100]);
@@ -99,7 +99,7 @@ const LEAST_WITH_REVERSE: [&str; 5] = [
 ];
 
 // What holds where a number isn't written.
-pub(crate) fn numbers_that_are_not_written(rt: &HostRuntime) -> Result<(), Fail> {
+pub(crate) fn numbers_that_are_not_written<R: Abort + AllocGlobal>(rt: &R) -> Result<(), Fail> {
     let config = config_of(rt.alloc(), &LEAST)?;
     let realm = &config.realms[0];
     assert!(rt; numbers(&config, realm) == [1, 100000, 3, 2000, 10000, 4096, 0]);
@@ -109,7 +109,9 @@ pub(crate) fn numbers_that_are_not_written(rt: &HostRuntime) -> Result<(), Fail>
 }
 
 // A realm without a place for reverse requests is nobody's there; with one it remembers sessions.
-pub(crate) fn a_realm_may_take_no_reverse_requests(rt: &HostRuntime) -> Result<(), Fail> {
+pub(crate) fn a_realm_may_take_no_reverse_requests<R: Abort + AllocGlobal>(
+    rt: &R,
+) -> Result<(), Fail> {
     let config = config_of(rt.alloc(), &LEAST)?;
     assert!(rt; config.realms[0].reverse.is_none());
     assert!(rt; config.home_of(0, [198, 51, 100, 1]).is_none());
@@ -131,7 +133,7 @@ fn others(peer: &Peer) -> ([u8; 4], Option<Endpoint>, Option<[u8; 4]>, bool, boo
 }
 
 // The optional keys of a peer, there and left out.
-pub(crate) fn the_keys_of_peers_are_read(rt: &HostRuntime) -> Result<(), Fail> {
+pub(crate) fn the_keys_of_peers_are_read<R: Abort + AllocGlobal>(rt: &R) -> Result<(), Fail> {
     let parts = [
         TOP,
         PEER,
@@ -206,7 +208,9 @@ fn homes(config: &Config) -> [Option<u8>; 4] {
     ]
 }
 
-pub(crate) fn realms_peers_links_and_home_servers_are_found(rt: &HostRuntime) -> Result<(), Fail> {
+pub(crate) fn realms_peers_links_and_home_servers_are_found<R: Abort + AllocGlobal>(
+    rt: &R,
+) -> Result<(), Fail> {
     let config = two_of_each(rt.alloc())?;
     assert!(rt;
         found(&config)
@@ -271,7 +275,7 @@ fn some_same(alloc: Global, config: &Config, changes: &[(&str, &str)]) -> Result
 }
 
 // Equal texts give equal configurations, and a changed value an unequal one.
-pub(crate) fn equality(rt: &HostRuntime) -> Result<(), Fail> {
+pub(crate) fn equality<R: Abort + AllocGlobal>(rt: &R) -> Result<(), Fail> {
     let config = config_of(rt.alloc(), &SAMPLE)?;
     let again = config_of(rt.alloc(), &SAMPLE)?;
     assert!(rt; config == again && !some_same(rt.alloc(), &config, &OTHER_VALUES)?);
@@ -302,7 +306,7 @@ fn optional_flags(config: &Config, realm: &Realm) -> [bool; 3] {
 }
 
 // What counts where a key is absent.
-pub(crate) fn what_absent_keys_say(rt: &HostRuntime) -> Result<(), Fail> {
+pub(crate) fn what_absent_keys_say<R: Abort + AllocGlobal>(rt: &R) -> Result<(), Fail> {
     let config = config_of(rt.alloc(), &SAMPLE)?;
     let realm = &config.realms[0];
     assert!(rt;
@@ -325,7 +329,9 @@ const ALL_KEYS: [&str; 7] = [
     "require_seal = true\n",
 ];
 
-pub(crate) fn the_keys_that_may_be_absent_are_read(rt: &HostRuntime) -> Result<(), Fail> {
+pub(crate) fn the_keys_that_may_be_absent_are_read<R: Abort + AllocGlobal>(
+    rt: &R,
+) -> Result<(), Fail> {
     let config = config_of(rt.alloc(), &ALL_KEYS)?;
     let realm = &config.realms[0];
     assert!(rt;

@@ -58,7 +58,7 @@ fn expect_lengths(rt: &impl Abort, alloc: Global, lengths: &[Length]) -> Result<
     Ok(())
 }
 
-pub(crate) fn the_lengths_of_texts(rt: &HostRuntime) -> Result<(), Fail> {
+pub(crate) fn the_lengths_of_texts<R: Abort + AllocGlobal>(rt: &R) -> Result<(), Fail> {
     expect_lengths(rt, rt.alloc(), &LENGTHS)
 }
 
@@ -134,7 +134,9 @@ fn expect_counts(
     Ok(())
 }
 
-pub(crate) fn the_most_peers_realms_and_servers(rt: &HostRuntime) -> Result<(), Fail> {
+pub(crate) fn the_most_peers_realms_and_servers<R: Abort + AllocGlobal>(
+    rt: &R,
+) -> Result<(), Fail> {
     expect_counts(rt, rt.alloc(), &COUNTS)
 }
 
@@ -176,7 +178,9 @@ fn faults_of_patterns(alloc: Global) -> Result<[Option<ConfFault>; 6], Fail> {
     ])
 }
 
-pub(crate) fn the_most_and_the_longest_patterns(rt: &HostRuntime) -> Result<(), Fail> {
+pub(crate) fn the_most_and_the_longest_patterns<R: Abort + AllocGlobal>(
+    rt: &R,
+) -> Result<(), Fail> {
     let faults = faults_of_patterns(rt.alloc())?;
     assert!(rt; faults == [None, BAD_VALUE, None, BAD_VALUE, None, BAD_VALUE]);
     Ok(())

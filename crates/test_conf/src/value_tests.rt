@@ -2,6 +2,7 @@
 
 use crate::documents::{Change, SEED, expect_changes};
 use roam_conf_reader::ConfFault;
+use std::process::Abort;
 use std::test::Fail;
 use test_fixtures::configuration::{PEER, SERVER};
 
@@ -267,17 +268,19 @@ const BAD_VALUES: [Change; 31] = [
     ("tries = 2", "tries = 2\nTries = 2", BAD_VALUE),
 ];
 
-pub(crate) fn the_ranges_of_numbers(rt: &HostRuntime) -> Result<(), Fail> {
+pub(crate) fn the_ranges_of_numbers<R: Abort + AllocGlobal>(rt: &R) -> Result<(), Fail> {
     expect_changes(rt, rt.alloc(), &INSIDE)?;
     expect_changes(rt, rt.alloc(), &OUTSIDE)?;
     expect_changes(rt, rt.alloc(), &OPTIONAL_NUMBERS)
 }
 
-pub(crate) fn the_spellings_of_texts(rt: &HostRuntime) -> Result<(), Fail> {
+pub(crate) fn the_spellings_of_texts<R: Abort + AllocGlobal>(rt: &R) -> Result<(), Fail> {
     expect_changes(rt, rt.alloc(), &SPELLINGS)
 }
 
-pub(crate) fn keys_that_are_missing_wrong_or_unknown(rt: &HostRuntime) -> Result<(), Fail> {
+pub(crate) fn keys_that_are_missing_wrong_or_unknown<R: Abort + AllocGlobal>(
+    rt: &R,
+) -> Result<(), Fail> {
     expect_changes(rt, rt.alloc(), &WITHOUT_REQUIRED)?;
     expect_changes(rt, rt.alloc(), &WITHOUT_OPTIONAL)?;
     expect_changes(rt, rt.alloc(), &BAD_VALUES)?;

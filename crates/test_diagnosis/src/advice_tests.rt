@@ -1,6 +1,7 @@
 //! What is advised.
 
 use crate::samples::{Change, expect_told};
+use std::process::Abort;
 use std::test::Fail;
 
 const ADVICE: [Change; 19] = [
@@ -81,6 +82,6 @@ const ADVICE: [Change; 19] = [
     ),
 ];
 
-pub(crate) fn what_is_unwise_is_said(rt: &HostRuntime) -> Result<(), Fail> {
+pub(crate) fn what_is_unwise_is_said<R: Abort + AllocGlobal>(rt: &R) -> Result<(), Fail> {
     expect_told(rt, rt.alloc(), &ADVICE)
 }

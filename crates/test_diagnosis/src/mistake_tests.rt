@@ -2,9 +2,12 @@
 
 use crate::mistakes::{BAD_VALUES, DUPLICATES, MISSING, SYNTAX};
 use crate::samples::expect_told;
+use std::process::Abort;
 use std::test::Fail;
 
-pub(crate) fn a_mistake_is_said_where_it_stands(rt: &HostRuntime) -> Result<(), Fail> {
+pub(crate) fn a_mistake_is_said_where_it_stands<R: Abort + AllocGlobal>(
+    rt: &R,
+) -> Result<(), Fail> {
     expect_told(rt, rt.alloc(), &SYNTAX)?;
     expect_told(rt, rt.alloc(), &MISSING)?;
     expect_told(rt, rt.alloc(), &BAD_VALUES)?;

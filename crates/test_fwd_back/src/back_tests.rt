@@ -10,6 +10,7 @@ use roam_wire::attribute_type::MESSAGE_AUTHENTICATOR;
 use roam_wire::code::is_access_reply;
 use roam_wire::{Refusal, View};
 use std::alloc::Allocator;
+use std::process::Abort;
 use std::test::Fail;
 use test_allocator::Refusing;
 use test_fixtures::octets;
@@ -57,7 +58,7 @@ fn is_returned<A: Allocator>(alloc: A, reply: &str, request: &str, expected: &st
     appended && out.as_slice().split_first() == Some((&0xee, octets(expected, &mut third)))
 }
 
-pub(crate) fn reverse_replies_go_back_to_the_home_server(rt: &HostRuntime) {
+pub(crate) fn reverse_replies_go_back_to_the_home_server<R: Abort + AllocGlobal>(rt: &R) {
     for (reply, expected) in REVERSE_REPLIES {
         assert!(rt;
             refusal(reply, COA_FORWARDED, ACCESS_SERVER) == 0,
@@ -68,7 +69,7 @@ pub(crate) fn reverse_replies_go_back_to_the_home_server(rt: &HostRuntime) {
 }
 
 // Each growth refused in turn leaves what stood there; then the packet stands behind it.
-pub(crate) fn each_growth_of_back_is_refused(rt: &HostRuntime) -> Result<(), Fail> {
+pub(crate) fn each_growth_of_back_is_refused<R: Abort + AllocGlobal>(rt: &R) -> Result<(), Fail> {
     let (mut room, mut other, mut third) = ([0; 160], [0; 160], [0; 160]);
     let reply = octets(SEALED_OVER_ZEROS, &mut room);
     let request = octets(SEALED, &mut other);

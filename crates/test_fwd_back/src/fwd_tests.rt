@@ -6,6 +6,7 @@ use crate::exchanges::{ACCESS_SERVER, HOME_SERVER, SEALED, START};
 use roam_fwd::{can_be_forwarded, forward, forwarded_len};
 use roam_wire::{NoMemory, View, code};
 use std::alloc::Allocator;
+use std::process::Abort;
 use std::test::Fail;
 use test_allocator::Refusing;
 use test_fixtures::octets;
@@ -64,14 +65,16 @@ fn is_forwarded<A: Allocator>(alloc: A, row: Row) -> bool {
     appended.is_ok() && out.as_slice() == octets(forwarded, &mut expected)
 }
 
-pub(crate) fn requests_are_forwarded(rt: &HostRuntime) {
+pub(crate) fn requests_are_forwarded<R: Abort + AllocGlobal>(rt: &R) {
     for row in FORWARDED {
         assert!(rt; is_forwarded(rt.alloc(), row), "{}", row.3);
     }
 }
 
 // Each growth refused in turn leaves what stood there; then the packet stands behind it.
-pub(crate) fn each_growth_refused_leaves_the_buffer(rt: &HostRuntime) -> Result<(), Fail> {
+pub(crate) fn each_growth_refused_leaves_the_buffer<R: Abort + AllocGlobal>(
+    rt: &R,
+) -> Result<(), Fail> {
     let refusing = Refusing::new(rt.alloc());
     let mut room = [0; 160];
     let request = octets(SEALED, &mut room);
@@ -140,7 +143,7 @@ fn size_of(request: &str) -> usize {
     }
 }
 
-pub(crate) fn an_access_request_gains_what_it_lacks(rt: &HostRuntime) {
+pub(crate) fn an_access_request_gains_what_it_lacks<R: Abort + AllocGlobal>(rt: &R) {
     for (request, size) in ACCESS_REQUESTS {
         assert!(rt; size_of(request) == size, "{request}");
     }
@@ -176,7 +179,7 @@ fn can(request: &str) -> Option<bool> {
     Some(can_be_forwarded(&view))
 }
 
-pub(crate) fn a_request_has_at_most_one_message_authenticator(rt: &HostRuntime) {
+pub(crate) fn a_request_has_at_most_one_message_authenticator<R: Abort + AllocGlobal>(rt: &R) {
     for (request, expected) in SEALS {
         assert!(rt; can(request) == Some(expected), "{request}");
     }

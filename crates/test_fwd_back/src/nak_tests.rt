@@ -5,6 +5,7 @@ use roam_back::{nak, nak_len, nak_reserved};
 use roam_wire::code::{COA_REQUEST, DISCONNECT_REQUEST};
 use roam_wire::{Refusal, View};
 use std::alloc::Allocator;
+use std::process::Abort;
 use test_allocator::Refusing;
 use test_fixtures::octets;
 
@@ -101,7 +102,7 @@ fn is_refused_with<A: Allocator + Copy>(alloc: A, row: &Nak) -> bool {
     alone.as_slice() == expected && behind.as_slice().split_first() == Some((&0xee, expected))
 }
 
-pub(crate) fn reverse_requests_are_refused(rt: &HostRuntime) {
+pub(crate) fn reverse_requests_are_refused<R: Abort + AllocGlobal>(rt: &R) {
     for row in &NAKS {
         assert!(rt; is_refused_with(rt.alloc(), row), "{}", row.0);
     }
@@ -118,7 +119,7 @@ fn refusal_of_nak<A: Allocator>(alloc: A) -> u8 {
 }
 
 // Each growth refused in turn, and the same call again.
-pub(crate) fn each_growth_of_nak_is_refused(rt: &HostRuntime) {
+pub(crate) fn each_growth_of_nak_is_refused<R: Abort + AllocGlobal>(rt: &R) {
     let refusing = Refusing::new(rt.alloc());
     for n in refusing.each_growth() {
         refusing.refuse_nth(n);

@@ -6,6 +6,7 @@ use crate::exchanges::{
 };
 use roam_back::check_reply;
 use roam_wire::View;
+use std::process::Abort;
 use test_fixtures::octets;
 
 /// The number of a reply's refusal, where a seal is required or not: 0 where it is taken.
@@ -94,7 +95,7 @@ const REPLIES: [Reply; 7] = [
     ),
 ];
 
-pub(crate) fn replies_are_refused_for_the_first_cause(rt: &HostRuntime) {
+pub(crate) fn replies_are_refused_for_the_first_cause<R: Abort + AllocGlobal>(rt: &R) {
     for (what, reply, forwarded, secret, expected) in REPLIES {
         assert!(rt; refusal(reply, forwarded, secret) == expected, "{what}");
     }
@@ -178,7 +179,9 @@ const REQUIRED_SEALS: [RequiredReply; 10] = [
     ),
 ];
 
-pub(crate) fn access_replies_without_a_seal_are_refused_where_one_is_required(rt: &HostRuntime) {
+pub(crate) fn access_replies_without_a_seal_are_refused_where_one_is_required<
+    R: Abort + AllocGlobal,
+>(rt: &R) {
     for (what, reply, forwarded, required, free) in REQUIRED_SEALS {
         let found = (
             refusal_from(reply, forwarded, HOME_SERVER, true),
@@ -219,7 +222,7 @@ fn refusal_of_codes(request_code: u8, reply_code: u8) -> u8 {
     }
 }
 
-pub(crate) fn each_code_answers_its_request(rt: &HostRuntime) {
+pub(crate) fn each_code_answers_its_request<R: Abort + AllocGlobal>(rt: &R) {
     for request in 0..=255u8 {
         for reply in 0..=255u8 {
             let answers = ANSWERS.contains(&(request, reply));

@@ -95,7 +95,7 @@ fn check_returned(rt: &impl Abort, alloc: Global, row: Row) -> Result<(), Fail> 
     Ok(())
 }
 
-pub(crate) fn access_replies_are_returned(rt: &HostRuntime) -> Result<(), Fail> {
+pub(crate) fn access_replies_are_returned<R: Abort + AllocGlobal>(rt: &R) -> Result<(), Fail> {
     for row in ROWS {
         check_returned(rt, rt.alloc(), row)?;
     }

@@ -182,7 +182,7 @@ fn check_forwarded(rt: &impl Abort, alloc: Global, row: &Row) -> Result<(), Fail
     Ok(())
 }
 
-pub(crate) fn access_requests_are_forwarded(rt: &HostRuntime) -> Result<(), Fail> {
+pub(crate) fn access_requests_are_forwarded<R: Abort + AllocGlobal>(rt: &R) -> Result<(), Fail> {
     for row in &ROWS {
         check_forwarded(rt, rt.alloc(), row)?;
     }
@@ -215,7 +215,7 @@ const ODD: [(&str, bool); 6] = [
     ),
 ];
 
-pub(crate) fn odd_passwords_and_seals_are_not_forwarded(rt: &HostRuntime) {
+pub(crate) fn odd_passwords_and_seals_are_not_forwarded<R: Abort + AllocGlobal>(rt: &R) {
     for &(request, can) in &ODD {
         let octets = octets(rt, rt.alloc(), request);
         let view = View::read(&octets).expect(rt, "a packet");

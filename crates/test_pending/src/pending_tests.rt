@@ -9,6 +9,7 @@ use roam_pending::{
 };
 use roam_wire::{NoMemory, Octets};
 use std::alloc::Allocator;
+use std::process::Abort;
 use std::test::Fail;
 use test_allocator::Refusing;
 
@@ -110,7 +111,7 @@ fn tickets<A: Allocator>(pending: &Pending<A>) -> [Option<u64>; 4] {
     ]
 }
 
-fn entries_stand_in_order_of_ticket(rt: &HostRuntime) -> Result<(), Fail> {
+fn entries_stand_in_order_of_ticket<R: Abort + AllocGlobal>(rt: &R) -> Result<(), Fail> {
     let pending = three(rt.alloc())?;
     assert_eq!(rt; tickets(&pending), [Some(2), Some(5), Some(9), None]);
     Ok(())
@@ -128,7 +129,7 @@ fn gap_of_five<A: Allocator>(pending: &mut Pending<A>) -> [Option<u64>; 4] {
     ]
 }
 
-fn the_gap_of_an_entry_closes(rt: &HostRuntime) -> Result<(), Fail> {
+fn the_gap_of_an_entry_closes<R: Abort + AllocGlobal>(rt: &R) -> Result<(), Fail> {
     let mut pending = three(rt.alloc())?;
     let gap = gap_of_five(&mut pending);
     assert_eq!(rt; gap, [Some(5), None, Some(9), None]);
@@ -152,7 +153,7 @@ fn found<A: Allocator>(pending: &Pending<A>) -> [Option<u64>; 6] {
     ]
 }
 
-fn entries_are_found_by_ticket_and_key(rt: &HostRuntime) -> Result<(), Fail> {
+fn entries_are_found_by_ticket_and_key<R: Abort + AllocGlobal>(rt: &R) -> Result<(), Fail> {
     let pending = three(rt.alloc())?;
     assert_eq!(rt;
         found(&pending),
@@ -176,7 +177,7 @@ fn dues<A: Allocator>(pending: &Pending<A>) -> [Option<u64>; 6] {
     ]
 }
 
-fn due_entries_come_by_deadline_and_ticket(rt: &HostRuntime) -> Result<(), Fail> {
+fn due_entries_come_by_deadline_and_ticket<R: Abort + AllocGlobal>(rt: &R) -> Result<(), Fail> {
     let pending = three(rt.alloc())?;
     assert_eq!(rt;
         dues(&pending),
@@ -214,7 +215,7 @@ fn once_sent<A: Allocator + Copy>(alloc: A, pending: &mut Pending<A>) -> [Option
     ]
 }
 
-fn entry_that_was_sent_again_waits_longer(rt: &HostRuntime) -> Result<(), Fail> {
+fn entry_that_was_sent_again_waits_longer<R: Abort + AllocGlobal>(rt: &R) -> Result<(), Fail> {
     let mut pending = three(rt.alloc())?;
     let sent = once_sent(rt.alloc(), &mut pending);
     assert_eq!(rt; sent, [Some(1), Some(2)]);
@@ -242,7 +243,7 @@ fn once_answered<A: Allocator + Copy>(alloc: A, pending: &mut Pending<A>) -> [Op
     ]
 }
 
-fn entry_that_was_answered_is_done(rt: &HostRuntime) -> Result<(), Fail> {
+fn entry_that_was_answered_is_done<R: Abort + AllocGlobal>(rt: &R) -> Result<(), Fail> {
     let mut pending = three(rt.alloc())?;
     let answered = once_answered(rt.alloc(), &mut pending);
     assert_eq!(rt; answered, [None, Some(5), Some(5), None]);
@@ -263,7 +264,7 @@ fn insert_refused<A: Allocator + Copy>(
     Ok((refused, held, ticket_of(pending.at(2))))
 }
 
-fn each_growth_of_an_insert(rt: &HostRuntime) -> Result<(), Fail> {
+fn each_growth_of_an_insert<R: Abort + AllocGlobal>(rt: &R) -> Result<(), Fail> {
     let refusing = Refusing::new(rt.alloc());
     for n in refusing.each_growth() {
         let mut pending = three(&refusing)?;
@@ -282,7 +283,7 @@ fn each_growth_of_an_insert(rt: &HostRuntime) -> Result<(), Fail> {
     Ok(())
 }
 
-fn each_growth_of_reserve(rt: &HostRuntime) -> Result<(), Fail> {
+fn each_growth_of_reserve<R: Abort + AllocGlobal>(rt: &R) -> Result<(), Fail> {
     let refusing = Refusing::new(rt.alloc());
     for n in refusing.each_growth() {
         let mut pending = three(&refusing)?;
@@ -299,7 +300,7 @@ fn replaced<A: Allocator + Copy>(alloc: A, pending: &mut Pending<A>) -> bool {
     pending.remove(2).is_some() && add(pending, waiting(alloc, 1, 10, 10)).is_ok()
 }
 
-fn removal_makes_room_for_one_insert(rt: &HostRuntime) -> Result<(), Fail> {
+fn removal_makes_room_for_one_insert<R: Abort + AllocGlobal>(rt: &R) -> Result<(), Fail> {
     let refusing = Refusing::new(rt.alloc());
     let mut pending = three(&refusing)?;
     refusing.refuse_nth(1);

@@ -6,6 +6,7 @@ use crate::tape::{Answer, Tape};
 use roam_conf::{Endpoint, Place};
 use roam_port::{FAULTS_TO_GIVE_UP, Heard, listen};
 use std::alloc::{Allocator, Global};
+use std::process::Abort;
 use std::test::Fail;
 use test_allocator::Refusing;
 
@@ -74,7 +75,7 @@ fn answers() -> [Answer; 100] {
     answers
 }
 
-pub(crate) fn hundred_faults_in_a_row_give_up(rt: &HostRuntime) -> Result<(), Fail> {
+pub(crate) fn hundred_faults_in_a_row_give_up<R: Abort + AllocGlobal>(rt: &R) -> Result<(), Fail> {
     let answers = answers();
     let mut port = tape(rt.alloc(), &answers);
     let mut faults = 0;
@@ -84,7 +85,7 @@ pub(crate) fn hundred_faults_in_a_row_give_up(rt: &HostRuntime) -> Result<(), Fa
     Ok(())
 }
 
-pub(crate) fn datagram_without_memory_is_lost(rt: &HostRuntime) -> Result<(), Fail> {
+pub(crate) fn datagram_without_memory_is_lost<R: Abort + AllocGlobal>(rt: &R) -> Result<(), Fail> {
     let answers = answers();
     let mut port = tape(rt.alloc(), &answers);
     let mut faults = 0;
@@ -96,7 +97,7 @@ pub(crate) fn datagram_without_memory_is_lost(rt: &HostRuntime) -> Result<(), Fa
     Ok(())
 }
 
-pub(crate) fn silence_ends_a_row_of_faults(rt: &HostRuntime) -> Result<(), Fail> {
+pub(crate) fn silence_ends_a_row_of_faults<R: Abort + AllocGlobal>(rt: &R) -> Result<(), Fail> {
     let mut answers = [Answer::Fault; 60];
     answers[50] = Answer::Nothing;
     let mut port = tape(rt.alloc(), &answers);

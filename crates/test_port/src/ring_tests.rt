@@ -5,6 +5,7 @@ use crate::packets::{number, packet, taken_in_order};
 use roam_port::{Outlet, ring};
 use roam_wire::NoMemory;
 use std::alloc::Allocator;
+use std::process::Abort;
 use std::test::Fail;
 use test_allocator::Refusing;
 
@@ -22,7 +23,7 @@ fn fill<A: Allocator + Copy>(
     Ok(None)
 }
 
-pub(crate) fn ring_holds_1024_packets_in_order(rt: &HostRuntime) -> Result<(), Fail> {
+pub(crate) fn ring_holds_1024_packets_in_order<R: Abort + AllocGlobal>(rt: &R) -> Result<(), Fail> {
     let (mut outlet, mut intake) = ring(rt.alloc())?;
     let back = fill(rt.alloc(), &mut outlet, 2000)?;
     let taken = taken_in_order(&mut intake);
@@ -43,7 +44,7 @@ fn after_the_worker<A: Allocator + Copy>(alloc: A) -> Result<(bool, bool, u16, b
     Ok((before, after, taken, intake.is_empty()))
 }
 
-pub(crate) fn packets_outlive_their_worker(rt: &HostRuntime) -> Result<(), Fail> {
+pub(crate) fn packets_outlive_their_worker<R: Abort + AllocGlobal>(rt: &R) -> Result<(), Fail> {
     let seen = after_the_worker(rt.alloc())?;
     assert!(rt; seen == (false, true, 3, true));
     Ok(())
@@ -60,13 +61,13 @@ fn room<A: Allocator + Copy>(alloc: A) -> Result<[usize; 3], NoMemory> {
     Ok([before, count, outlet.room_beside(&mut intake)])
 }
 
-pub(crate) fn room_is_what_no_packet_takes(rt: &HostRuntime) -> Result<(), Fail> {
+pub(crate) fn room_is_what_no_packet_takes<R: Abort + AllocGlobal>(rt: &R) -> Result<(), Fail> {
     let room = room(rt.alloc())?;
     assert!(rt; room == [1023, 1, 1024]);
     Ok(())
 }
 
-pub(crate) fn two_packets_go_through(rt: &HostRuntime) -> Result<(), Fail> {
+pub(crate) fn two_packets_go_through<R: Abort + AllocGlobal>(rt: &R) -> Result<(), Fail> {
     let alloc = rt.alloc();
     let (first, second) = through(alloc, packet(alloc, 7)?, packet(alloc, 8)?)?;
     let numbers = (number(&first), number(&second));
@@ -74,7 +75,7 @@ pub(crate) fn two_packets_go_through(rt: &HostRuntime) -> Result<(), Fail> {
     Ok(())
 }
 
-pub(crate) fn each_growth_of_a_ring(rt: &HostRuntime) -> Result<(), Fail> {
+pub(crate) fn each_growth_of_a_ring<R: Abort + AllocGlobal>(rt: &R) -> Result<(), Fail> {
     let refusing = Refusing::new(rt.alloc());
     for n in refusing.each_growth() {
         refusing.refuse_nth(n);

@@ -6,6 +6,7 @@ use roam_port::{Losses, Outbox, SendFault, Sent, Standing, share_of};
 use roam_route::Out;
 use roam_wire::{NoMemory, Octets};
 use std::alloc::Global;
+use std::process::Abort;
 use std::test::Fail;
 use test_allocator::Refusing;
 
@@ -64,7 +65,9 @@ fn send_three(
     Ok((sent, outbox.waiting_at(0), outbox.take_account().losses))
 }
 
-pub(crate) fn packet_whose_send_fails_is_lost_and_counted(rt: &HostRuntime) -> Result<(), Fail> {
+pub(crate) fn packet_whose_send_fails_is_lost_and_counted<R: Abort + AllocGlobal>(
+    rt: &R,
+) -> Result<(), Fail> {
     let mut ports = [tape(rt.alloc(), &[(1, SendFault::Unreachable)])];
     let (sent, waiting, losses) = send_three(rt.alloc(), &mut ports)?;
     let one = Losses {
@@ -78,8 +81,8 @@ pub(crate) fn packet_whose_send_fails_is_lost_and_counted(rt: &HostRuntime) -> R
     Ok(())
 }
 
-pub(crate) fn packets_whose_socket_has_no_room_stand_aside_in_order(
-    rt: &HostRuntime,
+pub(crate) fn packets_whose_socket_has_no_room_stand_aside_in_order<R: Abort + AllocGlobal>(
+    rt: &R,
 ) -> Result<(), Fail> {
     let mut ports = [tape(rt.alloc(), &[(1, SendFault::WouldBlock)])];
     let (sent, waiting, losses) = send_three(rt.alloc(), &mut ports)?;
@@ -89,7 +92,7 @@ pub(crate) fn packets_whose_socket_has_no_room_stand_aside_in_order(
     Ok(())
 }
 
-pub(crate) fn each_fault_counts_as_its_own(rt: &HostRuntime) -> Result<(), Fail> {
+pub(crate) fn each_fault_counts_as_its_own<R: Abort + AllocGlobal>(rt: &R) -> Result<(), Fail> {
     let faults = [
         (0, SendFault::NotPermitted),
         (1, SendFault::Other),
@@ -173,9 +176,9 @@ fn flood(alloc: Global, count: u16) -> Result<AfterFlood, NoMemory> {
     })
 }
 
-pub(crate) fn flood_for_a_socket_without_room_costs_no_other_socket_its_packet(
-    rt: &HostRuntime,
-) -> Result<(), Fail> {
+pub(crate) fn flood_for_a_socket_without_room_costs_no_other_socket_its_packet<
+    R: Abort + AllocGlobal,
+>(rt: &R) -> Result<(), Fail> {
     let after = flood(rt.alloc(), 1024)?;
     assert!(rt; after.sends == [1, 1], "each socket was tried once");
     assert!(rt; after.waiting == 256 && after.standing == Some(Standing::Aside));
@@ -183,14 +186,18 @@ pub(crate) fn flood_for_a_socket_without_room_costs_no_other_socket_its_packet(
     Ok(())
 }
 
-pub(crate) fn packet_257_finds_the_share_of_its_socket_full(rt: &HostRuntime) -> Result<(), Fail> {
+pub(crate) fn packet_257_finds_the_share_of_its_socket_full<R: Abort + AllocGlobal>(
+    rt: &R,
+) -> Result<(), Fail> {
     let last = flood(rt.alloc(), 256)?.lost;
     let first = flood(rt.alloc(), 257)?.lost;
     assert!(rt; (last, first) == (0, 1));
     Ok(())
 }
 
-pub(crate) fn shares_shrink_where_there_are_many_sockets(rt: &HostRuntime) -> Result<(), Fail> {
+pub(crate) fn shares_shrink_where_there_are_many_sockets<R: Abort + AllocGlobal>(
+    rt: &R,
+) -> Result<(), Fail> {
     let shares = [share_of(4), share_of(256), share_of(512), share_of(2050)];
     assert!(rt; shares == [256, 256, 128, 32]);
     Ok(())
@@ -219,7 +226,7 @@ fn send_by_place(alloc: Global, places: &[Place]) -> Result<([u8; PORTS], u64), 
     Ok((went, outbox.take_account().losses.full_ring))
 }
 
-pub(crate) fn packet_leaves_from_its_place(rt: &HostRuntime) -> Result<(), Fail> {
+pub(crate) fn packet_leaves_from_its_place<R: Abort + AllocGlobal>(rt: &R) -> Result<(), Fail> {
     let places = [
         Place::Reverse(0),
         Place::Out(0),
@@ -232,7 +239,7 @@ pub(crate) fn packet_leaves_from_its_place(rt: &HostRuntime) -> Result<(), Fail>
     Ok(())
 }
 
-pub(crate) fn each_growth_of_an_outbox(rt: &HostRuntime) -> Result<(), Fail> {
+pub(crate) fn each_growth_of_an_outbox<R: Abort + AllocGlobal>(rt: &R) -> Result<(), Fail> {
     let refusing = Refusing::new(rt.alloc());
     for n in refusing.each_growth() {
         refusing.refuse_nth(n);

@@ -2,6 +2,7 @@
 
 use roam_conf::Place;
 use roam_port::{place_of, socket_of, worker_of};
+use std::process::Abort;
 use std::test::Fail;
 
 const SOCKETS: [(usize, Place); 7] = [
@@ -24,7 +25,7 @@ fn first_wrong(sockets: &[(usize, Place)]) -> Option<Place> {
     None
 }
 
-pub(crate) fn sockets_stand_in_order(rt: &HostRuntime) -> Result<(), Fail> {
+pub(crate) fn sockets_stand_in_order<R: Abort + AllocGlobal>(rt: &R) -> Result<(), Fail> {
     assert!(rt; first_wrong(&SOCKETS).is_none());
     Ok(())
 }
@@ -49,7 +50,7 @@ fn first_elsewhere(workers: &[(Place, usize, usize)]) -> Option<Place> {
     None
 }
 
-pub(crate) fn sockets_are_dealt_out(rt: &HostRuntime) -> Result<(), Fail> {
+pub(crate) fn sockets_are_dealt_out<R: Abort + AllocGlobal>(rt: &R) -> Result<(), Fail> {
     assert!(rt; first_elsewhere(&WORKERS).is_none());
     Ok(())
 }

@@ -325,7 +325,9 @@ fn check_rows(rt: &impl Abort, alloc: Global, rows: &[Row]) -> Result<(), Fail> 
     Ok(())
 }
 
-pub(crate) fn a_request_that_cannot_be_forwarded_has_a_cause(rt: &HostRuntime) -> Result<(), Fail> {
+pub(crate) fn a_request_that_cannot_be_forwarded_has_a_cause<R: Abort + AllocGlobal>(
+    rt: &R,
+) -> Result<(), Fail> {
     check_rows(rt, rt.alloc(), &OF_THE_EXCHANGES)?;
     check_rows(rt, rt.alloc(), &WHAT_IS_NAMED)?;
     check_rows(rt, rt.alloc(), &ACCESS_SERVERS)?;

@@ -92,7 +92,7 @@ fn check_steps(rt: &impl Abort, alloc: Global, limit: u32, steps: &[Step]) -> Re
     Ok(())
 }
 
-pub(crate) fn requests_change_the_ledger(rt: &HostRuntime) -> Result<(), Fail> {
+pub(crate) fn requests_change_the_ledger<R: Abort + AllocGlobal>(rt: &R) -> Result<(), Fail> {
     check_steps(rt, rt.alloc(), 2, &OF_TWO_AT_MOST)?;
     check_steps(rt, rt.alloc(), 1, &OF_ONE_AT_MOST)?;
     check_steps(rt, rt.alloc(), 0, &OF_NONE)?;
@@ -151,7 +151,7 @@ fn check_growths(
     Ok(())
 }
 
-pub(crate) fn a_refused_growth_changes_nothing(rt: &HostRuntime) -> Result<(), Fail> {
+pub(crate) fn a_refused_growth_changes_nothing<R: Abort + AllocGlobal>(rt: &R) -> Result<(), Fail> {
     for (request, expected, at_most) in GROWTHS {
         check_growths(rt, rt.alloc(), request, expected, at_most)?;
     }
@@ -159,7 +159,9 @@ pub(crate) fn a_refused_growth_changes_nothing(rt: &HostRuntime) -> Result<(), F
 }
 
 /// A change that was prepared is made without memory.
-pub(crate) fn a_prepared_change_wants_no_memory(rt: &HostRuntime) -> Result<(), Fail> {
+pub(crate) fn a_prepared_change_wants_no_memory<R: Abort + AllocGlobal>(
+    rt: &R,
+) -> Result<(), Fail> {
     let refusing = Refusing::new(rt.alloc());
     let mut sessions = two_sessions(rt, rt.alloc(), &refusing);
     let start = octets(rt, rt.alloc(), START_03);

@@ -52,7 +52,7 @@ fn expect_names(
     Ok(())
 }
 
-fn the_first_of_each_name_counts(rt: &HostRuntime) -> Result<(), Fail> {
+fn the_first_of_each_name_counts<R: Abort + AllocGlobal>(rt: &R) -> Result<(), Fail> {
     let config = config(rt.alloc(), "")?;
     expect_names(rt, rt.alloc(), &config, &NAMED)
 }
@@ -196,7 +196,7 @@ fn expect_rows(rt: &impl Abort, alloc: Global, config: &Config, tables: &[Rows])
     }
 }
 
-fn each_arrival_gives_what_it_should(rt: &HostRuntime) -> Result<(), Fail> {
+fn each_arrival_gives_what_it_should<R: Abort + AllocGlobal>(rt: &R) -> Result<(), Fail> {
     let plain = config(rt.alloc(), "")?;
     expect_rows(rt, rt.alloc(), &plain, &ARRIVALS);
     let federated = config(rt.alloc(), federation::KEYS)?;

@@ -19,7 +19,7 @@ fn answers_twice(rt: &impl Abort, alloc: Global, script: &str) -> bool {
     texts.sent.as_slice() == script.as_bytes() && texts.kept.as_slice() == script.as_bytes()
 }
 
-pub(crate) fn each_growth_of_steps_and_ticks(rt: &HostRuntime) {
+pub(crate) fn each_growth_of_steps_and_ticks<R: Abort + AllocGlobal>(rt: &R) {
     for (what, script) in GIVEN {
         assert!(rt; answers_twice(rt, rt.alloc(), script), "{what}");
     }
@@ -59,7 +59,7 @@ fn new_is_refused(rt: &impl Abort, alloc: Global) -> bool {
     is_refused(&over, &config)
 }
 
-pub(crate) fn each_growth_of_a_new_shard(rt: &HostRuntime) {
+pub(crate) fn each_growth_of_a_new_shard<R: Abort + AllocGlobal>(rt: &R) {
     assert!(rt; new_is_refused(rt, rt.alloc()));
 }
 
@@ -87,6 +87,6 @@ fn answer_from_later_starts(rt: &impl Abort, alloc: Global) -> bool {
     texts.sent.as_slice() == LATER_STARTS.as_bytes()
 }
 
-pub(crate) fn each_growth_from_later_starts(rt: &HostRuntime) {
+pub(crate) fn each_growth_from_later_starts<R: Abort + AllocGlobal>(rt: &R) {
     assert!(rt; answer_from_later_starts(rt, rt.alloc()));
 }

@@ -40,7 +40,7 @@ fn goes_on(rt: &impl Abort, alloc: Global, config: &Config) -> (bool, Option<Sta
 }
 
 // One Access-Request was forwarded: its Request Authenticator took four words, and its Proxy-State a ticket.
-pub(crate) fn a_shard_says_how_it_began_and_where_it_would_go_on(rt: &HostRuntime) {
+pub(crate) fn a_shard_says_how_it_began_and_where_it_would_go_on<R: Abort + AllocGlobal>(rt: &R) {
     let config = two_realms(rt, rt.alloc(), 2);
     let later = Start {
         place: 8,

@@ -115,7 +115,7 @@ fn is_refused<A: Allocator + Copy>(alloc: A) -> bool {
 }
 
 // By the meaning of `refuse_nth`.
-fn the_nth_growth_alone_is_refused(rt: &HostRuntime) {
+fn the_nth_growth_alone_is_refused<R: Abort + AllocGlobal>(rt: &R) {
     let refusing = Refusing::new(rt.alloc());
     for n in 0..5u64 {
         refusing.refuse_nth(n);
@@ -147,7 +147,7 @@ fn growths_of_a_list(refusing: &Refusing<Global>) -> Result<[u64; 6], AllocError
 }
 
 // A larger block and a smaller one count as the first does, and giving one back does not.
-fn what_counts_as_a_growth(rt: &HostRuntime) -> Result<(), Fail> {
+fn what_counts_as_a_growth<R: Abort + AllocGlobal>(rt: &R) -> Result<(), Fail> {
     let refusing = Refusing::new(rt.alloc());
     let growths = growths_of_a_list(&refusing)?;
     expect(rt, growths == [0, 1, 1, 2, 3, 3], "growths", 0);
@@ -164,7 +164,9 @@ fn keeps_the_larger_block(refusing: &Refusing<Global>) -> Result<bool, AllocErro
     Ok(is_refused && octets.as_slice() == [7].as_slice() && octets.capacity() == 3)
 }
 
-fn a_smaller_block_that_is_refused_leaves_the_larger_one(rt: &HostRuntime) -> Result<(), Fail> {
+fn a_smaller_block_that_is_refused_leaves_the_larger_one<R: Abort + AllocGlobal>(
+    rt: &R,
+) -> Result<(), Fail> {
     let refusing = Refusing::new(rt.alloc());
     let keeps = keeps_the_larger_block(&refusing)?;
     expect(rt, keeps, "the larger block", 1);
@@ -172,7 +174,7 @@ fn a_smaller_block_that_is_refused_leaves_the_larger_one(rt: &HostRuntime) -> Re
 }
 
 // What the allocator below refuses counts too, and is no refusal of this one.
-fn an_error_from_below(rt: &HostRuntime) {
+fn an_error_from_below<R: Abort + AllocGlobal>(rt: &R) {
     let below = Refusing::new(rt.alloc());
     let above = Refusing::new(&below);
     below.refuse_nth(1);
@@ -189,7 +191,9 @@ fn an_error_from_below(rt: &HostRuntime) {
 }
 
 // The runs are 1, 2, .. and end with the first that meets no refusal: three growths, four runs.
-fn the_runs_end_with_the_first_that_meets_no_refusal(rt: &HostRuntime) -> Result<(), Fail> {
+fn the_runs_end_with_the_first_that_meets_no_refusal<R: Abort + AllocGlobal>(
+    rt: &R,
+) -> Result<(), Fail> {
     let refusing = Refusing::new(rt.alloc());
     let mut runs = Vec::new(rt.alloc());
     for n in refusing.each_growth() {
@@ -211,7 +215,7 @@ fn the_runs_end_with_the_first_that_meets_no_refusal(rt: &HostRuntime) -> Result
 }
 
 // A call that makes a value: the same call then succeeds, with the same value.
-fn each_growth_of_a_call(rt: &HostRuntime) -> Result<(), Fail> {
+fn each_growth_of_a_call<R: Abort + AllocGlobal>(rt: &R) -> Result<(), Fail> {
     let refusing = Refusing::new(rt.alloc());
     let mut runs = 0;
     for n in refusing.each_growth() {
@@ -254,7 +258,7 @@ fn check_values<A: Allocator + Copy>(
 
 // A call that changes a value: what it needs is built before `refuse_nth`. Both lists are full, so
 // the change asks for two blocks, and the third run meets no refusal.
-fn each_growth_of_a_change(rt: &HostRuntime) -> Result<(), Fail> {
+fn each_growth_of_a_change<R: Abort + AllocGlobal>(rt: &R) -> Result<(), Fail> {
     let refusing = Refusing::new(rt.alloc());
     let mut runs = 0;
     for n in refusing.each_growth() {
@@ -300,7 +304,7 @@ fn check_entries<A: Allocator + Copy>(rt: &impl Abort, entries: &Entries<A>, n: 
 }
 
 // A slab and a map of the kit over the same allocator.
-fn each_growth_of_a_map_and_a_slab(rt: &HostRuntime) -> Result<(), Fail> {
+fn each_growth_of_a_map_and_a_slab<R: Abort + AllocGlobal>(rt: &R) -> Result<(), Fail> {
     let refusing = Refusing::new(rt.alloc());
     let mut runs = 0;
     for n in refusing.each_growth() {

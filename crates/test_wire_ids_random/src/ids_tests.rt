@@ -3,6 +3,7 @@
 
 use roam_ids::{Lane, LazyLane};
 use std::alloc::Allocator;
+use std::process::Abort;
 use test_allocator::Refusing;
 
 /// Takes the next free Identifier and parks it with this ticket.
@@ -52,7 +53,7 @@ fn of_a_full_lane() -> [Option<u64>; 4] {
     ]
 }
 
-pub(crate) fn identifiers_come_in_order_until_all_are_in_use(rt: &HostRuntime) {
+pub(crate) fn identifiers_come_in_order_until_all_are_in_use<R: Abort + AllocGlobal>(rt: &R) {
     assert!(rt; in_order() == 256);
     assert!(rt; of_a_full_lane() == [None, Some(1003), Some(3), None]);
 }
@@ -81,7 +82,7 @@ const FREE: [(u8, u8, u8, u8); 10] = [
     (255, 191, 64, 64),
 ];
 
-pub(crate) fn the_first_at_or_after_the_cursor_is_taken(rt: &HostRuntime) {
+pub(crate) fn the_first_at_or_after_the_cursor_is_taken<R: Abort + AllocGlobal>(rt: &R) {
     for (cursor, one, other, first) in FREE {
         assert!(rt;
             first_of(cursor, one, other) == Some(first),
@@ -107,7 +108,7 @@ const WORDS: [(u8, [u64; 4]); 6] = [
     (255, [u64::MAX, u64::MAX, u64::MAX, 0x7fff_ffff_ffff_ffff]),
 ];
 
-pub(crate) fn words_have_a_bit_for_each_identifier_in_use(rt: &HostRuntime) {
+pub(crate) fn words_have_a_bit_for_each_identifier_in_use<R: Abort + AllocGlobal>(rt: &R) {
     for (id, words) in WORDS {
         assert!(rt; words_without(id) == words, "without {id}");
     }
@@ -142,7 +143,7 @@ fn lazily<A: Allocator>(alloc: A) -> [Option<u64>; 6] {
 }
 
 // Each growth refused in turn, and the same call again.
-pub(crate) fn a_lane_is_made_when_it_is_needed(rt: &HostRuntime) {
+pub(crate) fn a_lane_is_made_when_it_is_needed<R: Abort + AllocGlobal>(rt: &R) {
     let refusing = Refusing::new(rt.alloc());
     for n in refusing.each_growth() {
         refusing.refuse_nth(n);

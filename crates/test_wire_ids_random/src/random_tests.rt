@@ -2,6 +2,7 @@
 //! that were computed apart, by a ChaCha20 written from the formulas of RFC 8439, with 64 bits for the
 //! counter and 64 for the stream's number (`oracle/vectors.py`).
 use roam_random::{next_position, request_authenticator};
+use std::process::Abort;
 
 const ZERO_SEED: [u8; 32] = [0; 32];
 
@@ -78,7 +79,7 @@ const AUTHENTICATORS: [([u8; 32], u64, u128, u128); 21] = [
     (ZERO_SEED, 0, LAST_TWO, 0x3328845607b1768976b8e0ada0f13d90),
 ];
 
-pub(crate) fn request_authenticators_are_words_of_the_stream(rt: &HostRuntime) {
+pub(crate) fn request_authenticators_are_words_of_the_stream<R: Abort + AllocGlobal>(rt: &R) {
     for &(seed, stream, position, expected) in &AUTHENTICATORS {
         let drawn = u128::from_be_bytes(request_authenticator(seed, stream, position));
         assert!(rt; drawn == expected, "stream {stream} at {position}");
@@ -88,7 +89,7 @@ pub(crate) fn request_authenticators_are_words_of_the_stream(rt: &HostRuntime) {
 /// A position, and the next one.
 const NEXT_POSITIONS: [(u128, u128); 4] = [(0, 4), (1000, 1004), (LAST_TWO - 2, 0), (LAST_TWO, 2)];
 
-pub(crate) fn four_words_are_taken_at_a_time(rt: &HostRuntime) {
+pub(crate) fn four_words_are_taken_at_a_time<R: Abort + AllocGlobal>(rt: &R) {
     for (position, next) in NEXT_POSITIONS {
         assert!(rt; next_position(position) == next, "after {position}");
     }

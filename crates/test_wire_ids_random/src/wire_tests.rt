@@ -2,6 +2,7 @@
 
 use roam_wire::{Octets, PacketBuf, Refusal, View, attribute_type, code};
 use std::alloc::Allocator;
+use std::process::Abort;
 use std::test::Fail;
 use test_allocator::Refusing;
 
@@ -56,7 +57,7 @@ fn kinds_and_sizes(datagram: &[u8]) -> [(u8, usize); 4] {
 }
 
 // The parts are those that RFC 2865, section 7.1, lists for its packets.
-pub(crate) fn the_packets_of_the_standard_are_read(rt: &HostRuntime) {
+pub(crate) fn the_packets_of_the_standard_are_read<R: Abort + AllocGlobal>(rt: &R) {
     assert!(rt; parts(ACCESS_REQUEST) == [1, 0, 0x0f, 0x7a, 56, 4, 1, 0]);
     assert!(rt; parts(ACCESS_ACCEPT) == [2, 0, 0x86, 0xb2, 38, 3, 0, 0]);
     assert!(rt; kinds_and_sizes(ACCESS_REQUEST) == [(1, 4), (2, 16), (4, 4), (5, 4)]);
@@ -71,7 +72,7 @@ fn has_first(datagram: &[u8], kind: u8, value: &[u8]) -> bool {
 }
 
 // Octets behind Length are padding (RFC 2865, section 3); a Value may have no octets.
-pub(crate) fn padding_is_ignored_and_values_are_found(rt: &HostRuntime) {
+pub(crate) fn padding_is_ignored_and_values_are_found<R: Abort + AllocGlobal>(rt: &R) {
     let mut padded = [0xff; 50];
     padded[..38].copy_from_slice(ACCESS_ACCEPT);
     assert!(rt; parts(&padded) == parts(ACCESS_ACCEPT));
@@ -119,7 +120,7 @@ const LENGTHS: [(u16, usize, u8); 12] = [
 ];
 
 // A prefix is Short below 20 octets, then BadLength since Length is 56.
-pub(crate) fn lengths_at_the_bounds(rt: &HostRuntime) {
+pub(crate) fn lengths_at_the_bounds<R: Abort + AllocGlobal>(rt: &R) {
     for (length, size, expected) in LENGTHS {
         assert!(rt;
             refusal_of_length(length, size) == expected,
@@ -148,7 +149,7 @@ const ATTRIBUTES: [(&[u8], u8); 8] = [
     (b"\x01\x07\x00\x16________________\x01\x02", 0),
 ];
 
-pub(crate) fn attribute_lengths_at_the_bounds(rt: &HostRuntime) {
+pub(crate) fn attribute_lengths_at_the_bounds<R: Abort + AllocGlobal>(rt: &R) {
     for (datagram, expected) in ATTRIBUTES {
         assert!(rt; refusal_number(datagram) == expected, "{datagram:?}");
     }
@@ -167,7 +168,9 @@ fn built<A: Allocator>(alloc: A, octets: &[u8]) -> Result<Vec<u8, A>, Refusal> {
 }
 
 // Each growth refused in turn: want of memory, and then the packet.
-pub(crate) fn each_growth_of_a_packet_that_is_built(rt: &HostRuntime) -> Result<(), Fail> {
+pub(crate) fn each_growth_of_a_packet_that_is_built<R: Abort + AllocGlobal>(
+    rt: &R,
+) -> Result<(), Fail> {
     let refusing = Refusing::new(rt.alloc());
     for octets in [ACCESS_REQUEST.as_slice(), ACCESS_ACCEPT.as_slice()] {
         for n in refusing.each_growth() {
@@ -199,12 +202,12 @@ fn large<A: Allocator>(alloc: A, last: usize) -> Result<usize, Refusal> {
 }
 
 // 15 attributes of 255 octets and the header take 3845; the last one may have 251.
-pub(crate) fn a_packet_is_full_at_4096_octets(rt: &HostRuntime) {
+pub(crate) fn a_packet_is_full_at_4096_octets<R: Abort + AllocGlobal>(rt: &R) {
     let sizes = [large(rt.alloc(), 249), large(rt.alloc(), 250)];
     assert!(rt; sizes == [Ok(4096), Err(Refusal::TooLong)]);
 }
 
-pub(crate) fn octets_are_copied_and_given_back(rt: &HostRuntime) -> Result<(), Fail> {
+pub(crate) fn octets_are_copied_and_given_back<R: Abort + AllocGlobal>(rt: &R) -> Result<(), Fail> {
     let refusing = Refusing::new(rt.alloc());
     refusing.refuse_nth(1);
     assert!(rt; Octets::copy_of(&refusing, b"nemo").is_err());

@@ -30,14 +30,14 @@ returns-in-None-clause-tick g c =
     (λ _. none, λ _. refl) seen in
     record { tick = both.0; seen = both.1; err = tt; full = λ is. absurd (let bad : Ok _ ≡ Err _ = is in cc) }
 
-pub returns-in-Some-clause-tick : goal.returns-in-Some-clause-tick
-returns-in-Some-clause-tick g c =
+pub returns-in_ok-answered-in-Some-clause-tick : goal.returns-in_ok-answered-in-Some-clause-tick
+returns-in_ok-answered-in-Some-clause-tick g c =
     let i = c.self.inside in
     let o = g.N.Opened.opening in
     let k : KeptView = record { trace = i.traced; front = i.front } in
     let now = c.args.call.moment in
     let moment = c.in-Some.moment in
-    let a = c.in_ok-answered.answered in
+    let a = c.in_ok-answered-in-Some.answered in
     let s = answered_step (ticks moment c.args.shard) a in
     let is = sym c.self.view_is in
     let here : i.front.shard ≡ c.args.shard = ap (λ (v : KeptView). v.front.shard) c.self.view_is ∙ c.in_ok-check.ensures.shard in
@@ -46,13 +46,13 @@ returns-in-Some-clause-tick g c =
     let due = subst (λ (v : KeptView). NothingDue now v.trace.states → ⊥) is c.in-Some.ensures.due in
     let part = subst (λ (v : KeptView). IsTickMoment now v.trace.states moment) is c.in-Some.ensures.part in
     let call = due_call o k c.args.shard now moment c.args.seat.now c.tick.new.seat a.number s c.self.invariant.0 here begins
-    due part c.in_ok-answered.ensures.call
-    (c.in_ok-answered.ensures.all ∙ (c.in_ok-answered.ensures.one ∙ ap (λ (v : KeptView). v.front.entries ++ step_entry s ∷ []) is)) in
-    let end = c.in_ok-answered.ensures.ends
-    ∙ ap (λ (l : List HistoryEntry). end_of (opening_at o c.args.shard) (steps_in l)) (sym c.in_ok-answered.ensures.all) in
+    due part c.in_ok-answered-in-Some.ensures.call
+    (c.in_ok-answered-in-Some.ensures.all ∙ (c.in_ok-answered-in-Some.ensures.one ∙ ap (λ (v : KeptView). v.front.entries ++ step_entry s ∷ []) is)) in
+    let end = c.in_ok-answered-in-Some.ensures.ends
+    ∙ ap (λ (l : List HistoryEntry). end_of (opening_at o c.args.shard) (steps_in l)) (sym c.in_ok-answered-in-Some.ensures.all) in
     record {
       tick = record { call = call; more = subst (λ (t : List RealmState). c.has_due-is_more.result ≡ false ↔ NothingDue now t) end c.has_due-is_more.ensures };
-      seen = c.in_ok-answered.ensures.seen;
+      seen = c.in_ok-answered-in-Some.ensures.seen;
       err = tt;
       full = λ is. absurd (let bad : Ok _ ≡ Err _ = is in cc);
     }
