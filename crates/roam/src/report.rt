@@ -7,7 +7,7 @@ ghost use Rattle.roam.specs.Report as spec;
 use roam_conf::Endpoint;
 use roam_conf_reader::ConfFault;
 use roam_diagnosis::Lines;
-use roam_serve::{Build, Reason, ServeFault, SocketPath};
+use roam_serve::{Reason, ServeFault, SocketPath};
 use std::io;
 use std::io::{ErrorKind, Write};
 
@@ -135,12 +135,6 @@ pub fn print_usage<W: Write>(writer: &mut W) -> io::Result<()>
         b"usage: roam check CONF\n       roam check OLD NEW\n       roam sim CONF SCRIPT\n       roam serve [--seed-of-file] CONF [MS]\n       roam ctl PATH status [--json|--watch]\n       roam ctl PATH metrics|stop|reload|trace N\n       roam help\n       roam version\n",
     )
 }
-
-/// Which program this is, and the line of the toolchain that proved it, as its metrics say it.
-pub const BUILD: Build = Build {
-    version: "1.0.0",
-    toolchain: "rattle-kit-13f logic dac8208d650f15bf",
-};
 
 /// Prints which program this is, and the line of the toolchain that proved it.
 ///

@@ -7,7 +7,7 @@ ghost use Rattle.roam_sim.specs.Simulation.{IsAccepted};
 ghost use Rattle.roam.specs.Outcomes.{text_in, ServeFails};
 
 use crate::reload::Reread;
-use crate::report::{BUILD, Fault};
+use crate::report::Fault;
 use crate::text_file::TextFile;
 use log::Log;
 use roam_conf::Config;
@@ -15,8 +15,8 @@ use roam_conf_reader::{Settings, read_config, read_settings};
 use roam_diagnosis::{Lines, diagnose};
 use roam_hub::Open;
 use roam_serve::{
-    ControlSocket, Counters, ServeFault, ServeOptions, SocketPath, Watch, descriptors_wanted,
-    reason_of, serve, with_drawn_seed,
+    Build, ControlSocket, Counters, ServeFault, ServeOptions, SocketPath, Watch,
+    descriptors_wanted, reason_of, serve, with_drawn_seed,
 };
 use std::net::Net;
 use std::random::RandomSource;
@@ -90,7 +90,7 @@ fn serve_watched<R: Files + AllocGlobal + Threads + Wait + Clock + Net + RandomS
         counters: &counters,
         metrics: settings.metrics,
         control: socket.as_ref(),
-        build: BUILD,
+        build: Build::Roam,
     };
     let options = options(Some(watch), settings, milliseconds);
     let ended = serve(rt, rt.alloc(), config, options, &mut source);

@@ -224,8 +224,8 @@ impl Office {
     /// Which server is told of at this moment, in milliseconds since the start.
     pub fn about(&self, now: u64) -> About {
         About {
-            version: self.build.version,
-            toolchain: self.build.toolchain,
+            version: self.build.version(),
+            toolchain: self.build.toolchain(),
             began: self.began,
             uptime: now,
             served: self.served.reloads(),

@@ -5,20 +5,29 @@ ghost use Rattle.std.specs.Prelude.{◌≡◌, ◌==◌, ◌^◌, ◌-◌, Some,
 use roam_metrics::Reloads;
 use std::sync::atomic::{AtomicU64, Ordering};
 
-/// Which program serves.
-#[derive(Clone, Copy)]
-pub struct Build {
-    pub version: &'static str,
-    /// The line of the toolchain that proved it.
-    pub toolchain: &'static str,
+/// Which program serves. It is a word, and no text: what outlasts a server's threads names no lifetime.
+#[derive(Clone, Copy, Debug, PartialEq, Eq)]
+pub enum Build {
+    /// The program `roam`.
+    Roam,
+    /// A program that isn't told.
+    Unnamed,
 }
 
 impl Build {
-    /// A program that isn't told.
-    pub fn unnamed() -> Build {
-        Build {
-            version: "",
-            toolchain: "",
+    /// Its version.
+    pub fn version(self) -> &'static str {
+        match self {
+            Build::Roam => "1.0.0",
+            Build::Unnamed => "",
+        }
+    }
+
+    /// The line of the toolchain that proved it.
+    pub fn toolchain(self) -> &'static str {
+        match self {
+            Build::Roam => "rattle-kit-13f logic dac8208d650f15bf",
+            Build::Unnamed => "",
         }
     }
 }

@@ -66,7 +66,7 @@ fn listener<R: Log>(rt: &R, config: &Config, watch: Option<Watch<'_>>) -> Option
 fn build_of(watch: Option<Watch<'_>>) -> Build {
     match watch {
         Some(watch) => watch.build,
-        None => Build::unnamed(),
+        None => Build::Unnamed,
     }
 }
 

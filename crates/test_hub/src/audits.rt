@@ -86,7 +86,8 @@ fn are_found_with<N: Opened>(
         shard: 0,
         number: 1,
     });
-    let with_none = found(report, own, &[]);
+    let none = Vec::new(alloc);
+    let with_none = found(report, own, none.as_slice());
     let with_receipts = found(report, own, &[first, second]);
     let with_one_twice = found(report, own, &again);
     [with_none, with_receipts, with_one_twice] == [None, None, twice]
@@ -95,18 +96,20 @@ fn are_found_with<N: Opened>(
 /// What an audit finds by one other seat that counted these calls, and by two.
 fn found_by<N: Opened>(
     rt: &impl Abort,
+    alloc: Global,
     report: &Report<Global, N>,
     seat: Seat<Global, N>,
     calls: &[(u16, u64)],
     others: &[(u16, u64)],
 ) -> (Seat<Global, N>, Option<AuditFault>) {
+    let none = Vec::new(alloc);
     let (seat, one) = counting(rt, seat, calls);
     if others.is_empty() {
-        let by_one = found(report, &[one], &[]);
+        let by_one = found(report, &[one], none.as_slice());
         return (seat, by_one);
     }
     let (seat, other) = counting(rt, seat, others);
-    let by_both = found(report, &[one, other], &[]);
+    let by_both = found(report, &[one, other], none.as_slice());
     (seat, by_both)
 }
 
@@ -123,13 +126,14 @@ const COUNTED: [(&[(u16, u64)], &[(u16, u64)], Option<u16>); 5] = [
 /// Whether the audits by other seats find that.
 fn are_found<N: Opened>(
     rt: &impl Abort,
+    alloc: Global,
     report: &Report<Global, N>,
     seat: Seat<Global, N>,
 ) -> (Seat<Global, N>, bool) {
     let mut are_so = true;
     let mut seat = seat;
     for &(calls, others, shard) in &COUNTED {
-        let (same, fault) = found_by(rt, report, seat, calls, others);
+        let (same, fault) = found_by(rt, alloc, report, seat, calls, others);
         seat = same;
         let wanted = shard.map(|shard| AuditFault::Seats { shard });
         are_so = are_so && fault == wanted;
@@ -157,7 +161,7 @@ pub(crate) fn audits<N: Opened + Send + Sync, R: Abort + Threads + Wait + Clock 
         ..
     } = called_at_once(rt, alloc, config, hub, seat, 0, 5_000);
     let (one, other) = seats;
-    let (one, by_seats) = are_found(rt, &report, one);
+    let (one, by_seats) = are_found(rt, alloc, &report, one);
     let own = [one, other];
     by_seats && are_found_with(rt, alloc, &report, &own, receipts)
 }

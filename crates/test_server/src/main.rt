@@ -42,10 +42,7 @@ fn watch<'s, R>(
             counters,
             metrics: row.metrics(),
             control,
-            build: Build {
-                version: "0",
-                toolchain: "none",
-            },
+            build: Build::Unnamed,
         }),
         None => None,
     }

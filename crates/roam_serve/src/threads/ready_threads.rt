@@ -225,7 +225,9 @@ pub fn prepare_threads<'s, 'c, G, N: Opened>(
         };
         rest = first;
         let worker = builder.worker(workers.len(), seat, outbox, kit)?;
-        workers.push(worker)?;
+        if workers.push(worker).is_err() {
+            return Err(ServeFault::Memory);
+        }
     }
     let (Ok((rest, seat)), Some(outbox)) = (split(rest), outboxes.next()) else {
         return Err(ServeFault::Memory);
