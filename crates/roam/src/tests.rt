@@ -560,10 +560,10 @@ pub(crate) fn a_script_is_run<
     Ok(())
 }
 
-/// How much room the output has, and the status: where all that is printed has room, it is 0.
+/// How much room the output has, and the status: where all that is printed has room, it is 0, and this is told.
 fn expect_refused<
     R: Files + AllocGlobal + Threads + Wait + Clock + Net + RandomSource + Log + Sync + Abort,
->(rt: &R, words: &[&str], printed: usize) {
+>(rt: &R, words: &[&str], printed: usize, advice: &str) {
     let mut room = [0u8; 400];
     for size in 0..=printed.min(400) {
         let mut out = &mut room[..size];
@@ -572,7 +572,7 @@ fn expect_refused<
         let told = if size < printed {
             "roam: write failed\n"
         } else {
-            ""
+            advice
         };
         assert!(rt;
             err.as_slice() == told.as_bytes(),
@@ -597,12 +597,10 @@ pub(crate) fn a_refused_write_is_told<
 >(rt: &R, process: u32) -> Result<(), Fail> {
     let configuration = file(rt, process, "write.conf", CONFIGURATION.as_bytes())?;
     let script = file(rt, process, "write.script", EXCHANGE.as_bytes())?;
-    expect_refused(rt, &["check", configuration.as_str()], 29);
-    expect_refused(
-        rt,
-        &["sim", configuration.as_str(), script.as_str()],
-        EXCHANGED.len(),
-    );
+    let (path, script_path) = (configuration.as_str(), script.as_str());
+    let advice = lines_of(rt, path, LEAST_ADVICE)?;
+    expect_refused(rt, &["check", path], 29, advice.as_str());
+    expect_refused(rt, &["sim", path, script_path], EXCHANGED.len(), "");
     fs::remove_file(rt, configuration.as_str())?;
     fs::remove_file(rt, script.as_str())?;
     Ok(())
