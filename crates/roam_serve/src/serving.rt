@@ -292,7 +292,9 @@ pub fn serve_all<
     ensures err { IfErr result IsAfterBinding }
 {
     let firsts = first_starts(parts.alloc, &configured.config)?;
-    let blanks = Blanks::new(parts.alloc, configured.config.shards)?;
+    let Ok(blanks) = Blanks::new(parts.alloc, configured.config.shards) else {
+        return Err(ServeFault::Memory);
+    };
     let starts = firsts.as_slice();
     let mut served = serve_first::<Brand, R, G, S>(parts, configured, starts, blanks, means)?;
     let mut steps = 0u64;
