@@ -24,7 +24,7 @@ among_all :
 among_all [] k r e is in_realm = cc
 among_all (x ∷ xs) zero r e is in_realm =
     let in_first : Contains (realm_endpoints x) e =
-        subst (λ (y : RealmView). Contains (realm_endpoints y) e) (sym (same_Some x r is)) in_realm in
+    subst (λ (y : RealmView). Contains (realm_endpoints y) e) (sym (same_Some x r is)) in_realm in
     Contains-append_left (realm_endpoints x) (flat_map realm_endpoints xs) e in_first
 among_all (x ∷ xs) (suc k) r e is in_realm =
     Contains-append_right (realm_endpoints x) (flat_map realm_endpoints xs) e (among_all xs k r e is in_realm)
