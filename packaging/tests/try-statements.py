@@ -87,9 +87,9 @@ def look_at_faults(program, folder):
 
     absent = os.path.join(folder, "absent.conf")
     told = {
-        absent: "No such file or directory",
-        folder: "Is a directory",
-        write("latin1.conf", b"# a\n# \xe9\n"): "line 2 isn't UTF-8",
+        absent: ": No such file or directory",
+        folder: ": Is a directory",
+        write("latin1.conf", b"# a\n# \xe9\n"): ":2: isn't UTF-8",
     }
     closed = write("closed.conf", b"")
     os.chmod(closed, 0)
@@ -101,7 +101,7 @@ def look_at_faults(program, folder):
     want(run(copied, "check", closed, user=user) == denied, f"{closed}: {run(copied, 'check', closed, user=user)}")
     for path, why in told.items():
         for words in (("check", path), ("check", "--all", path), ("check", path, absent), ("serve", path, "1")):
-            want(run(program, *words) == (1, "", f"roam: {path}: {why}\n"), f"{words}: {run(program, *words)}")
+            want(run(program, *words) == (1, "", f"roam: {path}{why}\n"), f"{words}: {run(program, *words)}")
     for words in (("chek", "a"), ("--all", "a"), ("",)):
         status, printed, said = run(program, *words)
         want((status, printed) == (2, ""), f"{words} end with {status}")

@@ -83,12 +83,19 @@ Asks words to_tell_version =
 abbrev pub AsksNothing : List (List ℕ) → Type 0
 AsksNothing words = (asked : Asked) → ¬ (Asks words asked)
 
+-- the word asks for a task; it is a whole command, which asks for the usage, or for the version
+abbrev pub IsTaskWord : List ℕ → Type 0
+IsTaskWord word = (word ≡ codes "check") ⊎ (word ≡ codes "sim") ⊎ (word ≡ codes "serve") ⊎ (word ≡ codes "ctl")
+
+abbrev pub IsHelpWord : List ℕ → Type 0
+IsHelpWord word = (word ≡ codes "help") ⊎ (word ≡ codes "--help") ⊎ (word ≡ codes "-h")
+
+abbrev pub IsVersionWord : List ℕ → Type 0
+IsVersionWord word = (word ≡ codes "version") ⊎ (word ≡ codes "--version") ⊎ (word ≡ codes "-V")
+
 -- a command begins with the word
 abbrev pub IsCommandWord : List ℕ → Type 0
-IsCommandWord word =
-    (word ≡ codes "check") ⊎ (word ≡ codes "sim") ⊎ (word ≡ codes "serve") ⊎ (word ≡ codes "ctl") ⊎ (word ≡ codes "help")
-    ⊎ (word ≡ codes "--help") ⊎ (word ≡ codes "-h") ⊎ (word ≡ codes "version") ⊎ (word ≡ codes "--version")
-    ⊎ (word ≡ codes "-V")
+IsCommandWord word = IsTaskWord word ⊎ IsHelpWord word ⊎ IsVersionWord word
 
 -- it is the first of the words, and no command begins with it
 abbrev pub IsUnknown : List (List ℕ) → List ℕ → Type 0

@@ -89,7 +89,7 @@ text_of fault.Usage = usage_text
 text_of (fault.NoCommand word) = unknown_text word.now ++ usage_text
 text_of (fault.Unreadable path reason) = unread_text path.now ++ why_text reason
 text_of (fault.NotText path line) =
-    codes "roam: " ++ path.now ++ codes ": line " ++ decimal line ++ codes " isn't UTF-8\n"
+    codes "roam: " ++ path.now ++ codes ":" ++ decimal line ++ codes ": isn't UTF-8\n"
 text_of (fault.MayNotFollow path) = codes "roam: " ++ path.now ++ codes ": may not follow\n"
 text_of (fault.Misstated path) = codes "roam: " ++ path.now ++ codes ": misstated\n"
 text_of (fault.Unanswered path) = codes "roam: " ++ path.now ++ codes ": no answer\n"

@@ -202,7 +202,7 @@ fn print_not_text<W: Write>(writer: &mut W, path: &str, line: u64) -> io::Result
     ensures { OnOk result
         (Appends (W.contents writer.old) (W.contents writer.new) (spec.text_of (Fault.NotText path.entry line))) }
 {
-    writeln!(writer, "roam: {path}: line {line} isn't UTF-8")
+    writeln!(writer, "roam: {path}:{line}: isn't UTF-8")
 }
 
 /// Prints that a configuration is refused, and by what name.

@@ -103,16 +103,16 @@ fn restated<'a>(alloc: Global, file: &TextFile<'a>, config: &Config) -> Result<S
     }
 }
 
-/// Prints a text.
+/// Prints octets.
 ///
 /// # Errors
 ///
 /// `Write`.
-fn print_text<W: Write>(writer: &mut W, text: &str) -> Result<(), Fault<'static>>
-    ensures ok { OnOk result (Appends (W.contents writer.old) (W.contents writer.new) text.now) }
+fn print_octets<W: Write>(writer: &mut W, octets: &[u8]) -> Result<(), Fault<'static>>
+    ensures ok { OnOk result (Appends (W.contents writer.old) (W.contents writer.new) octets.now) }
     ensures err { IfErr result (λ fault. fault ≡ Fault.Write) }
 {
-    writer.write_all(text.as_bytes()).map_err(|_| Fault::Write)?;
+    writer.write_all(octets).map_err(|_| Fault::Write)?;
     finish(writer)
 }
 
@@ -136,7 +136,7 @@ fn state_anew<'a, W: Write>(
         Err(fault) => Err(fault),
         Ok(config) => match restated(alloc, configuration, &config) {
             Err(fault) => Err(fault),
-            Ok(text) => print_text(writer, text.as_str()),
+            Ok(text) => print_octets(writer, text.as_bytes()),
         },
     }
 }

@@ -381,7 +381,7 @@ pub(crate) fn a_configuration_is_refused_by_name<
 fn expect_unreadable<
     R: Files + AllocGlobal + Threads + Wait + Clock + Net + RandomSource + Log + Sync + Abort,
 >(rt: &R, accepted: &str, refused: &str, path: &str, why: &str) -> Result<(), Fail> {
-    let told = format!(in rt.alloc(); "roam: {path}: {why}\n")?;
+    let told = format!(in rt.alloc(); "roam: {path}{why}\n")?;
     expect(rt, &["check", path], 1, "", told.as_str());
     expect(rt, &["check", "--all", path], 1, "", told.as_str());
     expect(rt, &["check", path, "/nowhere"], 1, "", told.as_str());
@@ -402,11 +402,11 @@ pub(crate) fn what_is_no_text_is_unreadable<
     let binary = file(rt, process, "binary", b"#\n\n#\xff\n\xff")?;
     let folder = env::temp_dir(rt)?;
     for (path, why) in [
-        (binary.as_str(), "line 3 isn't UTF-8"),
-        (folder.as_str(), "Is a directory"),
-        ("/nowhere/at/all", "No such file or directory"),
-        ("/dev/null/file", "Not a directory"),
-        ("", "No such file or directory"),
+        (binary.as_str(), ":3: isn't UTF-8"),
+        (folder.as_str(), ": Is a directory"),
+        ("/nowhere/at/all", ": No such file or directory"),
+        ("/dev/null/file", ": Not a directory"),
+        ("", ": No such file or directory"),
     ] {
         expect_unreadable(rt, accepted.as_str(), refused.as_str(), path, why)?;
     }

@@ -12,7 +12,8 @@ fn is_command_word(word: &str) -> bool
 {
     match word {
         "check" | "sim" | "serve" | "ctl" => true,
-        "help" | "--help" | "-h" | "version" | "--version" | "-V" => true,
+        "help" | "--help" | "-h" => true,
+        "version" | "--version" | "-V" => true,
         _ => false,
     }
 }
