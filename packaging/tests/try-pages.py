@@ -102,7 +102,7 @@ def reason_against(command, shell, booted):
 
 
 def stays_in_foreground(command):
-    return re.search(r"roam serve \S+$", command) is not None
+    return re.search(r"roam(?: serve|-run) \S+$", command) is not None
 
 
 def serve(shell, command, booted):
