@@ -58,6 +58,7 @@ hold = 5000
 max_pending = 4096
 max_sessions = 100
 rest = {4}
+rest_after = 1
 '''
 SERVER = '''
 [[realm.server]]
