@@ -463,9 +463,10 @@ def trace_killed(program, work):
             one.kill()
         os.close(read)
         time.sleep(.3)
-        # What it had read whole by then was handed over to it: the server can't see whether it is printed.
-        missing, said = says_missing(server, 'where `roam ctl` is killed while nobody reads what it prints, the next one')
-        print('     ', 'counted as missing:' if missing else 'counted as taken:', said)
+        # It has read all but the last octet by then, which it takes when all is printed.
+        want(*says_missing(server, 'where `roam ctl` is killed while nobody reads what it prints, the next one'))
+        third = server.ctl('trace', '0')
+        want(third.returncode == 0 and not third.stdout.startswith(b'#'), f'what it printed whole is taken: {third.stdout[:60]}')
 
 
 @contextlib.contextmanager

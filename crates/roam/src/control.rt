@@ -4,6 +4,7 @@ ghost use Rattle.std.specs.Prelude.{◌≡◌, OnOk, IfErr};
 ghost use Rattle.roam.specs.CommandFaults.{AskFails, IsPrinted};
 
 use crate::command_line::ControlOrder;
+use crate::looking::next_octet;
 use crate::output::finish;
 use crate::report::Fault;
 use crate::shown::shown;
@@ -22,6 +23,9 @@ const PATIENCE: u64 = 10;
 const LOOKS: u32 = 450;
 
 const BETWEEN_LOOKS: u64 = 100;
+
+/// How many octets the head of an answer may have.
+const HEAD: u32 = 16_384;
 
 /// Asks for the stored steps of a shard.
 fn ask_for_trace<W: Write>(stream: &mut W, shard: u16) -> io::Result<()> {
@@ -52,7 +56,39 @@ fn question(order: ControlOrder) -> &'static [u8] {
     }
 }
 
-/// All that is answered, and the connection: until it is closed, the server takes the answer for one that isn't taken yet.
+/// Reads the head of an answer, an octet at a time: nothing behind it is taken.
+fn read_head(stream: &mut UnixStream, answer: &mut Vec<u8>) -> io::Result<()> {
+    for _ in 0..HEAD {
+        let count = Read::by_ref(stream).take(1).read_to_end(answer)?;
+        if count == 0 || answer.as_slice().ends_with(b"\r\n\r\n") {
+            break;
+        }
+    }
+    Ok(())
+}
+
+/// Reads the body of an answer whose head was read. Its last octet is looked at, and not taken, where its length is
+/// stated.
+fn read_body(stream: &mut UnixStream, answer: &mut Vec<u8>) -> io::Result<()> {
+    let length = stated_length(answer.as_slice()).unwrap_or(u64::MAX);
+    if length > 0 {
+        Read::by_ref(stream).take(length - 1).read_to_end(answer)?;
+        if let Some(last) = next_octet(stream) {
+            answer.extend_from_slice(&[last])?;
+        }
+    }
+    Ok(())
+}
+
+/// Takes the last octet of an answer, and closes the connection. The server knows by that that all of it was taken: a
+/// connection that is closed where something lies there is one that was cut (unix(7), `ECONNRESET`).
+fn take_last(mut stream: UnixStream) {
+    let mut last = [0u8];
+    let _is_taken = stream.read_exact(&mut last).is_ok();
+}
+
+/// All that is answered, and the connection, from which the last octet isn't taken: until it is, the server takes the
+/// answer for one that isn't taken whole.
 pub fn answer<R: AllocGlobal + Net>(
     rt: &R,
     path: &str,
@@ -66,10 +102,11 @@ pub fn answer<R: AllocGlobal + Net>(
         _ => stream.write_all(question(order))?,
     }
     let mut answer = Vec::new(rt.alloc());
-    let read = stream.read_to_end(&mut answer);
+    let read = read_head(&mut stream, &mut answer);
     if answer.is_empty() {
         read?;
     }
+    let _is_read = read_body(&mut stream, &mut answer).is_ok();
     Ok((stream, answer))
 }
 
@@ -213,9 +250,9 @@ pub fn ask_once<'a, R: AllocGlobal + Net + Clock, W: Write>(
 {
     match answer(rt, path, order) {
         Ok((stream, answer)) => {
-            let printed = print_answer(rt, path, order, answer.as_slice(), out);
-            drop(stream);
-            printed
+            print_answer(rt, path, order, answer.as_slice(), out)?;
+            take_last(stream);
+            Ok(())
         }
         Err(error) => Err(Fault::Unanswered { path }.unless_memory(&error)),
     }

@@ -36,6 +36,7 @@ mod control;
 #[cfg(test)]
 mod examples;
 mod line_head;
+mod looking;
 mod outlet;
 mod output;
 mod program;
