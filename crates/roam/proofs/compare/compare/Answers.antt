@@ -15,11 +15,11 @@ returns-in-Err-configuration_in-clause-err g c =
     (c.in-Err-configuration_in.ensures.err out)
 
 -- both were read, and compared
-pub returns-in-Ok-configuration_in-clause-may : goal.returns-in-Ok-configuration_in-clause-may
-returns-in-Ok-configuration_in-clause-may g c =
+pub returns-clause-may : goal.returns-clause-may
+returns-clause-may g c =
     follows (text_in c.args.configuration.now) (text_in c.args.next.now) (shown c.in-Ok.old)
     (shown c.in-Ok-configuration_in.new) c.print_comparison.result c.in-Ok.ensures.ok c.in-Ok-configuration_in.ensures.ok c.print_comparison.ensures.may
 
-pub returns-in-Ok-configuration_in-clause-err : goal.returns-in-Ok-configuration_in-clause-err
-returns-in-Ok-configuration_in-clause-err g c =
+pub returns-clause-err : goal.returns-clause-err
+returns-clause-err g c =
     c.print_comparison.ensures.err c.args.configuration.now c.in-Ok.ensures.ok c.in-Ok-configuration_in.ensures.ok

@@ -17,14 +17,14 @@ returns-in-Err-restated-clause-err g c =
     c.in-Err-restated.fault c.in-Ok.ensures.ok c.in-Err-restated.ensures.err
 
 -- It is printed, or a write is refused.
-pub returns-in-Ok-restated-clause-ok : goal.returns-in-Ok-restated-clause-ok
-returns-in-Ok-restated-clause-ok g c =
+pub returns-clause-ok : goal.returns-clause-ok
+returns-clause-ok g c =
     let same : IsConfiguration c.as_bytes.result.now (shown c.in-Ok.config) =
     rw c.as_bytes.ensures.value c.in-Ok-restated.ensures.ok in
     stated_anew (text_in c.args.configuration.now) c.as_bytes.result.now (shown c.in-Ok.config) _ _
     c.print_octets.result c.in-Ok.ensures.ok same c.print_octets.ensures.ok
 
-pub returns-in-Ok-restated-clause-err : goal.returns-in-Ok-restated-clause-err
-returns-in-Ok-restated-clause-err g c =
+pub returns-clause-err : goal.returns-clause-err
+returns-clause-err g c =
     state_refused c.args.configuration.now (shown c.in-Ok.config) _ _ c.print_octets.result c.in-Ok.ensures.ok
     c.print_octets.ensures.err

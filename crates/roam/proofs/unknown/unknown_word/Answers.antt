@@ -18,7 +18,7 @@ no-word texts first other unknown = none-some other (first ∙ unknown.0)
 
 -- nothing holds and doesn't
 not-both : (is : Bool) → is ≡ true → is ≡ false → ⊥
-not-both is yes no = true≢false (sym yes ∙ no)
+not-both is holds fails = true≢false (sym holds ∙ fails)
 
 pub returns-then-is_command_word : goal.returns-then-is_command_word
 returns-then-is_command_word g c =
