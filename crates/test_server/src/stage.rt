@@ -205,12 +205,13 @@ impl<R> Stage<'_, R> {
             .store(times.parse().unwrap_or(0), Ordering::SeqCst);
     }
 
-    /// Notes refusals that are told: `NUMBER NAME at PLACE from SOURCE`, and where they are several
-    /// `(COUNT times)`.
+    /// Notes refusals that are told: `NUMBER NAME at PLACE from SOURCE`, where they are several `(COUNT times)`, and
+    /// behind a colon what is usually wrong.
     fn note_refused(&self, rest: &str) {
         let number = rest.split_once(' ').map_or(rest, |(number, _)| number);
         let number: u64 = number.parse().unwrap_or(0);
-        let (said, count) = times_of(rest);
+        let told = rest.split_once(": ").map_or(rest, |(told, _)| told);
+        let (said, count) = times_of(told);
         self.refused.fetch_add(count, Ordering::SeqCst);
         self.lines.fetch_add(1, Ordering::SeqCst);
         self.numbers
@@ -311,7 +312,7 @@ impl<R: Net> Net for Stage<'_, R> {
 }
 
 /// A refusal that rows look for in what is told.
-const WATCHED: &str = "6 BadAuthenticator at acct from 127.0.0.1:25000";
+const WATCHED: &str = "6 BadAuthenticator at acct from 127.0.0.1:25000 (peer nas1)";
 
 /// Refusals of more sources than are told apart.
 const ELSEWHERE: &str = "1 Short elsewhere";
