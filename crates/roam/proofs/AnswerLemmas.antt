@@ -1,14 +1,15 @@
 -- What the words get, from what the server did that they ask for; and the status of the usage.
-use Rattle.std.proofs.Common.{◌≡◌, inl, inr, ℕ, List, Option, Result, Ok, Err, IfErr, subst, sym, arith}
+use Rattle.std.proofs.Common.{◌≡◌, inl, inr, ℕ, List, Option, Result, Ok, Err, OnOk, IfErr, subst, sym, arith}
 use Rattle.std.proofs.KnownBytes.{Keeps-refl}
 use Rattle.std.specs.Borrow.{Bor}
 use Rattle.std.specs.Io.KnownBytes.{Keeps}
+use Rattle.roam_sim.specs.Simulation.{IsAccepted}
 use Rattle.roam.specs.CommandLine.{to_check_all, to_compare, to_control, to_simulate, to_serve, to_serve_with_its_seed, AsksToServeIt, AsksToServe, AsksNothing}
 use Rattle.roam.specs.declared.text_file.TextFile.{TextFile}
 use Rattle.roam.specs.declared.report.Fault.{Fault}
 use Rattle.roam.specs.declared.report.Fault.TheVariants as fault
 use Rattle.roam.specs.CommandFaults.{ServeFails}
-use Rattle.roam.specs.Outcomes.{NamesConfiguration, Prevents}
+use Rattle.roam.specs.Outcomes.{IsAnswered, NamesConfiguration, Prevents}
 use Rattle.roam.specs.Report.{status_of}
 
 -- words that ask for a server name its configuration
@@ -84,6 +85,22 @@ pub served-prevents : {T : Type 0} (words : List (List ℕ)) (path : List ℕ) (
     → Prevents given o o f) → IfErr r (Prevents words out out)
 served-prevents words path milliseconds out (Ok x) asks prevents = tt
 served-prevents words path milliseconds out (Err why) asks prevents = prevents words out asks
+
+-- a server that ended as it was asked to: some text is an accepted configuration, and the output is as it was
+pub served-answers : {T E : Type 0} (words : List (List ℕ)) (path : List ℕ) (milliseconds : Option ℕ)
+    (out : Option (List ℕ)) (r : Result T E) → AsksToServeIt words path milliseconds →
+    OnOk r ((text : List ℕ) × IsAccepted text) → OnOk r (IsAnswered words out out)
+served-answers words path milliseconds out (Ok x) (inl drawn) served = record {
+  asked = to_serve path milliseconds;
+  worded = drawn;
+  done = (served.0, served.1, Keeps-refl out);
+}
+served-answers words path milliseconds out (Ok x) (inr its_own) served = record {
+  asked = to_serve_with_its_seed path milliseconds;
+  worded = its_own;
+  done = (served.0, served.1, Keeps-refl out);
+}
+served-answers words path milliseconds out (Err why) asks served = tt
 
 -- a fault of a server has another status than the usage
 serves : (words : List (List ℕ)) (old new : Option (List ℕ)) (status : ℕ) → ¬ (status ≡ 2) →

@@ -66,6 +66,10 @@ unheard_text path = codes "roam: cannot listen at " ++ path_octets path
 abbrev pub unread_text : List ℕ → List ℕ
 unread_text path = codes "roam: " ++ path
 
+-- which line of that file isn't UTF-8, behind its path
+abbrev pub not_text_text : ℕ → List ℕ
+not_text_text line = codes ":" ++ decimal line ++ codes ": isn't UTF-8\n"
+
 -- what is printed of a first word with which no command begins
 abbrev pub unknown_text : List ℕ → List ℕ
 unknown_text word = codes "roam: " ++ word ++ codes ": no such command\n"
@@ -88,8 +92,7 @@ abbrev pub text_of : Fault → List ℕ
 text_of fault.Usage = usage_text
 text_of (fault.NoCommand word) = unknown_text word.now ++ usage_text
 text_of (fault.Unreadable path reason) = unread_text path.now ++ why_text reason
-text_of (fault.NotText path line) =
-    codes "roam: " ++ path.now ++ codes ":" ++ decimal line ++ codes ": isn't UTF-8\n"
+text_of (fault.NotText path line) = unread_text path.now ++ not_text_text line
 text_of (fault.MayNotFollow path) = codes "roam: " ++ path.now ++ codes ": may not follow\n"
 text_of (fault.Misstated path) = codes "roam: " ++ path.now ++ codes ": misstated\n"
 text_of (fault.Unanswered path) = codes "roam: " ++ path.now ++ codes ": no answer\n"

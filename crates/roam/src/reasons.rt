@@ -49,3 +49,11 @@ pub fn print_unread<W: Write>(writer: &mut W, path: &str) -> io::Result<()>
 {
     write!(writer, "roam: {path}")
 }
+
+/// Prints which line of that file isn't UTF-8, and ends the line.
+pub fn print_no_text<W: Write>(writer: &mut W, line: u64) -> io::Result<()>
+    ensures { OnOk result
+        (Appends (W.contents writer.old) (W.contents writer.new) (spec.not_text_text line)) }
+{
+    writeln!(writer, ":{line}: isn't UTF-8")
+}

@@ -4,7 +4,7 @@ ghost use Rattle.std.specs.Prelude.{◌≡◌, ◌⊎◌, OnOk};
 ghost use Rattle.std.specs.Io.KnownBytes.{Appends};
 ghost use Rattle.roam.specs.Report as spec;
 
-use crate::reasons::{print_unread, print_why, words_of};
+use crate::reasons::{print_no_text, print_unread, print_why, words_of};
 use crate::usage::print_usage;
 use roam_conf::Endpoint;
 use roam_conf_reader::ConfFault;
@@ -202,7 +202,8 @@ fn print_not_text<W: Write>(writer: &mut W, path: &str, line: u64) -> io::Result
     ensures { OnOk result
         (Appends (W.contents writer.old) (W.contents writer.new) (spec.text_of (Fault.NotText path.entry line))) }
 {
-    writeln!(writer, "roam: {path}:{line}: isn't UTF-8")
+    print_unread(writer, path)?;
+    print_no_text(writer, line)
 }
 
 /// Prints that a configuration is refused, and by what name.
