@@ -2,24 +2,19 @@
 
 ghost use Rattle.std.specs.Prelude.{IfErr, IfOk};
 ghost use Rattle.roam_conf.specs.Shown.{shown};
-ghost use Rattle.roam_serve.specs.Served.{HasServedAll};
+ghost use Rattle.roam_succession.specs.Served.{HasServedAll};
 ghost use Rattle.roam_sockets.specs.Faults.{IsAfterBinding, IsFaultOf};
 
-use crate::change::configured::{Configured, Handover};
-use crate::change::next::widen_all;
-use crate::change::source::Source;
-use crate::parts::{Means, ServerParts};
-use crate::serving::serve_all;
-use crate::threads::behind::{Behind, start_behind};
-use crate::threads::kits::{make_kits, make_outboxes};
-use crate::watch::Watch;
 use log::Log;
 use roam_conf::{Config, ExchangeLines};
 use roam_control::{Build, Office, Stopping};
 use roam_hub::Gate;
 use roam_port::socket_numbers;
+use roam_run::{Configured, Handover, Means, ServerParts, Source, Watch, widen_all};
 use roam_sockets::{ServeFault, bind_all, descriptors_wanted, listen_at, reason_of};
+use roam_succession::serve_all;
 use roam_telling::Notice;
+use roam_threads::{Behind, make_kits, make_outboxes, start_behind};
 use roam_workers::{CAUSES, OldHistory, Rests, SharedLosses, tell_or_drop};
 use std::alloc::Global;
 use std::net::{Net, TcpListener};

@@ -1,0 +1,38 @@
+-- Whether one gave up a socket, after one worker more, and after all of them.
+use Rattle.std.specs.Vec.Iter.{into_iter_items}
+use Rattle.std.proofs.Common.{rules, ◌≡◌, [], ◌∷◌, ◌++◌, ◌↔◌, ◌∙◌, IsTrue, ap, append_assoc, arith, length, subst, sym}
+use Rattle.std.specs.Prelude.{Contains}
+use Rattle.std.proofs.lemmas.List.{map-append}
+use Rattle.roam_workers.specs.declared.ending.Ending.TheVariants as ending
+use Rattle.roam_workers.specs.Endings.{endings_of}
+use Rattle.roam_workers.proofs.EndingLemmas.{all-seen, given-up-after, none-gave-up}
+use Rattle.roam_run.proofs.open_hub.gather.Goals as goal
+
+pub loop-end-init : goal.loop-end-init
+loop-end-init g c =
+    let iter = c.into_iter-end-iterator.ensures.into_iter_gives in
+    record {
+      given_up = none-gave-up;
+      all = iter.0;
+      left = iter.1 ∙ c.args.ends.ok.0 ∙ ap length (sym iter.0);
+    }
+
+pub loop-end-preserved : goal.loop-end-preserved
+loop-end-preserved g c =
+    let inv = c.loop-end.invariant in
+    let steps = c.in-Some.ensures.steps in
+    let short = ap length steps.0 in
+    record {
+      given_up = rw (map-append (λ e. e.ending) c.loop-end.yielded (c.in-Some.end ∷ []))
+          (given-up-after _ c.in-Some.end.ending c.loop-end.has_given_up c.has_given_up_after-has_given_up.result
+          inv.given_up c.has_given_up_after-has_given_up.ensures);
+      all = append_assoc c.loop-end.yielded (c.in-Some.end ∷ []) _ ∙ ap (λ l. c.loop-end.yielded ++ l) (sym steps.0) ∙ inv.all;
+      left = omega (arith, short, steps.1, inv.left);
+    }
+
+pub returns-clause-gave_up : goal.returns-clause-gave_up
+returns-clause-gave_up g c =
+    let inv = c.loop-end.invariant in
+    let none : length (into_iter_items c.loop-end.end-iterator) ≡ 0 = sym inv.left ∙ c.in-None.ensures.steps.0 in
+    let all = all-seen c.loop-end.yielded (into_iter_items c.loop-end.end-iterator) c.args.ends.items none inv.all in
+    subst (λ ends. IsTrue c.loop-end.has_given_up ↔ Contains (endings_of ends) ending.GaveUp) all inv.given_up

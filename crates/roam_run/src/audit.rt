@@ -1,0 +1,44 @@
+//! The hub is closed, and what it kept is audited.
+
+ghost use Rattle.std.specs.Prelude.{◌≡◌, IfErr, IfOk};
+ghost use Rattle.roam_audit.specs.Shown.{recorded};
+ghost use Rattle.roam_run.specs.Closed.{EndsOf};
+ghost use Rattle.roam_sockets.specs.Faults.{IsAfterBinding};
+
+use roam_hub::{Audited, Hub, Opened, PauseRoom, Paused, PausedHub, Seat};
+use roam_sockets::ServeFault;
+use std::alloc::Global;
+use std::sync::Wait;
+
+/// What is left of a hub that was closed: its report, which passed the audit, and its shards, by number.
+#[derive(Drop)]
+pub struct AuditedHub<N: Opened> {
+    pub audited: Audited<Global, N>,
+    pub shards: Vec<Paused<Global>>,
+}
+
+/// Closes a hub, and audits what it kept by the seats of its workers. Its shards stand where the histories end that
+/// were audited.
+///
+/// # Errors
+///
+/// `Audit`, where it isn't passed, or a lock holds another shard's history.
+pub fn close_and_audit<'c, R: Wait, N: Opened>(
+    rt: &R,
+    hub: Hub<'c, Global, N>,
+    room: PauseRoom<'c, Global, N>,
+    seats: Vec<Seat<Global, N>>,
+) -> Result<AuditedHub<N>, ServeFault>
+    ensures ends { IfOk result (λ closed.
+        EndsOf N.opening (recorded closed.audited.report) closed.shards.items) }
+    ensures seats { IfOk result (λ closed. closed.audited.seats ≡ seats) }
+    ensures err { IfErr result IsAfterBinding }
+{
+    match hub.pause(rt, room) {
+        Ok(PausedHub { report, shards }) => match report.audited(seats) {
+            Ok(audited) => Ok(AuditedHub { audited, shards }),
+            Err(_) => Err(ServeFault::Audit),
+        },
+        Err(_) => Err(ServeFault::Audit),
+    }
+}

@@ -1,0 +1,161 @@
+//! The configuration that follows, with all that the server needs for it: it is there before anything changes.
+
+ghost use Rattle.std.specs.Prelude.{◌≡◌, IfErr, IfOk};
+ghost use Rattle.roam_conf.specs.Shown.{shown};
+ghost use Rattle.roam_reload.specs.Reload.{MayFollow};
+ghost use Rattle.roam_history.specs.Books.{count_of};
+
+use crate::change::configured::Configured;
+use crate::change::source::{Following, Source};
+use log::Log;
+use roam_conf::Config;
+use roam_control::{Course, Reply, plain_reply};
+use roam_hub::{Blanks, Opened};
+use roam_sockets::{
+    BoundSocket, RECEIVE_BUFFER, ServeFault, bind_following, descriptors_wanted, widen,
+};
+use roam_telling::{Counters, Notice};
+use roam_threads::{Kits, make_kits};
+use roam_workers::{Rests, Shared, tell_or_drop};
+use std::alloc::Global;
+use std::net::Net;
+
+/// The configuration that follows, and all that the server needs for it.
+#[derive(Drop)]
+pub struct Next {
+    pub configured: Configured,
+    /// What is answered to who asked for it.
+    pub report: Vec<u8>,
+    pub kits: Kits,
+    pub rests: Rests,
+    pub blanks: Blanks<Global>,
+    /// Memory that is given back before the threads start again, for what they are made of then.
+    pub spare: Vec<u8>,
+    ghost one_for_each: { count_of blanks ≡ configured.config.shards },
+}
+
+/// How many octets are spare: for each socket, for the stack of each thread, and beside them.
+const SPARE_OF_A_SOCKET: usize = 64;
+
+const SPARE_OF_A_THREAD: usize = 9 << 20;
+
+const SPARE_BESIDE: usize = 1 << 20;
+
+/// How many octets the lists and the stacks of the threads may take that start then. They aren't touched.
+fn spare_for(shards: u16, sockets: usize) -> usize {
+    let threads = usize::from(shards) + 2;
+    sockets
+        .saturating_mul(SPARE_OF_A_SOCKET)
+        .saturating_add(threads * SPARE_OF_A_THREAD)
+        .saturating_add(SPARE_BESIDE)
+}
+
+/// Gives sockets that are new room for what arrives, and tells where the system gives less.
+pub fn widen_all<R: Log>(rt: &R, config: &Config, sockets: &[BoundSocket]) {
+    for bound in sockets {
+        if !bound.was_open {
+            let room = widen(&bound.socket);
+            if room < RECEIVE_BUFFER {
+                tell_or_drop(rt, config, Notice::Narrow(bound.endpoint, room));
+            }
+        }
+    }
+}
+
+/// An answer that says why nothing changes.
+fn declined(body: Vec<u8>) -> Reply {
+    plain_reply(Course::Declined, body)
+}
+
+/// An answer that says so, where there is memory for it.
+fn declined_with(alloc: Global, words: &[u8]) -> Reply {
+    let mut body = Vec::new(alloc);
+    let _is_said = body.extend_from_slice(words).is_ok();
+    declined(body)
+}
+
+/// What is answered where memory is wanting.
+pub fn out_of_memory(alloc: Global) -> Reply {
+    declined_with(alloc, b"roam: out of memory\n")
+}
+
+/// What is said to who asks for another configuration where the server is asked to stop.
+fn is_stopping(alloc: Global) -> Reply {
+    declined_with(alloc, b"roam: asked to stop\n")
+}
+
+/// All that the server needs for a configuration that follows the one that is served. Sockets that both want are the
+/// same.
+fn make_next<R: Net + Log, G, N: Opened>(
+    rt: &R,
+    shared: &Shared<'_, '_, G, N>,
+    sockets: &[BoundSocket],
+    following: Following,
+) -> Result<Next, ServeFault>
+    ensures { IfOk result (λ next. next.configured.config ≡ following.config) }
+{
+    let Following {
+        config,
+        told_exchanges,
+        report,
+    } = following;
+    let alloc = shared.alloc;
+    let wanted = descriptors_wanted(shared.config, &config);
+    let sockets = bind_following(rt, alloc, &config, sockets, wanted)?;
+    widen_all(rt, &config, sockets.as_slice());
+    let kits = make_kits(
+        rt,
+        alloc,
+        &config,
+        sockets.as_slice(),
+        told_exchanges,
+        wanted,
+    )?;
+    let rests = Rests::new(alloc, &config)?;
+    let blanks = Blanks::new(alloc, config.shards)?;
+    let counters = match shared.counters {
+        Some(_) => Some(Counters::new(alloc, &config)?),
+        None => None,
+    };
+    let spare = Vec::with_capacity(alloc, spare_for(config.shards, sockets.len()))?;
+    Ok(Next {
+        configured: Configured {
+            config,
+            sockets,
+            told_exchanges,
+            counters,
+        },
+        report,
+        kits,
+        rests,
+        blanks,
+        spare,
+    })
+}
+
+/// Has a configuration come that is to follow the one that is served, and makes all that the server needs for it.
+/// Nothing changes yet.
+///
+/// # Errors
+///
+/// What is answered where none follows.
+pub fn prepare_next<R: Net + Log, G, N: Opened, S: Source>(
+    rt: &R,
+    shared: &Shared<'_, '_, G, N>,
+    sockets: &[BoundSocket],
+    source: &mut S,
+) -> Result<Next, Reply>
+    ensures { IfOk result (λ next. MayFollow N.opening.config (shown next.configured.config)) }
+{
+    if shared.stopping.is_asked() {
+        return Err(is_stopping(shared.alloc));
+    }
+    let following = match source.following(shared.config) {
+        Ok(following) => following,
+        Err(body) => return Err(declined(body)),
+    };
+    match make_next(rt, shared, sockets, following) {
+        Ok(next) => Ok(next),
+        Err(fault) => Err(declined(source.words_of(fault))),
+    }
+}

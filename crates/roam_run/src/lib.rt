@@ -1,0 +1,26 @@
+//! One configuration is served: its hub is opened, its threads run, and it is closed and audited.
+//!
+//! While the others serve, the server's own thread answers what it is asked for, and makes all that is needed for the
+//! configuration that is to follow, before anything changes.
+//!
+//! # Proved
+//!
+//! - what is left of a hub that was closed: its histories were audited, and the shards that are handed on stand where
+//!   they end; what follows may follow | `serve_first`, `serve_over`: `ends`, `may`; within them `close_and_audit`: `ends`;
+//!   `Source::following`
+#![tactic(auto)]
+
+mod asked;
+mod audit;
+mod change;
+mod open_hub;
+mod parts;
+mod start;
+mod watch;
+
+pub use change::configured::{Configured, Handover};
+pub use change::next::{Next, out_of_memory, widen_all};
+pub use change::source::{Following, NoSource, Source};
+pub use open_hub::{serve_first, serve_over};
+pub use parts::{HubEnd, Means, Served, ServerParts, Unserved, counters_of};
+pub use watch::Watch;

@@ -1,0 +1,276 @@
+//! One configuration is served: its hub is opened, its threads run, and it is closed and audited.
+
+ghost use Rattle.std.specs.Prelude.{◌≡◌, ◌↔◌, IsTrue, IfOk, IfErr, Contains};
+ghost use Rattle.roam_conf.specs.Shown.{shown};
+ghost use Rattle.roam_history.specs.HubOpening.{fresh_opening};
+ghost use Rattle.roam_history.specs.Books.{books_of, count_of};
+ghost use Rattle.roam_shard.specs.ShardView.{AreStarts};
+ghost use Rattle.roam_audit.specs.Shown.{recorded};
+ghost use Rattle.roam_hub.specs.Pausing.{ArePaused, opening_over};
+ghost use Rattle.roam_run.specs.Closed.{EndSomewhere, EndsOf, IsUnserved, MayGoOn};
+ghost use Rattle.roam_workers.specs.Endings.{endings_of};
+ghost use Rattle.roam_workers.specs.declared.ending.Ending.TheVariants as ending;
+ghost use Rattle.roam_sockets.specs.Faults.{IsAfterBinding};
+
+use crate::asked::attending::Attendant;
+use crate::audit::close_and_audit;
+use crate::change::configured::Configured;
+use crate::change::source::Source;
+use crate::parts::{HubEnd, Left, Means, Served, ServerParts, Unserved, counters_of};
+use crate::start::{ResultRoom, RunResult, run_threads};
+use log::Log;
+use roam_book::Start;
+use roam_conf::Config;
+use roam_hub::{Blanks, Gate, Hub, Opened, PauseRoom, Seat};
+use roam_port::Outbox;
+use roam_shard::Paused;
+use roam_sockets::ServeFault;
+use roam_threads::{Kits, prepare_threads};
+use roam_workers::{Ended, Rests, Shared, TimerRest, WorkerEnd, has_given_up_after};
+use std::alloc::Global;
+use std::net::Net;
+use std::random::RandomSource;
+use std::sync::Wait;
+use std::sync::atomic::AtomicBool;
+use std::thread::{Parker, Threads};
+use std::time::Clock;
+
+/// The memory for all that comes back of a hub and of its threads. It is taken before the hub opens, so that nothing is
+/// lost for want of it.
+#[derive(Drop)]
+struct HubRoom<'c, N: Opened> {
+    pause: PauseRoom<'c, Global, N>,
+    threads: ResultRoom<N>,
+    seats: Vec<Seat<Global, N>>,
+    outboxes: Vec<Outbox<Global>>,
+}
+
+impl<'c, N: Opened> HubRoom<'c, N> {
+    /// Room for a hub of this configuration, and for its threads.
+    fn new(alloc: Global, config: &'c Config) -> Result<HubRoom<'c, N>, ServeFault>
+        requires { shown config.now ≡ N.opening.config }
+        ensures { IfErr result IsAfterBinding }
+    {
+        let threads = usize::from(config.shards) + 1;
+        Ok(HubRoom {
+            pause: PauseRoom::new(alloc, config)?,
+            threads: ResultRoom::new(alloc, threads)?,
+            seats: Vec::with_capacity(alloc, threads)?,
+            outboxes: Vec::with_capacity(alloc, threads)?,
+        })
+    }
+}
+
+/// The first of two, or the other one where it is missing.
+fn first_of(one: Option<Rests>, other: Option<Rests>) -> Option<Rests> {
+    match one {
+        Some(rests) => Some(rests),
+        None => other,
+    }
+}
+
+/// What the workers gave back, in lists in which there is room for it.
+fn gather<N: Opened>(
+    ends: Vec<WorkerEnd<N>>,
+    mut seats: Vec<Seat<Global, N>>,
+    mut outboxes: Vec<Outbox<Global>>,
+) -> Result<Ended<N>, ServeFault>
+    ensures gave_up { IfOk result (λ e. IsTrue e.has_given_up
+        ↔ Contains (endings_of ends.items) ending.GaveUp) }
+    ensures err { IfErr result IsAfterBinding }
+{
+    let mut has_given_up = false;
+    let mut rests = None;
+    for end in ends {
+        has_given_up = has_given_up_after(has_given_up, end.ending);
+        seats.push(end.seat)?;
+        outboxes.push(end.outbox)?;
+        rests = first_of(end.rests, rests);
+    }
+    Ok(Ended {
+        has_given_up,
+        seats,
+        outboxes,
+        rests,
+    })
+}
+
+/// The threads of one configuration, from their start to their end, and how that came.
+fn run<
+    'c,
+    R: Threads + Wait + Clock + Net + RandomSource + Log + Sync,
+    G: Gate + Sync,
+    N: Opened + Send + Sync,
+    S: Source,
+>(
+    parts: &mut ServerParts<'_, R, G, S>,
+    configured: &'c Configured,
+    hub: &Hub<'c, Global, N>,
+    seat: Seat<Global, N>,
+    room: ResultRoom<N>,
+    means: Means,
+) -> RunResult<N>
+    requires { shown configured.now.config ≡ N.opening.config }
+    ensures { MayGoOn N.opening.config result.end }
+{
+    let Means {
+        kits: Kits { wakers, threads },
+        outboxes,
+        rests,
+        handover,
+    } = means;
+    let sockets = configured.sockets.as_slice();
+    let logger = Parker::new();
+    let stop = AtomicBool::new(false);
+    let rest = TimerRest::new(wakers.as_slice().first());
+    let shared = Shared {
+        alloc: parts.alloc,
+        config: &configured.config,
+        hub,
+        gate: parts.gate,
+        logger: &logger,
+        wakers: wakers.as_slice(),
+        rest: &rest,
+        losses: parts.losses,
+        counters: configured.counters(counters_of(parts.watch)),
+        told_exchanges: configured.told_exchanges,
+        office: parts.office,
+        stopping: parts.stopping,
+        old_history: parts.old_history,
+        stop: &stop,
+        start: parts.start,
+        end: parts.end,
+    };
+    match prepare_threads(sockets, &shared, seat, threads, outboxes, rests) {
+        Ok((prepared, seat)) => {
+            let attendant = Attendant {
+                rt: parts.rt,
+                shared: &shared,
+                sockets,
+                seat,
+                now: 0,
+            };
+            run_threads(attendant, prepared, room, handover, parts.source)
+        }
+        Err(fault) => RunResult {
+            ends: room.ends,
+            end: HubEnd::Failed(fault, handover),
+        },
+    }
+}
+
+/// A hub that is open, until it is closed and audited.
+///
+/// # Errors
+///
+/// `Receive`, where a socket was given up, and `Audit`.
+fn run_hub<
+    'c,
+    N: Opened + Send + Sync,
+    R: Threads + Wait + Clock + Net + RandomSource + Log + Sync,
+    G: Gate + Sync,
+    S: Source,
+>(
+    parts: &mut ServerParts<'_, R, G, S>,
+    configured: &'c Configured,
+    hub: Hub<'c, Global, N>,
+    seat: Seat<Global, N>,
+    room: HubRoom<'c, N>,
+    means: Means,
+) -> Result<Left<N>, ServeFault>
+    requires { shown configured.now.config ≡ N.opening.config }
+    ensures ends { IfOk result (λ left.
+        EndsOf N.opening (recorded left.closed.audited.report) left.closed.shards.items) }
+    ensures may { IfOk result (λ left. MayGoOn N.opening.config left.end) }
+    ensures err { IfErr result IsAfterBinding }
+{
+    let HubRoom {
+        pause,
+        threads,
+        seats,
+        outboxes,
+    } = room;
+    let RunResult { ends, end } = run(parts, configured, &hub, seat, threads, means);
+    let Ended {
+        has_given_up,
+        seats,
+        outboxes,
+        rests,
+    } = gather(ends, seats, outboxes)?;
+    if has_given_up {
+        return Err(ServeFault::Receive);
+    }
+    let closed = close_and_audit(parts.rt, hub, pause, seats)?;
+    Ok(Left {
+        end,
+        outboxes,
+        rests,
+        closed,
+    })
+}
+
+/// Serves the first configuration, whose realms begin, until its hub is closed.
+pub fn serve_first<
+    N: Opened + Send + Sync,
+    R: Threads + Wait + Clock + Net + RandomSource + Log + Sync,
+    G: Gate + Sync,
+    S: Source,
+>(
+    parts: &mut ServerParts<'_, R, G, S>,
+    configured: &Configured,
+    starts: &[Start],
+    blanks: Blanks<Global>,
+    means: Means,
+) -> Result<Served, ServeFault>
+    requires opening { N.opening ≡ fresh_opening (shown configured.now.config) starts.now }
+    requires books { N.books ≡ books_of blanks }
+    requires blanks { count_of blanks ≡ configured.now.config.shards }
+    requires starts { AreStarts (shown configured.now.config) starts.now }
+    ensures ends { IfOk result (λ served. EndSomewhere N.opening served.shards.items) }
+    ensures may { IfOk result (λ served. MayGoOn N.opening.config served.end) }
+    ensures err { IfErr result IsAfterBinding }
+{
+    let config = &configured.config;
+    let room = HubRoom::<'_, N>::new(parts.alloc, config)?;
+    let (hub, seat) = Hub::<'_, Global, N>::open(parts.alloc, config, starts, blanks)?;
+    let left = run_hub(parts, configured, hub, seat, room, means)?;
+    Ok(left.served())
+}
+
+/// Serves a configuration over shards that stand under it, until its hub is closed.
+///
+/// # Errors
+///
+/// Where the hub couldn't be opened for want of memory, its shards come back as they were.
+pub fn serve_over<
+    N: Opened + Send + Sync,
+    R: Threads + Wait + Clock + Net + RandomSource + Log + Sync,
+    G: Gate + Sync,
+    S: Source,
+>(
+    parts: &mut ServerParts<'_, R, G, S>,
+    configured: &Configured,
+    shards: Vec<Paused<Global>>,
+    blanks: Blanks<Global>,
+    means: Means,
+) -> Result<Served, Unserved>
+    requires opening { N.opening ≡ opening_over (shown configured.now.config) shards.items }
+    requires books { N.books ≡ books_of blanks }
+    requires blanks { count_of blanks ≡ configured.now.config.shards }
+    requires paused { ArePaused (shown configured.now.config) shards.items }
+    ensures ends { IfOk result (λ served. EndSomewhere N.opening served.shards.items) }
+    ensures may { IfOk result (λ served. MayGoOn N.opening.config served.end) }
+    ensures err { IfErr result (IsUnserved shards.items) }
+{
+    let config = &configured.config;
+    let Ok(room) = HubRoom::<'_, N>::new(parts.alloc, config) else {
+        return Err(Unserved::Closed(shards, means));
+    };
+    match Hub::<'_, Global, N>::open_over(parts.alloc, config, shards, blanks) {
+        Ok((hub, seat)) => match run_hub(parts, configured, hub, seat, room, means) {
+            Ok(left) => Ok(left.served()),
+            Err(fault) => Err(Unserved::Fault(fault)),
+        },
+        Err(shards) => Err(Unserved::Closed(shards, means)),
+    }
+}

@@ -1,0 +1,144 @@
+//! What a server has, from configuration to configuration.
+
+ghost use Rattle.std.specs.Prelude.{◌≡◌};
+ghost use Rattle.roam_audit.specs.Shown.{recorded};
+ghost use Rattle.roam_run.specs.Closed.{EndSomewhere, EndsOf};
+
+use crate::audit::AuditedHub;
+use crate::change::configured::Handover;
+use crate::change::next::Next;
+use crate::watch::Watch;
+use roam_control::{Office, Stopping};
+use roam_hub::Opened;
+use roam_port::Outbox;
+use roam_shard::Paused;
+use roam_sockets::ServeFault;
+use roam_telling::Counters;
+use roam_threads::Kits;
+use roam_workers::{OldHistory, Rests, SharedLosses};
+use std::alloc::Global;
+use std::time::Instant;
+
+/// What outlasts each configuration that a server serves.
+#[derive(Drop)]
+pub struct ServerParts<'s, R, G, S> {
+    pub rt: &'s R,
+    pub alloc: Global,
+    pub gate: &'s G,
+    pub losses: &'s SharedLosses,
+    pub watch: Option<Watch<'s>>,
+    pub old_history: &'s OldHistory,
+    pub office: &'s Office,
+    pub stopping: &'s Stopping,
+    pub start: Instant,
+    pub end: Option<u64>,
+    /// Where the configuration comes from that follows.
+    pub source: &'s mut S,
+}
+
+/// The counts of whoever watches a server.
+pub fn counters_of(watch: Option<Watch<'_>>) -> Option<&Counters> {
+    match watch {
+        Some(watch) => Some(watch.counters),
+        None => None,
+    }
+}
+
+/// What the threads of a configuration are made of, and what is handed on to them.
+#[derive(Drop)]
+pub struct Means {
+    pub kits: Kits,
+    pub outboxes: Vec<Outbox<Global>>,
+    /// Which home servers keep silent, as it was told.
+    pub rests: Rests,
+    pub handover: Handover,
+}
+
+/// How the time under a configuration ended.
+#[derive(Drop)]
+pub enum HubEnd {
+    /// The server ends.
+    Over,
+    /// This configuration is to follow.
+    Follows(Next),
+    /// What serves couldn't be started, for this fault: who asked for the configuration isn't answered yet.
+    Failed(ServeFault, Handover),
+}
+
+/// What is left of a hub that was closed and audited.
+#[derive(Drop)]
+pub struct Left<N: Opened> {
+    pub end: HubEnd,
+    /// The packets that still wait for room at a socket.
+    pub outboxes: Vec<Outbox<Global>>,
+    /// Which home servers keep silent, as it was told; none where the timer didn't run.
+    pub rests: Option<Rests>,
+    pub closed: AuditedHub<N>,
+}
+
+/// Why a configuration isn't served over shards that stand under it.
+#[derive(Drop)]
+pub enum Unserved {
+    /// The server ends for this fault.
+    Fault(ServeFault),
+    /// No hub could be opened for want of memory: the shards, as they were, and the means.
+    Closed(Vec<Paused<Global>>, Means),
+}
+
+/// What is left of it for the next one.
+#[derive(Drop)]
+pub struct Served {
+    pub end: HubEnd,
+    /// The packets that still wait for room at a socket.
+    pub outboxes: Vec<Outbox<Global>>,
+    /// Which home servers keep silent, as it was told; none where that isn't known.
+    pub rests: Option<Rests>,
+    pub shards: Vec<Paused<Global>>,
+    /// How many steps were recorded.
+    pub steps: u64,
+}
+
+impl<N: Opened> Left<N> {
+    /// What is left for the next hub: its shards, and how the time under the configuration ended.
+    pub fn served(self) -> Served
+        requires ends { EndsOf N.opening (recorded self.closed.audited.report) self.closed.shards.items }
+        ensures ends { EndSomewhere N.opening result.shards.items }
+        ensures end { result.end ≡ self.end }
+    {
+        let Left {
+            end,
+            outboxes,
+            rests,
+            closed: AuditedHub { audited, shards },
+        } = self;
+        Served {
+            end,
+            outboxes,
+            rests,
+            shards,
+            steps: audited.report().count_steps(),
+        }
+    }
+}
+
+impl Served {
+    /// The same, after so many steps more.
+    pub fn with_more(self, steps: u64) -> Served
+        ensures end { result.end ≡ self.end }
+        ensures shards { result.shards ≡ self.shards }
+    {
+        let mut served = self;
+        served.steps = served.steps.saturating_add(steps);
+        served
+    }
+}
+
+impl HubEnd {
+    /// Whether what serves couldn't be started.
+    pub fn has_failed(&self) -> bool {
+        match self {
+            HubEnd::Failed(_, _) => true,
+            HubEnd::Over | HubEnd::Follows(_) => false,
+        }
+    }
+}

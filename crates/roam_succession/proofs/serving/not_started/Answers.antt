@@ -1,0 +1,6 @@
+-- Nothing was done.
+use Rattle.roam_succession.proofs.ServedLemmas.{on-nothing}
+use Rattle.roam_succession.proofs.serving.not_started.Goals as goal
+
+pub returns : goal.returns
+returns g config = λ paused. record { paused = paused; goes_on = on-nothing config _; may = _ }

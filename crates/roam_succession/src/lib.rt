@@ -1,0 +1,17 @@
+//! One configuration after the other is served, each over the shards of the one before it.
+//!
+//! There is one hub for each configuration that is served: it is closed and audited at that one's end, and the hub of the
+//! next one goes on with its shards. What can't be started is tried again.
+//!
+//! # Proved
+//!
+//! - what a server did that ends without a fault: of each shard, over all changes of the configuration, spans
+//!   of one history from the first hub's opening, each of which goes on where the one before it ended. Which spans, nobody
+//!   outside could compare: the clauses below it pin them, that what is handed on are the states in which the audited
+//!   histories end | `serve_all`: `ok`; within it `change`, and `serve_first`, `serve_over` of `roam_run`
+#![tactic(auto)]
+
+mod changing;
+mod serving;
+
+pub use serving::serve_all;

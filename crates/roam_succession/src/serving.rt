@@ -1,0 +1,322 @@
+//! One configuration after the other is served.
+
+ghost use Rattle.std.specs.Prelude.{◌≡◌, IfOk, IfErr};
+ghost use Rattle.roam_conf.specs.Config.{ConfigView};
+ghost use Rattle.roam_conf.specs.Shown.{shown};
+ghost use Rattle.roam_history.specs.Books.{count_of};
+ghost use Rattle.roam_hub.specs.Pausing.{ArePaused};
+ghost use Rattle.roam_run.specs.Closed.{MayGoOn};
+ghost use Rattle.roam_succession.specs.Served.{HasServedAll, IsServedOn};
+ghost use Rattle.roam_sockets.specs.Faults.{IsAfterBinding};
+
+use crate::changing::{Changed, Ready, change};
+use log::Log;
+use roam_hub::{Blanks, Gate};
+use roam_port::{Outbox, socket_numbers};
+use roam_run::{
+    Configured, Handover, HubEnd, Means, Served, ServerParts, Source, Unserved, serve_first,
+    serve_over,
+};
+use roam_shard::{Paused, first_starts};
+use roam_sockets::{ServeFault, descriptors_wanted, now};
+use roam_telling::Notice;
+use roam_threads::{Kits, fill_outboxes, make_kits};
+use roam_workers::{Rests, tell_or_drop};
+use std::alloc::Global;
+use std::marker::Brand;
+use std::net::Net;
+use std::random::RandomSource;
+use std::sync::Wait;
+use std::thread;
+use std::thread::Threads;
+use std::time::{Clock, Duration};
+
+/// How long it waits, in milliseconds, before what serves is started again that couldn't be.
+const BEFORE_NEXT_TRY: u64 = 100;
+
+/// Nothing was served: what serves is to be started again.
+fn not_started(
+    shards: Vec<Paused<Global>>,
+    outboxes: Vec<Outbox<Global>>,
+    rests: Option<Rests>,
+    handover: Handover,
+) -> Served
+    ensures { (config : ConfigView) → ArePaused config shards.items
+        → IsServedOn config shards.items result }
+{
+    Served {
+        end: HubEnd::Failed(ServeFault::Memory, handover),
+        outboxes,
+        rests,
+        shards,
+        steps: 0,
+    }
+}
+
+/// Serves a configuration once, over shards that stand under it.
+fn serve_once<
+    R: Threads + Wait + Clock + Net + RandomSource + Log + Sync,
+    G: Gate + Sync,
+    S: Source,
+>(
+    parts: &mut ServerParts<'_, R, G, S>,
+    configured: &Configured,
+    shards: Vec<Paused<Global>>,
+    blanks: Blanks<Global>,
+    means: Means,
+) -> Result<Served, ServeFault>
+    requires paused { ArePaused (shown configured.now.config) shards.items }
+    requires blanks { count_of blanks ≡ configured.now.config.shards }
+    ensures ok { IfOk result (IsServedOn (shown configured.now.config) shards.items) }
+    ensures err { IfErr result IsAfterBinding }
+{
+    match serve_over::<Brand, R, G, S>(parts, configured, shards, blanks, means) {
+        Ok(served) => Ok(served),
+        Err(Unserved::Fault(fault)) => Err(fault),
+        Err(Unserved::Closed(shards, means)) => {
+            let Means {
+                outboxes,
+                rests,
+                handover,
+                ..
+            } = means;
+            Ok(not_started(shards, outboxes, Some(rests), handover))
+        }
+    }
+}
+
+/// What the threads of a configuration are made of, once more.
+#[derive(Drop)]
+struct Again {
+    kits: Kits,
+    /// Where it isn't known what was told of servers.
+    rests: Rests,
+    blanks: Blanks<Global>,
+}
+
+/// Takes it once more, and fills up the outboxes.
+fn take_again<R: Net, G, S>(
+    parts: &ServerParts<'_, R, G, S>,
+    configured: &Configured,
+    outboxes: &mut Vec<Outbox<Global>>,
+) -> Result<Again, ServeFault>
+    ensures blanks { IfOk result (λ again. count_of again.blanks ≡ configured.now.config.shards) }
+    ensures err { IfErr result IsAfterBinding }
+{
+    let config = &configured.config;
+    let sockets = configured.sockets.as_slice();
+    fill_outboxes(parts.alloc, config.shards, socket_numbers(config), outboxes)?;
+    let told = configured.told_exchanges;
+    Ok(Again {
+        kits: make_kits(
+            parts.rt,
+            parts.alloc,
+            config,
+            sockets,
+            told,
+            descriptors_wanted(config, config),
+        )?,
+        rests: Rests::new(parts.alloc, config)?,
+        blanks: Blanks::new(parts.alloc, config.shards)?,
+    })
+}
+
+/// Whether the server's time is over.
+fn is_time_over<R: Clock, G, S>(parts: &ServerParts<'_, R, G, S>) -> bool {
+    match parts.stopping.or_earlier(parts.end) {
+        Some(end) => end <= now(parts.rt, parts.start, 0),
+        None => false,
+    }
+}
+
+/// What was told of servers, or where that isn't known this.
+fn told_or(told: Option<Rests>, fresh: Rests) -> Rests {
+    match told {
+        Some(rests) => rests,
+        None => fresh,
+    }
+}
+
+/// Serves a configuration once more, where what serves couldn't be started before.
+fn serve_again<
+    R: Threads + Wait + Clock + Net + RandomSource + Log + Sync,
+    G: Gate + Sync,
+    S: Source,
+>(
+    parts: &mut ServerParts<'_, R, G, S>,
+    configured: &Configured,
+    shards: Vec<Paused<Global>>,
+    mut outboxes: Vec<Outbox<Global>>,
+    told: Option<Rests>,
+    handover: Handover,
+) -> Result<Served, ServeFault>
+    requires { ArePaused (shown configured.now.config) shards.items }
+    ensures ok { IfOk result (IsServedOn (shown configured.now.config) shards.items) }
+    ensures err { IfErr result IsAfterBinding }
+{
+    match take_again(parts, configured, &mut outboxes) {
+        Ok(
+            Again {
+                kits,
+                rests,
+                blanks,
+            },
+        ) => {
+            let means = Means {
+                kits,
+                outboxes,
+                rests: told_or(told, rests),
+                handover,
+            };
+            serve_once(parts, configured, shards, blanks, means)
+        }
+        Err(_) => Ok(not_started(shards, outboxes, told, handover)),
+    }
+}
+
+/// Serves a configuration until what serves could be started: nothing of what stands is lost where it can't be at once.
+fn serve_until_started<
+    R: Threads + Wait + Clock + Net + RandomSource + Log + Sync,
+    G: Gate + Sync,
+    S: Source,
+>(
+    parts: &mut ServerParts<'_, R, G, S>,
+    configured: &Configured,
+    first: Served,
+) -> Result<Served, ServeFault>
+    requires paused { ArePaused (shown configured.now.config) first.shards.items }
+    requires may { MayGoOn (shown configured.now.config) first.end }
+    ensures ok { IfOk result (IsServedOn (shown configured.now.config) first.shards.items) }
+    ensures err { IfErr result IsAfterBinding }
+{
+    let rt = parts.rt;
+    let mut served = first;
+    let mut is_told = false;
+    for _ in rt.forever() {
+        if !served.end.has_failed() || is_time_over(parts) {
+            return Ok(served);
+        }
+        if !is_told {
+            is_told = tell_or_drop(rt, &configured.config, Notice::TriesAgain);
+        }
+        thread::sleep(rt, Duration::from_millis(BEFORE_NEXT_TRY));
+        served = serve_on(parts, configured, served)?;
+    }
+    unreachable!()
+}
+
+/// Serves on where what serves couldn't be started before.
+fn serve_on<R: Threads + Wait + Clock + Net + RandomSource + Log + Sync, G: Gate + Sync, S: Source>(
+    parts: &mut ServerParts<'_, R, G, S>,
+    configured: &Configured,
+    served: Served,
+) -> Result<Served, ServeFault>
+    requires paused { ArePaused (shown configured.now.config) served.shards.items }
+    requires may { MayGoOn (shown configured.now.config) served.end }
+    ensures ok { IfOk result (IsServedOn (shown configured.now.config) served.shards.items) }
+    ensures err { IfErr result IsAfterBinding }
+{
+    let Served {
+        end,
+        outboxes,
+        rests,
+        shards,
+        steps,
+    } = served;
+    match end {
+        HubEnd::Failed(_, handover) => {
+            let again = serve_again(parts, configured, shards, outboxes, rests, handover)?;
+            Ok(again.with_more(steps))
+        }
+        end => Ok(Served {
+            end,
+            outboxes,
+            rests,
+            shards,
+            steps,
+        }),
+    }
+}
+
+/// Serves for the first time after a change, where it left what the threads are made of.
+fn serve_changed<
+    R: Threads + Wait + Clock + Net + RandomSource + Log + Sync,
+    G: Gate + Sync,
+    S: Source,
+>(
+    parts: &mut ServerParts<'_, R, G, S>,
+    configured: &Configured,
+    shards: Vec<Paused<Global>>,
+    changed: Changed,
+    outboxes: Vec<Outbox<Global>>,
+) -> Result<Served, ServeFault>
+    requires paused { ArePaused (shown configured.now.config) shards.items }
+    requires blanks { count_of changed.blanks ≡ configured.now.config.shards }
+    ensures ok { IfOk result (IsServedOn (shown configured.now.config) shards.items) }
+    ensures err { IfErr result IsAfterBinding }
+{
+    let Changed {
+        ready,
+        blanks,
+        told,
+        handover,
+    } = changed;
+    match ready {
+        Some(Ready { kits, rests }) => {
+            let means = Means {
+                kits,
+                outboxes,
+                rests,
+                handover,
+            };
+            serve_once(parts, configured, shards, blanks, means)
+        }
+        None => Ok(not_started(shards, outboxes, told, handover)),
+    }
+}
+
+/// Serves a configuration, and each one that follows, until the server ends: how many steps were recorded.
+///
+/// # Errors
+///
+/// The first configuration's threads that can't be started end it; those of another one are tried again.
+pub fn serve_all<
+    R: Threads + Wait + Clock + Net + RandomSource + Log + Sync,
+    G: Gate + Sync,
+    S: Source,
+>(
+    parts: &mut ServerParts<'_, R, G, S>,
+    configured: &mut Configured,
+    means: Means,
+) -> Result<u64, ServeFault>
+    ensures ok { IfOk result (λ steps. HasServedAll (shown configured.old.config)) }
+    ensures err { IfErr result IsAfterBinding }
+{
+    let firsts = first_starts(parts.alloc, &configured.config)?;
+    let Ok(blanks) = Blanks::new(parts.alloc, configured.config.shards) else {
+        return Err(ServeFault::Memory);
+    };
+    let starts = firsts.as_slice();
+    let mut served = serve_first::<Brand, R, G, S>(parts, configured, starts, blanks, means)?;
+    let mut steps = 0u64;
+    let rt = parts.rt;
+    for _ in rt.forever() {
+        let Served {
+            end,
+            outboxes,
+            rests,
+            mut shards,
+            steps: more,
+        } = served;
+        steps = steps.saturating_add(more);
+        let next = match end {
+            HubEnd::Over => return Ok(steps),
+            HubEnd::Failed(fault, _) => return Err(fault),
+            HubEnd::Follows(next) => next,
+        };
+        let changed = change(parts, configured, &mut shards, next, rests);
+        let first = serve_changed(parts, configured, shards, changed, outboxes)?;
+        served = serve_until_started(parts, configured, first)?;
+    }
+    unreachable!()
+}

@@ -1,0 +1,135 @@
+//! What the threads are made of that names no hub: all of it is there before a configuration is served, or follows
+//! another.
+
+ghost use Rattle.std.specs.Prelude.{◌≡◌, IfErr};
+ghost use Rattle.roam_sockets.specs.Faults.{IsAfterBinding};
+
+use crate::dealing::register;
+use mio::{Events, Waker};
+use roam_conf::{Config, ExchangeLines};
+use roam_hub::Notes;
+use roam_notices::Exchange;
+use roam_port::Outbox;
+use roam_sockets::{BoundSocket, Polls, ServeFault, make_polls, make_wakers};
+use roam_telling::{
+    Exchanges, Notice, Notices, notes_of_timer, notes_of_worker, queue_of_lines, queue_of_notices,
+};
+use roam_workers::{RECEIVED, ROOM_EVENTS};
+use rtrb::Consumer;
+use std::alloc::Global;
+use std::net::Net;
+
+/// What a worker or the timer is made of.
+#[derive(Drop)]
+pub struct Kit {
+    pub polls: Polls,
+    pub notices: Notices,
+    /// The logger's end of its queue of notices.
+    pub queue: Consumer<Notice>,
+    pub exchanges: Exchanges,
+    /// The logger's end of its queue of lines, where lines are told.
+    pub lines: Option<Consumer<Exchange>>,
+    /// For the sockets that have room again.
+    pub room_events: Events<Global>,
+    /// Room for a datagram; none for the timer.
+    pub buffer: Vec<u8>,
+}
+
+/// What the timer and the workers are made of.
+#[derive(Drop)]
+pub struct ThreadKits {
+    pub timer: Kit,
+    pub workers: Vec<Kit>,
+}
+
+/// What all threads are made of.
+#[derive(Drop)]
+pub struct Kits {
+    /// What ends the wait of the timer, the first, and of each worker.
+    pub wakers: Vec<Waker>,
+    pub threads: ThreadKits,
+}
+
+/// What one thread is made of.
+fn make_kit(
+    alloc: Global,
+    polls: Polls,
+    notes: Notes<Global>,
+    told: ExchangeLines,
+    room: usize,
+) -> Result<Kit, ServeFault>
+    ensures { IfErr result IsAfterBinding }
+{
+    let (notices, queue) = queue_of_notices(alloc)?;
+    let (exchanges, lines) = queue_of_lines(alloc, notes, told)?;
+    Ok(Kit {
+        polls,
+        notices,
+        queue,
+        exchanges,
+        lines,
+        room_events: Events::with_capacity(alloc, ROOM_EVENTS)?,
+        buffer: vec![in alloc; 0u8; room]?,
+    })
+}
+
+/// What the threads of a configuration are made of: a worker for each shard, which waits for what comes to the sockets
+/// that it hears, and the timer. The server wants so many descriptors.
+pub fn make_kits<R: Net>(
+    rt: &R,
+    alloc: Global,
+    config: &Config,
+    sockets: &[BoundSocket],
+    told: ExchangeLines,
+    wanted: u32,
+) -> Result<Kits, ServeFault>
+    ensures { IfErr result IsAfterBinding }
+{
+    let mut polls = make_polls(rt, alloc, config.shards.saturating_add(1), wanted)?;
+    let wakers = make_wakers(alloc, polls.as_slice(), wanted)?;
+    let mut workers = Vec::with_capacity(alloc, usize::from(config.shards))?;
+    for worker in 0..config.shards {
+        let Some(one) = polls.pop() else {
+            return Err(ServeFault::Memory);
+        };
+        register(&one.arrivals, sockets, usize::from(worker))?;
+        workers.push(make_kit(alloc, one, notes_of_worker(alloc)?, told, RECEIVED)?)?;
+    }
+    let Some(one) = polls.pop() else {
+        return Err(ServeFault::Memory);
+    };
+    let timer = make_kit(alloc, one, notes_of_timer(alloc, config)?, told, 0)?;
+    Ok(Kits {
+        wakers,
+        threads: ThreadKits { timer, workers },
+    })
+}
+
+/// Adds outboxes in which nothing waits, until there is one for each worker and for the timer, each with a queue for
+/// each of so many sockets.
+pub fn fill_outboxes(
+    alloc: Global,
+    shards: u16,
+    sockets: usize,
+    outboxes: &mut Vec<Outbox<Global>>,
+) -> Result<(), ServeFault>
+    ensures { IfErr result IsAfterBinding }
+{
+    for _ in outboxes.len()..=usize::from(shards) {
+        outboxes.push(Outbox::new(alloc, sockets)?)?;
+    }
+    Ok(())
+}
+
+/// An outbox for each worker and for the timer, in which nothing waits, with a queue for each of so many sockets.
+pub fn make_outboxes(
+    alloc: Global,
+    shards: u16,
+    sockets: usize,
+) -> Result<Vec<Outbox<Global>>, ServeFault>
+    ensures { IfErr result IsAfterBinding }
+{
+    let mut outboxes = Vec::new(alloc);
+    fill_outboxes(alloc, shards, sockets, &mut outboxes)?;
+    Ok(outboxes)
+}

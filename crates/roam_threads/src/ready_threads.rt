@@ -1,0 +1,250 @@
+//! The threads of a server, before they start.
+
+ghost use Rattle.std.specs.Prelude.{◌≡◌, ◌≤◌, IfErr};
+ghost use Rattle.roam_sockets.specs.Faults.{IsAfterBinding};
+
+use crate::dealing::{ports, receivers};
+use crate::kits::{Kit, ThreadKits};
+use mio::{Events, Poll};
+use roam_hub::{Opened, Seat, split};
+use roam_notices::Exchange;
+use roam_port::{Outbox, socket_numbers};
+use roam_sockets::{BoundSocket, ServeFault};
+use roam_telling::{Counting, Notice};
+use roam_workers::{
+    ExchangeQueues, Logger, Outgoing, Rests, RoomEvents, Shared, Timer, Worker, WorkerContext,
+};
+use rtrb::Consumer;
+use std::alloc::Global;
+
+/// For how many octets of a line room is made at the start.
+const LINE: usize = 4096;
+
+/// The threads of a configuration, before they start: those that take part in the hub, and the logger.
+#[derive(Drop)]
+pub struct ReadyThreads<'s, 'c, G, N: Opened> {
+    pub workers: Vec<Worker<'s, 'c, G, N>>,
+    pub timer: Timer<'s, 'c, G, N>,
+    pub logger: Logger<'s>,
+}
+
+/// What a worker or the timer has, with what its kit leaves it: where it waits for what comes, and room for a datagram.
+#[derive(Drop)]
+struct Equipped<'s, 'c, G, N: Opened> {
+    context: WorkerContext<'s, 'c, G, N>,
+    arrivals: Poll,
+    buffer: Vec<u8>,
+}
+
+/// The logger's ends of all queues.
+#[derive(Drop)]
+struct Queues<'s> {
+    notices: Vec<Consumer<Notice>>,
+    lines: ExchangeQueues<'s>,
+}
+
+impl Queues<'_> {
+    /// Takes the logger's ends of one thread's queues.
+    fn take(
+        &mut self,
+        notices: Consumer<Notice>,
+        lines: Option<Consumer<Exchange>>,
+    ) -> Result<(), ServeFault>
+        ensures { IfErr result IsAfterBinding }
+    {
+        self.notices.push(notices)?;
+        if let Some(lines) = lines {
+            self.lines.queues.push(lines)?;
+        }
+        Ok(())
+    }
+}
+
+/// Makes the threads of a configuration.
+#[derive(Drop)]
+struct Builder<'s, 'c, G, N: Opened> {
+    sockets: &'s [BoundSocket],
+    shared: &'s Shared<'s, 'c, G, N>,
+    queues: Queues<'s>,
+}
+
+impl<'s, 'c, G, N: Opened> Builder<'s, 'c, G, N> {
+    /// Has made no thread yet.
+    fn new(sockets: &'s [BoundSocket], shared: &'s Shared<'s, 'c, G, N>) -> Builder<'s, 'c, G, N> {
+        let alloc = shared.alloc;
+        Builder {
+            sockets,
+            shared,
+            queues: Queues {
+                notices: Vec::new(alloc),
+                lines: ExchangeQueues {
+                    queues: Vec::new(alloc),
+                    counts: match shared.counters {
+                        Some(counters) => counters.of_thread(usize::from(shared.config.shards)),
+                        None => None,
+                    },
+                    dropped: 0,
+                },
+            },
+        }
+    }
+
+    /// What the thread of this number has, a worker or the timer, made of its kit. The packets that still wait in its
+    /// outbox are sent, where there is room for them now.
+    fn equip(
+        &mut self,
+        number: usize,
+        seat: Seat<Global, N>,
+        outbox: Outbox<Global>,
+        kit: Kit,
+    ) -> Result<Equipped<'s, 'c, G, N>, ServeFault>
+        ensures { IfErr result IsAfterBinding }
+    {
+        let shared = self.shared;
+        let Kit {
+            polls,
+            notices,
+            queue,
+            exchanges,
+            lines,
+            room_events,
+            buffer,
+        } = kit;
+        self.queues.take(queue, lines)?;
+        let workers = usize::from(shared.config.shards);
+        let counting = Counting {
+            config: shared.config,
+            counts: match shared.counters {
+                Some(counters) => counters.of_thread(number),
+                None => None,
+            },
+        };
+        let numbers = socket_numbers(shared.config);
+        let ports = ports(shared.alloc, self.sockets, numbers, number, workers)?;
+        let room = RoomEvents {
+            poll: polls.room,
+            events: room_events,
+        };
+        let outgoing = Outgoing::new(shared.alloc, outbox, ports, shared.losses, counting, room)?;
+        let context = WorkerContext {
+            shared,
+            seat,
+            outgoing,
+            notices,
+            exchanges,
+            counting,
+            now: 0,
+        };
+        Ok(Equipped {
+            context,
+            arrivals: polls.arrivals,
+            buffer,
+        })
+    }
+
+    /// A worker of this number, made of its kit. Two events more than it has sockets may come: that it is woken, and
+    /// that sockets have room again.
+    fn worker(
+        &mut self,
+        number: usize,
+        seat: Seat<Global, N>,
+        outbox: Outbox<Global>,
+        kit: Kit,
+    ) -> Result<Worker<'s, 'c, G, N>, ServeFault>
+        ensures { IfErr result IsAfterBinding }
+    {
+        let Equipped {
+            context,
+            arrivals,
+            buffer,
+        } = self.equip(number, seat, outbox, kit)?;
+        let alloc = self.shared.alloc;
+        let receivers = receivers(alloc, self.sockets, number)?;
+        let events = Events::with_capacity(alloc, receivers.len().saturating_add(2))?;
+        let ready = Vec::with_capacity(alloc, receivers.len())?;
+        Ok(Worker {
+            context,
+            receivers,
+            ready,
+            poll: arrivals,
+            events,
+            buffer,
+        })
+    }
+
+    /// The timer, made of its kit.
+    fn timer(
+        &mut self,
+        seat: Seat<Global, N>,
+        outbox: Outbox<Global>,
+        kit: Kit,
+        rests: Rests,
+    ) -> Result<Timer<'s, 'c, G, N>, ServeFault>
+        ensures { IfErr result IsAfterBinding }
+    {
+        let shared = self.shared;
+        let number = usize::from(shared.config.shards);
+        let Equipped {
+            context,
+            arrivals,
+            ..
+        } = self.equip(number, seat, outbox, kit)?;
+        Ok(Timer {
+            context,
+            poll: arrivals,
+            events: Events::with_capacity(shared.alloc, 2)?,
+            told: [None; 4],
+            is_stop_told: false,
+            rests,
+            quiet_since: None,
+        })
+    }
+}
+
+/// The threads of a configuration: a worker for each shard, the timer and the logger; and the seat of the server's own
+/// thread. Each that takes part in the hub has its kit, an outbox, in which packets may wait that others left there,
+/// and a seat that is split off this one.
+pub fn prepare_threads<'s, 'c, G, N: Opened>(
+    sockets: &'s [BoundSocket],
+    shared: &'s Shared<'s, 'c, G, N>,
+    seat: Seat<Global, N>,
+    kits: ThreadKits,
+    outboxes: Vec<Outbox<Global>>,
+    rests: Rests,
+) -> Result<(ReadyThreads<'s, 'c, G, N>, Seat<Global, N>), ServeFault>
+    ensures { IfErr result IsAfterBinding }
+{
+    let alloc = shared.alloc;
+    let mut builder = Builder::new(sockets, shared);
+    let mut workers = Vec::with_capacity(alloc, kits.workers.len())?;
+    let mut rest = seat;
+    let mut outboxes = outboxes.into_iter();
+    for kit in kits.workers {
+        let (Ok((first, seat)), Some(outbox)) = (split(rest), outboxes.next()) else {
+            return Err(ServeFault::Memory);
+        };
+        rest = first;
+        let worker = builder.worker(workers.len(), seat, outbox, kit)?;
+        if workers.push(worker).is_err() {
+            return Err(ServeFault::Memory);
+        }
+    }
+    let (Ok((rest, seat)), Some(outbox)) = (split(rest), outboxes.next()) else {
+        return Err(ServeFault::Memory);
+    };
+    let timer = builder.timer(rest, outbox, kits.timer, rests)?;
+    let Queues { notices, lines } = builder.queues;
+    let logger = Logger {
+        queues: notices,
+        lines,
+        line: Vec::with_capacity(alloc, LINE)?,
+    };
+    Ok((
+        ReadyThreads {
+            workers,
+            timer,
+            logger,
+        },
+        seat,
+    ))
+}
