@@ -16,7 +16,8 @@ use Rattle.roam_run.specs.declared.parts.Unserved.TheVariants as unserved
 use Rattle.std.specs.declared.alloc.Global.{Global}
 
 module _ {A : Type 0} where
-  -- these steps were recorded of each shard: a history from the hub's opening. Where it ends there stands the shard that is
+  -- these steps were recorded of each shard: a history from the hub's opening. Where it ends there stands the shard
+  -- that is
   -- handed on
   pub record EndsOf (o : HubOpening) (steps : List (List PlainStep)) (shards : List (Paused A)) : Type 0 where
     pub histories : AreHistories o steps

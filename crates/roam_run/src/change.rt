@@ -1,6 +1,5 @@
-//! From one configuration to the next.
+//! The configuration that follows: where it comes from, and what is made for it.
 
-pub mod changing;
 pub mod configured;
 pub mod next;
 pub mod source;

@@ -5,8 +5,8 @@
 //!
 //! # Proved
 //!
-//! - what is left of a hub that was closed: its histories were audited, and the shards that are handed on stand where
-//!   they end; what follows may follow | `serve_first`, `serve_over`: `ends`, `may`; within them `close_and_audit`: `ends`;
+//! - of a hub that was closed: its histories were audited, the shards that are handed on stand where these end, and a
+//!   configuration that follows may | `serve_first`, `serve_over`: `ends`, `may`; `close_and_audit`: `ends`;
 //!   `Source::following`
 #![tactic(auto)]
 

@@ -143,13 +143,7 @@ fn run<
     };
     match prepare_threads(sockets, &shared, seat, threads, outboxes, rests) {
         Ok((prepared, seat)) => {
-            let attendant = Attendant {
-                rt: parts.rt,
-                shared: &shared,
-                sockets,
-                seat,
-                now: 0,
-            };
+            let attendant = Attendant::new(parts.rt, &shared, sockets, seat);
             run_threads(attendant, prepared, room, handover, parts.source)
         }
         Err(fault) => RunResult {

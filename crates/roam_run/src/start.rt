@@ -87,8 +87,8 @@ fn reload_end(course: Course) -> ReloadEnd {
     }
 }
 
-/// Tells that a configuration is served, and how the reload went where one was asked for, answers who did, and closes what
-/// the one of before had.
+/// Tells that a configuration is served, and how the reload went where one was asked for, answers who did, and closes
+/// what the one of before had.
 fn tell_start<R: Wait + Clock + Log, G, N: Opened>(
     rt: &R,
     shared: &Shared<'_, '_, G, N>,
@@ -150,8 +150,8 @@ impl<N: Opened> ResultRoom<N> {
 }
 
 /// Runs the threads until they have ended, or until a configuration comes that is to follow. Once all run it is told
-/// that this one is served, also to who asked for it. Until the end this thread answers who asks for something. Where one
-/// can't be started, the others are ended.
+/// that this one is served, also to who asked for it. Until the end this thread answers who asks for something. Where
+/// one can't be started, the others are ended.
 pub fn run_threads<
     's,
     'c,

@@ -8,9 +8,8 @@
 //!
 //! # Proved
 //!
-//! - what a server did that ends without a fault: of each shard, over all changes of the configuration, spans
-//!   of one history from the first hub's opening, each of which goes on where the one before it ended; each was
-//!   audited, and what follows may follow | `serve`: `served`
+//! - what a server did that ends without a fault: of each shard such spans of one history, from the opening of a hub whose
+//!   realms begin | `serve`: `served`
 //! - of a server's faults, an endpoint that can't be bound is one of its configuration | `serve`: `err`
 #![tactic(auto)]
 

@@ -11,7 +11,7 @@ use roam_control::{Build, Office, Stopping};
 use roam_hub::Gate;
 use roam_port::socket_numbers;
 use roam_run::{Configured, Handover, Means, ServerParts, Source, Watch, widen_all};
-use roam_sockets::{ServeFault, bind_all, descriptors_wanted, listen_at, reason_of};
+use roam_sockets::{BoundSocket, ServeFault, bind_all, descriptors_wanted, listen_at, reason_of};
 use roam_succession::serve_all;
 use roam_telling::Notice;
 use roam_threads::{Behind, make_kits, make_outboxes, start_behind};
@@ -159,6 +159,28 @@ fn serve_with<
     )
 }
 
+/// What the threads of the first configuration are made of.
+fn first_means<R: Net>(
+    rt: &R,
+    alloc: Global,
+    config: &Config,
+    sockets: &[BoundSocket],
+    told: ExchangeLines,
+) -> Result<Means, ServeFault>
+    ensures err { IfErr result IsAfterBinding }
+{
+    let wanted = descriptors_wanted(config, config);
+    Ok(Means {
+        kits: make_kits(rt, alloc, config, sockets, told, wanted)?,
+        outboxes: make_outboxes(alloc, config.shards, socket_numbers(config))?,
+        rests: Rests::new(alloc, config)?,
+        handover: Handover {
+            reply: None,
+            before: None,
+        },
+    })
+}
+
 /// Serves a configuration, and each one that follows by `source`. The log of `rt` isn't to wait for whoever reads it: a
 /// change and the end wait for the logger. What the log says that it has no room for is dropped, and counted.
 ///
@@ -196,23 +218,7 @@ pub fn serve<
     let old_history = OldHistory::new(alloc, config.shards)?;
     let office = Office::new(rt, alloc, start, config.shards, build_of(watch))?;
     let stopping = Stopping::new();
-    let wanted = descriptors_wanted(&config, &config);
-    let means = Means {
-        kits: make_kits(
-            rt,
-            alloc,
-            &config,
-            sockets.as_slice(),
-            told_exchanges,
-            wanted,
-        )?,
-        outboxes: make_outboxes(alloc, config.shards, socket_numbers(&config))?,
-        rests: Rests::new(alloc, &config)?,
-        handover: Handover {
-            reply: None,
-            before: None,
-        },
-    };
+    let means = first_means(rt, alloc, &config, sockets.as_slice(), told_exchanges)?;
     let configured = Configured {
         config,
         sockets,

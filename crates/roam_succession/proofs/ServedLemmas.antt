@@ -1,5 +1,5 @@
 -- What a server has served, over one hub more and over a change.
-use Rattle.std.proofs.Common.{rules, arith, ◌≡◌, ℕ, ◌<◌, ◌≤◌, List, [], ◌∷◌, ◌++◌, ◌∙◌, Option, Some, None, inl, inr, ap, subst, sym, refl, length, slice_get}
+use Rattle.std.proofs.Common.{arith, ◌≡◌, ℕ, ◌<◌, ◌≤◌, List, [], ◌∷◌, ◌++◌, ◌∙◌, Option, Some, inl, inr, ap, subst, sym, refl, length, slice_get}
 use Rattle.std.specs.Prelude.{get_or}
 use Rattle.std.proofs.lemmas.Option.{slice_get-get_or, slice_get_cases, slice_get_within}
 use Rattle.roam_conf.specs.Config.{ConfigView}
@@ -32,7 +32,8 @@ then-append config states [] ys = refl
 then-append config states (x ∷ xs) ys = then-append config (states_next config states x.event) xs ys
 
 -- one span more
-spans-push : (before : List Span) (last more : Span) → AreSpans (before ++ last ∷ []) → FollowsOn last more → IsSpan more
+spans-push : (before : List Span) (last more : Span) → AreSpans (before ++ last ∷ []) → FollowsOn last more →
+    IsSpan more
     → AreSpans ((before ++ last ∷ []) ++ more ∷ [])
 spans-push [] last more are on is = (are.0, on, (is, _, _))
 spans-push (s ∷ []) last more are on is = (are.0, are.1, spans-push [] last more are.2 on is)
@@ -46,7 +47,8 @@ spans-longer (s ∷ []) last steps are history =
     (are.0, record { shard = are.1.shard; states = are.1.states }, spans-longer [] last steps are.2 history)
 spans-longer (s ∷ t ∷ ts) last steps are history = (are.0, are.1, spans-longer (t ∷ ts) last steps are.2 history)
 
-first-stays : (before : List Span) (last more : Span) → (first_of (before ++ last ∷ []) more).begins ≡ (first_of before last).begins
+first-stays : (before : List Span) (last more : Span) →
+    (first_of (before ++ last ∷ []) more).begins ≡ (first_of before last).begins
 first-stays [] last more = refl
 first-stays (s ∷ ss) last more = refl
 
@@ -80,13 +82,15 @@ served-change begins old new before after some served follow =
     let last = served.last in
     let more : Span = record { begins = record { shard = begins.shard; config = new; states = after }; steps = [] } in
     let from : AllFollow last.begins.config new last.begins.shard (end_of last.begins last.steps) after =
-    subst (λ (c : ConfigView). AllFollow c new last.begins.shard (end_of last.begins last.steps) after) (sym served.config_is)
+    subst (λ (c : ConfigView). AllFollow c new last.begins.shard (end_of last.begins last.steps) after)
+    (sym served.config_is)
     (subst (λ (n : ℕ). AllFollow old new n (end_of last.begins last.steps) after) (sym served.shard)
     (subst (λ (s : List RealmState). AllFollow old new begins.shard s after) served.stands follow)) in
     record {
       before = served.before ++ last ∷ [];
       last = more;
-      spans = spans-push served.before last more served.spans (record { shard = sym served.shard; states = from }) (record { some_shard = some; history = _ });
+      spans = spans-push served.before last more served.spans (record { shard = sym served.shard; states = from })
+          (record { some_shard = some; history = _ });
       first = first-stays served.before last more ∙ served.first;
       shard = refl;
       config_is = refl;
@@ -95,12 +99,15 @@ served-change begins old new before after some served follow =
 
 -- it is served on, under the same configuration
 pub served-on : (begins : Beginning) (config : ConfigView) (before after : List RealmState) (steps : List PlainStep)
-    → HasServed begins config before → IsHistory (record { shard = begins.shard; config = config; states = before }) steps
-    → after ≡ end_of (record { shard = begins.shard; config = config; states = before }) steps → HasServed begins config after
+    → HasServed begins config before →
+    IsHistory (record { shard = begins.shard; config = config; states = before }) steps
+    → after ≡ end_of (record { shard = begins.shard; config = config; states = before }) steps →
+    HasServed begins config after
 served-on begins config before after steps served history stands =
     let last = served.last in
     let more : AreSteps last.begins.config last.begins.shard (end_of last.begins last.steps) steps =
-    subst (λ (c : ConfigView). AreSteps c last.begins.shard (end_of last.begins last.steps) steps) (sym served.config_is)
+    subst (λ (c : ConfigView). AreSteps c last.begins.shard (end_of last.begins last.steps) steps)
+    (sym served.config_is)
     (subst (λ (n : ℕ). AreSteps config n (end_of last.begins last.steps) steps) (sym served.shard)
     (subst (λ (s : List RealmState). AreSteps config begins.shard s steps) served.stands history)) in
     let of_last : IsHistory last.begins last.steps = last-history served.before last served.spans in
@@ -125,50 +132,60 @@ there-is xs k within = elim (slice_get_cases xs k).1 [
 ]
 
 -- the shards of a hub of a server that begins
-pub served-from : {A : Type 0} (config : ConfigView) (starts : List Start) (steps : List (List PlainStep)) (shards : List (Paused A))
+pub served-from : {A : Type 0} (config : ConfigView) (starts : List Start) (steps : List (List PlainStep))
+    (shards : List (Paused A))
     → EndsOf (fresh_opening config starts) steps shards → HaveServed (fresh_opening config starts) config shards
 served-from config starts steps shards ends = λ k p is.
     let within = slice_get_within shards k p is in
     served-first (opening_at (fresh_opening config starts) k) (states_under config p) (steps_of steps k)
-    (omega (arith, within, ends.paused.count)) (ends.histories.each k (omega (arith, within, ends.paused.count, ends.histories.count)))
+    (omega (arith, within, ends.paused.count))
+    (ends.histories.each k (omega (arith, within, ends.paused.count, ends.histories.count)))
     (ends.stand k p is)
 
 -- they follow another configuration
-pub on-changed : {A : Type 0} (old new : ConfigView) (before after : List (Paused A)) → ArePaused old before → new.shards ≡ old.shards
+pub on-changed : {A : Type 0} (old new : ConfigView) (before after : List (Paused A)) → ArePaused old before →
+    new.shards ≡ old.shards
     → HaveFollowed old new before after → GoOn old before new after
 on-changed old new before after paused same followed = λ o served k q is.
     let within = slice_get_within after k q is in
     let p-is = slice_get-get_or before k q (omega (arith, within, paused.count, followed.paused.count, same)) in
     let p = get_or before k q in
-    served-change (opening_at o k) old new (states_under old p) (states_under new q) (omega (arith, within, followed.paused.count))
+    served-change (opening_at o k) old new (states_under old p) (states_under new q)
+    (omega (arith, within, followed.paused.count))
     (served k p p-is) (followed.follow k p q p-is is)
 
 -- none follows
-pub on-still : {A : Type 0} (old : ConfigView) (before after : List (Paused A)) → ArePaused old before → StandAsBefore old before after
+pub on-still : {A : Type 0} (old : ConfigView) (before after : List (Paused A)) → ArePaused old before →
+    StandAsBefore old before after
     → GoOn old before old after
 on-still old before after paused still = λ o served k q is.
     let within = slice_get_within after k q is in
     let p-is = slice_get-get_or before k q (omega (arith, within, paused.count, still.paused.count)) in
     let p = get_or before k q in
-    subst (λ (s : List RealmState). HasServed (opening_at o k) old s) (sym (still.states k p q p-is is)) (served k p p-is)
+    subst (λ (s : List RealmState). HasServed (opening_at o k) old s) (sym (still.states k p q p-is is))
+    (served k p p-is)
 
 -- a hub over them was closed
-pub on-hub : {A : Type 0} (config : ConfigView) (before after : List (Paused A)) (steps : List (List PlainStep)) → ArePaused config before
+pub on-hub : {A : Type 0} (config : ConfigView) (before after : List (Paused A)) (steps : List (List PlainStep)) →
+    ArePaused config before
     → EndsOf (opening_over config before) steps after → GoOn config before config after
 on-hub {A} config before after steps paused ends = λ o served k q is.
     let within = slice_get_within after k q is in
     let p-is = slice_get-get_or before k q (omega (arith, within, paused.count, ends.paused.count)) in
     let p = get_or before k q in
-    let at : opening_at (opening_over config before) k ≡ record { shard = k; config = config; states = states_under config p } =
+    let at : opening_at (opening_over config before) k
+    ≡ record { shard = k; config = config; states = states_under config p } =
     ap (λ (x : Option (Paused A)). record { shard = k; config = config; states = states_of_one config x }) p-is in
     let here = ends.histories.each k (omega (arith, within, ends.paused.count, ends.histories.count)) in
-    served-on (opening_at o k) config (states_under config p) (states_under config q) (steps_of steps k) (served k p p-is)
+    served-on (opening_at o k) config (states_under config p) (states_under config q) (steps_of steps k)
+    (served k p p-is)
     (subst (λ (b : Beginning). IsHistory b (steps_of steps k)) at here)
     (ends.stand k q is ∙ ap (λ (b : Beginning). end_of b (steps_of steps k)) at)
 
 -- and at the server's end
 pub all-served : {A : Type 0} (config now : ConfigView) (starts : List Start) (shards : List (Paused A))
-    → HaveServed (fresh_opening config starts) now shards → ArePaused now shards → now.shards ≡ config.shards → HasServedAll config
+    → HaveServed (fresh_opening config starts) now shards → ArePaused now shards → now.shards ≡ config.shards →
+    HasServedAll config
 all-served config now starts shards served paused same = record {
   starts = starts;
   each = λ k within.
@@ -182,6 +199,7 @@ pub on-nothing : {A : Type 0} (config : ConfigView) (shards : List (Paused A)) �
 on-nothing config shards = λ o served. served
 
 -- one after the other
-pub on-and-on : {A : Type 0} (first second third : ConfigView) (xs ys zs : List (Paused A)) → GoOn first xs second ys → GoOn second ys third zs
+pub on-and-on : {A : Type 0} (first second third : ConfigView) (xs ys zs : List (Paused A)) → GoOn first xs second ys
+    → GoOn second ys third zs
     → GoOn first xs third zs
 on-and-on first second third xs ys zs one two = λ o served. two o (one o served)

@@ -5,12 +5,12 @@
 //!
 //! # Proved
 //!
-//! - what a server did that ends without a fault: of each shard, over all changes of the configuration, spans
-//!   of one history from the first hub's opening, each of which goes on where the one before it ended. Which spans, nobody
-//!   outside could compare: the clauses below it pin them, that what is handed on are the states in which the audited
-//!   histories end | `serve_all`: `ok`; within it `change`, and `serve_first`, `serve_over` of `roam_run`
+//! - of each shard, over all changes of the configuration: spans of one history from the first hub's opening, each of
+//!   which goes on where the one before it ended. Which spans, nobody outside could compare: the clauses below it pin
+//!   them, that what is handed on are the states in which the audited histories end | `serve_all`: `ok`; `change`
 #![tactic(auto)]
 
+mod again;
 mod changing;
 mod serving;
 

@@ -9,18 +9,18 @@ ghost use Rattle.roam_run.specs.Closed.{MayGoOn};
 ghost use Rattle.roam_succession.specs.Served.{HasServedAll, IsServedOn};
 ghost use Rattle.roam_sockets.specs.Faults.{IsAfterBinding};
 
+use crate::again::{Again, is_time_over, take_again, told_or};
 use crate::changing::{Changed, Ready, change};
 use log::Log;
 use roam_hub::{Blanks, Gate};
-use roam_port::{Outbox, socket_numbers};
+use roam_port::Outbox;
 use roam_run::{
     Configured, Handover, HubEnd, Means, Served, ServerParts, Source, Unserved, serve_first,
     serve_over,
 };
 use roam_shard::{Paused, first_starts};
-use roam_sockets::{ServeFault, descriptors_wanted, now};
+use roam_sockets::ServeFault;
 use roam_telling::Notice;
-use roam_threads::{Kits, fill_outboxes, make_kits};
 use roam_workers::{Rests, tell_or_drop};
 use std::alloc::Global;
 use std::marker::Brand;
@@ -82,58 +82,6 @@ fn serve_once<
             } = means;
             Ok(not_started(shards, outboxes, Some(rests), handover))
         }
-    }
-}
-
-/// What the threads of a configuration are made of, once more.
-#[derive(Drop)]
-struct Again {
-    kits: Kits,
-    /// Where it isn't known what was told of servers.
-    rests: Rests,
-    blanks: Blanks<Global>,
-}
-
-/// Takes it once more, and fills up the outboxes.
-fn take_again<R: Net, G, S>(
-    parts: &ServerParts<'_, R, G, S>,
-    configured: &Configured,
-    outboxes: &mut Vec<Outbox<Global>>,
-) -> Result<Again, ServeFault>
-    ensures blanks { IfOk result (λ again. count_of again.blanks ≡ configured.now.config.shards) }
-    ensures err { IfErr result IsAfterBinding }
-{
-    let config = &configured.config;
-    let sockets = configured.sockets.as_slice();
-    fill_outboxes(parts.alloc, config.shards, socket_numbers(config), outboxes)?;
-    let told = configured.told_exchanges;
-    Ok(Again {
-        kits: make_kits(
-            parts.rt,
-            parts.alloc,
-            config,
-            sockets,
-            told,
-            descriptors_wanted(config, config),
-        )?,
-        rests: Rests::new(parts.alloc, config)?,
-        blanks: Blanks::new(parts.alloc, config.shards)?,
-    })
-}
-
-/// Whether the server's time is over.
-fn is_time_over<R: Clock, G, S>(parts: &ServerParts<'_, R, G, S>) -> bool {
-    match parts.stopping.or_earlier(parts.end) {
-        Some(end) => end <= now(parts.rt, parts.start, 0),
-        None => false,
-    }
-}
-
-/// What was told of servers, or where that isn't known this.
-fn told_or(told: Option<Rests>, fresh: Rests) -> Rests {
-    match told {
-        Some(rests) => rests,
-        None => fresh,
     }
 }
 

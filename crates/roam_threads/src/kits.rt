@@ -1,7 +1,7 @@
 //! What the threads are made of that names no hub: all of it is there before a configuration is served, or follows
 //! another.
 
-ghost use Rattle.std.specs.Prelude.{◌≡◌, IfErr};
+ghost use Rattle.std.specs.Prelude.{IfErr};
 ghost use Rattle.roam_sockets.specs.Faults.{IsAfterBinding};
 
 use crate::dealing::register;

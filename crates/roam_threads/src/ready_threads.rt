@@ -1,6 +1,6 @@
 //! The threads of a server, before they start.
 
-ghost use Rattle.std.specs.Prelude.{◌≡◌, ◌≤◌, IfErr};
+ghost use Rattle.std.specs.Prelude.{IfErr};
 ghost use Rattle.roam_sockets.specs.Faults.{IsAfterBinding};
 
 use crate::dealing::{ports, receivers};

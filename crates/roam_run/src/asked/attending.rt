@@ -36,6 +36,24 @@ pub struct Attendant<'s, 'c, R, G, N: Opened> {
     pub now: u64,
 }
 
+impl<'s, 'c, R, G, N: Opened> Attendant<'s, 'c, R, G, N> {
+    /// What it has at first.
+    pub fn new(
+        rt: &'s R,
+        shared: &'s Shared<'s, 'c, G, N>,
+        sockets: &'s [BoundSocket],
+        seat: Seat<Global, N>,
+    ) -> Attendant<'s, 'c, R, G, N> {
+        Attendant {
+            rt,
+            shared,
+            sockets,
+            seat,
+            now: 0,
+        }
+    }
+}
+
 /// An answer with nothing in it.
 fn bare(alloc: Global, course: Course) -> Reply {
     plain_reply(course, Vec::new(alloc))

@@ -1,6 +1,6 @@
 //! The configuration that follows, with all that the server needs for it: it is there before anything changes.
 
-ghost use Rattle.std.specs.Prelude.{◌≡◌, IfErr, IfOk};
+ghost use Rattle.std.specs.Prelude.{◌≡◌, IfOk};
 ghost use Rattle.roam_conf.specs.Shown.{shown};
 ghost use Rattle.roam_reload.specs.Reload.{MayFollow};
 ghost use Rattle.roam_history.specs.Books.{count_of};

@@ -20,7 +20,8 @@ pub struct Following {
 
 /// Where the configuration comes from that follows one while it is served, and what is said where none does.
 pub trait Source {
-    /// The configuration that is to follow this one, and may; or what is said of why there is none, or of why it may not.
+    /// The configuration that is to follow this one, and may; or what is said of why there is none, or of why it may
+    /// not.
     fn following(&mut self, old: &Config) -> Result<Following, Vec<u8>>
         ensures { IfOk result (λ following. MayFollow (shown old.now) (shown following.config)) };
 

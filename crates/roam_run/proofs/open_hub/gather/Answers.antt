@@ -1,6 +1,6 @@
 -- Whether one gave up a socket, after one worker more, and after all of them.
 use Rattle.std.specs.Vec.Iter.{into_iter_items}
-use Rattle.std.proofs.Common.{rules, ◌≡◌, [], ◌∷◌, ◌++◌, ◌↔◌, ◌∙◌, IsTrue, ap, append_assoc, arith, length, subst, sym}
+use Rattle.std.proofs.Common.{◌≡◌, [], ◌∷◌, ◌++◌, ◌↔◌, ◌∙◌, IsTrue, ap, append_assoc, arith, length, subst, sym}
 use Rattle.std.specs.Prelude.{Contains}
 use Rattle.std.proofs.lemmas.List.{map-append}
 use Rattle.roam_workers.specs.declared.ending.Ending.TheVariants as ending
@@ -26,7 +26,8 @@ loop-end-preserved g c =
       given_up = rw (map-append (λ e. e.ending) c.loop-end.yielded (c.in-Some.end ∷ []))
           (given-up-after _ c.in-Some.end.ending c.loop-end.has_given_up c.has_given_up_after-has_given_up.result
           inv.given_up c.has_given_up_after-has_given_up.ensures);
-      all = append_assoc c.loop-end.yielded (c.in-Some.end ∷ []) _ ∙ ap (λ l. c.loop-end.yielded ++ l) (sym steps.0) ∙ inv.all;
+      all = append_assoc c.loop-end.yielded (c.in-Some.end ∷ []) _ ∙ ap (λ l. c.loop-end.yielded ++ l) (sym steps.0)
+          ∙ inv.all;
       left = omega (arith, short, steps.1, inv.left);
     }
 

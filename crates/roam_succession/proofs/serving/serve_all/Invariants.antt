@@ -18,7 +18,8 @@ ghosts-serve_first g a = record {
 abbrev pub invariant-loop : goal.invariant-loop
 invariant-loop g l = record {
   paused : ArePaused (shown l.configured.config) l.served.shards.items;
-  done : HaveServed (fresh_opening (shown l.initial.configured.config) l.firsts.items) (shown l.configured.config) l.served.shards.items;
+  done : HaveServed (fresh_opening (shown l.initial.configured.config) l.firsts.items) (shown l.configured.config)
+      l.served.shards.items;
   may : MayGoOn (shown l.configured.config) l.served.end;
   count : l.configured.config.shards ≡ l.initial.configured.config.shards;
 }

@@ -10,7 +10,8 @@ use Rattle.roam_succession.proofs.serving.serve_once.Goals as goal
 pub returns-in-Ok-clause-ok : goal.returns-in-Ok-clause-ok
 returns-in-Ok-clause-ok g c = record {
   paused = c.in-Ok.ensures.ends.1.paused;
-  goes_on = on-hub (shown c.args.configured.now.config) c.args.shards.items _ c.in-Ok.ensures.ends.0 c.requires.paused c.in-Ok.ensures.ends.1;
+  goes_on = on-hub (shown c.args.configured.now.config) c.args.shards.items _ c.in-Ok.ensures.ends.0
+      c.requires.paused c.in-Ok.ensures.ends.1;
   may = c.in-Ok.ensures.may;
 }
 
