@@ -27,8 +27,6 @@ mod repeats;
 mod row;
 mod sender;
 mod tally;
-#[cfg(test)]
-mod tests;
 mod text;
 
 pub use dropped_text::{DropCause, DroppedText};

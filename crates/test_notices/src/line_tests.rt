@@ -1,7 +1,7 @@
 //! The lines of refusals.
 
-use crate::{Origin, RefusalCount, RefusedText, Sender};
 use roam_conf::{Endpoint, Place};
+use roam_notices::{Origin, RefusalCount, RefusedText, Sender};
 use roam_wire::Refusal;
 use std::process::Abort;
 

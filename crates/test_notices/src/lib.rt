@@ -1,0 +1,5 @@
+//! What is told of refusals, by example.
+#![tactic(auto)]
+
+#[cfg(test)]
+mod line_tests;
