@@ -120,6 +120,10 @@ def faults() -> list[str]:
     rows = [(number, name.strip("`")) for number, name, *_ in rows_of("REFUSALS.md", "no.")]
     if rows != [(str(place), name) for place, name in enumerate(names, 1)]:
         said.append("the refusals of docs/REFUSALS.md aren't those of roam_wire, in their order")
+    counted = re.findall(r'"(\d+)",\s*CountedEvent::Refused\(Refusal::(\w+)\)', (
+        ROOT / "crates" / "roam_metrics" / "src" / "reply_families.rt").read_text(encoding="utf-8"))
+    if counted != rows:
+        said.append("the refusals that roam_metrics counts aren't those of roam_wire, in their order")
     if MANUAL.read_text(encoding="utf-8") != manual():
         said.append("packaging/installed/roam.8 isn't what the pages give: run tools/lists.py")
     return said

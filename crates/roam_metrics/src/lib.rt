@@ -15,10 +15,15 @@
 
 mod about;
 mod about_page;
-mod families;
+mod counts;
+mod family;
 mod gauges;
 pub mod laws;
+mod named;
+mod of_server;
 mod pages;
+mod reply_families;
+mod request_families;
 mod samples;
 mod servers;
 mod spans;
@@ -26,12 +31,13 @@ mod standing;
 mod status_json;
 mod status_table;
 mod tables;
+mod times;
 mod totals;
-mod words;
 
 pub use about::{About, Reloads};
+pub use counts::Counts;
 pub use gauges::Gauge;
-pub use pages::{Counts, page};
+pub use pages::page;
 pub use samples::{Label, MetricKind, push_header, push_sample, push_seconds};
 pub use servers::{Seen, Standing};
 pub use spans::{Span, TimeUnit, span_of};

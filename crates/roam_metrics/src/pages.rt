@@ -5,314 +5,89 @@ ghost use Rattle.roam_metrics.specs.Pages.{AreLines, MoreLines};
 
 use crate::about::About;
 use crate::about_page::push_about;
-use crate::families::{
-    OF_REPLIES, OF_REQUESTS, OF_SERVER, OfReplies, OfRequests, OfServer, REFUSALS, SCOPES, SINGLES,
-    Scope, Single,
-};
+use crate::counts::Counts;
+use crate::family::{Family, SCOPES, Scope};
 use crate::gauges::{Gauge, OF_GAUGES, OfGauges};
-use crate::samples::{Label, MetricKind, push_header, push_sample, push_seconds};
-use crate::words::{
-    BOUNDS, NAKS, REPLIES, REQUESTS, bound_word, nak_word, reply_word, request_word,
+use crate::named::{Named, all_named, push_count, push_named, push_standing};
+use crate::of_server::{OF_SERVER, OfServer};
+use crate::reply_families::{ANSWERED, ANSWERED_BY_TICK, NAKS, REFUSED, REPLIES, RETURNED};
+use crate::request_families::{
+    ANSWERED_AGAIN, CAME, FAILED_OVER, FORWARDED, GIVEN_UP, LOCAL_REJECTS, REPLACED, SENT_AGAIN,
+    TAKEN_OVER, WAITING,
 };
-use itoa::Buffer;
+use crate::samples::{Label, MetricKind, push_header, push_sample};
+use crate::times::push_times;
 use roam_conf::Config;
-use roam_counters::{CountedEvent, Process, Subject};
+use roam_counters::Subject;
 use std::alloc::{AllocError, Global};
 
-/// What was counted.
-pub trait Counts {
-    /// How often an event was counted of a subject.
-    fn event(&self, subject: Subject, event: CountedEvent) -> u64;
+/// What is told of realms, home servers and peers, in this order.
+const FAMILIES: [Family; 16] = [
+    CAME,
+    FORWARDED,
+    SENT_AGAIN,
+    TAKEN_OVER,
+    WAITING,
+    ANSWERED_AGAIN,
+    FAILED_OVER,
+    GIVEN_UP,
+    REPLACED,
+    LOCAL_REJECTS,
+    REPLIES,
+    RETURNED,
+    ANSWERED,
+    ANSWERED_BY_TICK,
+    NAKS,
+    REFUSED,
+];
 
-    /// How often this was counted of the whole server.
-    fn process(&self, process: Process) -> u64;
-
-    /// How this stands at the moment; none where that isn't known.
-    fn gauge(&self, gauge: Gauge) -> Option<u64>;
-}
-
-/// A subject with its name: that of the realm or the peer; of a home server the realm's, and its own endpoint.
-#[derive(Drop)]
-struct Named<'c> {
-    scope: Scope,
-    subject: Subject,
-    name: &'c str,
-    server: Option<String>,
-}
-
-/// The subjects of a configuration, in its order: realms, each with its home servers behind it, and peers.
-fn all_named(alloc: Global, config: &Config) -> Result<Vec<Named<'_>>, AllocError> {
-    let mut all = Vec::new(alloc);
-    for (number, realm) in config.realms.iter().enumerate() {
-        let number = u16::try_from(number).unwrap_or(u16::MAX);
-        let name = realm.name.as_str();
-        all.push(Named {
-            scope: Scope::Realm,
-            subject: Subject::Realm(number),
-            name,
-            server: None,
-        })?;
-        for (place, server) in realm.servers.iter().enumerate() {
-            let place = u8::try_from(place).unwrap_or(u8::MAX);
-            all.push(Named {
-                scope: Scope::Server,
-                subject: Subject::Server(number, place),
-                name,
-                server: Some(format!(in alloc; "{}", server.auth)?),
-            })?;
-        }
-    }
-    for (number, peer) in config.peers.iter().enumerate() {
-        all.push(Named {
-            scope: Scope::Peer,
-            subject: Subject::Peer(u16::try_from(number).unwrap_or(u16::MAX)),
-            name: peer.name.as_str(),
-            server: None,
-        })?;
-    }
-    Ok(all)
-}
-
-/// The labels of a subject.
-fn labels_of<'n>(named: &'n Named<'_>) -> (Label<'n>, Option<Label<'n>>) {
-    let whose = Label {
-        name: if named.scope == Scope::Peer {
-            "peer"
-        } else {
-            "realm"
-        },
-        value: named.name,
-    };
-    let server = match &named.server {
-        Some(server) => Some(Label {
-            name: "server",
-            value: server.as_str(),
-        }),
-        None => None,
-    };
-    (whose, server)
-}
-
-/// Adds the sample of a count, with the names of its subject and a label more.
-fn push_labelled(
+/// Adds a sample of a family, where it isn't 0.
+fn push_sample_of(
     page: &mut Vec<u8>,
-    name: &str,
     named: &Named<'_>,
-    more: Label<'_>,
-    value: u64,
+    family: &Family,
+    value: &str,
+    count: u64,
 ) -> Result<(), AllocError>
     ensures { OnOk result (MoreLines page.old.items page.new.items) }
 {
-    match labels_of(named) {
-        (whose, Some(server)) => push_sample(page, name, &[whose, server, more], value),
-        (whose, None) => push_sample(page, name, &[whose, more], value),
+    let metric = family.name(named.scope);
+    match family.label {
+        Some(name) => push_count(page, metric, named, Label { name, value }, count),
+        None => push_named(page, metric, named, count),
     }
 }
 
-/// The same, where it isn't 0.
-fn push_count(
-    page: &mut Vec<u8>,
-    name: &str,
-    named: &Named<'_>,
-    more: Label<'_>,
-    value: u64,
-) -> Result<(), AllocError>
-    ensures { OnOk result (MoreLines page.old.items page.new.items) }
-{
-    if value == 0 {
-        return Ok(());
-    }
-    push_labelled(page, name, named, more, value)
-}
-
-/// Adds the sample of a count, where it isn't 0: with the names of its subject.
-fn push_named(
-    page: &mut Vec<u8>,
-    name: &str,
-    named: &Named<'_>,
-    value: u64,
-) -> Result<(), AllocError>
-    ensures { OnOk result (MoreLines page.old.items page.new.items) }
-{
-    if value == 0 {
-        return Ok(());
-    }
-    match labels_of(named) {
-        (whose, Some(server)) => push_sample(page, name, &[whose, server], value),
-        (whose, None) => push_sample(page, name, &[whose], value),
-    }
-}
-
-/// Adds what is told of a subject by the kinds of requests.
-fn push_requests_of<C: Counts>(
+/// Adds what a family tells of a subject.
+fn push_family_of<C: Counts>(
     page: &mut Vec<u8>,
     counts: &C,
     named: &Named<'_>,
-    family: OfRequests,
+    family: &Family,
 ) -> Result<(), AllocError>
     ensures { OnOk result (MoreLines page.old.items page.new.items) }
 {
-    for kind in &REQUESTS {
-        let value = counts.event(named.subject, family.event(*kind));
-        let code = Label {
-            name: "code",
-            value: request_word(*kind),
-        };
-        push_count(page, family.name(named.scope), named, code, value)?;
+    for (value, event) in family.samples {
+        let count = counts.event(named.subject, *event);
+        push_sample_of(page, named, family, *value, count)?;
     }
     Ok(())
 }
 
-/// Adds a metric that is told by the kinds of requests.
-fn push_requests<C: Counts>(
+/// Adds the metric of a family.
+fn push_family<C: Counts>(
     page: &mut Vec<u8>,
     counts: &C,
     all: &[Named<'_>],
     scope: Scope,
-    family: OfRequests,
+    family: &Family,
 ) -> Result<(), AllocError>
     ensures { OnOk result (MoreLines page.old.items page.new.items) }
 {
-    push_header(page, family.name(scope), family.help(), MetricKind::Counter)?;
+    push_header(page, family.name(scope), family.help, MetricKind::Counter)?;
     for named in all {
         if named.scope == scope {
-            push_requests_of(page, counts, named, family)?;
-        }
-    }
-    Ok(())
-}
-
-/// Adds what is told of a subject by the kinds of replies.
-fn push_replies_of<C: Counts>(
-    page: &mut Vec<u8>,
-    counts: &C,
-    named: &Named<'_>,
-    family: OfReplies,
-) -> Result<(), AllocError>
-    ensures { OnOk result (MoreLines page.old.items page.new.items) }
-{
-    for kind in &REPLIES {
-        let value = counts.event(named.subject, family.event(*kind));
-        let code = Label {
-            name: "code",
-            value: reply_word(*kind),
-        };
-        push_count(page, family.name(named.scope), named, code, value)?;
-    }
-    Ok(())
-}
-
-/// Adds a metric that is told by the kinds of replies.
-fn push_replies<C: Counts>(
-    page: &mut Vec<u8>,
-    counts: &C,
-    all: &[Named<'_>],
-    scope: Scope,
-    family: OfReplies,
-) -> Result<(), AllocError>
-    ensures { OnOk result (MoreLines page.old.items page.new.items) }
-{
-    push_header(page, family.name(scope), family.help(), MetricKind::Counter)?;
-    for named in all {
-        if named.scope == scope {
-            push_replies_of(page, counts, named, family)?;
-        }
-    }
-    Ok(())
-}
-
-/// Adds what was refused of a subject.
-fn push_refusals_of<C: Counts>(
-    page: &mut Vec<u8>,
-    counts: &C,
-    named: &Named<'_>,
-) -> Result<(), AllocError>
-    ensures { OnOk result (MoreLines page.old.items page.new.items) }
-{
-    for refusal in &REFUSALS {
-        let value = counts.event(named.subject, CountedEvent::Refused(*refusal));
-        let mut number = Buffer::new();
-        let label = Label {
-            name: "number",
-            value: number.format(refusal.number()),
-        };
-        push_count(page, named.scope.refusals(), named, label, value)?;
-    }
-    Ok(())
-}
-
-/// Adds the metric of refusals.
-fn push_refusals<C: Counts>(
-    page: &mut Vec<u8>,
-    counts: &C,
-    all: &[Named<'_>],
-    scope: Scope,
-) -> Result<(), AllocError>
-    ensures { OnOk result (MoreLines page.old.items page.new.items) }
-{
-    let help = "Arrivals that were refused, by the number of the refusal.";
-    push_header(page, scope.refusals(), help, MetricKind::Counter)?;
-    for named in all {
-        if named.scope == scope {
-            push_refusals_of(page, counts, named)?;
-        }
-    }
-    Ok(())
-}
-
-/// Adds a metric that has one count of each subject.
-fn push_single<C: Counts>(
-    page: &mut Vec<u8>,
-    counts: &C,
-    all: &[Named<'_>],
-    scope: Scope,
-    family: Single,
-) -> Result<(), AllocError>
-    ensures { OnOk result (MoreLines page.old.items page.new.items) }
-{
-    push_header(page, family.name(scope), family.help(), MetricKind::Counter)?;
-    for named in all {
-        if named.scope == scope {
-            let value = counts.event(named.subject, family.event());
-            push_named(page, family.name(scope), named, value)?;
-        }
-    }
-    Ok(())
-}
-
-/// Adds the NAKs of a subject.
-fn push_naks_of<C: Counts>(
-    page: &mut Vec<u8>,
-    counts: &C,
-    named: &Named<'_>,
-) -> Result<(), AllocError>
-    ensures { OnOk result (MoreLines page.old.items page.new.items) }
-{
-    for cause in &NAKS {
-        let value = counts.event(named.subject, CountedEvent::Nak(*cause));
-        let label = Label {
-            name: "error_cause",
-            value: nak_word(*cause),
-        };
-        push_count(page, named.scope.naks(), named, label, value)?;
-    }
-    Ok(())
-}
-
-/// Adds the metric of NAKs.
-fn push_naks<C: Counts>(
-    page: &mut Vec<u8>,
-    counts: &C,
-    all: &[Named<'_>],
-    scope: Scope,
-) -> Result<(), AllocError>
-    ensures { OnOk result (MoreLines page.old.items page.new.items) }
-{
-    let help = "Disconnect- and CoA-Requests that the broker answered by a NAK of its own.";
-    push_header(page, scope.naks(), help, MetricKind::Counter)?;
-    for named in all {
-        if named.scope == scope {
-            push_naks_of(page, counts, named)?;
+            push_family_of(page, counts, named, family)?;
         }
     }
     Ok(())
@@ -327,17 +102,10 @@ fn push_scope<C: Counts>(
 ) -> Result<(), AllocError>
     ensures { OnOk result (MoreLines page.old.items page.new.items) }
 {
-    for family in &OF_REQUESTS {
-        push_requests(page, counts, all, scope, *family)?;
+    for family in &FAMILIES {
+        push_family(page, counts, all, scope, family)?;
     }
-    for family in &SINGLES {
-        push_single(page, counts, all, scope, *family)?;
-    }
-    for family in &OF_REPLIES {
-        push_replies(page, counts, all, scope, *family)?;
-    }
-    push_naks(page, counts, all, scope)?;
-    push_refusals(page, counts, all, scope)
+    Ok(())
 }
 
 /// Adds a metric of the whole server.
@@ -380,107 +148,18 @@ fn push_all_refusals<C: Counts>(page: &mut Vec<u8>, counts: &C) -> Result<(), Al
         "Arrivals and ticks that were refused, by the number of the refusal.",
         MetricKind::Counter,
     )?;
-    for refusal in &REFUSALS {
-        let mut number = Buffer::new();
+    for (value, event) in REFUSED.samples {
         let label = Label {
             name: "number",
-            value: number.format(refusal.number()),
+            value: *value,
         };
-        push_sample(
-            page,
-            name,
-            &[label],
-            counts.event(Subject::All, CountedEvent::Refused(*refusal)),
-        )?;
-    }
-    Ok(())
-}
-
-/// Adds how long so many answers of a home server took together, in milliseconds; nothing where there were none.
-fn push_time(
-    page: &mut Vec<u8>,
-    named: &Named<'_>,
-    answers: u64,
-    time: u64,
-) -> Result<(), AllocError>
-    ensures { OnOk result (MoreLines page.old.items page.new.items) }
-{
-    if answers == 0 {
-        return Ok(());
-    }
-    match labels_of(named) {
-        (whose, Some(server)) => push_seconds(
-            page,
-            "roam_server_answer_seconds_sum",
-            &[whose, server],
-            time,
-        ),
-        (_, None) => Ok(()),
-    }
-}
-
-/// Adds how long a home server took to answer: how many of its answers keep each bound, and how long all took together.
-fn push_times_of<C: Counts>(
-    page: &mut Vec<u8>,
-    counts: &C,
-    named: &Named<'_>,
-) -> Result<(), AllocError>
-    ensures { OnOk result (MoreLines page.old.items page.new.items) }
-{
-    let mut sum = 0u64;
-    for bound in &BOUNDS {
-        sum = sum.wrapping_add(counts.event(named.subject, CountedEvent::AnswerWithin(*bound)));
-        let label = Label {
-            name: "le",
-            value: bound_word(*bound),
-        };
-        push_count(page, "roam_server_answer_seconds_bucket", named, label, sum)?;
-    }
-    push_named(page, "roam_server_answer_seconds_count", named, sum)?;
-    let time = counts.event(named.subject, CountedEvent::AnswerTime);
-    push_time(page, named, sum, time)
-}
-
-/// Adds how long home servers took to answer.
-fn push_times<C: Counts>(
-    page: &mut Vec<u8>,
-    counts: &C,
-    all: &[Named<'_>],
-) -> Result<(), AllocError>
-    ensures { OnOk result (MoreLines page.old.items page.new.items) }
-{
-    push_header(
-        page,
-        "roam_server_answer_seconds",
-        "From the last sending of a request to its reply.",
-        MetricKind::Histogram,
-    )?;
-    for named in all {
-        if named.scope == Scope::Server {
-            push_times_of(page, counts, named)?;
-        }
+        push_sample(page, name, &[label], counts.event(Subject::All, *event))?;
     }
     Ok(())
 }
 
 /// The endpoints of a home server, as a label names them.
 const SERVICES: [&str; 2] = ["auth", "acct"];
-
-/// Adds the sample of how something stands: of a home server with the endpoint that it is of.
-fn push_standing(
-    page: &mut Vec<u8>,
-    name: &str,
-    named: &Named<'_>,
-    service: Label<'_>,
-    value: u64,
-) -> Result<(), AllocError>
-    ensures { OnOk result (MoreLines page.old.items page.new.items) }
-{
-    match labels_of(named) {
-        (whose, Some(server)) => push_sample(page, name, &[whose, server, service], value),
-        (whose, None) => push_sample(page, name, &[whose], value),
-    }
-}
 
 /// Adds how something stands of a subject.
 fn push_gauge_of<C: Counts>(

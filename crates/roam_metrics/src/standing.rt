@@ -2,7 +2,7 @@
 //! and as JSON (RFC 8259).
 
 use crate::about::About;
-use crate::pages::Counts;
+use crate::counts::Counts;
 use crate::status_json::status_json;
 use crate::status_table::status_table;
 use roam_conf::Config;

@@ -1,8 +1,8 @@
 //! How a server stands, as JSON (RFC 8259).
 
 use crate::about::{About, Reloads};
+use crate::counts::Counts;
 use crate::gauges::Gauge;
-use crate::pages::Counts;
 use crate::servers::Standing;
 use crate::totals::{Service, Totals};
 use roam_conf::{Config, Endpoint, Realm};

@@ -1,8 +1,8 @@
 //! How a server stands, as tables that a person reads.
 
 use crate::about::{About, Reloads};
+use crate::counts::Counts;
 use crate::gauges::Gauge;
-use crate::pages::Counts;
 use crate::spans::span_of;
 use crate::tables::{Cell, Row, push_table};
 use crate::totals::{Service, Totals};

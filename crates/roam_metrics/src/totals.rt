@@ -1,10 +1,11 @@
 //! What was counted of a realm, a home server or a peer, of requests and replies of all kinds.
 
-use crate::families::{OfReplies, OfRequests, REFUSALS};
+use crate::counts::Counts;
+use crate::family::Family;
 use crate::gauges::Gauge;
-use crate::pages::Counts;
+use crate::reply_families::{REFUSED, REPLIES, RETURNED};
+use crate::request_families::{CAME, FORWARDED, SENT_AGAIN, TAKEN_OVER};
 use crate::servers::Seen;
-use crate::words::{REPLIES, REQUESTS};
 use roam_counters::{CountedEvent, ReplyKind, RequestKind, Subject};
 
 /// What is told of a realm, a home server or a peer.
@@ -23,29 +24,11 @@ pub struct Totals {
     pub refused: u64,
 }
 
-/// How often this was counted, of requests of all kinds.
-fn of_requests<C: Counts>(counts: &C, subject: Subject, family: OfRequests) -> u64 {
+/// How often all of a family was counted.
+fn sum_of<C: Counts>(counts: &C, subject: Subject, family: &Family) -> u64 {
     let mut sum = 0u64;
-    for kind in &REQUESTS {
-        sum = sum.wrapping_add(counts.event(subject, family.event(*kind)));
-    }
-    sum
-}
-
-/// The same of replies.
-fn of_replies<C: Counts>(counts: &C, subject: Subject, family: OfReplies) -> u64 {
-    let mut sum = 0u64;
-    for kind in &REPLIES {
-        sum = sum.wrapping_add(counts.event(subject, family.event(*kind)));
-    }
-    sum
-}
-
-/// The same of refusals.
-fn of_refusals<C: Counts>(counts: &C, subject: Subject) -> u64 {
-    let mut sum = 0u64;
-    for refusal in &REFUSALS {
-        sum = sum.wrapping_add(counts.event(subject, CountedEvent::Refused(*refusal)));
+    for (_, event) in family.samples {
+        sum = sum.wrapping_add(counts.event(subject, *event));
     }
     sum
 }
@@ -54,19 +37,19 @@ impl Totals {
     /// Those of a subject.
     pub fn of<C: Counts>(counts: &C, subject: Subject) -> Totals {
         Totals {
-            requests: of_requests(counts, subject, OfRequests::Came),
-            forwarded: of_requests(counts, subject, OfRequests::Forwarded),
-            sent_again: of_requests(counts, subject, OfRequests::SentAgain),
-            taken_over: of_requests(counts, subject, OfRequests::TakenOver),
+            requests: sum_of(counts, subject, &CAME),
+            forwarded: sum_of(counts, subject, &FORWARDED),
+            sent_again: sum_of(counts, subject, &SENT_AGAIN),
+            taken_over: sum_of(counts, subject, &TAKEN_OVER),
             failed_over: counts.event(subject, CountedEvent::FailedOver),
             given_up: counts.event(subject, CountedEvent::GivenUp),
             duplicates: counts
                 .event(subject, CountedEvent::Waiting)
                 .wrapping_add(counts.event(subject, CountedEvent::AnsweredAgain)),
-            replies: of_replies(counts, subject, OfReplies::Came),
-            returned: of_replies(counts, subject, OfReplies::Returned),
+            replies: sum_of(counts, subject, &REPLIES),
+            returned: sum_of(counts, subject, &RETURNED),
             local_rejects: counts.event(subject, CountedEvent::LocalReject),
-            refused: of_refusals(counts, subject),
+            refused: sum_of(counts, subject, &REFUSED),
         }
     }
 }
@@ -123,13 +106,15 @@ impl Service {
         }
     }
 
-    /// How often one of its replies was counted so.
-    fn count_replies<C: Counts>(self, counts: &C, subject: Subject, family: OfReplies) -> u64 {
-        let mut sum = 0u64;
+    /// How many of its replies came, and how many were taken.
+    fn count_replies<C: Counts>(self, counts: &C, subject: Subject) -> (u64, u64) {
+        let mut came = 0u64;
+        let mut taken = 0u64;
         for kind in self.replies() {
-            sum = sum.wrapping_add(counts.event(subject, family.event(*kind)));
+            came = came.wrapping_add(counts.event(subject, CountedEvent::Reply(*kind)));
+            taken = taken.wrapping_add(counts.event(subject, CountedEvent::Returned(*kind)));
         }
-        sum
+        (came, taken)
     }
 
     /// How many packets were sent there.
@@ -146,8 +131,7 @@ impl Service {
     pub fn totals<C: Counts>(self, counts: &C, realm: u16, server: u8) -> [u64; 5] {
         let subject = Subject::Server(realm, server);
         let kind = self.request();
-        let replied = self.count_replies(counts, subject, OfReplies::Came);
-        let taken = self.count_replies(counts, subject, OfReplies::Returned);
+        let (replied, taken) = self.count_replies(counts, subject);
         [
             counts.event(subject, CountedEvent::Forwarded(kind)),
             counts.event(subject, CountedEvent::SentAgain(kind)),
@@ -160,12 +144,13 @@ impl Service {
     /// What was seen of it.
     pub fn seen<C: Counts>(self, counts: &C, realm: u16, server: u8) -> Seen {
         let subject = Subject::Server(realm, server);
+        let (replied, taken) = self.count_replies(counts, subject);
         Seen {
             rest: counts.gauge(self.rest(realm, server)).unwrap_or(0),
             unanswered: counts.gauge(self.unanswered(realm, server)).unwrap_or(0),
             asked: self.count_asked(counts, subject),
-            replied: self.count_replies(counts, subject, OfReplies::Came),
-            taken: self.count_replies(counts, subject, OfReplies::Returned),
+            replied,
+            taken,
         }
     }
 }

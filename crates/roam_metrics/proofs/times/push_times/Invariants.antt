@@ -1,5 +1,5 @@
 use Rattle.roam_metrics.specs.Pages.{MoreLines}
-use Rattle.roam_metrics.proofs.pages.push_naks.Given as goal
+use Rattle.roam_metrics.proofs.times.push_times.Given as goal
 
 -- lines were added
 abbrev pub invariant-loop-named : goal.invariant-loop-named

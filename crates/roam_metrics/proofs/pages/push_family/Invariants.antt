@@ -1,5 +1,5 @@
 use Rattle.roam_metrics.specs.Pages.{MoreLines}
-use Rattle.roam_metrics.proofs.pages.push_refusals.Given as goal
+use Rattle.roam_metrics.proofs.pages.push_family.Given as goal
 
 -- lines were added
 abbrev pub invariant-loop-named : goal.invariant-loop-named

@@ -1,6 +1,0 @@
-use Rattle.roam_metrics.specs.Pages.{MoreLines}
-use Rattle.roam_metrics.proofs.pages.push_refusals_of.Given as goal
-
--- lines were added
-abbrev pub invariant-loop-refusal : goal.invariant-loop-refusal
-invariant-loop-refusal g l = MoreLines l.initial.page.items l.page.items
