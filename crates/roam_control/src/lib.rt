@@ -13,6 +13,7 @@ mod asker;
 mod connections;
 mod desk;
 mod missing;
+mod open_connection;
 mod pause;
 mod reloads;
 mod script;
