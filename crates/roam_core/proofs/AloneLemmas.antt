@@ -7,7 +7,7 @@ use Rattle.roam_route.specs.Admission.{Arrival, PlainOut, Admission, refused, re
 use Rattle.roam_book.specs.RealmConfig.{realm_config}
 use Rattle.roam_book.specs.RealmState.{RealmState}
 use Rattle.roam_book.specs.OneRealm.{one_realm_run}
-use Rattle.roam_core.specs.Alone.{OneRealmIsAlone, alone}
+use Rattle.roam_core.specs.Alone.{OneRealmIsAlone}
 use Rattle.roam_core.specs.Events.{PlainEvent, arrives, ticks, given_by, given_to_realm, reject_of, rejects_by}
 use Rattle.roam_core.specs.Isolation.{HasRealm, IsRealmBelow, is_none, is_realm, packets_for, packets_for_none}
 use Rattle.roam_core.specs.ManyRealms.{packets_in_turn, states_after, state_at, to_arrival, answer_to, answers_to}

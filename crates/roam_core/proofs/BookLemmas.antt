@@ -1,5 +1,5 @@
 -- The books of a broker: one of them changes, or one more is added.
-use Rattle.std.proofs.Common.{◌≡◌, ℕ, zero, suc, ◌+◌, ◌<◌, true, List, [], ◌∷◌, ◌++◌, length, get_or, set, refl, sym, ap, subst, ◌∙◌, arith}
+use Rattle.std.proofs.Common.{◌≡◌, ℕ, zero, suc, ◌+◌, ◌<◌, true, List, [], ◌∷◌, ◌++◌, length, get_or, set, sym, ap, subst, ◌∙◌, arith}
 use Rattle.std.specs.Prelude.{Result, Ok, Err, replicate}
 use Rattle.std.proofs.lemmas.List.{get_or-map, length-set, length-append, length-replicate, map-set, map-append, set-get_or, replicate-append-replicate}
 use Rattle.roam_wire.specs.declared.refusal.NoMemory.{NoMemory}
@@ -131,9 +131,6 @@ pub record AreFresh (config : ConfigView) (count : ℕ) (books : List BookView) 
   pub each : AreBooks config 0 books
   pub number : length books ≡ count
   pub states : states_of books ≡ openings_from config 0 (replicate count first_start)
-
-pub none-fresh : (config : ConfigView) → AreFresh config 0 []
-none-fresh config = record { each = tt; number = refl; states = refl }
 
 pub one-more-fresh : (config : ConfigView) (count : ℕ) (books : List BookView) (b : BookView) → AreFresh config count books → b.config ≡ config → b.realm ≡ count → b.state ≡ opening (realm_config config count) first_start → AreFresh config (count + 1) (books ++ b ∷ [])
 one-more-fresh config count books b are same_config own_realm begins =

@@ -5,10 +5,10 @@ use Rattle.std.specs.List.{AllByRecursion}
 use Rattle.std.proofs.Math.Nat.{mod-lt}
 use Rattle.std.proofs.lemmas.Bool.{cases_Bool}
 use Rattle.std.proofs.lemmas.Bool.Decides.{nat_tests}
-use Rattle.std.proofs.lemmas.List.{append-nil, length-set, get_or-set_same, get_or-set_other, get_or_past}
+use Rattle.std.proofs.lemmas.List.{append-nil, length-set, get_or-set_same, get_or-set_other}
 use Rattle.roam_wire.specs.declared.refusal.Refusal.TheVariants as refusal
-use Rattle.roam_conf.specs.Config.{ConfigView, RealmView}
-use Rattle.roam_route.specs.Admission.{Arrival, PlainOut, Admission, refused, rejected, admitted, admission}
+use Rattle.roam_conf.specs.Config.{ConfigView}
+use Rattle.roam_route.specs.Admission.{Arrival, Admission, refused, rejected, admitted, admission}
 use Rattle.roam_route.proofs.EventLemmas.{admitted_realm}
 use Rattle.roam_book.specs.RealmConfig.{RealmConfig, realm_config}
 use Rattle.roam_book.specs.RealmState.{RealmState}

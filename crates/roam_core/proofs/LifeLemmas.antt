@@ -1,6 +1,5 @@
 -- Lives: what happens in two lists in a row, and what stays the same.
 use Rattle.std.proofs.Common.{◌≡◌, ℕ, List, [], ◌∷◌, ◌++◌, map, refl, sym, ap, ◌∙◌, append_assoc}
-use Rattle.std.proofs.lemmas.List.{append-nil}
 use Rattle.roam_route.specs.Admission.{PlainOut}
 use Rattle.roam_book.specs.RealmConfig.{RealmConfig}
 use Rattle.roam_book.specs.RealmState.{RealmState}
@@ -40,11 +39,6 @@ index-then b (h ∷ hs) = index-then (stage_after b h) hs ∙ index-after b h
 -- the stage after one thing more
 pub stage-next : (b : Stage) (xs : List Happening) (h : Happening) → stage_then b (xs ++ h ∷ []) ≡ stage_after (stage_then b xs) h
 stage-next b xs h = stage-append b xs (h ∷ [])
-
-pub sent-next : (b : Stage) (xs : List Happening) (h : Happening) → sent_in b (xs ++ h ∷ []) ≡ sent_in b xs ++ sent_at (stage_then b xs) h
-sent-next b xs h =
-    sent-append b xs (h ∷ [])
-    ∙ ap (λ (ps : List PlainOut). sent_in b xs ++ ps) (append-nil (sent_at (stage_then b xs) h))
 
 -- a life of events alone is a run of the one-realm broker
 pub stage-events : (c : RealmConfig) (s : RealmState) (es : List RealmEvent) → stage_then (record { config = c; state = s }) (map event es) ≡ record { config = c; state = (one_realm_run c s es).state }

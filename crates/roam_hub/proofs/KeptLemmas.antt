@@ -13,7 +13,7 @@ use Rattle.roam_history.specs.Entries.{HistoryEntry, gone_of, last_of, let_go_en
 use Rattle.roam_history.specs.Fronts.{FrontView}
 use Rattle.roam_history.specs.HubOpening.{HubOpening, opening_at}
 use Rattle.roam_history.proofs.EntryLemmas.{all-gone, all-steps, closed-steps, last-push, none-stored, one-step, one-stored, open-gone, open-step, same-gone, same-steps}
-use Rattle.roam_history.proofs.Prefixes.{prefix_length, prefix_self, prefix_trans}
+use Rattle.roam_history.proofs.Prefixes.{prefix_length, prefix_trans}
 use Rattle.roam_audit.specs.Seats.{SeatView, after_call, front_of, having_seen}
 use Rattle.roam_audit.proofs.PrefixLemmas.{steps_begin}
 use Rattle.roam_hub.specs.Calls.{AreGone, IsCall, IsDueCall, IsFull, IsLook, Sees}
@@ -23,10 +23,6 @@ use Rattle.roam_hub.specs.Looks.{StandsIn}
 -- a seat that has seen all entries of a shard
 front_same : (fronts : List (List HistoryEntry)) (shard : ℕ) (es : List HistoryEntry) → shard < length fronts → slice_index_or (slice_set fronts shard es) shard [] ≡ es
 front_same fronts shard es lt = get_or-set_same fronts shard es [] lt
-
--- nothing was seen
-pub sees_same : (shard : ℕ) (old : SeatView) → Sees shard old old
-sees_same shard old = record { begins = prefix_self (front_of old shard); others = λ k ne. refl }
 
 sees_set : (shard : ℕ) (old new : SeatView) (es : List HistoryEntry) → new.fronts ≡ slice_set old.fronts shard es → shard < length old.fronts → IsPrefix (front_of old shard) es → Sees shard old new
 sees_set shard old new es is lt pre = record {

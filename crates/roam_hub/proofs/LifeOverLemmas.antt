@@ -21,9 +21,9 @@ use Rattle.roam_core.proofs.LifeDrawLemmas.{draws_are_apart_in}
 use Rattle.roam_core.proofs.PacketLemmas.{packets_for-append}
 use Rattle.roam_shard.specs.Follow.{Follows}
 use Rattle.roam_trace.specs.History.{end_of}
-use Rattle.roam_hub.specs.Changes.{AreSpans, FollowsOn, IsSpan, IsThere, Span, own_events, sent_over}
+use Rattle.roam_hub.specs.Changes.{FollowsOn, IsThere, Span, own_events, sent_over}
 use Rattle.roam_hub.specs.InHistories.{packets_in}
-use Rattle.roam_hub.specs.LivesOver.{DrawsApartOverChanges, GoesAlong, IsChange, IsLifeOver, LivesGoAlong, ProvenanceOverChanges, begins_at, drawn_over}
+use Rattle.roam_hub.specs.LivesOver.{DrawsApartOverChanges, IsChange, IsLifeOver, LivesGoAlong, ProvenanceOverChanges, begins_at}
 use Rattle.roam_hub.proofs.ChangeLemmas.{each_goes_alone}
 
 -- a stage, by what it is made of

@@ -4,7 +4,7 @@ use Rattle.std.specs.Prelude.{slice_get}
 use Rattle.std.proofs.lemmas.List.{map-append}
 use Rattle.std.proofs.lemmas.Option.{same_Some}
 use Rattle.roam_book.specs.RealmState.{RealmState}
-use Rattle.roam_book.specs.OneRealm.{RealmEvent, one_realm_run}
+use Rattle.roam_book.specs.OneRealm.{RealmEvent}
 use Rattle.roam_book.specs.RealmConfig.{realm_config}
 use Rattle.roam_core.specs.Events.{is_in_shard}
 use Rattle.roam_core.specs.Lives.{Happening, Stage, event, goes_on, begins_anew, stage_then}
@@ -14,7 +14,7 @@ use Rattle.roam_core.proofs.LifeLemmas.{stage-events}
 use Rattle.roam_core.proofs.LifeTicketLemmas.{all-rise, same-event, then-rises, ticket_is_given_once_in}
 use Rattle.roam_shard.specs.Follow.{Follows}
 use Rattle.roam_trace.specs.History.{end_of}
-use Rattle.roam_hub.specs.Changes.{AreSpans, FollowsOn, IsThere, Span, own_events}
+use Rattle.roam_hub.specs.Changes.{AreSpans, FollowsOn, Span, own_events}
 use Rattle.roam_hub.specs.LivesOver.{IsChange, IsLifeOver, TakesTicketAt, TicketGivenOnceOverChanges, begins_at}
 use Rattle.roam_hub.proofs.ChangeLemmas.{each_goes_alone}
 use Rattle.roam_hub.proofs.LifeOverLemmas.{is_there}

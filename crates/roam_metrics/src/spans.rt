@@ -1,6 +1,6 @@
 //! How long something took, in the two units that a person reads.
 
-ghost use Rattle.std.specs.Prelude.{◌≡◌, ◌≤◌, ◌<◌, ◌+◌};
+ghost use Rattle.std.specs.Prelude.{◌≤◌, ◌<◌, ◌+◌};
 ghost use Rattle.roam_metrics.specs.Spans as spec;
 
 use std::fmt;

@@ -1,5 +1,5 @@
 -- Ends of exchanges that are told together: those that are alike, within a second, are one line with their number. Ours.
-use Rattle.std.specs.Prelude.{◌≡◌, ◌⊎◌, ℕ, ◌+◌, ◌-◌, ◌^◌, ◌<◌, ◌≤◌, ◌==◌, min, List, [], ◌∷◌, ◌++◌, length, slice_index_or, slice_set, All, Option, None, if◌then◌else◌}
+use Rattle.std.specs.Prelude.{◌≡◌, ◌⊎◌, ℕ, ◌+◌, ◌-◌, ◌^◌, ◌<◌, ◌≤◌, ◌==◌, min, List, [], ◌∷◌, ◌++◌, length, slice_index_or, slice_set, All, None, if◌then◌else◌}
 use Rattle.roam_notices.specs.Exchanges.{octets_if}
 use Rattle.roam_notices.specs.declared.exchange.Exchange.{Exchange}
 use Rattle.roam_notices.specs.declared.exchange.ExchangeEnd.{ExchangeEnd}

@@ -1,5 +1,5 @@
 -- Who sent a datagram that was refused: a peer or a home server of the configuration, by where it came to. Ours.
-use Rattle.std.specs.Prelude.{◌≡◌, ℕ, List, [], Option, Some, None, option_map, slice_get}
+use Rattle.std.specs.Prelude.{ℕ, List, Option, Some, None, slice_get}
 use Rattle.roam_conf.specs.Config.{ConfigView, PeerView}
 use Rattle.roam_conf.specs.Lookup.{peer_with_ip, link_in, home_in}
 use Rattle.roam_conf.specs.declared.endpoint.Endpoint.{Endpoint}

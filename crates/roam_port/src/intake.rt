@@ -12,7 +12,7 @@ pub struct Intake<A: Allocator> {
 }
 
 impl<A: Allocator> Intake<A> {
-    ghost use Rattle.std.specs.Prelude.{◌≡◌, ◌+◌, ◌<◌, ◌≤◌, ◌↔◌, [], ◌∷◌, ◌++◌, length, IsTrue, IsSome, IfSome, IfNone};
+    ghost use Rattle.std.specs.Prelude.{◌≡◌, ◌+◌, ◌<◌, ◌↔◌, [], ◌∷◌, ◌++◌, length, IsTrue, IsSome, IfSome, IfNone};
     ghost use mathlib.Core.List.{IsPrefix};
     ghost use Rattle.roam_port.specs.Ring.{AreOneRing, IsSameIntake, LooksIntoRing, SeesIntoRing, IsFirstInFirstOut};
     ghost use Rattle.roam_port.specs.Ring.{taken_packets, known_packets};

@@ -21,7 +21,7 @@ pub enum SendFault {
 
 /// A socket for datagrams, of the system or of a test.
 pub trait Port {
-    ghost use Rattle.std.specs.Prelude.{◌≤◌, ℕ, List, Option, IfOk, IfSome, length};
+    ghost use Rattle.std.specs.Prelude.{◌≤◌, List, Option, IfOk, IfSome, length};
     ghost use Rattle.roam_port.specs.Port.{PortCall, IsOneCall, receive_call, send_call};
 
     /// Every call so far with its answer, the oldest first; none where no account is kept of them,

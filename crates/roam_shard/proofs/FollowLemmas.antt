@@ -57,10 +57,6 @@ pub record Cleared (old new : ConfigView) (shard : ℕ) (E F : ℕ → List Plai
   pub gone : (r : ℕ) → r < count → (GoesOn old new shard r → ⊥) → F r ≡ []
   pub lists : ((r : ℕ) → IsEntryList (E r)) → (r : ℕ) → IsEntryList (F r)
 
-pub none_cleared : (old new : ConfigView) (shard : ℕ) (E : ℕ → List PlainEntry) → Cleared old new shard E E 0
-none_cleared old new shard E =
-    record { stay = λ r is. refl; gone = λ r lt away. absurd (omega (arith, lt)); lists = λ all r. all r }
-
 pub cleared_to : (old new : ConfigView) (shard : ℕ) (E F : ℕ → List PlainEntry) (n count : ℕ) → count ≤ n
     → ((r : ℕ) → GoesOn old new shard r → F r ≡ E r) → ((r : ℕ) → r < n → (GoesOn old new shard r → ⊥) → F r ≡ [])
     → (((r : ℕ) → IsEntryList (E r)) → (r : ℕ) → IsEntryList (F r)) → Cleared old new shard E F count
@@ -230,9 +226,6 @@ module _ {A : Type 0} (o : OpeningView) (tables : List RealmView) (ns : List (Op
         states-set o (entries_in tables) (entries_in tables) k ns m (λ q ne. refl)
         ∙ ap (λ (s : RealmState). set (states_in o tables ns) k s) state
         ∙ set-get_or (states_in o tables ns) k no_state
-
-    pub reserved_still : slice_get (set ns k (Some m)) k ≡ Some (Some m)
-    reserved_still = get-set_same ns k (Some m) (some_within ns k (Some n) at)
 
   pub within_numbers : (r : ℕ) → r < length o.config.realms → r < length ns
   within_numbers r lt = (let count = are.count in omega (arith, lt, count))

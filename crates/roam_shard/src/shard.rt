@@ -1,7 +1,7 @@
 //! One shard of the broker: its realms' entries in shared tables.
 
 ghost use Rattle.std.specs.Prelude.{◌≡◌, ◌↔◌, ℕ, ◌+◌, ◌<◌, ◌≤◌, ◌^◌, ◌++◌, [], None, false, true, length};
-ghost use Rattle.std.specs.Prelude.{slice_set, IfOk, IsOk, vec_len};
+ghost use Rattle.std.specs.Prelude.{slice_set, IfOk, IsOk};
 ghost use Rattle.roam_conf.specs.Shown.{shown};
 ghost use Rattle.roam_route.specs.Admission.{admitted};
 ghost use Rattle.roam_route.specs.Events.{IsEvent};
@@ -9,8 +9,8 @@ ghost use Rattle.roam_route.specs.Shown.{shown_job};
 ghost use Rattle.roam_book.specs.OneRealm.{event_of, on_event};
 ghost use Rattle.roam_book.specs.OnTick.{on_tick};
 ghost use Rattle.roam_book.specs.RealmConfig.{realm_config};
-ghost use Rattle.roam_book.specs.Rooms.{IsRoomFor, only_done_due};
-ghost use Rattle.roam_book.specs.Turn.{packets_of, sends, shown_outs, state_after};
+ghost use Rattle.roam_book.specs.Rooms.{IsRoomFor};
+ghost use Rattle.roam_book.specs.Turn.{packets_of, shown_outs, state_after};
 ghost use Rattle.roam_core.specs.Events.{is_in_shard};
 ghost use Rattle.roam_core.specs.ManyRealms.{state_at, tick_from, tick_of, to_arrival, to_tick};
 ghost use Rattle.roam_core.specs.Openings.{openings};

@@ -148,10 +148,6 @@ ticket_of_due now es d list at =
 pub one_fewer : (es fs : List PlainEntry) (ticket : ℕ) → IsEntryList es → HasTicket es ticket → fs ≡ without ticket es → length fs + 1 ≡ length es
 one_fewer es fs ticket list has is = ap (λ (l : List PlainEntry). length l + 1) is ∙ length-without ticket es has.entry list.in_order has.found
 
-pub nothing_left : (es : List PlainEntry) → length es ≡ 0 → es ≡ []
-nothing_left [] is = refl
-nothing_left (e ∷ es) is = absurd (omega (arith, is))
-
 -- the entries of a realm are fewer by one, and those of others are as they were
 pub record IsLess (v w : List RealmView) (r : ℕ) : Type 0 where
   pub fewer : length (entries_in w r) + 1 ≤ length (entries_in v r) ⊎ (entries_in w r ≡ [])

@@ -1,5 +1,5 @@
 -- Few are due now, or something has been for long, or what is due is parted.
-use Rattle.std.proofs.Common.{◌≡◌, ◌<◌, ◌≤◌, ◌-◌, ℕ, true, false, inl, inr, refl, arith, subst, sym, ap}
+use Rattle.std.proofs.Common.{◌≡◌, ◌<◌, ◌-◌, ℕ, true, false, inl, inr, refl, arith, subst, sym}
 use Rattle.std.proofs.lemmas.Bool.{cases_eq}
 use Rattle.roam_shard.specs.Twins.{NothingDue}
 use Rattle.roam_due.proofs.moment.moment_of_tick.Goals as goal

@@ -1,5 +1,5 @@
 -- Few are due at the moment between them, or some.
-use Rattle.std.proofs.Common.{◌≡◌, true, false, inl, arith}
+use Rattle.std.proofs.Common.{◌≡◌, true, false, inl}
 use Rattle.roam_due.proofs.moment.narrowed.Goals as goal
 
 pub returns-then-has_few_due-clause-moments : goal.returns-then-has_few_due-clause-moments

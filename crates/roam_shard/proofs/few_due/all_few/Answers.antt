@@ -1,5 +1,5 @@
 -- One realm more is counted.
-use Rattle.std.proofs.Common.{◌≡◌, true, false, sym, arith}
+use Rattle.std.proofs.Common.{true, false, arith}
 use Rattle.roam_tables.specs.Stands.{entries_in}
 use Rattle.roam_tables.proofs.RealmLemmas.{get-read}
 use Rattle.roam_shard.proofs.DueLemmas.{own_none}

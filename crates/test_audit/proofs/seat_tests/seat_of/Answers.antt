@@ -1,6 +1,6 @@
 -- Each shard gets the history at its place.
 use Rattle.std.specs.Vec.Iter.{into_iter_items}
-use Rattle.std.proofs.Common.{◌≡◌, ◌+◌, ◌++◌, ◌∷◌, [], ℕ, suc, List, length, Some, slice_get, ap, sym, subst, ◌∙◌, arith}
+use Rattle.std.proofs.Common.{◌≡◌, ◌+◌, ℕ, suc, List, length, Some, slice_get, ap, sym, subst, arith}
 use Rattle.roam_history.specs.Fronts.{FrontView}
 use Rattle.roam_history.specs.declared.blank.Blank.{Blank}
 use Rattle.test_audit.proofs.FrontLemmas.{push_shards}

@@ -1,5 +1,5 @@
 -- The shard stands where its whole history ends.
-use Rattle.std.proofs.Common.{◌≡◌, ℕ, List, ap, refl, subst, sym, ◌∙◌}
+use Rattle.std.proofs.Common.{◌≡◌, ℕ, List, ap, subst, sym, ◌∙◌}
 use Rattle.roam_shard.specs.ShardView.{OpeningView}
 use Rattle.roam_trace.specs.History.{IsHistory, end_of}
 use Rattle.roam_trace.specs.Steps.{PlainStep}

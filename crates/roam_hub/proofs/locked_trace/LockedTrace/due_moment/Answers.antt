@@ -1,5 +1,5 @@
 -- What is due in the shard is due in the trace.
-use Rattle.std.proofs.Common.{◌≡◌, true, false, List, subst, ap, sym, ◌∙◌}
+use Rattle.std.proofs.Common.{◌≡◌, false, List, subst, sym}
 use Rattle.roam_book.specs.RealmState.{RealmState}
 use Rattle.roam_shard.specs.Twins.{NothingDue}
 use Rattle.roam_due.specs.Moments.{IsTickMoment}
