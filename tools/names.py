@@ -1,10 +1,10 @@
 #!/usr/bin/env python3
-"""Says which names on the pages aren't there: files, functions written as `Type::function`, and laws.
+"""Says which names on the pages aren't there: files, functions written as `Type::function`, names that link to a file, and laws.
 
     tools/names.py          prints each of them with its page and line; ends with 1 where there is one
 
 It looks at README.md and docs/*.md: at paths in backticks and in links, at `Type::function` and `crate::function` in
-backticks, and at names behind "the law" or "the laws".
+backticks, at names whose link leads to a file of code, which has to have them, and at names behind "the law" or "the laws".
 """
 import pathlib
 import re
@@ -61,6 +61,10 @@ def faults_of(page: pathlib.Path, code, specs: set[str]) -> list[str]:
         for link in re.findall(r"\]\(([^)#:]+)[^)]*\)", line):
             if not ((page.parent / link).exists() or (ROOT / link).exists()):
                 said.append(link)
+        for text, link in re.findall(r"\[([^\]]*`[^\]]*)\]\(([^)#:]+\.rt)\)", line):
+            file = page.parent / link
+            has = set(re.findall(r"\b(?:fn|struct|enum|trait|const|type) (\w+)", file.read_text(encoding="utf-8"))) if file.exists() else set()
+            said += [f"`{name}` in {link}" for name in re.findall(r"`(?:\w+::)*(\w+)(?:\(\))?`", text) if name not in has | {file.stem}]
         for quoted in re.findall(r"`([^`]+)`", line):
             if "/" in quoted and missing_file(quoted.split(" ")[0], page):
                 said.append(quoted)
