@@ -3,11 +3,11 @@
 use roam_conf::Endpoint;
 
 /// A receive failed.
-#[derive(Clone, Copy, Debug, PartialEq, Eq)]
+#[derive(Clone, Copy, PartialEq, Eq)]
 pub struct PortFault;
 
 /// Why a packet isn't sent.
-#[derive(Clone, Copy, Debug, PartialEq, Eq)]
+#[derive(Clone, Copy, PartialEq, Eq)]
 pub enum SendFault {
     /// The socket has no room for it now.
     WouldBlock,

@@ -33,7 +33,7 @@ pub struct WorkerContext<'s, 'c, G, N: Opened> {
 }
 
 /// What is done about a call that isn't recorded.
-#[derive(Clone, Copy, Debug, PartialEq, Eq)]
+#[derive(Clone, Copy, PartialEq, Eq)]
 pub enum Remedy {
     /// The stored steps of its shard are let go of, and the same call is made again.
     LetGo,
