@@ -73,6 +73,57 @@ fn make_kit(
     })
 }
 
+/// What a worker is made of, which waits for what comes to the sockets that it hears.
+fn make_worker_kit(
+    alloc: Global,
+    polls: Option<Polls>,
+    sockets: &[BoundSocket],
+    worker: u16,
+    told: ExchangeLines,
+) -> Result<Kit, ServeFault>
+    ensures { IfErr result IsAfterBinding }
+{
+    let Some(polls) = polls else {
+        return Err(ServeFault::Memory);
+    };
+    register(&polls.arrivals, sockets, usize::from(worker))?;
+    let notes = notes_of_worker(alloc)?;
+    make_kit(alloc, polls, notes, told, RECEIVED)
+}
+
+/// What so many workers are made of, each of the last polls that are left.
+fn make_worker_kits(
+    alloc: Global,
+    polls: &mut Vec<Polls>,
+    sockets: &[BoundSocket],
+    workers: u16,
+    told: ExchangeLines,
+) -> Result<Vec<Kit>, ServeFault>
+    ensures { IfErr result IsAfterBinding }
+{
+    let mut kits = Vec::with_capacity(alloc, usize::from(workers))?;
+    for worker in 0..workers {
+        kits.push(make_worker_kit(alloc, polls.pop(), sockets, worker, told)?)?;
+    }
+    Ok(kits)
+}
+
+/// What the timer is made of.
+fn make_timer_kit(
+    alloc: Global,
+    polls: Option<Polls>,
+    config: &Config,
+    told: ExchangeLines,
+) -> Result<Kit, ServeFault>
+    ensures { IfErr result IsAfterBinding }
+{
+    let Some(polls) = polls else {
+        return Err(ServeFault::Memory);
+    };
+    let notes = notes_of_timer(alloc, config)?;
+    make_kit(alloc, polls, notes, told, 0)
+}
+
 /// What the threads of a configuration are made of: a worker for each shard, which waits for what comes to the sockets
 /// that it hears, and the timer. The server wants so many descriptors.
 pub fn make_kits<R: Net>(
@@ -87,18 +138,8 @@ pub fn make_kits<R: Net>(
 {
     let mut polls = make_polls(rt, alloc, config.shards.saturating_add(1), wanted)?;
     let wakers = make_wakers(alloc, polls.as_slice(), wanted)?;
-    let mut workers = Vec::with_capacity(alloc, usize::from(config.shards))?;
-    for worker in 0..config.shards {
-        let Some(one) = polls.pop() else {
-            return Err(ServeFault::Memory);
-        };
-        register(&one.arrivals, sockets, usize::from(worker))?;
-        workers.push(make_kit(alloc, one, notes_of_worker(alloc)?, told, RECEIVED)?)?;
-    }
-    let Some(one) = polls.pop() else {
-        return Err(ServeFault::Memory);
-    };
-    let timer = make_kit(alloc, one, notes_of_timer(alloc, config)?, told, 0)?;
+    let workers = make_worker_kits(alloc, &mut polls, sockets, config.shards, told)?;
+    let timer = make_timer_kit(alloc, polls.pop(), config, told)?;
     Ok(Kits {
         wakers,
         threads: ThreadKits { timer, workers },

@@ -7,6 +7,7 @@
 mod behind;
 mod dealing;
 mod kits;
+mod parts;
 mod ready_threads;
 
 pub use behind::{Behind, start_behind};

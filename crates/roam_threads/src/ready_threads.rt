@@ -5,8 +5,9 @@ ghost use Rattle.roam_sockets.specs.Faults.{IsAfterBinding};
 
 use crate::dealing::{ports, receivers};
 use crate::kits::{Kit, ThreadKits};
+use crate::parts::{Part, Parts, parts_of};
 use mio::{Events, Poll};
-use roam_hub::{Opened, Seat, split};
+use roam_hub::{Opened, Seat};
 use roam_notices::Exchange;
 use roam_port::{Outbox, socket_numbers};
 use roam_sockets::{BoundSocket, ServeFault};
@@ -89,18 +90,20 @@ impl<'s, 'c, G, N: Opened> Builder<'s, 'c, G, N> {
         }
     }
 
-    /// What the thread of this number has, a worker or the timer, made of its kit. The packets that still wait in its
-    /// outbox are sent, where there is room for them now.
+    /// What the thread of this number has, a worker or the timer. The packets that still wait in its outbox are sent,
+    /// where there is room for them now.
     fn equip(
         &mut self,
         number: usize,
-        seat: Seat<Global, N>,
-        outbox: Outbox<Global>,
-        kit: Kit,
+        part: Part<N>,
     ) -> Result<Equipped<'s, 'c, G, N>, ServeFault>
         ensures { IfErr result IsAfterBinding }
     {
         let shared = self.shared;
+        let workers = usize::from(shared.config.shards);
+        let numbers = socket_numbers(shared.config);
+        let ports = ports(shared.alloc, self.sockets, numbers, number, workers)?;
+        let Part { seat, outbox, kit } = part;
         let Kit {
             polls,
             notices,
@@ -111,7 +114,6 @@ impl<'s, 'c, G, N: Opened> Builder<'s, 'c, G, N> {
             buffer,
         } = kit;
         self.queues.take(queue, lines)?;
-        let workers = usize::from(shared.config.shards);
         let counting = Counting {
             config: shared.config,
             counts: match shared.counters {
@@ -119,8 +121,6 @@ impl<'s, 'c, G, N: Opened> Builder<'s, 'c, G, N> {
                 None => None,
             },
         };
-        let numbers = socket_numbers(shared.config);
-        let ports = ports(shared.alloc, self.sockets, numbers, number, workers)?;
         let room = RoomEvents {
             poll: polls.room,
             events: room_events,
@@ -142,26 +142,24 @@ impl<'s, 'c, G, N: Opened> Builder<'s, 'c, G, N> {
         })
     }
 
-    /// A worker of this number, made of its kit. Two events more than it has sockets may come: that it is woken, and
-    /// that sockets have room again.
+    /// A worker of this number. Two events more than it has sockets may come: that it is woken, and that sockets have room
+    /// again.
     fn worker(
         &mut self,
         number: usize,
-        seat: Seat<Global, N>,
-        outbox: Outbox<Global>,
-        kit: Kit,
+        part: Part<N>,
     ) -> Result<Worker<'s, 'c, G, N>, ServeFault>
         ensures { IfErr result IsAfterBinding }
     {
-        let Equipped {
-            context,
-            arrivals,
-            buffer,
-        } = self.equip(number, seat, outbox, kit)?;
         let alloc = self.shared.alloc;
         let receivers = receivers(alloc, self.sockets, number)?;
         let events = Events::with_capacity(alloc, receivers.len().saturating_add(2))?;
         let ready = Vec::with_capacity(alloc, receivers.len())?;
+        let Equipped {
+            context,
+            arrivals,
+            buffer,
+        } = self.equip(number, part)?;
         Ok(Worker {
             context,
             receivers,
@@ -172,27 +170,34 @@ impl<'s, 'c, G, N: Opened> Builder<'s, 'c, G, N> {
         })
     }
 
-    /// The timer, made of its kit.
-    fn timer(
-        &mut self,
-        seat: Seat<Global, N>,
-        outbox: Outbox<Global>,
-        kit: Kit,
-        rests: Rests,
-    ) -> Result<Timer<'s, 'c, G, N>, ServeFault>
+    /// All workers, by their numbers.
+    fn workers(&mut self, parts: Vec<Part<N>>) -> Result<Vec<Worker<'s, 'c, G, N>>, ServeFault>
+        ensures { IfErr result IsAfterBinding }
+    {
+        let mut workers = Vec::with_capacity(self.shared.alloc, parts.len())?;
+        for part in parts {
+            let worker = self.worker(workers.len(), part)?;
+            workers.push(worker)?;
+        }
+        Ok(workers)
+    }
+
+    /// The timer.
+    fn timer(&mut self, part: Part<N>, rests: Rests) -> Result<Timer<'s, 'c, G, N>, ServeFault>
         ensures { IfErr result IsAfterBinding }
     {
         let shared = self.shared;
         let number = usize::from(shared.config.shards);
+        let events = Events::with_capacity(shared.alloc, 2)?;
         let Equipped {
             context,
             arrivals,
             ..
-        } = self.equip(number, seat, outbox, kit)?;
+        } = self.equip(number, part)?;
         Ok(Timer {
             context,
             poll: arrivals,
-            events: Events::with_capacity(shared.alloc, 2)?,
+            events,
             told: [None; 4],
             is_stop_told: false,
             rests,
@@ -214,30 +219,20 @@ pub fn prepare_threads<'s, 'c, G, N: Opened>(
 ) -> Result<(ReadyThreads<'s, 'c, G, N>, Seat<Global, N>), ServeFault>
     ensures { IfErr result IsAfterBinding }
 {
-    let alloc = shared.alloc;
+    let line = Vec::with_capacity(shared.alloc, LINE)?;
+    let Parts {
+        workers,
+        timer,
+        seat,
+    } = parts_of(shared.alloc, seat, kits, outboxes)?;
     let mut builder = Builder::new(sockets, shared);
-    let mut workers = Vec::with_capacity(alloc, kits.workers.len())?;
-    let mut rest = seat;
-    let mut outboxes = outboxes.into_iter();
-    for kit in kits.workers {
-        let (Ok((first, seat)), Some(outbox)) = (split(rest), outboxes.next()) else {
-            return Err(ServeFault::Memory);
-        };
-        rest = first;
-        let worker = builder.worker(workers.len(), seat, outbox, kit)?;
-        if workers.push(worker).is_err() {
-            return Err(ServeFault::Memory);
-        }
-    }
-    let (Ok((rest, seat)), Some(outbox)) = (split(rest), outboxes.next()) else {
-        return Err(ServeFault::Memory);
-    };
-    let timer = builder.timer(rest, outbox, kits.timer, rests)?;
+    let workers = builder.workers(workers)?;
+    let timer = builder.timer(timer, rests)?;
     let Queues { notices, lines } = builder.queues;
     let logger = Logger {
         queues: notices,
         lines,
-        line: Vec::with_capacity(alloc, LINE)?,
+        line,
     };
     Ok((
         ReadyThreads {

@@ -1,0 +1,70 @@
+//! What each thread that takes part in the hub is made of.
+
+ghost use Rattle.std.specs.Prelude.{IfErr};
+ghost use Rattle.roam_sockets.specs.Faults.{IsAfterBinding};
+
+use crate::kits::{Kit, ThreadKits};
+use roam_hub::{Opened, Seat, split};
+use roam_port::Outbox;
+use roam_sockets::ServeFault;
+use std::alloc::Global;
+
+/// What a worker or the timer is made of: its kit, an outbox, in which packets may wait that others left there, and its
+/// seat at the hub.
+#[derive(Drop)]
+pub struct Part<N: Opened> {
+    pub seat: Seat<Global, N>,
+    pub outbox: Outbox<Global>,
+    pub kit: Kit,
+}
+
+/// The parts of all threads that take part in the hub, and the seat of the server's own thread.
+#[derive(Drop)]
+pub struct Parts<N: Opened> {
+    pub workers: Vec<Part<N>>,
+    pub timer: Part<N>,
+    pub seat: Seat<Global, N>,
+}
+
+/// A part, with a seat that is split off this one; and what is left of that.
+fn part_of<N: Opened>(
+    seat: Seat<Global, N>,
+    outbox: Option<Outbox<Global>>,
+    kit: Kit,
+) -> Result<(Seat<Global, N>, Part<N>), ServeFault>
+    ensures { IfErr result IsAfterBinding }
+{
+    let Some(outbox) = outbox else {
+        return Err(ServeFault::Memory);
+    };
+    match split(seat) {
+        Ok((rest, seat)) => Ok((rest, Part { seat, outbox, kit })),
+        Err(_) => Err(ServeFault::Memory),
+    }
+}
+
+/// The parts of all threads.
+pub fn parts_of<N: Opened>(
+    alloc: Global,
+    seat: Seat<Global, N>,
+    kits: ThreadKits,
+    outboxes: Vec<Outbox<Global>>,
+) -> Result<Parts<N>, ServeFault>
+    ensures { IfErr result IsAfterBinding }
+{
+    let ThreadKits { timer, workers } = kits;
+    let mut outboxes = outboxes.into_iter();
+    let mut parts = Vec::with_capacity(alloc, workers.len())?;
+    let mut rest = seat;
+    for kit in workers {
+        let (left, part) = part_of(rest, outboxes.next(), kit)?;
+        rest = left;
+        parts.push(part)?;
+    }
+    let (seat, timer) = part_of(rest, outboxes.next(), timer)?;
+    Ok(Parts {
+        workers: parts,
+        timer,
+        seat,
+    })
+}
