@@ -14,6 +14,7 @@ mod asked;
 mod audit;
 mod change;
 mod open_hub;
+mod opening;
 mod parts;
 mod start;
 mod watch;

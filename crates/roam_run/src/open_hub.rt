@@ -16,12 +16,12 @@ use crate::asked::attending::Attendant;
 use crate::audit::close_and_audit;
 use crate::change::configured::Configured;
 use crate::change::source::Source;
+use crate::opening::{HubRoom, OpenHub};
 use crate::parts::{HubEnd, Left, Means, Served, ServerParts, Unserved, counters_of};
 use crate::start::{ResultRoom, RunResult, run_threads};
 use log::Log;
 use roam_book::Start;
-use roam_conf::Config;
-use roam_hub::{Blanks, Gate, Hub, Opened, PauseRoom, Seat};
+use roam_hub::{Blanks, Gate, Hub, Opened, Seat};
 use roam_port::Outbox;
 use roam_shard::Paused;
 use roam_sockets::ServeFault;
@@ -34,32 +34,6 @@ use std::sync::Wait;
 use std::sync::atomic::AtomicBool;
 use std::thread::{Parker, Threads};
 use std::time::Clock;
-
-/// The memory for all that comes back of a hub and of its threads. It is taken before the hub opens, so that nothing is
-/// lost for want of it.
-#[derive(Drop)]
-struct HubRoom<'c, N: Opened> {
-    pause: PauseRoom<'c, Global, N>,
-    threads: ResultRoom<N>,
-    seats: Vec<Seat<Global, N>>,
-    outboxes: Vec<Outbox<Global>>,
-}
-
-impl<'c, N: Opened> HubRoom<'c, N> {
-    /// Room for a hub of this configuration, and for its threads.
-    fn new(alloc: Global, config: &'c Config) -> Result<HubRoom<'c, N>, ServeFault>
-        requires { shown config.now ≡ N.opening.config }
-        ensures { IfErr result IsAfterBinding }
-    {
-        let threads = usize::from(config.shards) + 1;
-        Ok(HubRoom {
-            pause: PauseRoom::new(alloc, config)?,
-            threads: ResultRoom::new(alloc, threads)?,
-            seats: Vec::with_capacity(alloc, threads)?,
-            outboxes: Vec::with_capacity(alloc, threads)?,
-        })
-    }
-}
 
 /// The first of two, or the other one where it is missing.
 fn first_of(one: Option<Rests>, other: Option<Rests>) -> Option<Rests> {
@@ -167,9 +141,7 @@ fn run_hub<
 >(
     parts: &mut ServerParts<'_, R, G, S>,
     configured: &'c Configured,
-    hub: Hub<'c, Global, N>,
-    seat: Seat<Global, N>,
-    room: HubRoom<'c, N>,
+    open: OpenHub<'c, N>,
     means: Means,
 ) -> Result<Left<N>, ServeFault>
     requires { shown configured.now.config ≡ N.opening.config }
@@ -178,6 +150,7 @@ fn run_hub<
     ensures may { IfOk result (λ left. MayGoOn N.opening.config left.end) }
     ensures err { IfErr result IsAfterBinding }
 {
+    let OpenHub { hub, seat, room } = open;
     let HubRoom {
         pause,
         threads,
@@ -224,10 +197,8 @@ pub fn serve_first<
     ensures may { IfOk result (λ served. MayGoOn N.opening.config served.end) }
     ensures err { IfErr result IsAfterBinding }
 {
-    let config = &configured.config;
-    let room = HubRoom::<'_, N>::new(parts.alloc, config)?;
-    let (hub, seat) = Hub::<'_, Global, N>::open(parts.alloc, config, starts, blanks)?;
-    let left = run_hub(parts, configured, hub, seat, room, means)?;
+    let open = OpenHub::<'_, N>::first(parts.alloc, &configured.config, starts, blanks)?;
+    let left = run_hub(parts, configured, open, means)?;
     Ok(left.served())
 }
 
@@ -256,12 +227,8 @@ pub fn serve_over<
     ensures may { IfOk result (λ served. MayGoOn N.opening.config served.end) }
     ensures err { IfErr result (IsUnserved shards.items) }
 {
-    let config = &configured.config;
-    let Ok(room) = HubRoom::<'_, N>::new(parts.alloc, config) else {
-        return Err(Unserved::Closed(shards, means));
-    };
-    match Hub::<'_, Global, N>::open_over(parts.alloc, config, shards, blanks) {
-        Ok((hub, seat)) => match run_hub(parts, configured, hub, seat, room, means) {
+    match OpenHub::<'_, N>::over(parts.alloc, &configured.config, shards, blanks) {
+        Ok(open) => match run_hub(parts, configured, open, means) {
             Ok(left) => Ok(left.served()),
             Err(fault) => Err(Unserved::Fault(fault)),
         },
