@@ -20,6 +20,7 @@ mod start;
 mod watch;
 
 pub use change::configured::{Configured, Handover};
+pub use change::fresh::FreshMeans;
 pub use change::next::{Next, out_of_memory, widen_all};
 pub use change::source::{Following, NoSource, Source};
 pub use open_hub::{serve_first, serve_over};

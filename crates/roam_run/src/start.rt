@@ -109,7 +109,7 @@ fn tell_start<R: Wait + Clock + Log, G, N: Opened>(
 /// they end or another one is to follow.
 fn attend<R: Wait + Clock + Net + Log, G, N: Opened, S: Source>(
     have_started: bool,
-    attendant: Attendant<'_, '_, R, G, N>,
+    mut attendant: Attendant<'_, '_, R, G, N>,
     handover: Handover,
     source: &mut S,
 ) -> HubEnd

@@ -9,14 +9,14 @@ ghost use Rattle.roam_run.specs.Closed.{MayGoOn};
 ghost use Rattle.roam_succession.specs.Served.{HasServedAll, IsServedOn};
 ghost use Rattle.roam_sockets.specs.Faults.{IsAfterBinding};
 
-use crate::again::{Again, is_time_over, take_again, told_or};
+use crate::again::{is_time_over, take_again, told_or};
 use crate::changing::{Changed, Ready, change};
 use log::Log;
 use roam_hub::{Blanks, Gate};
 use roam_port::Outbox;
 use roam_run::{
-    Configured, Handover, HubEnd, Means, Served, ServerParts, Source, Unserved, serve_first,
-    serve_over,
+    Configured, FreshMeans, Handover, HubEnd, Means, Served, ServerParts, Source, Unserved,
+    serve_first, serve_over,
 };
 use roam_shard::{Paused, first_starts};
 use roam_sockets::ServeFault;
@@ -104,7 +104,7 @@ fn serve_again<
 {
     match take_again(parts, configured, &mut outboxes) {
         Ok(
-            Again {
+            FreshMeans {
                 kits,
                 rests,
                 blanks,

@@ -92,16 +92,12 @@ impl<'s, 'c, G, N: Opened> Builder<'s, 'c, G, N> {
 
     /// What the thread of this number has, a worker or the timer. The packets that still wait in its outbox are sent,
     /// where there is room for them now.
-    fn equip(
-        &mut self,
-        number: usize,
-        part: Part<N>,
-    ) -> Result<Equipped<'s, 'c, G, N>, ServeFault>
+    fn equip(&mut self, number: usize, part: Part<N>) -> Result<Equipped<'s, 'c, G, N>, ServeFault>
         ensures { IfErr result IsAfterBinding }
     {
         let shared = self.shared;
-        let workers = usize::from(shared.config.shards);
         let numbers = socket_numbers(shared.config);
+        let workers = usize::from(shared.config.shards);
         let ports = ports(shared.alloc, self.sockets, numbers, number, workers)?;
         let Part { seat, outbox, kit } = part;
         let Kit {
@@ -110,7 +106,7 @@ impl<'s, 'c, G, N: Opened> Builder<'s, 'c, G, N> {
             queue,
             exchanges,
             lines,
-            room_events,
+            room_events: events,
             buffer,
         } = kit;
         self.queues.take(queue, lines)?;
@@ -121,10 +117,8 @@ impl<'s, 'c, G, N: Opened> Builder<'s, 'c, G, N> {
                 None => None,
             },
         };
-        let room = RoomEvents {
-            poll: polls.room,
-            events: room_events,
-        };
+        let poll = polls.room;
+        let room = RoomEvents { poll, events };
         let outgoing = Outgoing::new(shared.alloc, outbox, ports, shared.losses, counting, room)?;
         let context = WorkerContext {
             shared,
@@ -142,13 +136,9 @@ impl<'s, 'c, G, N: Opened> Builder<'s, 'c, G, N> {
         })
     }
 
-    /// A worker of this number. Two events more than it has sockets may come: that it is woken, and that sockets have room
-    /// again.
-    fn worker(
-        &mut self,
-        number: usize,
-        part: Part<N>,
-    ) -> Result<Worker<'s, 'c, G, N>, ServeFault>
+    /// A worker of this number. Two events more than it has sockets may come: that it is woken, and that sockets have
+    /// room again.
+    fn worker(&mut self, number: usize, part: Part<N>) -> Result<Worker<'s, 'c, G, N>, ServeFault>
         ensures { IfErr result IsAfterBinding }
     {
         let alloc = self.shared.alloc;

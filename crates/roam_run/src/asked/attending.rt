@@ -252,23 +252,31 @@ impl<R: Wait + Clock + Net + Log, G, N: Opened> Attendant<'_, '_, R, G, N> {
         self.attend_to(desk, order, source)
     }
 
-    /// Answers who asks, until the threads end or a configuration comes that is to follow.
-    pub fn attend<S: Source>(mut self, source: &mut S) -> Option<Next>
+    /// Answers who asks at either desk, unless a configuration comes by it that is to follow.
+    fn attend_both<S: Source>(&mut self, source: &mut S) -> Option<Next>
         ensures { IfSome result (λ next.
             MayFollow N.opening.config (shown next.configured.config)) }
     {
         let office = self.shared.office;
-        for _ in self.rt.forever() {
+        let _never = self.attend_at(&office.metrics, source);
+        self.attend_at(&office.control, source)
+    }
+
+    /// Answers who asks, until the threads end or a configuration comes that is to follow.
+    pub fn attend<S: Source>(&mut self, source: &mut S) -> Option<Next>
+        ensures { IfSome result (λ next.
+            MayFollow N.opening.config (shown next.configured.config)) }
+    {
+        let rt = self.rt;
+        for _ in rt.forever() {
             if self.shared.is_over() {
                 self.tell_dropped_at_end();
                 return None;
             }
-            let _never = self.attend_at(&office.metrics, source);
-            let next = self.attend_at(&office.control, source);
-            if next.is_some() {
-                return next;
+            if let Some(next) = self.attend_both(source) {
+                return Some(next);
             }
-            office.attendant.park(self.rt);
+            self.shared.office.attendant.park(rt);
         }
         unreachable!()
     }

@@ -6,16 +6,17 @@ ghost use Rattle.roam_reload.specs.Reload.{MayFollow};
 ghost use Rattle.roam_history.specs.Books.{count_of};
 
 use crate::change::configured::Configured;
+use crate::change::fresh::FreshMeans;
 use crate::change::source::{Following, Source};
 use log::Log;
-use roam_conf::Config;
+use roam_conf::{Config, ExchangeLines};
 use roam_control::{Course, Reply, plain_reply};
 use roam_hub::{Blanks, Opened};
 use roam_sockets::{
     BoundSocket, RECEIVE_BUFFER, ServeFault, bind_following, descriptors_wanted, widen,
 };
 use roam_telling::{Counters, Notice};
-use roam_threads::{Kits, make_kits};
+use roam_threads::Kits;
 use roam_workers::{Rests, Shared, tell_or_drop};
 use std::alloc::Global;
 use std::net::Net;
@@ -84,8 +85,33 @@ fn is_stopping(alloc: Global) -> Reply {
     declined_with(alloc, b"roam: asked to stop\n")
 }
 
-/// All that the server needs for a configuration that follows the one that is served. Sockets that both want are the
+/// A configuration that follows the one that is served, with its sockets and its counts. Sockets that both want are the
 /// same.
+fn bind_next<R: Net + Log, G, N: Opened>(
+    rt: &R,
+    shared: &Shared<'_, '_, G, N>,
+    sockets: &[BoundSocket],
+    config: Config,
+    told_exchanges: ExchangeLines,
+) -> Result<Configured, ServeFault>
+    ensures { IfOk result (λ configured. configured.config ≡ config) }
+{
+    let wanted = descriptors_wanted(shared.config, &config);
+    let sockets = bind_following(rt, shared.alloc, &config, sockets, wanted)?;
+    widen_all(rt, &config, sockets.as_slice());
+    let counters = match shared.counters {
+        Some(_) => Some(Counters::new(shared.alloc, &config)?),
+        None => None,
+    };
+    Ok(Configured {
+        config,
+        sockets,
+        told_exchanges,
+        counters,
+    })
+}
+
+/// All that the server needs for a configuration that follows the one that is served.
 fn make_next<R: Net + Log, G, N: Opened>(
     rt: &R,
     shared: &Shared<'_, '_, G, N>,
@@ -100,31 +126,19 @@ fn make_next<R: Net + Log, G, N: Opened>(
         report,
     } = following;
     let alloc = shared.alloc;
-    let wanted = descriptors_wanted(shared.config, &config);
-    let sockets = bind_following(rt, alloc, &config, sockets, wanted)?;
-    widen_all(rt, &config, sockets.as_slice());
-    let kits = make_kits(
-        rt,
+    let configured = bind_next(rt, shared, sockets, config, told_exchanges)?;
+    let wanted = descriptors_wanted(shared.config, &configured.config);
+    let FreshMeans {
+        kits,
+        rests,
+        blanks,
+    } = FreshMeans::new(rt, alloc, &configured, wanted)?;
+    let spare = Vec::with_capacity(
         alloc,
-        &config,
-        sockets.as_slice(),
-        told_exchanges,
-        wanted,
+        spare_for(configured.config.shards, configured.sockets.len()),
     )?;
-    let rests = Rests::new(alloc, &config)?;
-    let blanks = Blanks::new(alloc, config.shards)?;
-    let counters = match shared.counters {
-        Some(_) => Some(Counters::new(alloc, &config)?),
-        None => None,
-    };
-    let spare = Vec::with_capacity(alloc, spare_for(config.shards, sockets.len()))?;
     Ok(Next {
-        configured: Configured {
-            config,
-            sockets,
-            told_exchanges,
-            counters,
-        },
+        configured,
         report,
         kits,
         rests,
