@@ -24,6 +24,7 @@ def made(path: pathlib.Path) -> bool:
 def measures(root: pathlib.Path) -> list[tuple[str, str]]:
     rows = []
     bodies, files, clauses, body_lines, arguments = [], [], 0, 0, 0
+    wide, wider, ghosts, contract = 0, 0, 0, 0
     for crate in product(root):
         for path in crate.glob("src/**/*.rt"):
             if path.stem == "tests":
@@ -34,22 +35,31 @@ def measures(root: pathlib.Path) -> list[tuple[str, str]]:
             bodies += found
             body_lines += sum(found)
             clauses += len(re.findall(r"^\s+(?:requires|ensures)\b", text, re.M))
+            lines = text.split("\n")
+            wide += sum(len(it) > 100 for it in lines)
+            wider += sum(len(it) > 120 for it in lines)
+            ghosts += text.count("ghost use ")
+            contract = max([contract, *(it.count("\n") for it in re.findall(r"(?:^    +(?:requires|ensures|ghost)\b.*\n(?:^     .*\n)*)+", text, re.M))])
             arguments += sum(head.count(":") - head.count("::") * 2 >= 6 for head in re.findall(r"\bfn \w+(?:<[^(]*>)?\(([^)]*)\)", text))
     rows += [("product: crates, files, lines", f"{len(product(root))}, {len(files)}, {sum(files)}"),
              ("functions; body median, 90th, longest", f"{len(bodies)}; {statistics.median(bodies):g}, {sorted(bodies)[len(bodies) * 9 // 10]}, {max(bodies)}"),
              ("files over 300 lines, bodies over 40", f"{sum(it > 300 for it in files)}, {sum(it > 40 for it in bodies)}"),
+             ("file: median, longest", f"{statistics.median(files):g}, {max(files)}"),
+             ("lines over 100 and 120 columns, imports of specs: of 1,000",
+              f"{wide * 1000 / sum(files):.1f}, {wider * 1000 / sum(files):.1f}, {ghosts * 1000 / sum(files):.0f}"),
+             ("longest contract", f"{contract} lines"),
              ("clauses a body line; functions of six arguments", f"{clauses / body_lines:.2f}; {arguments}")]
     for kind in ("specs", "proofs"):
-        lines = [line for crate in (root / "crates").iterdir() for path in crate.glob(f"{kind}/**/*.antt")
-                 for line in path.read_text(encoding="utf-8").split("\n") if line.strip()]
+        texts = [path.read_text(encoding="utf-8") for crate in (root / "crates").iterdir() for path in crate.glob(f"{kind}/**/*.antt")]
+        lines = [line for text in texts for line in text.split("\n") if line.strip()]
         imports = sum(bool(re.match(r"\s*(?:pub )?use ", it)) for it in lines)
-        rows.append((f"{kind}: lines, over 120 columns (no imports)",
-                     f"{len(lines)}, {sum(len(it) > 120 and not re.match(r'.*use ', it) for it in lines)}; imports {imports}"))
+        rows.append((f"{kind}: files, longest, lines, over 120 columns (no imports)",
+                     f"{len(texts)}, {max(it.count(chr(10)) for it in texts)}, {len(lines)}, {sum(len(it) > 120 and not re.match(r'.*use ', it) for it in lines)}; imports {imports}"))
     pages = sorted((root / "docs").glob("*.md"))
     by_hand = sum(len(it.read_text(encoding="utf-8").split()) for it in pages if not made(it))
-    texts = sum(len(it.read_text(encoding="utf-8").split()) for it in (root / "docs").glob("*.txt") if it.name != "minutes.txt")
+    made_of = sum(len(it.read_text(encoding="utf-8").split()) for it in (root / "docs").glob("*.txt") if it.name != "minutes.txt")
     rows.append(("pages: words by hand (and in what pages are made of), generated",
-                 f"{by_hand} ({texts}), {sum(len(it.read_text(encoding='utf-8').split()) for it in pages if made(it))}"))
+                 f"{by_hand} ({made_of}), {sum(len(it.read_text(encoding='utf-8').split()) for it in pages if made(it))}"))
     rows.append(("README: words, lines", f"{len((root / 'README.md').read_text(encoding='utf-8').split())}, "
                  f"{(root / 'README.md').read_text(encoding='utf-8').count(chr(10))}"))
     log = subprocess.run(["git", "-C", str(root), "log", "--no-merges", "--format=%b%x00", "-n", "60"], capture_output=True, text=True, check=False).stdout
