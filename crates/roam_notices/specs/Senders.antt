@@ -52,7 +52,8 @@ who_sends config (place.Out realm) from = who_at_link config.peers (link_in conf
 who_sends config (place.Reverse realm) from = home_if (home_in config realm from.ip)
 
 -- ## Sender of what was refused
--- At `auth` and `acct` the peer of its address; at a realm's `out` the home server or the peer whose link its endpoint is; at
+-- At `auth` and `acct` the peer of its address; at a realm's `out` the home server or the peer whose link its
+-- endpoint is; at
 -- `reverse` a home server of its address; else nobody that is known.
 -- Source: ours
 -- Rules out: the name of another peer than the source's

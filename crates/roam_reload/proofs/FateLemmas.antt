@@ -37,8 +37,10 @@ other_part a b RestAfter d = λ e. d (ap (λ (x : RealmView). x.rest_after) e)
 other_part a b Servers d = λ e. d (ap (λ (x : RealmView). x.servers) e)
 
 -- both tables are there, and the same in this part
-pub carried : (old new : ConfigView) (r : ℕ) (before after : RealmView) → slice_get old.realms r ≡ Some before → slice_get new.realms r ≡ Some after
-    → r < length old.realms → realm_part after ≡ realm_part before → KeepsPeers old.peers new.peers → IsCarried old new r
+pub carried : (old new : ConfigView) (r : ℕ) (before after : RealmView) → slice_get old.realms r ≡ Some before →
+    slice_get new.realms r ≡ Some after
+    → r < length old.realms → realm_part after ≡ realm_part before → KeepsPeers old.peers new.peers →
+    IsCarried old new r
 carried old new r before after was is lt same peers = record {
   there = lt;
   table = ap (option_map realm_part) is ∙ ap (λ x. Some x) same ∙ sym (ap (option_map realm_part) was);

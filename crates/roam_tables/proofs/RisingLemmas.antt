@@ -250,14 +250,16 @@ module _ {X : Type 0} (cmp : X → X → Ordering) (total : IsTotalOrder cmp) wh
       later ys up.1 j k d e (omega arith) (omega arith)
 
   -- what comes after the last one comes after all
-  pub gap_behind : (xs : List X) (x last : X) (n : ℕ) → Rises cmp xs → 0 < n → n ≡ length xs → last ≡ get_or xs (n - 1) last → cmp last x ≡ Less → IsGap cmp xs x n
+  pub gap_behind : (xs : List X) (x last : X) (n : ℕ) → Rises cmp xs → 0 < n → n ≡ length xs →
+      last ≡ get_or xs (n - 1) last → cmp last x ≡ Less → IsGap cmp xs x n
   gap_behind xs x last n up some len at less = record {
     within = omega (arith, len);
     low = λ k d lt. elim (cases_lt k (n - 1)) as (λ _. cmp (get_or xs k d) x ≡ Less) [
       | inl before ↦ (let lower = later xs up k (n - 1) d last before (omega (arith, len, some)) in
           total.trans (get_or xs k d) last x (subst (λ z. cmp (get_or xs k d) z ≡ Less) (sym at) lower) less)
       | inr ge ↦ (let same : k ≡ n - 1 = omega (arith, ge, lt) in
-          let is : get_or xs k d ≡ last = any_default xs k d last (omega (arith, len, lt)) ∙ ap (λ (m : ℕ). get_or xs m last) same ∙ sym at in
+          let is : get_or xs k d ≡ last = any_default xs k d last (omega (arith, len, lt))
+          ∙ ap (λ (m : ℕ). get_or xs m last) same ∙ sym at in
           subst (λ z. cmp z x ≡ Less) (sym is) less)
     ];
     high = λ k d ge lt. absurd (omega (arith, ge, lt, len));

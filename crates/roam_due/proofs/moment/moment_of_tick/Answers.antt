@@ -18,7 +18,8 @@ returns-then-is_due g c =
       portion = inr (inr (
         refl,
         λ none. absurd (
-            let quiet = subst (λ (m : ℕ). NothingDue m c.args.shard.now.states) (sym c.saturating_sub-quiet.ensures) none in
+            let quiet = subst (λ (m : ℕ). NothingDue m c.args.shard.now.states) (sym c.saturating_sub-quiet.ensures)
+            none in
             let no = c.is_due.ensures.1 quiet in cc),
       ));
     }

@@ -7,12 +7,14 @@ use Rattle.roam_shard.proofs.few_due.own_few.Goals as goal
 
 pub returns-then-is_none-clause-few : goal.returns-then-is_none-clause-few
 returns-then-is_none-clause-few g c = λ o.
-    none_of_others o c.args.now c.args.realm (entries_in c.args.entries.now c.args.realm) c.args.own.now (c.is_none.ensures ∙ ap not c.if-is_none.true)
+    none_of_others o c.args.now c.args.realm (entries_in c.args.entries.now c.args.realm) c.args.own.now
+    (c.is_none.ensures ∙ ap not c.if-is_none.true)
 
 pub returns-clause-few : goal.returns-clause-few
 returns-clause-few g c = λ o.
     IfSome_then c.few_of.result c.few_of.ensures.few
-    (λ n is. is ∙ own_count o c.args.now c.args.realm (entries_in c.args.entries.now c.args.realm) c.args.own.now (c.is_none.ensures ∙ ap not c.if-is_none.false))
+    (λ n is. is ∙ own_count o c.args.now c.args.realm (entries_in c.args.entries.now c.args.realm) c.args.own.now
+    (c.is_none.ensures ∙ ap not c.if-is_none.false))
 
 pub returns-clause-own : goal.returns-clause-own
 returns-clause-own g c =
