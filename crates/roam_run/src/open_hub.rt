@@ -16,7 +16,7 @@ use crate::asked::attending::Attendant;
 use crate::audit::close_and_audit;
 use crate::change::configured::Configured;
 use crate::change::source::Source;
-use crate::opening::{HubRoom, OpenHub};
+use crate::opening::{HubRoom, OpenHub, ThreadRoom};
 use crate::parts::{HubEnd, Left, Means, Served, ServerParts, Unserved, counters_of};
 use crate::start::{ResultRoom, RunResult, run_threads};
 use log::Log;
@@ -127,6 +127,49 @@ fn run<
     }
 }
 
+/// What a hub's threads gave back, and how its time ended.
+#[derive(Drop)]
+struct RunEnd<N: Opened> {
+    end: HubEnd,
+    ended: Ended<N>,
+}
+
+/// The threads of one configuration, until they gave back what they had.
+///
+/// # Errors
+///
+/// `Receive`, where a socket was given up.
+fn run_to_end<
+    'c,
+    N: Opened + Send + Sync,
+    R: Threads + Wait + Clock + Net + RandomSource + Log + Sync,
+    G: Gate + Sync,
+    S: Source,
+>(
+    parts: &mut ServerParts<'_, R, G, S>,
+    configured: &'c Configured,
+    hub: &Hub<'c, Global, N>,
+    seat: Seat<Global, N>,
+    room: ThreadRoom<N>,
+    means: Means,
+) -> Result<RunEnd<N>, ServeFault>
+    requires { shown configured.now.config ≡ N.opening.config }
+    ensures may { IfOk result (λ run. MayGoOn N.opening.config run.end) }
+    ensures err { IfErr result IsAfterBinding }
+{
+    let ThreadRoom {
+        results,
+        seats,
+        outboxes,
+    } = room;
+    let RunResult { ends, end } = run(parts, configured, hub, seat, results, means);
+    let ended = gather(ends, seats, outboxes)?;
+    if ended.has_given_up {
+        return Err(ServeFault::Receive);
+    }
+    Ok(RunEnd { end, ended })
+}
+
 /// A hub that is open, until it is closed and audited.
 ///
 /// # Errors
@@ -150,23 +193,18 @@ fn run_hub<
     ensures may { IfOk result (λ left. MayGoOn N.opening.config left.end) }
     ensures err { IfErr result IsAfterBinding }
 {
-    let OpenHub { hub, seat, room } = open;
-    let HubRoom {
-        pause,
-        threads,
-        seats,
-        outboxes,
-    } = room;
-    let RunResult { ends, end } = run(parts, configured, &hub, seat, threads, means);
+    let OpenHub {
+        hub,
+        seat,
+        room: HubRoom { pause, threads },
+    } = open;
+    let RunEnd { end, ended } = run_to_end(parts, configured, &hub, seat, threads, means)?;
     let Ended {
-        has_given_up,
         seats,
         outboxes,
         rests,
-    } = gather(ends, seats, outboxes)?;
-    if has_given_up {
-        return Err(ServeFault::Receive);
-    }
+        ..
+    } = ended;
     let closed = close_and_audit(parts.rt, hub, pause, seats)?;
     Ok(Left {
         end,

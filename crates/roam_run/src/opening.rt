@@ -17,14 +17,33 @@ use roam_shard::Paused;
 use roam_sockets::ServeFault;
 use std::alloc::Global;
 
+/// The memory for what comes back of a hub's threads.
+#[derive(Drop)]
+pub struct ThreadRoom<N: Opened> {
+    pub results: ResultRoom<N>,
+    pub seats: Vec<Seat<Global, N>>,
+    pub outboxes: Vec<Outbox<Global>>,
+}
+
+impl<N: Opened> ThreadRoom<N> {
+    /// Room for so many threads.
+    fn new(alloc: Global, threads: usize) -> Result<ThreadRoom<N>, ServeFault>
+        ensures { IfErr result IsAfterBinding }
+    {
+        Ok(ThreadRoom {
+            results: ResultRoom::new(alloc, threads)?,
+            seats: Vec::with_capacity(alloc, threads)?,
+            outboxes: Vec::with_capacity(alloc, threads)?,
+        })
+    }
+}
+
 /// The memory for all that comes back of a hub and of its threads. It is taken before the hub opens, so that nothing is
 /// lost for want of it.
 #[derive(Drop)]
 pub struct HubRoom<'c, N: Opened> {
     pub pause: PauseRoom<'c, Global, N>,
-    pub threads: ResultRoom<N>,
-    pub seats: Vec<Seat<Global, N>>,
-    pub outboxes: Vec<Outbox<Global>>,
+    pub threads: ThreadRoom<N>,
 }
 
 impl<'c, N: Opened> HubRoom<'c, N> {
@@ -35,10 +54,8 @@ impl<'c, N: Opened> HubRoom<'c, N> {
     {
         let threads = usize::from(config.shards) + 1;
         Ok(HubRoom {
+            threads: ThreadRoom::new(alloc, threads)?,
             pause: PauseRoom::new(alloc, config)?,
-            threads: ResultRoom::new(alloc, threads)?,
-            seats: Vec::with_capacity(alloc, threads)?,
-            outboxes: Vec::with_capacity(alloc, threads)?,
         })
     }
 }
