@@ -198,20 +198,25 @@ fn run_hub<
         seat,
         room: HubRoom { pause, threads },
     } = open;
-    let RunEnd { end, ended } = run_to_end(parts, configured, &hub, seat, threads, means)?;
+    let RunEnd { end, ended } = match run_to_end(parts, configured, &hub, seat, threads, means) {
+        Ok(run) => run,
+        Err(fault) => return Err(fault),
+    };
     let Ended {
         seats,
         outboxes,
         rests,
         ..
     } = ended;
-    let closed = close_and_audit(parts.rt, hub, pause, seats)?;
-    Ok(Left {
-        end,
-        outboxes,
-        rests,
-        closed,
-    })
+    match close_and_audit(parts.rt, hub, pause, seats) {
+        Ok(closed) => Ok(Left {
+            end,
+            outboxes,
+            rests,
+            closed,
+        }),
+        Err(fault) => Err(fault),
+    }
 }
 
 /// Serves the first configuration, whose realms begin, until its hub is closed.
@@ -235,9 +240,13 @@ pub fn serve_first<
     ensures may { IfOk result (λ served. MayGoOn N.opening.config served.end) }
     ensures err { IfErr result IsAfterBinding }
 {
-    let open = OpenHub::<'_, N>::first(parts.alloc, &configured.config, starts, blanks)?;
-    let left = run_hub(parts, configured, open, means)?;
-    Ok(left.served())
+    match OpenHub::<'_, N>::first(parts.alloc, &configured.config, starts, blanks) {
+        Ok(open) => match run_hub(parts, configured, open, means) {
+            Ok(left) => Ok(left.served()),
+            Err(fault) => Err(fault),
+        },
+        Err(fault) => Err(fault),
+    }
 }
 
 /// Serves a configuration over shards that stand under it, until its hub is closed.

@@ -128,15 +128,13 @@ fn make_next<R: Net + Log, G, N: Opened>(
     let alloc = shared.alloc;
     let configured = bind_next(rt, shared, sockets, config, told_exchanges)?;
     let wanted = descriptors_wanted(shared.config, &configured.config);
+    let spare = spare_for(configured.config.shards, configured.sockets.len());
+    let spare = Vec::with_capacity(alloc, spare)?;
     let FreshMeans {
         kits,
         rests,
         blanks,
     } = FreshMeans::new(rt, alloc, &configured, wanted)?;
-    let spare = Vec::with_capacity(
-        alloc,
-        spare_for(configured.config.shards, configured.sockets.len()),
-    )?;
     Ok(Next {
         configured,
         report,
