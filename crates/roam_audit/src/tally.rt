@@ -1,7 +1,7 @@
 //! What one caller counts of one shard.
 
 /// What one caller counts of its recorded calls in one shard.
-#[derive(Clone, Copy, Debug, PartialEq, Eq)]
+#[derive(Clone, Copy, PartialEq, Eq)]
 pub struct Tally {
     /// How many there were. At 2^64 - 1 it stays.
     pub calls: u64,

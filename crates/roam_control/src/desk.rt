@@ -1,8 +1,6 @@
 //! A desk: where a thread that answers over HTTP asks the server's own thread for something, and waits for what that
 //! answers.
 
-ghost use Rattle.std.specs.Prelude.{◌≡◌};
-
 use crate::missing::{Handed, Missing};
 use crate::reloads::{Build, Tally};
 use roam_metrics::{About, StatusForm};
@@ -28,7 +26,7 @@ pub enum Order {
 }
 
 /// How it went.
-#[derive(Clone, Copy, Debug, PartialEq, Eq)]
+#[derive(Clone, Copy, PartialEq, Eq)]
 pub enum Course {
     /// It was done.
     Done,

@@ -5,14 +5,15 @@
 //!
 //! # Proved
 //!
-//! - the time that a server has which is asked to stop is 30 seconds at most; the end is the earlier one; which
-//!   datagrams it drops then, by their code | `grace`, `earlier`, `is_request`
+//! - the time that a server has which is asked to stop is 30 seconds at most; the end is the earlier one | `grace`,
+//!   `earlier`
 #![tactic(auto)]
 
 mod asker;
 mod connections;
 mod desk;
 mod missing;
+mod open_connection;
 mod pause;
 mod reloads;
 mod script;

@@ -6,7 +6,7 @@ use roam_metrics::Reloads;
 use std::sync::atomic::{AtomicU64, Ordering};
 
 /// Which program serves. It is a word, and no text: what outlasts a server's threads names no lifetime.
-#[derive(Clone, Copy, Debug, PartialEq, Eq)]
+#[derive(Clone, Copy, PartialEq, Eq)]
 pub enum Build {
     /// The program `roam`.
     Roam,

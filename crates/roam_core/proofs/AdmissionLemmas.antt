@@ -32,11 +32,13 @@ rejected_so : (out : PlainOut) → out.realm ≡ None → RejectsForNone (reject
 unfolding RejectsForNone
 rejected_so out is = is
 
-checked_so : (holds : Bool) (why : Refusal) (further : Admission) → RejectsForNone further → RejectsForNone (checked holds why further)
+checked_so : (holds : Bool) (why : Refusal) (further : Admission) → RejectsForNone further →
+    RejectsForNone (checked holds why further)
 checked_so true why further h = h
 checked_so false why further h = refused_so why
 
-forwarded_so : (a : Arrival) (s : Side) (p : Packet) (realm : ℕ) (names : Option ℕ) → RejectsForNone (forwarded_for a s p realm names)
+forwarded_so : (a : Arrival) (s : Side) (p : Packet) (realm : ℕ) (names : Option ℕ) →
+    RejectsForNone (forwarded_for a s p realm names)
 forwarded_so a s p realm names = checked_so _ refusal.TooLong (job_of a s p realm names) (admitted_so _)
 
 named_so : (a : Arrival) (s : Side) (p : Packet) (realm : Option ℕ) → RejectsForNone (for_named_realm a s p realm)
@@ -46,11 +48,13 @@ named_so a s p (Some realm) = forwarded_so a s p realm (Some realm)
 reject_so : (secret : List ℕ) (a : Arrival) (p : Packet) → RejectsForNone (rejected_for secret a p)
 reject_so secret a p = checked_so _ refusal.TooLong _ (rejected_so _ refl)
 
-either_so : (test : Bool) (one other : Admission) → RejectsForNone one → RejectsForNone other → RejectsForNone (if test then one else other)
+either_so : (test : Bool) (one other : Admission) → RejectsForNone one → RejectsForNone other →
+    RejectsForNone (if test then one else other)
 either_so true one other this that = this
 either_so false one other this that = that
 
-routed_so : (config : ConfigView) (secret : List ℕ) (a : Arrival) (s : Side) (p : Packet) (at : Place) → RejectsForNone (route_request config secret a s p at)
+routed_so : (config : ConfigView) (secret : List ℕ) (a : Arrival) (s : Side) (p : Packet) (at : Place) →
+    RejectsForNone (route_request config secret a s p at)
 routed_so config secret a s p (place.Reverse realm) = forwarded_so a s p realm (realm_of config p.attributes)
 routed_so config secret a s p place.Auth =
     either_so (is_rejected config p) (rejected_for secret a p) (for_named_realm a s p (realm_of config p.attributes))
@@ -58,7 +62,8 @@ routed_so config secret a s p place.Auth =
 routed_so config secret a s p place.Acct = named_so a s p (realm_of config p.attributes)
 routed_so config secret a s p (place.Out realm) = named_so a s p (realm_of config p.attributes)
 
-request_so : (config : ConfigView) (secret : List ℕ) (a : Arrival) (s : Side) (p : Packet) → RejectsForNone (request_admission config secret a s p)
+request_so : (config : ConfigView) (secret : List ℕ) (a : Arrival) (s : Side) (p : Packet) →
+    RejectsForNone (request_admission config secret a s p)
 request_so config secret a s p =
     checked_so (is_rightly_signed secret p) refusal.BadAuthenticator _
     (checked_so (is_rightly_sealed secret p) refusal.BadMessageAuthenticator _
@@ -66,12 +71,14 @@ request_so config secret a s p =
     (checked_so (has_few_hops config.max_hops p) refusal.TooManyHops (route_request config secret a s p a.at)
     (routed_so config secret a s p a.at))))
 
-packet_so : (config : ConfigView) (a : Arrival) (s : Side) (p : Packet) (at : Place) → RejectsForNone (packet_admission config a s p at)
+packet_so : (config : ConfigView) (a : Arrival) (s : Side) (p : Packet) (at : Place) →
+    RejectsForNone (packet_admission config a s p at)
 packet_so config a s p (place.Out realm) = admitted_so _
 packet_so config a (side.Peer i) p place.Auth = request_so config (peer_secret config i) a (side.Peer i) p
 packet_so config a (side.Peer i) p place.Acct = request_so config (peer_secret config i) a (side.Peer i) p
 packet_so config a (side.Peer i) p (place.Reverse realm) = request_so config (peer_secret config i) a (side.Peer i) p
-packet_so config a (side.Home i) p (place.Reverse realm) = request_so config (home_secret config realm i) a (side.Home i) p
+packet_so config a (side.Home i) p (place.Reverse realm) =
+    request_so config (home_secret config realm i) a (side.Home i) p
 packet_so config a (side.Home i) p place.Auth = refused_so refusal.WrongCode
 packet_so config a (side.Home i) p place.Acct = refused_so refusal.WrongCode
 packet_so config a (side.Link l) p place.Auth = refused_so refusal.WrongCode
@@ -88,11 +95,13 @@ status_from_so config a (side.Peer i) p = status_so (peer_secret config i) a p
 status_from_so config a (side.Home i) p = refused_so refusal.WrongCode
 status_from_so config a (side.Link l) p = refused_so refusal.WrongCode
 
-sent_so : (config : ConfigView) (a : Arrival) (p : Packet) (s : Option Side) → RejectsForNone (sent_admission config a p s)
+sent_so : (config : ConfigView) (a : Arrival) (p : Packet) (s : Option Side) →
+    RejectsForNone (sent_admission config a p s)
 sent_so config a p None = refused_so refusal.UnknownSource
 sent_so config a p (Some s) =
     either_so (is_status_request config a.at s p.code) (status_from config a s p) _ (status_from_so config a s p)
-    (checked_so (is_taken a.at s p.code) refusal.WrongCode (packet_admission config a s p a.at) (packet_so config a s p a.at))
+    (checked_so (is_taken a.at s p.code) refusal.WrongCode (packet_admission config a s p a.at)
+    (packet_so config a s p a.at))
 
 read_so : (config : ConfigView) (a : Arrival) (r : Result Packet Refusal) → RejectsForNone (read_admission config a r)
 read_so config a (Err why) = refused_so why

@@ -7,7 +7,7 @@ use Rattle.roam_route.specs.Admission.{Arrival, PlainOut, Admission, refused, re
 use Rattle.roam_book.specs.RealmConfig.{realm_config}
 use Rattle.roam_book.specs.RealmState.{RealmState}
 use Rattle.roam_book.specs.OneRealm.{one_realm_run}
-use Rattle.roam_core.specs.Alone.{OneRealmIsAlone, alone}
+use Rattle.roam_core.specs.Alone.{OneRealmIsAlone}
 use Rattle.roam_core.specs.Events.{PlainEvent, arrives, ticks, given_by, given_to_realm, reject_of, rejects_by}
 use Rattle.roam_core.specs.Isolation.{HasRealm, IsRealmBelow, is_none, is_realm, packets_for, packets_for_none}
 use Rattle.roam_core.specs.ManyRealms.{packets_in_turn, states_after, state_at, to_arrival, answer_to, answers_to}
@@ -51,7 +51,8 @@ module _ (config : ConfigView) (s : RealmState) (some : 1 ≤ config.shards) (on
       ∙ ap (λ (l : List PlainOut). l ++ own-packets e) (sym none)
 
   of-admission : (now : ℕ) (a : Arrival) (how : Admission) → admission config a ≡ how
-      → packets_in_turn (answer_to config (s ∷ []) (arrives now a)) ≡ rejects_by config (arrives now a) ++ own-packets (arrives now a)
+      → packets_in_turn (answer_to config (s ∷ []) (arrives now a)) ≡ rejects_by config (arrives now a)
+      ++ own-packets (arrives now a)
   of-admission now a (refused why) is = without-reject (arrives now a) (ap reject_of is)
   of-admission now a (rejected out) is =
       subst (λ (h : Admission). packets_in_turn (to_arrival config (s ∷ []) now h)
@@ -59,7 +60,8 @@ module _ (config : ConfigView) (s : RealmState) (some : 1 ≤ config.shards) (on
       (sym is) refl
   of-admission now a (admitted job) is = without-reject (arrives now a) (ap reject_of is)
 
-  event-packets : (e : PlainEvent) → packets_in_turn (answer_to config (s ∷ []) e) ≡ rejects_by config e ++ own-packets e
+  event-packets : (e : PlainEvent) →
+      packets_in_turn (answer_to config (s ∷ []) e) ≡ rejects_by config e ++ own-packets e
   event-packets (arrives now a) = of-admission now a (admission config a) refl
   event-packets (ticks now shard) = without-reject (ticks now shard) refl
 
@@ -70,7 +72,8 @@ just (s ∷ []) is = refl
 just (s ∷ t ∷ ss) is = absurd (omega (arith, is))
 
 event-state : (config : ConfigView) (s : RealmState) (e : PlainEvent) → 1 ≤ config.shards
-    → states_after (s ∷ []) (answer_to config (s ∷ []) e) ≡ (one_realm_run (realm_config config 0) s (given_to_realm config 0 e)).state ∷ []
+    → states_after (s ∷ []) (answer_to config (s ∷ []) e)
+    ≡ (one_realm_run (realm_config config 0) s (given_to_realm config 0 e)).state ∷ []
 event-state config s e some =
     let next = states_after (s ∷ []) (answer_to config (s ∷ []) e) in
     just next (event-length config (s ∷ []) e)

@@ -50,14 +50,16 @@ module _ (c : RealmConfig) (ends : Ends) (looked : ℕ → Bool) (tries : 1 ≤ 
   abbrev pub follow : List PlainEntry → ℕ
   follow es = sum_over weight es
 
-  pub to-link : (l : Link) (octets : List ℕ) → counted ends (packet_to_link c l octets ∷ []) ≡ counted_links c ends (l ∷ [])
+  pub to-link : (l : Link) (octets : List ℕ) →
+      counted ends (packet_to_link c l octets ∷ []) ≡ counted_links c ends (l ∷ [])
   to-link l octets =
       elim (cases_Bool (is_counted c ends l)) [
         | inl y ↦ rw y refl
         | inr n ↦ rw n refl
       ]
 
-  pub back : (key : Key) (octets : List ℕ) → counted ends (packet_to_requester c key octets ∷ []) ≡ counted_back ends key
+  pub back : (key : Key) (octets : List ℕ) →
+      counted ends (packet_to_requester c key octets ∷ []) ≡ counted_back ends key
   back key octets =
       elim (cases_Bool (ends key.place key.from)) [
         | inl y ↦ rw y refl
@@ -155,7 +157,8 @@ module _ (c : RealmConfig) (ends : Ends) (looked : ℕ → Bool) (tries : 1 ≤ 
       elim (cases_Bool (ltb 0 sends_left)) [
         | inl y ↦
             let some : 1 ≤ sends_left = grind (arith, nat_tests, y) in
-            let step = again-follows e.request.key l id forwarded sends_left deadline (now + c.realm.wait) e.standing is some in
+            let step = again-follows e.request.key l id forwarded sends_left deadline (now + c.realm.wait) e.standing
+            is some in
             let split = both b (counted ends (packet_to_link c l forwarded ∷ []))
             (may_follow c ends e.request.key (waits_on (now + c.realm.wait) e.standing)) might step in
             rw y (omega (arith, split, replaced))

@@ -33,7 +33,8 @@ use Rattle.roam_core.proofs.AmplificationLemmas.{dues-spend, sent_for_dues}
 abbrev all : ℕ → Bool
 all ticket = true
 
-all-sent : (c : RealmConfig) (ends : Ends) (tries : 1 ≤ c.realm.tries) (now : ℕ) (s : RealmState) (dues : List Due) → sent_for_dues c ends all tries now s dues ≡ counted ends (due_each c now s dues).packets
+all-sent : (c : RealmConfig) (ends : Ends) (tries : 1 ≤ c.realm.tries) (now : ℕ) (s : RealmState) (dues : List Due) →
+    sent_for_dues c ends all tries now s dues ≡ counted ends (due_each c now s dues).packets
 all-sent c ends tries now s [] = refl
 all-sent c ends tries now s (d ∷ ds) =
     let one = due_one c now s d in
@@ -47,7 +48,9 @@ Within c ends s more turn =
     counted ends (packets_of turn) + may_still_follow c ends (state_after s turn).entries
     ≤ may_still_follow c ends s.entries + more
 
-found-within : (c : RealmConfig) (ends : Ends) (tries : 1 ≤ c.realm.tries) (now : ℕ) (s : RealmState) (l : Link) (octets : List ℕ) (found : Option PlainEntry) → find_link l (packet_of octets).id s.entries ≡ found → Within c ends s 0 (in_time now (to_entry c now s (packet_of octets) found))
+found-within : (c : RealmConfig) (ends : Ends) (tries : 1 ≤ c.realm.tries) (now : ℕ) (s : RealmState) (l : Link)
+    (octets : List ℕ) (found : Option PlainEntry) → find_link l (packet_of octets).id s.entries ≡ found →
+    Within c ends s 0 (in_time now (to_entry c now s (packet_of octets) found))
 found-within c ends tries now s l octets None is =
     either (Within c ends s 0) (ltb (2 ^ 62) now) _ _ (omega arith) (omega arith)
 found-within c ends tries now s l octets (Some e) is =
@@ -59,7 +62,8 @@ found-within c ends tries now s l octets (Some e) is =
     = rw is at whole in
     omega (arith, here)
 
-event-within : (c : RealmConfig) (ends : Ends) (tries : 1 ≤ c.realm.tries) (s : RealmState) (e : RealmEvent) → Within c ends s (caused_by c ends e) (on_event c s e)
+event-within : (c : RealmConfig) (ends : Ends) (tries : 1 ≤ c.realm.tries) (s : RealmState) (e : RealmEvent) →
+    Within c ends s (caused_by c ends e) (on_event c s e)
 event-within c ends tries s (request_came now named q) = (request-pays c ends all tries now s named q).all
 event-within c ends tries s (reply_came now l octets) =
     found-within c ends tries now s l octets (find_link l (packet_of octets).id s.entries) refl
@@ -89,11 +93,13 @@ no_amplification-from_start c ends start events tries =
 
 -- Where no link is looked at, the requests count alone
 
-none-toward : (c : RealmConfig) (ends : Ends) (links : List Link) → ((to : Endpoint) → ends (place.Out c.index) to ≡ false) → counted_links c ends links ≡ 0
+none-toward : (c : RealmConfig) (ends : Ends) (links : List Link) →
+    ((to : Endpoint) → ends (place.Out c.index) to ≡ false) → counted_links c ends links ≡ 0
 none-toward c ends [] h = refl
 none-toward c ends (l ∷ ls) h = rw (h (link_endpoint c l)) (none-toward c ends ls h)
 
-only-back : (c : RealmConfig) (ends : Ends) (events : List RealmEvent) → ((to : Endpoint) → ends (place.Out c.index) to ≡ false) → may_be_caused c ends events ≤ requests_from ends events
+only-back : (c : RealmConfig) (ends : Ends) (events : List RealmEvent) →
+    ((to : Endpoint) → ends (place.Out c.index) to ≡ false) → may_be_caused c ends events ≤ requests_from ends events
 only-back c ends [] h = omega arith
 only-back c ends (request_came now named q ∷ es) h =
     let none = ap (λ (n : ℕ). c.realm.tries * n) (none-toward c ends (targets c q) h) in
@@ -112,17 +118,20 @@ no_more_answers c ends start events tries h =
 abbrev Few : Turn → Type 0
 Few turn = length (packets_of turn) ≤ 1
 
-make_way-few : (c : RealmConfig) (now : ℕ) (s : RealmState) (es : List PlainEntry) (q : PlainRequest) (target : Target) (way : Option ℕ) → Few (make_way c now s es q target way)
+make_way-few : (c : RealmConfig) (now : ℕ) (s : RealmState) (es : List PlainEntry) (q : PlainRequest)
+    (target : Target) (way : Option ℕ) → Few (make_way c now s es q target way)
 make_way-few c now s es q target None = omega arith
 make_way-few c now s es q target (Some ticket) = omega arith
 
-at_target-few : (c : RealmConfig) (now : ℕ) (s : RealmState) (es : List PlainEntry) (q : PlainRequest) (target : Option Target) → Few (at_target c now s es q target)
+at_target-few : (c : RealmConfig) (now : ℕ) (s : RealmState) (es : List PlainEntry) (q : PlainRequest)
+    (target : Option Target) → Few (at_target c now s es q target)
 at_target-few c now s es q None = omega arith
 at_target-few c now s es q (Some target) =
     either Few (ltb (length es) c.realm.max_pending) _ _ (omega arith)
     (make_way-few c now s es q target (first_done es))
 
-nak_or_new-few : (c : RealmConfig) (now : ℕ) (s : RealmState) (q : PlainRequest) (why : Option ℕ) → Few (nak_or_new c now s q why)
+nak_or_new-few : (c : RealmConfig) (now : ℕ) (s : RealmState) (q : PlainRequest) (why : Option ℕ) →
+    Few (nak_or_new c now s q why)
 nak_or_new-few c now s q None =
     let others = without_client q.key s.entries in
     either Few (eqb s.ticket (2 ^ 63)) _ _ (omega arith)
@@ -133,25 +142,29 @@ held-few : (c : RealmConfig) (q : PlainRequest) (standing : PlainStanding) → l
 held-few c q (waiting l id forwarded sends_left deadline) = omega arith
 held-few c q (done reply deadline) = omega arith
 
-of_key-few : (c : RealmConfig) (now : ℕ) (s : RealmState) (named : Option ℕ) (q : PlainRequest) (found : Option PlainEntry) → Few (of_key c now s named q found)
+of_key-few : (c : RealmConfig) (now : ℕ) (s : RealmState) (named : Option ℕ) (q : PlainRequest)
+    (found : Option PlainEntry) → Few (of_key c now s named q found)
 of_key-few c now s named q None = nak_or_new-few c now s q (reverse_cause c s named q)
 of_key-few c now s named q (Some e) =
     either Few (pointwise nat_eq e.request.octets q.octets) _ _ (held-few c q e.standing)
     (nak_or_new-few c now s q (reverse_cause c s named q))
 
-judge-few : (c : RealmConfig) (now : ℕ) (s : RealmState) (e : PlainEntry) (l : Link) (forwarded reply : Packet) (why : Option Refusal) → Few (judge c now s e l forwarded reply why)
+judge-few : (c : RealmConfig) (now : ℕ) (s : RealmState) (e : PlainEntry) (l : Link) (forwarded reply : Packet)
+    (why : Option Refusal) → Few (judge c now s e l forwarded reply why)
 judge-few c now s e l forwarded reply (Some why) = omega arith
 judge-few c now s e l forwarded reply None =
     either Few (ltb 4096 (returned_length (returning c e.request l forwarded) reply (packet_of e.request.octets))) _ _
     (omega arith) (omega arith)
 
-to_standing-few : (c : RealmConfig) (now : ℕ) (s : RealmState) (e : PlainEntry) (reply : Packet) (standing : PlainStanding) → Few (to_standing c now s e reply standing)
+to_standing-few : (c : RealmConfig) (now : ℕ) (s : RealmState) (e : PlainEntry) (reply : Packet)
+    (standing : PlainStanding) → Few (to_standing c now s e reply standing)
 to_standing-few c now s e reply (waiting l id forwarded sends_left deadline) =
     judge-few c now s e l (packet_of forwarded) reply
     (reply_fault (link_secret c l) (seal_required c l) reply (packet_of forwarded))
 to_standing-few c now s e reply (done old deadline) = omega arith
 
-to_entry-few : (c : RealmConfig) (now : ℕ) (s : RealmState) (reply : Packet) (found : Option PlainEntry) → Few (to_entry c now s reply found)
+to_entry-few : (c : RealmConfig) (now : ℕ) (s : RealmState) (reply : Packet) (found : Option PlainEntry) →
+    Few (to_entry c now s reply found)
 to_entry-few c now s reply None = omega arith
 to_entry-few c now s reply (Some e) = to_standing-few c now s e reply e.standing
 
@@ -160,22 +173,26 @@ to_entry-few c now s reply (Some e) = to_standing-few c now s e reply e.standing
 abbrev FewIn : Progress → Type 0
 FewIn p = length p.packets ≤ 1
 
-fail_over-few : (c : RealmConfig) (now : ℕ) (s : RealmState) (e : PlainEntry) (target : Option Target) → FewIn (fail_over c now s e target)
+fail_over-few : (c : RealmConfig) (now : ℕ) (s : RealmState) (e : PlainEntry) (target : Option Target) →
+    FewIn (fail_over c now s e target)
 fail_over-few c now s e None = either FewIn (is_reverse e.request) _ _ (omega arith) (omega arith)
 fail_over-few c now s e (Some target) = omega arith
 
-due_standing-few : (c : RealmConfig) (now : ℕ) (s : RealmState) (e : PlainEntry) (standing : PlainStanding) → FewIn (due_standing c now s e standing)
+due_standing-few : (c : RealmConfig) (now : ℕ) (s : RealmState) (e : PlainEntry) (standing : PlainStanding) →
+    FewIn (due_standing c now s e standing)
 due_standing-few c now s e (done reply deadline) = omega arith
 due_standing-few c now s e (waiting l id forwarded sends_left deadline) =
     either FewIn (ltb 0 sends_left) _ _ (omega arith)
     (fail_over-few c now (given_up_at c now l s e) e (chosen_target c now (after_silence c now s.rests l) s.cursors
     (without e.ticket s.entries) (later_targets c l)))
 
-due_entry-few : (c : RealmConfig) (now : ℕ) (s : RealmState) (found : Option PlainEntry) → FewIn (due_entry c now s found)
+due_entry-few : (c : RealmConfig) (now : ℕ) (s : RealmState) (found : Option PlainEntry) →
+    FewIn (due_entry c now s found)
 due_entry-few c now s None = omega arith
 due_entry-few c now s (Some e) = due_standing-few c now s e e.standing
 
-dues-few : (c : RealmConfig) (now : ℕ) (s : RealmState) (dues : List Due) → length (due_each c now s dues).packets ≤ length dues
+dues-few : (c : RealmConfig) (now : ℕ) (s : RealmState) (dues : List Due) →
+    length (due_each c now s dues).packets ≤ length dues
 dues-few c now s [] = omega arith
 dues-few c now s (d ∷ ds) =
     let one = due_one c now s d in

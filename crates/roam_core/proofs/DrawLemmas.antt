@@ -47,31 +47,37 @@ spent : (q : PlainRequest) (p : ℕ) → Moved p (position_after q p)
 spent q p = either (Moved p) (draws q) (next_position p) p (inr refl) (inl refl)
 
 -- a request draws once at most
-make_way-moves : (c : RealmConfig) (now : ℕ) (s : RealmState) (es : List PlainEntry) (q : PlainRequest) (target : Target) (way : Option ℕ) → Moves s (make_way c now s es q target way)
+make_way-moves : (c : RealmConfig) (now : ℕ) (s : RealmState) (es : List PlainEntry) (q : PlainRequest)
+    (target : Target) (way : Option ℕ) → Moves s (make_way c now s es q target way)
 make_way-moves c now s es q target None = stays s
 make_way-moves c now s es q target (Some ticket) = spent q s.stream_position
 
-at_target-moves : (c : RealmConfig) (now : ℕ) (s : RealmState) (es : List PlainEntry) (q : PlainRequest) (target : Option Target) → Moves s (at_target c now s es q target)
+at_target-moves : (c : RealmConfig) (now : ℕ) (s : RealmState) (es : List PlainEntry) (q : PlainRequest)
+    (target : Option Target) → Moves s (at_target c now s es q target)
 at_target-moves c now s es q None = stays s
 at_target-moves c now s es q (Some target) =
     either (Moves s) (ltb (length es) c.realm.max_pending) _ _ (spent q s.stream_position)
     (make_way-moves c now s es q target (first_done es))
 
-new_request-moves : (c : RealmConfig) (now : ℕ) (s : RealmState) (es : List PlainEntry) (q : PlainRequest) → Moves s (new_request c now s es q)
+new_request-moves : (c : RealmConfig) (now : ℕ) (s : RealmState) (es : List PlainEntry) (q : PlainRequest) →
+    Moves s (new_request c now s es q)
 new_request-moves c now s es q =
     either (Moves s) (eqb s.ticket (2 ^ 63)) _ _ (stays s) (at_target-moves c now s es q _)
 
-nak_or_new-moves : (c : RealmConfig) (now : ℕ) (s : RealmState) (q : PlainRequest) (why : Option ℕ) → Moves s (nak_or_new c now s q why)
+nak_or_new-moves : (c : RealmConfig) (now : ℕ) (s : RealmState) (q : PlainRequest) (why : Option ℕ) →
+    Moves s (nak_or_new c now s q why)
 nak_or_new-moves c now s q None = new_request-moves c now s (without_client q.key s.entries) q
 nak_or_new-moves c now s q (Some why) = stays s
 
-of_key-moves : (c : RealmConfig) (now : ℕ) (s : RealmState) (named : Option ℕ) (q : PlainRequest) (found : Option PlainEntry) → Moves s (of_key c now s named q found)
+of_key-moves : (c : RealmConfig) (now : ℕ) (s : RealmState) (named : Option ℕ) (q : PlainRequest)
+    (found : Option PlainEntry) → Moves s (of_key c now s named q found)
 of_key-moves c now s named q None = nak_or_new-moves c now s q (reverse_cause c s named q)
 of_key-moves c now s named q (Some e) =
     either (Moves s) (pointwise nat_eq e.request.octets q.octets) _ _ (stays s)
     (nak_or_new-moves c now s q (reverse_cause c s named q))
 
-request-moves : (c : RealmConfig) (s : RealmState) (now : ℕ) (named : Option ℕ) (q : PlainRequest) → Moves s (on_event c s (request_came now named q))
+request-moves : (c : RealmConfig) (s : RealmState) (now : ℕ) (named : Option ℕ) (q : PlainRequest) →
+    Moves s (on_event c s (request_came now named q))
 request-moves c s now named q =
     either (Moves s) (ltb (2 ^ 62) now) _ _ (stays s) (of_key-moves c now s named q (find_client q.key s.entries))
 
@@ -79,22 +85,27 @@ request-moves c s now named q =
 abbrev Rests : RealmState → Turn → Type 0
 Rests old turn = (state_after old turn).stream_position ≡ old.stream_position
 
-judge-rests : (c : RealmConfig) (now : ℕ) (s : RealmState) (e : PlainEntry) (l : Link) (forwarded reply : Packet) (why : Option Refusal) → Rests s (judge c now s e l forwarded reply why)
+judge-rests : (c : RealmConfig) (now : ℕ) (s : RealmState) (e : PlainEntry) (l : Link) (forwarded reply : Packet)
+    (why : Option Refusal) → Rests s (judge c now s e l forwarded reply why)
 judge-rests c now s e l forwarded reply (Some why) = refl
 judge-rests c now s e l forwarded reply None =
-    either (Rests s) (ltb 4096 (returned_length (returning c e.request l forwarded) reply (packet_of e.request.octets))) _ _
+    either (Rests s) (ltb 4096 (returned_length (returning c e.request l forwarded) reply
+    (packet_of e.request.octets))) _ _
     refl refl
 
-to_standing-rests : (c : RealmConfig) (now : ℕ) (s : RealmState) (e : PlainEntry) (reply : Packet) (standing : PlainStanding) → Rests s (to_standing c now s e reply standing)
+to_standing-rests : (c : RealmConfig) (now : ℕ) (s : RealmState) (e : PlainEntry) (reply : Packet)
+    (standing : PlainStanding) → Rests s (to_standing c now s e reply standing)
 to_standing-rests c now s e reply (waiting l id forwarded sends_left deadline) =
     judge-rests c now s e l (packet_of forwarded) reply _
 to_standing-rests c now s e reply (done old deadline) = refl
 
-to_entry-rests : (c : RealmConfig) (now : ℕ) (s : RealmState) (reply : Packet) (found : Option PlainEntry) → Rests s (to_entry c now s reply found)
+to_entry-rests : (c : RealmConfig) (now : ℕ) (s : RealmState) (reply : Packet) (found : Option PlainEntry) →
+    Rests s (to_entry c now s reply found)
 to_entry-rests c now s reply None = refl
 to_entry-rests c now s reply (Some e) = to_standing-rests c now s e reply e.standing
 
-reply-rests : (c : RealmConfig) (s : RealmState) (now : ℕ) (l : Link) (octets : List ℕ) → Rests s (on_event c s (reply_came now l octets))
+reply-rests : (c : RealmConfig) (s : RealmState) (now : ℕ) (l : Link) (octets : List ℕ) →
+    Rests s (on_event c s (reply_came now l octets))
 reply-rests c s now l octets =
     either (Rests s) (ltb (2 ^ 62) now) _ _ refl
     (to_entry-rests c now s (packet_of octets) (find_link l (packet_of octets).id s.entries))
@@ -103,21 +114,25 @@ reply-rests c s now l octets =
 abbrev Goes : RealmState → Progress → Type 0
 Goes old p = Moved old.stream_position p.state.stream_position
 
-once_refused-stays : (c : RealmConfig) (now : ℕ) (s : RealmState) (e : PlainEntry) (octets : List ℕ) → Moved s.stream_position (once_refused c now s e octets).stream_position
+once_refused-stays : (c : RealmConfig) (now : ℕ) (s : RealmState) (e : PlainEntry) (octets : List ℕ) →
+    Moved s.stream_position (once_refused c now s e octets).stream_position
 once_refused-stays c now s e octets =
     either (λ (t : RealmState). Moved s.stream_position t.stream_position) (ltb 0 c.realm.hold) _ _ (stays s) (stays s)
 
-fail_over-goes : (c : RealmConfig) (now : ℕ) (s : RealmState) (e : PlainEntry) (target : Option Target) → Goes s (fail_over c now s e target)
+fail_over-goes : (c : RealmConfig) (now : ℕ) (s : RealmState) (e : PlainEntry) (target : Option Target) →
+    Goes s (fail_over c now s e target)
 fail_over-goes c now s e None =
     either (Goes s) (is_reverse e.request) _ _ (once_refused-stays c now s e _) (stays s)
 fail_over-goes c now s e (Some target) = spent e.request s.stream_position
 
-due_standing-goes : (c : RealmConfig) (now : ℕ) (s : RealmState) (e : PlainEntry) (standing : PlainStanding) → Goes s (due_standing c now s e standing)
+due_standing-goes : (c : RealmConfig) (now : ℕ) (s : RealmState) (e : PlainEntry) (standing : PlainStanding) →
+    Goes s (due_standing c now s e standing)
 due_standing-goes c now s e (done reply deadline) = stays s
 due_standing-goes c now s e (waiting l id forwarded sends_left deadline) =
     either (Goes s) (ltb 0 sends_left) _ _ (stays s) (fail_over-goes c now _ e _)
 
-pub due_entry-goes : (c : RealmConfig) (now : ℕ) (s : RealmState) (found : Option PlainEntry) → Goes s (due_entry c now s found)
+pub due_entry-goes : (c : RealmConfig) (now : ℕ) (s : RealmState) (found : Option PlainEntry) →
+    Goes s (due_entry c now s found)
 due_entry-goes c now s None = stays s
 due_entry-goes c now s (Some e) = due_standing-goes c now s e e.standing
 
@@ -130,7 +145,8 @@ abbrev pub Numbered : ℕ → ℕ → List ℕ → Type 0
 Numbered place k [] = Unit {0}
 Numbered place k (p ∷ ps) = At place k p × Numbered place (k + 1) ps
 
-numbered-append : (place k : ℕ) (xs ys : List ℕ) → Numbered place k xs → Numbered place (k + length xs) ys → Numbered place k (xs ++ ys)
+numbered-append : (place k : ℕ) (xs ys : List ℕ) → Numbered place k xs → Numbered place (k + length xs) ys →
+    Numbered place k (xs ++ ys)
 numbered-append place k [] ys h t =
     let same : k + 0 ≡ k = omega arith in subst (λ (n : ℕ). Numbered place n ys) same t
 numbered-append place k (x ∷ xs) ys h t =
@@ -148,7 +164,8 @@ further place k p at = omega (arith, at)
 pub none-drawn : (place k p new : ℕ) → At place k p → new ≡ p → Draws place k [] new
 none-drawn place k p new at same = record { numbered = tt; ends = omega (arith, at, same) }
 
-pub moved-draws : (place k : ℕ) (old new : RealmState) → At place k old.stream_position → Moved old.stream_position new.stream_position → Draws place k (drawn_between old new) new.stream_position
+pub moved-draws : (place k : ℕ) (old new : RealmState) → At place k old.stream_position →
+    Moved old.stream_position new.stream_position → Draws place k (drawn_between old new) new.stream_position
 moved-draws place k old new at (inl same) =
     let is : eqb new.stream_position old.stream_position ≡ true = grind (arith, nat_tests, same) in
     rw is (none-drawn place k old.stream_position new.stream_position at same)
@@ -160,7 +177,8 @@ moved-draws place k old new at (inr next) =
       ends = subst (λ (p : ℕ). At place (k + 1) p) (sym next) (further place k old.stream_position at);
     })
 
-pub both-draw : (place k : ℕ) (xs ys : List ℕ) (mid new : ℕ) → Draws place k xs mid → Draws place (k + length xs) ys new → Draws place k (xs ++ ys) new
+pub both-draw : (place k : ℕ) (xs ys : List ℕ) (mid new : ℕ) → Draws place k xs mid →
+    Draws place (k + length xs) ys new → Draws place k (xs ++ ys) new
 both-draw place k xs ys mid new a b =
     let same : (k + length xs) + length ys ≡ k + length (xs ++ ys) = omega (arith, length-append xs ys) in
     record {
@@ -168,7 +186,9 @@ both-draw place k xs ys mid new a b =
       ends = subst (λ (n : ℕ). At place n new) same b.ends;
     }
 
-pub dues-draw : (place k : ℕ) (c : RealmConfig) (now : ℕ) (s : RealmState) (dues : List Due) → At place k s.stream_position → Draws place k (drawn_by_dues c now s dues) (due_each c now s dues).state.stream_position
+pub dues-draw : (place k : ℕ) (c : RealmConfig) (now : ℕ) (s : RealmState) (dues : List Due) →
+    At place k s.stream_position → Draws place k (drawn_by_dues c now s dues)
+    (due_each c now s dues).state.stream_position
 dues-draw place k c now s [] at = none-drawn place k s.stream_position s.stream_position at refl
 dues-draw place k c now s (d ∷ ds) at =
     let next = (due_one c now s d).state in
@@ -177,7 +197,8 @@ dues-draw place k c now s (d ∷ ds) at =
     both-draw place k here (drawn_by_dues c now next ds) next.stream_position _ one
     (dues-draw place (k + length here) c now next ds one.ends)
 
-pub event-draws : (place k : ℕ) (c : RealmConfig) (s : RealmState) (e : RealmEvent) → At place k s.stream_position → Draws place k (drawn_by c s e) (state_after s (on_event c s e)).stream_position
+pub event-draws : (place k : ℕ) (c : RealmConfig) (s : RealmState) (e : RealmEvent) → At place k s.stream_position →
+    Draws place k (drawn_by c s e) (state_after s (on_event c s e)).stream_position
 event-draws place k c s (request_came now named q) at =
     moved-draws place k s (state_after s (on_event c s (request_came now named q))) at (request-moves c s now named q)
 event-draws place k c s (reply_came now l octets) at =
@@ -188,7 +209,8 @@ event-draws place k c s (tick_came now) at =
       | inr n ↦ rw n (dues-draw place k c now s (due_list now s.entries) at)
     ]
 
-run-draws : (place k : ℕ) (c : RealmConfig) (s : RealmState) (es : List RealmEvent) → At place k s.stream_position → Draws place k (drawn c s es) (one_realm_run c s es).state.stream_position
+run-draws : (place k : ℕ) (c : RealmConfig) (s : RealmState) (es : List RealmEvent) → At place k s.stream_position →
+    Draws place k (drawn c s es) (one_realm_run c s es).state.stream_position
 run-draws place k c s [] at = none-drawn place k s.stream_position s.stream_position at refl
 run-draws place k c s (e ∷ es) at =
     let next = state_after s (on_event c s e) in
@@ -201,7 +223,8 @@ begin : (c : RealmConfig) (start : Start) → At start.place 0 (opening c start)
 begin c start = omega arith
 
 -- the draw of an index
-pub numbered-at : (place k : ℕ) (xs : List ℕ) (i p : ℕ) → Numbered place k xs → slice_get xs i ≡ Some p → At place (k + i) p
+pub numbered-at : (place k : ℕ) (xs : List ℕ) (i p : ℕ) → Numbered place k xs → slice_get xs i ≡ Some p →
+    At place (k + i) p
 numbered-at place k [] i p h is = absurd (let bad : None ≡ Some p = is in cc)
 numbered-at place k (x ∷ xs) zero p h is =
     let same : x ≡ p = cc in
@@ -217,7 +240,8 @@ words_are_drawn_in_order c start events i position is =
     (numbered-at start.place 0 (drawn c (opening c start) events) i position run.numbered is)
 
 -- one of the positions has its number
-pub numbered-in : (place k p : ℕ) (xs : List ℕ) → Numbered place k xs → IsIn p xs → (i : ℕ) × (k ≤ i) × (i < k + length xs) × At place i p
+pub numbered-in : (place k p : ℕ) (xs : List ℕ) → Numbered place k xs → IsIn p xs → (i : ℕ) × (k ≤ i)
+    × (i < k + length xs) × At place i p
 numbered-in place k p [] h at = absurd at
 numbered-in place k p (x ∷ xs) h (inl is) =
     (k, omega arith, omega arith, subst (λ (y : ℕ). At place k y) is h.0)
@@ -226,7 +250,8 @@ numbered-in place k p (x ∷ xs) h (inr at) =
     (there.0, omega (arith, there.1), omega (arith, there.2), there.3)
 
 -- what is drawn by two lists of events in a row
-drawn-append : (c : RealmConfig) (s : RealmState) (es fs : List RealmEvent) → drawn c s (es ++ fs) ≡ drawn c s es ++ drawn c (one_realm_run c s es).state fs
+drawn-append : (c : RealmConfig) (s : RealmState) (es fs : List RealmEvent) →
+    drawn c s (es ++ fs) ≡ drawn c s es ++ drawn c (one_realm_run c s es).state fs
 drawn-append c s [] fs = refl
 drawn-append c s (e ∷ es) fs =
     let next = state_after s (on_event c s e) in
@@ -243,7 +268,8 @@ count-grows c start es fs =
     let sum = length-append (drawn c (opening c start) es) (drawn c (state_then c start es) fs) in
     omega (arith, both, sum)
 
-count-next : (c : RealmConfig) (start : Start) (es : List RealmEvent) (e : RealmEvent) → count c start (es ++ e ∷ []) ≡ count c start es + length (drawn_by c (state_then c start es) e)
+count-next : (c : RealmConfig) (start : Start) (es : List RealmEvent) (e : RealmEvent) →
+    count c start (es ++ e ∷ []) ≡ count c start es + length (drawn_by c (state_then c start es) e)
 count-next c start es e =
     let both = ap (λ (ps : List ℕ). length ps) (drawn-append c (opening c start) es (e ∷ [])) in
     let own = drawn_by c (state_then c start es) e in
@@ -258,7 +284,8 @@ record IsDraw (c : RealmConfig) (start : Start) (before : List RealmEvent) (e : 
   below : number < count c start (before ++ e ∷ [])
   at : At start.place number p
 
-is-draw : (c : RealmConfig) (start : Start) (before : List RealmEvent) (e : RealmEvent) (p : ℕ) → DrawsAt c start before e p → IsDraw c start before e p
+is-draw : (c : RealmConfig) (start : Start) (before : List RealmEvent) (e : RealmEvent) (p : ℕ) →
+    DrawsAt c start before e p → IsDraw c start before e p
 is-draw c start before e p draw =
     let k = count c start before in
     let run = run-draws start.place 0 c (opening c start) before (begin c start) in
@@ -299,13 +326,16 @@ not-later : (c : RealmConfig) (start : Start) (events xs ys mid rest : List Real
     → ys ≡ xs ++ e ∷ mid → events ≡ ys ++ f ∷ rest → ⊥
 not-later c start events xs ys mid rest e f p o few here there same is all =
     let first = append_assoc xs (e ∷ []) mid ∙ sym is in
-    let after = subst (λ (l : List RealmEvent). count c start (xs ++ e ∷ []) ≤ count c start l) first (count-grows c start (xs ++ e ∷ []) mid) in
+    let after = subst (λ (l : List RealmEvent). count c start (xs ++ e ∷ []) ≤ count c start l) first
+    (count-grows c start (xs ++ e ∷ []) mid) in
     let last = append_assoc ys (f ∷ []) rest ∙ sym all in
-    let within = subst (λ (l : List RealmEvent). count c start (ys ++ f ∷ []) ≤ count c start l) last (count-grows c start (ys ++ f ∷ []) rest) in
+    let within = subst (λ (l : List RealmEvent). count c start (ys ++ f ∷ []) ≤ count c start l) last
+    (count-grows c start (ys ++ f ∷ []) rest) in
     let below = here.below in
     let from = there.from in
     let end = there.below in
-    differ start.place here.number there.number p o (omega (arith, below, after, from)) (omega (arith, end, within, few)) here.at there.at same
+    differ start.place here.number there.number p o (omega (arith, below, after, from))
+    (omega (arith, end, within, few)) here.at there.at same
 
 decided : (c : RealmConfig) (start : Start) (events xs ws ys bs : List RealmEvent) (e f : RealmEvent) (p o : ℕ)
     → count c start events ≤ 2 ^ 66 → IsDraw c start xs e p → IsDraw c start ys f o → p % 2 ^ 68 ≡ o % 2 ^ 68

@@ -191,7 +191,8 @@ module _ (c : RealmConfig) (Kept : List PlainEntry → Type 0) (Good : PlainEntr
             let some : 1 ≤ sends_left = grind (arith, nat_tests, y) in
             rw y (more (sent_again (now + c.realm.wait) e) s.entries
             (tick.again e l id forwarded sends_left deadline is some good) old)
-        | inr n ↦ rw n (fail_over-keeps now (given_up_at c now l s e) e l id forwarded sends_left deadline next tick is fits
+        | inr n ↦ rw n (fail_over-keeps now (given_up_at c now l s e) e l id forwarded sends_left deadline next tick
+            is fits
             good others)
       ]
 

@@ -69,7 +69,8 @@ module _ {X : Type 0} (steps : X → PlainEvent → Bool → X → Type 0) where
       let front : take (n + 1) events ≡ take n events ++ e ∷ [] = take_more events n d within ∙ rw at refl in
       let gone : not (is_lost n (lost ++ n ∷ [])) ≡ false = ap not (present n lost) in
       let still = lost-later 0 n lost first here (take n events) (omega (arith, length-take n events)) given in
-      rw front (given-more 0 n (lost ++ n ∷ []) first here next (take n events) e (omega (arith, length-take n events)) still
+      rw front (given-more 0 n (lost ++ n ∷ []) first here next (take n events) e
+      (omega (arith, length-take n events)) still
       (subst (λ (b : Bool). steps here e b next) (sym gone) does))
 
   pub given-all :

@@ -35,11 +35,14 @@ use Rattle.roam_core.proofs.TicketLemmas.{all-rise, event-rises}
 abbrev Any : PlainEntry → Type 0
 Any e = Unit {0}
 
-event-order : (c : RealmConfig) (s : RealmState) (e : RealmEvent) → IsInOrder s.entries → IsInOrder (state_after s (on_event c s e)).entries
+event-order : (c : RealmConfig) (s : RealmState) (e : RealmEvent) → IsInOrder s.entries →
+    IsInOrder (state_after s (on_event c s e)).entries
 event-order c s (request_came now named q) order =
-    request-keeps c IsInOrder Any order-filter (λ e es h. order-put e es) (λ e es h at. tt) now s named q order (λ t fits. tt)
+    request-keeps c IsInOrder Any order-filter (λ e es h. order-put e es) (λ e es h at. tt) now s named q order
+    (λ t fits. tt)
 event-order c s (reply_came now l octets) order =
-    reply-keeps c IsInOrder Any order-filter (λ e es h. order-put e es) (λ e es h at. tt) now s l octets order (λ e octets. tt)
+    reply-keeps c IsInOrder Any order-filter (λ e es h. order-put e es) (λ e es h at. tt) now s l octets order
+    (λ e octets. tt)
 event-order c s (tick_came now) order =
     tick-keeps c IsInOrder Any order-filter (λ e es h. order-put e es) (λ e es h at. tt) now s (record {
       again = λ e l id f k d is some h. tt;
@@ -47,7 +50,8 @@ event-order c s (tick_came now) order =
       answered = λ e octets. tt;
     }) order
 
-pub run-order : (c : RealmConfig) (s : RealmState) (es : List RealmEvent) → IsInOrder s.entries → IsInOrder (one_realm_run c s es).state.entries
+pub run-order : (c : RealmConfig) (s : RealmState) (es : List RealmEvent) → IsInOrder s.entries →
+    IsInOrder (one_realm_run c s es).state.entries
 run-order c s [] order = order
 run-order c s (e ∷ es) order = run-order c (state_after s (on_event c s e)) es (event-order c s e order)
 
@@ -69,7 +73,8 @@ abbrev left_at : RealmConfig → Link → ℕ → ℕ
 left_at c l sends_left = sends_left + c.realm.tries * length (later_targets c l)
 
 -- one of some targets has fewer packets left than `tries` for each
-left-fewer : (c : RealmConfig) (links : List Link) (l : Link) → 1 ≤ c.realm.tries → IsOneOf c links l → left_at c l (c.realm.tries - 1) + 1 ≤ c.realm.tries * length links
+left-fewer : (c : RealmConfig) (links : List Link) (l : Link) → 1 ≤ c.realm.tries → IsOneOf c links l →
+    left_at c l (c.realm.tries - 1) + 1 ≤ c.realm.tries * length links
 left-fewer c links l tries fits =
     let all = counted-all c links in
     let later = counted-all c (later_targets c l) in
@@ -96,10 +101,12 @@ module _ (c : RealmConfig) (gap ticket until : ℕ) (tries : 1 ≤ c.realm.tries
   abbrev pub AllInTime : ℕ → List PlainEntry → Type 0
   AllInTime tick es = AllByRecursion (IsInTime tick) es
 
-  all-less : (tick : ℕ) (p : PlainEntry → Bool) (es : List PlainEntry) → AllInTime tick es → AllInTime tick (filter p es)
+  all-less : (tick : ℕ) (p : PlainEntry → Bool) (es : List PlainEntry) → AllInTime tick es →
+      AllInTime tick (filter p es)
   all-less tick p es h = all-filter (IsInTime tick) p es h
 
-  all-more : (tick : ℕ) (e : PlainEntry) (es : List PlainEntry) → IsInTime tick e → AllInTime tick es → AllInTime tick (put e es)
+  all-more : (tick : ℕ) (e : PlainEntry) (es : List PlainEntry) → IsInTime tick e → AllInTime tick es →
+      AllInTime tick (put e es)
   all-more tick e es one h = all-put (IsInTime tick) e es one h
 
   all-each : (tick : ℕ) (e : PlainEntry) (es : List PlainEntry) → AllInTime tick es → IsIn e es → IsInTime tick e
@@ -124,7 +131,8 @@ module _ (c : RealmConfig) (gap ticket until : ℕ) (tries : 1 ≤ c.realm.tries
   over-stands tick now l id forwarded sends_left deadline standing next not_back soon wait is fits stands =
       let old : Waits tick l sends_left deadline = rw is at stands in
       let fewer = left-fewer c (later_targets c l) next tries fits in
-      let less = turns (left_at c next (c.realm.tries - 1)) (left_at c l sends_left) (c.realm.wait + gap) (omega (arith, fewer)) in
+      let less = turns (left_at c next (c.realm.tries - 1)) (left_at c l sends_left) (c.realm.wait + gap)
+      (omega (arith, fewer)) in
       record { beyond = omega arith; lasts = omega (arith, less, old.beyond, old.lasts) }
 
   -- so a tick that comes in time keeps it
@@ -140,8 +148,10 @@ module _ (c : RealmConfig) (gap ticket until : ℕ) (tries : 1 ≤ c.realm.tries
   }
 
   -- what isn't due waits beyond the moment of the tick
-  beyond-now : (tick now : ℕ) (standing : PlainStanding) → now < deadline_of standing → Stands tick standing → Stands now standing
-  beyond-now tick now (waiting l id forwarded sends_left deadline) later stands = record { beyond = later; lasts = stands.lasts }
+  beyond-now : (tick now : ℕ) (standing : PlainStanding) → now < deadline_of standing → Stands tick standing →
+      Stands now standing
+  beyond-now tick now (waiting l id forwarded sends_left deadline) later stands =
+      record { beyond = later; lasts = stands.lasts }
   beyond-now tick now (done reply deadline) later stands = tt
 
   not-due :
@@ -199,7 +209,8 @@ module _ (c : RealmConfig) (gap ticket until : ℕ) (tries : 1 ≤ c.realm.tries
       let here = h.0 in
       omega (arith, later, here)
 
-  tick-before : (tick before : ℕ) (e : RealmEvent) → tick ≤ before → before ≤ moment_of e → last_tick tick e ≤ moment_of e
+  tick-before : (tick before : ℕ) (e : RealmEvent) → tick ≤ before → before ≤ moment_of e →
+      last_tick tick e ≤ moment_of e
   tick-before tick before (request_came now named q) from not_back = omega arith
   tick-before tick before (reply_came now l octets) from not_back = omega arith
   tick-before tick before (tick_came now) from not_back = omega arith
@@ -226,19 +237,22 @@ module _ (c : RealmConfig) (gap ticket until : ℕ) (tries : 1 ≤ c.realm.tries
       let kept = event-in-time tick before s x from not_back x_soon x_late wait given order old in
       let rises = event-rises c s x in
       run-in-time (last_tick tick x) (moment_of x) next xs e (tick-before tick before x from not_back)
-      (tick-soon tick x x_soon) ordered.2 late wait (omega (arith, given, rises)) (event-order c s x order) kept over at is
+      (tick-soon tick x x_soon) ordered.2 late wait (omega (arith, given, rises)) (event-order c s x order) kept over
+      at is
 
 -- The request itself
 
 -- before it is given its ticket, no entry has that one
-none-yet : (c : RealmConfig) (start : Start) (first : List RealmEvent) (e : PlainEntry) → IsIn e (state_then c start first).entries → e.ticket ≢ (state_then c start first).ticket
+none-yet : (c : RealmConfig) (start : Start) (first : List RealmEvent) (e : PlainEntry) →
+    IsIn e (state_then c start first).entries → e.ticket ≢ (state_then c start first).ticket
 none-yet c start first e at same =
     let request = (each_entry_has_origin c start first e at).request in
     let event = request_came request.asked_at request.named e.request in
     let rise = all-rise c start (request.first ++ event ∷ []) request.rest in
     let whole : (request.first ++ event ∷ []) ++ request.rest ≡ first =
     append_assoc request.first (event ∷ []) request.rest ∙ sym request.in_order in
-    let final = subst (λ (l : List RealmEvent). (state_then c start (request.first ++ event ∷ [])).ticket ≤ (state_then c start l).ticket) whole rise in
+    let final = subst (λ (l : List RealmEvent). (state_then c start (request.first ++ event ∷ [])).ticket
+    ≤ (state_then c start l).ticket) whole rise in
     let taken = request.given.taken in
     omega (arith, final, taken, same)
 
@@ -257,7 +271,8 @@ begins c start first came named q gap tries wait =
     (all-more c gap s.ticket until tries came) (all-each c gap s.ticket until tries came) came s named q old
     (λ target fits at.
     let fewer = left-fewer c (targets c q) target.link tries fits in
-    let less = turns (left_at c target.link (c.realm.tries - 1)) (c.realm.tries * length (targets c q)) (c.realm.wait + gap) fewer in
+    let less = turns (left_at c target.link (c.realm.tries - 1)) (c.realm.tries * length (targets c q))
+    (c.realm.wait + gap) fewer in
     record { beyond = omega arith; lasts = omega (arith, less) })
 
 pub none_waits_longer : NoneWaitsLonger
@@ -271,6 +286,8 @@ none_waits_longer c start first rest came named q ticket gap e tries wait takes 
     let same = takes.next in
     let given : s.ticket < next.ticket = omega (arith, taken, same) in
     let order = event-order c s event (run-order c (opening c start) first tt) in
-    let here = subst (λ (t : RealmState). IsIn e t.entries) (state-append c (opening c start) first (event ∷ rest)) at in
-    run-in-time c gap s.ticket until tries came came next rest e (omega arith) (omega arith) ordered late wait given order
+    let here = subst (λ (t : RealmState). IsIn e t.entries) (state-append c (opening c start) first (event ∷ rest))
+    at in
+    run-in-time c gap s.ticket until tries came came next rest e (omega arith) (omega arith) ordered late wait given
+    order
     (begins c start first came named q gap tries wait) over here (is ∙ sym same)

@@ -15,7 +15,8 @@ use Rattle.roam_core.proofs.PacketLemmas.{joined, packets_for-append, packets_fo
 use Rattle.roam_core.proofs.RealmRunLemmas.{packets-append, state-append}
 use Rattle.roam_core.proofs.EventLemmas.{event_turn, event-length, event_rejects, event_realms}
 
-pub answers-length : (config : ConfigView) (states : List RealmState) (es : List PlainEvent) → length (answers_to config states es).states ≡ length states
+pub answers-length : (config : ConfigView) (states : List RealmState) (es : List PlainEvent) →
+    length (answers_to config states es).states ≡ length states
 answers-length config states [] = refl
 answers-length config states (e ∷ es) =
     answers-length config (states_after states (answer_to config states e)) es ∙ event-length config states e
@@ -46,11 +47,13 @@ stands_alone config states (e ∷ es) realm some within =
     let s : RealmState = state_at states realm in
     let given : List RealmEvent = given_to_realm config realm e in
     let rest : List RealmEvent = events_of_realm config realm es in
-    stands_alone config (states_after states (answer_to config states e)) es realm some (omega (arith, event-length config states e))
+    stands_alone config (states_after states (answer_to config states e)) es realm some
+    (omega (arith, event-length config states e))
     ∙ ap (λ (t : RealmState). (one_realm_run c t rest).state) (event_turn config states realm e some within).state
     ∙ sym (state-append c s given rest)
 
-same_run : (c d : RealmConfig) (s t : RealmState) (es fs : List RealmEvent) → c ≡ d → s ≡ t → es ≡ fs → (one_realm_run c s es).packets ≡ (one_realm_run d t fs).packets
+same_run : (c d : RealmConfig) (s t : RealmState) (es fs : List RealmEvent) → c ≡ d → s ≡ t → es ≡ fs →
+    (one_realm_run c s es).packets ≡ (one_realm_run d t fs).packets
 same_run c d s t es fs configs states events =
     ap (λ (x : RealmConfig). (one_realm_run x s es).packets) configs
     ∙ ap (λ (x : RealmState). (one_realm_run d x es).packets) states
@@ -59,20 +62,25 @@ same_run c d s t es fs configs states events =
 pub same_in_two_worlds : SameInTwoWorlds
 same_in_two_worlds realm one other ss ts es fs some_one some_other here there configs states events =
     isolated one ss es some_one realm here
-    ∙ same_run (realm_config one realm) (realm_config other realm) (state_at ss realm) (state_at ts realm) (events_of_realm one realm es) (events_of_realm other realm fs) configs states events
+    ∙ same_run (realm_config one realm) (realm_config other realm) (state_at ss realm) (state_at ts realm)
+    (events_of_realm one realm es) (events_of_realm other realm fs) configs states events
     ∙ sym (isolated other ts fs some_other realm there)
 
 -- packets for no realm, and the realms of all others
-pub rejects_alone : (config : ConfigView) (states : List RealmState) (es : List PlainEvent) → packets_for_none (answers_to config states es).packets ≡ local_rejects config es
+pub rejects_alone : (config : ConfigView) (states : List RealmState) (es : List PlainEvent) →
+    packets_for_none (answers_to config states es).packets ≡ local_rejects config es
 rejects_alone config states [] = refl
 rejects_alone config states (e ∷ es) =
     let turn : BrokerTurn = answer_to config states e in
     let others : List PlainOut = (answers_to config (states_after states turn) es).packets in
     packets_for_none-append (packets_in_turn turn) others
-    ∙ joined (packets_for_none (packets_in_turn turn)) (packets_for_none others) (rejects_by config e) (local_rejects config es)
+    ∙ joined (packets_for_none (packets_in_turn turn)) (packets_for_none others) (rejects_by config e)
+    (local_rejects config es)
     (event_rejects config states e) (rejects_alone config (states_after states turn) es)
 
-pub each_has_realm : (config : ConfigView) (states : List RealmState) (es : List PlainEvent) → length states ≡ length config.realms → AllByRecursion (HasRealm (length config.realms)) (answers_to config states es).packets
+pub each_has_realm : (config : ConfigView) (states : List RealmState) (es : List PlainEvent) →
+    length states ≡ length config.realms →
+    AllByRecursion (HasRealm (length config.realms)) (answers_to config states es).packets
 each_has_realm config states [] whole = tt
 each_has_realm config states (e ∷ es) whole =
     let turn : BrokerTurn = answer_to config states e in
@@ -82,11 +90,14 @@ each_has_realm config states (e ∷ es) whole =
     (each_has_realm config next es (event-length config states e ∙ whole))
 
 -- how the realms begin
-openings-length : (config : ConfigView) (first : ℕ) (starts : List Start) → length (openings_from config first starts) ≡ length starts
+openings-length : (config : ConfigView) (first : ℕ) (starts : List Start) →
+    length (openings_from config first starts) ≡ length starts
 openings-length config first [] = refl
 openings-length config first (s ∷ ss) = ap suc (openings-length config (first + 1) ss)
 
-opening-at : (config : ConfigView) (realm first : ℕ) (starts : List Start) (k : ℕ) → realm ≡ first + k → k < length starts → state_at (openings_from config first starts) k ≡ opening (realm_config config realm) (start_of starts k)
+opening-at : (config : ConfigView) (realm first : ℕ) (starts : List Start) (k : ℕ) → realm ≡ first + k →
+    k < length starts → state_at (openings_from config first starts) k
+    ≡ opening (realm_config config realm) (start_of starts k)
 opening-at config realm first [] k is within = absurd (omega arith)
 opening-at config realm first (s ∷ ss) zero is within =
     let same : realm ≡ first = omega arith in
@@ -98,18 +109,23 @@ pub each_opens : EachRealmOpens
 each_opens config starts realm within = opening-at config realm 0 starts realm (omega arith) within
 
 -- what is isolated in some states is isolated from the starts at which they are the openings
-pub from_start : (config : ConfigView) (states : List RealmState) (starts : List Start) (events : List PlainEvent) (packets : List PlainOut) → states ≡ openings config starts → IsIsolated config states events packets → IsIsolatedFromStart config starts events packets
+pub from_start : (config : ConfigView) (states : List RealmState) (starts : List Start) (events : List PlainEvent)
+    (packets : List PlainOut) → states ≡ openings config starts → IsIsolated config states events packets →
+    IsIsolatedFromStart config starts events packets
 from_start config states starts events packets begin isolated_then realm within =
-    let count : length states ≡ length starts = ap (λ (l : List RealmState). length l) begin ∙ openings-length config 0 starts in
+    let count : length states ≡ length starts = ap (λ (l : List RealmState). length l) begin
+    ∙ openings-length config 0 starts in
     let at : state_at states realm ≡ opening (realm_config config realm) (start_of starts realm) =
     ap (λ (l : List RealmState). state_at l realm) begin ∙ each_opens config starts realm within in
     isolated_then realm (omega (arith, count))
-    ∙ ap (λ (s : RealmState). (one_realm_run (realm_config config realm) s (events_of_realm config realm events)).packets) at
+    ∙ ap (λ (s : RealmState). (one_realm_run (realm_config config realm) s
+    (events_of_realm config realm events)).packets) at
 
 pub isolated_from_start : EachIsIsolatedFromStart
 isolated_from_start config starts events some =
     let states = openings config starts in
-    from_start config states starts events (answers_to config states events).packets refl (isolated config states events some)
+    from_start config states starts events (answers_to config states events).packets refl
+    (isolated config states events some)
 
 -- a realm's ledger, which is a part of how the realm stands
 pub each_ledger : EachLedgerIsIsolated
@@ -129,4 +145,5 @@ same_in_two_worlds_from_start realm one other ss ts es fs some_one some_other he
     ∙ ap (λ (s : Start). opening (realm_config other realm) s) starts in
     let states = each_opens one ss realm here ∙ same_opening ∙ sym (each_opens other ts realm there) in
     same_in_two_worlds realm one other (openings one ss) (openings other ts) es fs some_one some_other
-    (omega (arith, here, openings-length one 0 ss)) (omega (arith, there, openings-length other 0 ts)) configs states events
+    (omega (arith, here, openings-length one 0 ss)) (omega (arith, there, openings-length other 0 ts)) configs states
+    events

@@ -7,7 +7,6 @@ pub mod EventLemmas
 pub mod RealmRunLemmas
 pub mod IsolationLemmas
 pub mod GivenLemmas
-pub mod StepLemmas
 pub mod AloneLemmas
 pub mod NamedLemmas
 pub mod MeaningLemmas

@@ -21,14 +21,16 @@ use Rattle.roam_core.proofs.LifeLemmas.{draws-append}
 use Rattle.roam_core.proofs.LifeTicketLemmas.{one_request_has_ticket_in, same-event}
 use Rattle.roam_core.proofs.OccasionLemmas.{drew-there, same-occasion}
 
-happening-draws : (place k : ℕ) (at : Stage) (h : Happening) → At place k at.state.stream_position → Draws place k (draws_at at h) (stage_after at h).state.stream_position
+happening-draws : (place k : ℕ) (at : Stage) (h : Happening) → At place k at.state.stream_position →
+    Draws place k (draws_at at h) (stage_after at h).state.stream_position
 happening-draws place k at (event e) here = event-draws place k at.config at.state e here
 happening-draws place k at (goes_on config) here =
     none-drawn place k at.state.stream_position at.state.stream_position here refl
 happening-draws place k at (begins_anew config) here =
     none-drawn place k at.state.stream_position at.state.stream_position here refl
 
-life-draws : (place k : ℕ) (at : Stage) (hs : List Happening) → At place k at.state.stream_position → Draws place k (draws_in at hs) (stage_then at hs).state.stream_position
+life-draws : (place k : ℕ) (at : Stage) (hs : List Happening) → At place k at.state.stream_position →
+    Draws place k (draws_in at hs) (stage_then at hs).state.stream_position
 life-draws place k at [] here = none-drawn place k at.state.stream_position at.state.stream_position here refl
 life-draws place k at (h ∷ hs) here =
     let next = stage_after at h in
@@ -74,7 +76,8 @@ count-grows b xs ys =
     let sum = length-append (draws_in b xs) (draws_in (stage_then b xs) ys) in
     omega (arith, both, sum)
 
-count-next : (b : Stage) (xs : List Happening) (h : Happening) → count b (xs ++ h ∷ []) ≡ count b xs + length (draws_at (stage_then b xs) h)
+count-next : (b : Stage) (xs : List Happening) (h : Happening) →
+    count b (xs ++ h ∷ []) ≡ count b xs + length (draws_at (stage_then b xs) h)
 count-next b xs h =
     let both = ap (λ (ps : List ℕ). length ps) (draws-append b xs (h ∷ [])) in
     let own = draws_at (stage_then b xs) h in
@@ -83,7 +86,8 @@ count-next b xs h =
     omega (arith, both, sum, end)
 
 -- where the stream stands after some part of a life
-stands-there : (b : Stage) (before : List Happening) → At b.state.stream_position (count b before) (stage_then b before).state.stream_position
+stands-there : (b : Stage) (before : List Happening) →
+    At b.state.stream_position (count b before) (stage_then b before).state.stream_position
 stands-there b before =
     let place = b.state.stream_position in
     let k = count b before in
@@ -98,7 +102,8 @@ record IsDrawIn (b : Stage) (before : List Happening) (h : Happening) (p : ℕ) 
   below : number < count b (before ++ h ∷ [])
   at : At b.state.stream_position number p
 
-is-draw : (b : Stage) (before : List Happening) (h : Happening) (p : ℕ) → IsIn p (draws_at (stage_then b before) h) → IsDrawIn b before h p
+is-draw : (b : Stage) (before : List Happening) (h : Happening) (p : ℕ) → IsIn p (draws_at (stage_then b before) h) →
+    IsDrawIn b before h p
 is-draw b before h p draw =
     let place = b.state.stream_position in
     let k = count b before in
@@ -117,13 +122,16 @@ not-later : (b : Stage) (life xs ys mid rest : List Happening) (g h : Happening)
     → ys ≡ xs ++ g ∷ mid → life ≡ ys ++ h ∷ rest → ⊥
 not-later b life xs ys mid rest g h p o few here there same is all =
     let first = append_assoc xs (g ∷ []) mid ∙ sym is in
-    let after = subst (λ (l : List Happening). count b (xs ++ g ∷ []) ≤ count b l) first (count-grows b (xs ++ g ∷ []) mid) in
+    let after = subst (λ (l : List Happening). count b (xs ++ g ∷ []) ≤ count b l) first
+    (count-grows b (xs ++ g ∷ []) mid) in
     let last = append_assoc ys (h ∷ []) rest ∙ sym all in
-    let within = subst (λ (l : List Happening). count b (ys ++ h ∷ []) ≤ count b l) last (count-grows b (ys ++ h ∷ []) rest) in
+    let within = subst (λ (l : List Happening). count b (ys ++ h ∷ []) ≤ count b l) last
+    (count-grows b (ys ++ h ∷ []) rest) in
     let below = here.below in
     let from = there.from in
     let end = there.below in
-    differ b.state.stream_position here.number there.number p o (omega (arith, below, after, from)) (omega (arith, end, within, few)) here.at there.at same
+    differ b.state.stream_position here.number there.number p o (omega (arith, below, after, from))
+    (omega (arith, end, within, few)) here.at there.at same
 
 decided : (b : Stage) (life xs ws ys zs : List Happening) (g h : Happening) (p o : ℕ)
     → count b life ≤ 2 ^ 66 → IsDrawIn b xs g p → IsDrawIn b ys h o → p % 2 ^ 68 ≡ o % 2 ^ 68
@@ -145,7 +153,8 @@ record WasForwarded (b : Stage) (life : List Happening) (c : RealmConfig) (q : P
   in_order : life ≡ before ++ event cause ∷ after
   forwards : ForwardsIn b c q position ticket target before cause
 
-was-forwarded : (b : Stage) (life : List Happening) (c : RealmConfig) (q : PlainRequest) (position ticket : ℕ) (target : Target) → IsForwardedIn b life c q position ticket target → WasForwarded b life c q position ticket target
+was-forwarded : (b : Stage) (life : List Happening) (c : RealmConfig) (q : PlainRequest) (position ticket : ℕ)
+    (target : Target) → IsForwardedIn b life c q position ticket target → WasForwarded b life c q position ticket target
 was-forwarded b life c q position ticket target h =
     let first = h.request.first in
     let asked = event (request_came h.request.asked_at h.request.named q) in
@@ -183,22 +192,28 @@ one_draw_one_forwarding b life c d q r p o ticket next target another few h k dr
     let one_draw = is-draw b x.before (event x.cause) p
     (drew-there at.config at.state x.cause f.occasion p f.among drew) in
     let other_draw = is-draw b y.before (event y.cause) o
-    (drew-there (stage_then b y.before).config (stage_then b y.before).state y.cause y.forwards.occasion o y.forwards.among again) in
-    let once = decided b life x.before x.after y.before y.after (event x.cause) (event y.cause) p o few one_draw other_draw same x.in_order y.in_order
+    (drew-there (stage_then b y.before).config (stage_then b y.before).state y.cause y.forwards.occasion o
+    y.forwards.among again) in
+    let once = decided b life x.before x.after y.before y.after (event x.cause) (event y.cause) p o few one_draw
+    other_draw same x.in_order y.in_order
     (places x.before x.after y.before y.after (event x.cause) (event y.cause) (sym x.in_order ∙ y.in_order)) in
     let moved = subst (λ (l : List Happening). ForwardsIn b d r o next another l y.cause) (sym once.0) y.forwards in
-    let g = subst (λ (e : RealmEvent). ForwardsIn b d r o next another x.before e) (sym (same-event x.cause y.cause once.1)) moved in
+    let g = subst (λ (e : RealmEvent). ForwardsIn b d r o next another x.before e)
+    (sym (same-event x.cause y.cause once.1)) moved in
     let last = append_assoc x.before (event x.cause ∷ []) x.after ∙ sym x.in_order in
     let within = subst (λ (l : List Happening). count b (x.before ++ event x.cause ∷ []) ≤ count b l) last
     (count-grows b (x.before ++ event x.cause ∷ []) x.after) in
-    let own : count b (x.before ++ event x.cause ∷ []) ≡ count b x.before + length (drawn_by at.config at.state x.cause) =
+    let own : count b (x.before ++ event x.cause ∷ [])
+    ≡ count b x.before + length (drawn_by at.config at.state x.cause) =
     count-next b x.before (event x.cause) in
-    let fewer : count b x.before + length (drawn_by at.config at.state x.cause) ≤ 2 ^ 66 = omega (arith, within, own, few) in
+    let fewer : count b x.before + length (drawn_by at.config at.state x.cause) ≤ 2 ^ 66 =
+    omega (arith, within, own, few) in
     let one_occasion = same-occasion place (count b x.before) at.config at.state x.cause f.occasion g.occasion p o
     (stands-there b x.before) fewer f.among g.among drew (g.forwards.drawn draws_r) same in
     let tickets = sym f.forwards.own_ticket ∙ ap (λ (a : Occasion). a.ticket) one_occasion ∙ g.forwards.own_ticket in
     record {
-      request = one_request_has_ticket_in b life q r ticket h.request (subst (IsRequestIn b life r) (sym tickets) k.request);
+      request = one_request_has_ticket_in b life q r ticket h.request
+          (subst (IsRequestIn b life r) (sym tickets) k.request);
       ticket_is = tickets;
       config = sym f.under ∙ g.under;
       packet = same-packet _ _ (sym f.forwards.sent ∙ ap (λ (a : Occasion). a.sent) one_occasion ∙ g.forwards.sent);

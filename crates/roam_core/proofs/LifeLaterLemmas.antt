@@ -31,7 +31,8 @@ pub record TurnKeepsIn (b : Stage) (life : List Happening) (old : RealmState) (t
   pub entries : EachComesIn b life (state_after old turn).entries
 
 -- a list in which something stands is longer by what follows
-pub longer : (life first rest more : List Happening) (h : Happening) → life ≡ first ++ h ∷ rest → life ++ more ≡ first ++ h ∷ (rest ++ more)
+pub longer : (life first rest more : List Happening) (h : Happening) → life ≡ first ++ h ∷ rest →
+    life ++ more ≡ first ++ h ∷ (rest ++ more)
 longer life first rest more h is = ap (λ (l : List Happening). l ++ more) is ∙ append_assoc first (h ∷ rest) more
 
 abbrev pub request-later :

@@ -1,6 +1,5 @@
 -- Lives: what happens in two lists in a row, and what stays the same.
 use Rattle.std.proofs.Common.{◌≡◌, ℕ, List, [], ◌∷◌, ◌++◌, map, refl, sym, ap, ◌∙◌, append_assoc}
-use Rattle.std.proofs.lemmas.List.{append-nil}
 use Rattle.roam_route.specs.Admission.{PlainOut}
 use Rattle.roam_book.specs.RealmConfig.{RealmConfig}
 use Rattle.roam_book.specs.RealmState.{RealmState}
@@ -13,14 +12,16 @@ pub stage-append : (b : Stage) (xs ys : List Happening) → stage_then b (xs ++ 
 stage-append b [] ys = refl
 stage-append b (x ∷ xs) ys = stage-append (stage_after b x) xs ys
 
-pub sent-append : (b : Stage) (xs ys : List Happening) → sent_in b (xs ++ ys) ≡ sent_in b xs ++ sent_in (stage_then b xs) ys
+pub sent-append : (b : Stage) (xs ys : List Happening) →
+    sent_in b (xs ++ ys) ≡ sent_in b xs ++ sent_in (stage_then b xs) ys
 sent-append b [] ys = refl
 sent-append b (x ∷ xs) ys =
     let next = stage_after b x in
     ap (λ (ps : List PlainOut). sent_at b x ++ ps) (sent-append next xs ys)
     ∙ sym (append_assoc (sent_at b x) (sent_in next xs) (sent_in (stage_then next xs) ys))
 
-pub draws-append : (b : Stage) (xs ys : List Happening) → draws_in b (xs ++ ys) ≡ draws_in b xs ++ draws_in (stage_then b xs) ys
+pub draws-append : (b : Stage) (xs ys : List Happening) →
+    draws_in b (xs ++ ys) ≡ draws_in b xs ++ draws_in (stage_then b xs) ys
 draws-append b [] ys = refl
 draws-append b (x ∷ xs) ys =
     let next = stage_after b x in
@@ -38,25 +39,25 @@ index-then b [] = refl
 index-then b (h ∷ hs) = index-then (stage_after b h) hs ∙ index-after b h
 
 -- the stage after one thing more
-pub stage-next : (b : Stage) (xs : List Happening) (h : Happening) → stage_then b (xs ++ h ∷ []) ≡ stage_after (stage_then b xs) h
+pub stage-next : (b : Stage) (xs : List Happening) (h : Happening) →
+    stage_then b (xs ++ h ∷ []) ≡ stage_after (stage_then b xs) h
 stage-next b xs h = stage-append b xs (h ∷ [])
 
-pub sent-next : (b : Stage) (xs : List Happening) (h : Happening) → sent_in b (xs ++ h ∷ []) ≡ sent_in b xs ++ sent_at (stage_then b xs) h
-sent-next b xs h =
-    sent-append b xs (h ∷ [])
-    ∙ ap (λ (ps : List PlainOut). sent_in b xs ++ ps) (append-nil (sent_at (stage_then b xs) h))
-
 -- a life of events alone is a run of the one-realm broker
-pub stage-events : (c : RealmConfig) (s : RealmState) (es : List RealmEvent) → stage_then (record { config = c; state = s }) (map event es) ≡ record { config = c; state = (one_realm_run c s es).state }
+pub stage-events : (c : RealmConfig) (s : RealmState) (es : List RealmEvent) →
+    stage_then (record { config = c; state = s }) (map event es)
+    ≡ record { config = c; state = (one_realm_run c s es).state }
 stage-events c s [] = refl
 stage-events c s (e ∷ es) = stage-events c (state_after s (on_event c s e)) es
 
-pub sent-events : (c : RealmConfig) (s : RealmState) (es : List RealmEvent) → sent_in (record { config = c; state = s }) (map event es) ≡ (one_realm_run c s es).packets
+pub sent-events : (c : RealmConfig) (s : RealmState) (es : List RealmEvent) →
+    sent_in (record { config = c; state = s }) (map event es) ≡ (one_realm_run c s es).packets
 sent-events c s [] = refl
 sent-events c s (e ∷ es) =
     ap (λ (ps : List PlainOut). packets_of (on_event c s e) ++ ps) (sent-events c (state_after s (on_event c s e)) es)
 
-pub draws-events : (c : RealmConfig) (s : RealmState) (es : List RealmEvent) → draws_in (record { config = c; state = s }) (map event es) ≡ drawn c s es
+pub draws-events : (c : RealmConfig) (s : RealmState) (es : List RealmEvent) →
+    draws_in (record { config = c; state = s }) (map event es) ≡ drawn c s es
 draws-events c s [] = refl
 draws-events c s (e ∷ es) =
     ap (λ (ps : List ℕ). drawn_by c s e ++ ps) (draws-events c (state_after s (on_event c s e)) es)

@@ -34,7 +34,8 @@ record Keeps (b : Stage) (before : List Happening) (h : Happening) (at : Stage) 
   packets : EachHasOriginIn b (before ++ h ∷ []) (sent_at at h)
   entries : EachComesIn b (before ++ h ∷ []) (stage_after at h).state.entries
 
-keeps : (b : Stage) (before : List Happening) (h : Happening) (at : Stage) → stage_then b before ≡ at → EachComesIn b before at.state.entries → Keeps b before h at
+keeps : (b : Stage) (before : List Happening) (h : Happening) (at : Stage) → stage_then b before ≡ at →
+    EachComesIn b before at.state.entries → Keeps b before h at
 keeps b before (event e) at is kept =
     let sent = subst (λ (t : Stage). AreSentIn b before e (packets_of (on_event t.config t.state e))) is
     (each-in (sent_at (stage_then b before) (event e))) in
@@ -49,10 +50,12 @@ record AllKeep (b : Stage) (before after : List Happening) : Type 0 where
   packets : EachHasOriginIn b (before ++ after) (sent_in (stage_then b before) after)
   entries : EachComesIn b (before ++ after) (stage_then b (before ++ after)).state.entries
 
-all-keep : (b : Stage) (before after : List Happening) → EachComesIn b before (stage_then b before).state.entries → AllKeep b before after
+all-keep : (b : Stage) (before after : List Happening) → EachComesIn b before (stage_then b before).state.entries →
+    AllKeep b before after
 all-keep b before [] kept = record {
   packets = tt;
-  entries = subst (λ (l : List Happening). EachComesIn b l (stage_then b l).state.entries) (sym (append-nil before)) kept;
+  entries = subst (λ (l : List Happening). EachComesIn b l (stage_then b l).state.entries) (sym (append-nil before))
+      kept;
 }
 all-keep b before (h ∷ hs) kept =
     let at = stage_then b before in
@@ -63,7 +66,8 @@ all-keep b before (h ∷ hs) kept =
     let whole = append_assoc before (h ∷ []) hs in
     let here = subst (λ (l : List Happening). EachHasOriginIn b l (sent_at at h)) whole
     (origin-later b (before ++ h ∷ []) hs (sent_at at h) one.packets) in
-    let sent_then = subst (λ (l : List Happening). EachHasOriginIn b l (sent_in (stage_then b (before ++ h ∷ [])) hs)) whole rest.packets in
+    let sent_then = subst (λ (l : List Happening). EachHasOriginIn b l
+    (sent_in (stage_then b (before ++ h ∷ [])) hs)) whole rest.packets in
     let later = subst (λ (t : Stage). EachHasOriginIn b (before ++ h ∷ hs) (sent_in t hs)) next sent_then in
     record {
       packets = all-append (HasOriginIn b (before ++ h ∷ hs)) (sent_at at h) (sent_in (stage_after at h) hs) here later;

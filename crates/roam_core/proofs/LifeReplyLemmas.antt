@@ -54,7 +54,8 @@ module _ (b : Stage) (before : List Happening) (at : Stage) (is_at : stage_then 
       (q : PlainRequest) (ticket id : ℕ) (forwarded : List ℕ)
       → WaitsForIn b before q ticket (record { link = from; id = id }) forwarded
       → (packet_of reply).id ≡ id
-      → reply_fault (link_secret at.config from) (seal_required at.config from) (packet_of reply) (packet_of forwarded) ≡ None
+      → reply_fault (link_secret at.config from) (seal_required at.config from) (packet_of reply)
+      (packet_of forwarded) ≡ None
       → IsSentIn b before (reply_came now from reply)
       (back_for at.config q from (packet_of forwarded) (packet_of reply))
       → IsReturnedIn b (and_reply before now from reply) q ticket
@@ -73,7 +74,8 @@ module _ (b : Stage) (before : List Happening) (at : Stage) (is_at : stage_then 
     forwarded = waits.forwarded;
     identifier = asked;
     taken =
-        subst (λ (octets : List ℕ). reply_fault (link_secret at.config from) (seal_required at.config from) (packet_of reply)
+        subst (λ (octets : List ℕ). reply_fault (link_secret at.config from) (seal_required at.config from)
+        (packet_of reply)
         (packet_of octets) ≡ None) waits.octets_are taken;
     is_returned =
         ap (λ (octets : List ℕ). back_for at.config q from (packet_of octets) (packet_of reply))
@@ -89,7 +91,8 @@ module _ (b : Stage) (before : List Happening) (at : Stage) (is_at : stage_then 
       (e : PlainEntry) (id : ℕ) (forwarded : List ℕ) → ComesFromIn b before e
       → WaitsForIn b before e.request e.ticket (record { link = from; id = id }) forwarded
       → (packet_of reply).id ≡ id
-      → reply_fault (link_secret at.config from) (seal_required at.config from) (packet_of reply) (packet_of forwarded) ≡ None
+      → reply_fault (link_secret at.config from) (seal_required at.config from) (packet_of reply)
+      (packet_of forwarded) ≡ None
       → AreSentIn b before (reply_came now from reply)
       (packets_of (return_reply at.config now at.state e from (packet_of forwarded) (packet_of reply)))
       → TurnKeepsIn b (and_reply before now from reply) at.state
@@ -104,9 +107,11 @@ module _ (b : Stage) (before : List Happening) (at : Stage) (is_at : stage_then 
       elim (cases_Bool (ltb 4096 length)) [
         | inl y ↦ rw y (record { packets = tt; entries = still })
         | inr n ↦
-            let out : AreSentIn b before happened (back_for at.config e.request from (packet_of forwarded) (packet_of reply) ∷ []) = rw n at sent in
+            let out : AreSentIn b before happened
+            (back_for at.config e.request from (packet_of forwarded) (packet_of reply) ∷ []) = rw n at sent in
             let returned = answered-returned e.request e.ticket id forwarded waits asked taken out.0 in
-            let held = subst (λ (i : ℕ). IsReturnedIn b life e.request e.ticket (back_to i e.request.key octets)) own-index returned in
+            let held = subst (λ (i : ℕ). IsReturnedIn b life e.request e.ticket (back_to i e.request.key octets))
+            own-index returned in
             let settled_comes : ComesFromIn b life settled = record {
               request = request-later b before (event happened ∷ []) e.request e.ticket comes.request;
               standing = inl held;
@@ -123,7 +128,8 @@ module _ (b : Stage) (before : List Happening) (at : Stage) (is_at : stage_then 
   -- one that isn't taken changes nothing
   judge-keeps :
       (e : PlainEntry) (id : ℕ) (forwarded : List ℕ) (why : Option Refusal)
-      → reply_fault (link_secret at.config from) (seal_required at.config from) (packet_of reply) (packet_of forwarded) ≡ why
+      → reply_fault (link_secret at.config from) (seal_required at.config from) (packet_of reply)
+      (packet_of forwarded) ≡ why
       → ComesFromIn b before e
       → WaitsForIn b before e.request e.ticket (record { link = from; id = id }) forwarded
       → (packet_of reply).id ≡ id
@@ -152,10 +158,12 @@ module _ (b : Stage) (before : List Happening) (at : Stage) (is_at : stage_then 
       let there = on-same_link b before e.request e.ticket id forwarded l from is waits in
       let happened = reply_came now from reply in
       let of_link : Link → Type 0 = λ k. AreSentIn b before happened
-      (packets_of (to_standing at.config now at.state e (packet_of reply) (waiting k id forwarded sends_left deadline))) in
+      (packets_of (to_standing at.config now at.state e (packet_of reply)
+      (waiting k id forwarded sends_left deadline))) in
       let kept_there : Link → Type 0 = λ k. TurnKeepsIn b (and_reply before now from reply) at.state
       (to_standing at.config now at.state e (packet_of reply) (waiting k id forwarded sends_left deadline)) in
-      let why = reply_fault (link_secret at.config from) (seal_required at.config from) (packet_of reply) (packet_of forwarded) in
+      let why = reply_fault (link_secret at.config from) (seal_required at.config from) (packet_of reply)
+      (packet_of forwarded) in
       subst kept_there (sym is)
       (judge-keeps e id forwarded why refl comes there asked (subst of_link is sent))
   to_standing-keeps e (done old deadline) comes waits stands sent =

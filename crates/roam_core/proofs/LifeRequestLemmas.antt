@@ -64,7 +64,9 @@ module _ (b : Stage) (before : List Happening) (at : Stage) (now : ℕ)
   whole_turn other is = record { stage = after.stage; does = after.does ∙ is }
 
   -- its own turn is its occasion
-  own-occasion : (other : Turn) → turn ≡ other → IsIn (own_turn at.state other) (occasions (stage_then b before).config (stage_then b before).state (request_came now named q))
+  own-occasion : (other : Turn) → turn ≡ other →
+      IsIn (own_turn at.state other) (occasions (stage_then b before).config (stage_then b before).state
+      (request_came now named q))
   own-occasion other is =
       let there : IsIn (own_turn at.state other) (occasions at.config at.state (request_came now named q)) =
       inl (ap (own_turn at.state) (after.does ∙ is)) in

@@ -169,7 +169,8 @@ module _ (b : Stage) (before : List Happening) (at : Stage) (is_at : stage_then 
       } in
       record {
         packets = (
-          forwarded-origin b before (tick_came now) c c e.request position e.ticket target _ is_config forwarded refl sent.0,
+          forwarded-origin b before (tick_came now) c c e.request position e.ticket target _ is_config forwarded refl
+              sent.0,
           tt,
         );
         entries = all-put IsKnown anew s.entries anew_known kept;
@@ -211,13 +212,15 @@ module _ (b : Stage) (before : List Happening) (at : Stage) (is_at : stage_then 
             let out : AreSentIn b before (tick_came now) (packet_to_link c l forwarded ∷ []) = rw y at sent in
             rw y (record {
               packets = (
-                forwarded-origin b before (tick_came now) c stands.under e.request stands.position e.ticket (record { link = l; id = id }) forwarded
+                forwarded-origin b before (tick_came now) c stands.under e.request stands.position e.ticket
+                    (record { link = l; id = id }) forwarded
                     is_config stands.forwarded stands.octets_are out.0,
                 tt,
               );
               entries = all-put IsKnown again s.entries again_known kept;
             })
-        | inr n ↦ rw n (fail_over-keeps s (given_up_at c now l s e) e next refl others known (rw n at sent) (rw n at on))
+        | inr n ↦ rw n (fail_over-keeps s (given_up_at c now l s e) e next refl others known (rw n at sent)
+            (rw n at on))
       ]
 
   due_entry-keeps :

@@ -16,23 +16,27 @@ pub then-rises : (at : Stage) (hs : List Happening) → at.state.ticket ≤ (sta
 then-rises at [] = omega arith
 then-rises at (h ∷ hs) = omega (arith, after-rises at h, then-rises (stage_after at h) hs)
 
-pub all-rise : (b : Stage) (xs ys : List Happening) → (stage_then b xs).state.ticket ≤ (stage_then b (xs ++ ys)).state.ticket
+pub all-rise : (b : Stage) (xs ys : List Happening) →
+    (stage_then b xs).state.ticket ≤ (stage_then b (xs ++ ys)).state.ticket
 all-rise b xs ys =
     subst (λ (t : Stage). (stage_then b xs).state.ticket ≤ t.state.ticket) (sym (stage-append b xs ys))
     (then-rises (stage_then b xs) ys)
 
 -- a ticket that was given to an event is given to no later one
-not-later : (b : Stage) (xs ys mid : List Happening) (e f : RealmEvent) (ticket : ℕ) → TakesTicketIn b xs e ticket → TakesTicketIn b ys f ticket → ys ≡ xs ++ event e ∷ mid → ⊥
+not-later : (b : Stage) (xs ys mid : List Happening) (e f : RealmEvent) (ticket : ℕ) → TakesTicketIn b xs e ticket →
+    TakesTicketIn b ys f ticket → ys ≡ xs ++ event e ∷ mid → ⊥
 not-later b xs ys mid e f ticket here there is =
     let all = all-rise b (xs ++ event e ∷ []) mid in
     let same = append_assoc xs (event e ∷ []) mid ∙ sym is in
-    let up = subst (λ (l : List Happening). (stage_then b (xs ++ event e ∷ [])).state.ticket ≤ (stage_then b l).state.ticket) same all in
+    let up = subst (λ (l : List Happening). (stage_then b (xs ++ event e ∷ [])).state.ticket
+    ≤ (stage_then b l).state.ticket) same all in
     absurd (omega (arith, here.taken, there.next, up))
 
 pub same-event : (e f : RealmEvent) → event e ≡ event f → e ≡ f
 same-event e f same = cc
 
-decided : (b : Stage) (xs ys : List Happening) (e f : RealmEvent) (ticket : ℕ) → TakesTicketIn b xs e ticket → TakesTicketIn b ys f ticket → Places xs ys (event e) (event f) → (xs ≡ ys) × (e ≡ f)
+decided : (b : Stage) (xs ys : List Happening) (e f : RealmEvent) (ticket : ℕ) → TakesTicketIn b xs e ticket →
+    TakesTicketIn b ys f ticket → Places xs ys (event e) (event f) → (xs ≡ ys) × (e ≡ f)
 decided b xs ys e f ticket here there (one is at) = (is, same-event e f at)
 decided b xs ys e f ticket here there (later mid is) = absurd (not-later b xs ys mid e f ticket here there is)
 decided b xs ys e f ticket here there (earlier mid is) = absurd (not-later b ys xs mid f e ticket there here is)

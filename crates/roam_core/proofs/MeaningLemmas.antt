@@ -35,7 +35,8 @@ module _ (realm now : ℕ) where
   gives how = map (seen realm) (given_by realm now how)
 
   -- what is checked gives the same where what follows does, and nothing where that gives nothing
-  same-checked : (b : Bool) (why : Refusal) (x y : Admission) → gives x ≡ gives y → gives (checked b why x) ≡ gives (checked b why y)
+  same-checked : (b : Bool) (why : Refusal) (x y : Admission) → gives x ≡ gives y →
+      gives (checked b why x) ≡ gives (checked b why y)
   same-checked true why x y same = same
   same-checked false why x y same = refl
 
@@ -44,10 +45,12 @@ module _ (realm now : ℕ) where
   none-checked false why x none = refl
 
   -- a packet of another realm
-  none-given : (k : ℕ) (a : Arrival) (s : Side) (p : Packet) (named : Option ℕ) → (k == realm) ≡ false → gives (job_of a s p k named) ≡ []
+  none-given : (k : ℕ) (a : Arrival) (s : Side) (p : Packet) (named : Option ℕ) → (k == realm) ≡ false →
+      gives (job_of a s p k named) ≡ []
   none-given k a s p named differs = rw differs refl
 
-  none-forwarded : (k : ℕ) (a : Arrival) (s : Side) (p : Packet) (named : Option ℕ) → (k == realm) ≡ false → gives (forwarded_for a s p k named) ≡ []
+  none-forwarded : (k : ℕ) (a : Arrival) (s : Side) (p : Packet) (named : Option ℕ) → (k == realm) ≡ false →
+      gives (forwarded_for a s p k named) ≡ []
   none-forwarded k a s p named differs =
       none-checked _ refusal.TooLong (job_of a s p k named) (none-given k a s p named differs)
 
@@ -55,12 +58,14 @@ module _ (realm now : ℕ) where
   only-same : (m n : Option ℕ) → is_realm realm m ≡ is_realm realm n → only_own realm m ≡ only_own realm n
   only-same m n same = ap (λ (b : Bool). if b then Some realm else None) same
 
-  own-given : (a : Arrival) (s : Side) (p : Packet) (m n : Option ℕ) → is_realm realm m ≡ is_realm realm n → gives (job_of a s p realm m) ≡ gives (job_of a s p realm n)
+  own-given : (a : Arrival) (s : Side) (p : Packet) (m n : Option ℕ) → is_realm realm m ≡ is_realm realm n →
+      gives (job_of a s p realm m) ≡ gives (job_of a s p realm n)
   own-given a (side.Peer i) p m n same = rw (itself realm, only-same m n same) refl
   own-given a (side.Home i) p m n same = rw (itself realm, only-same m n same) refl
   own-given a (side.Link l) p m n same = rw (itself realm) refl
 
-  own-forwarded : (a : Arrival) (s : Side) (p : Packet) (m n : Option ℕ) → is_realm realm m ≡ is_realm realm n → gives (forwarded_for a s p realm m) ≡ gives (forwarded_for a s p realm n)
+  own-forwarded : (a : Arrival) (s : Side) (p : Packet) (m n : Option ℕ) → is_realm realm m ≡ is_realm realm n →
+      gives (forwarded_for a s p realm m) ≡ gives (forwarded_for a s p realm n)
   own-forwarded a s p m n same =
       same-checked _ refusal.TooLong (job_of a s p realm m) (job_of a s p realm n)
       (own-given a s p m n same)
@@ -69,7 +74,8 @@ module _ (realm now : ℕ) where
   abbrev where_named : Arrival → Side → Packet → Bool → List RealmEvent
   where_named a s p means = if means then gives (forwarded_for a s p realm (Some realm)) else []
 
-  named-given : (a : Arrival) (s : Side) (p : Packet) (named : Option ℕ) → gives (for_named_realm a s p named) ≡ where_named a s p (is_realm realm named)
+  named-given : (a : Arrival) (s : Side) (p : Packet) (named : Option ℕ) →
+      gives (for_named_realm a s p named) ≡ where_named a s p (is_realm realm named)
   named-given a s p None = refl
   named-given a s p (Some k) =
       elim (cases_Bool (k == realm)) [
@@ -88,7 +94,9 @@ module _ (realm now : ℕ) where
   route_auth secret a s p bad hops named =
       if not (is_some named) || bad || hops then rejected_for secret a p else for_named_realm a s p named
 
-  auth-given : (secret : List ℕ) (a : Arrival) (s : Side) (p : Packet) (bad hops : Bool) (named : Option ℕ) → gives (route_auth secret a s p bad hops named) ≡ (if bad || hops then [] else where_named a s p (is_realm realm named))
+  auth-given : (secret : List ℕ) (a : Arrival) (s : Side) (p : Packet) (bad hops : Bool) (named : Option ℕ) →
+      gives (route_auth secret a s p bad hops named)
+      ≡ (if bad || hops then [] else where_named a s p (is_realm realm named))
   auth-given secret a s p true hops None = rejected-none secret a p
   auth-given secret a s p false true None = rejected-none secret a p
   auth-given secret a s p false false None = rejected-none secret a p
@@ -100,13 +108,15 @@ module _ (realm now : ℕ) where
   none-status : (config : ConfigView) (a : Arrival) (s : Side) (p : Packet) → gives (status_from config a s p) ≡ []
   none-status config a (side.Peer i) p =
       let secret = peer_secret config i in
-      none-checked _ refusal.BadMessageAuthenticator (checked (has_seal p) refusal.MissingMessageAuthenticator (answered_by a (status_answer a.at secret p)))
+      none-checked _ refusal.BadMessageAuthenticator
+      (checked (has_seal p) refusal.MissingMessageAuthenticator (answered_by a (status_answer a.at secret p)))
       (none-checked (has_seal p) refusal.MissingMessageAuthenticator (answered_by a (status_answer a.at secret p)) refl)
   none-status config a (side.Link l) p = refl
   none-status config a (side.Home i) p = refl
 
   -- a Status-Server's code is taken for nothing else
-  not_taken : (config : ConfigView) (at : Place) (s : Side) (code : ℕ) → is_status_request config at s code ≡ true → is_taken at s code ≡ false
+  not_taken : (config : ConfigView) (at : Place) (s : Side) (code : ℕ) → is_status_request config at s code ≡ true →
+      is_taken at s code ≡ false
   not_taken config place.Auth (side.Peer i) code is = grind (arith, nat_tests, is)
   not_taken config place.Acct (side.Peer i) code is = grind (arith, nat_tests, is)
   not_taken config place.Auth (side.Link l) code is = refl
@@ -120,7 +130,8 @@ module _ (realm now : ℕ) where
   abbrev judged : ConfigView → Arrival → Packet → Side → Admission
   judged config a p s = checked (is_taken a.at s p.code) refusal.WrongCode (packet_admission config a s p a.at)
 
-  sent-judged : (config : ConfigView) (a : Arrival) (p : Packet) (s : Side) → gives (sent_admission config a p (Some s)) ≡ gives (judged config a p s)
+  sent-judged : (config : ConfigView) (a : Arrival) (p : Packet) (s : Side) →
+      gives (sent_admission config a p (Some s)) ≡ gives (judged config a p s)
   sent-judged config a p s =
       elim (cases_Bool (is_status_request config a.at s p.code)) [
         | inl is ↦ rw (is, not_taken config a.at s p.code is) (none-status config a s p)
@@ -128,49 +139,65 @@ module _ (realm now : ℕ) where
       ]
 
   -- at another realm's places nothing is the realm's
-  none-out : (config : ConfigView) (k : ℕ) (from : Endpoint) (octets : List ℕ) (p : Packet) (s : Option Side) → (k == realm) ≡ false
+  none-out : (config : ConfigView) (k : ℕ) (from : Endpoint) (octets : List ℕ) (p : Packet) (s : Option Side) →
+      (k == realm) ≡ false
       → gives (sent_admission config (record { at = place.Out k; from = from; octets = octets }) p s) ≡ []
   none-out config k from octets p None differs = refl
   none-out config k from octets p (Some s) differs =
       let a : Arrival = record { at = place.Out k; from = from; octets = octets } in
-      none-checked (is_taken (place.Out k) s p.code) refusal.WrongCode (job_of a s p k None) (none-given k a s p None differs)
+      none-checked (is_taken (place.Out k) s p.code) refusal.WrongCode (job_of a s p k None)
+      (none-given k a s p None differs)
 
-  none-reverse : (config : ConfigView) (k : ℕ) (from : Endpoint) (octets : List ℕ) (p : Packet) (o : Option ℕ) → (k == realm) ≡ false
-      → gives (sent_admission config (record { at = place.Reverse k; from = from; octets = octets }) p (option_map (λ i. side.Home i) o)) ≡ []
+  none-reverse : (config : ConfigView) (k : ℕ) (from : Endpoint) (octets : List ℕ) (p : Packet) (o : Option ℕ) →
+      (k == realm) ≡ false
+      → gives (sent_admission config (record { at = place.Reverse k; from = from; octets = octets }) p
+      (option_map (λ i. side.Home i) o)) ≡ []
   none-reverse config k from octets p None differs = refl
   none-reverse config k from octets p (Some i) differs =
       let a : Arrival = record { at = place.Reverse k; from = from; octets = octets } in
       let secret = home_secret config k i in
-      none-checked (is_taken (place.Reverse k) (side.Home i) p.code) refusal.WrongCode (request_admission config secret a (side.Home i) p)
+      none-checked (is_taken (place.Reverse k) (side.Home i) p.code) refusal.WrongCode
+      (request_admission config secret a (side.Home i) p)
       (none-checked (is_rightly_signed secret p) refusal.BadAuthenticator _
       (none-checked (is_rightly_sealed secret p) refusal.BadMessageAuthenticator _
       (none-checked (has_needed_seal (seal_required config (side.Home i)) p) refusal.MissingMessageAuthenticator _
       (none-checked (has_few_hops config.max_hops p) refusal.TooManyHops
-      (forwarded_for a (side.Home i) p k (realm_of config p.attributes)) (none-forwarded k a (side.Home i) p (realm_of config p.attributes) differs)))))
+      (forwarded_for a (side.Home i) p k (realm_of config p.attributes))
+      (none-forwarded k a (side.Home i) p (realm_of config p.attributes) differs)))))
 
 module _ (one other : ConfigView) (realm now : ℕ) (agree : AgreeFor one other realm) where
-  named-alike : (o : Option (List ℕ)) → is_realm realm (option_and_then (realm_named one.realms) o) ≡ is_realm realm (option_and_then (realm_named other.realms) o)
+  named-alike : (o : Option (List ℕ)) →
+      is_realm realm (option_and_then (realm_named one.realms) o)
+      ≡ is_realm realm (option_and_then (realm_named other.realms) o)
   named-alike None = refl
   named-alike (Some name) = agree.names name
 
-  realm-alike : (attributes : List Attribute) → is_realm realm (realm_of one attributes) ≡ is_realm realm (realm_of other attributes)
+  realm-alike : (attributes : List Attribute) →
+      is_realm realm (realm_of one attributes) ≡ is_realm realm (realm_of other attributes)
   realm-alike attributes = named-alike (option_and_then realm_part (first_value USER_NAME attributes))
 
   -- where a request goes that isn't at another realm's place
-  named-same : (a : Arrival) (s : Side) (p : Packet) → gives realm now (for_named_realm a s p (realm_of one p.attributes)) ≡ gives realm now (for_named_realm a s p (realm_of other p.attributes))
+  named-same : (a : Arrival) (s : Side) (p : Packet) →
+      gives realm now (for_named_realm a s p (realm_of one p.attributes))
+      ≡ gives realm now (for_named_realm a s p (realm_of other p.attributes))
   named-same a s p =
       named-given realm now a s p (realm_of one p.attributes)
       ∙ ap (where_named realm now a s p) (realm-alike p.attributes)
       ∙ sym (named-given realm now a s p (realm_of other p.attributes))
 
-  route-same : (secret : List ℕ) (a : Arrival) (s : Side) (p : Packet) (at : Place) → ((k : ℕ) → at ≡ place.Reverse k → k ≡ realm) → gives realm now (route_request one secret a s p at) ≡ gives realm now (route_request other secret a s p at)
+  route-same : (secret : List ℕ) (a : Arrival) (s : Side) (p : Packet) (at : Place) →
+      ((k : ℕ) → at ≡ place.Reverse k → k ≡ realm) →
+      gives realm now (route_request one secret a s p at) ≡ gives realm now (route_request other secret a s p at)
   route-same secret a s p (place.Reverse k) own_place =
-      rw (own_place k refl) (own-forwarded realm now a s p (realm_of one p.attributes) (realm_of other p.attributes) (realm-alike p.attributes))
+      rw (own_place k refl) (own-forwarded realm now a s p (realm_of one p.attributes) (realm_of other p.attributes)
+      (realm-alike p.attributes))
   route-same secret a s p place.Auth own_place =
       let bad = has_bad_password p in
       auth-given realm now secret a s p bad (has_too_many_hops one.max_hops p) (realm_of one p.attributes)
-      ∙ ap (λ (means : Bool). if bad || has_too_many_hops one.max_hops p then [] else where_named realm now a s p means) (realm-alike p.attributes)
-      ∙ ap (λ (most : Option ℕ). if bad || has_too_many_hops most p then [] else where_named realm now a s p (is_realm realm (realm_of other p.attributes))) agree.max_hops
+      ∙ ap (λ (means : Bool). if bad || has_too_many_hops one.max_hops p then [] else where_named realm now a s p
+      means) (realm-alike p.attributes)
+      ∙ ap (λ (most : Option ℕ). if bad || has_too_many_hops most p then [] else where_named realm now a s p
+      (is_realm realm (realm_of other p.attributes))) agree.max_hops
       ∙ sym (auth-given realm now secret a s p bad (has_too_many_hops other.max_hops p) (realm_of other p.attributes))
   route-same secret a s p place.Acct own_place = named-same a s p
   route-same secret a s p (place.Out k) own_place = named-same a s p
@@ -188,35 +215,48 @@ module _ (one other : ConfigView) (realm now : ℕ) (agree : AgreeFor one other 
       (checked (has_needed_seal required p) refusal.MissingMessageAuthenticator
       (checked (has_few_hops most p) refusal.TooManyHops further)))
 
-  asked-same : (secret : List ℕ) (p : Packet) (required : Bool) (most : Option ℕ) (x y : Admission) → gives realm now x ≡ gives realm now y → gives realm now (asked secret p required most x) ≡ gives realm now (asked secret p required most y)
+  asked-same : (secret : List ℕ) (p : Packet) (required : Bool) (most : Option ℕ) (x y : Admission) →
+      gives realm now x ≡ gives realm now y →
+      gives realm now (asked secret p required most x) ≡ gives realm now (asked secret p required most y)
   asked-same secret p required most x y same =
       same-checked realm now (is_rightly_signed secret p) refusal.BadAuthenticator _ _
       (same-checked realm now (is_rightly_sealed secret p) refusal.BadMessageAuthenticator _ _
       (same-checked realm now (has_needed_seal required p) refusal.MissingMessageAuthenticator _ _
       (same-checked realm now (has_few_hops most p) refusal.TooManyHops x y same)))
 
-  request-same : (secret : List ℕ) (a : Arrival) (s : Side) (p : Packet) → ((k : ℕ) → a.at ≡ place.Reverse k → k ≡ realm) → gives realm now (request_admission one secret a s p) ≡ gives realm now (request_admission other secret a s p)
+  request-same : (secret : List ℕ) (a : Arrival) (s : Side) (p : Packet) →
+      ((k : ℕ) → a.at ≡ place.Reverse k → k ≡ realm) →
+      gives realm now (request_admission one secret a s p) ≡ gives realm now (request_admission other secret a s p)
   request-same secret a s p own_place =
       let goes = route_request one secret a s p a.at in
       ap (λ (required : Bool). gives realm now (asked secret p required one.max_hops goes)) (seal-same s)
       ∙ ap (λ (most : Option ℕ). gives realm now (asked secret p (seal_required other s) most goes)) agree.max_hops
-      ∙ asked-same secret p (seal_required other s) other.max_hops goes (route_request other secret a s p a.at) (route-same secret a s p a.at own_place)
+      ∙ asked-same secret p (seal_required other s) other.max_hops goes (route_request other secret a s p a.at)
+      (route-same secret a s p a.at own_place)
 
   -- a request of a peer, and of a home server of the realm
-  peer-same : (a : Arrival) (i : ℕ) (p : Packet) → ((k : ℕ) → a.at ≡ place.Reverse k → k ≡ realm) → gives realm now (request_admission one (peer_secret one i) a (side.Peer i) p) ≡ gives realm now (request_admission other (peer_secret other i) a (side.Peer i) p)
+  peer-same : (a : Arrival) (i : ℕ) (p : Packet) → ((k : ℕ) → a.at ≡ place.Reverse k → k ≡ realm) →
+      gives realm now (request_admission one (peer_secret one i) a (side.Peer i) p)
+      ≡ gives realm now (request_admission other (peer_secret other i) a (side.Peer i) p)
   peer-same a i p own_place =
-      let secret : peer_secret one i ≡ peer_secret other i = ap (λ (ps : List PeerView). secrets.peer_secret ps i) agree.peers in
+      let secret : peer_secret one i ≡ peer_secret other i =
+      ap (λ (ps : List PeerView). secrets.peer_secret ps i) agree.peers in
       ap (λ (x : List ℕ). gives realm now (request_admission one x a (side.Peer i) p)) secret
       ∙ request-same (peer_secret other i) a (side.Peer i) p own_place
 
-  home-same : (a : Arrival) (i : ℕ) (p : Packet) → ((k : ℕ) → a.at ≡ place.Reverse k → k ≡ realm) → gives realm now (request_admission one (home_secret one realm i) a (side.Home i) p) ≡ gives realm now (request_admission other (home_secret other realm i) a (side.Home i) p)
+  home-same : (a : Arrival) (i : ℕ) (p : Packet) → ((k : ℕ) → a.at ≡ place.Reverse k → k ≡ realm) →
+      gives realm now (request_admission one (home_secret one realm i) a (side.Home i) p)
+      ≡ gives realm now (request_admission other (home_secret other realm i) a (side.Home i) p)
   home-same a i p own_place =
-      let secret : home_secret one realm i ≡ home_secret other realm i = ap (λ (r : Option RealmView). secrets.server_secret (servers_of r) i) agree.entry in
+      let secret : home_secret one realm i ≡ home_secret other realm i =
+      ap (λ (r : Option RealmView). secrets.server_secret (servers_of r) i) agree.entry in
       ap (λ (x : List ℕ). gives realm now (request_admission one x a (side.Home i) p)) secret
       ∙ request-same (home_secret other realm i) a (side.Home i) p own_place
 
   -- a packet at a place that isn't another realm's
-  packet-same : (a : Arrival) (s : Side) (p : Packet) (at : Place) → a.at ≡ at → ((k : ℕ) → at ≡ place.Reverse k → k ≡ realm) → gives realm now (packet_admission one a s p at) ≡ gives realm now (packet_admission other a s p at)
+  packet-same : (a : Arrival) (s : Side) (p : Packet) (at : Place) → a.at ≡ at →
+      ((k : ℕ) → at ≡ place.Reverse k → k ≡ realm) →
+      gives realm now (packet_admission one a s p at) ≡ gives realm now (packet_admission other a s p at)
   packet-same a s p (place.Out k) is own_place = refl
   packet-same a (side.Peer i) p place.Auth is own_place = peer-same a i p (λ k here. own_place k (sym is ∙ here))
   packet-same a (side.Peer i) p place.Acct is own_place = peer-same a i p (λ k here. own_place k (sym is ∙ here))
@@ -230,11 +270,13 @@ module _ (one other : ConfigView) (realm now : ℕ) (agree : AgreeFor one other 
   packet-same a (side.Link l) p (place.Reverse k) is own_place = refl
 
   -- what it gives to the realm there
-  known-same : (a : Arrival) (p : Packet) (s : Option Side) → ((k : ℕ) → a.at ≡ place.Reverse k → k ≡ realm) → gives realm now (sent_admission one a p s) ≡ gives realm now (sent_admission other a p s)
+  known-same : (a : Arrival) (p : Packet) (s : Option Side) → ((k : ℕ) → a.at ≡ place.Reverse k → k ≡ realm) →
+      gives realm now (sent_admission one a p s) ≡ gives realm now (sent_admission other a p s)
   known-same a p None own_place = refl
   known-same a p (Some s) own_place =
       sent-judged realm now one a p s
-      ∙ same-checked realm now (is_taken a.at s p.code) refusal.WrongCode (packet_admission one a s p a.at) (packet_admission other a s p a.at)
+      ∙ same-checked realm now (is_taken a.at s p.code) refusal.WrongCode (packet_admission one a s p a.at)
+      (packet_admission other a s p a.at)
       (packet-same a s p a.at refl own_place)
       ∙ sym (sent-judged realm now other a p s)
 
@@ -248,8 +290,10 @@ module _ (one other : ConfigView) (realm now : ℕ) (agree : AgreeFor one other 
   home-found : (ip : List ℕ) → home_in one realm ip ≡ home_in other realm ip
   home-found ip = rw agree.entry refl
 
-  place-same : (at : Place) (from : Endpoint) (octets : List ℕ) (p : Packet) → let a : Arrival = record { at = at; from = from; octets = octets } in
-      gives realm now (sent_admission one a p (sender one a at)) ≡ gives realm now (sent_admission other a p (sender other a at))
+  place-same : (at : Place) (from : Endpoint) (octets : List ℕ) (p : Packet) → let a : Arrival =
+      record { at = at; from = from; octets = octets } in
+      gives realm now (sent_admission one a p (sender one a at))
+      ≡ gives realm now (sent_admission other a p (sender other a at))
   place-same place.Auth from octets p =
       let a : Arrival = record { at = place.Auth; from = from; octets = octets } in
       rw (peer-found from.ip) (known-same a p (sender other a place.Auth) (λ k is. absurd (cc is)))
@@ -262,10 +306,13 @@ module _ (one other : ConfigView) (realm now : ℕ) (agree : AgreeFor one other 
         | inl yes' ↦ (
             let here : k ≡ realm = (Decides-eqb k realm).0 yes' in
             let found_by : sender one a (place.Out k) ≡ sender other a (place.Out k) =
-            subst (λ (j : ℕ). option_map (λ l. side.Link l) (link_in one j from) ≡ option_map (λ l. side.Link l) (link_in other j from)) (sym here)
+            subst (λ (j : ℕ). option_map (λ l. side.Link l) (link_in one j from)
+            ≡ option_map (λ l. side.Link l) (link_in other j from)) (sym here)
             (ap (λ o. option_map (λ l. side.Link l) o) (link-found from)) in
-            known-same a p (sender one a (place.Out k)) (λ j is. absurd (cc is)) ∙ ap (λ (s : Option Side). gives realm now (sent_admission other a p s)) found_by)
-        | inr no' ↦ none-out realm now one k from octets p (sender one a (place.Out k)) no' ∙ sym (none-out realm now other k from octets p (sender other a (place.Out k)) no')
+            known-same a p (sender one a (place.Out k)) (λ j is. absurd (cc is))
+            ∙ ap (λ (s : Option Side). gives realm now (sent_admission other a p s)) found_by)
+        | inr no' ↦ none-out realm now one k from octets p (sender one a (place.Out k)) no'
+            ∙ sym (none-out realm now other k from octets p (sender other a (place.Out k)) no')
       ]
   place-same (place.Reverse k) from octets p =
       let a : Arrival = record { at = place.Reverse k; from = from; octets = octets } in
@@ -273,13 +320,17 @@ module _ (one other : ConfigView) (realm now : ℕ) (agree : AgreeFor one other 
         | inl yes' ↦ (
             let here : k ≡ realm = (Decides-eqb k realm).0 yes' in
             let found_by : sender one a (place.Reverse k) ≡ sender other a (place.Reverse k) =
-            subst (λ (j : ℕ). option_map (λ i. side.Home i) (home_in one j from.ip) ≡ option_map (λ i. side.Home i) (home_in other j from.ip)) (sym here)
+            subst (λ (j : ℕ). option_map (λ i. side.Home i) (home_in one j from.ip)
+            ≡ option_map (λ i. side.Home i) (home_in other j from.ip)) (sym here)
             (ap (λ o. option_map (λ i. side.Home i) o) (home-found from.ip)) in
-            known-same a p (sender one a (place.Reverse k)) (λ j is. (let at_k : k ≡ j = cc is in sym at_k ∙ here)) ∙ ap (λ (s : Option Side). gives realm now (sent_admission other a p s)) found_by)
-        | inr no' ↦ none-reverse realm now one k from octets p (home_in one k from.ip) no' ∙ sym (none-reverse realm now other k from octets p (home_in other k from.ip) no')
+            known-same a p (sender one a (place.Reverse k)) (λ j is. (let at_k : k ≡ j = cc is in sym at_k ∙ here))
+            ∙ ap (λ (s : Option Side). gives realm now (sent_admission other a p s)) found_by)
+        | inr no' ↦ none-reverse realm now one k from octets p (home_in one k from.ip) no'
+            ∙ sym (none-reverse realm now other k from octets p (home_in other k from.ip) no')
       ]
 
-  read-same : (a : Arrival) (read : Result Packet Refusal) → gives realm now (read_admission one a read) ≡ gives realm now (read_admission other a read)
+  read-same : (a : Arrival) (read : Result Packet Refusal) →
+      gives realm now (read_admission one a read) ≡ gives realm now (read_admission other a read)
   read-same a (Err why) = refl
   read-same a (Ok p) = place-same a.at a.from a.octets p
 

@@ -45,28 +45,37 @@ still_own realm named =
 
 -- What a realm does with an event
 
-by_name : (realm peer : ℕ) (sessions : List Session) (m n : Option ℕ) (name id : Option (List ℕ)) → is_realm realm m ≡ is_realm realm n → cause_by_name realm m peer sessions name id ≡ cause_by_name realm n peer sessions name id
+by_name : (realm peer : ℕ) (sessions : List Session) (m n : Option ℕ) (name id : Option (List ℕ)) →
+    is_realm realm m ≡ is_realm realm n →
+    cause_by_name realm m peer sessions name id ≡ cause_by_name realm n peer sessions name id
 by_name realm peer sessions m n None None same = refl
 by_name realm peer sessions m n None (Some id) same = refl
 by_name realm peer sessions m n (Some name) id same = rw same refl
 
-at_target : (realm : ℕ) (m n : Option ℕ) (attributes : List Attribute) (sessions : List Session) (peer : Option ℕ) → is_realm realm m ≡ is_realm realm n → cause_at_target realm m attributes sessions peer ≡ cause_at_target realm n attributes sessions peer
+at_target : (realm : ℕ) (m n : Option ℕ) (attributes : List Attribute) (sessions : List Session) (peer : Option ℕ) →
+    is_realm realm m ≡ is_realm realm n →
+    cause_at_target realm m attributes sessions peer ≡ cause_at_target realm n attributes sessions peer
 at_target realm m n attributes sessions None same = refl
 at_target realm m n attributes sessions (Some peer) same =
     ap (λ (o : Option ℕ). option_or o (cause_by_salt attributes))
     (by_name realm peer sessions m n (first_value USER_NAME attributes) (first_value ACCT_SESSION_ID attributes) same)
 
-cause-same : (peers : List PeerView) (realm : ℕ) (m n : Option ℕ) (attributes : List Attribute) (sessions : List Session) → is_realm realm m ≡ is_realm realm n → cause peers realm m attributes sessions ≡ cause peers realm n attributes sessions
+cause-same : (peers : List PeerView) (realm : ℕ) (m n : Option ℕ) (attributes : List Attribute)
+    (sessions : List Session) → is_realm realm m ≡ is_realm realm n →
+    cause peers realm m attributes sessions ≡ cause peers realm n attributes sessions
 unfolding cause
 cause-same peers realm m n attributes sessions same =
     at_target realm m n attributes sessions (target peers attributes) same
 
-reverse-same : (c : RealmConfig) (s : RealmState) (m n : Option ℕ) (q : PlainRequest) → is_realm c.index m ≡ is_realm c.index n → reverse_cause c s m q ≡ reverse_cause c s n q
+reverse-same : (c : RealmConfig) (s : RealmState) (m n : Option ℕ) (q : PlainRequest) →
+    is_realm c.index m ≡ is_realm c.index n → reverse_cause c s m q ≡ reverse_cause c s n q
 reverse-same c s m n q same =
     ap (λ (o : Option ℕ). if is_reverse q then o else None)
     (cause-same c.peers c.index m n (packet_of q.octets).attributes s.sessions same)
 
-of_key-same : (c : RealmConfig) (now : ℕ) (s : RealmState) (m n : Option ℕ) (q : PlainRequest) (found : Option PlainEntry) → reverse_cause c s m q ≡ reverse_cause c s n q → of_key c now s m q found ≡ of_key c now s n q found
+of_key-same : (c : RealmConfig) (now : ℕ) (s : RealmState) (m n : Option ℕ) (q : PlainRequest)
+    (found : Option PlainEntry) → reverse_cause c s m q ≡ reverse_cause c s n q →
+    of_key c now s m q found ≡ of_key c now s n q found
 of_key-same c now s m n q None same = ap (nak_or_new c now s q) same
 of_key-same c now s m n q (Some e) same =
     elim (cases_Bool (pointwise nat_eq e.request.octets q.octets)) [
@@ -89,7 +98,8 @@ then_run c s es turn =
 abbrev after_turn : Turn → Progress → Progress
 after_turn turn others = record { packets = packets_of turn ++ others.packets; state = others.state }
 
-pub run-same : (c : RealmConfig) (s : RealmState) (es : List RealmEvent) → one_realm_run c s (map (seen c.index) es) ≡ one_realm_run c s es
+pub run-same : (c : RealmConfig) (s : RealmState) (es : List RealmEvent) →
+    one_realm_run c s (map (seen c.index) es) ≡ one_realm_run c s es
 run-same c s [] = refl
 run-same c s (e ∷ es) =
     let turn = on_event c s e in

@@ -20,7 +20,8 @@ use Rattle.roam_core.proofs.DrawLemmas.{At, Numbered, differ, due_entry-goes, du
 abbrev pub DrawsOn : Occasion → ℕ → Type 0
 DrawsOn o p = drawn_between o.before o.after ≡ p ∷ []
 
-due-drew : (c : RealmConfig) (now : ℕ) (s : RealmState) (dues : List Due) (o : Occasion) (p : ℕ) → IsIn o (of_dues c now s dues) → DrawsOn o p → IsIn p (drawn_by_dues c now s dues)
+due-drew : (c : RealmConfig) (now : ℕ) (s : RealmState) (dues : List Due) (o : Occasion) (p : ℕ) →
+    IsIn o (of_dues c now s dues) → DrawsOn o p → IsIn p (drawn_by_dues c now s dues)
 due-drew c now s [] o p there drew = absurd there
 due-drew c now s (d ∷ ds) o p (inl is) drew =
     let next = (due_one c now s d).state in
@@ -32,7 +33,8 @@ due-drew c now s (d ∷ ds) o p (inr there) drew =
     in-right p (drawn_between s next) (drawn_by_dues c now next ds) (due-drew c now next ds o p there drew)
 
 -- a tick that isn't too late
-in-range : (c : RealmConfig) (s : RealmState) (now : ℕ) (o : Occasion) → IsIn o (occasions c s (tick_came now)) → ltb (2 ^ 62) now ≡ false
+in-range : (c : RealmConfig) (s : RealmState) (now : ℕ) (o : Occasion) → IsIn o (occasions c s (tick_came now)) →
+    ltb (2 ^ 62) now ≡ false
 in-range c s now o there =
     elim (cases_Bool (ltb (2 ^ 62) now)) as (λ _. ltb (2 ^ 62) now ≡ false) [
       | inl late ↦
@@ -42,15 +44,18 @@ in-range c s now o there =
       | inr n ↦ n
     ]
 
-of-tick : (c : RealmConfig) (s : RealmState) (now : ℕ) (o : Occasion) → IsIn o (occasions c s (tick_came now)) → IsIn o (of_dues c now s (due_list now s.entries))
+of-tick : (c : RealmConfig) (s : RealmState) (now : ℕ) (o : Occasion) → IsIn o (occasions c s (tick_came now)) →
+    IsIn o (of_dues c now s (due_list now s.entries))
 of-tick c s now o there =
     let all = of_dues c now s (due_list now s.entries) in
     subst (λ (b : Bool). IsIn o (if b then [] else all)) (in-range c s now o there) there
 
-tick-draws : (c : RealmConfig) (s : RealmState) (now : ℕ) → ltb (2 ^ 62) now ≡ false → drawn_by c s (tick_came now) ≡ drawn_by_dues c now s (due_list now s.entries)
+tick-draws : (c : RealmConfig) (s : RealmState) (now : ℕ) → ltb (2 ^ 62) now ≡ false →
+    drawn_by c s (tick_came now) ≡ drawn_by_dues c now s (due_list now s.entries)
 tick-draws c s now n = ap (λ (b : Bool). if b then [] else drawn_by_dues c now s (due_list now s.entries)) n
 
-pub drew-there : (c : RealmConfig) (s : RealmState) (e : RealmEvent) (o : Occasion) (p : ℕ) → IsIn o (occasions c s e) → DrawsOn o p → IsIn p (drawn_by c s e)
+pub drew-there : (c : RealmConfig) (s : RealmState) (e : RealmEvent) (o : Occasion) (p : ℕ) →
+    IsIn o (occasions c s e) → DrawsOn o p → IsIn p (drawn_by c s e)
 drew-there c s (request_came now named q) o p (inl is) drew =
     let here = ap (λ (x : Occasion). drawn_between x.before x.after) is ∙ drew in
     subst (λ (ps : List ℕ). IsIn p ps) (sym here) (inl refl)
@@ -61,7 +66,8 @@ drew-there c s (tick_came now) o p there drew =
     (due-drew c now s (due_list now s.entries) o p (of-tick c s now o there) drew)
 
 -- no later due entry draws from the same position
-not-again : (place k : ℕ) (c : RealmConfig) (now : ℕ) (s : RealmState) (d : Due) (ds : List Due) (o x : Occasion) (p r : ℕ)
+not-again : (place k : ℕ) (c : RealmConfig) (now : ℕ) (s : RealmState) (d : Due) (ds : List Due) (o x : Occasion)
+    (p r : ℕ)
     → At place k s.stream_position → k + length (drawn_by_dues c now s (d ∷ ds)) ≤ 2 ^ 66
     → of_due d.ticket s (due_one c now s d) ≡ o → DrawsOn o p
     → IsIn x (of_dues c now (due_one c now s d).state ds) → DrawsOn x r → p % 2 ^ 68 ≡ r % 2 ^ 68 → ⊥
@@ -98,7 +104,8 @@ same-due place k c now s (d ∷ ds) o x p r at few (inr there) (inr here) drew a
     let first = moved-draws place k s next at (due_entry-goes c now s (find_ticket d.ticket s.entries)) in
     let sum = length-append own rest in
     let fewer : k + length (own ++ rest) ≤ 2 ^ 66 = few in
-    same-due place (k + length own) c now next ds o x p r first.ends (omega (arith, sum, fewer)) there here drew again same
+    same-due place (k + length own) c now next ds o x p r first.ends (omega (arith, sum, fewer)) there here drew
+    again same
 
 pub same-occasion : (place k : ℕ) (c : RealmConfig) (s : RealmState) (e : RealmEvent) (o x : Occasion) (p r : ℕ)
     → At place k s.stream_position → k + length (drawn_by c s e) ≤ 2 ^ 66

@@ -119,7 +119,8 @@ module _ (c : RealmConfig) (start : Start) (before : List RealmEvent) (now : ℕ
       elim (cases_Bool (ltb 4096 length)) [
         | inl y ↦ rw y (record { packets = tt; entries = still })
         | inr n ↦
-            let out : AreSentBy c start before event (back_for c e.request from (packet_of forwarded) (packet_of reply) ∷ []) = rw n at sent in
+            let out : AreSentBy c start before event
+            (back_for c e.request from (packet_of forwarded) (packet_of reply) ∷ []) = rw n at sent in
             let returned = answered-returned e.request e.ticket id forwarded waits at taken out.0 in
             let settled_comes : ComesFrom c start events settled = record {
               request = request-later c start before (event ∷ []) e.request e.ticket comes.request;

@@ -53,7 +53,8 @@ drawn-there old new is =
 -- a request whose turn leaves it there draws words
 drawn-by :
     (c : RealmConfig) (start : Start) (before : List RealmEvent) (now : ℕ)
-    (named : Option ℕ) (q : PlainRequest) (s : RealmState) (turn : Turn) → IsTurnAfter c start before (request_came now named q) s turn
+    (named : Option ℕ) (q : PlainRequest) (s : RealmState) (turn : Turn) →
+    IsTurnAfter c start before (request_came now named q) s turn
     → (state_after s turn).stream_position ≡ next_position s.stream_position
     → DrawsAt c start before (request_came now named q) s.stream_position
 drawn-by c start before now named q s turn is moved =

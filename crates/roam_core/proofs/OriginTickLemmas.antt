@@ -1,5 +1,5 @@
 -- A tick keeps what is known: an entry is forwarded again or anew, or it goes.
-use Rattle.std.proofs.Common.{◌≡◌, ℕ, ◌+◌, ◌^◌, List, Bool, [], ◌∷◌, ◌++◌, Option, Some, None, refl, sym, ap, subst, ◌∙◌, true, ltb, inl, inr, append_assoc}
+use Rattle.std.proofs.Common.{◌≡◌, ℕ, ◌+◌, ◌^◌, List, Bool, [], ◌∷◌, ◌++◌, Option, Some, None, refl, sym, ap, subst, true, ltb, inl, inr}
 use Rattle.std.specs.Prelude.{not}
 use Rattle.std.specs.List.{AllByRecursion}
 use Rattle.std.proofs.lemmas.Bool.{cases_Bool}
@@ -18,7 +18,7 @@ use Rattle.roam_book.specs.RealmState.{RealmState, Target, chosen_target}
 use Rattle.roam_book.specs.Turn.{packets_of}
 use Rattle.roam_route.specs.Admission.{PlainOut}
 use Rattle.roam_book.specs.OnRequest.{draws, forwarded_entry, is_reverse, nak_octets, once_forwarded, packet_to_requester, packet_to_link}
-use Rattle.roam_book.specs.OnTick.{Progress, fail_over, given_up, once_refused, without_entry, due_standing, due_entry, due_one, due_each, as_turn, on_tick, given_up_at}
+use Rattle.roam_book.specs.OnTick.{Progress, fail_over, given_up, once_refused, due_standing, due_entry, due_one, due_each, as_turn, on_tick, given_up_at}
 use Rattle.roam_book.specs.OneRealm.{RealmEvent, tick_came}
 use Rattle.roam_book.specs.declared.state.start.Start.{Start}
 use Rattle.roam_core.specs.Openings.{state_then}

@@ -1,6 +1,6 @@
 -- What a realm misses of the events that were lost, and what its next tick makes good.
 use Rattle.std.proofs.Common.{◌≡◌, ℕ, ◌+◌, ◌≤◌, ◌^◌, true, false, List, [], ◌∷◌, ◌++◌, refl, sym, ap, subst, ◌∙◌, inl, inr, arith}
-use Rattle.std.specs.Prelude.{nat_lt, not}
+use Rattle.std.specs.Prelude.{nat_lt}
 use Rattle.std.specs.List.{AllByRecursion, list_all}
 use Rattle.std.proofs.lemmas.Bool.{cases_Bool}
 use Rattle.std.proofs.lemmas.Bool.Decides.{nat_tests}
@@ -16,9 +16,9 @@ use Rattle.roam_pending.proofs.DueListLemmas.{due-in, due-taken, in-due, strict-
 use Rattle.roam_pending.proofs.OrderLemmas.{list-without}
 use Rattle.roam_book.specs.RealmConfig.{RealmConfig, realm_config}
 use Rattle.roam_book.specs.RealmState.{RealmState, with_entries}
-use Rattle.roam_book.specs.Rooms.{is_done_at, only_done_due}
+use Rattle.roam_book.specs.Rooms.{is_done_at}
 use Rattle.roam_book.specs.Turn.{Turn, in_time, packets_of, sends, state_after}
-use Rattle.roam_book.specs.OnTick.{Progress, as_turn, due_each, on_tick, silent}
+use Rattle.roam_book.specs.OnTick.{Progress, as_turn, due_each, silent}
 use Rattle.roam_book.specs.OneRealm.{RealmEvent, request_came, reply_came, tick_came, one_realm_run}
 use Rattle.roam_book.specs.LostTicks.{without_each}
 use Rattle.roam_book.proofs.LettingGoLemmas.{all-without, both, goes-one}

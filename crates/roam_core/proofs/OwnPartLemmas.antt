@@ -26,7 +26,8 @@ abbrev of_own : ℕ → Option PlainJob → List RealmEvent
 of_own now None = []
 of_own now (Some job) = event_of now job ∷ []
 
-chosen : (b : Bool) (now : ℕ) (job : PlainJob) → (if b then event_of now job ∷ [] else []) ≡ of_own now (if b then Some job else None)
+chosen : (b : Bool) (now : ℕ) (job : PlainJob) →
+    (if b then event_of now job ∷ [] else []) ≡ of_own now (if b then Some job else None)
 chosen true now job = refl
 chosen false now job = refl
 
@@ -35,7 +36,8 @@ by-own realm now (refused why) = refl
 by-own realm now (rejected out) = refl
 by-own realm now (admitted job) = chosen (job.realm == realm) now job
 
-given-same : (one other : ConfigView) (realm : ℕ) (e : PlainEvent) → HaveSamePart one other realm → one.shards ≡ other.shards → given_to_realm one realm e ≡ given_to_realm other realm e
+given-same : (one other : ConfigView) (realm : ℕ) (e : PlainEvent) → HaveSamePart one other realm →
+    one.shards ≡ other.shards → given_to_realm one realm e ≡ given_to_realm other realm e
 given-same one other realm (arrives now a) part shards =
     by-own realm now (admission one a)
     ∙ ap (of_own now) (own_part_decides one other realm a part)
@@ -52,7 +54,8 @@ same_own_events one other realm (e ∷ es) part shards =
 abbrev made_of : List ℕ → ℕ → RealmView → List PeerView → RealmConfig
 made_of seed index realm peers = record { seed = seed; index = index; realm = realm; peers = peers }
 
-same-part : (one other : ConfigView) (realm : ℕ) → AgreeFor one other realm → realm_config one realm ≡ realm_config other realm
+same-part : (one other : ConfigView) (realm : ℕ) → AgreeFor one other realm →
+    realm_config one realm ≡ realm_config other realm
 same-part one other realm agree =
     let entry = sym (unwrap_or-slice_get one.realms realm no_realm)
     ∙ ap (λ (o : Option RealmView). unwrap_or o no_realm) agree.entry
@@ -62,16 +65,20 @@ same-part one other realm agree =
     ∙ ap (λ (ps : List PeerView). made_of other.seed realm (realm_config other realm).realm ps) agree.peers
 
 -- the same of a list of events, where the same names mean the realm
-seen-given : (one other : ConfigView) (realm : ℕ) (e : PlainEvent) → AgreeFor one other realm → map (seen realm) (given_to_realm one realm e) ≡ map (seen realm) (given_to_realm other realm e)
+seen-given : (one other : ConfigView) (realm : ℕ) (e : PlainEvent) → AgreeFor one other realm →
+    map (seen realm) (given_to_realm one realm e) ≡ map (seen realm) (given_to_realm other realm e)
 seen-given one other realm (arrives now a) agree = gives-same one other realm now agree a
 seen-given one other realm (ticks now shard) agree = rw agree.shards refl
 
-seen-events : (one other : ConfigView) (realm : ℕ) (events : List PlainEvent) → AgreeFor one other realm → map (seen realm) (events_of_realm one realm events) ≡ map (seen realm) (events_of_realm other realm events)
+seen-events : (one other : ConfigView) (realm : ℕ) (events : List PlainEvent) → AgreeFor one other realm →
+    map (seen realm) (events_of_realm one realm events) ≡ map (seen realm) (events_of_realm other realm events)
 seen-events one other realm [] agree = refl
 seen-events one other realm (e ∷ es) agree =
     map-append (seen realm) (given_to_realm one realm e) (events_of_realm one realm es)
-    ∙ ap (λ (l : List RealmEvent). l ++ map (seen realm) (events_of_realm one realm es)) (seen-given one other realm e agree)
-    ∙ ap (λ (l : List RealmEvent). map (seen realm) (given_to_realm other realm e) ++ l) (seen-events one other realm es agree)
+    ∙ ap (λ (l : List RealmEvent). l ++ map (seen realm) (events_of_realm one realm es))
+    (seen-given one other realm e agree)
+    ∙ ap (λ (l : List RealmEvent). map (seen realm) (given_to_realm other realm e) ++ l)
+    (seen-events one other realm es agree)
     ∙ sym (map-append (seen realm) (given_to_realm other realm e) (events_of_realm other realm es))
 
 -- so it does the same

@@ -45,7 +45,8 @@ module _ (c : RealmConfig) (ends : Ends) (looked : ℕ → Bool) (tries : 1 ≤ 
   silent-pays : (s : RealmState) (q : PlainRequest) → Pays s q (sends [] s)
   silent-pays s q = record { all = omega arith; other = λ h. omega arith; none = λ h. omega arith }
 
-  back-pays : (s : RealmState) (q : PlainRequest) (octets : List ℕ) → Pays s q (sends (packet_to_requester c q.key octets ∷ []) s)
+  back-pays : (s : RealmState) (q : PlainRequest) (octets : List ℕ) →
+      Pays s q (sends (packet_to_requester c q.key octets ∷ []) s)
   back-pays s q octets = record {
     all = omega (arith, back_of c ends looked tries q.key octets);
     other = λ h. omega arith;
@@ -61,7 +62,8 @@ module _ (c : RealmConfig) (ends : Ends) (looked : ℕ → Bool) (tries : 1 ≤ 
       → follow es ≤ follow s.entries → Fits q target → Pays s q (admit c now s es q target)
   admit-pays now s es q target fewer fits =
       let new = forwarded_entry c now q s.stream_position s.ticket target in
-      let step = forwarded-fits_of c ends looked tries now q s.stream_position s.ticket (counted_links c ends (targets c q)) target fits in
+      let step = forwarded-fits_of c ends looked tries now q s.stream_position s.ticket
+      (counted_links c ends (targets c q)) target fits in
       let sum = sum-put weight new es in
       let most = at_most (looked s.ticket) (may_follow c ends q.key new.standing) in
       record {
@@ -168,7 +170,8 @@ module _ (c : RealmConfig) (ends : Ends) (looked : ℕ → Bool) (tries : 1 ≤ 
       (forwarded reply : Packet) (why : Option Refusal)
       → e.standing ≡ waiting l id octets sends_left deadline → IsIn e s.entries
       → Answers s (Some e) (judge c now s e l forwarded reply why)
-  judge-answers now s e l id octets sends_left deadline forwarded reply (Some why) is at = refuses-answers s (Some e) why
+  judge-answers now s e l id octets sends_left deadline forwarded reply (Some why) is at =
+      refuses-answers s (Some e) why
   judge-answers now s e l id octets sends_left deadline forwarded reply None is at =
       return-answers now s e l id octets sends_left deadline forwarded reply is at
 

@@ -24,7 +24,8 @@ use Rattle.roam_core.proofs.RequestCauseLemmas.{looked_found, reply-answers, req
 use Rattle.roam_core.proofs.SumLemmas.{counted-append}
 use Rattle.roam_core.proofs.TicketLemmas.{event-rises}
 
-only-counted : (ends : Ends) (b : Bool) (packets : List PlainOut) → counted ends (only_if b packets) ≡ guard b (counted ends packets)
+only-counted : (ends : Ends) (b : Bool) (packets : List PlainOut) →
+    counted ends (only_if b packets) ≡ guard b (counted ends packets)
 only-counted ends true packets = refl
 only-counted ends false packets = refl
 
@@ -72,7 +73,8 @@ module _ (c : RealmConfig) (ends : Ends) (ticket : ℕ) (tries : 1 ≤ c.realm.t
 
   -- a request that takes the ticket, and one that doesn't
   taken-step :
-      (s : RealmState) (now : ℕ) (named : Option ℕ) (q : PlainRequest) → Step s (request_came now named q) (may_cause c ends q)
+      (s : RealmState) (now : ℕ) (named : Option ℕ) (q : PlainRequest) →
+      Step s (request_came now named q) (may_cause c ends q)
   taken-step s now named q =
       let turn = on_event c s (request_came now named q) in
       let test = takes ticket s (state_after s turn) in
@@ -93,7 +95,9 @@ module _ (c : RealmConfig) (ends : Ends) (ticket : ℕ) (tries : 1 ≤ c.realm.t
         | inl y ↦
             let here : s.ticket ≡ ticket = grind (arith, nat_tests, y) in
             let not_next : eqb next.ticket (ticket + 1) ≡ false = rw y at untaken in
-            let isnt : next.ticket ≢ s.ticket + 1 = λ is. let bad = same next.ticket (ticket + 1) (omega (arith, is, here)) in (let k : true ≡ false = sym bad ∙ not_next in cc) in
+            let isnt : next.ticket ≢ s.ticket + 1 = λ is. let bad =
+            same next.ticket (ticket + 1) (omega (arith, is, here)) in
+            (let k : true ≡ false = sym bad ∙ not_next in cc) in
             rw untaken (omega (arith, pays.none isnt))
         | inr n ↦ rw untaken (omega (arith, pays.other n))
       ]
@@ -148,7 +152,8 @@ module _ (c : RealmConfig) (ends : Ends) (ticket : ℕ) (tries : 1 ≤ c.realm.t
   after-steps s (e ∷ es) high =
       let next = state_after s (on_event c s e) in
       let rises = event-rises c s e in
-      let both = both-steps s e es 0 (event-step s e (was-taken s next high)) (after-steps next es (omega (arith, high, rises))) in
+      let both = both-steps s e es 0 (event-step s e (was-taken s next high))
+      (after-steps next es (omega (arith, high, rises))) in
       omega (arith, both)
 
   sent-append :
@@ -173,6 +178,7 @@ at_most_tries_to_each c ends start first rest now named q ticket tries takes_it 
     ap (λ (t : RealmState). t.ticket) (sym (state-next c start first event)) ∙ takes_it.taken in
     let before = before-steps c ends ticket tries begin first (omega (arith, here)) in
     let after = after-steps c ends ticket tries next rest (omega (arith, taken)) in
-    let both = both-steps c ends ticket tries s event rest (may_cause c ends q) (taken-step c ends ticket tries s now named q) after in
+    let both = both-steps c ends ticket tries s event rest (may_cause c ends q)
+    (taken-step c ends ticket tries s now named q) after in
     let whole = sent-append c ends ticket tries begin first (event ∷ rest) in
     omega (arith, before, both, whole)

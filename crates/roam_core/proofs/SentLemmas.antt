@@ -1,12 +1,11 @@
 -- What a realm sends is for that realm; and a realm that isn't there sends nothing.
-use Rattle.std.proofs.Common.{◌≡◌, ℕ, ◌+◌, ◌^◌, Bool, true, false, List, [], ◌∷◌, length, Option, Some, None, refl, ap, arith}
+use Rattle.std.proofs.Common.{◌≡◌, ℕ, ◌+◌, ◌^◌, Bool, true, false, List, [], ◌∷◌, length, Option, Some, None, refl, arith}
 use Rattle.std.specs.Prelude.{◌==◌, nat_eq, nat_lt, if◌then◌else◌}
 use Rattle.std.specs.Cmp.Lexicographic.{pointwise}
 use Rattle.roam_wire.specs.Packet.{Packet}
 use Rattle.roam_wire.specs.Reading.{packet_of}
 use Rattle.roam_wire.specs.declared.refusal.Refusal.{Refusal}
 use Rattle.roam_wire.specs.declared.refusal.Refusal.TheVariants as refusal
-use Rattle.roam_conf.specs.Config.{ServerView}
 use Rattle.roam_conf.specs.declared.place.Link.{Link}
 use Rattle.roam_route.specs.Admission.{PlainOut}
 use Rattle.roam_pending.specs.declared.due.Due.{Due}
@@ -14,7 +13,7 @@ use Rattle.roam_pending.specs.declared.key.Key.{Key}
 use Rattle.roam_pending.specs.DueOrder.{due_list}
 use Rattle.roam_pending.specs.PlainEntry.{PlainRequest, PlainStanding, PlainEntry, waiting, done}
 use Rattle.roam_pending.specs.EntryList.{find_client, find_link, find_ticket, first_done, without, without_client}
-use Rattle.roam_book.specs.RealmConfig.{RealmConfig, later_targets, link_secret, server_links, service_of, seal_required}
+use Rattle.roam_book.specs.RealmConfig.{RealmConfig, later_targets, link_secret, seal_required}
 use Rattle.roam_book.specs.Rests.{after_silence}
 use Rattle.roam_book.specs.RealmState.{RealmState, Target, chosen_target}
 use Rattle.roam_book.specs.Turn.{Turn, refuses, sends, packets_of, in_time}
@@ -22,11 +21,11 @@ use Rattle.roam_book.specs.OnRequest.{packet_to_requester, admit, make_way, at_t
 use Rattle.roam_book.specs.OnReply.{return_reply, judge, to_standing, to_entry, reply_fault, on_reply}
 use Rattle.roam_book.specs.OnTick.{Progress, silent, fail_over, without_entry, due_standing, due_entry, due_one, due_each, as_turn, on_tick, given_up_at}
 use Rattle.roam_book.specs.OneRealm.{RealmEvent, request_came, reply_came, tick_came, on_event}
-use Rattle.roam_core.specs.ManyRealms.{no_state}
 use Rattle.roam_core.proofs.PacketLemmas.{IsFor, AllFor, AllFor-append}
 
 -- what holds of both ways holds of the one that is taken
-pub either : {X : Type 0} (P : X → Type 0) (test : Bool) (one other : X) → P one → P other → P (if test then one else other)
+pub either : {X : Type 0} (P : X → Type 0) (test : Bool) (one other : X) → P one → P other →
+    P (if test then one else other)
 either P true one other this that = this
 either P false one other this that = that
 
@@ -57,28 +56,33 @@ in_time_for index now turn h =
     either (SendsFor index) (nat_lt (2 ^ 62) now) (refuses refusal.Moment) turn (refuses_for index refusal.Moment) h
 
 -- a request
-admit_for : (c : RealmConfig) (now : ℕ) (s : RealmState) (entries : List PlainEntry) (q : PlainRequest) (target : Target) → SendsFor c.index (admit c now s entries q target)
+admit_for : (c : RealmConfig) (now : ℕ) (s : RealmState) (entries : List PlainEntry) (q : PlainRequest)
+    (target : Target) → SendsFor c.index (admit c now s entries q target)
 admit_for c now s entries q target = one_for c.index _ _ refl
 
-make_way_for : (c : RealmConfig) (now : ℕ) (s : RealmState) (entries : List PlainEntry) (q : PlainRequest) (target : Target) (ticket : Option ℕ) → SendsFor c.index (make_way c now s entries q target ticket)
+make_way_for : (c : RealmConfig) (now : ℕ) (s : RealmState) (entries : List PlainEntry) (q : PlainRequest)
+    (target : Target) (ticket : Option ℕ) → SendsFor c.index (make_way c now s entries q target ticket)
 make_way_for c now s entries q target None = refuses_for c.index refusal.Busy
 make_way_for c now s entries q target (Some ticket) = admit_for c now s (without ticket entries) q target
 
-at_target_for : (c : RealmConfig) (now : ℕ) (s : RealmState) (entries : List PlainEntry) (q : PlainRequest) (target : Option Target) → SendsFor c.index (at_target c now s entries q target)
+at_target_for : (c : RealmConfig) (now : ℕ) (s : RealmState) (entries : List PlainEntry) (q : PlainRequest)
+    (target : Option Target) → SendsFor c.index (at_target c now s entries q target)
 at_target_for c now s entries q None = refuses_for c.index refusal.NoIdentifier
 at_target_for c now s entries q (Some target) =
     either (SendsFor c.index) (nat_lt (length entries) c.realm.max_pending)
     (admit c now s entries q target) (make_way c now s entries q target (first_done entries))
     (admit_for c now s entries q target) (make_way_for c now s entries q target (first_done entries))
 
-new_request_for : (c : RealmConfig) (now : ℕ) (s : RealmState) (entries : List PlainEntry) (q : PlainRequest) → SendsFor c.index (new_request c now s entries q)
+new_request_for : (c : RealmConfig) (now : ℕ) (s : RealmState) (entries : List PlainEntry) (q : PlainRequest) →
+    SendsFor c.index (new_request c now s entries q)
 new_request_for c now s entries q =
     let target = chosen_target c now s.rests s.cursors entries (targets c q) in
     either (SendsFor c.index) (s.ticket == 2 ^ 63)
     (refuses refusal.Exhausted) (at_target c now s entries q target)
     (refuses_for c.index refusal.Exhausted) (at_target_for c now s entries q target)
 
-held_reply_for : (c : RealmConfig) (key : Key) (standing : PlainStanding) (s : RealmState) → SendsFor c.index (sends (held_reply c key standing) s)
+held_reply_for : (c : RealmConfig) (key : Key) (standing : PlainStanding) (s : RealmState) →
+    SendsFor c.index (sends (held_reply c key standing) s)
 held_reply_for c key (waiting l id forwarded sends_left deadline) s = nothing_for c.index s
 held_reply_for c key (done reply deadline) s = one_for c.index (packet_to_requester c key reply) s refl
 
@@ -87,38 +91,45 @@ nak_or_new_for : (c : RealmConfig) (now : ℕ) (s : RealmState) (q : PlainReques
 nak_or_new_for c now s q None = new_request_for c now s (without_client q.key s.entries) q
 nak_or_new_for c now s q (Some why) = one_for c.index (packet_to_requester c q.key (nak_octets c q why)) s refl
 
-of_key_for : (c : RealmConfig) (now : ℕ) (s : RealmState) (named : Option ℕ) (q : PlainRequest) (e : Option PlainEntry) → SendsFor c.index (of_key c now s named q e)
+of_key_for : (c : RealmConfig) (now : ℕ) (s : RealmState) (named : Option ℕ) (q : PlainRequest)
+    (e : Option PlainEntry) → SendsFor c.index (of_key c now s named q e)
 of_key_for c now s named q None = nak_or_new_for c now s q (reverse_cause c s named q)
 of_key_for c now s named q (Some e) =
     either (SendsFor c.index) (pointwise nat_eq e.request.octets q.octets)
     (sends (held_reply c q.key e.standing) s) (first_seen c now s named q)
     (held_reply_for c q.key e.standing s) (nak_or_new_for c now s q (reverse_cause c s named q))
 
-on_request_for : (c : RealmConfig) (now : ℕ) (s : RealmState) (named : Option ℕ) (q : PlainRequest) → SendsFor c.index (on_request c now s named q)
+on_request_for : (c : RealmConfig) (now : ℕ) (s : RealmState) (named : Option ℕ) (q : PlainRequest) →
+    SendsFor c.index (on_request c now s named q)
 on_request_for c now s named q =
     in_time_for c.index now (of_key c now s named q (find_client q.key s.entries))
     (of_key_for c now s named q (find_client q.key s.entries))
 
 -- a reply
-return_reply_for : (c : RealmConfig) (now : ℕ) (s : RealmState) (e : PlainEntry) (l : Link) (forwarded reply : Packet) → SendsFor c.index (return_reply c now s e l forwarded reply)
+return_reply_for : (c : RealmConfig) (now : ℕ) (s : RealmState) (e : PlainEntry) (l : Link)
+    (forwarded reply : Packet) → SendsFor c.index (return_reply c now s e l forwarded reply)
 return_reply_for c now s e l forwarded reply =
     either (SendsFor c.index) _ _ _ (refuses_for c.index refusal.ReplyTooLong) (one_for c.index _ _ refl)
 
-judge_for : (c : RealmConfig) (now : ℕ) (s : RealmState) (e : PlainEntry) (l : Link) (forwarded reply : Packet) (fault : Option Refusal) → SendsFor c.index (judge c now s e l forwarded reply fault)
+judge_for : (c : RealmConfig) (now : ℕ) (s : RealmState) (e : PlainEntry) (l : Link) (forwarded reply : Packet)
+    (fault : Option Refusal) → SendsFor c.index (judge c now s e l forwarded reply fault)
 judge_for c now s e l forwarded reply (Some why) = refuses_for c.index why
 judge_for c now s e l forwarded reply None = return_reply_for c now s e l forwarded reply
 
-to_standing_for : (c : RealmConfig) (now : ℕ) (s : RealmState) (e : PlainEntry) (reply : Packet) (standing : PlainStanding) → SendsFor c.index (to_standing c now s e reply standing)
+to_standing_for : (c : RealmConfig) (now : ℕ) (s : RealmState) (e : PlainEntry) (reply : Packet)
+    (standing : PlainStanding) → SendsFor c.index (to_standing c now s e reply standing)
 to_standing_for c now s e reply (waiting l id forwarded sends_left deadline) =
     judge_for c now s e l (packet_of forwarded) reply
     (reply_fault (link_secret c l) (seal_required c l) reply (packet_of forwarded))
 to_standing_for c now s e reply (done old deadline) = refuses_for c.index refusal.NoEntry
 
-to_entry_for : (c : RealmConfig) (now : ℕ) (s : RealmState) (reply : Packet) (e : Option PlainEntry) → SendsFor c.index (to_entry c now s reply e)
+to_entry_for : (c : RealmConfig) (now : ℕ) (s : RealmState) (reply : Packet) (e : Option PlainEntry) →
+    SendsFor c.index (to_entry c now s reply e)
 to_entry_for c now s reply None = refuses_for c.index refusal.NoEntry
 to_entry_for c now s reply (Some e) = to_standing_for c now s e reply e.standing
 
-on_reply_for : (c : RealmConfig) (now : ℕ) (s : RealmState) (l : Link) (octets : List ℕ) → SendsFor c.index (on_reply c now s l octets)
+on_reply_for : (c : RealmConfig) (now : ℕ) (s : RealmState) (l : Link) (octets : List ℕ) →
+    SendsFor c.index (on_reply c now s l octets)
 on_reply_for c now s l octets =
     let e = find_link l (packet_of octets).id s.entries in
     in_time_for c.index now (to_entry c now s (packet_of octets) e) (to_entry_for c now s (packet_of octets) e)
@@ -128,17 +139,20 @@ silent_for : (index : ℕ) (s : RealmState) → MadeFor index (silent s)
 unfolding MadeFor
 silent_for index s = tt
 
-made_for : (index : ℕ) (out : PlainOut) (s : RealmState) → out.realm ≡ Some index → MadeFor index (record { packets = out ∷ []; state = s })
+made_for : (index : ℕ) (out : PlainOut) (s : RealmState) → out.realm ≡ Some index →
+    MadeFor index (record { packets = out ∷ []; state = s })
 unfolding MadeFor
 made_for index out s is = (own index out is, tt)
 
-fail_over_for : (c : RealmConfig) (now : ℕ) (s : RealmState) (e : PlainEntry) (target : Option Target) → MadeFor c.index (fail_over c now s e target)
+fail_over_for : (c : RealmConfig) (now : ℕ) (s : RealmState) (e : PlainEntry) (target : Option Target) →
+    MadeFor c.index (fail_over c now s e target)
 fail_over_for c now s e None =
     either (MadeFor c.index) (is_reverse e.request) _ (silent s) (made_for c.index _ _ refl)
     (silent_for c.index s)
 fail_over_for c now s e (Some target) = made_for c.index _ _ refl
 
-due_standing_for : (c : RealmConfig) (now : ℕ) (s : RealmState) (e : PlainEntry) (standing : PlainStanding) → MadeFor c.index (due_standing c now s e standing)
+due_standing_for : (c : RealmConfig) (now : ℕ) (s : RealmState) (e : PlainEntry) (standing : PlainStanding) →
+    MadeFor c.index (due_standing c now s e standing)
 due_standing_for c now s e (done reply deadline) = silent_for c.index (without_entry s e)
 due_standing_for c now s e (waiting l id forwarded sends_left deadline) =
     let target = chosen_target c now (after_silence c now s.rests l) s.cursors
@@ -146,7 +160,8 @@ due_standing_for c now s e (waiting l id forwarded sends_left deadline) =
     either (MadeFor c.index) (nat_lt 0 sends_left) _ (fail_over c now (given_up_at c now l s e) e target)
     (made_for c.index _ _ refl) (fail_over_for c now (given_up_at c now l s e) e target)
 
-due_entry_for : (c : RealmConfig) (now : ℕ) (s : RealmState) (e : Option PlainEntry) → MadeFor c.index (due_entry c now s e)
+due_entry_for : (c : RealmConfig) (now : ℕ) (s : RealmState) (e : Option PlainEntry) →
+    MadeFor c.index (due_entry c now s e)
 due_entry_for c now s None = silent_for c.index s
 due_entry_for c now s (Some e) = due_standing_for c now s e e.standing
 

@@ -1,5 +1,5 @@
 -- The rooms of a shard's tick, and the tick in them.
-use Rattle.std.proofs.Common.{◌≡◌, ℕ, ◌+◌, ◌^◌, ◌<◌, ◌≤◌, ◌&&◌, Bool, true, false, List, [], ◌∷◌, ◌++◌, length, take, get_or, set, Option, Some, None, refl, sym, ap, subst, ◌∙◌, append_assoc, arith}
+use Rattle.std.proofs.Common.{◌≡◌, ℕ, ◌+◌, ◌^◌, ◌<◌, ◌≤◌, ◌&&◌, Bool, true, false, List, [], ◌∷◌, ◌++◌, length, take, get_or, set, Option, None, refl, sym, ap, subst, ◌∙◌, append_assoc, arith}
 use Rattle.std.specs.Prelude.{nat_lt, not}
 use Rattle.std.proofs.Math.Seq.{get_or-append_seam, set-append_seam}
 use Rattle.std.proofs.lemmas.Bool.Decides.{nat_tests}
@@ -8,11 +8,9 @@ use Rattle.roam_conf.specs.Config.{ConfigView}
 use Rattle.roam_route.specs.Admission.{PlainOut}
 use Rattle.roam_book.specs.BookView.{BookView}
 use Rattle.roam_book.specs.RealmState.{RealmState}
-use Rattle.roam_book.specs.Rooms.{only_done_due}
 use Rattle.roam_book.specs.Turn.{Turn, packets_of, state_after, shown_outs}
 use Rattle.roam_book.specs.declared.packets.answer.Answer.{Answer}
 use Rattle.roam_book.specs.declared.packets.tick_memory.Room.{Room}
-use Rattle.roam_core.specs.Events.{is_in_shard}
 use Rattle.roam_core.specs.ManyRealms.{AllRealms, no_state, state_at, tick_of, tick_from, to_tick}
 use Rattle.roam_core.specs.Steps.{IsAnswer}
 use Rattle.roam_core.specs.BrokerView.{states_of}
@@ -32,17 +30,20 @@ rooms-push config now shard realm first (x ∷ xs) [] s room are is own = absurd
 rooms-push config now shard realm first (x ∷ xs) (r ∷ rs) s room are is own =
     (are.0, rooms-push config now shard realm (first + 1) xs rs s room are.1 (omega arith) own)
 
-most-push : {A : Type 0} → (rooms : List (Option (Room A))) (room : Option (Room A)) → most_of_all (rooms ++ room ∷ []) ≡ most_of_all rooms + most_of room
+most-push : {A : Type 0} → (rooms : List (Option (Room A))) (room : Option (Room A)) →
+    most_of_all (rooms ++ room ∷ []) ≡ most_of_all rooms + most_of room
 most-push [] room = omega arith
 most-push (r ∷ rs) room = omega (arith, most-push rs room)
 
 -- the rooms of the first books
-pub record AreGathered {A : Type 0} (config : ConfigView) (now shard count : ℕ) (books : List BookView) (rooms : List (Option (Room A))) (most : ℕ) : Type 0 where
+pub record AreGathered {A : Type 0} (config : ConfigView) (now shard count : ℕ) (books : List BookView)
+    (rooms : List (Option (Room A))) (most : ℕ) : Type 0 where
   pub each : AreRooms config now shard 0 (states_of (take count books)) rooms
   pub number : length (take count books) ≡ count
   pub packets : most ≡ most_of_all rooms
 
-pub none-gathered : {A : Type 0} → (config : ConfigView) (now shard : ℕ) (books : List BookView) → AreGathered {A = A} config now shard 0 books [] 0
+pub none-gathered : {A : Type 0} → (config : ConfigView) (now shard : ℕ) (books : List BookView) →
+    AreGathered {A = A} config now shard 0 books [] 0
 none-gathered config now shard books = record { each = tt; number = refl; packets = refl }
 
 pub one-more-gathered : {A : Type 0}
@@ -54,14 +55,18 @@ pub one-more-gathered : {A : Type 0}
     → more ≡ most + most_of room
     → AreGathered config now shard (count + 1) books (rooms ++ room ∷ []) more
 one-more-gathered config now shard count books rooms most more b room are within at own sum =
-    let front : take (count + 1) books ≡ take count books ++ b ∷ [] = take_more books count b within ∙ ap (λ (x : BookView). take count books ++ x ∷ []) (sym at) in
+    let front : take (count + 1) books ≡ take count books ++ b ∷ [] = take_more books count b within
+    ∙ ap (λ (x : BookView). take count books ++ x ∷ []) (sym at) in
     let states : states_of (take (count + 1) books) ≡ states_of (take count books) ++ b.state ∷ [] =
     ap states_of front ∙ map-append (λ (x : BookView). x.state) (take count books) (b ∷ []) in
-    let number : length (states_of (take count books)) ≡ count = length-map (take count books) (λ (x : BookView). x.state) ∙ are.number in
+    let number : length (states_of (take count books)) ≡ count =
+    length-map (take count books) (λ (x : BookView). x.state) ∙ are.number in
     record {
       each = subst (λ (l : List RealmState). AreRooms config now shard 0 l (rooms ++ room ∷ [])) (sym states)
-          (rooms-push config now shard count 0 (states_of (take count books)) rooms b.state room are.each (omega (arith, number)) own);
-      number = ap (λ (l : List BookView). length l) front ∙ omega (arith, length-append (take count books) (b ∷ []), are.number);
+          (rooms-push config now shard count 0 (states_of (take count books)) rooms b.state room are.each
+          (omega (arith, number)) own);
+      number = ap (λ (l : List BookView). length l) front
+          ∙ omega (arith, length-append (take count books) (b ∷ []), are.number);
       packets = sum ∙ ap (λ (n : ℕ). n + most_of room) are.packets ∙ sym (most-push rooms room);
     }
 
@@ -144,7 +149,8 @@ part-done : {A : Type 0}
     → IsTicking config now shard first new after (realm + 1) more
 part-done config now shard first states new past [] after realm sent more room are at fit packets stand gives becomes =
     absurd fit
-part-done config now shard first states new past (s ∷ rest) after realm sent more room are at fit packets stand gives becomes =
+part-done config now shard first states new past (s ∷ rest) after realm sent more room are at fit packets stand gives
+    becomes =
     let here : state_at states realm ≡ s = ap (λ (l : List RealmState). state_at l realm) are
     ∙ ap (λ (k : ℕ). state_at (past ++ s ∷ rest) k) at ∙ get_or-append_seam past s rest no_state in
     let turn : Turn = tick_of config now shard realm s in
@@ -215,7 +221,10 @@ ticking-end {A = A} config now shard first states left realm sent is ticking =
     same.stand
 
 -- the broker's answer to a tick
-pub ticked : {A : Type 0} → (answer : Answer A) (config : ConfigView) (old new : List RealmState) (now shard : ℕ) → shard < config.shards → now ≤ 2 ^ 62 → shown_outs answer.outs.items ≡ (tick_from config now shard 0 old).packets → answer.refusal ≡ None → new ≡ (tick_from config now shard 0 old).states → IsAnswer answer old new (to_tick config old now shard)
+pub ticked : {A : Type 0} → (answer : Answer A) (config : ConfigView) (old new : List RealmState) (now shard : ℕ) →
+    shard < config.shards → now ≤ 2 ^ 62 → shown_outs answer.outs.items ≡ (tick_from config now shard 0 old).packets
+    → answer.refusal ≡ None → new ≡ (tick_from config now shard 0 old).states →
+    IsAnswer answer old new (to_tick config old now shard)
 ticked answer config old new now shard there in_time packets refusal states =
     let one : nat_lt shard config.shards ≡ true = grind (arith, nat_tests) in
     let other : nat_lt (2 ^ 62) now ≡ false = grind (arith, nat_tests) in

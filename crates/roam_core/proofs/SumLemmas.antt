@@ -28,7 +28,8 @@ use Rattle.roam_core.specs.Amplification.{Ends, TargetsAreFew, counted, counted_
 
 -- How many pass a test
 
-pub counts : {X : Type 0} (p : X → Bool) (x : X) (xs : List X) → length (filter p (x ∷ xs)) ≡ length (filter p (x ∷ [])) + length (filter p xs)
+pub counts : {X : Type 0} (p : X → Bool) (x : X) (xs : List X) →
+    length (filter p (x ∷ xs)) ≡ length (filter p (x ∷ [])) + length (filter p xs)
 counts p x xs =
     elim (cases_Bool (p x)) [
       | inl y ↦ rw y (omega arith)
@@ -46,7 +47,8 @@ pub sum-append : (f : PlainEntry → ℕ) (xs ys : List PlainEntry) → sum_over
 sum-append f [] ys = omega arith
 sum-append f (x ∷ xs) ys = omega (arith, sum-append f xs ys)
 
-pub sum-filter : (f : PlainEntry → ℕ) (p : PlainEntry → Bool) (xs : List PlainEntry) → sum_over f (filter p xs) ≤ sum_over f xs
+pub sum-filter : (f : PlainEntry → ℕ) (p : PlainEntry → Bool) (xs : List PlainEntry) →
+    sum_over f (filter p xs) ≤ sum_over f xs
 sum-filter f p [] = omega arith
 sum-filter f p (x ∷ xs) =
     elim (cases_Bool (p x)) [
@@ -55,7 +57,8 @@ sum-filter f p (x ∷ xs) =
     ]
 
 -- the entries of lesser ticket, and those of greater
-sum-sides : (f : PlainEntry → ℕ) (t : ℕ) (xs : List PlainEntry) → sum_over f (below t xs) + sum_over f (above t xs) ≤ sum_over f xs
+sum-sides : (f : PlainEntry → ℕ) (t : ℕ) (xs : List PlainEntry) →
+    sum_over f (below t xs) + sum_over f (above t xs) ≤ sum_over f xs
 sum-sides f t [] = omega arith
 sum-sides f t (x ∷ xs) =
     let rest = sum-sides f t xs in
@@ -66,7 +69,8 @@ sum-sides f t (x ∷ xs) =
     ]
 
 -- and without one of that ticket
-sum-beside : (f : PlainEntry → ℕ) (t : ℕ) (old : PlainEntry) (xs : List PlainEntry) → old.ticket ≡ t → IsIn old xs → sum_over f (below t xs) + sum_over f (above t xs) + f old ≤ sum_over f xs
+sum-beside : (f : PlainEntry → ℕ) (t : ℕ) (old : PlainEntry) (xs : List PlainEntry) → old.ticket ≡ t → IsIn old xs →
+    sum_over f (below t xs) + sum_over f (above t xs) + f old ≤ sum_over f xs
 sum-beside f t old [] is at = absurd at
 sum-beside f t old (x ∷ xs) is (inl here) =
     let rest = sum-sides f t xs in
@@ -88,13 +92,15 @@ sum-put f e xs =
     omega (arith, whole, sum-sides f e.ticket xs)
 
 -- and takes away that of the one which it replaces
-pub sum-replaced : (f : PlainEntry → ℕ) (e old : PlainEntry) (xs : List PlainEntry) → old.ticket ≡ e.ticket → IsIn old xs → sum_over f (put e xs) + f old ≤ f e + sum_over f xs
+pub sum-replaced : (f : PlainEntry → ℕ) (e old : PlainEntry) (xs : List PlainEntry) → old.ticket ≡ e.ticket →
+    IsIn old xs → sum_over f (put e xs) + f old ≤ f e + sum_over f xs
 sum-replaced f e old xs is at =
     let whole = sum-append f (below e.ticket xs) (e ∷ above e.ticket xs) in
     omega (arith, whole, sum-beside f e.ticket old xs is at)
 
 -- an entry that is taken out takes its own away
-pub sum-without : (f : PlainEntry → ℕ) (old : PlainEntry) (xs : List PlainEntry) → IsIn old xs → sum_over f (without old.ticket xs) + f old ≤ sum_over f xs
+pub sum-without : (f : PlainEntry → ℕ) (old : PlainEntry) (xs : List PlainEntry) → IsIn old xs →
+    sum_over f (without old.ticket xs) + f old ≤ sum_over f xs
 sum-without f old [] at = absurd at
 sum-without f old (x ∷ xs) (inl here) =
     let ticket : x.ticket ≡ old.ticket = ap (λ (e : PlainEntry). e.ticket) here in
@@ -120,24 +126,29 @@ found-in p (x ∷ xs) y at =
 -- The link of a target
 
 -- what holds of each link holds of the chosen one
-this-holds : (Q : Link → Type 0) (l : Link) (others : Option Target) (target : Target) (id : Option ℕ) → Q l → (others ≡ Some target → Q target.link) → this_or l id others ≡ Some target → Q target.link
+this-holds : (Q : Link → Type 0) (l : Link) (others : Option Target) (target : Target) (id : Option ℕ) → Q l →
+    (others ≡ Some target → Q target.link) → this_or l id others ≡ Some target → Q target.link
 this-holds Q l others target None here h at = h at
 this-holds Q l others target (Some id) here h at =
     let k : Some (record { link = l; id = id }) ≡ Some target = at in
     let whole : record { link = l; id = id } ≡ target = cc in
     subst Q (ap (λ (t : Target). t.link) whole) here
 
-first-holds : (Q : Link → Type 0) (c : RealmConfig) (cursors : List ℕ) (es : List PlainEntry) (links : List Link) (target : Target) → AllByRecursion Q links → first_target c cursors es links ≡ Some target → Q target.link
+first-holds : (Q : Link → Type 0) (c : RealmConfig) (cursors : List ℕ) (es : List PlainEntry) (links : List Link)
+    (target : Target) → AllByRecursion Q links → first_target c cursors es links ≡ Some target → Q target.link
 first-holds Q c cursors es [] target h at = absurd (let k : None ≡ Some target = at in cc)
 first-holds Q c cursors es (l ∷ ls) target h at =
     this-holds Q l (first_target c cursors es ls) target (next_toward c cursors es l) h.0
     (λ k. first-holds Q c cursors es ls target h.1 k) at
 
-either-is : (one other : Option Target) (target : Target) → option_or one other ≡ Some target → (one ≡ Some target) ⊎ (other ≡ Some target)
+either-is : (one other : Option Target) (target : Target) → option_or one other ≡ Some target → (one ≡ Some target)
+    ⊎ (other ≡ Some target)
 either-is None other target at = inr at
 either-is (Some t) other target at = inl at
 
-pub chosen-holds : (Q : Link → Type 0) (c : RealmConfig) (now : ℕ) (rests : List Rest) (cursors : List ℕ) (es : List PlainEntry) (links : List Link) (target : Target) → AllByRecursion Q links → chosen_target c now rests cursors es links ≡ Some target → Q target.link
+pub chosen-holds : (Q : Link → Type 0) (c : RealmConfig) (now : ℕ) (rests : List Rest) (cursors : List ℕ)
+    (es : List PlainEntry) (links : List Link) (target : Target) → AllByRecursion Q links →
+    chosen_target c now rests cursors es links ≡ Some target → Q target.link
 chosen-holds Q c now rests cursors es links target h at =
     let ready = ready_links c now rests links in
     elim (either-is (first_target c cursors es ready) (first_target c cursors es links) target at) [
@@ -154,11 +165,14 @@ FitsIn c ends n l = counted_links c ends (l ∷ []) + counted_links c ends (late
 drop-next : (n : ℕ) (xs ys : List ServerView) (y : ServerView) → drop n xs ≡ y ∷ ys → drop (n + 1) xs ≡ ys
 drop-next n xs ys y is = sym (drop-drop 1 n xs) ∙ ap (drop 1) is
 
-later-are : (c : RealmConfig) (s : Service) (place : ℕ) → later_targets c (server_link s place) ≡ links_from c s (place + 1)
+later-are : (c : RealmConfig) (s : Service) (place : ℕ) →
+    later_targets c (server_link s place) ≡ links_from c s (place + 1)
 later-are c service.Authentication place = refl
 later-are c service.Accounting place = refl
 
-servers-fit : (c : RealmConfig) (ends : Ends) (s : Service) (place : ℕ) (xs : List ServerView) → drop place c.realm.servers ≡ xs → AllByRecursion (FitsIn c ends (counted_links c ends (server_links s place xs))) (server_links s place xs)
+servers-fit : (c : RealmConfig) (ends : Ends) (s : Service) (place : ℕ) (xs : List ServerView) →
+    drop place c.realm.servers ≡ xs →
+    AllByRecursion (FitsIn c ends (counted_links c ends (server_links s place xs))) (server_links s place xs)
 servers-fit c ends s place [] is = tt
 servers-fit c ends s place (x ∷ xs) is =
     let next = drop-next place c.realm.servers xs x is in
@@ -169,25 +183,30 @@ servers-fit c ends s place (x ∷ xs) is =
     let count = counts (is_counted c ends) here others in
     let all = servers-fit c ends s (place + 1) xs next in (
       omega (arith, same, count),
-      all-weaker (FitsIn c ends (counted_links c ends others)) (FitsIn c ends (counted_links c ends (here ∷ others))) others
+      all-weaker (FitsIn c ends (counted_links c ends others)) (FitsIn c ends (counted_links c ends (here ∷ others)))
+          others
           (λ l fits. omega (arith, fits, count)) all,
     )
 
-links-fit : (c : RealmConfig) (ends : Ends) (s : Service) (place : ℕ) → AllByRecursion (FitsIn c ends (counted_links c ends (links_from c s place))) (links_from c s place)
+links-fit : (c : RealmConfig) (ends : Ends) (s : Service) (place : ℕ) →
+    AllByRecursion (FitsIn c ends (counted_links c ends (links_from c s place))) (links_from c s place)
 links-fit c ends s place = servers-fit c ends s place (drop place c.realm.servers) refl
 
-coa-fit : (c : RealmConfig) (ends : Ends) (peer : Option ℕ) → AllByRecursion (FitsIn c ends (counted_links c ends (coa_links peer))) (coa_links peer)
+coa-fit : (c : RealmConfig) (ends : Ends) (peer : Option ℕ) →
+    AllByRecursion (FitsIn c ends (counted_links c ends (coa_links peer))) (coa_links peer)
 coa-fit c ends None = tt
 coa-fit c ends (Some peer) = (omega arith, tt)
 
 -- so do those of a request, and those after a link
-pub targets-fit : (c : RealmConfig) (ends : Ends) (q : PlainRequest) → AllByRecursion (FitsIn c ends (counted_links c ends (targets c q))) (targets c q)
+pub targets-fit : (c : RealmConfig) (ends : Ends) (q : PlainRequest) →
+    AllByRecursion (FitsIn c ends (counted_links c ends (targets c q))) (targets c q)
 targets-fit c ends q =
     either (λ (ls : List Link). AllByRecursion (FitsIn c ends (counted_links c ends ls)) ls) (is_reverse q) _ _
     (coa-fit c ends (reverse.target c.peers (packet_of q.octets).attributes))
     (links-fit c ends (service_of (packet_of q.octets).code) 0)
 
-pub later-fit : (c : RealmConfig) (ends : Ends) (l : Link) → AllByRecursion (FitsIn c ends (counted_links c ends (later_targets c l))) (later_targets c l)
+pub later-fit : (c : RealmConfig) (ends : Ends) (l : Link) →
+    AllByRecursion (FitsIn c ends (counted_links c ends (later_targets c l))) (later_targets c l)
 later-fit c ends (link.Auth server) = links-fit c ends service.Authentication (server + 1)
 later-fit c ends (link.Acct server) = links-fit c ends service.Accounting (server + 1)
 later-fit c ends (link.Coa peer) = tt

@@ -35,26 +35,31 @@ Rises old turn = old.ticket ≤ (state_after old turn).ticket
 stays : (s : RealmState) → s.ticket ≤ s.ticket
 stays s = omega arith
 
-make_way-rises : (c : RealmConfig) (now : ℕ) (s : RealmState) (es : List PlainEntry) (q : PlainRequest) (target : Target) (way : Option ℕ) → Rises s (make_way c now s es q target way)
+make_way-rises : (c : RealmConfig) (now : ℕ) (s : RealmState) (es : List PlainEntry) (q : PlainRequest)
+    (target : Target) (way : Option ℕ) → Rises s (make_way c now s es q target way)
 make_way-rises c now s es q target None = stays s
 make_way-rises c now s es q target (Some ticket) = omega arith
 
-at_target-rises : (c : RealmConfig) (now : ℕ) (s : RealmState) (es : List PlainEntry) (q : PlainRequest) (target : Option Target) → Rises s (at_target c now s es q target)
+at_target-rises : (c : RealmConfig) (now : ℕ) (s : RealmState) (es : List PlainEntry) (q : PlainRequest)
+    (target : Option Target) → Rises s (at_target c now s es q target)
 at_target-rises c now s es q None = stays s
 at_target-rises c now s es q (Some target) =
     either (Rises s) (ltb (length es) c.realm.max_pending) _ _ (omega arith)
     (make_way-rises c now s es q target (first_done es))
 
-new_request-rises : (c : RealmConfig) (now : ℕ) (s : RealmState) (es : List PlainEntry) (q : PlainRequest) → Rises s (new_request c now s es q)
+new_request-rises : (c : RealmConfig) (now : ℕ) (s : RealmState) (es : List PlainEntry) (q : PlainRequest) →
+    Rises s (new_request c now s es q)
 new_request-rises c now s es q =
     either (Rises s) (eqb s.ticket (2 ^ 63)) _ _ (stays s)
     (at_target-rises c now s es q (chosen_target c now s.rests s.cursors es (targets c q)))
 
-nak_or_new-rises : (c : RealmConfig) (now : ℕ) (s : RealmState) (q : PlainRequest) (why : Option ℕ) → Rises s (nak_or_new c now s q why)
+nak_or_new-rises : (c : RealmConfig) (now : ℕ) (s : RealmState) (q : PlainRequest) (why : Option ℕ) →
+    Rises s (nak_or_new c now s q why)
 nak_or_new-rises c now s q None = new_request-rises c now s (without_client q.key s.entries) q
 nak_or_new-rises c now s q (Some why) = stays s
 
-of_key-rises : (c : RealmConfig) (now : ℕ) (s : RealmState) (named : Option ℕ) (q : PlainRequest) (found : Option PlainEntry) → Rises s (of_key c now s named q found)
+of_key-rises : (c : RealmConfig) (now : ℕ) (s : RealmState) (named : Option ℕ) (q : PlainRequest)
+    (found : Option PlainEntry) → Rises s (of_key c now s named q found)
 of_key-rises c now s named q None = nak_or_new-rises c now s q (reverse_cause c s named q)
 of_key-rises c now s named q (Some e) =
     either (Rises s) (pointwise nat_eq e.request.octets q.octets) _ _ (stays s)
@@ -64,18 +69,23 @@ in_time-rises : (now : ℕ) (s : RealmState) (turn : Turn) → Rises s turn → 
 in_time-rises now s turn h = either (Rises s) (ltb (2 ^ 62) now) _ _ (stays s) h
 
 -- a reply gives no ticket
-judge-rises : (c : RealmConfig) (now : ℕ) (s : RealmState) (e : PlainEntry) (l : Link) (forwarded reply : Packet) (why : Option Refusal) → Rises s (judge c now s e l forwarded reply why)
+judge-rises : (c : RealmConfig) (now : ℕ) (s : RealmState) (e : PlainEntry) (l : Link) (forwarded reply : Packet)
+    (why : Option Refusal) → Rises s (judge c now s e l forwarded reply why)
 judge-rises c now s e l forwarded reply (Some why) = stays s
 judge-rises c now s e l forwarded reply None =
-    either (Rises s) (ltb 4096 (returned_length (returning c e.request l forwarded) reply (packet_of e.request.octets))) _ _
+    either (Rises s) (ltb 4096 (returned_length (returning c e.request l forwarded) reply
+    (packet_of e.request.octets))) _ _
     (stays s) (stays s)
 
-to_standing-rises : (c : RealmConfig) (now : ℕ) (s : RealmState) (e : PlainEntry) (reply : Packet) (standing : PlainStanding) → Rises s (to_standing c now s e reply standing)
+to_standing-rises : (c : RealmConfig) (now : ℕ) (s : RealmState) (e : PlainEntry) (reply : Packet)
+    (standing : PlainStanding) → Rises s (to_standing c now s e reply standing)
 to_standing-rises c now s e reply (waiting l id forwarded sends_left deadline) =
-    judge-rises c now s e l (packet_of forwarded) reply (reply_fault (link_secret c l) (seal_required c l) reply (packet_of forwarded))
+    judge-rises c now s e l (packet_of forwarded) reply
+    (reply_fault (link_secret c l) (seal_required c l) reply (packet_of forwarded))
 to_standing-rises c now s e reply (done old deadline) = stays s
 
-to_entry-rises : (c : RealmConfig) (now : ℕ) (s : RealmState) (reply : Packet) (found : Option PlainEntry) → Rises s (to_entry c now s reply found)
+to_entry-rises : (c : RealmConfig) (now : ℕ) (s : RealmState) (reply : Packet) (found : Option PlainEntry) →
+    Rises s (to_entry c now s reply found)
 to_entry-rises c now s reply None = stays s
 to_entry-rises c now s reply (Some e) = to_standing-rises c now s e reply e.standing
 
@@ -83,22 +93,27 @@ to_entry-rises c now s reply (Some e) = to_standing-rises c now s e reply e.stan
 abbrev Keeps : RealmState → Progress → Type 0
 Keeps old p = p.state.ticket ≡ old.ticket
 
-once_refused-keeps : (c : RealmConfig) (now : ℕ) (s : RealmState) (e : PlainEntry) (octets : List ℕ) → (once_refused c now s e octets).ticket ≡ s.ticket
-once_refused-keeps c now s e octets = either (λ (t : RealmState). t.ticket ≡ s.ticket) (ltb 0 c.realm.hold) _ _ refl refl
+once_refused-keeps : (c : RealmConfig) (now : ℕ) (s : RealmState) (e : PlainEntry) (octets : List ℕ) →
+    (once_refused c now s e octets).ticket ≡ s.ticket
+once_refused-keeps c now s e octets =
+    either (λ (t : RealmState). t.ticket ≡ s.ticket) (ltb 0 c.realm.hold) _ _ refl refl
 
-fail_over-keeps : (c : RealmConfig) (now : ℕ) (s : RealmState) (e : PlainEntry) (target : Option Target) → Keeps s (fail_over c now s e target)
+fail_over-keeps : (c : RealmConfig) (now : ℕ) (s : RealmState) (e : PlainEntry) (target : Option Target) →
+    Keeps s (fail_over c now s e target)
 fail_over-keeps c now s e None =
     either (Keeps s) (is_reverse e.request) _ _ (once_refused-keeps c now s e _) refl
 fail_over-keeps c now s e (Some target) = refl
 
-due_standing-keeps : (c : RealmConfig) (now : ℕ) (s : RealmState) (e : PlainEntry) (standing : PlainStanding) → Keeps s (due_standing c now s e standing)
+due_standing-keeps : (c : RealmConfig) (now : ℕ) (s : RealmState) (e : PlainEntry) (standing : PlainStanding) →
+    Keeps s (due_standing c now s e standing)
 due_standing-keeps c now s e (done reply deadline) = refl
 due_standing-keeps c now s e (waiting l id forwarded sends_left deadline) =
     either (Keeps s) (ltb 0 sends_left) _ _ refl
     (fail_over-keeps c now (given_up_at c now l s e) e (chosen_target c now (after_silence c now s.rests l) s.cursors
     (without e.ticket s.entries) (later_targets c l)))
 
-due_entry-keeps : (c : RealmConfig) (now : ℕ) (s : RealmState) (found : Option PlainEntry) → Keeps s (due_entry c now s found)
+due_entry-keeps : (c : RealmConfig) (now : ℕ) (s : RealmState) (found : Option PlainEntry) →
+    Keeps s (due_entry c now s found)
 due_entry-keeps c now s None = refl
 due_entry-keeps c now s (Some e) = due_standing-keeps c now s e e.standing
 
@@ -112,7 +127,8 @@ tick-rises c now s dues = omega (arith, due_each-keeps c now s dues)
 
 pub event-rises : (c : RealmConfig) (s : RealmState) (e : RealmEvent) → Rises s (on_event c s e)
 event-rises c s (request_came now named q) =
-    in_time-rises now s (of_key c now s named q (find_client q.key s.entries)) (of_key-rises c now s named q (find_client q.key s.entries))
+    in_time-rises now s (of_key c now s named q (find_client q.key s.entries))
+    (of_key-rises c now s named q (find_client q.key s.entries))
 event-rises c s (reply_came now l octets) =
     let found = find_link l (packet_of octets).id s.entries in
     in_time-rises now s (to_entry c now s (packet_of octets) found) (to_entry-rises c now s (packet_of octets) found)
@@ -121,17 +137,21 @@ event-rises c s (tick_came now) =
     in_time-rises now s (as_turn (due_each c now s dues)) (tick-rises c now s dues)
 
 -- so events that follow leave it no lower
-next-rises : (c : RealmConfig) (start : Start) (es : List RealmEvent) (e : RealmEvent) → (state_then c start es).ticket ≤ (state_then c start (es ++ e ∷ [])).ticket
+next-rises : (c : RealmConfig) (start : Start) (es : List RealmEvent) (e : RealmEvent) →
+    (state_then c start es).ticket ≤ (state_then c start (es ++ e ∷ [])).ticket
 next-rises c start es e =
     let same = ap (λ (s : RealmState). s.ticket) (state-next c start es e) in
     omega (arith, same, event-rises c (state_then c start es) e)
 
-pub all-rise : (c : RealmConfig) (start : Start) (es fs : List RealmEvent) → (state_then c start es).ticket ≤ (state_then c start (es ++ fs)).ticket
-all-rise c start es [] = subst (λ (l : List RealmEvent). (state_then c start es).ticket ≤ (state_then c start l).ticket) (sym (append-nil es)) (stays (state_then c start es))
+pub all-rise : (c : RealmConfig) (start : Start) (es fs : List RealmEvent) →
+    (state_then c start es).ticket ≤ (state_then c start (es ++ fs)).ticket
+all-rise c start es [] = subst (λ (l : List RealmEvent). (state_then c start es).ticket
+    ≤ (state_then c start l).ticket) (sym (append-nil es)) (stays (state_then c start es))
 all-rise c start es (f ∷ fs) =
     let rest = all-rise c start (es ++ f ∷ []) fs in
     let same = append_assoc es (f ∷ []) fs in
-    let there = subst (λ (l : List RealmEvent). (state_then c start (es ++ f ∷ [])).ticket ≤ (state_then c start l).ticket) same rest in
+    let there = subst (λ (l : List RealmEvent). (state_then c start (es ++ f ∷ [])).ticket
+    ≤ (state_then c start l).ticket) same rest in
     omega (arith, next-rises c start es f, there)
 
 -- of two places of a list one is the other, or comes after it
@@ -152,17 +172,22 @@ places (x ∷ xs) ws [] bs e f same = earlier xs (cc)
 places (x ∷ xs) ws (y ∷ ys) bs e f same = further x y xs ys e f (cc) (places xs ws ys bs e f (cc))
 
 -- a ticket that was given to an event is given to no later one
-not-later : (c : RealmConfig) (start : Start) (xs ys mid : List RealmEvent) (e f : RealmEvent) (ticket : ℕ) → TakesTicket c start xs e ticket → TakesTicket c start ys f ticket → ys ≡ xs ++ e ∷ mid → ⊥
+not-later : (c : RealmConfig) (start : Start) (xs ys mid : List RealmEvent) (e f : RealmEvent) (ticket : ℕ) →
+    TakesTicket c start xs e ticket → TakesTicket c start ys f ticket → ys ≡ xs ++ e ∷ mid → ⊥
 not-later c start xs ys mid e f ticket here there is =
     let all = all-rise c start (xs ++ e ∷ []) mid in
     let same = append_assoc xs (e ∷ []) mid ∙ sym is in
-    let up = subst (λ (l : List RealmEvent). (state_then c start (xs ++ e ∷ [])).ticket ≤ (state_then c start l).ticket) same all in
+    let up = subst (λ (l : List RealmEvent). (state_then c start (xs ++ e ∷ [])).ticket
+    ≤ (state_then c start l).ticket) same all in
     absurd (omega (arith, here.taken, there.next, up))
 
-decided : (c : RealmConfig) (start : Start) (xs ys : List RealmEvent) (e f : RealmEvent) (ticket : ℕ) → TakesTicket c start xs e ticket → TakesTicket c start ys f ticket → Places xs ys e f → (xs ≡ ys) × (e ≡ f)
+decided : (c : RealmConfig) (start : Start) (xs ys : List RealmEvent) (e f : RealmEvent) (ticket : ℕ) →
+    TakesTicket c start xs e ticket → TakesTicket c start ys f ticket → Places xs ys e f → (xs ≡ ys) × (e ≡ f)
 decided c start xs ys e f ticket here there (one is at) = (is, at)
-decided c start xs ys e f ticket here there (later mid is) = absurd (not-later c start xs ys mid e f ticket here there is)
-decided c start xs ys e f ticket here there (earlier mid is) = absurd (not-later c start ys xs mid f e ticket there here is)
+decided c start xs ys e f ticket here there (later mid is) =
+    absurd (not-later c start xs ys mid e f ticket here there is)
+decided c start xs ys e f ticket here there (earlier mid is) =
+    absurd (not-later c start ys xs mid f e ticket there here is)
 
 pub ticket_is_given_once : TicketIsGivenOnce
 ticket_is_given_once c start events xs ws ys bs e f ticket one_way other_way here there =

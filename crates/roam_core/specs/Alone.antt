@@ -1,6 +1,6 @@
 -- A broker of one realm (ours): what it sends for a list of events is what the written broker of that realm
 -- sends for its own ones, and the local rejects, each where its event stands.
-use Rattle.std.specs.Prelude.{◌≡◌, ◌≤◌, ℕ, List, [], ◌∷◌, ◌++◌, length}
+use Rattle.std.specs.Prelude.{◌≡◌, ◌≤◌, List, [], ◌∷◌, ◌++◌, length}
 use Rattle.roam_conf.specs.Config.{ConfigView}
 use Rattle.roam_book.specs.RealmConfig.{realm_config}
 use Rattle.roam_book.specs.RealmState.{RealmState}

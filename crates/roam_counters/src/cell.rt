@@ -12,7 +12,7 @@ use roam_conf::Config;
 const SERVERS: usize = 8;
 
 /// Of whom something is counted.
-#[derive(Clone, Copy, Debug, PartialEq, Eq)]
+#[derive(Clone, Copy, PartialEq, Eq)]
 pub enum Subject {
     /// All together. Refusals alone are counted so, since of some nobody is known who sent it.
     All,
@@ -26,7 +26,7 @@ pub enum Subject {
 
 /// How many realms and peers there are, which says where each count stands: a row of counts for each of them, and nine
 /// for each realm with its home servers.
-#[derive(Clone, Copy, Debug, PartialEq, Eq)]
+#[derive(Clone, Copy, PartialEq, Eq)]
 pub struct Layout {
     pub realms: u16,
     pub peers: u16,

@@ -11,7 +11,7 @@ use roam_wire::Refusal;
 pub const EVENTS: usize = 91;
 
 /// What is counted of a realm, a home server or a peer.
-#[derive(Clone, Copy, Debug, PartialEq, Eq)]
+#[derive(Clone, Copy, PartialEq, Eq)]
 pub enum CountedEvent {
     /// A request came that is for a realm.
     Request(RequestKind),

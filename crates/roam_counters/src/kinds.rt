@@ -6,7 +6,7 @@ ghost use Rattle.roam_counters.specs.Kinds as spec;
 use roam_wire::code;
 
 /// A request.
-#[derive(Clone, Copy, Debug, PartialEq, Eq)]
+#[derive(Clone, Copy, PartialEq, Eq)]
 pub enum RequestKind {
     Access,
     Accounting,
@@ -15,7 +15,7 @@ pub enum RequestKind {
 }
 
 /// A reply.
-#[derive(Clone, Copy, Debug, PartialEq, Eq)]
+#[derive(Clone, Copy, PartialEq, Eq)]
 pub enum ReplyKind {
     AccessAccept,
     AccessReject,
@@ -28,7 +28,7 @@ pub enum ReplyKind {
 }
 
 /// Why the broker answers a reverse request by a NAK of its own, by its Error-Cause (RFC 5176, section 3.5).
-#[derive(Clone, Copy, Debug, PartialEq, Eq)]
+#[derive(Clone, Copy, PartialEq, Eq)]
 pub enum NakCause {
     /// 401: the request holds what the broker can't carry.
     UnsupportedAttribute,

@@ -6,7 +6,7 @@ ghost use Rattle.roam_counters.specs.Process as spec;
 use roam_conf::Place;
 
 /// What is counted of the whole server.
-#[derive(Clone, Copy, Debug, PartialEq, Eq)]
+#[derive(Clone, Copy, PartialEq, Eq)]
 pub enum Process {
     /// A datagram came to a place of this kind.
     ReceivedAuth,

@@ -12,7 +12,7 @@ use roam_route::Side;
 use roam_wire::Refusal;
 
 /// A packet that is given to a realm.
-#[derive(Clone, Copy, Debug, PartialEq, Eq)]
+#[derive(Clone, Copy, PartialEq, Eq)]
 pub struct CountedTurn {
     /// The index of the realm.
     pub realm: u16,

@@ -1,11 +1,13 @@
--- At which moment a shard is ticked (ours): a tick has a moment of its own, so what is due can be worked off by several,
+-- At which moment a shard is ticked (ours): a tick has a moment of its own, so what is due can be worked off by
+-- several,
 -- each at a moment at which a part of it is due.
 use Rattle.std.specs.Prelude.{◌≡◌, ◌⊎◌, ℕ, ◌-◌, ◌<◌, ◌≤◌, List}
 use Rattle.roam_book.specs.RealmState.{RealmState}
 use Rattle.roam_shard.specs.Twins.{NothingDue}
 use Rattle.roam_shard.specs.DueCount.{due_count}
 
--- at most 64 entries are due at it; or no moment before it has any, for entries of one millisecond can't be parted; or it
+-- at most 64 entries are due at it; or no moment before it has any, for entries of one millisecond can't be parted;
+-- or it
 -- is now, and something was due a tenth of a second ago already
 abbrev pub IsPortion : ℕ → List RealmState → ℕ → Type 0
 IsPortion now states moment =

@@ -35,12 +35,14 @@ no_amplification_from_opening o steps realm ends some within history tries =
     let sent = ap (counted ends) (realms_in_histories o steps realm some within history) in
     omega (arith, no_amplification-from_start c ends (start_of o.starts realm) events tries, sent)
 
-as-many : (config : ConfigView) (first : ℕ) (starts : List Start) → length (openings_from config first starts) ≡ length starts
+as-many : (config : ConfigView) (first : ℕ) (starts : List Start) →
+    length (openings_from config first starts) ≡ length starts
 as-many config first [] = refl
 as-many config first (s ∷ ss) = ap suc (as-many config (first + 1) ss)
 
 pub none_waits_longer_in_histories : NoneWaitsLongerInHistories
-none_waits_longer_in_histories o steps realm first rest came named q ticket gap e some within history tries wait own takes ordered late over at is =
+none_waits_longer_in_histories o steps realm first rest came named q ticket gap e some within history tries wait own
+    takes ordered late over at is =
     let c = realm_config o.config realm in
     let start = start_of o.starts realm in
     let there : realm < length (at_opening o).states = omega (arith, as-many o.config 0 o.starts, within) in

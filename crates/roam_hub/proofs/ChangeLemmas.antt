@@ -18,7 +18,8 @@ use Rattle.roam_hub.specs.Changes.{AreSpans, CarriedOverChanges, EachGoesAlone, 
 use Rattle.roam_hub.proofs.HubLemmas.{sent_in}
 
 -- where some steps end is where the written answers to their events do
-then_answers : (config : ConfigView) (states : List RealmState) (steps : List PlainStep) → states_then config states steps ≡ (answers_to config states (events_in steps)).states
+then_answers : (config : ConfigView) (states : List RealmState) (steps : List PlainStep) →
+    states_then config states steps ≡ (answers_to config states (events_in steps)).states
 then_answers config states [] = refl
 then_answers config states (s ∷ ss) = then_answers config (states_next config states s.event) ss
 
@@ -39,7 +40,8 @@ others_begin_anew s t realm on there away =
 
 -- the spans from one on
 spans : (realm : ℕ) (s : Span) (ss : List Span) (state : RealmState) → AreSpans (s ∷ ss) → StaysThere realm (s ∷ ss)
-    → state_at s.begins.states realm ≡ state → packets_for realm (sent_over (s ∷ ss)) ≡ (run_over realm state (s ∷ ss)).packets
+    → state_at s.begins.states realm ≡ state →
+    packets_for realm (sent_over (s ∷ ss)) ≡ (run_over realm state (s ∷ ss)).packets
 spans realm s [] state are stays is =
     let alone = each_goes_alone s.begins s.steps realm are.0.some_shard stays.0.within are.0.history in
     packets_for-append realm (packets_in s.steps) []

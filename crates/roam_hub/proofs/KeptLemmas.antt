@@ -13,7 +13,7 @@ use Rattle.roam_history.specs.Entries.{HistoryEntry, gone_of, last_of, let_go_en
 use Rattle.roam_history.specs.Fronts.{FrontView}
 use Rattle.roam_history.specs.HubOpening.{HubOpening, opening_at}
 use Rattle.roam_history.proofs.EntryLemmas.{all-gone, all-steps, closed-steps, last-push, none-stored, one-step, one-stored, open-gone, open-step, same-gone, same-steps}
-use Rattle.roam_history.proofs.Prefixes.{prefix_length, prefix_self, prefix_trans}
+use Rattle.roam_history.proofs.Prefixes.{prefix_length, prefix_trans}
 use Rattle.roam_audit.specs.Seats.{SeatView, after_call, front_of, having_seen}
 use Rattle.roam_audit.proofs.PrefixLemmas.{steps_begin}
 use Rattle.roam_hub.specs.Calls.{AreGone, IsCall, IsDueCall, IsFull, IsLook, Sees}
@@ -21,21 +21,23 @@ use Rattle.roam_hub.specs.Keeping.{IsKept, KeptView}
 use Rattle.roam_hub.specs.Looks.{StandsIn}
 
 -- a seat that has seen all entries of a shard
-front_same : (fronts : List (List HistoryEntry)) (shard : ℕ) (es : List HistoryEntry) → shard < length fronts → slice_index_or (slice_set fronts shard es) shard [] ≡ es
+front_same : (fronts : List (List HistoryEntry)) (shard : ℕ) (es : List HistoryEntry) → shard < length fronts →
+    slice_index_or (slice_set fronts shard es) shard [] ≡ es
 front_same fronts shard es lt = get_or-set_same fronts shard es [] lt
 
--- nothing was seen
-pub sees_same : (shard : ℕ) (old : SeatView) → Sees shard old old
-sees_same shard old = record { begins = prefix_self (front_of old shard); others = λ k ne. refl }
-
-sees_set : (shard : ℕ) (old new : SeatView) (es : List HistoryEntry) → new.fronts ≡ slice_set old.fronts shard es → shard < length old.fronts → IsPrefix (front_of old shard) es → Sees shard old new
+sees_set : (shard : ℕ) (old new : SeatView) (es : List HistoryEntry) → new.fronts ≡ slice_set old.fronts shard es →
+    shard < length old.fronts → IsPrefix (front_of old shard) es → Sees shard old new
 sees_set shard old new es is lt pre = record {
-  begins = subst (λ (l : List HistoryEntry). IsPrefix (front_of old shard) l) (sym (ap (λ (fs : List (List HistoryEntry)). slice_index_or fs shard []) is ∙ front_same old.fronts shard es lt)) pre;
-  others = λ k ne. ap (λ (fs : List (List HistoryEntry)). slice_index_or fs k []) is ∙ get_or-set_other old.fronts shard k es [] ne;
+  begins = subst (λ (l : List HistoryEntry). IsPrefix (front_of old shard) l)
+      (sym (ap (λ (fs : List (List HistoryEntry)). slice_index_or fs shard []) is
+      ∙ front_same old.fronts shard es lt)) pre;
+  others = λ k ne. ap (λ (fs : List (List HistoryEntry)). slice_index_or fs k []) is
+      ∙ get_or-set_other old.fronts shard k es [] ne;
 }
 
 -- a seat that has then seen the whole history of a shard
-pub sees_whole : (shard : ℕ) (old new : SeatView) (es : List HistoryEntry) → new ≡ having_seen old shard es → shard < length old.fronts → IsPrefix (front_of old shard) es
+pub sees_whole : (shard : ℕ) (old new : SeatView) (es : List HistoryEntry) → new ≡ having_seen old shard es →
+    shard < length old.fronts → IsPrefix (front_of old shard) es
     → (front_of new shard ≡ es) × Sees shard old new
 sees_whole shard old new es is lt pre =
     let fronts = ap (λ (s : SeatView). s.fronts) is in (
@@ -44,18 +46,22 @@ sees_whole shard old new es is lt pre =
     )
 
 -- where its trace begins
-begins : (o : HubOpening) (k : KeptView) → IsKept o k → begun k.trace (o.states k.front.shard) ≡ opening_at o k.front.shard
+begins : (o : HubOpening) (k : KeptView) → IsKept o k →
+    begun k.trace (o.states k.front.shard) ≡ opening_at o k.front.shard
 begins o k kept = λ j. record { shard = kept.shard j; config = kept.config j; states = o.states k.front.shard }
 
 -- the whole history of a shard is one from the hub's opening, and where it ends the shard stands
-pub whole_history : (o : HubOpening) (k : KeptView) → IsKept o k → IsHistory (opening_at o k.front.shard) (steps_in k.front.entries)
+pub whole_history : (o : HubOpening) (k : KeptView) → IsKept o k →
+    IsHistory (opening_at o k.front.shard) (steps_in k.front.entries)
 whole_history o k kept =
     let all : gone_of k.front.entries ++ k.trace.steps ≡ steps_in k.front.entries =
     ap (λ (l : List PlainStep). gone_of k.front.entries ++ l) kept.stored ∙ all-steps k.front.entries in
     subst (λ (l : List PlainStep). IsHistory (opening_at o k.front.shard) l) all
-    (subst (λ (p : Beginning). IsHistory p (gone_of k.front.entries ++ k.trace.steps)) (begins o k kept) kept.ends.history)
+    (subst (λ (p : Beginning). IsHistory p (gone_of k.front.entries ++ k.trace.steps)) (begins o k kept)
+    kept.ends.history)
 
-pub whole_end : (o : HubOpening) (k : KeptView) → IsKept o k → k.trace.states ≡ end_of (opening_at o k.front.shard) (steps_in k.front.entries)
+pub whole_end : (o : HubOpening) (k : KeptView) → IsKept o k →
+    k.trace.states ≡ end_of (opening_at o k.front.shard) (steps_in k.front.entries)
 whole_end o k kept =
     let all : gone_of k.front.entries ++ k.trace.steps ≡ steps_in k.front.entries =
     ap (λ (l : List PlainStep). gone_of k.front.entries ++ l) kept.stored ∙ all-steps k.front.entries in
@@ -65,7 +71,8 @@ whole_end o k kept =
 
 -- a shard with no steps yet
 pub kept_new : (o : HubOpening) (t : TraceView) (f : FrontView)
-    → t.opening.shard ≡ f.shard → t.opening.config ≡ o.config → t.states ≡ o.states f.shard → t.gone ≡ 0 → t.steps ≡ [] → t.limit ≡ o.config.trace_limit
+    → t.opening.shard ≡ f.shard → t.opening.config ≡ o.config → t.states ≡ o.states f.shard → t.gone ≡ 0 →
+    t.steps ≡ [] → t.limit ≡ o.config.trace_limit
     → f.entries ≡ [] → IsKept o (record { trace = t; front = f })
 kept_new o t f shard config stands gone steps limit none = record {
   shard = shard;
@@ -79,8 +86,13 @@ kept_new o t f shard config stands gone steps limit none = record {
 }
 
 -- with one step more
-kept_step : (o : HubOpening) (k : KeptView) (s : PlainStep) → IsKept o k → length k.front.entries + 1 < 2 ^ 64 - 1 → GoesOn k.trace (with_step k.trace s)
-    → IsKept o (record { trace = with_step k.trace s; front = record { shard = k.front.shard; entries = k.front.entries ++ step_entry s ∷ [] } })
+kept_step : (o : HubOpening) (k : KeptView) (s : PlainStep) → IsKept o k → length k.front.entries + 1 < 2 ^ 64 - 1 →
+    GoesOn k.trace (with_step k.trace s)
+    → IsKept o (record {
+      trace = with_step k.trace s;
+      front =
+          record { shard = k.front.shard; entries = k.front.entries ++ step_entry s ∷ [] };
+    })
 kept_step o k s kept room more =
     let es = k.front.entries in
     let gone : gone_of (es ++ step_entry s ∷ []) ≡ gone_of es = same-gone es s in
@@ -88,7 +100,8 @@ kept_step o k s kept room more =
       shard = kept.shard;
       config = kept.config;
       limit = kept.limit;
-      ends = subst (λ (l : List PlainStep). Ends (with_step k.trace s) (o.states k.front.shard) l) (sym gone) (more (o.states k.front.shard) (gone_of es) kept.ends);
+      ends = subst (λ (l : List PlainStep). Ends (with_step k.trace s) (o.states k.front.shard) l) (sym gone)
+          (more (o.states k.front.shard) (gone_of es) kept.ends);
       stored = ap (λ (l : List PlainStep). l ++ s ∷ []) kept.stored ∙ sym (one-stored es s);
       gone = kept.gone ∙ ap length (sym gone);
       is_open = open-step es s kept.is_open;
@@ -96,8 +109,13 @@ kept_step o k s kept room more =
     }
 
 -- where the stored steps were let go of
-pub kept_gone : (o : HubOpening) (k : KeptView) → IsKept o k → length k.front.entries + 1 < 2 ^ 64 - 1 → Ends (without_steps k.trace) (o.states k.front.shard) (gone_of k.front.entries ++ k.trace.steps)
-    → IsKept o (record { trace = without_steps k.trace; front = record { shard = k.front.shard; entries = k.front.entries ++ let_go_entry ∷ [] } })
+pub kept_gone : (o : HubOpening) (k : KeptView) → IsKept o k → length k.front.entries + 1 < 2 ^ 64 - 1 →
+    Ends (without_steps k.trace) (o.states k.front.shard) (gone_of k.front.entries ++ k.trace.steps)
+    → IsKept o (record {
+      trace = without_steps k.trace;
+      front =
+          record { shard = k.front.shard; entries = k.front.entries ++ let_go_entry ∷ [] };
+    })
 kept_gone o k kept room ends =
     let es = k.front.entries in
     let gone : gone_of es ++ k.trace.steps ≡ gone_of (es ++ let_go_entry ∷ []) =
@@ -120,7 +138,8 @@ get-last [] s = refl
 get-last (x ∷ xs) s = get-last xs s
 
 -- a call was recorded
-pub record Recorded (o : HubOpening) (k : KeptView) (shard : ℕ) (old new : SeatView) (number : ℕ) (s : PlainStep) : Type 0 where
+pub record Recorded (o : HubOpening) (k : KeptView) (shard : ℕ) (old new : SeatView) (number : ℕ)
+    (s : PlainStep) : Type 0 where
   pub kept : IsKept o k
   pub call : IsCall o shard old new number s
   pub sees : Sees shard old new
@@ -128,7 +147,8 @@ pub record Recorded (o : HubOpening) (k : KeptView) (shard : ℕ) (old new : Sea
   pub last : last_of k.trace.steps ≡ step_entry s
 
 -- what is known where it was
-pub record Recording (k : KeptView) (t : TraceView) (f : FrontView) (s : PlainStep) (shard number : ℕ) (old new : SeatView) : Type 0 where
+pub record Recording (k : KeptView) (t : TraceView) (f : FrontView) (s : PlainStep) (shard number : ℕ)
+    (old new : SeatView) : Type 0 where
   pub trace : t ≡ with_step k.trace s
   pub more : GoesOn k.trace t
   pub front : f ≡ record { shard = k.front.shard; entries = k.front.entries ++ last_of t.steps ∷ [] }
@@ -140,62 +160,95 @@ pub record Recording (k : KeptView) (t : TraceView) (f : FrontView) (s : PlainSt
   pub noted : new ≡ after_call old shard number f.entries
 
 recorded-one : (o : HubOpening) (k : KeptView) (s : PlainStep) (shard number : ℕ) (old new : SeatView) → IsKept o k
-    → GoesOn k.trace (with_step k.trace s) → k.front.shard ≡ shard → shard < length old.fronts → IsPrefix (front_of old shard) k.front.entries
-    → length k.front.entries + 1 < 2 ^ 64 - 1 → number ≡ length (steps_in k.front.entries) → new ≡ after_call old shard number (k.front.entries ++ step_entry s ∷ [])
-    → Recorded o (record { trace = with_step k.trace s; front = record { shard = k.front.shard; entries = k.front.entries ++ step_entry s ∷ [] } }) shard old new number s
+    → GoesOn k.trace (with_step k.trace s) → k.front.shard ≡ shard → shard < length old.fronts →
+    IsPrefix (front_of old shard) k.front.entries
+    → length k.front.entries + 1 < 2 ^ 64 - 1 → number ≡ length (steps_in k.front.entries) →
+    new ≡ after_call old shard number (k.front.entries ++ step_entry s ∷ [])
+    → Recorded o (record {
+      trace = with_step k.trace s;
+      front =
+          record { shard = k.front.shard; entries = k.front.entries ++ step_entry s ∷ [] };
+    }) shard old new number s
 recorded-one o k s shard number old new kept more here there begins room number_is noted =
     let es = k.front.entries in
     let whole = es ++ step_entry s ∷ [] in
-    let after : KeptView = record { trace = with_step k.trace s; front = record { shard = k.front.shard; entries = whole } } in
+    let after : KeptView = record {
+      trace = with_step k.trace s;
+      front =
+          record { shard = k.front.shard; entries = whole };
+    } in
     let keeps : IsKept o after = kept_step o k s kept room more in
     let fronts = ap (λ (x : SeatView). x.fronts) noted in
-    let front : front_of new shard ≡ whole = ap (λ (fs : List (List HistoryEntry)). slice_index_or fs shard []) fronts ∙ front_same old.fronts shard whole there in
-    let steps : steps_in (front_of new shard) ≡ steps_in es ++ s ∷ [] = ap (λ (l : List HistoryEntry). steps_in l) front ∙ one-step es s in
-    let history : IsHistory (opening_at o shard) (steps_in whole) = subst (λ (n : ℕ). IsHistory (opening_at o n) (steps_in whole)) here (whole_history o after keeps) in
+    let front : front_of new shard ≡ whole =
+    ap (λ (fs : List (List HistoryEntry)). slice_index_or fs shard []) fronts
+    ∙ front_same old.fronts shard whole there in
+    let steps : steps_in (front_of new shard) ≡ steps_in es ++ s ∷ [] =
+    ap (λ (l : List HistoryEntry). steps_in l) front ∙ one-step es s in
+    let history : IsHistory (opening_at o shard) (steps_in whole) =
+    subst (λ (n : ℕ). IsHistory (opening_at o n) (steps_in whole)) here (whole_history o after keeps) in
     record {
       kept = keeps;
       call = record {
         tallies = ap (λ (x : SeatView). x.tallies) noted;
-        stands = ap (λ (l : List PlainStep). slice_get l number) steps ∙ (ap (λ (n : ℕ). slice_get (steps_in es ++ s ∷ []) n) number_is ∙ get-last (steps_in es) s);
-        last = (let len = ap length steps in let more = length-append (steps_in es) (s ∷ []) in omega (arith, len, more, number_is));
-        rises = (let less = prefix_length (steps_in (front_of old shard)) (steps_in es) (steps_begin (front_of old shard) es begins) in omega (arith, less, number_is));
+        stands = ap (λ (l : List PlainStep). slice_get l number) steps
+            ∙ (ap (λ (n : ℕ). slice_get (steps_in es ++ s ∷ []) n) number_is ∙ get-last (steps_in es) s);
+        last = (let len = ap length steps in let more = length-append (steps_in es) (s ∷ []) in
+            omega (arith, len, more, number_is));
+        rises = (let less = prefix_length (steps_in (front_of old shard)) (steps_in es)
+            (steps_begin (front_of old shard) es begins) in omega (arith, less, number_is));
         before = es;
         entries = front;
         begins = begins;
         history = subst (λ (l : List HistoryEntry). IsHistory (opening_at o shard) (steps_in l)) (sym front) history;
       };
-      sees = sees_set shard old new whole fronts there (prefix_trans (front_of old shard) es whole begins (step_entry s ∷ [], refl));
+      sees = sees_set shard old new whole fronts there
+          (prefix_trans (front_of old shard) es whole begins (step_entry s ∷ [], refl));
       front = front;
       last = last-push k.trace.steps s;
     }
 
-pub recorded : (o : HubOpening) (k : KeptView) (t : TraceView) (f : FrontView) (s : PlainStep) (shard number : ℕ) (old new : SeatView)
-    → IsKept o k → Recording k t f s shard number old new → Recorded o (record { trace = t; front = f }) shard old new number s
+pub recorded : (o : HubOpening) (k : KeptView) (t : TraceView) (f : FrontView) (s : PlainStep) (shard number : ℕ)
+    (old new : SeatView)
+    → IsKept o k → Recording k t f s shard number old new →
+    Recorded o (record { trace = t; front = f }) shard old new number s
 recorded o k t f s shard number old new kept r =
-    let last : last_of t.steps ≡ step_entry s = ap (λ (v : TraceView). last_of v.steps) r.trace ∙ last-push k.trace.steps s in
+    let last : last_of t.steps ≡ step_entry s = ap (λ (v : TraceView). last_of v.steps) r.trace
+    ∙ last-push k.trace.steps s in
     let front : f ≡ record { shard = k.front.shard; entries = k.front.entries ++ step_entry s ∷ [] } =
     r.front ∙ ap (λ (e : HistoryEntry). record { shard = k.front.shard; entries = k.front.entries ++ e ∷ [] }) last in
     let noted = r.noted ∙ ap (λ (g : FrontView). after_call old shard number g.entries) front in
     let more = subst (λ (v : TraceView). GoesOn k.trace v) r.trace r.more in
     let one = recorded-one o k s shard number old new kept more r.here r.there r.begins r.room r.number_is noted in
     subst (λ (g : FrontView). Recorded o (record { trace = t; front = g }) shard old new number s) (sym front)
-    (subst (λ (v : TraceView). Recorded o (record { trace = v; front = record { shard = k.front.shard; entries = k.front.entries ++ step_entry s ∷ [] } }) shard old new number s) (sym r.trace) one)
+    (subst (λ (v : TraceView). Recorded o
+    (record {
+      trace = v;
+      front = record {
+        shard = k.front.shard;
+        entries =
+            k.front.entries ++ step_entry s ∷ [];
+      };
+    }) shard old new number s) (sym r.trace) one)
 
 -- the stored steps of a shard were let go of
-pub gone_of_shard : (o : HubOpening) (k : KeptView) (shard : ℕ) (old new : SeatView) (steps : List PlainStep) → IsKept o k
+pub gone_of_shard : (o : HubOpening) (k : KeptView) (shard : ℕ) (old new : SeatView) (steps : List PlainStep) →
+    IsKept o k
     → k.front.shard ≡ shard → shard < length old.fronts → IsPrefix (front_of old shard) k.front.entries
     → steps ≡ k.trace.steps → new ≡ having_seen old shard (k.front.entries ++ let_go_entry ∷ [])
     → AreGone o shard old new steps × Sees shard old new
 gone_of_shard o k shard old new steps kept here there begins are seen =
     let es = k.front.entries in
     let whole = es ++ let_go_entry ∷ [] in
-    let both = sees_whole shard old new whole seen there (prefix_trans (front_of old shard) es whole begins (let_go_entry ∷ [], refl)) in
-    let history : IsHistory (opening_at o shard) (steps_in es) = subst (λ (n : ℕ). IsHistory (opening_at o n) (steps_in es)) here (whole_history o k kept) in (
+    let both = sees_whole shard old new whole seen there
+    (prefix_trans (front_of old shard) es whole begins (let_go_entry ∷ [], refl)) in
+    let history : IsHistory (opening_at o shard) (steps_in es) =
+    subst (λ (n : ℕ). IsHistory (opening_at o n) (steps_in es)) here (whole_history o k kept) in (
       record {
         before = es;
         entries = both.0;
         steps_are = are ∙ kept.stored;
-        history = subst (λ (l : List PlainStep). IsHistory (opening_at o shard) l) (sym (ap (λ (l : List HistoryEntry). steps_in l) both.0 ∙ same-steps es)) history;
+        history = subst (λ (l : List PlainStep). IsHistory (opening_at o shard) l)
+            (sym (ap (λ (l : List HistoryEntry). steps_in l) both.0 ∙ same-steps es)) history;
         tallies = ap (λ (x : SeatView). x.tallies) seen;
       },
       both.1,
@@ -208,19 +261,24 @@ pub look : (o : HubOpening) (k : KeptView) (shard now : ℕ) (old new : SeatView
     → IsLook o shard now old new due × Sees shard old new
 look o k shard now old new due kept here there begins is seen =
     let both = sees_whole shard old new k.front.entries seen there begins in
-    let history = subst (λ (n : ℕ). IsHistory (opening_at o n) (steps_in k.front.entries)) here (whole_history o k kept) in
+    let history = subst (λ (n : ℕ). IsHistory (opening_at o n) (steps_in k.front.entries)) here
+    (whole_history o k kept) in
     let end = whole_end o k kept ∙ ap (λ (n : ℕ). end_of (opening_at o n) (steps_in k.front.entries)) here in (
       record {
         tallies = ap (λ (x : SeatView). x.tallies) seen;
         history = subst (λ (l : List HistoryEntry). IsHistory (opening_at o shard) (steps_in l)) (sym both.0) history;
-        due_is = subst (λ (l : List HistoryEntry). due ≡ false ↔ NothingDue now (end_of (opening_at o shard) (steps_in l))) (sym both.0) (subst (λ states. due ≡ false ↔ NothingDue now states) end is);
+        due_is = subst (λ (l : List HistoryEntry). due ≡ false
+            ↔ NothingDue now (end_of (opening_at o shard) (steps_in l))) (sym both.0)
+            (subst (λ states. due ≡ false ↔ NothingDue now states) end is);
       },
       both.1,
     )
 
 -- a tick was recorded where something was due
-pub due_call : (o : HubOpening) (k : KeptView) (shard now moment : ℕ) (old new : SeatView) (number : ℕ) (s : PlainStep) → IsKept o k
-    → k.front.shard ≡ shard → IsPrefix (front_of old shard) k.front.entries → (NothingDue now k.trace.states → ⊥) → IsTickMoment now k.trace.states moment → IsCall o shard old new number s
+pub due_call : (o : HubOpening) (k : KeptView) (shard now moment : ℕ) (old new : SeatView) (number : ℕ)
+    (s : PlainStep) → IsKept o k
+    → k.front.shard ≡ shard → IsPrefix (front_of old shard) k.front.entries → (NothingDue now k.trace.states → ⊥) →
+    IsTickMoment now k.trace.states moment → IsCall o shard old new number s
     → front_of new shard ≡ k.front.entries ++ step_entry s ∷ [] → IsDueCall o shard now moment old new number s
 due_call o k shard now moment old new number s kept here begins due part call more =
     let end = whole_end o k kept ∙ ap (λ (n : ℕ). end_of (opening_at o n) (steps_in k.front.entries)) here in
@@ -249,7 +307,8 @@ full o k shard old new kept here there begins seen all =
 
 -- how a realm stands where the history ends
 pub stands_in : (o : HubOpening) (k : KeptView) (shard realm : ℕ) (seat : SeatView) (g : Gauges) → IsKept o k
-    → k.front.shard ≡ shard → IsPrefix (front_of seat shard) k.front.entries → StandsAs (state_at k.trace.states realm) g → StandsIn o shard realm seat g
+    → k.front.shard ≡ shard → IsPrefix (front_of seat shard) k.front.entries →
+    StandsAs (state_at k.trace.states realm) g → StandsIn o shard realm seat g
 stands_in o k shard realm seat g kept here begins stands =
     let end = whole_end o k kept ∙ ap (λ (n : ℕ). end_of (opening_at o n) (steps_in k.front.entries)) here in
     record {
@@ -260,5 +319,7 @@ stands_in o k shard realm seat g kept here begins stands =
     }
 
 -- the entry that closes a history is no step
-pub whole_steps : (f whole : FrontView) → whole ≡ record { shard = f.shard; entries = f.entries ++ closed_entry ∷ [] } → steps_in f.entries ≡ steps_in whole.entries
+pub whole_steps : (f whole : FrontView) →
+    whole ≡ record { shard = f.shard; entries = f.entries ++ closed_entry ∷ [] } →
+    steps_in f.entries ≡ steps_in whole.entries
 whole_steps f whole is = sym (ap (λ (w : FrontView). steps_in w.entries) is ∙ closed-steps f.entries)

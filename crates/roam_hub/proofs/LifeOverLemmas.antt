@@ -21,9 +21,9 @@ use Rattle.roam_core.proofs.LifeDrawLemmas.{draws_are_apart_in}
 use Rattle.roam_core.proofs.PacketLemmas.{packets_for-append}
 use Rattle.roam_shard.specs.Follow.{Follows}
 use Rattle.roam_trace.specs.History.{end_of}
-use Rattle.roam_hub.specs.Changes.{AreSpans, FollowsOn, IsSpan, IsThere, Span, own_events, sent_over}
+use Rattle.roam_hub.specs.Changes.{FollowsOn, IsThere, Span, own_events, sent_over}
 use Rattle.roam_hub.specs.InHistories.{packets_in}
-use Rattle.roam_hub.specs.LivesOver.{DrawsApartOverChanges, GoesAlong, IsChange, IsLifeOver, LivesGoAlong, ProvenanceOverChanges, begins_at, drawn_over}
+use Rattle.roam_hub.specs.LivesOver.{DrawsApartOverChanges, IsChange, IsLifeOver, LivesGoAlong, ProvenanceOverChanges, begins_at}
 use Rattle.roam_hub.proofs.ChangeLemmas.{each_goes_alone}
 
 -- a stage, by what it is made of
@@ -61,7 +61,8 @@ begins_there realm old new config state before after is same follows = record {
 }
 
 leads : (realm : ℕ) (s t : Span) (change : Happening) (state : RealmState)
-    → Follows s.begins.config t.begins.config realm (state_at (end_of s.begins s.steps) realm) (state_at t.begins.states realm)
+    → Follows s.begins.config t.begins.config realm (state_at (end_of s.begins s.steps) realm)
+    (state_at t.begins.states realm)
     → state_at (end_of s.begins s.steps) realm ≡ state → IsChange realm s t change
     → LeadsTo (staged (realm_config s.begins.config realm) state) change (begins_at realm t)
 leads realm s t (event e) state follows ends is = absurd is
@@ -79,13 +80,16 @@ record TakesPart (at : Stage) (es : List Happening) (change : Happening)
   drew : draws_in at (es ++ change ∷ rest) ≡ draws ++ draws_in next rest
   ends : stage_then at (es ++ change ∷ rest) ≡ stage_then next rest
 
-takes_part : (at mid next : Stage) (es : List Happening) (change : Happening) (rest : List Happening) (packets : List PlainOut) (draws : List ℕ)
+takes_part : (at mid next : Stage) (es : List Happening) (change : Happening) (rest : List Happening)
+    (packets : List PlainOut) (draws : List ℕ)
     → stage_then at es ≡ mid → sent_in at es ≡ packets → draws_in at es ≡ draws → LeadsTo mid change next
     → TakesPart at es change next rest packets draws
 takes_part at mid next es change rest packets draws ends sent drew leads =
-    let into : stage_after (stage_then at es) change ≡ next = ap (λ (x : Stage). stage_after x change) ends ∙ leads.stage in
+    let into : stage_after (stage_then at es) change ≡ next = ap (λ (x : Stage). stage_after x change) ends
+    ∙ leads.stage in
     let silent : sent_at (stage_then at es) change ≡ [] = ap (λ (x : Stage). sent_at x change) ends ∙ leads.silent in
-    let undrawn : draws_at (stage_then at es) change ≡ [] = ap (λ (x : Stage). draws_at x change) ends ∙ leads.undrawn in
+    let undrawn : draws_at (stage_then at es) change ≡ [] = ap (λ (x : Stage). draws_at x change) ends
+    ∙ leads.undrawn in
     record {
       sent =
           sent-append at es (change ∷ rest)
@@ -101,7 +105,8 @@ takes_part at mid next es change rest packets draws ends sent drew leads =
     }
 
 -- a realm is there where its life begins
-pub is_there : (realm : ℕ) (s : Span) (ss : List Span) (life : List Happening) → IsLifeOver realm s ss life → IsThere realm s
+pub is_there : (realm : ℕ) (s : Span) (ss : List Span) (life : List Happening) → IsLifeOver realm s ss life →
+    IsThere realm s
 is_there realm s [] life is = is.0
 is_there realm s (t ∷ ts) life is = is.2
 
@@ -138,8 +143,10 @@ lives_go_along realm s (t ∷ ts) life are is =
     let on : FollowsOn s t = are.1 in
     let next = is_there realm t ts rest others in
     let own = subst (λ (n : ℕ). is_in_shard t.begins.config n realm ≡ true) on.shard next.own in
-    let into = leads realm s t change (one_realm_run c state es).state (on.states.each realm next.configured own) alone.state changes in
-    let part = takes_part (begins_at realm s) (staged c (one_realm_run c state es).state) (begins_at realm t) (map event es) change rest
+    let into = leads realm s t change (one_realm_run c state es).state (on.states.each realm next.configured own)
+    alone.state changes in
+    let part = takes_part (begins_at realm s) (staged c (one_realm_run c state es).state) (begins_at realm t)
+    (map event es) change rest
     (one_realm_run c state es).packets (drawn c state es)
     (stage-events c state es) (sent-events c state es) (draws-events c state es) into in
     let along = lives_go_along realm t ts rest are.2 others in

@@ -33,8 +33,10 @@ module _ {A : Type 0} where
     count = omega arith;
   }
 
-  pub one_more_paused : (shards left : List ShardView) (paused : List (Paused A)) (s : ShardView) (ss : List ShardView) (p : Paused A)
-      → ArePausedSoFar shards left paused → left ≡ s ∷ ss → IsPausedShard s p → ArePausedSoFar shards ss (paused ++ p ∷ [])
+  pub one_more_paused : (shards left : List ShardView) (paused : List (Paused A)) (s : ShardView)
+      (ss : List ShardView) (p : Paused A)
+      → ArePausedSoFar shards left paused → left ≡ s ∷ ss → IsPausedShard s p →
+      ArePausedSoFar shards ss (paused ++ p ∷ [])
   one_more_paused shards left paused s ss p are is one = record {
     each = λ k t q at also. elim (get-push paused p q k also) as (λ _. IsPausedShard t q) [
       | inl last ↦ (
@@ -48,19 +50,23 @@ module _ {A : Type 0} where
     behind = λ k. (
         let e : length paused + suc k ≡ length (paused ++ p ∷ []) + k = omega (arith, length-append paused (p ∷ [])) in
         ap (λ (l : List ShardView). slice_get l (suc k)) (sym is) ∙ are.behind (suc k) ∙ ap (slice_get shards) e);
-    count = (let short = ap length is in let count = are.count in omega (arith, short, count, length-append paused (p ∷ [])));
+    count = (let short = ap length is in let count = are.count in
+        omega (arith, short, count, length-append paused (p ∷ [])));
   }
 
-  pub all_paused : (shards left : List ShardView) (paused : List (Paused A)) → ArePausedSoFar shards left paused → length left ≡ 0
+  pub all_paused : (shards left : List ShardView) (paused : List (Paused A)) → ArePausedSoFar shards left paused →
+      length left ≡ 0
       → ArePausedShards shards paused
   all_paused shards left paused are none = record { count = omega (arith, are.count, none); each = are.each }
 
-  module _ (o : HubOpening) (count : ℕ) (shards : List ShardView) (steps : List (List PlainStep)) (paused : List (Paused A))
+  module _ (o : HubOpening) (count : ℕ) (shards : List ShardView) (steps : List (List PlainStep))
+      (paused : List (Paused A))
       (closed : AreClosed o count shards steps) (are : ArePausedShards shards paused) where
     nobody : ShardView
     nobody = record { opening = record { shard = 0; config = o.config; starts = [] }; states = [] }
 
-    shard_at : (k : ℕ) (p : Paused A) → slice_get paused k ≡ Some p → slice_get shards k ≡ Some (slice_index_or shards k nobody)
+    shard_at : (k : ℕ) (p : Paused A) → slice_get paused k ≡ Some p →
+        slice_get shards k ≡ Some (slice_index_or shards k nobody)
     shard_at k p at =
         let lt = slice_get_within paused k p at in
         slice_get-get_or shards k nobody (omega (arith, lt, are.count))

@@ -4,7 +4,7 @@ use Rattle.std.specs.Prelude.{slice_get}
 use Rattle.std.proofs.lemmas.List.{map-append}
 use Rattle.std.proofs.lemmas.Option.{same_Some}
 use Rattle.roam_book.specs.RealmState.{RealmState}
-use Rattle.roam_book.specs.OneRealm.{RealmEvent, one_realm_run}
+use Rattle.roam_book.specs.OneRealm.{RealmEvent}
 use Rattle.roam_book.specs.RealmConfig.{realm_config}
 use Rattle.roam_core.specs.Events.{is_in_shard}
 use Rattle.roam_core.specs.Lives.{Happening, Stage, event, goes_on, begins_anew, stage_then}
@@ -14,7 +14,7 @@ use Rattle.roam_core.proofs.LifeLemmas.{stage-events}
 use Rattle.roam_core.proofs.LifeTicketLemmas.{all-rise, same-event, then-rises, ticket_is_given_once_in}
 use Rattle.roam_shard.specs.Follow.{Follows}
 use Rattle.roam_trace.specs.History.{end_of}
-use Rattle.roam_hub.specs.Changes.{AreSpans, FollowsOn, IsThere, Span, own_events}
+use Rattle.roam_hub.specs.Changes.{AreSpans, FollowsOn, Span, own_events}
 use Rattle.roam_hub.specs.LivesOver.{IsChange, IsLifeOver, TakesTicketAt, TicketGivenOnceOverChanges, begins_at}
 use Rattle.roam_hub.proofs.ChangeLemmas.{each_goes_alone}
 use Rattle.roam_hub.proofs.LifeOverLemmas.{is_there}
@@ -28,7 +28,8 @@ ends_with realm s = (state_at (end_of s.begins s.steps) realm).ticket
 
 -- no change alters it
 follows_with : (realm : ℕ) (s t : Span) (change : Happening)
-    → Follows s.begins.config t.begins.config realm (state_at (end_of s.begins s.steps) realm) (state_at t.begins.states realm)
+    → Follows s.begins.config t.begins.config realm (state_at (end_of s.begins s.steps) realm)
+    (state_at t.begins.states realm)
     → IsChange realm s t change → begins_with realm t ≡ ends_with realm s
 follows_with realm s t (event e) follows is = absurd is
 follows_with realm s t (goes_on config) follows is = ap (λ (x : RealmState). x.ticket) (follows.goes_on is.0)
@@ -43,22 +44,26 @@ changes_keep realm s t ts life are is =
     follows_with realm s t is.0 (on.states.each realm next.configured own) is.3
 
 -- nor do a span's own events take it back
-ends_at : (realm : ℕ) (s : Span) (ss : List Span) (life : List Happening) → AreSpans (s ∷ ss) → IsLifeOver realm s ss life
+ends_at : (realm : ℕ) (s : Span) (ss : List Span) (life : List Happening) → AreSpans (s ∷ ss) →
+    IsLifeOver realm s ss life
     → ends_with realm s ≡ (stage_then (begins_at realm s) (map event (own_events realm s))).state.ticket
 ends_at realm s ss life are is =
     let there = is_there realm s ss life is in
     let alone = each_goes_alone s.begins s.steps realm are.0.some_shard there.within are.0.history in
     ap (λ (x : RealmState). x.ticket) alone.state
-    ∙ sym (ap (λ (x : Stage). x.state.ticket) (stage-events (realm_config s.begins.config realm) (state_at s.begins.states realm) (own_events realm s)))
+    ∙ sym (ap (λ (x : Stage). x.state.ticket)
+    (stage-events (realm_config s.begins.config realm) (state_at s.begins.states realm) (own_events realm s)))
 
-span-rises : (realm : ℕ) (s : Span) (ss : List Span) (life : List Happening) → AreSpans (s ∷ ss) → IsLifeOver realm s ss life
+span-rises : (realm : ℕ) (s : Span) (ss : List Span) (life : List Happening) → AreSpans (s ∷ ss) →
+    IsLifeOver realm s ss life
     → begins_with realm s ≤ ends_with realm s
 span-rises realm s ss life are is =
     omega (arith, ends_at realm s ss life are is, then-rises (begins_at realm s) (map event (own_events realm s)))
 
 -- so no later span begins with a lower one
 later-rises : (realm : ℕ) (s : Span) (ss : List Span) (life : List Happening) (i : ℕ) (span : Span)
-    → AreSpans (s ∷ ss) → IsLifeOver realm s ss life → slice_get (s ∷ ss) i ≡ Some span → begins_with realm s ≤ begins_with realm span
+    → AreSpans (s ∷ ss) → IsLifeOver realm s ss life → slice_get (s ∷ ss) i ≡ Some span →
+    begins_with realm s ≤ begins_with realm span
 later-rises realm s ss life zero span are is there =
     let same : s ≡ span = same_Some s span there in
     let equal = ap (begins_with realm) same in omega (arith, equal)
@@ -70,17 +75,22 @@ later-rises realm s (t ∷ ts) life (suc i) span are is there =
     omega (arith, here, change, rest)
 
 -- a ticket that was given in a span is below the one with which it ends
-given-below : (realm : ℕ) (s : Span) (ss : List Span) (life : List Happening) (first : List RealmEvent) (e : RealmEvent) (ticket : ℕ)
-    → AreSpans (s ∷ ss) → IsLifeOver realm s ss life → (at : TakesTicketAt realm (s ∷ ss) zero first e ticket) → ticket + 1 ≤ ends_with realm s
+given-below : (realm : ℕ) (s : Span) (ss : List Span) (life : List Happening) (first : List RealmEvent)
+    (e : RealmEvent) (ticket : ℕ)
+    → AreSpans (s ∷ ss) → IsLifeOver realm s ss life → (at : TakesTicketAt realm (s ∷ ss) zero first e ticket) →
+    ticket + 1 ≤ ends_with realm s
 given-below realm s ss life first e ticket are is at =
     let same : s ≡ at.span = same_Some s at.span at.there in
     let b = begins_at realm s in
-    let order : own_events realm s ≡ first ++ e ∷ at.rest = subst (λ (x : Span). own_events realm x ≡ first ++ e ∷ at.rest) (sym same) at.in_order in
+    let order : own_events realm s ≡ first ++ e ∷ at.rest =
+    subst (λ (x : Span). own_events realm x ≡ first ++ e ∷ at.rest) (sym same) at.in_order in
     let taken : (stage_then b (map event (first ++ e ∷ []))).state.ticket ≡ ticket + 1 =
-    subst (λ (x : Span). (stage_then (begins_at realm x) (map event (first ++ e ∷ []))).state.ticket ≡ ticket + 1) (sym same) at.taken in
+    subst (λ (x : Span). (stage_then (begins_at realm x) (map event (first ++ e ∷ []))).state.ticket ≡ ticket + 1)
+    (sym same) at.taken in
     let whole : map event (own_events realm s) ≡ map event (first ++ e ∷ []) ++ map event at.rest =
     ap (map event) (order ∙ sym (append_assoc first (e ∷ []) at.rest)) ∙ map-append event (first ++ e ∷ []) at.rest in
-    let up = subst (λ (l : List Happening). (stage_then b (map event (first ++ e ∷ []))).state.ticket ≤ (stage_then b l).state.ticket) (sym whole)
+    let up = subst (λ (l : List Happening). (stage_then b (map event (first ++ e ∷ []))).state.ticket
+    ≤ (stage_then b l).state.ticket) (sym whole)
     (all-rise b (map event (first ++ e ∷ [])) (map event at.rest)) in
     omega (arith, ends_at realm s ss life are is, taken, up)
 
@@ -90,7 +100,8 @@ given-above : (realm : ℕ) (spans : List Span) (i : ℕ) (first : List RealmEve
 given-above realm spans i first e ticket at =
     omega (arith, then-rises (begins_at realm at.span) (map event first), at.next)
 
-not-later : (realm : ℕ) (s t : Span) (ts : List Span) (life : List Happening) (j : ℕ) (first before : List RealmEvent) (e f : RealmEvent) (ticket : ℕ)
+not-later : (realm : ℕ) (s t : Span) (ts : List Span) (life : List Happening) (j : ℕ)
+    (first before : List RealmEvent) (e f : RealmEvent) (ticket : ℕ)
     → AreSpans (s ∷ t ∷ ts) → IsLifeOver realm s (t ∷ ts) life
     → TakesTicketAt realm (s ∷ t ∷ ts) zero first e ticket → TakesTicketAt realm (t ∷ ts) j before f ticket → ⊥
 not-later realm s t ts life j first before e f ticket are is here there =
@@ -113,16 +124,19 @@ same-events (x ∷ xs) (y ∷ ys) same =
     let tails = same-events xs ys rest in cc
 
 in-life : (b : Stage) (first : List RealmEvent) (e : RealmEvent) (ticket : ℕ)
-    → (stage_then b (map event first)).state.ticket ≡ ticket → (stage_then b (map event (first ++ e ∷ []))).state.ticket ≡ ticket + 1
+    → (stage_then b (map event first)).state.ticket ≡ ticket →
+    (stage_then b (map event (first ++ e ∷ []))).state.ticket ≡ ticket + 1
     → TakesTicketIn b (map event first) e ticket
 in-life b first e ticket next taken = record {
   next = next;
-  taken = subst (λ (l : List Happening). (stage_then b l).state.ticket ≡ ticket + 1) (map-append event first (e ∷ [])) taken;
+  taken = subst (λ (l : List Happening). (stage_then b l).state.ticket ≡ ticket + 1)
+      (map-append event first (e ∷ [])) taken;
 }
 
 one-span : (realm : ℕ) (s : Span) (first rest before after : List RealmEvent) (e f : RealmEvent) (ticket : ℕ)
     → own_events realm s ≡ first ++ e ∷ rest → own_events realm s ≡ before ++ f ∷ after
-    → TakesTicketIn (begins_at realm s) (map event first) e ticket → TakesTicketIn (begins_at realm s) (map event before) f ticket
+    → TakesTicketIn (begins_at realm s) (map event first) e ticket →
+    TakesTicketIn (begins_at realm s) (map event before) f ticket
     → (first ≡ before) × (e ≡ f)
 one-span realm s first rest before after e f ticket one other here there =
     let b = begins_at realm s in
@@ -147,8 +161,10 @@ pub ticket_given_once_over_changes : TicketGivenOnceOverChanges
 ticket_given_once_over_changes realm s ss life zero zero first before e f ticket are is here there =
     let span : there.span ≡ here.span = same_Some there.span here.span (sym there.there ∙ here.there) in
     let order = subst (λ (x : Span). own_events realm x ≡ before ++ f ∷ there.rest) span there.in_order in
-    let next = subst (λ (x : Span). (stage_then (begins_at realm x) (map event before)).state.ticket ≡ ticket) span there.next in
-    let taken = subst (λ (x : Span). (stage_then (begins_at realm x) (map event (before ++ f ∷ []))).state.ticket ≡ ticket + 1) span there.taken in
+    let next = subst (λ (x : Span). (stage_then (begins_at realm x) (map event before)).state.ticket ≡ ticket) span
+    there.next in
+    let taken = subst (λ (x : Span). (stage_then (begins_at realm x) (map event (before ++ f ∷ []))).state.ticket
+    ≡ ticket + 1) span there.taken in
     let same = one-span realm here.span first here.rest before there.rest e f ticket here.in_order order
     (in-life (begins_at realm here.span) first e ticket here.next here.taken)
     (in-life (begins_at realm here.span) before f ticket next taken) in
@@ -158,9 +174,11 @@ ticket_given_once_over_changes realm s [] life zero (suc j) first before e f tic
 ticket_given_once_over_changes realm s [] life (suc i) j first before e f ticket are is here there =
     absurd (let bad : None ≡ Some here.span = here.there in cc)
 ticket_given_once_over_changes realm s (t ∷ ts) life zero (suc j) first before e f ticket are is here there =
-    absurd (not-later realm s t ts life j first before e f ticket are is here (in-rest realm s (t ∷ ts) j before f ticket there))
+    absurd (not-later realm s t ts life j first before e f ticket are is here
+    (in-rest realm s (t ∷ ts) j before f ticket there))
 ticket_given_once_over_changes realm s (t ∷ ts) life (suc i) zero first before e f ticket are is here there =
-    absurd (not-later realm s t ts life i before first f e ticket are is there (in-rest realm s (t ∷ ts) i first e ticket here))
+    absurd (not-later realm s t ts life i before first f e ticket are is there
+    (in-rest realm s (t ∷ ts) i first e ticket here))
 ticket_given_once_over_changes realm s (t ∷ ts) life (suc i) (suc j) first before e f ticket are is here there =
     let rest = ticket_given_once_over_changes realm t ts is.1 i j first before e f ticket are.2 is.5
     (in-rest realm s (t ∷ ts) i first e ticket here) (in-rest realm s (t ∷ ts) j before f ticket there) in

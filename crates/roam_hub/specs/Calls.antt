@@ -109,7 +109,8 @@ module _ {A : Type 0} where
 
   -- a tick was recorded where something was due, and whether anything is due after it
   pub record IsTicked (o : HubOpening) (shard now : ℕ) (old new : SeatView) (t : Ticked A) : Type 0 where
-    pub call : IsDueCall o shard now t.moment old new t.answered.number (answered_step (ticks t.moment shard) t.answered)
+    pub call : IsDueCall o shard now t.moment old new t.answered.number
+        (answered_step (ticks t.moment shard) t.answered)
     pub more : t.is_more ≡ false ↔ NothingDue now (end_of (opening_at o shard) (steps_in (front_of new shard)))
 
   -- ## Tick where something is due

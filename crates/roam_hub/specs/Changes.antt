@@ -1,4 +1,5 @@
--- The realms of a shard while its configuration changes (ours): from one change to the next there is a history, which begins
+-- The realms of a shard while its configuration changes (ours): from one change to the next there is a history,
+-- which begins
 -- in the states that follow where the one before it ended.
 use Rattle.std.specs.Prelude.{◌≡◌, ℕ, ◌<◌, ◌≤◌, true, List, [], ◌∷◌, ◌++◌, length}
 use Rattle.roam_reload.specs.Reload.{IsCarried}
@@ -88,14 +89,16 @@ run_over realm state (s ∷ ss) =
     let later = run_over realm (state_into realm here.state ss) ss in
     record { packets = here.packets ++ later.packets; state = later.state }
 
--- so the packets that were sent for a realm which is carried over are those of its own written broker, over all its events
+-- so the packets that were sent for a realm which is carried over are those of its own written broker, over all its
+-- events
 -- before and after each change
 abbrev pub CarriedOverChanges : Type 0
 CarriedOverChanges =
     (realm : ℕ) (s : Span) (ss : List Span) → AreSpans (s ∷ ss) → StaysThere realm (s ∷ ss)
     → packets_for realm (sent_over (s ∷ ss)) ≡ (run_over realm (state_at s.begins.states realm) (s ∷ ss)).packets
 
--- in one history each realm's packets are those of its own written broker from the state in which it begins there, and where
+-- in one history each realm's packets are those of its own written broker from the state in which it begins there,
+-- and where
 -- the history ends it stands as that one does
 pub record GoesAlone (b : Beginning) (steps : List PlainStep) (realm : ℕ) : Type 0 where
   pub packets : packets_for realm (packets_in steps)
@@ -110,7 +113,8 @@ EachGoesAlone =
     (b : Beginning) (steps : List PlainStep) (realm : ℕ)
     → 1 ≤ b.config.shards → realm < length b.states → IsHistory b steps → GoesAlone b steps realm
 
--- a realm that isn't carried over begins anew, at the place in the stream of random words and at the ticket where it stood
+-- a realm that isn't carried over begins anew, at the place in the stream of random words and at the ticket where
+-- it stood
 abbrev pub OthersBeginAnew : Type 0
 OthersBeginAnew =
     (s t : Span) (realm : ℕ) → FollowsOn s t → IsThere realm t → ¬ IsCarried s.begins.config t.begins.config realm

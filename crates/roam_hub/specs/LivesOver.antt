@@ -47,7 +47,8 @@ drawn_over realm (s ∷ ss) =
     drawn (realm_config s.begins.config realm) (state_at s.begins.states realm) (own_events realm s)
     ++ drawn_over realm ss
 
--- what was sent for the realm over all spans is what its life sends, so are the draws, and it stands where the life ends
+-- what was sent for the realm over all spans is what its life sends, so are the draws, and it stands where the life
+-- ends
 pub record GoesAlong (realm : ℕ) (s : Span) (ss : List Span) (life : List Happening) : Type 0 where
   pub packets : packets_for realm (sent_over (s ∷ ss)) ≡ sent_in (begins_at realm s) life
   pub draws : drawn_over realm (s ∷ ss) ≡ draws_in (begins_at realm s) life
@@ -58,7 +59,8 @@ LivesGoAlong =
     (realm : ℕ) (s : Span) (ss : List Span) (life : List Happening)
     → AreSpans (s ∷ ss) → IsLifeOver realm s ss life → GoesAlong realm s ss life
 
--- so each packet that was sent for a realm which began with no entries has its origin in the realm's own events, over all
+-- so each packet that was sent for a realm which began with no entries has its origin in the realm's own events,
+-- over all
 -- changes, whether they carried it over or not
 abbrev pub ProvenanceOverChanges : Type 0
 ProvenanceOverChanges =
@@ -77,7 +79,8 @@ DrawsApartOverChanges =
     → position % 2 ^ 68 ≡ other % 2 ^ 68
     → i ≡ j
 
--- an event of the realm is given a ticket: in the span of this place, counted from 0, after these of its own events there
+-- an event of the realm is given a ticket: in the span of this place, counted from 0, after these of its own events
+-- there
 pub record TakesTicketAt (realm : ℕ) (spans : List Span) (i : ℕ) (first : List RealmEvent) (e : RealmEvent)
     (ticket : ℕ) : Type 0 where
   pub span : Span

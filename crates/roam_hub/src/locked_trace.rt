@@ -1,31 +1,28 @@
 //! What lies under a shard's lock.
 
-ghost use Rattle.std.specs.Prelude.{◌≡◌, ◌≢◌, ◌+◌, ◌<◌, ◌-◌, ◌^◌, ◌++◌, ◌∷◌, ◌↔◌, [], false, length, min, true};
-ghost use Rattle.std.specs.Prelude.{IfErr, IfNone, IfOk, IfSome, IsErrOf, OnErr, OnOk};
+ghost use Rattle.std.specs.Prelude.{◌≡◌, ◌≢◌, ◌+◌, ◌<◌, ◌-◌, ◌^◌, ◌++◌, ◌∷◌, [], false, length, min, true};
+ghost use Rattle.std.specs.Prelude.{IfErr, IfOk, IfSome, IsErrOf, OnErr, OnOk};
 ghost use mathlib.Core.List.{IsPrefix};
 ghost use Rattle.roam_route.specs.Events.{IsEvent};
 ghost use Rattle.roam_route.specs.Shown.{shown_job};
 ghost use Rattle.roam_route.specs.Events.{arrival_of};
 ghost use Rattle.roam_core.specs.Events.{arrives, is_in_shard, ticks};
-ghost use Rattle.roam_shard.specs.Twins.{NothingDue};
-ghost use Rattle.roam_due.specs.Moments.{IsTickMoment};
 ghost use Rattle.roam_trace.specs.History.{IsHistory, end_of};
 ghost use Rattle.roam_trace.specs.Steps.{octets_in};
 ghost use Rattle.roam_history.specs.Entries.{IsWhole, step_entry, steps_in, stored_of};
 ghost use Rattle.roam_history.specs.HubOpening.{opening_at};
 ghost use Rattle.roam_audit.specs.Seats.{front_of};
-ghost use Rattle.roam_hub.specs.Calls.{AreGone, Calls, IsCall, IsFull, IsLook, Sees, TicksIfDue, answered_step};
+ghost use Rattle.roam_hub.specs.Calls.{AreGone, Calls, IsCall, IsFull, Sees, answered_step};
 ghost use Rattle.roam_hub.specs.Looks.{StandsIn};
 
-use crate::answered::{Answered, Refused, Ticked};
+mod due;
+
+use crate::answered::{Answered, Refused};
 use crate::call::Call;
-use crate::ended::{note_after, note_due};
 use crate::fault::HubFault;
-use crate::notes::Notes;
 use crate::writing::{closed, recorded, without_steps};
 use roam_audit::Seat;
 use roam_book::Gauges;
-use roam_due::moment_of_tick;
 use roam_history::{Front, Head, Opened};
 use roam_route::Job;
 use roam_shard::Shard;
@@ -200,84 +197,6 @@ impl<'c, A: Allocator + Copy, N: Opened> LockedTrace<'c, A, N> {
                 Err(HubFault::from(fault))
             }
         }
-    }
-
-    /// Whether anything is due at a moment.
-    fn has_due(&self, now: u64) -> bool
-        ensures { result ≡ false ↔ NothingDue now self.now.trace.states }
-    {
-        self.traced.is_due(now)
-    }
-
-    /// The moment of a tick where something is due.
-    fn due_moment(&self, now: u64) -> Option<u64>
-        ensures none { IfNone result (NothingDue now self.now.trace.states) }
-        ensures due { IfSome result (λ _. NothingDue now self.now.trace.states → ⊥) }
-        ensures part { IfSome result (IsTickMoment now self.now.trace.states) }
-    {
-        if !self.traced.is_due(now) {
-            return None;
-        }
-        Some(moment_of_tick(self.traced.shard(), now))
-    }
-
-    /// A tick of this shard where something is due in it, at a moment that parts what is due, and notes of what is due
-    /// then. None where nothing is: nothing is stored then.
-    pub(crate) fn tick_if_due<R: Wait, G>(
-        &mut self,
-        call: Call<'_, R, G>,
-        seat: &mut Seat<A, N>,
-        shard: u16,
-        notes: &mut Notes<A>,
-    ) -> Result<Option<Ticked<A>>, HubFault>
-        requires { shard < N.opening.config.shards }
-        ensures tick { TicksIfDue N.opening shard call.entry.moment seat.old seat.new result }
-        ensures no_shard { IfErr result (λ f. f ≢ HubFault.NoShard) }
-    {
-        self.check(seat, shard)?;
-        let now = call.moment;
-        match self.due_moment(now) {
-            None => {
-                seat.learn(self.front.again());
-                Ok(None)
-            }
-            Some(moment) => {
-                note_due(call.rt, self.traced.shard(), moment, notes);
-                let part = Call {
-                    rt: call.rt,
-                    gate: call.gate,
-                    moment,
-                };
-                let answered = self.tick(part, seat, shard)?;
-                note_after(self.traced.shard(), notes);
-                let is_more = self.has_due(now);
-                Ok(Some(Ticked {
-                    moment,
-                    answered,
-                    is_more,
-                }))
-            }
-        }
-    }
-
-    /// Whether anything of this shard is due at a moment. The seat has then seen the whole history. Takes no
-    /// memory.
-    pub(crate) fn is_due(
-        &self,
-        seat: &mut Seat<A, N>,
-        shard: u16,
-        now: u64,
-    ) -> Result<bool, HubFault>
-        requires { shard < N.opening.config.shards }
-        ensures look { IfOk result (IsLook N.opening shard now seat.old seat.new) }
-        ensures seen { Sees shard seat.old seat.new }
-        ensures err { OnErr result (seat.new ≡ seat.old) }
-        ensures causes { IfErr result (λ f. (f ≢ HubFault.NoShard) × (f ≢ HubFault.TraceFull)) }
-    {
-        self.check(seat, shard)?;
-        let is_due = self.traced.is_due(now);
-        seat.learn(self.front.again());
-        Ok(is_due)
     }
 
     /// Lets go of the stored steps, and gives them back. The seat has then seen that. Takes no memory.

@@ -7,7 +7,7 @@ use roam_pending::{Entry, Key, Requester, Standing};
 use std::alloc::{AllocError, Allocator};
 
 /// How a request stood.
-#[derive(Clone, Copy, Debug, PartialEq, Eq)]
+#[derive(Clone, Copy, PartialEq, Eq)]
 pub enum Stood {
     /// It waited for a reply.
     Waiting {
@@ -26,7 +26,7 @@ pub enum Stood {
 }
 
 /// A request in the entries, as it stood before a call, and for a tick after it too.
-#[derive(Clone, Copy, Debug, PartialEq, Eq)]
+#[derive(Clone, Copy, PartialEq, Eq)]
 pub struct Past {
     pub realm: u16,
     pub ticket: u64,

@@ -9,7 +9,8 @@ one-octet : (octet : ℕ) (text value left : List ℕ) → Reads text value left
     Reads (escaped_octet octet ++ text) (octet ∷ value) left
 one-octet octet text value left behind =
     elim (cases_eq octet 34) [
-      | inl is ↦ subst (λ (o : ℕ). Reads (escaped_octet o ++ text) (o ∷ value) left) (sym is) (mark text value left behind)
+      | inl is ↦ subst (λ (o : ℕ). Reads (escaped_octet o ++ text) (o ∷ value) left) (sym is)
+          (mark text value left behind)
       | inr no_mark ↦ elim (cases_eq octet 92) [
         | inl is ↦ subst (λ (o : ℕ). Reads (escaped_octet o ++ text) (o ∷ value) left) (sym is)
             (solidus text value left behind)

@@ -6,7 +6,8 @@ use Rattle.roam_metrics.specs.declared.samples.MetricKind.{MetricKind}
 use Rattle.roam_metrics.specs.declared.samples.MetricKind.TheVariants as kind
 use Rattle.roam_metrics.specs.declared.samples.Label.{Label}
 
--- an octet of a label's value: a quotation mark (34), a reverse solidus (92) and a line feed (10) have a reverse solidus
+-- an octet of a label's value: a quotation mark (34), a reverse solidus (92) and a line feed (10) have a reverse
+-- solidus
 -- before them, and the line feed is the letter n (110)
 abbrev pub escaped_octet : ℕ → List ℕ
 escaped_octet octet =

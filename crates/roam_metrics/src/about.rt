@@ -4,7 +4,7 @@ ghost use Rattle.std.specs.Prelude.{◌≡◌};
 ghost use Rattle.roam_metrics.specs.About as spec;
 
 /// The reloads of which one thing came.
-#[derive(Clone, Copy, Debug, PartialEq, Eq)]
+#[derive(Clone, Copy, PartialEq, Eq)]
 pub struct Reloads {
     /// How many there were.
     pub times: u64,
@@ -13,7 +13,7 @@ pub struct Reloads {
 }
 
 /// Which server is told of.
-#[derive(Clone, Copy, Debug, PartialEq, Eq)]
+#[derive(Clone, Copy, PartialEq, Eq)]
 pub struct About {
     /// The version of the program.
     pub version: &'static str,

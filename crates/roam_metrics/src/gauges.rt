@@ -3,7 +3,7 @@
 use roam_counters::Subject;
 
 /// What stands at a moment.
-#[derive(Clone, Copy, Debug, PartialEq, Eq)]
+#[derive(Clone, Copy, PartialEq, Eq)]
 pub enum Gauge {
     /// How many requests of this realm wait for a reply: as many Identifiers are in use.
     Waiting(u16),

@@ -116,7 +116,7 @@ fn write_seconds(
 }
 
 /// What a metric is.
-#[derive(Clone, Copy, Debug, PartialEq, Eq)]
+#[derive(Clone, Copy, PartialEq, Eq)]
 pub enum MetricKind {
     /// It grows, or begins again at 0.
     Counter,

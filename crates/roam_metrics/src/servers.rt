@@ -7,7 +7,7 @@ use std::fmt;
 use std::fmt::{Display, Formatter, Write};
 
 /// What was seen of a home server's endpoint.
-#[derive(Clone, Copy, Debug, PartialEq, Eq)]
+#[derive(Clone, Copy, PartialEq, Eq)]
 pub struct Seen {
     /// For how many milliseconds more it rests since it kept silent.
     pub rest: u64,
@@ -22,7 +22,7 @@ pub struct Seen {
 }
 
 /// How a home server's endpoint stands.
-#[derive(Clone, Copy, Debug, PartialEq, Eq)]
+#[derive(Clone, Copy, PartialEq, Eq)]
 pub enum Standing {
     /// It kept silent, and no request goes there for so many seconds more where another server is left.
     Rests(u64),

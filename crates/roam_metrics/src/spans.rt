@@ -1,13 +1,13 @@
 //! How long something took, in the two units that a person reads.
 
-ghost use Rattle.std.specs.Prelude.{◌≡◌, ◌≤◌, ◌<◌, ◌+◌};
+ghost use Rattle.std.specs.Prelude.{◌≤◌, ◌<◌, ◌+◌};
 ghost use Rattle.roam_metrics.specs.Spans as spec;
 
 use std::fmt;
 use std::fmt::{Display, Formatter, Write};
 
 /// A unit of time.
-#[derive(Clone, Copy, Debug, PartialEq, Eq)]
+#[derive(Clone, Copy, PartialEq, Eq)]
 pub enum TimeUnit {
     Second,
     Minute,
@@ -16,7 +16,7 @@ pub enum TimeUnit {
 }
 
 /// So many of a unit, and so many of the next smaller one; of seconds alone where those are the unit.
-#[derive(Clone, Copy, Debug, PartialEq, Eq)]
+#[derive(Clone, Copy, PartialEq, Eq)]
 pub struct Span {
     pub many: u64,
     pub unit: TimeUnit,

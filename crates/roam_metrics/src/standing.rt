@@ -9,7 +9,7 @@ use roam_conf::Config;
 use std::alloc::{AllocError, Global};
 
 /// In which form it is told.
-#[derive(Clone, Copy, Debug, PartialEq, Eq)]
+#[derive(Clone, Copy, PartialEq, Eq)]
 pub enum StatusForm {
     Text,
     Json,

@@ -6,14 +6,14 @@ ghost use Rattle.roam_metrics.specs.Tables as spec;
 use std::alloc::AllocError;
 
 /// On which side of its column a cell stands.
-#[derive(Clone, Copy, Debug, PartialEq, Eq)]
+#[derive(Clone, Copy, PartialEq, Eq)]
 pub enum CellSide {
     Left,
     Right,
 }
 
 /// A column of a table: how many octets wide it is, and where its cells stand.
-#[derive(Clone, Copy, Debug, PartialEq, Eq)]
+#[derive(Clone, Copy, PartialEq, Eq)]
 pub struct Column {
     pub side: CellSide,
     pub width: usize,

@@ -27,7 +27,8 @@ by-test : (o : ℕ) (b : Bool) → is_plain o ≡ b → o < 256 → ArePrintable
 by-test o true is small =
     subst ArePrintable (sym (let e : quoted_octet o ≡ o ∷ [] = rw is refl in e)) (plain-is o is, tt)
 by-test o false is small =
-    subst ArePrintable (sym (let e : quoted_octet o ≡ 92 ∷ 120 ∷ digit (o / 16) ∷ digit (o % 16) ∷ [] = rw is refl in e)) (
+    subst ArePrintable (sym (let e : quoted_octet o ≡ 92 ∷ 120 ∷ digit (o / 16) ∷ digit (o % 16) ∷ [] = rw is refl in
+    e)) (
       record { least = omega arith; most = omega arith },
       (
         record { least = omega arith; most = omega arith },
@@ -37,4 +38,5 @@ by-test o false is small =
 
 pub are_printable : ValuesArePrintable
 are_printable [] small = tt
-are_printable (o ∷ os) small = both (quoted_octet o) (quoted_octets os) (by-test o (is_plain o) refl small.0) (are_printable os small.1)
+are_printable (o ∷ os) small = both (quoted_octet o) (quoted_octets os) (by-test o (is_plain o) refl small.0)
+    (are_printable os small.1)

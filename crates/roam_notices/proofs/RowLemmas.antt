@@ -20,7 +20,8 @@ all_tallies-none (row ∷ rows) empty =
     ∙ all_tallies-none rows (λ i below. empty (suc i) (omega (arith, below)))
 
 -- a row that is written
-pub all_tallies-set : (rows : List (List RefusalCount)) (r : ℕ) (new : List RefusalCount) → r < length rows → AreEmptyBelow rows r →
+pub all_tallies-set : (rows : List (List RefusalCount)) (r : ℕ) (new : List RefusalCount) → r < length rows →
+    AreEmptyBelow rows r →
     all_tallies (slice_set rows r new) ≡ new ++ all_tallies (drop (suc r) rows)
 all_tallies-set [] r new within empty = absurd (omega (arith, within))
 all_tallies-set (row ∷ rows) zero new within empty = refl
@@ -36,7 +37,8 @@ row_at-any (row ∷ rows) zero other within = refl
 row_at-any (row ∷ rows) (suc i) other within = row_at-any rows i other (omega (arith, within))
 
 -- the first tally of the first row that isn't empty is the first of all
-pub first-of_all : (all rows : List (List RefusalCount)) (i : ℕ) (old new : List RefusalCount) (taken : Option RefusalCount) → all ≡ rows →
+pub first-of_all : (all rows : List (List RefusalCount)) (i : ℕ) (old new : List RefusalCount)
+    (taken : Option RefusalCount) → all ≡ rows →
     IsFirstRow rows i → old ≡ slice_index_or rows i old →
     MatchOption taken ((old ≡ []) × (new ≡ [])) (λ tally. old ≡ tally ∷ new) →
     IfSome taken (λ tally. all_tallies all ≡ tally ∷ all_tallies (slice_set rows i new))
@@ -49,7 +51,8 @@ first-of_all all rows i old new (Some tally) same first is takes =
     ∙ ap (λ (l : List RefusalCount). tally ∷ l) (sym (all_tallies-set rows i new first.within first.before))
 
 -- and there is one
-pub first-is_there : (rows : List (List RefusalCount)) (i : ℕ) (old new : List RefusalCount) (taken : Option RefusalCount) (Q : Type 0) →
+pub first-is_there : (rows : List (List RefusalCount)) (i : ℕ) (old new : List RefusalCount)
+    (taken : Option RefusalCount) (Q : Type 0) →
     IsFirstRow rows i → old ≡ slice_index_or rows i old →
     MatchOption taken ((old ≡ []) × (new ≡ [])) (λ tally. old ≡ tally ∷ new) → IfNone taken Q
 first-is_there rows i old new (Some tally) Q first is takes = tt

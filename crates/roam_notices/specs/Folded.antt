@@ -1,5 +1,6 @@
--- Ends of exchanges that are told together: those that are alike, within a second, are one line with their number. Ours.
-use Rattle.std.specs.Prelude.{◌≡◌, ◌⊎◌, ℕ, ◌+◌, ◌-◌, ◌^◌, ◌<◌, ◌≤◌, ◌==◌, min, List, [], ◌∷◌, ◌++◌, length, slice_index_or, slice_set, All, Option, None, if◌then◌else◌}
+-- Ends of exchanges that are told together: those that are alike, within a second, are one line with their number.
+-- Ours.
+use Rattle.std.specs.Prelude.{◌≡◌, ◌⊎◌, ℕ, ◌+◌, ◌-◌, ◌^◌, ◌<◌, ◌≤◌, ◌==◌, min, List, [], ◌∷◌, ◌++◌, length, slice_index_or, slice_set, All, None, if◌then◌else◌}
 use Rattle.roam_notices.specs.Exchanges.{octets_if}
 use Rattle.roam_notices.specs.declared.exchange.Exchange.{Exchange}
 use Rattle.roam_notices.specs.declared.exchange.ExchangeEnd.{ExchangeEnd}
@@ -73,7 +74,8 @@ pub record IsBeyond (e : Exchange) (old new : List Exchange) : Type 0 where
 -- ninth.
 -- Source: ours
 -- Rules out: a flood of requests of no realm that pushes other lines out of the journal; two stations told as one
--- Stands in: `roam_notices` `Folded.antt`: `IsAlike`, `IsCounted`; `FoldedLines::count`, `take_first`; `Exchanges::reject`,
+-- Stands in: `roam_notices` `Folded.antt`: `IsAlike`, `IsCounted`; `FoldedLines::count`, `take_first`;
+-- `Exchanges::reject`,
 -- `replace`, `tell_folded`, `tell_due`
 --
 -- one more is counted

@@ -90,7 +90,8 @@ hint_text _ at = []
 -- that is, how often where it wasn't once, and what is usually wrong. No octet of a packet stands in it.
 -- Source: ours
 -- Rules out: a line that a packet's octets forge; the name of another peer than the source's
--- Stands in: `roam_notices` `Lines.antt`: `refused_text`; `Senders.antt`: `who_sent`; `RefusedText::new`, what its `Display` writes;
+-- Stands in: `roam_notices` `Lines.antt`: `refused_text`; `Senders.antt`: `who_sent`; `RefusedText::new`, what its
+-- `Display` writes;
 -- `roam_telling` `Causes.antt`: `origin_of`
 --
 -- the line: no octet of a packet stands in it

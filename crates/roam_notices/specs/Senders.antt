@@ -1,5 +1,5 @@
 -- Who sent a datagram that was refused: a peer or a home server of the configuration, by where it came to. Ours.
-use Rattle.std.specs.Prelude.{◌≡◌, ℕ, List, [], Option, Some, None, option_map, slice_get}
+use Rattle.std.specs.Prelude.{ℕ, List, Option, Some, None, slice_get}
 use Rattle.roam_conf.specs.Config.{ConfigView, PeerView}
 use Rattle.roam_conf.specs.Lookup.{peer_with_ip, link_in, home_in}
 use Rattle.roam_conf.specs.declared.endpoint.Endpoint.{Endpoint}
@@ -52,7 +52,8 @@ who_sends config (place.Out realm) from = who_at_link config.peers (link_in conf
 who_sends config (place.Reverse realm) from = home_if (home_in config realm from.ip)
 
 -- ## Sender of what was refused
--- At `auth` and `acct` the peer of its address; at a realm's `out` the home server or the peer whose link its endpoint is; at
+-- At `auth` and `acct` the peer of its address; at a realm's `out` the home server or the peer whose link its
+-- endpoint is; at
 -- `reverse` a home server of its address; else nobody that is known.
 -- Source: ours
 -- Rules out: the name of another peer than the source's

@@ -7,7 +7,7 @@ use std::fmt;
 use std::fmt::{Display, Formatter, Write};
 
 /// By what a realm loses what it has.
-#[derive(Clone, Copy, Debug, PartialEq, Eq)]
+#[derive(Clone, Copy, PartialEq, Eq)]
 pub enum DropCause {
     /// A configuration follows, under which the realm begins anew, or isn't there.
     Reload,

@@ -11,7 +11,7 @@ use roam_wire::code;
 const MOST: usize = 253;
 
 /// How an exchange ended.
-#[derive(Clone, Copy, Debug, PartialEq, Eq)]
+#[derive(Clone, Copy, PartialEq, Eq)]
 pub enum ExchangeEnd {
     /// A reply of these codes was returned (RFC 2865 section 4, RFC 2866 section 4.2, RFC 5176 section 3).
     Accept,
@@ -29,7 +29,7 @@ pub enum ExchangeEnd {
 }
 
 /// Why the broker rejected an Access-Request by itself.
-#[derive(Clone, Copy, Debug, PartialEq, Eq)]
+#[derive(Clone, Copy, PartialEq, Eq)]
 pub enum RejectCause {
     /// It has no User-Name.
     NoUserName,
@@ -44,7 +44,7 @@ pub enum RejectCause {
 }
 
 /// A request's code, as a line names it.
-#[derive(Clone, Copy, Debug, PartialEq, Eq)]
+#[derive(Clone, Copy, PartialEq, Eq)]
 pub enum RequestWord {
     Access,
     Accounting,

@@ -6,7 +6,7 @@ ghost use Rattle.roam_notices.specs.Origins as spec;
 use roam_conf::{Endpoint, Place};
 
 /// Where something was refused.
-#[derive(Clone, Copy, Debug, PartialEq, Eq)]
+#[derive(Clone, Copy, PartialEq, Eq)]
 pub enum Origin {
     /// A datagram that came to this place from this endpoint.
     Datagram(Place, Endpoint),
@@ -19,7 +19,7 @@ pub enum Origin {
 }
 
 /// What of an origin is compared: of a datagram its place and the address that it came from, and not the port.
-#[derive(Clone, Copy, Debug, PartialEq, Eq)]
+#[derive(Clone, Copy, PartialEq, Eq)]
 pub enum OriginKind {
     Source(Place, [u8; 4]),
     UnsealedSource(Place, [u8; 4]),

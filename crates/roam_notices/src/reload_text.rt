@@ -7,7 +7,7 @@ use std::fmt;
 use std::fmt::{Display, Formatter, Write};
 
 /// How a reload went.
-#[derive(Clone, Copy, Debug, PartialEq, Eq)]
+#[derive(Clone, Copy, PartialEq, Eq)]
 pub enum ReloadEnd {
     /// The file is served.
     Done,

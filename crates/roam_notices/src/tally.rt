@@ -7,7 +7,7 @@ use crate::origin::{Origin, OriginKind};
 use roam_wire::Refusal;
 
 /// How often something was refused within a second.
-#[derive(Clone, Copy, Debug, PartialEq, Eq)]
+#[derive(Clone, Copy, PartialEq, Eq)]
 pub struct RefusalCount {
     pub refusal: Refusal,
     /// Where the first of them was; none where they are all those of the refusal that are tallied nowhere else.

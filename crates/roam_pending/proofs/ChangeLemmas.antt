@@ -47,7 +47,8 @@ find-below t (e ∷ es) =
 
 -- an entry that was put is found by its ticket
 pub find-put : (e : PlainEntry) (es : List PlainEntry) → find_ticket e.ticket (put e es) ≡ Some e
-find-put e es = find-append (has_ticket e.ticket) (below e.ticket es) (e ∷ above e.ticket es) (find-below e.ticket es) ∙ rw (same e.ticket e.ticket refl) refl
+find-put e es = find-append (has_ticket e.ticket) (below e.ticket es) (e ∷ above e.ticket es)
+    (find-below e.ticket es) ∙ rw (same e.ticket e.ticket refl) refl
 
 below-below : (t : ℕ) (es : List PlainEntry) → below t (below t es) ≡ below t es
 below-below t [] = refl
@@ -108,7 +109,10 @@ below-without : (t : ℕ) (es : List PlainEntry) → below t (without t es) ≡ 
 below-without t [] = refl
 below-without t (e ∷ es) =
     elim (compared e.ticket t) [
-      | inl lt ↦ rw (differs e.ticket t (omega arith), less e.ticket t lt) (ap (λ (l : List PlainEntry). e ∷ l) (below-without t es))
+      | inl lt ↦ rw (
+        differs e.ticket t (omega arith),
+        less e.ticket t lt,
+      ) (ap (λ (l : List PlainEntry). e ∷ l) (below-without t es))
       | inr (inl at) ↦ rw (same e.ticket t at, not_less e.ticket t (omega arith)) (below-without t es)
       | inr (inr gt) ↦ rw (differs e.ticket t (omega arith), not_less e.ticket t (omega arith)) (below-without t es)
     ]
@@ -119,7 +123,10 @@ above-without t (e ∷ es) =
     elim (compared e.ticket t) [
       | inl lt ↦ rw (differs e.ticket t (omega arith), not_less t e.ticket (omega arith)) (above-without t es)
       | inr (inl at) ↦ rw (same e.ticket t at, not_less t e.ticket (omega arith)) (above-without t es)
-      | inr (inr gt) ↦ rw (differs e.ticket t (omega arith), less t e.ticket gt) (ap (λ (l : List PlainEntry). e ∷ l) (above-without t es))
+      | inr (inr gt) ↦ rw (
+        differs e.ticket t (omega arith),
+        less t e.ticket gt,
+      ) (ap (λ (l : List PlainEntry). e ∷ l) (above-without t es))
     ]
 
 -- to take an entry out and put another of its ticket back is to put that one in its place
@@ -133,7 +140,10 @@ pub without-put :
 without-put e [] h = rw (same e.ticket e.ticket refl) refl
 without-put e (x ∷ xs) h =
     elim (compared x.ticket e.ticket) [
-      | inl lt ↦ rw (put-after e x xs lt, differs x.ticket e.ticket (omega arith)) (ap (λ (l : List PlainEntry). x ∷ l) (without-put e xs h.1))
+      | inl lt ↦ rw (
+        put-after e x xs lt,
+        differs x.ticket e.ticket (omega arith),
+      ) (ap (λ (l : List PlainEntry). x ∷ l) (without-put e xs h.1))
       | inr (inl at) ↦ rw (put-same e x xs at h.0, same e.ticket e.ticket refl, same x.ticket e.ticket at) refl
       | inr (inr gt) ↦ rw (put-before e x xs gt h.0, same e.ticket e.ticket refl) refl
     ]
@@ -146,7 +156,8 @@ find-put_other t e [] h ne = rw (differs e.ticket t (λ at. ne (sym at))) refl
 find-put_other t e (x ∷ xs) h ne =
     let skip = differs e.ticket t (λ at. ne (sym at)) in
     elim (compared x.ticket e.ticket) [
-      | inl lt ↦ rw (put-after e x xs lt) (ap (λ (o : Option PlainEntry). cond (eqb x.ticket t) (Some x) o) (find-put_other t e xs h.1 ne))
+      | inl lt ↦ rw (put-after e x xs lt)
+          (ap (λ (o : Option PlainEntry). cond (eqb x.ticket t) (Some x) o) (find-put_other t e xs h.1 ne))
       | inr (inl at) ↦ rw (put-same e x xs at h.0, skip, differs x.ticket t (λ is. ne (sym is ∙ at))) refl
       | inr (inr gt) ↦ rw (put-before e x xs gt h.0, skip) refl
     ]
@@ -178,9 +189,12 @@ pub length-without :
 length-without t [] e h at = absurd (let k : None ≡ Some e = at in cc)
 length-without t (x ∷ xs) e h at =
     elim (compared x.ticket t) [
-      | inl lt ↦ let n = differs x.ticket t (omega arith) in let rest = length-without t xs e h.1 (rw n at at) in rw n (omega (arith, rest))
-      | inr (inl is) ↦ let absent = without-absent t xs (find-above x.ticket t xs (omega arith) h.0) in rw (same x.ticket t is, absent) (omega arith)
-      | inr (inr gt) ↦ let n = differs x.ticket t (omega arith) in let rest = length-without t xs e h.1 (rw n at at) in rw n (omega (arith, rest))
+      | inl lt ↦ let n = differs x.ticket t (omega arith) in let rest = length-without t xs e h.1 (rw n at at) in
+          rw n (omega (arith, rest))
+      | inr (inl is) ↦ let absent = without-absent t xs (find-above x.ticket t xs (omega arith) h.0) in
+          rw (same x.ticket t is, absent) (omega arith)
+      | inr (inr gt) ↦ let n = differs x.ticket t (omega arith) in let rest =
+          length-without t xs e h.1 (rw n at at) in rw n (omega (arith, rest))
     ]
 
 pub length-put :
@@ -189,9 +203,12 @@ pub length-put :
 length-put e [] h = omega arith
 length-put e (x ∷ xs) h =
     elim (compared x.ticket e.ticket) [
-      | inl lt ↦ let rest = length-put e xs h.1 in rw (put-after e x xs lt, differs x.ticket e.ticket (omega arith)) (omega (arith, rest))
-      | inr (inl at) ↦ let absent = without-absent e.ticket xs (find-above x.ticket e.ticket xs (omega arith) h.0) in rw (put-same e x xs at h.0, same x.ticket e.ticket at, absent) (omega arith)
-      | inr (inr gt) ↦ let absent = without-absent e.ticket xs (find-above x.ticket e.ticket xs (omega arith) h.0) in rw (put-before e x xs gt h.0, differs x.ticket e.ticket (omega arith), absent) (omega arith)
+      | inl lt ↦ let rest = length-put e xs h.1 in
+          rw (put-after e x xs lt, differs x.ticket e.ticket (omega arith)) (omega (arith, rest))
+      | inr (inl at) ↦ let absent = without-absent e.ticket xs (find-above x.ticket e.ticket xs (omega arith) h.0) in
+          rw (put-same e x xs at h.0, same x.ticket e.ticket at, absent) (omega arith)
+      | inr (inr gt) ↦ let absent = without-absent e.ticket xs (find-above x.ticket e.ticket xs (omega arith) h.0) in
+          rw (put-before e x xs gt h.0, differs x.ticket e.ticket (omega arith), absent) (omega arith)
     ]
 
 -- whatever an entry is found by, it is the entry of its ticket

@@ -59,12 +59,18 @@ pub key-equal : (a b : Key) → same_key a b ≡ true → a ≡ b
 unfolding made
 key-equal a b h =
     let front = and_left (same_place a.place b.place && same_endpoint a.from b.from) (eqb a.id b.id) h in
-    let socket = place_equal a.place b.place (and_left (same_place a.place b.place) (same_endpoint a.from b.from) front) in
+    let socket = place_equal a.place b.place
+    (and_left (same_place a.place b.place) (same_endpoint a.from b.from) front) in
     let from = and_right (same_place a.place b.place) (same_endpoint a.from b.from) front in
-    let ip = octets_equal a.from.ip b.from.ip (and_left (pointwise nat_eq a.from.ip b.from.ip) (eqb a.from.port b.from.port) from) in
-    let port : a.from.port ≡ b.from.port = let t = and_right (pointwise nat_eq a.from.ip b.from.ip) (eqb a.from.port b.from.port) from in grind (arith, nat_tests, t) in
-    let id : a.id ≡ b.id = let t = and_right (same_place a.place b.place && same_endpoint a.from b.from) (eqb a.id b.id) h in grind (arith, nat_tests, t) in
-    let whole : made a.place a.from.ip a.from.port a.id ≡ made b.place b.from.ip b.from.port b.id = cc (socket, ip, port, id) in
+    let ip = octets_equal a.from.ip b.from.ip
+    (and_left (pointwise nat_eq a.from.ip b.from.ip) (eqb a.from.port b.from.port) from) in
+    let port : a.from.port ≡ b.from.port = let t =
+    and_right (pointwise nat_eq a.from.ip b.from.ip) (eqb a.from.port b.from.port) from in
+    grind (arith, nat_tests, t) in
+    let id : a.id ≡ b.id = let t = and_right (same_place a.place b.place && same_endpoint a.from b.from)
+    (eqb a.id b.id) h in grind (arith, nat_tests, t) in
+    let whole : made a.place a.from.ip a.from.port a.id ≡ made b.place b.from.ip b.from.port b.id =
+    cc (socket, ip, port, id) in
     whole
 
 pub key-same : (a b : Key) → a ≡ b → same_key a b ≡ true
@@ -109,14 +115,16 @@ without_client-found k (x ∷ xs) e order distinct at =
           let some : Some x ≡ Some e = rw y at at in
           let here : x ≡ e = cc some in
           let ticket : x.ticket ≡ e.ticket = ap (λ (z : PlainEntry). z.ticket) here in
-          let others : IsOfOthers k xs = subst (λ (j : Key). IsOfOthers j xs) (key-equal x.request.key k y) distinct.0 in
+          let others : IsOfOthers k xs = subst (λ (j : Key). IsOfOthers j xs) (key-equal x.request.key k y)
+          distinct.0 in
           let left = without_client-absent k xs (client-none k xs others) in
           let rest = without-absent e.ticket xs (find-above x.ticket e.ticket xs (omega arith) order.0) in
           rw (y, same x.ticket e.ticket ticket) (left ∙ sym rest)
       | inr n ↦
           let later = rw n at at in
           let lt = all-find (λ (z : PlainEntry). x.ticket < z.ticket) (has_key k) xs e later order.0 in
-          rw (n, differs x.ticket e.ticket (omega arith)) (ap (λ (l : List PlainEntry). x ∷ l) (without_client-found k xs e order.1 distinct.1 later))
+          rw (n, differs x.ticket e.ticket (omega arith))
+          (ap (λ (l : List PlainEntry). x ∷ l) (without_client-found k xs e order.1 distinct.1 later))
     ]
 
 -- how a standing counts among the Identifiers in use
@@ -142,7 +150,9 @@ pub identifier-used :
     → list_any (λ j. j == i) (identifiers_on l es) ≡ is_some (find_link l i es)
 identifier-used l i [] = refl
 identifier-used l i (e ∷ es) =
-    identifier_step l i e.standing (identifiers_on l es) ∙ ap (λ (b : Bool). stands_at l i e.standing || b) (identifier-used l i es) ∙ sym (or_found (stands_at l i e.standing) e (find_link l i es))
+    identifier_step l i e.standing (identifiers_on l es)
+    ∙ ap (λ (b : Bool). stands_at l i e.standing || b) (identifier-used l i es)
+    ∙ sym (or_found (stands_at l i e.standing) e (find_link l i es))
 
 -- the ticket of a done entry is that of one
 ticket_of :

@@ -138,11 +138,15 @@ pub due-turn :
     {A : Type 0} (now : ℕ) (last best : Option Due) (es : List (Entry A)) (i : ℕ) (e : Entry A)
     → i < length es → e ≡ get_or es i e
     → earlier best (due_after now last (shown_all (drop i es))) ≡ due_after now last (shown_all es)
-    → earlier (earlier best (due_alone now last (shown e))) (due_after now last (shown_all (drop (i + 1) es))) ≡ due_after now last (shown_all es)
+    → earlier (earlier best (due_alone now last (shown e))) (due_after now last (shown_all (drop (i + 1) es)))
+    ≡ due_after now last (shown_all es)
 due-turn now last best es i e lt at inv =
-    let front : shown_all (drop i es) ≡ shown e ∷ shown_all (drop (i + 1) es) = rw (drop-cons es i e, ← at, add-one) refl in
-    let step = ap (λ (l : List PlainEntry). earlier best (due_after now last l)) front ∙ ap (earlier best) (due_after-cons now last (shown e) (shown_all (drop (i + 1) es))) in
-    sym (earlier_assoc best (due_alone now last (shown e)) (due_after now last (shown_all (drop (i + 1) es)))) ∙ sym step ∙ inv
+    let front : shown_all (drop i es) ≡ shown e ∷ shown_all (drop (i + 1) es) =
+    rw (drop-cons es i e, ← at, add-one) refl in
+    let step = ap (λ (l : List PlainEntry). earlier best (due_after now last l)) front
+    ∙ ap (earlier best) (due_after-cons now last (shown e) (shown_all (drop (i + 1) es))) in
+    sym (earlier_assoc best (due_alone now last (shown e)) (due_after now last (shown_all (drop (i + 1) es))))
+    ∙ sym step ∙ inv
 
 -- its end
 pub due-end :
@@ -150,4 +154,5 @@ pub due-end :
     → earlier best (due_after now last (shown_all (drop i es))) ≡ due_after now last (shown_all es)
     → best ≡ due_after now last (shown_all es)
 due-end {A} now last best es i past inv =
-    sym (earlier_none best) ∙ ap (λ (l : List (Entry A)). earlier best (due_after now last (shown_all l))) (sym (drop_all i es past)) ∙ inv
+    sym (earlier_none best) ∙ ap (λ (l : List (Entry A)). earlier best (due_after now last (shown_all l)))
+    (sym (drop_all i es past)) ∙ inv

@@ -74,7 +74,14 @@ strict-into d (x ∷ xs) other h =
       | inl b ↦ rw b (all-into (λ y. is_before x y ≡ true) d xs b h.0, strict-into d xs other.1 h.1)
       | inr n ↦
           let first = before_by_ticket d x n other.0 in
-          rw n ((first, all-weaker (λ y. is_before x y ≡ true) (λ y. is_before d y ≡ true) xs (λ y k. before_trans d x y first k) h.0), h)
+          rw n (
+            (
+              first,
+              all-weaker (λ y. is_before x y ≡ true) (λ y. is_before d y ≡ true) xs
+                  (λ y k. before_trans d x y first k) h.0,
+            ),
+            h,
+          )
     ]
 
 -- the list of what is due rises
@@ -130,9 +137,11 @@ due-in now (e ∷ es) d h =
     elim (cases_Bool (is_due now e)) [
       | inl y ↦ elim (in-into d (due_at e) (due_list now es) (rw y at h)) [
         | inl is ↦ (e, record { held = inl refl; at = is; reached = reached now e y })
-        | inr later ↦ let found = due-in now es d later in (found.0, record { held = inr found.1.held; at = found.1.at; reached = found.1.reached })
+        | inr later ↦ let found = due-in now es d later in
+            (found.0, record { held = inr found.1.held; at = found.1.at; reached = found.1.reached })
       ]
-      | inr n ↦ let found = due-in now es d (rw n at h) in (found.0, record { held = inr found.1.held; at = found.1.at; reached = found.1.reached })
+      | inr n ↦ let found = due-in now es d (rw n at h) in
+          (found.0, record { held = inr found.1.held; at = found.1.at; reached = found.1.reached })
     ]
 
 pub in-due :
@@ -189,7 +198,8 @@ leaves-into_other t d (x ∷ xs) h r =
         | inr n ↦ rw (b, n, b) (ap (λ (l : List Due). x ∷ l) (leaves-into_other t d xs h r.1))
       ]
       | inr a ↦ elim (cases_Bool (eqb x.ticket t)) [
-        | inl y ↦ rw (a, h, y) (sym (into-front d (leaves t xs) (not_after-leaves t d xs (not_after-further d x xs a r.0))))
+        | inl y ↦ rw (a, h, y) (sym (into-front d (leaves t xs)
+            (not_after-leaves t d xs (not_after-further d x xs a r.0))))
         | inr n ↦ rw (a, h, n, a) refl
       ]
     ]
@@ -204,7 +214,8 @@ due-without now t (e ∷ es) =
         | inr a ↦ rw (y, a) (due-without now t es)
       ]
       | inr n ↦ elim (cases_Bool (is_due now e)) [
-        | inl b ↦ rw (n, b) (ap (into (due_at e)) (due-without now t es) ∙ sym (leaves-into_other t (due_at e) (due_list now es) n (rising-due_list now es)))
+        | inl b ↦ rw (n, b) (ap (into (due_at e)) (due-without now t es)
+            ∙ sym (leaves-into_other t (due_at e) (due_list now es) n (rising-due_list now es)))
         | inr a ↦ rw (n, a) (due-without now t es)
       ]
     ]
@@ -220,7 +231,10 @@ distinct-into :
 distinct-into d [] other h = (tt, tt)
 distinct-into d (x ∷ xs) other h =
     elim (cases_Bool (is_before x d)) [
-      | inl b ↦ rw b (all-into (λ y. y.ticket ≢ x.ticket) d xs (λ is. other.0 (sym is)) h.0, distinct-into d xs other.1 h.1)
+      | inl b ↦ rw b (
+        all-into (λ y. y.ticket ≢ x.ticket) d xs (λ is. other.0 (sym is)) h.0,
+        distinct-into d xs other.1 h.1,
+      )
       | inr n ↦ rw n (other, h)
     ]
 
@@ -229,7 +243,8 @@ distinct-due :
 distinct-due now [] h = tt
 distinct-due now (e ∷ es) h =
     elim (cases_Bool (is_due now e)) [
-      | inl y ↦ rw y (distinct-into (due_at e) (due_list now es) (other-due now e.ticket es h.0) (distinct-due now es h.1))
+      | inl y ↦ rw y (distinct-into (due_at e) (due_list now es) (other-due now e.ticket es h.0)
+          (distinct-due now es h.1))
       | inr n ↦ rw n (distinct-due now es h.1)
     ]
 
@@ -243,19 +258,22 @@ pub due-taken :
     → due_list now es ≡ d ∷ ds → due_list now (without d.ticket es) ≡ ds
 due-taken now es d ds order h =
     let distinct = subst HasDistinctTickets h (distinct-due now es order) in
-    due-without now d.ticket es ∙ ap (leaves d.ticket) h ∙ rw (same d.ticket d.ticket refl) (leaves-other d.ticket ds distinct.0)
+    due-without now d.ticket es ∙ ap (leaves d.ticket) h
+    ∙ rw (same d.ticket d.ticket refl) (leaves-other d.ticket ds distinct.0)
 
 -- what isn't due counts as little as what isn't there
 pub due-put :
     (now : ℕ) (e : PlainEntry) (es : List PlainEntry) → IsInOrder es → now < deadline_of e.standing
     → due_list now (put e es) ≡ due_list now (without e.ticket es)
-due-put now e [] order lt = let no : nat_le (deadline_of e.standing) now ≡ false = grind (arith, nat_tests) in rw no refl
+due-put now e [] order lt = let no : nat_le (deadline_of e.standing) now ≡ false = grind (arith, nat_tests) in
+    rw no refl
 due-put now e (x ∷ xs) order lt =
     let no : nat_le (deadline_of e.standing) now ≡ false = grind (arith, nat_tests) in
     elim (compared x.ticket e.ticket) [
       | inl less ↦
           let rest = ap (with_due now x) (due-put now e xs order.1 lt) in
-          rw (put-after e x xs less, differs x.ticket e.ticket (omega arith)) (due-cons now x (put e xs) ∙ rest ∙ sym (due-cons now x (without e.ticket xs)))
+          rw (put-after e x xs less, differs x.ticket e.ticket (omega arith)) (due-cons now x (put e xs) ∙ rest
+          ∙ sym (due-cons now x (without e.ticket xs)))
       | inr (inl at) ↦
           let absent = without-absent e.ticket xs (find-above x.ticket e.ticket xs (omega arith) order.0) in
           rw (put-same e x xs at order.0, same x.ticket e.ticket at, absent, no) refl

@@ -57,9 +57,11 @@ find-besides :
     (o : Option ℕ) (es : List PlainEntry) → find is_done (besides o es) ≡ find (is_done_beside o) es
 find-besides None es = refl
 find-besides (Some t) [] = refl
-find-besides (Some t) (e ∷ es) = cons_without t e es (has_ticket t e) (is_done e) refl refl ∙ ap (λ (r : Option PlainEntry). cond (not (has_ticket t e) && is_done e) (Some e) r) (find-besides (Some t) es)
+find-besides (Some t) (e ∷ es) = cons_without t e es (has_ticket t e) (is_done e) refl refl
+    ∙ ap (λ (r : Option PlainEntry). cond (not (has_ticket t e) && is_done e) (Some e) r) (find-besides (Some t) es)
 
 pub first_done-besides :
     (o : Option ℕ) (es : List PlainEntry)
     → first_done (besides o es) ≡ option_map (λ e. e.ticket) (find (is_done_beside o) es)
-first_done-besides o es = ap (λ (r : Option PlainEntry). option_map (λ (e : PlainEntry). e.ticket) r) (find-besides o es)
+first_done-besides o es = ap (λ (r : Option PlainEntry). option_map (λ (e : PlainEntry). e.ticket) r)
+    (find-besides o es)

@@ -58,7 +58,10 @@ put-before e x xs lt h =
 pub all-put :
     (P : PlainEntry → Type 0) (e : PlainEntry) (es : List PlainEntry) → P e → AllByRecursion P es
     → AllByRecursion P (put e es)
-all-put P e es here h = all-append P (below e.ticket es) (e ∷ above e.ticket es) (all-filter P _ es h) (here, all-filter P _ es h)
+all-put P e es here h = all-append P (below e.ticket es) (e ∷ above e.ticket es) (all-filter P _ es h) (
+  here,
+  all-filter P _ es h,
+)
 
 pub order-put : (e : PlainEntry) (es : List PlainEntry) → IsInOrder es → IsInOrder (put e es)
 order-put e [] h = (tt, tt)
@@ -66,7 +69,8 @@ order-put e (x ∷ xs) h =
     elim (compared x.ticket e.ticket) [
       | inl lt ↦ rw (put-after e x xs lt) (all-put (λ y. x.ticket < y.ticket) e xs lt h.0, order-put e xs h.1)
       | inr (inl at) ↦ rw (put-same e x xs at h.0) (subst (λ (n : ℕ). IsAbove n xs) at h.0, h.1)
-      | inr (inr gt) ↦ rw (put-before e x xs gt h.0) ((gt, all-weaker (λ y. x.ticket < y.ticket) (λ y. e.ticket < y.ticket) xs (λ y k. omega arith) h.0), h)
+      | inr (inr gt) ↦ rw (put-before e x xs gt h.0)
+          ((gt, all-weaker (λ y. x.ticket < y.ticket) (λ y. e.ticket < y.ticket) xs (λ y k. omega arith) h.0), h)
     ]
 
 pub order-filter :
@@ -94,7 +98,11 @@ others-none k [] h = tt
 others-none k (e ∷ es) h =
     elim (cases_Bool (same_key e.request.key k)) [
       | inl y ↦ absurd (let some : Some e ≡ None = rw y at h in cc)
-      | inr n ↦ (λ at. let yes : same_key e.request.key k ≡ true = rw at (key_is_same k) in let no : true ≡ false = sym yes ∙ n in cc, others-none k es (rw n at h))
+      | inr n ↦ (
+        λ at. let yes : same_key e.request.key k ≡ true = rw at (key_is_same k) in let no : true ≡ false =
+            sym yes ∙ n in cc,
+        others-none k es (rw n at h),
+      )
     ]
 
 -- a new entry
@@ -104,7 +112,10 @@ pub keys-new :
 keys-new e [] order h new = (tt, tt)
 keys-new e (x ∷ xs) order h new =
     elim (compared x.ticket e.ticket) [
-      | inl lt ↦ rw (put-after e x xs lt) (all-put (λ y. y.request.key ≢ x.request.key) e xs (λ at. new.0 (sym at)) h.0, keys-new e xs order.1 h.1 new.1)
+      | inl lt ↦ rw (put-after e x xs lt) (
+        all-put (λ y. y.request.key ≢ x.request.key) e xs (λ at. new.0 (sym at)) h.0,
+        keys-new e xs order.1 h.1 new.1,
+      )
       | inr (inl at) ↦ rw (put-same e x xs at order.0) (new.1, h.1)
       | inr (inr gt) ↦ rw (put-before e x xs gt order.0) (new, h)
     ]
@@ -148,12 +159,16 @@ keys-changed e (x ∷ xs) order h at =
       | inl lt ↦
           let later = key_later e.ticket e.request.key x xs (omega arith) at in
           let old = all-find (λ y. y.request.key ≢ x.request.key) (has_ticket e.ticket) xs later.0 later.1 h.0 in
-          rw (put-after e x xs lt) (all-put (λ y. y.request.key ≢ x.request.key) e xs (λ is. old (later.2 ∙ is)) h.0, keys-changed e xs order.1 h.1 later)
+          rw (put-after e x xs lt) (
+            all-put (λ y. y.request.key ≢ x.request.key) e xs (λ is. old (later.2 ∙ is)) h.0,
+            keys-changed e xs order.1 h.1 later,
+          )
       | inr (inl eq) ↦
           let here = key_here e.ticket e.request.key x xs eq at in
           rw (put-same e x xs eq order.0) (subst (λ (k : Key). IsOfOthers k xs) here h.0, h.1)
       | inr (inr gt) ↦
-          let none : find_ticket e.ticket (x ∷ xs) ≡ None = rw (differs x.ticket e.ticket (omega arith)) (find-above x.ticket e.ticket xs (omega arith) order.0) in
+          let none : find_ticket e.ticket (x ∷ xs) ≡ None =
+          rw (differs x.ticket e.ticket (omega arith)) (find-above x.ticket e.ticket xs (omega arith) order.0) in
           absurd (let some : None ≡ Some at.0 = sym none ∙ at.1 in cc)
     ]
 

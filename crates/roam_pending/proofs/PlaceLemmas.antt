@@ -37,16 +37,22 @@ pub missing :
 missing t [] i order at h = refl
 missing t (e ∷ es) zero order at h =
     elim (compared e.ticket t) [
-      | inl lt ↦ absurd (let k : 0 ≡ suc (length (below t (shown_all es))) = rw (less e.ticket t lt) at at in omega arith)
+      | inl lt ↦ absurd (let k : 0 ≡ suc (length (below t (shown_all es))) = rw (less e.ticket t lt) at at in
+          omega arith)
       | inr (inl eq) ↦ absurd (h (omega arith) e eq)
-      | inr (inr gt) ↦ rw (differs e.ticket t (omega arith)) (find-above e.ticket t (shown_all es) (omega arith) order.0)
+      | inr (inr gt) ↦ rw (differs e.ticket t (omega arith))
+          (find-above e.ticket t (shown_all es) (omega arith) order.0)
     ]
 missing t (e ∷ es) (suc i) order at h =
     elim (compared e.ticket t) [
       | inl lt ↦ let k : suc i ≡ suc (length (below t (shown_all es))) = rw (less e.ticket t lt) at at in
           rw (differs e.ticket t (omega arith)) (missing t es i order.1 (omega arith) (λ lt d. h (omega arith) d))
-      | inr (inl eq) ↦ absurd (let k : suc i ≡ length (below t (shown_all es)) = rw (not_less e.ticket t (omega arith)) at at in let none = below-none e.ticket t (shown_all es) (omega arith) order.0 in let l : suc i ≡ 0 = k ∙ ap length none in omega arith)
-      | inr (inr gt) ↦ rw (differs e.ticket t (omega arith)) (find-above e.ticket t (shown_all es) (omega arith) order.0)
+      | inr (inl eq) ↦ absurd (let k : suc i ≡ length (below t (shown_all es)) =
+          rw (not_less e.ticket t (omega arith)) at at in let none =
+          below-none e.ticket t (shown_all es) (omega arith) order.0 in let l : suc i ≡ 0 = k ∙ ap length none in
+          omega arith)
+      | inr (inr gt) ↦ rw (differs e.ticket t (omega arith))
+          (find-above e.ticket t (shown_all es) (omega arith) order.0)
     ]
 
 -- an entry stands in order where there are as many before it as have a lesser ticket
@@ -58,7 +64,8 @@ put_at x [] zero order new at = refl
 put_at x [] (suc i) order new at = absurd (omega arith)
 put_at x (e ∷ es) zero order new at =
     elim (compared e.ticket x.ticket) [
-      | inl lt ↦ absurd (let k : 0 ≡ suc (length (below x.ticket (shown_all es))) = rw (less e.ticket x.ticket lt) at at in omega arith)
+      | inl lt ↦ absurd (let k : 0 ≡ suc (length (below x.ticket (shown_all es))) =
+          rw (less e.ticket x.ticket lt) at at in omega arith)
       | inr (inl eq) ↦ absurd (let k : Some (shown e) ≡ None = rw (same e.ticket x.ticket eq) at new in cc)
       | inr (inr gt) ↦ sym (put-before (shown x) (shown e) (shown_all es) gt order.0)
     ]
@@ -68,7 +75,10 @@ put_at x (e ∷ es) (suc i) order new at =
           let rest = put_at x es i order.1 (rw (differs e.ticket x.ticket (omega arith)) at new) (omega arith) in
           ap (λ (l : List PlainEntry). shown e ∷ l) rest ∙ sym (put-after (shown x) (shown e) (shown_all es) lt)
       | inr (inl eq) ↦ absurd (let k : Some (shown e) ≡ None = rw (same e.ticket x.ticket eq) at new in cc)
-      | inr (inr gt) ↦ absurd (let k : suc i ≡ length (below x.ticket (shown_all es)) = rw (not_less e.ticket x.ticket (omega arith)) at at in let none = below-none e.ticket x.ticket (shown_all es) (omega arith) order.0 in let l : suc i ≡ 0 = k ∙ ap length none in omega arith)
+      | inr (inr gt) ↦ absurd (let k : suc i ≡ length (below x.ticket (shown_all es)) =
+          rw (not_less e.ticket x.ticket (omega arith)) at at in let none =
+          below-none e.ticket x.ticket (shown_all es) (omega arith) order.0 in let l : suc i ≡ 0 = k
+          ∙ ap length none in omega arith)
     ]
 
 -- the ticket at a later place is greater
@@ -95,10 +105,12 @@ pub removed_at :
     → shown_all (remove es i) ≡ without t (shown_all es)
 removed_at t [] i d lt at order = absurd (omega arith)
 removed_at t (e ∷ es) zero d lt at order =
-    rw (same e.ticket t at) (sym (without-absent t (shown_all es) (find-above e.ticket t (shown_all es) (omega arith) order.0)))
+    rw (same e.ticket t at) (sym (without-absent t (shown_all es)
+    (find-above e.ticket t (shown_all es) (omega arith) order.0)))
 removed_at t (e ∷ es) (suc i) d lt at order =
     let later = above_at e.ticket es i d (omega arith) order.0 in
-    rw (differs e.ticket t (omega arith)) (ap (λ (l : List PlainEntry). shown e ∷ l) (removed_at t es i d (omega arith) at order.1))
+    rw (differs e.ticket t (omega arith))
+    (ap (λ (l : List PlainEntry). shown e ∷ l) (removed_at t es i d (omega arith) at order.1))
 
 pub changed_at :
     {A : Type 0} (x : Entry A) (es : List (Entry A)) (i : ℕ) (d : Entry A) → i < length es
@@ -108,4 +120,5 @@ changed_at x [] i d lt at order = absurd (omega arith)
 changed_at x (e ∷ es) zero d lt at order = sym (put-same (shown x) (shown e) (shown_all es) at order.0)
 changed_at x (e ∷ es) (suc i) d lt at order =
     let later = above_at e.ticket es i d (omega arith) order.0 in
-    ap (λ (l : List PlainEntry). shown e ∷ l) (changed_at x es i d (omega arith) at order.1) ∙ sym (put-after (shown x) (shown e) (shown_all es) (omega arith))
+    ap (λ (l : List PlainEntry). shown e ∷ l) (changed_at x es i d (omega arith) at order.1)
+    ∙ sym (put-after (shown x) (shown e) (shown_all es) (omega arith))

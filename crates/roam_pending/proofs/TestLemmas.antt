@@ -38,7 +38,11 @@ octets_are_same (x ∷ xs) = rw (same x x refl) (octets_are_same xs)
 
 -- a key is the same as itself
 pub key_is_same : (k : Key) → same_key k k ≡ true
-key_is_same k = rw (place_is_same k.place, octets_are_same k.from.ip, same k.from.port k.from.port refl) (same k.id k.id refl)
+key_is_same k = rw (
+  place_is_same k.place,
+  octets_are_same k.from.ip,
+  same k.from.port k.from.port refl,
+) (same k.id k.id refl)
 
 -- what holds of each element holds of each that is kept
 pub all-filter :

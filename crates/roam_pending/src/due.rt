@@ -1,9 +1,7 @@
 //! When an entry is due.
 
-ghost use Rattle.std.specs.Prelude.{◌≡◌};
-
 /// When an entry is due, and which one: dues are ordered by deadline, and at one deadline by ticket.
-#[derive(Clone, Copy, Debug, PartialEq, Eq, PartialOrd, Ord)]
+#[derive(Clone, Copy, PartialEq, Eq, PartialOrd, Ord)]
 pub struct Due {
     /// In milliseconds.
     pub deadline: u64,

@@ -7,7 +7,7 @@ use roam_conf::{Endpoint, Place};
 
 /// What makes two requests of a realm the same one to the broker, as long as their octets are equal
 /// too (RFC 2865, section 3: a duplicate has the same source and Identifier).
-#[derive(Clone, Copy, Debug, PartialEq, Eq, Hash)]
+#[derive(Clone, Copy, PartialEq, Eq, Hash)]
 pub struct Key {
     /// The broker's socket at which the request came in.
     pub place: Place,
@@ -18,7 +18,7 @@ pub struct Key {
 }
 
 /// Who sent a request: with whose shared secret its reply is signed.
-#[derive(Clone, Copy, Debug, PartialEq, Eq)]
+#[derive(Clone, Copy, PartialEq, Eq)]
 pub enum Requester {
     /// The peer of this index.
     Peer(u16),

@@ -1,6 +1,6 @@
 //! Looking through entries that stand in a row.
 
-ghost use Rattle.std.specs.Prelude.{◌≡◌, ◌≢◌, ◌<◌, ◌≤◌, ℕ, nat_lt, length, slice_index_or};
+ghost use Rattle.std.specs.Prelude.{◌≡◌, ◌<◌, nat_lt, length, slice_index_or};
 ghost use Rattle.std.specs.Prelude.{IfSome, None, MatchOption};
 ghost use Rattle.std.specs.List.{count_by};
 ghost use Rattle.roam_pending.specs.EntryList.{IsInOrder};

@@ -272,18 +272,6 @@ module _ {A P : Type 0} (calls : P → Option (List PortCall)) (k : ℕ) (ports 
     | inr none ↦ let same = ap count_listed none.queues_stay in omega arith
   ]
 
-  pub sent_queues : SendsAt calls k ports ports2 qs qs2 account account2 sent → length qs2 ≡ length qs
-  sent_queues sends = elim sends as (λ _. length qs2 ≡ length qs) [
-    | inl one ↦ ap length one.other_queues_stay ∙ length-set qs k one.queue_after
-    | inr none ↦ ap length none.queues_stay
-  ]
-
-  pub sent_ports : SendsAt calls k ports ports2 qs qs2 account account2 sent → length ports2 ≡ length ports
-  sent_ports sends = elim sends as (λ _. length ports2 ≡ length ports) [
-    | inl one ↦ ap length one.other_ports_stay ∙ length-set ports k one.port_after
-    | inr none ↦ ap length none.ports_stay
-  ]
-
 -- what waited for a port that is listed was handed to it
 pub sends_one : {A P : Type 0} (calls : P → Option (List PortCall)) (k : ℕ) (ports : List P) (qs : List (PortQueue A))
     (account account2 : Account) (q1 q q2 : PortQueue A) (p p2 : P) (gone : ℕ) (blocked : Bool)

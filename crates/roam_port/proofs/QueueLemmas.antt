@@ -2,7 +2,7 @@
 use Rattle.std.proofs.Common.{◌≡◌, ◌≢◌, ℕ, suc, ◌+◌, List, [], ◌∷◌, ◌++◌, length, Bool, true, false, Option, Some, None}
 use Rattle.std.proofs.Common.{option_map, Result, Ok, Err, refl, ap, sym, ◌∙◌, subst, arith, append_assoc}
 use Rattle.std.specs.List.{AllByRecursion}
-use Rattle.std.proofs.lemmas.List.{length-append, append-nil}
+use Rattle.std.proofs.lemmas.List.{length-append}
 use Rattle.roam_route.specs.declared.datagram.Out.{Out}
 use Rattle.roam_port.specs.Accounts.{accounted}
 use Rattle.roam_port.specs.Port.{PortCall, send_call, IsOneCall}
@@ -48,14 +48,6 @@ gone_is out behind left (Err fault.Unreachable) is = ((λ same. cc), is.1)
 gone_is out behind left (Err fault.NotPermitted) is = ((λ same. cc), is.1)
 gone_is out behind left (Err fault.Other) is = ((λ same. cc), is.1)
 
-pub waits_is : {A : Type 0} (out : Out A) (behind left : List (Out A)) (answer : Result (Unit {0}) SendFault)
-    → IsLeft out behind left false answer → (answer ≡ Err fault.WouldBlock) × (left ≡ out ∷ behind)
-waits_is out behind left (Err fault.WouldBlock) is = (refl, is.1)
-waits_is out behind left (Ok done) is = absurd (let bad : false ≡ true = is.0 in cc)
-waits_is out behind left (Err fault.Unreachable) is = absurd (let bad : false ≡ true = is.0 in cc)
-waits_is out behind left (Err fault.NotPermitted) is = absurd (let bad : false ≡ true = is.0 in cc)
-waits_is out behind left (Err fault.Other) is = absurd (let bad : false ≡ true = is.0 in cc)
-
 module _ {A P : Type 0} (calls : P → Option (List PortCall)) (start port next : P) (waited left rest : List (Out A))
     (account_0 account_1 account_2 : Account) (n : ℕ)
     (so_far : HandsOver calls start port waited left account_0 account_1 n) where
@@ -81,23 +73,6 @@ module _ {A P : Type 0} (calls : P → Option (List PortCall)) (start port next 
         counted = one.counted_once ∙ ap (λ l. accounted l one.answer) so_far.counted
             ∙ sym (account_one_more account_0 so_far.handed h);
       }
-
--- none were handed on yet
-pub none_yet : {A P : Type 0} (calls : P → Option (List PortCall)) (port : P) (waited : List (Out A))
-    (account : Account)
-    → HandsOver calls port port waited waited account account 0
-none_yet calls port waited account = record {
-  handed = [];
-  as_many = refl;
-  in_order = refl;
-  none_blocked = tt;
-  made = same (calls port);
-  counted = refl;
-}
-  where
-    same : (o : Option (List PortCall)) → o ≡ option_map (λ c. c ++ []) o
-    same None = refl
-    same (Some cs) = ap Some (sym (append-nil cs))
 
 -- what waits, and what is gone, are as many as waited
 pub all_left : {A P : Type 0} (calls : P → Option (List PortCall)) (start port : P) (waited left : List (Out A))

@@ -1,8 +1,6 @@
 -- Where a place's socket is bound is one of the broker's own endpoints.
-use Rattle.std.proofs.Common.{◌≡◌, ℕ, ◌+◌, ◌≤◌, zero, suc, List, [], ◌∷◌, length, get_or, map, drop, drop-cons, Option, Some, None, Contains, option_map, option_and_then, slice_get, refl, subst, sym, ap, ◌∙◌, arith}
+use Rattle.std.proofs.Common.{◌≡◌, ℕ, zero, suc, List, [], ◌∷◌, Option, Some, None, Contains, option_map, option_and_then, slice_get, refl, subst, sym}
 use Rattle.std.specs.List.{flat_map}
-use Rattle.std.proofs.lemmas.List.{length-append}
-use Rattle.std.proofs.lemmas.List.Concat.{flat_map-cons}
 use Rattle.std.proofs.lemmas.List.Elements.{Contains-append_left, Contains-append_right}
 use Rattle.std.proofs.lemmas.Option.{get_or_from_slice_get, same_Some, slice_get_within}
 use Rattle.roam_conf.specs.declared.endpoint.Endpoint.{Endpoint}
@@ -30,26 +28,32 @@ among_all (x ∷ xs) (suc k) r e is in_realm =
     Contains-append_right (realm_endpoints x) (flat_map realm_endpoints xs) e (among_all xs k r e is in_realm)
 
 -- behind `auth` and `acct`
-own : (config : ConfigView) (e : Endpoint) → Contains (flat_map realm_endpoints config.realms) e → Contains (socket_endpoints config) e
-own config e among = Contains-append_right (config.auth ∷ config.acct ∷ []) (flat_map realm_endpoints config.realms) e among
+own : (config : ConfigView) (e : Endpoint) → Contains (flat_map realm_endpoints config.realms) e →
+    Contains (socket_endpoints config) e
+own config e among = Contains-append_right (config.auth ∷ config.acct ∷ []) (flat_map realm_endpoints config.realms)
+    e among
 
-out_there : (config : ConfigView) (k : ℕ) (e : Endpoint) (found : Option RealmView) → slice_get config.realms k ≡ found → option_map (λ r. r.out) found ≡ Some e
+out_there : (config : ConfigView) (k : ℕ) (e : Endpoint) (found : Option RealmView) →
+    slice_get config.realms k ≡ found → option_map (λ r. r.out) found ≡ Some e
     → Contains (socket_endpoints config) e
 out_there config k e None is of = cc
 out_there config k e (Some r) is of =
     own config e (among_all config.realms k r e is (at (realm_endpoints r) 0 e of))
 
-reverse_is : (out : Endpoint) (reverse : Option Endpoint) (e : Endpoint) → reverse ≡ Some e → (r : RealmView) → r.out ≡ out → r.reverse ≡ reverse → Contains (realm_endpoints r) e
+reverse_is : (out : Endpoint) (reverse : Option Endpoint) (e : Endpoint) → reverse ≡ Some e → (r : RealmView) →
+    r.out ≡ out → r.reverse ≡ reverse → Contains (realm_endpoints r) e
 reverse_is out reverse e is r out_is reverse_is' =
     at (realm_endpoints r) 1 e (rw (reverse_is', is) refl)
 
-reverse_there : (config : ConfigView) (k : ℕ) (e : Endpoint) (found : Option RealmView) → slice_get config.realms k ≡ found → option_and_then (λ r. r.reverse) found ≡ Some e
+reverse_there : (config : ConfigView) (k : ℕ) (e : Endpoint) (found : Option RealmView) →
+    slice_get config.realms k ≡ found → option_and_then (λ r. r.reverse) found ≡ Some e
     → Contains (socket_endpoints config) e
 reverse_there config k e None is of = cc
 reverse_there config k e (Some r) is of =
     own config e (among_all config.realms k r e is (reverse_is r.out r.reverse e of r refl refl))
 
-pub own_socket : (config : ConfigView) (at : Place) (e : Endpoint) → socket_endpoint config at ≡ Some e → Contains (socket_endpoints config) e
+pub own_socket : (config : ConfigView) (at : Place) (e : Endpoint) → socket_endpoint config at ≡ Some e →
+    Contains (socket_endpoints config) e
 own_socket config place.Auth e is = at (socket_endpoints config) 0 e is
 own_socket config place.Acct e is = at (socket_endpoints config) 1 e is
 own_socket config (place.Out realm) e is = out_there config realm e (slice_get config.realms realm) refl is

@@ -5,6 +5,5 @@ pub mod Outbox
 pub mod Port
 pub mod PortQueue
 pub mod Queues
-pub mod Ring
 pub mod Sharing
 pub mod Sockets

@@ -6,7 +6,7 @@ ghost use Rattle.roam_port.specs.Accounts.{accounted, after_loss, after_put, non
 use crate::{LossCause, Losses, SendFault};
 
 /// What became of packets that were put, counted. A count stays at 2^64 - 1.
-#[derive(Clone, Copy, Debug, PartialEq, Eq)]
+#[derive(Clone, Copy, PartialEq, Eq)]
 pub struct Account {
     /// How many were put.
     pub put: u64,

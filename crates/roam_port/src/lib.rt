@@ -1,18 +1,12 @@
 //! Sockets as the server sees them: what is asked of one, what is heard at it, which socket is
-//! which place's and which worker's, and the packets that are to leave: their ring, first in, first out.
+//! which place's and which worker's, and the packets that are to leave, for each socket a queue of its own.
 //!
 //! Nothing here opens a socket, waits or starts a thread: the calls are generic over a [`Port`]. Who puts a packet
-//! into a ring never waits: one that finds it full comes back. Only [`ring`] takes memory, and [`listen`] for a
-//! datagram.
+//! into an outbox never waits: one that finds its socket's share full is lost, and counted. Memory is taken when an
+//! outbox is made, and by [`listen`] for a datagram.
 //!
 //! # Proved
 //!
-//! - first in, first out: what was taken, and then what lies in the ring, is what was put, for a thread that
-//!   holds both ends, as each thread of the server does | `Intake::count_beside`: `fifo`; `Outlet::put`,
-//!   `Intake::take`
-//! - what finds the ring full comes back, and nothing was put; where room is known, a packet is put |
-//!   `Outlet::put`: `back`, `err`, `full`, `succeeds`
-//! - a ring has room for 1,024 packets | `ring`, `Outlet::room_beside`
 //! - a packet is put behind those of its port, and no other port's change; one is lost only where that very
 //!   port's share is full, or where its port fails, and is counted by that cause | `Outbox::put`: `puts`;
 //!   `share_of`
@@ -35,12 +29,9 @@
 
 mod account;
 mod heard;
-mod intake;
 mod listening;
 mod losses;
-mod making;
 mod outbox;
-mod outlet;
 mod port;
 mod port_queue;
 mod queues;
@@ -50,12 +41,9 @@ mod sockets;
 
 pub use account::Account;
 pub use heard::{FAULTS_TO_GIVE_UP, Heard};
-pub use intake::Intake;
 pub use listening::listen;
 pub use losses::{LossCause, Losses};
-pub use making::{RING_CAPACITY, ring};
 pub use outbox::Outbox;
-pub use outlet::Outlet;
 pub use port::{Port, PortFault, SendFault};
 pub use port_queue::Standing;
 pub use sent::Sent;

@@ -1,7 +1,7 @@
 //! One receive at a socket.
 
-ghost use Rattle.std.specs.Prelude.{◌≡◌, ◌≤◌};
-ghost use Rattle.roam_port.specs.Listening.{Listens, IsHeard, shown_heard, faults_after_fault};
+ghost use Rattle.std.specs.Prelude.{◌≤◌};
+ghost use Rattle.roam_port.specs.Listening.{Listens, IsHeard, shown_heard};
 ghost use Rattle.roam_port.specs.Port.{receive_failed};
 ghost use Rattle.roam_conf.specs.declared.place.Place.{Place};
 

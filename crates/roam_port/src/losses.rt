@@ -4,7 +4,7 @@ ghost use Rattle.std.specs.Prelude.{◌≡◌};
 ghost use Rattle.roam_port.specs.Losses.{counted, losses_since, no_losses};
 
 /// Why a packet that was to leave is lost.
-#[derive(Clone, Copy, Debug, PartialEq, Eq)]
+#[derive(Clone, Copy, PartialEq, Eq)]
 pub enum LossCause {
     /// It found no room among those that wait for their sockets.
     FullRing,
@@ -17,7 +17,7 @@ pub enum LossCause {
 }
 
 /// How many packets were lost, by their cause. A count stays at 2^64 - 1.
-#[derive(Clone, Copy, Debug, PartialEq, Eq)]
+#[derive(Clone, Copy, PartialEq, Eq)]
 pub struct Losses {
     pub full_ring: u64,
     pub unreachable: u64,

@@ -3,11 +3,11 @@
 use roam_conf::Endpoint;
 
 /// A receive failed.
-#[derive(Clone, Copy, Debug, PartialEq, Eq)]
+#[derive(Clone, Copy, PartialEq, Eq)]
 pub struct PortFault;
 
 /// Why a packet isn't sent.
-#[derive(Clone, Copy, Debug, PartialEq, Eq)]
+#[derive(Clone, Copy, PartialEq, Eq)]
 pub enum SendFault {
     /// The socket has no room for it now.
     WouldBlock,
@@ -21,7 +21,7 @@ pub enum SendFault {
 
 /// A socket for datagrams, of the system or of a test.
 pub trait Port {
-    ghost use Rattle.std.specs.Prelude.{◌≤◌, ℕ, List, Option, IfOk, IfSome, length};
+    ghost use Rattle.std.specs.Prelude.{◌≤◌, List, Option, IfOk, IfSome, length};
     ghost use Rattle.roam_port.specs.Port.{PortCall, IsOneCall, receive_call, send_call};
 
     /// Every call so far with its answer, the oldest first; none where no account is kept of them,

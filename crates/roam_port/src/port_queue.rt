@@ -11,7 +11,7 @@ use std::alloc::Allocator;
 use std::collections::VecDeque;
 
 /// How the packets that wait for a port stand.
-#[derive(Clone, Copy, Debug, PartialEq, Eq)]
+#[derive(Clone, Copy, PartialEq, Eq)]
 pub enum Standing {
     /// None waits.
     Idle,

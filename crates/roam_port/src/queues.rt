@@ -1,6 +1,6 @@
 //! The packets that wait for each port, and what is sent of them.
 
-ghost use Rattle.std.specs.Prelude.{◌≡◌, ◌≤◌, max, length, OnOk};
+ghost use Rattle.std.specs.Prelude.{◌≤◌, max, length, OnOk};
 ghost use Rattle.roam_port.specs.Queues.{AreMore, SendsAt};
 ghost use Rattle.roam_port.specs.Sharing.{share_of};
 

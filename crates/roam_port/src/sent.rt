@@ -4,7 +4,7 @@ ghost use Rattle.std.specs.Prelude.{◌≡◌};
 ghost use Rattle.roam_port.specs.Queues.{none_sent, sent_after};
 
 /// What was sent.
-#[derive(Clone, Copy, Debug, PartialEq, Eq)]
+#[derive(Clone, Copy, PartialEq, Eq)]
 pub struct Sent {
     /// How many packets don't wait any more: they are sent, or lost by a fault of their port. It stays at 2^64 - 1.
     pub gone: u64,

@@ -32,22 +32,35 @@ clash a yes' no' = absurd (true≢false (sym yes' ∙ no'))
 abbrev at : ConfigView → PlaceKind → Endpoint → Bool
 at config kind e = is_among (endpoints_of config kind) e
 
-pub stays : (config : ConfigView) (kind after : PlaceKind) (e : Endpoint) → is_moved config kind e ≡ false → is_among (endpoints_of config after) e ≡ true → after ≡ kind
+pub stays : (config : ConfigView) (kind after : PlaceKind) (e : Endpoint) → is_moved config kind e ≡ false →
+    is_among (endpoints_of config after) e ≡ true → after ≡ kind
 stays config Auth Auth e none there = refl
-stays config Auth Acct e none there = clash (at config Acct e) there (kept3 (at config Acct e) (at config Out e) (at config Reverse e) none).first
-stays config Auth Out e none there = clash (at config Out e) there (kept3 (at config Acct e) (at config Out e) (at config Reverse e) none).second
-stays config Auth Reverse e none there = clash (at config Reverse e) there (kept3 (at config Acct e) (at config Out e) (at config Reverse e) none).third
-stays config Acct Auth e none there = clash (at config Auth e) there (kept3 (at config Auth e) (at config Out e) (at config Reverse e) none).first
+stays config Auth Acct e none there =
+    clash (at config Acct e) there (kept3 (at config Acct e) (at config Out e) (at config Reverse e) none).first
+stays config Auth Out e none there =
+    clash (at config Out e) there (kept3 (at config Acct e) (at config Out e) (at config Reverse e) none).second
+stays config Auth Reverse e none there =
+    clash (at config Reverse e) there (kept3 (at config Acct e) (at config Out e) (at config Reverse e) none).third
+stays config Acct Auth e none there =
+    clash (at config Auth e) there (kept3 (at config Auth e) (at config Out e) (at config Reverse e) none).first
 stays config Acct Acct e none there = refl
-stays config Acct Out e none there = clash (at config Out e) there (kept3 (at config Auth e) (at config Out e) (at config Reverse e) none).second
-stays config Acct Reverse e none there = clash (at config Reverse e) there (kept3 (at config Auth e) (at config Out e) (at config Reverse e) none).third
-stays config Out Auth e none there = clash (at config Auth e) there (kept3 (at config Auth e) (at config Acct e) (at config Reverse e) none).first
-stays config Out Acct e none there = clash (at config Acct e) there (kept3 (at config Auth e) (at config Acct e) (at config Reverse e) none).second
+stays config Acct Out e none there =
+    clash (at config Out e) there (kept3 (at config Auth e) (at config Out e) (at config Reverse e) none).second
+stays config Acct Reverse e none there =
+    clash (at config Reverse e) there (kept3 (at config Auth e) (at config Out e) (at config Reverse e) none).third
+stays config Out Auth e none there =
+    clash (at config Auth e) there (kept3 (at config Auth e) (at config Acct e) (at config Reverse e) none).first
+stays config Out Acct e none there =
+    clash (at config Acct e) there (kept3 (at config Auth e) (at config Acct e) (at config Reverse e) none).second
 stays config Out Out e none there = refl
-stays config Out Reverse e none there = clash (at config Reverse e) there (kept3 (at config Auth e) (at config Acct e) (at config Reverse e) none).third
-stays config Reverse Auth e none there = clash (at config Auth e) there (kept3 (at config Auth e) (at config Acct e) (at config Out e) none).first
-stays config Reverse Acct e none there = clash (at config Acct e) there (kept3 (at config Auth e) (at config Acct e) (at config Out e) none).second
-stays config Reverse Out e none there = clash (at config Out e) there (kept3 (at config Auth e) (at config Acct e) (at config Out e) none).third
+stays config Out Reverse e none there =
+    clash (at config Reverse e) there (kept3 (at config Auth e) (at config Acct e) (at config Reverse e) none).third
+stays config Reverse Auth e none there =
+    clash (at config Auth e) there (kept3 (at config Auth e) (at config Acct e) (at config Out e) none).first
+stays config Reverse Acct e none there =
+    clash (at config Acct e) there (kept3 (at config Auth e) (at config Acct e) (at config Out e) none).second
+stays config Reverse Out e none there =
+    clash (at config Out e) there (kept3 (at config Auth e) (at config Acct e) (at config Out e) none).third
 stays config Reverse Reverse e none there = refl
 
 -- one that is at such a place
@@ -57,10 +70,12 @@ record IsAway (config : ConfigView) (kind : PlaceKind) (e : Endpoint) : Type 0 w
   differs : after ≢ kind
 
 away3 : (config : ConfigView) (kind a b c : PlaceKind) (e : Endpoint) → a ≢ kind → b ≢ kind → c ≢ kind
-    → (is_among (endpoints_of config a) e || is_among (endpoints_of config b) e || is_among (endpoints_of config c) e) ≡ true
+    → (is_among (endpoints_of config a) e || is_among (endpoints_of config b) e || is_among (endpoints_of config c)
+    e) ≡ true
     → IsAway config kind e
 away3 config kind a b c e not_a not_b not_c some =
-    elim (or_cases (is_among (endpoints_of config a) e || is_among (endpoints_of config b) e) (is_among (endpoints_of config c) e) some) [
+    elim (or_cases (is_among (endpoints_of config a) e || is_among (endpoints_of config b) e)
+    (is_among (endpoints_of config c) e) some) [
       | inl most ↦ (elim (or_cases (is_among (endpoints_of config a) e) (is_among (endpoints_of config b) e) most) [
         | inl first ↦ (record { after = a; there = first; differs = not_a })
         | inr second ↦ (record { after = b; there = second; differs = not_b })
@@ -75,7 +90,8 @@ away config Out e moved = away3 config Out Auth Acct Reverse e (λ h. cc) (λ h.
 away config Reverse e moved = away3 config Reverse Auth Acct Out e (λ h. cc) (λ h. cc) (λ h. cc) moved
 
 -- an endpoint of this kind in the old configuration that is at a place of another kind in the new one
-pub moves : (old new : ConfigView) (kind : PlaceKind) (e : Endpoint) → is_among (endpoints_of old kind) e ≡ true → is_moved new kind e ≡ true → HasMoved old new e
+pub moves : (old new : ConfigView) (kind : PlaceKind) (e : Endpoint) → is_among (endpoints_of old kind) e ≡ true →
+    is_moved new kind e ≡ true → HasMoved old new e
 moves old new kind e was moved =
     let there = away new kind e moved in
     record { before = kind; after = there.after; was_there = was; is_there = there.there; differ = there.differs }
@@ -88,14 +104,16 @@ pub alone : (e : Endpoint) → is_among (e ∷ []) e ≡ true
 alone e = or_left (same_endpoint e e) false (same_self e)
 
 -- what is looked for and found is there, and passes
-pub found : (test : Endpoint → Bool) (es : List Endpoint) (e : Endpoint) → find test es ≡ Some e → (is_among es e ≡ true) × (test e ≡ true)
+pub found : (test : Endpoint → Bool) (es : List Endpoint) (e : Endpoint) → find test es ≡ Some e →
+    (is_among es e ≡ true) × (test e ≡ true)
 found test [] e is = absurd (none-some e is)
 found test (x ∷ xs) e is =
     elim (cases_Bool (test x)) [
       | inl yes' ↦ (
           let same : Some x ≡ Some e = rw yes' at is in
           let here : x ≡ e = same_Some x e same in (
-            or_left (same_endpoint e x) (is_among xs e) (subst (λ y. same_endpoint e y ≡ true) (sym here) (same_self e)),
+            or_left (same_endpoint e x) (is_among xs e)
+                (subst (λ y. same_endpoint e y ≡ true) (sym here) (same_self e)),
             subst (λ y. test y ≡ true) here yes',
           ))
       | inr no' ↦ (
@@ -105,7 +123,8 @@ found test (x ∷ xs) e is =
     ]
 
 -- where nothing is found, nothing that is there passes
-pub missed : (test : Endpoint → Bool) (es : List Endpoint) (e : Endpoint) → find test es ≡ None → is_among es e ≡ true → test e ≡ false
+pub missed : (test : Endpoint → Bool) (es : List Endpoint) (e : Endpoint) → find test es ≡ None →
+    is_among es e ≡ true → test e ≡ false
 missed test [] e is there = absurd (false≢true there)
 missed test (x ∷ xs) e is there =
     elim (cases_Bool (test x)) [
@@ -128,9 +147,14 @@ only test x e none there =
 
 -- nothing has moved
 pub all_stay : (old new : ConfigView) → is_moved new Auth old.auth ≡ false → is_moved new Acct old.acct ≡ false
-    → find (is_moved new Out) (endpoints_of old Out) ≡ None → find (is_moved new Reverse) (endpoints_of old Reverse) ≡ None
+    → find (is_moved new Out) (endpoints_of old Out) ≡ None →
+    find (is_moved new Reverse) (endpoints_of old Reverse) ≡ None
     → KeepsKinds old new
-all_stay old new auth acct out reverse Auth after e was is = stays new Auth after e (only (is_moved new Auth) old.auth e auth was) is
-all_stay old new auth acct out reverse Acct after e was is = stays new Acct after e (only (is_moved new Acct) old.acct e acct was) is
-all_stay old new auth acct out reverse Out after e was is = stays new Out after e (missed (is_moved new Out) (endpoints_of old Out) e out was) is
-all_stay old new auth acct out reverse Reverse after e was is = stays new Reverse after e (missed (is_moved new Reverse) (endpoints_of old Reverse) e reverse was) is
+all_stay old new auth acct out reverse Auth after e was is =
+    stays new Auth after e (only (is_moved new Auth) old.auth e auth was) is
+all_stay old new auth acct out reverse Acct after e was is =
+    stays new Acct after e (only (is_moved new Acct) old.acct e acct was) is
+all_stay old new auth acct out reverse Out after e was is =
+    stays new Out after e (missed (is_moved new Out) (endpoints_of old Out) e out was) is
+all_stay old new auth acct out reverse Reverse after e was is =
+    stays new Reverse after e (missed (is_moved new Reverse) (endpoints_of old Reverse) e reverse was) is

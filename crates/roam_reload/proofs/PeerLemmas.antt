@@ -24,16 +24,19 @@ other_part a b NasIp d = λ e. d (ap (λ (x : PeerView). x.nas_ip) e)
 other_part a b NasId d = λ e. d (ap (λ (x : PeerView). x.nas_id) e)
 
 -- what a difference says that is there, or isn't
-pub differs : (a b : PeerView) (key : Option PeerKey) → IfSome key (PeersDiffer a b) → is_some key ≡ true → peer_part b ≢ peer_part a
+pub differs : (a b : PeerView) (key : Option PeerKey) → IfSome key (PeersDiffer a b) → is_some key ≡ true →
+    peer_part b ≢ peer_part a
 differs a b None said there = absurd (false≢true there)
 differs a b (Some key) said there = other_part a b key said
 
-pub agrees : (a b : PeerView) (key : Option PeerKey) → IfNone key (peer_part b ≡ peer_part a) → is_some key ≡ false → peer_part b ≡ peer_part a
+pub agrees : (a b : PeerView) (key : Option PeerKey) → IfNone key (peer_part b ≡ peer_part a) → is_some key ≡ false →
+    peer_part b ≡ peer_part a
 agrees a b None said away = said
 agrees a b (Some key) said away = absurd (true≢false away)
 
 -- the part at a place
-part_at : (peers : List Peer) (i : ℕ) (peer : Peer) (d : PeerView) → i < length peers → peer ≡ get_or peers i peer → get_or (parts peers) i d ≡ peer_part (shown_peer peer)
+part_at : (peers : List Peer) (i : ℕ) (peer : Peer) (d : PeerView) → i < length peers → peer ≡ get_or peers i peer →
+    get_or (parts peers) i d ≡ peer_part (shown_peer peer)
 part_at peers i peer d lt is =
     let shorter : i < length (map shown_peer peers) = rw (length-map peers shown_peer) lt in
     get_or-map peer_part (map shown_peer peers) i (shown_peer peer) d shorter
@@ -44,7 +47,9 @@ count : (peers : List Peer) → length (parts peers) ≡ length peers
 count peers = length-map (map shown_peer peers) peer_part ∙ length-map peers shown_peer
 
 -- one peer more is kept
-pub one_more : (old new : List Peer) (i : ℕ) (o n : Peer) → i < length old → i < length new → o ≡ get_or old i o → n ≡ get_or new i n → peer_part (shown_peer n) ≡ peer_part (shown_peer o) → take i (parts new) ≡ take i (parts old) → take (i + 1) (parts new) ≡ take (i + 1) (parts old)
+pub one_more : (old new : List Peer) (i : ℕ) (o n : Peer) → i < length old → i < length new → o ≡ get_or old i o →
+    n ≡ get_or new i n → peer_part (shown_peer n) ≡ peer_part (shown_peer o) →
+    take i (parts new) ≡ take i (parts old) → take (i + 1) (parts new) ≡ take (i + 1) (parts old)
 one_more old new i o n in_old in_new is_old is_new same before =
     let here : i < length (parts new) = rw (count new) in_new in
     let there : i < length (parts old) = rw (count old) in_old in
@@ -53,7 +58,8 @@ one_more old new i o n in_old in_new is_old is_new same before =
     (part_at new i n d in_new is_new ∙ same ∙ sym (part_at old i o d in_old is_old))
 
 -- all are kept
-pub all_kept : (old new : List Peer) (i : ℕ) → length old ≤ i → take i (parts new) ≡ take i (parts old) → KeepsPeers (map shown_peer old) (map shown_peer new)
+pub all_kept : (old new : List Peer) (i : ℕ) → length old ≤ i → take i (parts new) ≡ take i (parts old) →
+    KeepsPeers (map shown_peer old) (map shown_peer new)
 all_kept old new i end same =
     let whole : take i (parts old) ≡ parts old = take_all i (parts old) (rw (count old) end) in
     record {
@@ -62,7 +68,8 @@ all_kept old new i end same =
     }
 
 -- the new peers are fewer
-pub gone : (old new : List Peer) (i : ℕ) → i < length old → length new ≤ i → IsOtherPeer (map shown_peer old) (map shown_peer new) i
+pub gone : (old new : List Peer) (i : ℕ) → i < length old → length new ≤ i →
+    IsOtherPeer (map shown_peer old) (map shown_peer new) i
 gone old new i in_old past =
     let there : i < length (parts old) = rw (count old) in_old in
     let away : slice_get (parts new) i ≡ None = slice_get_past (parts new) i (rw (count new) past) in
@@ -76,7 +83,9 @@ gone old new i in_old past =
     }
 
 -- the peer there is another
-pub other : (old new : List Peer) (i : ℕ) (o n : Peer) → i < length old → i < length new → o ≡ get_or old i o → n ≡ get_or new i n → peer_part (shown_peer n) ≢ peer_part (shown_peer o) → IsOtherPeer (map shown_peer old) (map shown_peer new) i
+pub other : (old new : List Peer) (i : ℕ) (o n : Peer) → i < length old → i < length new → o ≡ get_or old i o →
+    n ≡ get_or new i n → peer_part (shown_peer n) ≢ peer_part (shown_peer o) →
+    IsOtherPeer (map shown_peer old) (map shown_peer new) i
 other old new i o n in_old in_new is_old is_new differ =
     let here : i < length (parts new) = rw (count new) in_new in
     let there : i < length (parts old) = rw (count old) in_old in

@@ -11,7 +11,7 @@ use crate::realms::realm_difference;
 use roam_conf::Config;
 
 /// What becomes of the realm of an index when a configuration follows another.
-#[derive(Clone, Copy, Debug, PartialEq, Eq)]
+#[derive(Clone, Copy, PartialEq, Eq)]
 pub enum Fate {
     /// It goes on as it stands.
     CarriedOver,

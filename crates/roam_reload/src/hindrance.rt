@@ -13,7 +13,7 @@ use crate::kind::{PlaceKind, is_moved};
 use roam_conf::{Config, Endpoint, Realm};
 
 /// Why a configuration may not follow another.
-#[derive(Clone, Copy, Debug, PartialEq, Eq)]
+#[derive(Clone, Copy, PartialEq, Eq)]
 pub enum Hindrance {
     /// Its seed is another.
     Seed,

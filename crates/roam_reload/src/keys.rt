@@ -1,7 +1,7 @@
 //! The keys by which two tables of a realm or of a peer differ.
 
 /// A key of a realm's table; `name` and `also` aside.
-#[derive(Clone, Copy, Debug, PartialEq, Eq)]
+#[derive(Clone, Copy, PartialEq, Eq)]
 pub enum RealmKey {
     Out,
     Reverse,
@@ -17,7 +17,7 @@ pub enum RealmKey {
 }
 
 /// A key of a peer's table; `name` and `require_seal` aside.
-#[derive(Clone, Copy, Debug, PartialEq, Eq)]
+#[derive(Clone, Copy, PartialEq, Eq)]
 pub enum PeerKey {
     Ip,
     Secret,

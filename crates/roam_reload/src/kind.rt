@@ -11,7 +11,7 @@ ghost use Rattle.roam_reload.specs.Reload.{endpoints_of};
 use roam_conf::{Config, Endpoint, Realm, is_same_endpoint};
 
 /// A kind of the broker's own places: which packets come in there.
-#[derive(Clone, Copy, Debug, PartialEq, Eq)]
+#[derive(Clone, Copy, PartialEq, Eq)]
 pub enum PlaceKind {
     /// Access-Requests of access servers (RFC 2865).
     Auth,

@@ -111,6 +111,8 @@ pub fn route_of<A: Allocator + Copy>(
     }
 }
 
+/// For tests; a realm's rules call `route_of`.
+///
 /// The Error-Cause of a reverse request that can't be forwarded, none where it can be: as `route_of`
 /// says it. Takes no memory.
 pub fn verdict<A: Allocator + Copy>(

@@ -154,6 +154,8 @@ impl<A: Allocator + Copy> Sessions<A> {
         }
     }
 
+    /// For tests and callers that have the memory anyway; a realm's rules prepare a change before they carry it out.
+    ///
     /// What an Accounting-Request of a peer does once it was answered. Memory as in
     /// [`Sessions::prepare`].
     pub fn apply(&mut self, peer: u16, request: &View<'_>) -> Result<(), NoMemory>

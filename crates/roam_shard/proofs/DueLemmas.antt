@@ -30,14 +30,6 @@ pub nothing_found : (now : ℕ) (es : List PlainEntry) (found : Option Due)
 nothing_found now es None is none = nothing_after now es (sym is)
 nothing_found now es (Some d) is none = absurd (let bad : true ≡ false = none in cc)
 
-pub something_after : (now : ℕ) (es : List PlainEntry) (found : Option Due)
-    → found ≡ due_after now None es → is_some found ≡ true → due_list now es ≡ [] → ⊥
-something_after now es found is some none =
-    let nothing : due_after now None es ≡ None =
-    ap (λ (ds : List Due). find (is_after None) ds) none in
-    absurd (let bad : is_some found ≡ false = ap (λ (d : Option Due). is_some d) (is ∙ nothing) in
-    let worse : false ≡ true = sym bad ∙ some in cc)
-
 -- with nothing due a tick sends nothing and changes nothing
 quiet : (c : RealmConfig) (now : ℕ) (s : RealmState) → now ≤ 2 ^ 62 → due_list now s.entries ≡ []
     → on_tick c now s ≡ sends [] s

@@ -1,5 +1,5 @@
 -- How many entries are due.
-use Rattle.std.proofs.Common.{◌≡◌, ℕ, suc, ◌+◌, ◌<◌, ◌≤◌, List, [], ◌∷◌, ◌++◌, Option, Some, None, Bool, true, false, is_some, length, drop, drop-cons, get_or, refl, ap, sym, ◌∙◌, arith, append_assoc}
+use Rattle.std.proofs.Common.{◌≡◌, ℕ, suc, ◌+◌, ◌<◌, ◌≤◌, List, [], ◌∷◌, ◌++◌, Option, Some, None, true, false, is_some, length, drop, drop-cons, get_or, refl, ap, sym, ◌∙◌, arith, append_assoc}
 use Rattle.std.specs.Prelude.{IfNone, slice_get}
 use Rattle.std.specs.List.{find, last_or}
 use Rattle.std.proofs.lemmas.List.{append-nil, drop_all, length-append}
@@ -76,7 +76,8 @@ module _ {A : Type 0} (o : OpeningView) (now : ℕ) where
   pub count-next : (E : ℕ → List PlainEntry) (r : ℕ) (ns : List (Option (RealmNumbers A))) (n : Option (RealmNumbers A))
       → r < length ns → n ≡ get_or ns r n
       → due_count now (states_from o E r (drop r ns))
-      ≡ length (due_list now (state_seen o r (E r) n).entries) + due_count now (states_from o E (r + 1) (drop (r + 1) ns))
+      ≡ length (due_list now (state_seen o r (E r) n).entries) + due_count now
+      (states_from o E (r + 1) (drop (r + 1) ns))
   unfolding states_from
   count-next E r ns n lt here =
       let next : suc r ≡ r + 1 = omega arith in
@@ -88,4 +89,5 @@ module _ {A : Type 0} (o : OpeningView) (now : ℕ) where
   pub count-end : (E : ℕ → List PlainEntry) (r : ℕ) (ns : List (Option (RealmNumbers A))) → length ns ≤ r
       → due_count now (states_from o E r (drop r ns)) ≡ 0
   unfolding states_from
-  count-end E r ns past = ap (λ (l : List (Option (RealmNumbers A))). due_count now (states_from o E r l)) (drop_all r ns past)
+  count-end E r ns past = ap (λ (l : List (Option (RealmNumbers A))). due_count now (states_from o E r l))
+      (drop_all r ns past)

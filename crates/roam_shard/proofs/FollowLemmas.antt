@@ -45,10 +45,12 @@ get-push : {X : Type 0} (xs : List X) (x y : X) (k : ℕ) → slice_get (xs ++ x
 get-push [] x y zero at = (let some : Some x ≡ Some y = at in let is : x ≡ y = cc in inl (refl, is))
 get-push [] x y (suc k) at = absurd (let bad : None ≡ Some y = at in cc)
 get-push (z ∷ zs) x y zero at = inr (omega arith, at)
-get-push (z ∷ zs) x y (suc k) at = elim (get-push zs x y k at) as (λ _. ((suc k ≡ length (z ∷ zs)) × (x ≡ y)) ⊎ ((suc k < length (z ∷ zs)) × (slice_get (z ∷ zs) (suc k) ≡ Some y))) [
-  | inl last ↦ inl (ap suc last.0, last.1)
-  | inr there ↦ inr ((let lt = there.0 in omega (arith, lt)), there.1)
-]
+get-push (z ∷ zs) x y (suc k) at =
+    elim (get-push zs x y k at) as (λ _. ((suc k ≡ length (z ∷ zs)) × (x ≡ y))
+    ⊎ ((suc k < length (z ∷ zs)) × (slice_get (z ∷ zs) (suc k) ≡ Some y))) [
+      | inl last ↦ inl (ap suc last.0, last.1)
+      | inr there ↦ inr ((let lt = there.0 in omega (arith, lt)), there.1)
+    ]
 
 -- The entries of realms that don't go on are taken out
 
@@ -57,17 +59,14 @@ pub record Cleared (old new : ConfigView) (shard : ℕ) (E F : ℕ → List Plai
   pub gone : (r : ℕ) → r < count → (GoesOn old new shard r → ⊥) → F r ≡ []
   pub lists : ((r : ℕ) → IsEntryList (E r)) → (r : ℕ) → IsEntryList (F r)
 
-pub none_cleared : (old new : ConfigView) (shard : ℕ) (E : ℕ → List PlainEntry) → Cleared old new shard E E 0
-none_cleared old new shard E =
-    record { stay = λ r is. refl; gone = λ r lt away. absurd (omega (arith, lt)); lists = λ all r. all r }
-
 pub cleared_to : (old new : ConfigView) (shard : ℕ) (E F : ℕ → List PlainEntry) (n count : ℕ) → count ≤ n
     → ((r : ℕ) → GoesOn old new shard r → F r ≡ E r) → ((r : ℕ) → r < n → (GoesOn old new shard r → ⊥) → F r ≡ [])
     → (((r : ℕ) → IsEntryList (E r)) → (r : ℕ) → IsEntryList (F r)) → Cleared old new shard E F count
 cleared_to old new shard E F n count le stay gone lists =
     record { stay = stay; gone = λ r lt away. gone r (omega (arith, lt, le)) away; lists = lists }
 
-pub one_cleared : (old new : ConfigView) (shard : ℕ) (E F G : ℕ → List PlainEntry) (count : ℕ) → Cleared old new shard E F count
+pub one_cleared : (old new : ConfigView) (shard : ℕ) (E F G : ℕ → List PlainEntry) (count : ℕ) →
+    Cleared old new shard E F count
     → (GoesOn old new shard count → ⊥) → RealmBecomes count [] F G → Cleared old new shard E G (count + 1)
 one_cleared old new shard E F G count is not' becomes = record {
   stay = λ r goes. elim (cases_eq r count) as (λ _. G r ≡ E r) [
@@ -84,7 +83,8 @@ one_cleared old new shard E F G count is not' becomes = record {
   ];
 }
 
-pub one_stays : (old new : ConfigView) (shard : ℕ) (E F : ℕ → List PlainEntry) (count : ℕ) → Cleared old new shard E F count
+pub one_stays : (old new : ConfigView) (shard : ℕ) (E F : ℕ → List PlainEntry) (count : ℕ) →
+    Cleared old new shard E F count
     → GoesOn old new shard count → Cleared old new shard E F (count + 1)
 one_stays old new shard E F count is goes = record {
   stay = is.stay;
@@ -98,7 +98,8 @@ one_stays old new shard E F count is goes = record {
 -- The numbers of a realm
 
 -- where no numbers stand
-pub begin_nowhere : {A : Type 0} (ns : List (Option (RealmNumbers A))) (r : ℕ) → NoneThere ns r → first_start ≡ begin_at ns r
+pub begin_nowhere : {A : Type 0} (ns : List (Option (RealmNumbers A))) (r : ℕ) → NoneThere ns r →
+    first_start ≡ begin_at ns r
 begin_nowhere {A} ns r none = by (slice_get ns r) refl
   where
     by : (x : Option (Option (RealmNumbers A))) → slice_get ns r ≡ x → first_start ≡ begin_at ns r
@@ -108,11 +109,13 @@ begin_nowhere {A} ns r none = by (slice_get ns r) refl
 
 -- numbers that go over
 module _ {A : Type 0} (old new : ConfigView) (shard k : ℕ) (before : List (Option (RealmNumbers A))) where
-  pub read_there : (x : Option (RealmNumbers A)) (n : RealmNumbers A) → k < length before → x ≡ slice_index_or before k x → x ≡ Some n
+  pub read_there : (x : Option (RealmNumbers A)) (n : RealmNumbers A) → k < length before →
+      x ≡ slice_index_or before k x → x ≡ Some n
       → slice_get before k ≡ Some (Some n)
   read_there x n lt at is = get-read before k x lt at ∙ ap Some is
 
-  pub moved_over : (after : List (Option (RealmNumbers A))) (c : RealmConfig) (n m : RealmNumbers A) → GoesOn old new shard k
+  pub moved_over : (after : List (Option (RealmNumbers A))) (c : RealmConfig) (n m : RealmNumbers A) →
+      GoesOn old new shard k
       → slice_get before k ≡ Some (Some n) → k < length after → c ≡ realm_config new k → CarriesOn c n m
       → IsMoved old new shard k before after (set after k (Some m))
   moved_over after c n m goes at lt is carries = inl (
@@ -123,12 +126,14 @@ module _ {A : Type 0} (old new : ConfigView) (shard k : ℕ) (before : List (Opt
         record {
           after = m;
           is = get-set_same after k (Some m) lt;
-          carries = subst (λ (y : RealmNumbers A). CarriesOn (realm_config new k) y m) same (subst (λ (d : RealmConfig). CarriesOn d n m) is carries);
+          carries = subst (λ (y : RealmNumbers A). CarriesOn (realm_config new k) y m) same
+              (subst (λ (d : RealmConfig). CarriesOn d n m) is carries);
         }),
   )
 
   -- or have gone already
-  pub moved_away : (after : List (Option (RealmNumbers A))) (x : Option (RealmNumbers A)) → GoesOn old new shard k → k < length before
+  pub moved_away : (after : List (Option (RealmNumbers A))) (x : Option (RealmNumbers A)) → GoesOn old new shard k →
+      k < length before
       → x ≡ slice_index_or before k x → x ≡ None → IsMoved old new shard k before after after
   moved_away after x goes lt at is = inl (
     goes,
@@ -138,7 +143,8 @@ module _ {A : Type 0} (old new : ConfigView) (shard k : ℕ) (before : List (Opt
   )
 
 -- a realm is still one of the shard's
-pub still_own : (old new : ConfigView) (shard : ℕ) → new.shards ≡ old.shards → (r : ℕ) → is_in_shard new shard r ≡ true → is_in_shard old shard r ≡ true
+pub still_own : (old new : ConfigView) (shard : ℕ) → new.shards ≡ old.shards → (r : ℕ) →
+    is_in_shard new shard r ≡ true → is_in_shard old shard r ≡ true
 still_own old new shard shards r own = subst (λ (n : ℕ). (r % n == shard) ≡ true) shards own
 
 module _ {A : Type 0} where
@@ -150,7 +156,8 @@ module _ {A : Type 0} where
     pub rests : m.rests.items ≡ n.rests.items
     pub sessions : m.sessions ≡ n.sessions
 
-  sound_same : (c : RealmConfig) (es : List PlainEntry) (n m : RealmNumbers A) → AreSame n m → IsSound c es n → IsSound c es m
+  sound_same : (c : RealmConfig) (es : List PlainEntry) (n m : RealmNumbers A) → AreSame n m → IsSound c es n →
+      IsSound c es m
   sound_same c es n m same s = record {
     each = subst (λ (t : ℕ). AllByRecursion (IsEntry c t) es) (sym same.ticket) s.each;
     ticket = subst (λ (t : ℕ). t ≤ 2 ^ 63) (sym same.ticket) s.ticket;
@@ -185,7 +192,8 @@ module _ {A : Type 0} (o : OpeningView) (tables : List RealmView) (ns : List (Op
     where
       by : (x : Option (Option (RealmNumbers A))) → slice_get ns r ≡ x → HasNumbersAt r
       by None at = absurd (let past = none_past ns r at in let count = are.count in omega (arith, lt, past, count))
-      by (Some None) at = absurd (let no : false ≡ is_in_shard o.config o.shard r = are.own r None at in let bad : false ≡ true = no ∙ own in cc)
+      by (Some None) at = absurd (let no : false ≡ is_in_shard o.config o.shard r = are.own r None at in
+          let bad : false ≡ true = no ∙ own in cc)
       by (Some (Some n)) at = record { numbers = n; at = at }
 
   pub stands_at : (r : ℕ) (n : RealmNumbers A) → slice_get ns r ≡ Some (Some n)
@@ -201,9 +209,11 @@ module _ {A : Type 0} (o : OpeningView) (tables : List RealmView) (ns : List (Op
       by None at =
           let past = none_past ns r at in
           let len = length-states o (entries_in tables) 0 ns in
-          let away : state_at (states_in o tables ns) r ≡ no_state = get_or_past (states_in o tables ns) r no_state (omega (arith, past, len)) in
+          let away : state_at (states_in o tables ns) r ≡ no_state =
+          get_or_past (states_in o tables ns) r no_state (omega (arith, past, len)) in
           ap start_in at ∙ sym (ap next_start away)
-      by (Some None) at = absurd (let no : false ≡ is_in_shard o.config o.shard r = are.own r None at in let bad : false ≡ true = no ∙ own in cc)
+      by (Some None) at = absurd (let no : false ≡ is_in_shard o.config o.shard r = are.own r None at in
+          let bad : false ≡ true = no ∙ own in cc)
       by (Some (Some n)) at = ap start_in at ∙ sym (ap next_start (stands_at r n at))
 
   pub good_begin : (r : ℕ) → IsStart (begin_at ns r)
@@ -231,14 +241,12 @@ module _ {A : Type 0} (o : OpeningView) (tables : List RealmView) (ns : List (Op
         ∙ ap (λ (s : RealmState). set (states_in o tables ns) k s) state
         ∙ set-get_or (states_in o tables ns) k no_state
 
-    pub reserved_still : slice_get (set ns k (Some m)) k ≡ Some (Some m)
-    reserved_still = get-set_same ns k (Some m) (some_within ns k (Some n) at)
-
   pub within_numbers : (r : ℕ) → r < length o.config.realms → r < length ns
   within_numbers r lt = (let count = are.count in omega (arith, lt, count))
 
   -- a realm of the shard has numbers where they are read
-  pub not_none : (r : ℕ) (x : Option (RealmNumbers A)) → r < length o.config.realms → is_in_shard o.config o.shard r ≡ true
+  pub not_none : (r : ℕ) (x : Option (RealmNumbers A)) → r < length o.config.realms →
+      is_in_shard o.config o.shard r ≡ true
       → x ≡ slice_index_or ns r x → x ≡ None → ⊥
   not_none r x lt own at is =
       let count = are.count in
@@ -247,13 +255,15 @@ module _ {A : Type 0} (o : OpeningView) (tables : List RealmView) (ns : List (Op
       absurd (let bad : false ≡ true = no ∙ own in cc)
 
 -- a shard whose tables keep further realms stands as it did
-pub more_realms_still : {A : Type 0} (config : ConfigView) (p : Paused A) (tables : List RealmView) → StandsUnder config p
+pub more_realms_still : {A : Type 0} (config : ConfigView) (p : Paused A) (tables : List RealmView) →
+    StandsUnder config p
     → entries_in tables ≡ entries_in p.entries → length p.entries ≤ length tables
     → StandsStill config p (record p { entries = tables })
 more_realms_still config p tables are same more = record {
   stands = record {
     own = are.own;
-    sound = λ r n at. subst (λ (E : ℕ → List PlainEntry). IsSound (realm_config config r) (E r) n) (sym same) (are.sound r n at);
+    sound = λ r n at. subst (λ (E : ℕ → List PlainEntry). IsSound (realm_config config r) (E r) n) (sym same)
+        (are.sound r n at);
     lists = λ r. subst (λ (E : ℕ → List PlainEntry). IsEntryList (E r)) (sym same) (are.lists r);
     count = are.count;
     kept = (let kept = are.kept in omega (arith, kept, more));
@@ -263,11 +273,14 @@ more_realms_still config p tables are same more = record {
   shard = refl;
 }
 
-pub still_then : {A : Type 0} (config : ConfigView) (p q s : Paused A) → StandsStill config p q → StandsStill config q s → StandsStill config p s
-still_then config p q s one two = record { stands = two.stands; states = two.states ∙ one.states; shard = two.shard ∙ one.shard }
+pub still_then : {A : Type 0} (config : ConfigView) (p q s : Paused A) → StandsStill config p q →
+    StandsStill config q s → StandsStill config p s
+still_then config p q s one two =
+    record { stands = two.stands; states = two.states ∙ one.states; shard = two.shard ∙ one.shard }
 
 -- there is room for the lanes of a realm that goes on
-pub ready_lanes : {A : Type 0} (old new : ConfigView) (shard realm k : ℕ) (ns : List (Option (RealmNumbers A))) (n m : RealmNumbers A) (c : RealmConfig)
+pub ready_lanes : {A : Type 0} (old new : ConfigView) (shard realm k : ℕ) (ns : List (Option (RealmNumbers A)))
+    (n m : RealmNumbers A) (c : RealmConfig)
     → k ≡ realm → GoesOn old new shard realm → slice_get ns k ≡ Some (Some n) → c ≡ realm_config new realm
     → link_count c ≤ vec_capacity m.lanes → IsReadyAt old new shard realm (set ns k (Some m)) None
 ready_lanes {A} old new shard realm k ns n m c is goes at settings room = record {
@@ -281,7 +294,8 @@ ready_lanes {A} old new shard realm k ns n m c is goes at settings room = record
 }
 
 -- and numbers of one that begins anew
-pub ready_fresh : {A : Type 0} (old new : ConfigView) (shard realm : ℕ) (ns : List (Option (RealmNumbers A))) (start : Start) (m : Option (RealmNumbers A))
+pub ready_fresh : {A : Type 0} (old new : ConfigView) (shard realm : ℕ) (ns : List (Option (RealmNumbers A)))
+    (start : Start) (m : Option (RealmNumbers A))
     → (GoesOn old new shard realm → ⊥) → start ≡ begin_at ns realm
     → IsOpened (realm_config new realm) start (is_in_shard new shard realm) m → IsReadyAt old new shard realm ns m
 ready_fresh old new shard realm ns start m away is one = record {
@@ -299,7 +313,8 @@ module _ {A : Type 0} (old new : ConfigView) (shard : ℕ) where
   pub none_ready : (ns : List (Option (RealmNumbers A))) → AreReady ns [] 0
   none_ready ns = record { number = refl; each = λ r m at. absurd (let bad : None ≡ Some m = at in cc) }
 
-  pub still_ready : (ns os : List (Option (RealmNumbers A))) (r : ℕ) (m : Option (RealmNumbers A)) → slice_get os r ≡ slice_get ns r
+  pub still_ready : (ns os : List (Option (RealmNumbers A))) (r : ℕ) (m : Option (RealmNumbers A)) →
+      slice_get os r ≡ slice_get ns r
       → IsReadyAt old new shard r ns m → IsReadyAt old new shard r os m
   still_ready ns os r m same is = record {
     lanes = λ goes n at. is.lanes goes n (sym same ∙ at);
@@ -307,7 +322,8 @@ module _ {A : Type 0} (old new : ConfigView) (shard : ℕ) where
         IsOpened (realm_config new r) (start_in x) (is_in_shard new shard r) m) (sym same) (is.opened away);
   }
 
-  pub one_ready : (ns os fresh : List (Option (RealmNumbers A))) (m : Option (RealmNumbers A)) (count : ℕ) → AreReady ns fresh count
+  pub one_ready : (ns os fresh : List (Option (RealmNumbers A))) (m : Option (RealmNumbers A)) (count : ℕ) →
+      AreReady ns fresh count
       → ((r : ℕ) → r ≢ count → slice_get os r ≡ slice_get ns r) → IsReadyAt old new shard count os m
       → AreReady os (fresh ++ m ∷ []) (count + 1)
   one_ready ns os fresh m count are others one = record {
@@ -325,10 +341,11 @@ module _ {A : Type 0} (old new : ConfigView) (shard : ℕ) where
 
   -- Realms follow, one after the other: those of so many did
 
-  pub record IsFollowed (r : ℕ) (es : List PlainEntry) (before : RealmState) (m : Option (RealmNumbers A)) : Type 0 where
-    pub own : is_some m ≡ is_in_shard new shard r
-    pub sound : (n : RealmNumbers A) → m ≡ Some n → IsSound (realm_config new r) es n
-    pub follows : (n : RealmNumbers A) → m ≡ Some n → Follows old new r before (state_of es n)
+  pub record IsFollowed (r : ℕ) (es : List PlainEntry) (before : RealmState) (m : Option (RealmNumbers A)) : Type 0
+    where
+      pub own : is_some m ≡ is_in_shard new shard r
+      pub sound : (n : RealmNumbers A) → m ≡ Some n → IsSound (realm_config new r) es n
+      pub follows : (n : RealmNumbers A) → m ≡ Some n → Follows old new r before (state_of es n)
 
   -- numbers go over one after the other: those of so many realms did
   pub record AreMoved (ns fresh os after : List (Option (RealmNumbers A))) (count : ℕ) : Type 0 where
@@ -348,27 +365,34 @@ module _ {A : Type 0} (old new : ConfigView) (shard : ℕ) where
   }
 
   -- what is said of a realm is said of what stands there
-  moved_same : (r : ℕ) (b b2 p p2 a a2 : List (Option (RealmNumbers A))) → slice_get b2 r ≡ slice_get b r → slice_get p2 r ≡ slice_get p r
+  moved_same : (r : ℕ) (b b2 p p2 a a2 : List (Option (RealmNumbers A))) → slice_get b2 r ≡ slice_get b r →
+      slice_get p2 r ≡ slice_get p r
       → slice_get a2 r ≡ slice_get a r → IsMoved old new shard r b p a → IsMoved old new shard r b2 p2 a2
   moved_same r b b2 p p2 a a2 same stays now (inl over) = inl (
     over.0,
-    λ n at. subst (λ (x : Option (Option (RealmNumbers A))). HasGoneOver (realm_config new r) n x) (sym now) (over.1 n (sym same ∙ at)),
+    λ n at. subst (λ (x : Option (Option (RealmNumbers A))). HasGoneOver (realm_config new r) n x) (sym now)
+        (over.1 n (sym same ∙ at)),
   )
   moved_same r b b2 p p2 a a2 same stays now (inr away) = inr (away.0, now ∙ away.1 ∙ sym stays)
 
-  pub one_moved : (ns fresh os after os2 after2 : List (Option (RealmNumbers A))) (count : ℕ) → AreMoved ns fresh os after count
+  pub one_moved : (ns fresh os after os2 after2 : List (Option (RealmNumbers A))) (count : ℕ) →
+      AreMoved ns fresh os after count
       → IsMoved old new shard count os after after2
-      → ((r : ℕ) → r ≢ count → slice_get after2 r ≡ slice_get after r) → ((r : ℕ) → r ≢ count → slice_get os2 r ≡ slice_get os r)
+      → ((r : ℕ) → r ≢ count → slice_get after2 r ≡ slice_get after r) →
+      ((r : ℕ) → r ≢ count → slice_get os2 r ≡ slice_get os r)
       → length after2 ≡ length after → length os2 ≡ length os → AreMoved ns fresh os2 after2 (count + 1)
   one_moved ns fresh os after os2 after2 count are moved others others_before number left = record {
     number = number ∙ are.number;
     left = left ∙ are.left;
     rest = λ r le. others r (λ is. absurd (omega (arith, is, le))) ∙ are.rest r (omega (arith, le));
-    rest_before = λ r le. others_before r (λ is. absurd (omega (arith, is, le))) ∙ are.rest_before r (omega (arith, le));
+    rest_before = λ r le. others_before r (λ is. absurd (omega (arith, is, le)))
+        ∙ are.rest_before r (omega (arith, le));
     done = λ r below. elim (cases_eq r count) as (λ _. IsMoved old new shard r ns fresh after2) [
       | inl is ↦ subst (λ (q : ℕ). IsMoved old new shard q ns fresh after2) (sym is)
-          (moved_same count os ns after fresh after2 after2 (sym (are.rest_before count (omega arith))) (sym (are.rest count (omega arith))) refl moved)
-      | inr ne ↦ moved_same r ns ns fresh fresh after after2 refl refl (others r ne) (are.done r (omega (arith, ne, below)))
+          (moved_same count os ns after fresh after2 after2 (sym (are.rest_before count (omega arith)))
+          (sym (are.rest count (omega arith))) refl moved)
+      | inr ne ↦ moved_same r ns ns fresh fresh after after2 refl refl (others r ne)
+          (are.done r (omega (arith, ne, below)))
     ];
   }
 
@@ -391,8 +415,10 @@ module _ {A : Type 0} (old new : ConfigView) (shard : ℕ) where
     pub here_before : (r : ℕ) → GoesOn old new shard r → HasNumbersAt first tables ns are r
     here_before r goes = own_numbers first tables ns are r goes.carried.there (own_before r goes.own)
 
-    gone_over : (r : ℕ) (m : Option (RealmNumbers A)) (goes : GoesOn old new shard r) (there : Option (Option (RealmNumbers A)))
-        → HasGoneOver (realm_config new r) (here_before r goes).numbers there → there ≡ Some m → IsFollowed r (E r) (state_at before r) m
+    gone_over : (r : ℕ) (m : Option (RealmNumbers A)) (goes : GoesOn old new shard r)
+        (there : Option (Option (RealmNumbers A)))
+        → HasGoneOver (realm_config new r) (here_before r goes).numbers there → there ≡ Some m →
+        IsFollowed r (E r) (state_at before r) m
     gone_over r m goes there over at =
         let h = here_before r goes in
         let c = realm_config new r in
@@ -400,23 +426,28 @@ module _ {A : Type 0} (old new : ConfigView) (shard : ℕ) where
         let is : Some over.after ≡ m = cc in
         let stay = cleared.stay r goes in
         let sound : IsSound (realm_config old r) (E r) h.numbers =
-        subst (λ (es : List PlainEntry). IsSound (realm_config old r) es h.numbers) (sym stay) (are.sound r h.numbers h.at) in
+        subst (λ (es : List PlainEntry). IsSound (realm_config old r) es h.numbers) (sym stay)
+        (are.sound r h.numbers h.at) in
         let stood : state_of (E r) h.numbers ≡ state_at before r =
-        ap (λ (es : List PlainEntry). state_of es h.numbers) stay ∙ sym (stands_at first tables ns are r h.numbers h.at) in
-        let good : IsSound c (E r) over.after = over.carries.sound (realm_config old r) (E r) (go_on old new r seed goes.carried) sound in
+        ap (λ (es : List PlainEntry). state_of es h.numbers) stay
+        ∙ sym (stands_at first tables ns are r h.numbers h.at) in
+        let good : IsSound c (E r) over.after =
+        over.carries.sound (realm_config old r) (E r) (go_on old new r seed goes.carried) sound in
         let follows : Follows old new r (state_at before r) (state_of (E r) over.after) = record {
           goes_on = λ is'. over.carries.state (E r) ∙ ap (carried c) stood;
           begins_anew = λ away. absurd (away goes.carried);
         } in
         subst (λ (x : Option (RealmNumbers A)). IsFollowed r (E r) (state_at before r) x) is (record {
           own = sym goes.own;
-          sound = λ n eq. (let same : over.after ≡ n = (let k : Some over.after ≡ Some n = eq in cc) in subst (λ (x : RealmNumbers A). IsSound c (E r) x) same good);
+          sound = λ n eq. (let same : over.after ≡ n = (let k : Some over.after ≡ Some n = eq in cc) in
+              subst (λ (x : RealmNumbers A). IsSound c (E r) x) same good);
           follows = λ n eq. (let same : over.after ≡ n = (let k : Some over.after ≡ Some n = eq in cc) in
               subst (λ (x : RealmNumbers A). Follows old new r (state_at before r) (state_of (E r) x)) same follows);
         })
 
     -- a realm that begins anew
-    begun : (r : ℕ) (m : Option (RealmNumbers A)) → r < length new.realms → (GoesOn old new shard r → ⊥) → slice_get fresh r ≡ Some m
+    begun : (r : ℕ) (m : Option (RealmNumbers A)) → r < length new.realms → (GoesOn old new shard r → ⊥) →
+        slice_get fresh r ≡ Some m
         → IsFollowed r (E r) (state_at before r) m
     begun r m lt away at =
         let c = realm_config new r in
@@ -430,27 +461,39 @@ module _ {A : Type 0} (old new : ConfigView) (shard : ℕ) where
               sound_fresh c start (E r) n (good_begin first tables ns are r) none one);
           follows = λ n eq. (
               let one : IsFresh c start n = fresh_one c start (is_in_shard new shard r) m n opened eq in
-              let own : is_in_shard new shard r ≡ true = sym opened.own ∙ ap (λ (x : Option (RealmNumbers A)). is_some x) eq in
+              let own : is_in_shard new shard r ≡ true = sym opened.own
+              ∙ ap (λ (x : Option (RealmNumbers A)). is_some x) eq in
               record {
                 goes_on = λ is. absurd (away (record { own = own; carried = is }));
-                begins_anew = λ not'. state_fresh c start (E r) n none one ∙ ap (opening c) (begins_where first tables ns are r (own_before r own));
+                begins_anew = λ not'. state_fresh c start (E r) n none one
+                    ∙ ap (opening c) (begins_where first tables ns are r (own_before r own));
               });
         }
       where
-        fresh_one : (c : RealmConfig) (start : Start) (own : Bool) (m : Option (RealmNumbers A)) (n : RealmNumbers A) → IsOpened c start own m → m ≡ Some n → IsFresh c start n
+        fresh_one : (c : RealmConfig) (start : Start) (own : Bool) (m : Option (RealmNumbers A)) (n : RealmNumbers A)
+            → IsOpened c start own m → m ≡ Some n → IsFresh c start n
         fresh_one c start own None n is eq = absurd (let bad : None ≡ Some n = eq in cc)
-        fresh_one c start own (Some x) n is eq = (let some : Some x ≡ Some n = eq in let same : x ≡ n = cc in subst (λ (y : RealmNumbers A). IsFresh c start y) same is.fresh)
+        fresh_one c start own (Some x) n is eq =
+            (let some : Some x ≡ Some n = eq in let same : x ≡ n = cc in
+            subst (λ (y : RealmNumbers A). IsFresh c start y) same is.fresh)
 
     -- there is room for its lanes
-    pub can_go : (r : ℕ) → r < length new.realms → GoesOn old new shard r → (n : RealmNumbers A) → slice_get ns r ≡ Some (Some n)
+    pub can_go : (r : ℕ) → r < length new.realms → GoesOn old new shard r → (n : RealmNumbers A) →
+        slice_get ns r ≡ Some (Some n)
         → CanGoOver (realm_config new r) n
     can_go r lt goes n at =
         let number = ready.number in
-        let there : slice_get fresh r ≡ Some (get_or fresh r None) = slice_get-get_or fresh r None (omega (arith, lt, number)) in
+        let there : slice_get fresh r ≡ Some (get_or fresh r None) =
+        slice_get-get_or fresh r None (omega (arith, lt, number)) in
         let k = go_on old new r seed goes.carried in
         let count = (are.sound r n at).lane_count in
         record {
-          few = omega (arith, count, servers (realm_config old r) (realm_config new r) k, peers (realm_config old r) (realm_config new r) k);
+          few = omega (
+            arith,
+            count,
+            servers (realm_config old r) (realm_config new r) k,
+            peers (realm_config old r) (realm_config new r) k,
+          );
           room = (ready.each r (get_or fresh r None) there).lanes goes n at;
         }
 
@@ -466,18 +509,21 @@ module _ {A : Type 0} (old new : ConfigView) (shard : ℕ) where
       abbrev pub last : OpeningView
       last = record { shard = shard; config = new; starts = starts }
 
-      here : (r : ℕ) (m : Option (RealmNumbers A)) → r < length new.realms → slice_get after r ≡ Some m → IsMoved old new shard r ns fresh after
+      here : (r : ℕ) (m : Option (RealmNumbers A)) → r < length new.realms → slice_get after r ≡ Some m →
+          IsMoved old new shard r ns fresh after
           → IsFollowed r (E r) (state_at before r) m
       here r m lt at (inl over) =
           let h = here_before r over.0 in
           gone_over r m over.0 (slice_get after r) (over.1 h.numbers h.at) at
       here r m lt at (inr stays) = begun r m lt stays.0 (sym stays.1 ∙ at)
 
-      done_at : (r : ℕ) (m : Option (RealmNumbers A)) → slice_get after r ≡ Some m → IsFollowed r (entries_in tables2 r) (state_at before r) m
+      done_at : (r : ℕ) (m : Option (RealmNumbers A)) → slice_get after r ≡ Some m →
+          IsFollowed r (entries_in tables2 r) (state_at before r) m
       done_at r m at =
           let lt = some_within after r m at in
           let within : r < length new.realms = (let number = ready.number in omega (arith, lt, number, whole)) in
-          subst (λ (F : ℕ → List PlainEntry). IsFollowed r (F r) (state_at before r) m) is (here r m within at (moved r within))
+          subst (λ (F : ℕ → List PlainEntry). IsFollowed r (F r) (state_at before r) m) is
+          (here r m within at (moved r within))
 
       pub followed_shard : IsShard last tables2 after
       followed_shard = record {

@@ -144,15 +144,6 @@ module _ {A : Type 0} (o : OpeningView) where
       ∙ ap (λ (q : ℕ). set (states_from o E 0 ns) k (state_of (F q) n)) e)
 
 module _ {A : Type 0} where
-  -- there is a state for each realm
-  pub shard_whole : (o : OpeningView) (tables : List RealmView) (ns : List (Option (RealmNumbers A)))
-      (view : ShardView) → IsShard o tables ns
-      → record { opening = o; states = states_in o tables ns } ≡ view
-      → length view.states ≡ length view.opening.config.realms
-  shard_whole o tables ns view are is =
-      subst (λ (v : ShardView). length v.states ≡ length v.opening.config.realms) is
-      (length-states o (entries_in tables) 0 ns ∙ are.count)
-
   pub shard_count : (o : OpeningView) (tables : List RealmView) (ns : List (Option (RealmNumbers A)))
       (view : ShardView)
       → record { opening = o; states = states_in o tables ns } ≡ view

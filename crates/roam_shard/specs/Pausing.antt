@@ -70,7 +70,8 @@ module _ {A : Type 0} where
   abbrev pub begin_at : List (Option (RealmNumbers A)) → ℕ → Start
   begin_at numbers realm = start_in (slice_get numbers realm)
 
-  -- the memory of a realm is there: of further lanes where it goes on; else of numbers that nothing uses, where it is one
+  -- the memory of a realm is there: of further lanes where it goes on; else of numbers that nothing uses, where it
+  -- is one
   -- of the shard's
   pub record IsReadyAt (old new : ConfigView) (shard realm : ℕ) (numbers : List (Option (RealmNumbers A)))
       (fresh : Option (RealmNumbers A)) : Type 0 where
@@ -92,7 +93,8 @@ module _ {A : Type 0} where
     pub sound : (b : RealmConfig) (es : List PlainEntry) → Carries b c → IsSound b es before → IsSound c es after
 
   -- and then stand there
-  pub record HasGoneOver (c : RealmConfig) (before : RealmNumbers A) (there : Option (Option (RealmNumbers A))) : Type 0 where
+  pub record HasGoneOver (c : RealmConfig) (before : RealmNumbers A)
+      (there : Option (Option (RealmNumbers A))) : Type 0 where
     pub after : RealmNumbers A
     pub is : there ≡ Some (Some after)
     pub carries : CarriesOn c before after

@@ -1,6 +1,6 @@
 //! The packets of a tick, each twice.
 
-ghost use Rattle.std.specs.Prelude.{◌≡◌, ℕ, ◌+◌, ◌≤◌, ◌++◌, [], None, length, IfOk};
+ghost use Rattle.std.specs.Prelude.{◌≡◌, ℕ, ◌+◌, ◌++◌, [], None, length, IfOk};
 ghost use Rattle.roam_shard.specs.Private.Rooms.{HasPlaces};
 
 use crate::answers::append_reserved;

@@ -3,7 +3,7 @@
 ghost use Rattle.std.specs.Prelude.{◌≡◌, ◌≢◌, ◌≤◌, [], false, is_some, length, IfNone, IfSome, true};
 ghost use Rattle.roam_pending.specs.DueOrder.{due_list};
 ghost use Rattle.roam_tables.specs.Stands.{entries_in};
-ghost use Rattle.roam_shard.specs.ShardView.{HaveNumbers, OpeningView, ShardView, state_seen, states_in};
+ghost use Rattle.roam_shard.specs.ShardView.{OpeningView, state_seen, states_in};
 ghost use Rattle.roam_shard.specs.Twins.{NothingDue};
 ghost use Rattle.roam_shard.specs.DueCount.{due_count};
 

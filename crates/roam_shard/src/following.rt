@@ -1,6 +1,6 @@
 //! A paused shard follows another configuration.
 
-ghost use Rattle.std.specs.Prelude.{◌≡◌, ◌≢◌, ◌↔◌, ℕ, ◌<◌, ◌≤◌, [], Some, IfOk, IsTrue, None, OnOk, length, slice_get};
+ghost use Rattle.std.specs.Prelude.{◌≡◌, ◌≢◌, ◌↔◌, ℕ, ◌<◌, [], Some, IfOk, IsTrue, None, OnOk, length, slice_get};
 ghost use Rattle.std.specs.Prelude.{vec_len};
 ghost use Rattle.roam_conf.specs.Shown.{shown};
 ghost use Rattle.roam_pending.specs.EntryList.{IsEntryList};

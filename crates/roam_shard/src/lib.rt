@@ -32,6 +32,7 @@
 mod answer_pair;
 mod answers;
 mod any_due;
+mod done_tick;
 mod few_due;
 mod following;
 mod jobs;

@@ -1,10 +1,9 @@
 //! The numbers of a shard's own realms.
 
-ghost use Rattle.std.specs.Prelude.{◌≡◌, ◌<◌, IfOk, length, vec_len};
+ghost use Rattle.std.specs.Prelude.{◌<◌, IfOk, length, vec_len};
 ghost use Rattle.roam_conf.specs.Shown.{shown};
 ghost use Rattle.roam_book.specs.RealmConfig.{realm_config};
 ghost use Rattle.roam_core.specs.Events.{is_in_shard};
-ghost use Rattle.roam_core.specs.Openings.{start_of};
 ghost use Rattle.roam_shard.specs.NumbersView.{AreOpened, IsOpened};
 ghost use Rattle.roam_shard.specs.ShardView.{AreStarts, IsStart};
 

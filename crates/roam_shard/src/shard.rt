@@ -1,7 +1,7 @@
 //! One shard of the broker: its realms' entries in shared tables.
 
 ghost use Rattle.std.specs.Prelude.{◌≡◌, ◌↔◌, ℕ, ◌+◌, ◌<◌, ◌≤◌, ◌^◌, ◌++◌, [], None, false, true, length};
-ghost use Rattle.std.specs.Prelude.{slice_set, IfOk, IsOk, vec_len};
+ghost use Rattle.std.specs.Prelude.{slice_set, IfOk, IsOk};
 ghost use Rattle.roam_conf.specs.Shown.{shown};
 ghost use Rattle.roam_route.specs.Admission.{admitted};
 ghost use Rattle.roam_route.specs.Events.{IsEvent};
@@ -9,8 +9,8 @@ ghost use Rattle.roam_route.specs.Shown.{shown_job};
 ghost use Rattle.roam_book.specs.OneRealm.{event_of, on_event};
 ghost use Rattle.roam_book.specs.OnTick.{on_tick};
 ghost use Rattle.roam_book.specs.RealmConfig.{realm_config};
-ghost use Rattle.roam_book.specs.Rooms.{IsRoomFor, only_done_due};
-ghost use Rattle.roam_book.specs.Turn.{packets_of, sends, shown_outs, state_after};
+ghost use Rattle.roam_book.specs.Rooms.{IsRoomFor};
+ghost use Rattle.roam_book.specs.Turn.{packets_of, shown_outs, state_after};
 ghost use Rattle.roam_core.specs.Events.{is_in_shard};
 ghost use Rattle.roam_core.specs.ManyRealms.{state_at, tick_from, tick_of, to_arrival, to_tick};
 ghost use Rattle.roam_core.specs.Openings.{openings};
@@ -228,49 +228,6 @@ impl<'c, A: Allocator + Copy> Shard<'c, A> {
             realm += 1;
         }
         both.into_twin()
-    }
-
-    /// A realm's part of a tick at which only done entries are due: they go. Takes no memory.
-    fn let_one_go(&mut self, now: u64, realm: usize)
-        requires there { realm < length self.old.states }
-        requires moment { now ≤ 2 ^ 62 }
-        requires done { is_in_shard self.old.opening.config self.old.opening.shard realm ≡ true
-            → only_done_due now (state_at self.old.states realm).entries ≡ true }
-        ensures turn { tick_of self.old.opening.config now self.old.opening.shard realm
-            (state_at self.old.states realm) ≡ sends [] (state_at self.new.states realm) }
-        ensures states { self.new.states
-            ≡ slice_set self.old.states realm (state_at self.new.states realm) }
-        ensures opening { self.new.opening ≡ self.old.opening }
-    {
-        if self.numbers[realm].is_none() {
-            return;
-        }
-        let settings = RealmSettings::new(self.opening.config, realm as u16);
-        let Some(numbers) = &mut self.numbers[realm] else {
-            unreachable!();
-        };
-        let mut one = RealmBroker {
-            settings: &settings,
-            entries: &mut self.entries,
-            numbers,
-        };
-        one.let_go(now);
-    }
-
-    /// A tick at which only done entries are due: they go, and nothing is sent. Takes no memory.
-    fn let_go(&mut self, now: u64)
-        requires moment { now ≤ 2 ^ 62 }
-        requires done { only_done_from self.old.opening.config now self.old.opening.shard 0
-            self.old.states ≡ true }
-        ensures packets { (tick_from self.old.opening.config now self.old.opening.shard 0
-            self.old.states).packets ≡ [] }
-        ensures states { (tick_from self.old.opening.config now self.old.opening.shard 0
-            self.old.states).states ≡ self.new.states }
-        ensures opening { self.new.opening ≡ self.old.opening }
-    {
-        for realm in 0..self.numbers.len() {
-            self.let_one_go(now, realm);
-        }
     }
 
     /// A tick of the shard, at a moment in milliseconds: its realms in rising index, each of whose due

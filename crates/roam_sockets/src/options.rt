@@ -1,6 +1,6 @@
 //! What is asked of a socket by its number: options, room, and an address as the system takes it.
 
-ghost use Rattle.std.specs.Prelude.{◌≡◌, pos};
+ghost use Rattle.std.specs.Prelude.{pos};
 ghost use Rattle.libc.specs.Net.{SockOption};
 
 use roam_conf::Endpoint;

@@ -31,7 +31,8 @@ use Rattle.roam_tables.proofs.ViewLemmas.{seen_entries, seen_length}
 pub no_more : {X : Type 0} (Each : X → Type 0) (xs : List X) → AreMore Each xs xs
 no_more Each xs = record { more = []; behind = sym (append-nil xs); each = tt }
 
-all-push : {X : Type 0} (P : X → Type 0) (xs : List X) (x : X) → AllByRecursion P xs → P x → AllByRecursion P (xs ++ x ∷ [])
+all-push : {X : Type 0} (P : X → Type 0) (xs : List X) (x : X) → AllByRecursion P xs → P x →
+    AllByRecursion P (xs ++ x ∷ [])
 all-push P [] x all one = (one, tt)
 all-push P (y ∷ ys) x all one = (all.0, all-push P ys x all.1 one)
 
@@ -39,7 +40,8 @@ append_assoc' : {X : Type 0} (xs ys zs : List X) → (xs ++ ys) ++ zs ≡ xs ++ 
 append_assoc' [] ys zs = refl
 append_assoc' (x ∷ xs) ys zs = ap (λ l. x ∷ l) (append_assoc' xs ys zs)
 
-pub one_more : {X : Type 0} (Each : X → Type 0) (old new : List X) (x : X) → AreMore Each old new → Each x → AreMore Each old (new ++ x ∷ [])
+pub one_more : {X : Type 0} (Each : X → Type 0) (old new : List X) (x : X) → AreMore Each old new → Each x →
+    AreMore Each old (new ++ x ∷ [])
 one_more Each old new x are one = record {
   more = are.more ++ x ∷ [];
   behind = ap (λ l. l ++ x ∷ []) are.behind ∙ append_assoc' old are.more (x ∷ []);
@@ -51,7 +53,8 @@ get-append [] ys k lt = absurd (omega arith)
 get-append (x ∷ xs) ys zero lt = refl
 get-append (x ∷ xs) ys (suc k) lt = get-append xs ys k (omega arith)
 
-all-behind : {X : Type 0} (P : X → Type 0) (xs ys : List X) (k : ℕ) (y : X) → length xs ≤ k → AllByRecursion P ys → slice_get (xs ++ ys) k ≡ Some y → P y
+all-behind : {X : Type 0} (P : X → Type 0) (xs ys : List X) (k : ℕ) (y : X) → length xs ≤ k → AllByRecursion P ys →
+    slice_get (xs ++ ys) k ≡ Some y → P y
 all-behind P [] [] k y le all at = absurd (let bad : None ≡ Some y = at in cc)
 all-behind P [] (z ∷ zs) zero y le all at = (let some : Some z ≡ Some y = at in let is : z ≡ y = cc in subst P is all.0)
 all-behind P [] (z ∷ zs) (suc k) y le all at = all-behind P [] zs k y (omega arith) all.1 at
@@ -67,7 +70,8 @@ module _ {A H : Type 0} (s : Slab (Slot A)) (t : IndexMap TicketKey ℕ H)
 
   runs_at : (r : ℕ) (q : RealmQueues A) → slice_get new r ≡ Some q → IsRunsOf (entry_at (place s) (ticket_at t) r) q
   runs_at r q at =
-      let there : slice_get (rs ++ are.more) r ≡ Some q = ap (λ (l : List (RealmQueues A)). slice_get l r) (sym are.behind) ∙ at in
+      let there : slice_get (rs ++ are.more) r ≡ Some q =
+      ap (λ (l : List (RealmQueues A)). slice_get l r) (sym are.behind) ∙ at in
       elim (cases_lt r (length rs)) as (λ _. IsRunsOf (entry_at (place s) (ticket_at t) r) q) [
         | inl lt ↦ sound.runs r q (sym (get-append rs are.more r lt) ∙ there)
         | inr past ↦ runs_of_nothing (entry_at (place s) (ticket_at t) r) q
@@ -90,7 +94,8 @@ module _ {A H : Type 0} (s : Slab (Slot A)) (t : IndexMap TicketKey ℕ H)
 
     pub more_realms : length v ≤ length w
     more_realms =
-        (let one = seen_length s t c rs sound v is in let two = seen_length s t c new more_sound w seen in let le = longer in omega (arith, one, two, le))
+        (let one = seen_length s t c rs sound v is in let two = seen_length s t c new more_sound w seen in let le =
+        longer in omega (arith, one, two, le))
 
     pub many_realms : (n : ℕ) → n ≤ length new → n ≤ length w
     many_realms n le = (let two = seen_length s t c new more_sound w seen in omega (arith, two, le))
@@ -105,7 +110,8 @@ not_empty d (x ∷ xs) = by (is_before x d) refl
     by true e = (x, (into d xs, rw e refl))
     by false e = (d, (x ∷ xs, rw e refl))
 
-some_due : (now : ℕ) (e : PlainEntry) (es : List PlainEntry) → is_due now e ≡ true → (d : Due) × (due_after now None (e ∷ es) ≡ Some d)
+some_due : (now : ℕ) (e : PlainEntry) (es : List PlainEntry) → is_due now e ≡ true → (d : Due)
+    × (due_after now None (e ∷ es) ≡ Some d)
 some_due now e es due =
     let first = not_empty (due_at e) (due_list now es) in
     (first.0, rw (due, first.1.1) refl)
@@ -135,22 +141,22 @@ in-found e (x ∷ xs) order (inr later) =
     let lt = all-in (λ (y : PlainEntry). x.ticket < y.ticket) xs e order.0 later in
     rw (differs x.ticket e.ticket (λ eq. absurd (omega (arith, lt, eq)))) (in-found e xs order.1 later)
 
-pub ticket_of_due : (now : ℕ) (es : List PlainEntry) (d : Due) → IsEntryList es → Some d ≡ due_after now None es → HasTicket es d.ticket
+pub ticket_of_due : (now : ℕ) (es : List PlainEntry) (d : Due) → IsEntryList es → Some d ≡ due_after now None es →
+    HasTicket es d.ticket
 ticket_of_due now es d list at =
     let held = find-first d (due_list now es) (sym at) in
     let found = due-in now es d held in
     record {
       entry = found.0;
-      found = ap (λ (x : Due). find_ticket x.ticket es) (sym found.1.at) ∙ in-found found.0 es list.in_order found.1.held;
+      found = ap (λ (x : Due). find_ticket x.ticket es) (sym found.1.at)
+          ∙ in-found found.0 es list.in_order found.1.held;
     }
 
 -- one entry fewer
-pub one_fewer : (es fs : List PlainEntry) (ticket : ℕ) → IsEntryList es → HasTicket es ticket → fs ≡ without ticket es → length fs + 1 ≡ length es
-one_fewer es fs ticket list has is = ap (λ (l : List PlainEntry). length l + 1) is ∙ length-without ticket es has.entry list.in_order has.found
-
-pub nothing_left : (es : List PlainEntry) → length es ≡ 0 → es ≡ []
-nothing_left [] is = refl
-nothing_left (e ∷ es) is = absurd (omega (arith, is))
+pub one_fewer : (es fs : List PlainEntry) (ticket : ℕ) → IsEntryList es → HasTicket es ticket →
+    fs ≡ without ticket es → length fs + 1 ≡ length es
+one_fewer es fs ticket list has is = ap (λ (l : List PlainEntry). length l + 1) is
+    ∙ length-without ticket es has.entry list.in_order has.found
 
 -- the entries of a realm are fewer by one, and those of others are as they were
 pub record IsLess (v w : List RealmView) (r : ℕ) : Type 0 where
@@ -169,11 +175,13 @@ less_one v w r t list has becomes realms = record {
 pub less_none : (v w : List RealmView) (r : ℕ) → w ≡ v → entries_in v r ≡ [] → IsLess v w r
 less_none v w r is none = rw is (record { fewer = inr none; others = λ q ne. refl; realms = refl })
 
-pub less_than : (v w : List RealmView) (r n k : ℕ) → IsLess v w r → length (entries_in v r) + k ≤ n → k < n → length (entries_in w r) + (k + 1) ≤ n
+pub less_than : (v w : List RealmView) (r n k : ℕ) → IsLess v w r → length (entries_in v r) + k ≤ n → k < n →
+    length (entries_in w r) + (k + 1) ≤ n
 less_than v w r n k less le lt = elim less.fewer as (λ _. length (entries_in w r) + (k + 1) ≤ n) [
   | inl fewer ↦ omega (arith, fewer, le)
   | inr none ↦ (let zero' = ap length none in omega (arith, zero', lt))
 ]
 
-pub less_others : (u v w : List RealmView) (r : ℕ) → IsLess v w r → ((q : ℕ) → q ≢ r → entries_in v q ≡ entries_in u q) → (q : ℕ) → q ≢ r → entries_in w q ≡ entries_in u q
+pub less_others : (u v w : List RealmView) (r : ℕ) → IsLess v w r →
+    ((q : ℕ) → q ≢ r → entries_in v q ≡ entries_in u q) → (q : ℕ) → q ≢ r → entries_in w q ≡ entries_in u q
 less_others u v w r less others q ne = less.others q ne ∙ others q ne

@@ -17,7 +17,7 @@ use Rattle.roam_pending.specs.declared.due.Due.{Due}
 use Rattle.roam_pending.specs.DueOrder.{is_after, is_before}
 use Rattle.roam_pending.specs.EntryList.{is_beside}
 use Rattle.roam_pending.specs.ListLaws.{IsIn}
-use Rattle.roam_tables.specs.Private.Rising.{due_cmp, Rises, IsGap, IsAt, IsPlaceOf, Adds, Drops, IsNext, NoneNext, IsNextOf, AmongRun, AmongBoth, IsLeastBesides, IsStart}
+use Rattle.roam_tables.specs.Private.Rising.{due_cmp, Rises, IsGap, IsAt, IsPlaceOf, Adds, Drops, IsNext, NoneNext, AmongRun, IsLeastBesides, IsStart}
 
 pub due_total : IsTotalOrder due_cmp
 due_total =
@@ -250,14 +250,16 @@ module _ {X : Type 0} (cmp : X → X → Ordering) (total : IsTotalOrder cmp) wh
       later ys up.1 j k d e (omega arith) (omega arith)
 
   -- what comes after the last one comes after all
-  pub gap_behind : (xs : List X) (x last : X) (n : ℕ) → Rises cmp xs → 0 < n → n ≡ length xs → last ≡ get_or xs (n - 1) last → cmp last x ≡ Less → IsGap cmp xs x n
+  pub gap_behind : (xs : List X) (x last : X) (n : ℕ) → Rises cmp xs → 0 < n → n ≡ length xs →
+      last ≡ get_or xs (n - 1) last → cmp last x ≡ Less → IsGap cmp xs x n
   gap_behind xs x last n up some len at less = record {
     within = omega (arith, len);
     low = λ k d lt. elim (cases_lt k (n - 1)) as (λ _. cmp (get_or xs k d) x ≡ Less) [
       | inl before ↦ (let lower = later xs up k (n - 1) d last before (omega (arith, len, some)) in
           total.trans (get_or xs k d) last x (subst (λ z. cmp (get_or xs k d) z ≡ Less) (sym at) lower) less)
       | inr ge ↦ (let same : k ≡ n - 1 = omega (arith, ge, lt) in
-          let is : get_or xs k d ≡ last = any_default xs k d last (omega (arith, len, lt)) ∙ ap (λ (m : ℕ). get_or xs m last) same ∙ sym at in
+          let is : get_or xs k d ≡ last = any_default xs k d last (omega (arith, len, lt))
+          ∙ ap (λ (m : ℕ). get_or xs m last) same ∙ sym at in
           subst (λ z. cmp z x ≡ Less) (sym is) less)
     ];
     high = λ k d ge lt. absurd (omega (arith, ge, lt, len));
@@ -268,26 +270,11 @@ module _ {X : Type 0} (cmp : X → X → Ordering) (total : IsTotalOrder cmp) wh
 pub due_less_before : (a b : Due) → due_cmp a b ≡ Less → is_before a b ≡ true
 due_less_before a b h = grind (arith, nat_tests, common_steps)
 
-due_before_less : (a b : Due) → is_before a b ≡ true → due_cmp a b ≡ Less
-due_before_less a b h = grind (arith, nat_tests, common_steps)
-
-due_greater_not : (a b : Due) → due_cmp a b ≡ Greater → is_before b a ≡ true
-due_greater_not a b h = grind (arith, nat_tests, common_steps)
-
 due_not_before : (a b : Due) → due_cmp a b ≡ Less → is_before b a ≡ false
 due_not_before a b h = grind (arith, nat_tests, common_steps)
 
 due_not_itself : (a : Due) → is_before a a ≡ false
 due_not_itself a = grind (arith, nat_tests)
-
-pub start_none : (xs : List Due) → IsStart None xs 0
-start_none xs = record { low = λ k d lt within. absurd (omega arith); high = λ k d ge within. refl }
-
-pub start_gap : (xs : List Due) (l : Due) (i : ℕ) → IsGap due_cmp xs l i → IsStart (Some l) xs i
-start_gap xs l i gap = record {
-  low = λ k d lt within. due_not_before (get_or xs k d) l (gap.low k d lt);
-  high = λ k d ge within. due_greater_not (get_or xs k d) l (gap.high k d ge within);
-}
 
 pub start_at : (xs : List Due) (l : Due) (i : ℕ) → Rises due_cmp xs → IsAt due_cmp xs l i
     → IsStart (Some l) xs (i + 1)
@@ -345,87 +332,12 @@ module _ {X : Type 0} (cmp : X → X → Ordering) (total : IsTotalOrder cmp) wh
 
 -- The first of two runs
 
-both_none : (last : Option Due) (xs ys : List Due) → NoneNext last (AmongRun xs)
-    → NoneNext last (AmongRun ys) → NoneNext last (AmongBoth xs ys)
-both_none last xs ys a b x held =
-    elim held as (λ _. is_after last x ≡ false) [ inl l ↦ a x l | inr r ↦ b x r ]
-
-both_left : (last : Option Due) (xs ys : List Due) (d : Due) → IsNext last (AmongRun xs) d
-    → ((x : Due) → IsIn x ys → is_after last x ≡ true → (d ≡ x) ⊎ (due_cmp d x ≡ Less))
-    → IsNext last (AmongBoth xs ys) d
-both_left last xs ys d a rest = record {
-  held = inl a.held;
-  after = a.after;
-  first =
-      λ x held after. elim held as (λ _. (d ≡ x) ⊎ (due_cmp d x ≡ Less))
-      [ inl l ↦ a.first x l after | inr r ↦ rest x r after ];
-}
-
-both_right : (last : Option Due) (xs ys : List Due) (d : Due) → IsNext last (AmongRun ys) d
-    → ((x : Due) → IsIn x xs → is_after last x ≡ true → (d ≡ x) ⊎ (due_cmp d x ≡ Less))
-    → IsNext last (AmongBoth xs ys) d
-both_right last xs ys d a rest = record {
-  held = inr a.held;
-  after = a.after;
-  first =
-      λ x held after. elim held as (λ _. (d ≡ x) ⊎ (due_cmp d x ≡ Less))
-      [ inl l ↦ rest x l after | inr r ↦ a.first x r after ];
-}
-
-not_after_none : (last : Option Due) (xs : List Due) (d : Due) → NoneNext last (AmongRun xs)
-    → (x : Due) → IsIn x xs → is_after last x ≡ true → (d ≡ x) ⊎ (due_cmp d x ≡ Less)
-not_after_none last xs d none x held after =
-    absurd (let k : true ≡ false = sym after ∙ none x held in cc)
-
 further : (d e x : Due) → due_cmp d e ≡ Less → (e ≡ x) ⊎ (due_cmp e x ≡ Less)
     → (d ≡ x) ⊎ (due_cmp d x ≡ Less)
 further d e x lt h = elim h as (λ _. (d ≡ x) ⊎ (due_cmp d x ≡ Less)) [
   | inl is ↦ inr (subst (λ z. due_cmp d z ≡ Less) is lt)
   | inr more ↦ inr (due_total.trans d e x lt more)
 ]
-
-pub next_neither : (last : Option Due) (xs ys : List Due) (o : Option Due)
-    → NoneNext last (AmongRun xs) → IsNextOf last (AmongRun ys) o
-    → IsNextOf last (AmongBoth xs ys) o
-next_neither last xs ys None a b = both_none last xs ys a b
-next_neither last xs ys (Some d) a b = both_right last xs ys d b (not_after_none last xs d a)
-
-pub next_first : (last : Option Due) (xs ys : List Due) (d : Due) → IsNext last (AmongRun xs) d
-    → NoneNext last (AmongRun ys) → IsNext last (AmongBoth xs ys) d
-next_first last xs ys d a b = both_left last xs ys d a (not_after_none last ys d b)
-
-pub next_second_first : (last : Option Due) (xs ys : List Due) (a b : Due)
-    → IsNext last (AmongRun xs) a → IsNext last (AmongRun ys) b → due_cmp b a ≡ Less
-    → IsNext last (AmongBoth xs ys) b
-next_second_first last xs ys a b ha hb lt =
-    both_right last xs ys b hb (λ x held after. further b a x lt (ha.first x held after))
-
-pub next_first_first : (last : Option Due) (xs ys : List Due) (a b : Due)
-    → IsNext last (AmongRun xs) a → IsNext last (AmongRun ys) b → (a ≡ b) ⊎ (due_cmp a b ≡ Less)
-    → IsNext last (AmongBoth xs ys) a
-next_first_first last xs ys a b ha hb h =
-    both_left last xs ys a ha (λ x held after. elim h as (λ _. (a ≡ x) ⊎ (due_cmp a x ≡ Less)) [
-      | inl is ↦ subst (λ z. (z ≡ x) ⊎ (due_cmp z x ≡ Less)) (sym is) (hb.first x held after)
-      | inr lt ↦ further a b x lt (hb.first x held after)
-    ])
-
-pub not_less_due : (a b : Due) → is_lt (due_cmp b a) ≡ false → (a ≡ b) ⊎ (due_cmp a b ≡ Less)
-not_less_due a b h = by (due_cmp a b) refl
-  where
-    by : (o : Ordering) → due_cmp a b ≡ o → (a ≡ b) ⊎ (due_cmp a b ≡ Less)
-    by Less e = inr e
-    by Equal e = inl (due_same a b e)
-    by Greater e =
-        let less : due_cmp b a ≡ Less = due_total.antisymm b a ∙ ap ordering_reverse e in
-        absurd (let k : true ≡ false = sym (ap is_lt less) ∙ h in cc)
-
-pub less_due : (a b : Due) → is_lt (due_cmp b a) ≡ true → due_cmp b a ≡ Less
-less_due a b h = by (due_cmp b a) refl
-  where
-    by : (o : Ordering) → due_cmp b a ≡ o → due_cmp b a ≡ Less
-    by Less e = e
-    by Equal e = absurd (let k : false ≡ true = sym (ap is_lt e) ∙ h in cc)
-    by Greater e = absurd (let k : false ≡ true = sym (ap is_lt e) ∙ h in cc)
 
 -- The least ticket besides one
 
@@ -482,21 +394,6 @@ second_beside o (z ∷ w ∷ ws) x y up at h next =
         ]
       ];
     }
-
-pub none_beside : (o : Option ℕ) (xs : List ℕ) → slice_get xs 0 ≡ None → (y : ℕ) → IsIn y xs
-    → is_beside o y ≡ false
-none_beside o [] at y held = absurd held
-none_beside o (z ∷ zs) at y held = absurd (let k : Some z ≡ None = at in cc)
-
-pub only_gone : (o : Option ℕ) (xs : List ℕ) (x : ℕ) → slice_get xs 0 ≡ Some x
-    → is_beside o x ≡ false → slice_get xs 1 ≡ None → (y : ℕ) → IsIn y xs → is_beside o y ≡ false
-only_gone o [] x at h next y held = absurd held
-only_gone o (z ∷ []) x at h next y held = elim held as (λ _. is_beside o y ≡ false) [
-  | inl e ↦ (let is : z ≡ x = (let k : Some z ≡ Some x = at in cc) in
-      subst (λ n. is_beside o n ≡ false) (sym is ∙ e) h)
-  | inr bad ↦ absurd bad
-]
-only_gone o (z ∷ w ∷ ws) x at h next y held = absurd (let k : Some w ≡ None = next in cc)
 
 pub less_ticket : (a b : ℕ) → nat_lt a b ≡ true → nat_cmp a b ≡ Less
 less_ticket a b h = grind (arith, nat_tests, common_steps)

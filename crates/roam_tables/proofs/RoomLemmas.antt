@@ -7,18 +7,12 @@ use Rattle.roam_tables.specs.declared.realm_queues.RealmQueues.{RealmQueues}
 use Rattle.roam_tables.specs.Private.Marks.{held, Holds, HoldsAsMany}
 use Rattle.roam_tables.specs.Stands.{AtRealm, least_room, runs_room}
 
-less_of_three : (a b c h : ℕ) → h + 1 ≤ a → h + 1 ≤ b → h + 1 ≤ c → 0 < min a (min b c) - h
-less_of_three a b c h x y z = omega arith
-
 least_three : (a b c h : ℕ) → 0 < min a (min b c) - h → (h + 1 ≤ a) × (h + 1 ≤ b) × (h + 1 ≤ c)
 least_three a b c h x = (omega arith, omega arith, omega arith)
 
 three_fewer : (a b c h a2 b2 c2 h2 n : ℕ) → a ≤ a2 → b ≤ b2 → c ≤ c2 → h2 ≤ h + n
     → min a (min b c) - h ≤ (min a2 (min b2 c2) - h2) + n
 three_fewer a b c h a2 b2 c2 h2 n x y z w = omega arith
-
-pub four_positive : (a b c d : ℕ) → 0 < a → 0 < b → 0 < c → 0 < d → 0 < least_room a b c d
-four_positive a b c d x y z w = omega arith
 
 pub each_positive : (a b c d : ℕ) → 0 < least_room a b c d → (0 < a) × (0 < b) × (0 < c) × (0 < d)
 each_positive a b c d h = (omega arith, omega arith, omega arith, omega arith)
@@ -33,11 +27,6 @@ four_fewer a b c d a2 b2 c2 d2 n x y z w =
     (two_fewer c d c2 d2 n z w)
 
 module _ {A : Type 0} where
-  pub holds_room : (q : RealmQueues A) → Holds q (held q + 1) → 0 < runs_room (Some q)
-  holds_room q h =
-      less_of_three (deque_capacity q.waits) (deque_capacity q.holds) (deque_capacity q.tickets)
-      (held q) h.waits h.holds h.tickets
-
   pub room_holds : (q : RealmQueues A) → 0 < runs_room (Some q) → Holds q (held q + 1)
   room_holds q h = (
       let k = least_three (deque_capacity q.waits) (deque_capacity q.holds)

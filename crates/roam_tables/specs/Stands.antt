@@ -74,7 +74,8 @@ abbrev pub least_room : ℕ → ℕ → ℕ → ℕ → ℕ
 least_room a b c d = min (min a b) (min c d)
 
 -- the tables agree
-pub record Sound {A : Type 0} (S : ℕ → Option Stored) (T : TicketKey → Option ℕ) (C : ClientKey → Option ℕ) (rs : List (RealmQueues A)) : Type 0 where
+pub record Sound {A : Type 0} (S : ℕ → Option Stored) (T : TicketKey → Option ℕ) (C : ClientKey →
+    Option ℕ) (rs : List (RealmQueues A)) : Type 0 where
   pub tickets : IsIndex ticket_key S T
   pub clients : IsIndex client_key S C
   pub within : (i : ℕ) (x : Stored) → S i ≡ Some x → x.realm < length rs
@@ -98,7 +99,8 @@ pub record AreMore {X : Type 0} (Each : X → Type 0) (old new : List X) : Type 
   pub each : AllByRecursion Each more
 
 -- for how many entries more of a realm there is room without memory
-abbrev pub room_at : {A H : Type 0} → Slab (Slot A) → IndexMap TicketKey ℕ H → IndexMap ClientKey ℕ H → List (RealmQueues A) → ℕ → ℕ
+abbrev pub room_at : {A H : Type 0} → Slab (Slot A) → IndexMap TicketKey ℕ H → IndexMap ClientKey ℕ H →
+    List (RealmQueues A) → ℕ → ℕ
 room_at s t c rs r = least_room (slab_room s) (spare t) (spare c) (runs_room (slice_get rs r))
 
 -- a realm's entries, and for how many more of it there is room
@@ -112,7 +114,8 @@ views_from E room r zero = []
 views_from E room r (suc n) = record { entries = E r; room = room r } ∷ views_from E room (r + 1) n
 
 -- what the tables show: each realm that is kept here
-abbrev pub tables_view : {A H : Type 0} → Slab (Slot A) → IndexMap TicketKey ℕ H → IndexMap ClientKey ℕ H → List (RealmQueues A) → List RealmView
+abbrev pub tables_view : {A H : Type 0} → Slab (Slot A) → IndexMap TicketKey ℕ H → IndexMap ClientKey ℕ H →
+    List (RealmQueues A) → List RealmView
 tables_view s t c rs = views_from (entries_at (place s) (ticket_at t)) (room_at s t c rs) 0 (length rs)
 
 -- the realm of an index there: one that isn't kept has no entries and no room

@@ -12,14 +12,14 @@ use std::alloc::Allocator;
 use std::hash::{BuildHasherDefault, FoldHasher};
 
 /// A ticket of a realm.
-#[derive(Clone, Copy, Debug, PartialEq, Eq, Hash)]
+#[derive(Clone, Copy, PartialEq, Eq, Hash)]
 pub(crate) struct TicketKey {
     pub realm: u16,
     pub ticket: u64,
 }
 
 /// A request's key in a realm.
-#[derive(Clone, Copy, Debug, PartialEq, Eq, Hash)]
+#[derive(Clone, Copy, PartialEq, Eq, Hash)]
 pub(crate) struct ClientKey {
     pub realm: u16,
     pub key: Key,

@@ -1,6 +1,6 @@
 //! The runs of a realm: when its entries are due, and which may make way.
 
-ghost use Rattle.std.specs.Prelude.{◌≡◌, ◌⊎◌, ◌+◌, OnOk, IsOk};
+ghost use Rattle.std.specs.Prelude.{◌≡◌, ◌+◌, OnOk, IsOk};
 ghost use Rattle.roam_pending.specs.EntryList.{is_beside};
 ghost use Rattle.roam_tables.specs.Private.Rising.{AmongBoth, IsFirstBesides, IsNextOf};
 ghost use Rattle.roam_tables.specs.Private.Marks.{AllRise, AreEmpty, CanEnter, CanLeave, Changes, Enters, Holds};

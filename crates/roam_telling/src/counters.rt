@@ -1,7 +1,5 @@
 //! What a server counts: each of its threads apart.
 
-ghost use Rattle.std.specs.Prelude.{◌≡◌, IfOk, vec_len};
-
 use roam_conf::{Config, Realm};
 use roam_counters::{CountedEvent, EVENTS, Layout, Process, RequestKind, Subject};
 use roam_metrics::{Counts, Gauge};

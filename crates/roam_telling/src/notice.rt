@@ -10,7 +10,7 @@ use roam_port::LossCause;
 use roam_sockets::Reason;
 
 /// What is told on standard error.
-#[derive(Clone, Copy, Debug, PartialEq, Eq)]
+#[derive(Clone, Copy, PartialEq, Eq)]
 pub enum Notice {
     /// Arrivals or ticks were refused.
     Refused(RefusalCount),

@@ -7,7 +7,7 @@ use crate::attribute_grammar::split_attribute;
 use std::marker::Model;
 
 /// An attribute of a packet, looked at where it lies (RFC 2865, section 5).
-#[derive(Clone, Copy, Debug, PartialEq, Eq)]
+#[derive(Clone, Copy, PartialEq, Eq)]
 pub struct Attr<'a> {
     /// The attribute's Type.
     pub kind: u8,

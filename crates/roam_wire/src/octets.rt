@@ -26,7 +26,7 @@ impl<A: Allocator> Octets<A> {
         Octets { octets }
     }
 
-    /// The `Vec` again. Takes no memory.
+    /// For tests. The `Vec` again. Takes no memory.
     pub fn into_vec(self) -> Vec<u8, A>
         ensures { result.items ≡ self }
     {

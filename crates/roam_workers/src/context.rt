@@ -3,9 +3,9 @@
 ghost use Rattle.std.specs.Prelude.{◌≡◌};
 ghost use Rattle.roam_route.specs.Events.{IsEvent};
 ghost use Rattle.roam_route.specs.Shown.{shown_job};
-ghost use Rattle.roam_workers.specs.Requests as requests;
 ghost use Rattle.roam_workers.specs.Remedies as remedies;
 
+use crate::codes::is_request;
 use crate::ending::{Ending, WorkerEnd};
 use crate::outgoing::Outgoing;
 use crate::shared::Shared;
@@ -15,9 +15,6 @@ use roam_route::{Datagram, Job, Prepared, prepare};
 use roam_sockets::now;
 use roam_telling::{Counting, Exchanges, Notices, origin_of, turn_of};
 use roam_wire::Refusal;
-use roam_wire::code::{
-    ACCESS_REQUEST, ACCOUNTING_REQUEST, COA_REQUEST, DISCONNECT_REQUEST, STATUS_SERVER,
-};
 use std::alloc::Global;
 use std::sync::Wait;
 use std::time::Clock;
@@ -35,24 +32,8 @@ pub struct WorkerContext<'s, 'c, G, N: Opened> {
     pub now: u64,
 }
 
-/// Whether a datagram is a request, by its code (RFC 2865 section 3, RFC 5997 section 3, RFC 5176 section 2.3).
-fn is_request(octets: &[u8]) -> bool
-    ensures { result ≡ requests.is_request octets.now }
-{
-    match octets.first() {
-        Some(code) => {
-            *code == ACCESS_REQUEST
-                || *code == ACCOUNTING_REQUEST
-                || *code == STATUS_SERVER
-                || *code == DISCONNECT_REQUEST
-                || *code == COA_REQUEST
-        }
-        None => false,
-    }
-}
-
 /// What is done about a call that isn't recorded.
-#[derive(Clone, Copy, Debug, PartialEq, Eq)]
+#[derive(Clone, Copy, PartialEq, Eq)]
 pub enum Remedy {
     /// The stored steps of its shard are let go of, and the same call is made again.
     LetGo,

@@ -8,7 +8,7 @@ use roam_port::Outbox;
 use std::alloc::Global;
 
 /// Why a worker ended.
-#[derive(Clone, Copy, Debug, PartialEq, Eq)]
+#[derive(Clone, Copy, PartialEq, Eq)]
 pub enum Ending {
     /// Another one ended.
     Stopped,

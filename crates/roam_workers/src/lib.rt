@@ -13,8 +13,10 @@
 //! - which remedy there is for a call that a hub doesn't record: where the history is full it is let go of,
 //!   each time; out of memory it is, once; else the call is refused. That the same event is handed in again is
 //!   the loop's code | `remedy_for`
+//! - which datagrams are dropped where the server is asked to stop: requests, by their code | `is_request`
 #![tactic(auto)]
 
+mod codes;
 mod context;
 mod ending;
 mod exchange_ends;

@@ -1,6 +1,6 @@
 //! Stored steps that were let go of, which a thread frees beside the workers.
 
-ghost use Rattle.std.specs.Prelude.{◌≡◌, ◌<◌, vec_len, vec_capacity, IsNone, IsSome, IfSome, ◌++◌, ◌∷◌, []};
+ghost use Rattle.std.specs.Prelude.{◌<◌, []};
 
 use roam_trace::Step;
 use std::alloc::{AllocError, Global};

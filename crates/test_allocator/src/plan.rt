@@ -1,7 +1,7 @@
 //! Which growth is to be refused, as a value.
 
 ghost use Rattle.test_allocator.specs.Refusal.{HasRefused, HasRunOut, IsRefused};
-ghost use Rattle.std.specs.Prelude.{◌≡◌, ℕ, ◌+◌, ◌-◌, ◌^◌, ◌<◌, ◌↔◌, IsTrue};
+ghost use Rattle.std.specs.Prelude.{◌≡◌, ◌+◌, ◌-◌, ◌^◌, ◌<◌, ◌↔◌, IsTrue};
 
 /// Which growth is to be refused, and how many were asked for since that was said.
 #[derive(Clone, Copy)]

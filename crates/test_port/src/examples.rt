@@ -1,6 +1,6 @@
 //! All examples, in one test: a test costs the proof more than an example.
 
-use crate::{listening_tests, ring_tests, sending_tests, sockets_tests};
+use crate::{listening_tests, sending_tests, sockets_tests};
 use std::test::Fail;
 
 #[test]
@@ -8,11 +8,6 @@ fn all_examples(rt: HostRuntime) -> Result<(), Fail> {
     listening_tests::hundred_faults_in_a_row_give_up(&rt)?;
     listening_tests::datagram_without_memory_is_lost(&rt)?;
     listening_tests::silence_ends_a_row_of_faults(&rt)?;
-    ring_tests::ring_holds_1024_packets_in_order(&rt)?;
-    ring_tests::packets_outlive_their_worker(&rt)?;
-    ring_tests::room_is_what_no_packet_takes(&rt)?;
-    ring_tests::two_packets_go_through(&rt)?;
-    ring_tests::each_growth_of_a_ring(&rt)?;
     sending_tests::packet_whose_send_fails_is_lost_and_counted(&rt)?;
     sending_tests::packets_whose_socket_has_no_room_stand_aside_in_order(&rt)?;
     sending_tests::each_fault_counts_as_its_own(&rt)?;

@@ -2,13 +2,13 @@
 //! stores its history too.
 
 use crate::player::Over;
-use crate::traces::Traces;
 use roam_book::Answer;
 use roam_conf::Config;
 use roam_core::{Broker, Event, Outcome, Stepper, run};
 use roam_hub::HubFault;
 use roam_shard::Shards;
 use roam_wire::NoMemory;
+use test_brokers::Traces;
 
 /// How the broker that plays keeps its entries.
 #[derive(Clone, Copy, PartialEq, Eq)]

@@ -1,11 +1,11 @@
 //! Growths of events refused in turn: the call answers want of memory, and then all is as if it had never been made.
 
-use crate::answers::WANTING;
 use crate::brokers::Playing;
 use crate::player::{Over, Player};
 use crate::row::{Row, Step};
 use roam_conf::Config;
 use std::mem::swap;
+use test_brokers::WANTING;
 
 impl<'p, 'r> Player<'p, 'r> {
     /// Plays the probes of an event.

@@ -7,8 +7,6 @@ ghost use Rattle.roam_shard.specs.ShardView.{AreStarts};
 ghost use Rattle.roam_history.specs.HubOpening.{fresh_opening};
 ghost use Rattle.roam_history.specs.Books.{books_of, count_of};
 
-use crate::answers::{WANTING, is_taken, print_answer, print_fault};
-use crate::caller::{Caller, Given};
 use crate::player::{Over, Player};
 use crate::row::{Row, Step};
 use crate::stored::{are_stored, count_of};
@@ -18,6 +16,7 @@ use roam_hub::{Blanks, Hub, Opened, Receipt, Report, Seat};
 use roam_shard::first_starts;
 use std::marker::Brand;
 use std::sync::Wait;
+use test_brokers::{Caller, Given, WANTING, is_taken, print_answer, print_fault};
 
 /// The most steps that a trace can hold. No row has as many events, with its probes after each growth refused.
 pub(crate) const MOST_STEPS: u32 = 1_000_000;

@@ -1,7 +1,6 @@
 //! Growths of whole runs refused in turn: an event is lost, and the packets are those of the others; or nothing comes of
 //! the run.
 
-use crate::answers::print_packets;
 use crate::brokers::{Kept, Playing};
 use crate::player::{Over, Player};
 use crate::row::Row;
@@ -10,6 +9,7 @@ use roam_core::{Event, Outcome};
 use roam_sim::simulate;
 use roam_wire::NoMemory;
 use std::io;
+use test_brokers::print_packets;
 
 /// What no run writes.
 const NONE: &str = "no such event";

@@ -6,10 +6,7 @@
 //! at the steps that a broker over traces stored.
 #![tactic(auto)]
 
-mod answers;
 mod brokers;
-mod caller;
-mod early;
 mod faulty;
 mod files;
 mod growths;
@@ -20,7 +17,6 @@ mod playing;
 mod row;
 mod stored;
 mod tally;
-mod traces;
 
 use crate::brokers::Kept;
 use crate::player::Player;

@@ -1,6 +1,5 @@
 //! What plays rows: it compares answers with the row, and tells what differs.
 
-use crate::answers::{first_difference, is_taken, print_answer, print_fault};
 use crate::brokers::{Kept, Playing};
 use crate::row::Step;
 use crate::tally::Tally;
@@ -9,6 +8,7 @@ use roam_conf::Config;
 use std::alloc::Global;
 use std::io;
 use test_allocator::Refusing;
+use test_brokers::{first_difference, is_taken, print_answer, print_fault};
 
 /// The allocator over which brokers and events grow.
 pub(crate) type Over<'r> = &'r Refusing<Global>;

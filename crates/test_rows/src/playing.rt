@@ -1,6 +1,5 @@
 //! Playing a row with memory: event by event, as a simulation, and in one run.
 
-use crate::answers::{is_taken, print_packets};
 use crate::brokers::Kept;
 use crate::player::{Over, Player};
 use crate::row::{Row, Step};
@@ -8,6 +7,7 @@ use roam_conf::Config;
 use roam_core::Event;
 use roam_sim::sim;
 use std::io::Write;
+use test_brokers::{is_taken, print_packets};
 
 impl<'p, 'r> Player<'p, 'r> {
     /// Tells how many growths an event asked for.

@@ -1,6 +1,5 @@
 //! The steps that a broker over traces stored: those of the events that were taken, with their answers.
 
-use crate::answers::is_taken;
 use crate::brokers::Playing;
 use crate::player::{Over, Player};
 use crate::row::{Row, Step};
@@ -11,6 +10,7 @@ use roam_route::Datagram;
 use roam_trace::Step as Stored;
 use roam_wire::Octets;
 use std::alloc::Allocator;
+use test_brokers::is_taken;
 
 /// The stored steps of each shard, and how many of them were found.
 #[derive(Drop)]

@@ -30,7 +30,7 @@ pub trait Source {
 }
 
 /// No other configuration ever follows.
-#[derive(Clone, Copy, Debug)]
+#[derive(Clone, Copy)]
 pub struct NoSource {
     pub alloc: Global,
 }

@@ -20,10 +20,12 @@ loop-place-preserved g c =
     let event = shown_event c.index-events-place.result in
     let within : c.loop-place.place < length events = omega (arith, length-map c.args.events.now shown_event) in
     let at : get_or events c.loop-place.place event ≡ event =
-    get_or-map shown_event c.args.events.now c.loop-place.place c.index-events-place.result ∙ ap shown_event (sym c.index-events-place.is) in
+    get_or-map shown_event c.args.events.now c.loop-place.place c.index-events-place.result
+    ∙ ap shown_event (sym c.index-events-place.is) in
     elim c.match-step.branch [
       | in-Ok+in_ok-append_all-in-Ok w ↦
-          let all : shown_outs (c.loop-place.outs.items ++ w.in-Ok.answer.outs.items) ≡ shown_outs c.loop-place.outs.items ++ shown_outs w.in-Ok.answer.outs.items =
+          let all : shown_outs (c.loop-place.outs.items ++ w.in-Ok.answer.outs.items)
+          ≡ shown_outs c.loop-place.outs.items ++ shown_outs w.in-Ok.answer.outs.items =
           map-append shown_out c.loop-place.outs.items w.in-Ok.answer.outs.items in
           rw (w.outs-is, w.lost-is, w.in_ok-append_all-in-Ok.ensures, all)
           (record {
@@ -50,11 +52,13 @@ loop-place-preserved g c =
 
 pub returns-clause-isolated_from_start : goal.returns-clause-isolated_from_start
 returns-clause-isolated_from_start g c starts begin =
-    (has_run_all _ _ _ _ _ _ _ _ (omega (arith, length-map c.args.events.now shown_event)) c.loop-place.invariant.has_run).from_start starts begin
+    (has_run_all _ _ _ _ _ _ _ _ (omega (arith, length-map c.args.events.now shown_event))
+    c.loop-place.invariant.has_run).from_start starts begin
 
 pub returns-clause-provenance : goal.returns-clause-provenance
 returns-clause-provenance g c starts begin =
-    (has_run_all _ _ _ _ _ _ _ _ (omega (arith, length-map c.args.events.now shown_event)) c.loop-place.invariant.has_run).provenance starts begin
+    (has_run_all _ _ _ _ _ _ _ _ (omega (arith, length-map c.args.events.now shown_event))
+    c.loop-place.invariant.has_run).provenance starts begin
 
 pub returns-clause-given : goal.returns-clause-given
 returns-clause-given g c =
@@ -64,23 +68,28 @@ returns-clause-given g c =
 pub returns-clause-lost : goal.returns-clause-lost
 returns-clause-lost g c =
     subst (λ (count : ℕ). ArePlaces count c.loop-place.lost.items) (length-map c.args.events.now shown_event)
-    (has_run_all _ _ _ _ _ _ _ _ (omega (arith, length-map c.args.events.now shown_event)) c.loop-place.invariant.has_run).places
+    (has_run_all _ _ _ _ _ _ _ _ (omega (arith, length-map c.args.events.now shown_event))
+    c.loop-place.invariant.has_run).places
 
 pub returns-clause-isolated : goal.returns-clause-isolated
 returns-clause-isolated g c =
-    (has_run_all _ _ _ _ _ _ _ _ (omega (arith, length-map c.args.events.now shown_event)) c.loop-place.invariant.has_run).isolated
+    (has_run_all _ _ _ _ _ _ _ _ (omega (arith, length-map c.args.events.now shown_event))
+    c.loop-place.invariant.has_run).isolated
 
 pub returns-clause-lost_for_itself : goal.returns-clause-lost_for_itself
 returns-clause-lost_for_itself g c =
-    (has_run_all _ _ _ _ _ _ _ _ (omega (arith, length-map c.args.events.now shown_event)) c.loop-place.invariant.has_run).own_losses
+    (has_run_all _ _ _ _ _ _ _ _ (omega (arith, length-map c.args.events.now shown_event))
+    c.loop-place.invariant.has_run).own_losses
 
 pub returns-clause-rejects : goal.returns-clause-rejects
 returns-clause-rejects g c =
-    (has_run_all _ _ _ _ _ _ _ _ (omega (arith, length-map c.args.events.now shown_event)) c.loop-place.invariant.has_run).rejects
+    (has_run_all _ _ _ _ _ _ _ _ (omega (arith, length-map c.args.events.now shown_event))
+    c.loop-place.invariant.has_run).rejects
 
 pub returns-clause-realms : goal.returns-clause-realms
 returns-clause-realms g c =
-    (has_run_all _ _ _ _ _ _ _ _ (omega (arith, length-map c.args.events.now shown_event)) c.loop-place.invariant.has_run).realms
+    (has_run_all _ _ _ _ _ _ _ _ (omega (arith, length-map c.args.events.now shown_event))
+    c.loop-place.invariant.has_run).realms
 
 -- what holds whatever the result is holds where it is an error
 whatever : {T E : Type 0} (r : Result T E) (P : Type 0) → P → OnErr r P
@@ -96,14 +105,16 @@ returns-in_err-append_all-in-Ok-clause-err g c =
     let lost = c.loop-place.lost.items in
     let before = c.loop-place.invariant in
     let within : place < length events = omega (arith, length-map c.args.events.now shown_event) in
-    let at = get_or-map shown_event c.args.events.now place c.index-events-place.result ∙ ap shown_event (sym c.index-events-place.is) in
+    let at = get_or-map shown_event c.args.events.now place c.index-events-place.result
+    ∙ ap shown_event (sym c.index-events-place.is) in
     let answer = c.in-Ok.ensures.answer in
     let run = answered _ _ _ _ _ _ _ _ _ _ _ _ event within at before.has_run
     c.in-Ok.ensures.whole c.in-Ok.ensures.shards c.in-Ok.ensures.config answer.packets answer.states in
     let given = given-answered g.S.Stepper.steps events place lost _ _ _ event event
     within at before.has_run.places before.given c.in-Ok.ensures.step in
     whatever c.from_residual.result _
-    (stands_after g.S.Stepper.config g.S.Stepper.states g.S.Stepper.steps _ _ events (place + 1) lost _ _ (omega (arith, within)) run before.wanted given)
+    (stands_after g.S.Stepper.config g.S.Stepper.states g.S.Stepper.steps _ _ events (place + 1) lost _ _
+    (omega (arith, within)) run before.wanted given)
 
 -- the place of one that was lost found no room: that event is the last of them
 pub returns-in_err-note_lost-in-Err-clause-err : goal.returns-in_err-note_lost-in-Err-clause-err
@@ -114,7 +125,8 @@ returns-in_err-note_lost-in-Err-clause-err g c =
     let lost = c.loop-place.lost.items in
     let before = c.loop-place.invariant in
     let within : place < length events = omega (arith, length-map c.args.events.now shown_event) in
-    let at = get_or-map shown_event c.args.events.now place c.index-events-place.result ∙ ap shown_event (sym c.index-events-place.is) in
+    let at = get_or-map shown_event c.args.events.now place c.index-events-place.result
+    ∙ ap shown_event (sym c.index-events-place.is) in
     let step = c.in-Err.ensures in
     let run = lost_one _ _ _ _ _ _ _ _ _ _ event event within at before.has_run
     step.whole step.shards step.config step.answer in
@@ -122,4 +134,5 @@ returns-in_err-note_lost-in-Err-clause-err g c =
     let wants = subst (λ (x : ConfigView). EventWantsMemory x event) before.has_run.config_is (step.memory refl) in
     let wanted = wanted-more _ events place lost event event within at before.wanted wants in
     whatever c.from_residual-in_err-note_lost-in-Err.result _
-    (stands_after g.S.Stepper.config g.S.Stepper.states g.S.Stepper.steps _ _ events (place + 1) (lost ++ place ∷ []) _ _ (omega (arith, within)) run wanted given)
+    (stands_after g.S.Stepper.config g.S.Stepper.states g.S.Stepper.steps _ _ events (place + 1) (lost ++ place ∷ [])
+    _ _ (omega (arith, within)) run wanted given)

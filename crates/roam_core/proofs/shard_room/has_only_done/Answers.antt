@@ -1,5 +1,5 @@
 -- One book after the other.
-use Rattle.std.proofs.Common.{◌≡◌, ◌∙◌, ◌+◌, ◌&&◌, Bool, ap, drop, sym}
+use Rattle.std.proofs.Common.{◌∙◌, ◌+◌, ◌&&◌, Bool, ap, drop, sym}
 use Rattle.roam_conf.specs.Shown.{shown}
 use Rattle.roam_core.specs.BrokerView.{states_of}
 use Rattle.roam_core.specs.ShardRooms.{only_done_from}

@@ -1,5 +1,5 @@
 -- Few are due now, or something has been for long, or what is due is parted.
-use Rattle.std.proofs.Common.{◌≡◌, ◌<◌, ◌≤◌, ◌-◌, ℕ, true, false, inl, inr, refl, arith, subst, sym, ap}
+use Rattle.std.proofs.Common.{◌≡◌, ◌<◌, ◌-◌, ℕ, true, false, inl, inr, refl, arith, subst, sym}
 use Rattle.std.proofs.lemmas.Bool.{cases_eq}
 use Rattle.roam_shard.specs.Twins.{NothingDue}
 use Rattle.roam_due.proofs.moment.moment_of_tick.Goals as goal
@@ -18,7 +18,8 @@ returns-then-is_due g c =
       portion = inr (inr (
         refl,
         λ none. absurd (
-            let quiet = subst (λ (m : ℕ). NothingDue m c.args.shard.now.states) (sym c.saturating_sub-quiet.ensures) none in
+            let quiet = subst (λ (m : ℕ). NothingDue m c.args.shard.now.states) (sym c.saturating_sub-quiet.ensures)
+            none in
             let no = c.is_due.ensures.1 quiet in cc),
       ));
     }

@@ -1,5 +1,5 @@
 -- The two moments come closer until nothing is between them.
-use Rattle.std.proofs.Common.{◌≡◌, ◌⊎◌, ◌≤◌, ◌-◌, ℕ, true, false, inl, inr, arith, subst}
+use Rattle.std.proofs.Common.{◌≡◌, ◌≤◌, ◌-◌, ℕ, true, false, inl, inr, arith, subst}
 use Rattle.roam_shard.specs.Twins.{NothingDue}
 use Rattle.roam_shard.specs.DueCount.{due_count}
 use Rattle.roam_due.proofs.moment.parted.Goals as goal
@@ -13,7 +13,8 @@ loop-middle-init g c = record {
 pub loop-middle-preserved : goal.loop-middle-preserved
 loop-middle-preserved g c = record {
   moments = c.narrowed-before.ensures.moments;
-  past = (let within = c.narrowed-before.ensures.within in let past = c.loop-middle.invariant.past in omega (arith, within, past));
+  past = (let within = c.narrowed-before.ensures.within in let past = c.loop-middle.invariant.past in
+      omega (arith, within, past));
 }
 
 pub returns-then-is_due : goal.returns-then-is_due
@@ -21,7 +22,8 @@ returns-then-is_due g c =
     let yes : c.is_due.result ≡ true = cc in
     let inv = c.loop-middle.invariant in
     let order = inv.moments.order in
-    let due = λ (none : NothingDue c.loop-middle.few c.args.shard.now.states). absurd (let no = c.is_due.ensures.1 none in cc) in
+    let due = λ (none : NothingDue c.loop-middle.few c.args.shard.now.states). absurd (let no =
+    c.is_due.ensures.1 none in cc) in
     record {
       before = (let past = inv.past in omega (arith, order, past));
       due = due;

@@ -14,7 +14,8 @@ loop-numbers-init g c =
     let iter = c.into_iter-numbers-iterator.ensures.into_iter_gives in
     record {
       followed = none_followed (shown c.args.old.now) (shown c.args.new.now) c.args.shards.now.items;
-      behind = λ k. (let e : k ≡ 0 + k = omega arith in ap (λ (l : List _). slice_get l k) iter.0 ∙ ap (slice_get c.args.fresh.items) e);
+      behind = λ k. (let e : k ≡ 0 + k = omega arith in ap (λ (l : List _). slice_get l k) iter.0
+          ∙ ap (slice_get c.args.fresh.items) e);
       left = iter.1 ∙ c.args.fresh.ok.0 ∙ ap length (sym iter.0);
       count = (let n = ap length iter.0 in omega (arith, n));
     }
@@ -51,9 +52,11 @@ follow-requires-clause-ready g c =
     let at : slice_get shards k ≡ Some p = get-read shards k p lt c.index_mut.ensures.value in
     let stood : slice_get c.args.shards.now.items k ≡ Some p = sym (inv.followed.rest k (omega arith)) ∙ at in
     let f = c.in-Some.numbers in
-    let first : slice_get (into_iter_items c.loop-numbers.numbers-iterator) 0 ≡ Some f = ap (λ (l : List _). slice_get l 0) c.in-Some.ensures.steps.0 in
+    let first : slice_get (into_iter_items c.loop-numbers.numbers-iterator) 0 ≡ Some f =
+    ap (λ (l : List _). slice_get l 0) c.in-Some.ensures.steps.0 in
     let e : k + 0 ≡ k = omega arith in
-    let made : slice_get c.args.fresh.items k ≡ Some f = ap (slice_get c.args.fresh.items) (sym e) ∙ sym (inv.behind 0) ∙ first in
+    let made : slice_get c.args.fresh.items k ≡ Some f = ap (slice_get c.args.fresh.items) (sym e)
+    ∙ sym (inv.behind 0) ∙ first in
     c.requires.ready.each k p f stood made
 
 pub loop-numbers-preserved : goal.loop-numbers-preserved
@@ -73,12 +76,15 @@ loop-numbers-preserved g c =
     let q = c.follow.new.self in
     let its = c.requires.paused.each k p stood in
     record {
-      followed = one_more_followed old new c.args.shards.now.items shards k p q inv.followed (omega (arith, lt, number)) at
+      followed = one_more_followed old new c.args.shards.now.items shards k p q inv.followed
+          (omega (arith, lt, number)) at
           (record { shard = c.follow.ensures.shard ∙ its.shard; stands = c.follow.ensures.stands })
-          (subst (λ (n : ℕ). AllFollow old new n (states_under old p) (states_under new q)) its.shard c.follow.ensures.follow);
+          (subst (λ (n : ℕ). AllFollow old new n (states_under old p) (states_under new q)) its.shard
+          c.follow.ensures.follow);
       behind = λ j. (
           let e : k + suc j ≡ k + 1 + j = omega arith in
-          ap (λ (l : List _). slice_get l (suc j)) (sym steps.0) ∙ inv.behind (suc j) ∙ ap (slice_get c.args.fresh.items) e);
+          ap (λ (l : List _). slice_get l (suc j)) (sym steps.0) ∙ inv.behind (suc j)
+          ∙ ap (slice_get c.args.fresh.items) e);
       left = omega (arith, short, steps.1, inv.left);
       count = omega (arith, short, inv.count);
     }
@@ -86,6 +92,8 @@ loop-numbers-preserved g c =
 pub returns : goal.returns
 returns g c =
     let inv = c.loop-numbers.invariant in
-    let none : length (into_iter_items c.loop-numbers.numbers-iterator) ≡ 0 = sym inv.left ∙ c.in-None.ensures.steps.0 in
-    all_followed (shown c.args.old.now) (shown c.args.new.now) c.args.shards.now.items c.loop-numbers.shards.items c.loop-numbers.number
+    let none : length (into_iter_items c.loop-numbers.numbers-iterator) ≡ 0 = sym inv.left
+    ∙ c.in-None.ensures.steps.0 in
+    all_followed (shown c.args.old.now) (shown c.args.new.now) c.args.shards.now.items c.loop-numbers.shards.items
+    c.loop-numbers.number
     inv.followed c.requires.paused c.requires.shards (omega (arith, none, inv.count, c.requires.ready.count))

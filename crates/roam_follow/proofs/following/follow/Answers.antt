@@ -5,5 +5,6 @@ use Rattle.roam_follow.proofs.following.follow.Goals as goal
 
 pub returns-clause-ok : goal.returns-clause-ok
 returns-clause-ok g c =
-    followed_from (shown c.args.old.now) (shown c.args.new.now) c.args.shards.now.items c.all_reserved.new.shards.items c.all_follow.new.shards.items
+    followed_from (shown c.args.old.now) (shown c.args.new.now) c.args.shards.now.items
+    c.all_reserved.new.shards.items c.all_follow.new.shards.items
     c.requires.paused c.all_reserved.ensures.still c.all_follow.ensures

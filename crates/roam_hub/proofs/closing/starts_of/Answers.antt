@@ -28,40 +28,61 @@ pub start-requires-clause-configured : goal.start-requires-clause-configured
 start-requires-clause-configured g c =
     let config = c.args.config.now in
     let k = c.from.result in
-    let lt : k < length c.args.closed.now.shards.items = omega (arith, c.from.ensures, c.shard_of-shard.ensures.bound, c.requires.closed.shard_count) in
+    let lt : k < length c.args.closed.now.shards.items =
+    omega (arith, c.from.ensures, c.shard_of-shard.ensures.bound, c.requires.closed.shard_count) in
     let at = get-read c.args.closed.now.shards.items k c.index.result.now lt c.index.ensures in
     let all = all_steps c.args.closed.now.fronts.items in
-    let one = c.requires.closed.each k c.index.result.now (steps_of all k) at (steps-there all k (omega (arith, lt, c.requires.closed.shard_count, c.requires.closed.step_count))) in
-    let same = ap (λ (x : ConfigView). length x.realms) one.config ∙ ap (λ (x : ConfigView). length x.realms) (sym c.requires.config) in
-    omega (arith, same, length-map config.realms.items shown_realm, config.realms.ok.0, c.loop-realm-test.true, c.len-realm-end.ensures)
+    let one = c.requires.closed.each k c.index.result.now (steps_of all k) at
+    (steps-there all k (omega (arith, lt, c.requires.closed.shard_count, c.requires.closed.step_count))) in
+    let same = ap (λ (x : ConfigView). length x.realms) one.config
+    ∙ ap (λ (x : ConfigView). length x.realms) (sym c.requires.config) in
+    omega (
+      arith,
+      same,
+      length-map config.realms.items shown_realm,
+      config.realms.ok.0,
+      c.loop-realm-test.true,
+      c.len-realm-end.ensures,
+    )
 
 pub start-requires-clause-own : goal.start-requires-clause-own
 start-requires-clause-own g c =
     let k = c.from.result in
-    let lt : k < length c.args.closed.now.shards.items = omega (arith, c.from.ensures, c.shard_of-shard.ensures.bound, c.requires.closed.shard_count) in
+    let lt : k < length c.args.closed.now.shards.items =
+    omega (arith, c.from.ensures, c.shard_of-shard.ensures.bound, c.requires.closed.shard_count) in
     let at = get-read c.args.closed.now.shards.items k c.index.result.now lt c.index.ensures in
     let all = all_steps c.args.closed.now.fronts.items in
-    let one = c.requires.closed.each k c.index.result.now (steps_of all k) at (steps-there all k (omega (arith, lt, c.requires.closed.shard_count, c.requires.closed.step_count))) in
-    let here : c.loop-realm.realm % (shown c.args.config.now).shards ≡ k = sym (c.from.ensures ∙ c.shard_of-shard.ensures.value) in
+    let one = c.requires.closed.each k c.index.result.now (steps_of all k) at
+    (steps-there all k (omega (arith, lt, c.requires.closed.shard_count, c.requires.closed.step_count))) in
+    let here : c.loop-realm.realm % (shown c.args.config.now).shards ≡ k =
+    sym (c.from.ensures ∙ c.shard_of-shard.ensures.value) in
     let is : is_in_shard (shown c.args.config.now) k c.loop-realm.realm ≡ true = grind (arith, nat_tests, here) in
-    let there : is_in_shard g.N.Opened.opening.config k c.loop-realm.realm ≡ true = subst (λ (x : ConfigView). is_in_shard x k c.loop-realm.realm ≡ true) c.requires.config is in
-    let its : is_in_shard g.N.Opened.opening.config c.index.result.now.opening.shard c.loop-realm.realm ≡ true = subst (λ (n : ℕ). is_in_shard g.N.Opened.opening.config n c.loop-realm.realm ≡ true) (sym one.shard) there in
-    subst (λ (x : ConfigView). is_in_shard x c.index.result.now.opening.shard c.loop-realm.realm ≡ true) (sym one.config) its
+    let there : is_in_shard g.N.Opened.opening.config k c.loop-realm.realm ≡ true =
+    subst (λ (x : ConfigView). is_in_shard x k c.loop-realm.realm ≡ true) c.requires.config is in
+    let its : is_in_shard g.N.Opened.opening.config c.index.result.now.opening.shard c.loop-realm.realm ≡ true =
+    subst (λ (n : ℕ). is_in_shard g.N.Opened.opening.config n c.loop-realm.realm ≡ true) (sym one.shard) there in
+    subst (λ (x : ConfigView). is_in_shard x c.index.result.now.opening.shard c.loop-realm.realm ≡ true)
+    (sym one.config) its
 
 pub loop-realm-preserved : goal.loop-realm-preserved
 loop-realm-preserved g c =
     let k = c.from.result in
-    let lt : k < length c.args.closed.now.shards.items = omega (arith, c.from.ensures, c.shard_of-shard.ensures.bound, c.requires.closed.shard_count) in
+    let lt : k < length c.args.closed.now.shards.items =
+    omega (arith, c.from.ensures, c.shard_of-shard.ensures.bound, c.requires.closed.shard_count) in
     let at = get-read c.args.closed.now.shards.items k c.index.result.now lt c.index.ensures in
     let all = all_steps c.args.closed.now.fronts.items in
     let shards = ap (λ (x : ConfigView). c.loop-realm.realm % x.shards) c.requires.config in
-    let is : k ≡ c.loop-realm.realm % g.N.Opened.opening.config.shards = c.from.ensures ∙ c.shard_of-shard.ensures.value ∙ shards in
-    let start = start_closed g.N.Opened.opening c.args.config.now.shards c.args.closed.now.shards.items all k c.loop-realm.realm c.index.result.now c.start.result
-    c.requires.closed at (omega (arith, lt, c.requires.closed.shard_count)) is c.start.ensures.place c.start.ensures.ticket in
+    let is : k ≡ c.loop-realm.realm % g.N.Opened.opening.config.shards = c.from.ensures
+    ∙ c.shard_of-shard.ensures.value ∙ shards in
+    let start = start_closed g.N.Opened.opening c.args.config.now.shards c.args.closed.now.shards.items all k
+    c.loop-realm.realm c.index.result.now c.start.result
+    c.requires.closed at (omega (arith, lt, c.requires.closed.shard_count)) is c.start.ensures.place
+    c.start.ensures.ticket in
     let inv = c.loop-realm.invariant in
     record {
       first = rw c.push_reserved.ensures.items
-          (one_start_more g.N.Opened.opening all c.loop-realm.realm c.loop-realm.starts.items c.start.result inv.first start c.start.ensures.start);
+          (one_start_more g.N.Opened.opening all c.loop-realm.realm c.loop-realm.starts.items c.start.result
+          inv.first start c.start.ensures.start);
       count = (let len = c.push_reserved.ensures.len in omega (arith, len, inv.count));
       room = (let same = c.push_reserved.ensures.capacity in omega (arith, same, inv.room));
     }
@@ -72,7 +93,15 @@ returns-clause-starts g c =
     let all = all_steps c.args.closed.now.fronts.items in
     let same = ap (λ (x : ConfigView). length x.realms) c.requires.config in
     all_starts g.N.Opened.opening all c.loop-realm.realm c.loop-realm.starts.items c.loop-realm.invariant.first
-    (omega (arith, same, length-map config.realms.items shown_realm, config.realms.ok.0, c.loop-realm-test.false, c.loop-realm.auto.realm-end, c.len-realm-end.ensures))
+    (omega (
+      arith,
+      same,
+      length-map config.realms.items shown_realm,
+      config.realms.ok.0,
+      c.loop-realm-test.false,
+      c.loop-realm.auto.realm-end,
+      c.len-realm-end.ensures,
+    ))
 
 pub returns-clause-good : goal.returns-clause-good
 returns-clause-good g c =
@@ -80,4 +109,12 @@ returns-clause-good g c =
     let all = all_steps c.args.closed.now.fronts.items in
     let same = ap (λ (x : ConfigView). length x.realms) c.requires.config in
     good_starts g.N.Opened.opening all c.loop-realm.realm c.loop-realm.starts.items c.loop-realm.invariant.first
-    (omega (arith, same, length-map config.realms.items shown_realm, config.realms.ok.0, c.loop-realm-test.false, c.loop-realm.auto.realm-end, c.len-realm-end.ensures))
+    (omega (
+      arith,
+      same,
+      length-map config.realms.items shown_realm,
+      config.realms.ok.0,
+      c.loop-realm-test.false,
+      c.loop-realm.auto.realm-end,
+      c.len-realm-end.ensures,
+    ))

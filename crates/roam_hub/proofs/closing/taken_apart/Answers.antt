@@ -51,19 +51,31 @@ loop-lock-preserved g c =
     let one = c.in_ok-shard.ensures in
     let front : FrontView = c.in_ok-shard.front in
     let fronts = c.loop-lock.fronts.items in
-    let more = ap (λ l. all_steps l) c.push_reserved-in-loop-lock-2.ensures.items ∙ map-append all_in fronts (front ∷ []) in
-    let stored = ap (λ l. stored_steps l) c.push_reserved-in-loop-lock.ensures.items ∙ map-append items_of c.loop-lock.steps.items (c.in_ok-shard.its_steps ∷ []) in
-    let entries : entries_of (fronts ++ front ∷ []) ≡ entries_of fronts ++ front.entries ∷ [] = map-append (λ (f : FrontView). f.entries) fronts (front ∷ []) in
-    let all : map stored_of (entries_of (fronts ++ front ∷ [])) ≡ map stored_of (entries_of fronts) ++ stored_of front.entries ∷ [] =
-    ap (λ (l : List (List HistoryEntry)). map stored_of l) entries ∙ map-append stored_of (entries_of fronts) (front.entries ∷ []) in
+    let more = ap (λ l. all_steps l) c.push_reserved-in-loop-lock-2.ensures.items
+    ∙ map-append all_in fronts (front ∷ []) in
+    let stored = ap (λ l. stored_steps l) c.push_reserved-in-loop-lock.ensures.items
+    ∙ map-append items_of c.loop-lock.steps.items (c.in_ok-shard.its_steps ∷ []) in
+    let entries : entries_of (fronts ++ front ∷ []) ≡ entries_of fronts ++ front.entries ∷ [] =
+    map-append (λ (f : FrontView). f.entries) fronts (front ∷ []) in
+    let all : map stored_of (entries_of (fronts ++ front ∷ [])) ≡ map stored_of (entries_of fronts)
+    ++ stored_of front.entries ∷ [] =
+    ap (λ (l : List (List HistoryEntry)). map stored_of l) entries
+    ∙ map-append stored_of (entries_of fronts) (front.entries ∷ []) in
     record {
-      closed = rw (c.push_reserved.ensures.items, more) (one_more_closed g.N.Opened.opening c.loop-lock.number c.loop-lock.shards.items (all_steps fronts)
-          c.in_ok-shard.shard (all_in front) inv.closed (record { shard = one.its_shard; config = one.config; states = one.states; history = one.history }));
+      closed = rw (
+        c.push_reserved.ensures.items,
+        more,
+      ) (one_more_closed g.N.Opened.opening c.loop-lock.number c.loop-lock.shards.items (all_steps fronts)
+          c.in_ok-shard.shard (all_in front) inv.closed
+          (record { shard = one.its_shard; config = one.config; states = one.states; history = one.history }));
       stored =
           stored
           ∙ ((λ j. inv.stored j ++ one.steps j ∷ [])
-          ∙ (sym all ∙ ap (λ (l : List FrontView). map stored_of (entries_of l)) (sym c.push_reserved-in-loop-lock-2.ensures.items)));
-      of_shards = rw c.push_reserved-in-loop-lock-2.ensures.items (push_shards fronts front inv.of_shards (let n = c.loop-lock.fronts.ok.0 in omega (arith, n, one.shard, inv.few)));
+          ∙ (sym all ∙ ap (λ (l : List FrontView). map stored_of (entries_of l))
+          (sym c.push_reserved-in-loop-lock-2.ensures.items)));
+      of_shards = rw c.push_reserved-in-loop-lock-2.ensures.items
+          (push_shards fronts front inv.of_shards (let n = c.loop-lock.fronts.ok.0 in
+          omega (arith, n, one.shard, inv.few)));
       whole = rw c.push_reserved-in-loop-lock-2.ensures.items (push_whole fronts front inv.whole one.whole);
       few = (let len = c.push_reserved-in-loop-lock-2.ensures.len in omega (arith, len, inv.few));
       shard_count = (let len = c.push_reserved.ensures.len in omega (arith, len, inv.shard_count));

@@ -10,7 +10,8 @@ loop-shard-init g c =
     let iter = c.into_iter-shard-iterator.ensures.into_iter_gives in
     let shards = c.args.shards.items in
     record {
-      paused = rw c.requires.empty (subst (λ (l : List ShardView). ArePausedSoFar shards l []) (sym iter.0) (none_paused shards));
+      paused = rw c.requires.empty (subst (λ (l : List ShardView). ArePausedSoFar shards l []) (sym iter.0)
+          (none_paused shards));
       left = iter.1 ∙ c.args.shards.ok.0 ∙ ap length (sym iter.0);
       room = c.requires.room;
     }
@@ -28,7 +29,8 @@ loop-shard-preserved g c =
     let steps = c.in-Some.ensures.steps in
     let short = ap length steps.0 in
     record {
-      paused = rw c.push_reserved.ensures.items (one_more_paused c.args.shards.items (into_iter_items c.loop-shard.shard-iterator) c.loop-shard.paused.items
+      paused = rw c.push_reserved.ensures.items
+          (one_more_paused c.args.shards.items (into_iter_items c.loop-shard.shard-iterator) c.loop-shard.paused.items
           c.in-Some.shard _ c.pause.result inv.paused steps.0
           (record { shard = c.pause.ensures.shard; stands = c.pause.ensures.stands; states = c.pause.ensures.states }));
       left = omega (arith, short, steps.1, inv.left);

@@ -2,7 +2,12 @@ use Rattle.roam_pending.proofs.DueLemmas.{due-turn, due-end}
 use Rattle.roam_pending.proofs.list_search.due_in.Goals as goal
 
 pub loop-entry-preserved : goal.loop-entry-preserved
-loop-entry-preserved g c = rw (c.earlier-first.ensures, c.due_alone.ensures) (due-turn c.args.now c.args.last c.loop-entry.first c.args.entries.now c.loop-entry.entry-index c.entry-item.result c.loop-entry-test.true c.entry-item.is c.loop-entry.invariant)
+loop-entry-preserved g c = rw (
+  c.earlier-first.ensures,
+  c.due_alone.ensures,
+) (due-turn c.args.now c.args.last c.loop-entry.first c.args.entries.now
+    c.loop-entry.entry-index c.entry-item.result c.loop-entry-test.true c.entry-item.is c.loop-entry.invariant)
 
 pub returns : goal.returns
-returns g c = due-end c.args.now c.args.last c.loop-entry.first c.args.entries.now c.loop-entry.entry-index c.loop-entry-test.false c.loop-entry.invariant
+returns g c = due-end c.args.now c.args.last c.loop-entry.first c.args.entries.now c.loop-entry.entry-index
+    c.loop-entry-test.false c.loop-entry.invariant

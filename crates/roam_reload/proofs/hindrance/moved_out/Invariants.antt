@@ -9,4 +9,6 @@ use Rattle.roam_reload.proofs.hindrance.moved_out.Given as goal
 
 abbrev pub invariant-loop-realm : goal.invariant-loop-realm
 invariant-loop-realm l =
-    find (is_moved (shown l.new) kind.Out) (map (λ (x : RealmView). x.out) (map shown_realm (drop l.realm-index l.realms))) ≡ find (is_moved (shown l.fn.new) kind.Out) (map (λ (x : RealmView). x.out) (map shown_realm l.fn.realms))
+    find (is_moved (shown l.new) kind.Out)
+    (map (λ (x : RealmView). x.out) (map shown_realm (drop l.realm-index l.realms)))
+    ≡ find (is_moved (shown l.fn.new) kind.Out) (map (λ (x : RealmView). x.out) (map shown_realm l.fn.realms))

@@ -6,4 +6,5 @@ use Rattle.roam_reload.proofs.kind.is_out.Given as goal
 
 abbrev pub invariant-loop-realm : goal.invariant-loop-realm
 invariant-loop-realm l =
-    is_among (map (λ (x : RealmView). x.out) (map shown_realm (drop l.realm-index l.realms))) l.endpoint ≡ is_among (map (λ (x : RealmView). x.out) (map shown_realm l.fn.realms)) l.fn.endpoint
+    is_among (map (λ (x : RealmView). x.out) (map shown_realm (drop l.realm-index l.realms))) l.endpoint
+    ≡ is_among (map (λ (x : RealmView). x.out) (map shown_realm l.fn.realms)) l.fn.endpoint

@@ -12,8 +12,10 @@ returns-then-i-new-clause-some c =
     elim c.then-i-new.branch [
       | then-i-new-via-then-i-new w ↦ gone old new c.loop-i.i c.loop-i-test.true w.if-i-new.true
       | then-i-new-via-else-i-new+then-is_some w ↦
-          other old new c.loop-i.i w.index-old-i.result w.index-new-i.result c.loop-i-test.true (omega arith) w.index-old-i.is w.index-new-i.is
-          (differs (shown_peer w.index-old-i.result) (shown_peer w.index-new-i.result) w.peer_difference.result w.peer_difference.ensures.some (sym w.is_some.ensures ∙ w.if-is_some.true))
+          other old new c.loop-i.i w.index-old-i.result w.index-new-i.result c.loop-i-test.true (omega arith)
+          w.index-old-i.is w.index-new-i.is
+          (differs (shown_peer w.index-old-i.result) (shown_peer w.index-new-i.result) w.peer_difference.result
+          w.peer_difference.ensures.some (sym w.is_some.ensures ∙ w.if-is_some.true))
     ]
 
 -- one peer more is kept
@@ -23,8 +25,10 @@ loop-i-preserved c =
     let new = c.args.new.now in (
       refl,
       refl,
-      one_more old new c.loop-i.i c.index-old-i.result c.index-new-i.result (omega arith) (omega arith) c.index-old-i.is c.index-new-i.is
-          (agrees (shown_peer c.index-old-i.result) (shown_peer c.index-new-i.result) c.peer_difference.result c.peer_difference.ensures.none (sym c.is_some.ensures ∙ c.if-is_some.false))
+      one_more old new c.loop-i.i c.index-old-i.result c.index-new-i.result (omega arith) (omega arith)
+          c.index-old-i.is c.index-new-i.is
+          (agrees (shown_peer c.index-old-i.result) (shown_peer c.index-new-i.result) c.peer_difference.result
+          c.peer_difference.ensures.none (sym c.is_some.ensures ∙ c.if-is_some.false))
           c.loop-i.invariant.2,
     )
 

@@ -16,7 +16,8 @@ loop-realm-preserved g c = λ o own.
     let realm = c.loop-realm.realm in
     let next = done-next o c.args.now E realm ns c.index-numbers-realm.result c.own_only_done.result
     own c.loop-realm-test.true c.index-numbers-realm.is (c.own_only_done.ensures o) in
-    let rest = only_done_from o.config c.args.now o.shard (realm + 1) (states_from o E (realm + 1) (drop (realm + 1) ns)) in
+    let rest = only_done_from o.config c.args.now o.shard (realm + 1)
+    (states_from o E (realm + 1) (drop (realm + 1) ns)) in
     sym (ap (λ (b : Bool). b && rest) c.if-not-own_only_done.false) ∙ sym next
     ∙ c.loop-realm.invariant o own
 
@@ -28,7 +29,8 @@ returns-then-not-own_only_done g c = λ o own.
     let realm = c.loop-realm.realm in
     let next = done-next o c.args.now E realm ns c.index-numbers-realm.result c.own_only_done.result
     own c.loop-realm-test.true c.index-numbers-realm.is (c.own_only_done.ensures o) in
-    let rest = only_done_from o.config c.args.now o.shard (realm + 1) (states_from o E (realm + 1) (drop (realm + 1) ns)) in
+    let rest = only_done_from o.config c.args.now o.shard (realm + 1)
+    (states_from o E (realm + 1) (drop (realm + 1) ns)) in
     sym (ap (λ (b : Bool). b && rest) c.if-not-own_only_done.true) ∙ sym next
     ∙ c.loop-realm.invariant o own
 

@@ -1,5 +1,5 @@
 -- One realm more is counted.
-use Rattle.std.proofs.Common.{◌≡◌, true, false, sym, arith}
+use Rattle.std.proofs.Common.{true, false, arith}
 use Rattle.roam_tables.specs.Stands.{entries_in}
 use Rattle.roam_tables.proofs.RealmLemmas.{get-read}
 use Rattle.roam_shard.proofs.DueLemmas.{own_none}
@@ -13,7 +13,8 @@ pub loop-realm-preserved : goal.loop-realm-preserved
 loop-realm-preserved g c = λ o.
     let ns = c.args.numbers.now in
     let realm = c.loop-realm.realm in
-    let next = count-next o c.args.now (entries_in c.args.entries.now) realm ns c.index-numbers-realm.result c.loop-realm-test.true c.index-numbers-realm.is in
+    let next = count-next o c.args.now (entries_in c.args.entries.now) realm ns c.index-numbers-realm.result
+    c.loop-realm-test.true c.index-numbers-realm.is in
     let all = c.loop-realm.invariant o in
     let one = c.in-Some.ensures.few o in
     let fits = c.in-Some.ensures.limit in
@@ -30,5 +31,6 @@ returns-in-None-clause-more g c = λ o _ none.
 pub returns-clause-few : goal.returns-clause-few
 returns-clause-few g c = λ o _.
     let all = c.loop-realm.invariant o in
-    let end = count-end o c.args.now (entries_in c.args.entries.now) c.loop-realm.realm c.args.numbers.now c.loop-realm-test.false in
+    let end = count-end o c.args.now (entries_in c.args.entries.now) c.loop-realm.realm c.args.numbers.now
+    c.loop-realm-test.false in
     omega (arith, all, end)

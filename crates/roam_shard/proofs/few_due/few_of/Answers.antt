@@ -13,14 +13,16 @@ loop-due-init g c = record {
 
 pub loop-due-preserved : goal.loop-due-preserved
 loop-due-preserved g c = record {
-  counted = more_counted c.args.now (entries_in c.args.entries.now c.args.realm) c.loop-due.last c.in-Some.due c.loop-due.count
+  counted = more_counted c.args.now (entries_in c.args.entries.now c.args.realm) c.loop-due.last c.in-Some.due
+      c.loop-due.count
       c.in-Some.ensures.list.in_order c.loop-due.invariant.counted c.in-Some.ensures.found;
   few = omega (arith, c.if-count-limit.false);
 }
 
 pub loop-due-smaller : goal.loop-due-smaller
 loop-due-smaller g c =
-    fewer-left c.args.now (entries_in c.args.entries.now c.args.realm) c.loop-due.last c.in-Some.due c.in-Some.ensures.found
+    fewer-left c.args.now (entries_in c.args.entries.now c.args.realm) c.loop-due.last c.in-Some.due
+    c.in-Some.ensures.found
 
 pub returns-clause-few : goal.returns-clause-few
 returns-clause-few g c =
@@ -32,4 +34,5 @@ returns-clause-limit g c = c.loop-due.invariant.few
 
 pub returns-then-count-limit-clause-more : goal.returns-then-count-limit-clause-more
 returns-then-count-limit-clause-more g c =
-    some_found c.args.now (entries_in c.args.entries.now c.args.realm) c.loop-due.last c.in-Some.due c.in-Some.ensures.found
+    some_found c.args.now (entries_in c.args.entries.now c.args.realm) c.loop-due.last c.in-Some.due
+    c.in-Some.ensures.found

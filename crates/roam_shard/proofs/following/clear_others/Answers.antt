@@ -14,13 +14,18 @@ loop-realm-preserved g c =
     let r = c.loop-realm.realm in
     let inv = c.loop-realm.invariant in
     record {
-      cleared = elim c.if-not-goes_on.branch as (λ _. Cleared old new c.args.change.shard E (entries_in c.if-not-goes_on.entries) (r + 1)) [
-        | then-not-goes_on w ↦ subst (λ (t : List RealmView). Cleared old new c.args.change.shard E (entries_in t) (r + 1)) (sym w.entries-is)
-            (one_cleared old new c.args.change.shard E (entries_in c.loop-realm.entries) (entries_in w.clear.new.self) r inv.cleared
-            (λ goes. absurd (cc (w.if-not-goes_on.ensures.1 goes))) w.clear.ensures.entries)
-        | else-not-goes_on w ↦ subst (λ (t : List RealmView). Cleared old new c.args.change.shard E (entries_in t) (r + 1)) (sym w.entries-is)
-            (one_stays old new c.args.change.shard E (entries_in c.loop-realm.entries) r inv.cleared (w.if-not-goes_on.ensures.0 refl))
-      ];
+      cleared = elim c.if-not-goes_on.branch
+          as (λ _. Cleared old new c.args.change.shard E (entries_in c.if-not-goes_on.entries) (r + 1)) [
+            | then-not-goes_on w ↦ subst (λ (t : List RealmView). Cleared old new c.args.change.shard E (entries_in t)
+                (r + 1)) (sym w.entries-is)
+                (one_cleared old new c.args.change.shard E (entries_in c.loop-realm.entries)
+                (entries_in w.clear.new.self) r inv.cleared
+                (λ goes. absurd (cc (w.if-not-goes_on.ensures.1 goes))) w.clear.ensures.entries)
+            | else-not-goes_on w ↦ subst (λ (t : List RealmView). Cleared old new c.args.change.shard E (entries_in t)
+                (r + 1)) (sym w.entries-is)
+                (one_stays old new c.args.change.shard E (entries_in c.loop-realm.entries) r inv.cleared
+                (w.if-not-goes_on.ensures.0 refl))
+          ];
       realms = elim c.if-not-goes_on.branch as (λ _. length c.if-not-goes_on.entries ≡ length c.args.entries.now) [
         | then-not-goes_on w ↦ ap (λ (t : List RealmView). length t) w.entries-is ∙ w.clear.ensures.realms ∙ inv.realms
         | else-not-goes_on w ↦ ap (λ (t : List RealmView). length t) w.entries-is ∙ inv.realms

@@ -12,4 +12,5 @@ returns-in-Some g c h =
     let some : 0 < deque_len c.args.run.now = search rules in
     let before = sym c.lt.ensures ∙ h in
     let less : due_cmp c.in-Some.last.now c.args.due.now ≡ Less = grind (arith, nat_tests, common_steps, before) in
-    gap_behind due_cmp due_total c.args.run.now.items c.args.due.now c.in-Some.last.now (deque_len c.args.run.now) c.requires some c.args.run.now.ok.0 c.in-Some.ensures.lookup less
+    gap_behind due_cmp due_total c.args.run.now.items c.args.due.now c.in-Some.last.now (deque_len c.args.run.now)
+    c.requires some c.args.run.now.ok.0 c.in-Some.ensures.lookup less

@@ -18,7 +18,8 @@ returns-clause-exchanged g c =
 pub returns-clause-puts : goal.returns-clause-puts
 returns-clause-puts g c =
     let slot = c.in-Some.slot.now in
-    let entry : Entry g.row.A.Denot = record { request = slot.entry.request; ticket = slot.entry.ticket; standing = c.swap.new.x } in
+    let entry : Entry g.row.A.Denot =
+    record { request = slot.entry.request; ticket = slot.entry.ticket; standing = c.swap.new.x } in
     puts_entry c.args.slots.now c.args.at slot entry (with_standing (shown_standing c.args.standing.now))
     (search rules)
     (ap (λ (s : Standing g.row.A.Denot). with_standing (shown_standing s) (shown slot.entry)) c.swap.ensures.x_after)
@@ -35,4 +36,5 @@ returns-clause-to g c =
     of_slot c.args.slots.now c.args.at slot
     (λ x. c.mark_of.result ≡ mark_of (with_standing (shown_standing c.args.standing.now) x.entry))
     (search rules)
-    (c.mark_of.ensures ∙ ap (λ (s : Standing g.row.A.Denot). mark_of (with_standing (shown_standing s) (shown slot.entry))) c.swap.ensures.x_after)
+    (c.mark_of.ensures ∙ ap (λ (s : Standing g.row.A.Denot). mark_of
+    (with_standing (shown_standing s) (shown slot.entry))) c.swap.ensures.x_after)

@@ -11,7 +11,8 @@ use Rattle.roam_tables.proofs.slots.send_again.Goals as goal
 pub returns-clause-puts : goal.returns-clause-puts
 returns-clause-puts g c =
     let slot = c.in-Some.slot.now in
-    let entry : Entry g.row.A.Denot = record { request = slot.entry.request; ticket = slot.entry.ticket; standing = c.wait_on.new.self } in
+    let entry : Entry g.row.A.Denot =
+    record { request = slot.entry.request; ticket = slot.entry.ticket; standing = c.wait_on.new.self } in
     puts_entry c.args.slots.now c.args.at slot entry (sent_again c.args.deadline) (search rules)
     (ap (λ (s : PlainStanding). with_standing s (shown slot.entry)) c.wait_on.ensures)
 

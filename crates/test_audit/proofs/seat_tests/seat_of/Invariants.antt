@@ -6,7 +6,8 @@ use Rattle.test_audit.proofs.seat_tests.seat_of.Given as goal
 
 abbrev pub invariant-loop-blank : goal.invariant-loop-blank
 invariant-loop-blank g l = record {
-  books : (k : ℕ) (b : Blank) → slice_get (into_iter_items l.blank-iterator) k ≡ Some b → b.seen.book ≡ g.N.Opened.books (l.shard + k);
+  books : (k : ℕ) (b : Blank) → slice_get (into_iter_items l.blank-iterator) k ≡ Some b →
+      b.seen.book ≡ g.N.Opened.books (l.shard + k);
   fronts : vec_len l.fronts ≡ l.shard;
   of_shards : AreOfShards l.fronts.items;
   left : into_iter_len l.blank-iterator ≡ length (into_iter_items l.blank-iterator);

@@ -27,9 +27,11 @@ within g c =
     let same = ap (λ (v : BrokerView). length v.config.realms) c.self.view_is in
     omega (arith, realms, same, c.from.ensures, c.self.invariant.count)
 
-own : (g : _) (c : goal.After-index_mut g) → IsBookOf (shown c.self.inside.config.now) c.from.result c.index_mut.result.now
+own : (g : _) (c : goal.After-index_mut g) →
+    IsBookOf (shown c.self.inside.config.now) c.from.result c.index_mut.result.now
 own g c =
-    own-book (shown c.self.inside.config.now) c.self.inside.books.items c.from.result c.index_mut.result.now c.self.invariant (within g c) c.index_mut.ensures.value
+    own-book (shown c.self.inside.config.now) c.self.inside.books.items c.from.result c.index_mut.result.now
+    c.self.invariant (within g c) c.index_mut.ensures.value
 
 pub handle_job-requires-clause-event : goal.handle_job-requires-clause-event
 handle_job-requires-clause-event g c =
@@ -43,8 +45,10 @@ pub invariant_of-self : goal.invariant_of-self
 invariant_of-self g c =
     let count = event_realm c.args.self.now.config (shown_job c.args.job.now) c.requires in
     let same = ap (λ (v : BrokerView). length v.config.realms) c.self.view_is in
-    broker-set (shown c.self.inside.config.now) c.self.inside.books.items c.from.result c.index_mut.result.now c.handle_job.new.book
-    c.self.invariant (omega (arith, count, same, c.from.ensures, c.self.invariant.count)) c.index_mut.ensures.value c.handle_job.ensures.config c.handle_job.ensures.realm
+    broker-set (shown c.self.inside.config.now) c.self.inside.books.items c.from.result c.index_mut.result.now
+    c.handle_job.new.book
+    c.self.invariant (omega (arith, count, same, c.from.ensures, c.self.invariant.count)) c.index_mut.ensures.value
+    c.handle_job.ensures.config c.handle_job.ensures.realm
 
 -- the turn of that book is the broker's
 pub returns-clause-turn : goal.returns-clause-turn
@@ -57,6 +61,10 @@ returns-clause-turn g c =
     let count = event_realm c.args.self.now.config (shown_job c.args.job.now) c.requires in
     let same = ap (λ (v : BrokerView). length v.config.realms) c.self.view_is in
     let here : c.from.result < length books = omega (arith, count, same, c.from.ensures, c.self.invariant.count) in
-    subst (λ (v : BrokerView). GivesAnswer c.handle_job.result v.states after (turn_of_one v.states c.args.job.now.realm (turn (realm_config v.config c.args.job.now.realm) (state_at v.states c.args.job.now.realm)))) c.self.view_is
-    (subst (λ (k : ℕ). GivesAnswer c.handle_job.result states after (turn_of_one states k (turn (realm_config config k) (state_at states k)))) c.from.ensures
-    (book-gives turn c.handle_job.result config books c.from.result c.index_mut.result.now c.handle_job.new.book c.self.invariant here c.index_mut.ensures.value c.handle_job.ensures.turn))
+    subst (λ (v : BrokerView). GivesAnswer c.handle_job.result v.states after
+    (turn_of_one v.states c.args.job.now.realm
+    (turn (realm_config v.config c.args.job.now.realm) (state_at v.states c.args.job.now.realm)))) c.self.view_is
+    (subst (λ (k : ℕ). GivesAnswer c.handle_job.result states after
+    (turn_of_one states k (turn (realm_config config k) (state_at states k)))) c.from.ensures
+    (book-gives turn c.handle_job.result config books c.from.result c.index_mut.result.now c.handle_job.new.book
+    c.self.invariant here c.index_mut.ensures.value c.handle_job.ensures.turn))

@@ -1,4 +1,4 @@
-use Rattle.std.proofs.Common.{◌≡◌, length, arith}
+use Rattle.std.proofs.Common.{arith}
 use Rattle.std.proofs.lemmas.List.{length-map}
 use Rattle.roam_conf.specs.Parts.{shown_realm}
 use Rattle.roam_conf.specs.Shown.{shown}
@@ -17,7 +17,14 @@ invariant_of-result g c =
     let realms = length-map c.args.config.now.realms.items shown_realm in
     record {
       each = c.loop-realm.invariant.each;
-      count = omega (arith, realms, c.args.config.now.realms.ok.0, c.args.config.now.realm_count, c.loop-realm.invariant.number, c.len-count.ensures);
+      count = omega (
+        arith,
+        realms,
+        c.args.config.now.realms.ok.0,
+        c.args.config.now.realm_count,
+        c.loop-realm.invariant.number,
+        c.len-count.ensures,
+      );
       some_shard = c.args.config.now.shards_range.0;
     }
 

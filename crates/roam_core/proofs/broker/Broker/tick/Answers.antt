@@ -30,7 +30,8 @@ pub let_go-requires-clause-done : goal.let_go-requires-clause-done
 let_go-requires-clause-done g c =
     let config = shown c.self.inside.config.now in
     let same = c.has_only_done.ensures
-    ∙ ap (λ (books : List BookView). only_done_from config c.args.now c.args.shard 0 (states_of books)) c.deref.ensures.value
+    ∙ ap (λ (books : List BookView). only_done_from config c.args.now c.args.shard 0 (states_of books))
+    c.deref.ensures.value
     ∙ ap (λ (v : BrokerView). only_done_from v.config c.args.now c.args.shard 0 v.states) c.self.view_is in
     sym same ∙ c.if-has_only_done.true
 
@@ -39,7 +40,8 @@ pub returns-then-has_only_done-clause-turn : goal.returns-then-has_only_done-cla
 returns-then-has_only_done-clause-turn g c =
     let shards = ap (λ (v : BrokerView). v.config.shards) c.self.view_is in
     let gone = c.let_go.ensures in
-    ticked c.nothing.result c.args.self.now.config c.args.self.now.states c.let_go.new.self.states c.args.now c.args.shard
+    ticked c.nothing.result c.args.self.now.config c.args.self.now.states c.let_go.new.self.states c.args.now
+    c.args.shard
     (omega (arith, shards, c.if-shard-self.false)) (omega (arith, c.if-now-gt-LATEST.false))
     (c.nothing.ensures.outs ∙ sym gone.packets) c.nothing.ensures.refusal (sym gone.states)
 
@@ -53,7 +55,8 @@ pub returns-in_err-room-clause-waits : goal.returns-in_err-room-clause-waits
 returns-in_err-room-clause-waits g c = λ e.
     let config = shown c.self.inside.config.now in
     let same = c.has_only_done.ensures
-    ∙ ap (λ (books : List BookView). only_done_from config c.args.now c.args.shard 0 (states_of books)) c.deref.ensures.value
+    ∙ ap (λ (books : List BookView). only_done_from config c.args.now c.args.shard 0 (states_of books))
+    c.deref.ensures.value
     ∙ ap (λ (v : BrokerView). only_done_from v.config c.args.now c.args.shard 0 v.states) c.self.view_is in
     sym same ∙ c.if-has_only_done.false
 

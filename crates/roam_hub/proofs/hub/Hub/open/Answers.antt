@@ -18,7 +18,8 @@ loop-blank-init g c =
           let here : slice_get blanks.items k ≡ Some b = subst (λ (l : List Blank). slice_get l k ≡ Some b) iter.0 at in
           let named = ap (λ f. f k) c.requires.books in
           let e : k ≡ 0 + k = omega arith in
-          subst (λ (n : ℕ). b.seen.book ≡ g.N.Opened.books n) e (sym (ap (λ (o : Option Blank). book_of o) here) ∙ sym named));
+          subst (λ (n : ℕ). b.seen.book ≡ g.N.Opened.books n) e (sym (ap (λ (o : Option Blank). book_of o) here)
+          ∙ sym named));
       locks = c.in_ok-locks.ensures.len;
       fronts = c.in_ok-fronts.ensures.len;
       unseen = rw c.in_ok-fronts.ensures.items refl;
@@ -30,7 +31,8 @@ loop-blank-init g c =
 pub kept_at-requires-clause-book : goal.kept_at-requires-clause-book
 kept_at-requires-clause-book g c =
     let b = c.in-Some.blank in
-    let at : slice_get (into_iter_items c.loop-blank.blank-iterator) 0 ≡ Some b = ap (λ (l : List Blank). slice_get l 0) c.in-Some.ensures.steps.0 in
+    let at : slice_get (into_iter_items c.loop-blank.blank-iterator) 0 ≡ Some b =
+    ap (λ (l : List Blank). slice_get l 0) c.in-Some.ensures.steps.0 in
     let here : c.loop-blank.shard + 0 ≡ c.loop-blank.shard = omega arith in
     subst (λ (n : ℕ). b.seen.book ≡ g.N.Opened.books n) here (c.loop-blank.invariant.books 0 b at)
 
@@ -44,7 +46,8 @@ loop-blank-preserved g c =
     let is = c.in_ok-kept.ensures.seen in
     let more = c.in_ok-push-2.ensures.items in
     let entries : entries_of (fronts ++ front ∷ []) ≡ entries_of fronts ++ [] ∷ [] =
-    map-append (λ (f : FrontView). f.entries) fronts (front ∷ []) ∙ ap (λ (f : FrontView). entries_of fronts ++ f.entries ∷ []) is in
+    map-append (λ (f : FrontView). f.entries) fronts (front ∷ [])
+    ∙ ap (λ (f : FrontView). entries_of fronts ++ f.entries ∷ []) is in
     record {
       books = λ k b at. (
           let more = inv.books (suc k) b (subst (λ (l : List Blank). slice_get l (suc k) ≡ Some b) (sym steps.0) at) in
@@ -52,8 +55,10 @@ loop-blank-preserved g c =
           subst (λ (n : ℕ). b.seen.book ≡ g.N.Opened.books n) same more);
       locks = (let len = c.in_ok-push.ensures.len in omega (arith, len, inv.locks));
       fronts = (let len = c.in_ok-push-2.ensures.len in omega (arith, len, inv.fronts));
-      unseen = rw more (entries ∙ (ap (λ (l : List (List HistoryEntry)). l ++ [] ∷ []) inv.unseen ∙ replicate-append-replicate c.loop-blank.shard 1 []));
-      of_shards = rw more (push_shards fronts front inv.of_shards (let n = c.loop-blank.fronts.ok.0 in let s = ap (λ (f : FrontView). f.shard) is in omega (arith, n, s, inv.fronts)));
+      unseen = rw more (entries ∙ (ap (λ (l : List (List HistoryEntry)). l ++ [] ∷ []) inv.unseen
+          ∙ replicate-append-replicate c.loop-blank.shard 1 []));
+      of_shards = rw more (push_shards fronts front inv.of_shards (let n = c.loop-blank.fronts.ok.0 in let s =
+          ap (λ (f : FrontView). f.shard) is in omega (arith, n, s, inv.fronts)));
       left = omega (arith, short, steps.1, inv.left);
       count = omega (arith, short, inv.count);
     }

@@ -6,7 +6,8 @@ use Rattle.roam_hub.proofs.hub.Hub.open.Given as goal
 
 abbrev pub invariant-loop-blank : goal.invariant-loop-blank
 invariant-loop-blank g l = record {
-  books : (k : ℕ) (b : Blank) → slice_get (into_iter_items l.blank-iterator) k ≡ Some b → b.seen.book ≡ g.N.Opened.books (l.shard + k);
+  books : (k : ℕ) (b : Blank) → slice_get (into_iter_items l.blank-iterator) k ≡ Some b →
+      b.seen.book ≡ g.N.Opened.books (l.shard + k);
   locks : vec_len l.locks ≡ l.shard;
   fronts : vec_len l.fronts ≡ l.shard;
   unseen : entries_of l.fronts.items ≡ replicate l.shard [];

@@ -6,7 +6,8 @@ use Rattle.roam_hub.proofs.hub.Hub.open_over.Given as goal
 
 abbrev pub invariant-loop-blank : goal.invariant-loop-blank
 invariant-loop-blank g l = record {
-  books : (k : ℕ) (b : Blank) → slice_get (into_iter_items l.blank-iterator) k ≡ Some b → b.seen.book ≡ g.N.Opened.books (l.shard + k);
+  books : (k : ℕ) (b : Blank) → slice_get (into_iter_items l.blank-iterator) k ≡ Some b →
+      b.seen.book ≡ g.N.Opened.books (l.shard + k);
   paused : (k : ℕ) → slice_get (into_iter_items l.left) k ≡ slice_get l.fn.shards.items (l.shard + k);
   more : into_iter_len l.left ≡ length (into_iter_items l.left);
   paused_count : l.shard + length (into_iter_items l.left) ≡ l.config.shards;

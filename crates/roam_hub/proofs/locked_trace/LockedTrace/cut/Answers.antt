@@ -1,5 +1,5 @@
 -- The shard stands where its whole history ends.
-use Rattle.std.proofs.Common.{◌≡◌, ℕ, List, ap, refl, subst, sym, ◌∙◌}
+use Rattle.std.proofs.Common.{◌≡◌, ℕ, List, ap, subst, sym, ◌∙◌}
 use Rattle.roam_shard.specs.ShardView.{OpeningView}
 use Rattle.roam_trace.specs.History.{IsHistory, end_of}
 use Rattle.roam_trace.specs.Steps.{PlainStep}
@@ -28,7 +28,8 @@ returns-clause-states g c =
     c.cut-shard.ensures.states
     ∙ (whole_end o k c.self.invariant.0
     ∙ (ap (λ (n : ℕ). end_of (opening_at o n) (steps_in i.front.entries)) here
-    ∙ ap (λ (l : List PlainStep). end_of (opening_at o c.args.shard) l) (whole_steps c.self.inside.front c.closed-whole.result c.closed-whole.ensures)))
+    ∙ ap (λ (l : List PlainStep). end_of (opening_at o c.args.shard) l)
+    (whole_steps c.self.inside.front c.closed-whole.result c.closed-whole.ensures)))
 
 pub returns-clause-history : goal.returns-clause-history
 returns-clause-history g c =
@@ -36,8 +37,10 @@ returns-clause-history g c =
     let i = c.self.inside in
     let k : KeptView = record { trace = i.traced; front = i.front } in
     let here : i.front.shard ≡ c.args.shard = sym c.shard.ensures ∙ c.if-shard.false in
-    subst (λ (l : List PlainStep). IsHistory (opening_at o c.args.shard) l) (whole_steps c.self.inside.front c.closed-whole.result c.closed-whole.ensures)
-    (subst (λ (n : ℕ). IsHistory (opening_at o n) (steps_in i.front.entries)) here (whole_history o k c.self.invariant.0))
+    subst (λ (l : List PlainStep). IsHistory (opening_at o c.args.shard) l)
+    (whole_steps c.self.inside.front c.closed-whole.result c.closed-whole.ensures)
+    (subst (λ (n : ℕ). IsHistory (opening_at o n) (steps_in i.front.entries)) here
+    (whole_history o k c.self.invariant.0))
 
 pub returns-clause-steps : goal.returns-clause-steps
 returns-clause-steps g c =
@@ -52,4 +55,5 @@ returns-clause-shard g c =
 
 pub returns-clause-whole : goal.returns-clause-whole
 returns-clause-whole g c =
-    subst (λ (f : FrontView). IsWhole f.entries) (sym c.closed-whole.ensures) (is_whole_closed c.self.inside.front.entries)
+    subst (λ (f : FrontView). IsWhole f.entries) (sym c.closed-whole.ensures)
+    (is_whole_closed c.self.inside.front.entries)

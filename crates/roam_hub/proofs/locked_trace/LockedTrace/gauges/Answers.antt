@@ -16,9 +16,11 @@ returns g c =
     let k : KeptView = record { trace = i.traced; front = i.front } in
     let seat = c.args.seat.now in
     let yes : c.goes_on.result ≡ true = cc in
-    let here : i.front.shard ≡ c.args.shard = ap (λ (v : KeptView). v.front.shard) c.self.view_is ∙ c.goes_on.ensures.shard yes in
+    let here : i.front.shard ≡ c.args.shard = ap (λ (v : KeptView). v.front.shard) c.self.view_is
+    ∙ c.goes_on.ensures.shard yes in
     let begins : IsPrefix (front_of seat c.args.shard) i.front.entries =
-    subst (λ (v : KeptView). IsPrefix (front_of seat c.args.shard) v.front.entries) (sym c.self.view_is) (c.goes_on.ensures.begins yes) in
+    subst (λ (v : KeptView). IsPrefix (front_of seat c.args.shard) v.front.entries) (sym c.self.view_is)
+    (c.goes_on.ensures.begins yes) in
     IfSome_then c.gauges.result c.gauges.ensures.stands
     (λ n stands. stands_in g.N.Opened.opening k c.args.shard c.args.realm seat n c.self.invariant.0 here begins
     (subst (λ (s : List RealmState). StandsAs (state_at s c.args.realm) n) c.shard.ensures.states stands))

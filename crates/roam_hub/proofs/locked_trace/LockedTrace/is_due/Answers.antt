@@ -10,17 +10,22 @@ use Rattle.roam_hub.proofs.locked_trace.LockedTrace.is_due.Given.{Over}
 use Rattle.roam_hub.proofs.locked_trace.LockedTrace.is_due.Goals as goal
 
 all : (g : Over) (c : goal.After-learn g)
-    → IsLook g.N.Opened.opening c.args.shard c.args.now c.args.seat.now c.learn.new.self c.is_due-is_due.result × Sees c.args.shard c.args.seat.now c.learn.new.self
+    → IsLook g.N.Opened.opening c.args.shard c.args.now c.args.seat.now c.learn.new.self c.is_due-is_due.result
+    × Sees c.args.shard c.args.seat.now c.learn.new.self
 all g c =
     let i = c.self.inside in
     let k : KeptView = record { trace = i.traced; front = i.front } in
     let old = c.args.seat.now in
-    let here : i.front.shard ≡ c.args.shard = ap (λ (v : KeptView). v.front.shard) c.self.view_is ∙ c.in_ok-check.ensures.shard in
+    let here : i.front.shard ≡ c.args.shard = ap (λ (v : KeptView). v.front.shard) c.self.view_is
+    ∙ c.in_ok-check.ensures.shard in
     let begins : IsPrefix (front_of old c.args.shard) i.front.entries =
-    subst (λ (v : KeptView). IsPrefix (front_of old c.args.shard) v.front.entries) (sym c.self.view_is) c.in_ok-check.ensures.begins in
+    subst (λ (v : KeptView). IsPrefix (front_of old c.args.shard) v.front.entries) (sym c.self.view_is)
+    c.in_ok-check.ensures.begins in
     let seen : c.learn.new.self ≡ having_seen old c.args.shard i.front.entries =
-    c.learn.ensures ∙ (ap (λ (f : FrontView). having_seen old f.shard f.entries) c.again.ensures ∙ ap (λ (n : ℕ). having_seen old n i.front.entries) here) in
-    look g.N.Opened.opening k c.args.shard c.args.now old c.learn.new.self c.is_due-is_due.result c.self.invariant.0 here c.in_ok-check.ensures.there begins
+    c.learn.ensures ∙ (ap (λ (f : FrontView). having_seen old f.shard f.entries) c.again.ensures
+    ∙ ap (λ (n : ℕ). having_seen old n i.front.entries) here) in
+    look g.N.Opened.opening k c.args.shard c.args.now old c.learn.new.self c.is_due-is_due.result c.self.invariant.0
+    here c.in_ok-check.ensures.there begins
     c.is_due-is_due.ensures seen
 
 pub returns-clause-look : goal.returns-clause-look

@@ -12,18 +12,23 @@ use Rattle.roam_hub.proofs.locked_trace.LockedTrace.let_go.Given.{Over}
 use Rattle.roam_hub.proofs.locked_trace.LockedTrace.let_go.Goals as goal
 
 all : (g : Over) (c : goal.After-learn g)
-    → AreGone g.N.Opened.opening c.args.shard c.args.seat.now c.learn.new.self c.let_go-steps.result.items × Sees c.args.shard c.args.seat.now c.learn.new.self
+    → AreGone g.N.Opened.opening c.args.shard c.args.seat.now c.learn.new.self c.let_go-steps.result.items
+    × Sees c.args.shard c.args.seat.now c.learn.new.self
 all g c =
     let i = c.self.inside in
     let k : KeptView = record { trace = i.traced; front = i.front } in
     let old = c.args.seat.now in
     let whole = i.front.entries ++ let_go_entry ∷ [] in
-    let here : i.front.shard ≡ c.args.shard = ap (λ (v : KeptView). v.front.shard) c.self.view_is ∙ c.in_ok-check.ensures.shard in
+    let here : i.front.shard ≡ c.args.shard = ap (λ (v : KeptView). v.front.shard) c.self.view_is
+    ∙ c.in_ok-check.ensures.shard in
     let begins : IsPrefix (front_of old c.args.shard) i.front.entries =
-    subst (λ (v : KeptView). IsPrefix (front_of old c.args.shard) v.front.entries) (sym c.self.view_is) c.in_ok-check.ensures.begins in
+    subst (λ (v : KeptView). IsPrefix (front_of old c.args.shard) v.front.entries) (sym c.self.view_is)
+    c.in_ok-check.ensures.begins in
     let seen : c.learn.new.self ≡ having_seen old c.args.shard whole =
-    c.learn.ensures ∙ (ap (λ (f : FrontView). having_seen old f.shard f.entries) (c.again.ensures ∙ c.without_steps.ensures) ∙ ap (λ (n : ℕ). having_seen old n whole) here) in
-    gone_of_shard g.N.Opened.opening k c.args.shard old c.learn.new.self c.let_go-steps.result.items c.self.invariant.0 here c.in_ok-check.ensures.there begins
+    c.learn.ensures ∙ (ap (λ (f : FrontView). having_seen old f.shard f.entries) (c.again.ensures
+    ∙ c.without_steps.ensures) ∙ ap (λ (n : ℕ). having_seen old n whole) here) in
+    gone_of_shard g.N.Opened.opening k c.args.shard old c.learn.new.self c.let_go-steps.result.items
+    c.self.invariant.0 here c.in_ok-check.ensures.there begins
     c.let_go-steps.ensures.steps seen
 
 pub invariant_of-self : goal.invariant_of-self
@@ -36,12 +41,15 @@ invariant_of-self g c =
     let gone : c.let_go-steps.new.self ≡ without_steps i.traced = c.let_go-steps.ensures.gone in
     let first = o.states i.front.shard in
     let ends : Ends (without_steps i.traced) first (gone_of es ++ i.traced.steps) =
-    subst (λ (v : TraceView). Ends v first (gone_of es ++ i.traced.steps)) gone (c.let_go-steps.ensures.history first (gone_of es) c.self.invariant.0.ends) in
+    subst (λ (v : TraceView). Ends v first (gone_of es ++ i.traced.steps)) gone
+    (c.let_go-steps.ensures.history first (gone_of es) c.self.invariant.0.ends) in
     let one : IsKept o (record { trace = without_steps i.traced; front = after }) = kept_gone o k c.self.invariant.0
-    (let same = ap (λ (v : KeptView). length v.front.entries) c.self.view_is in omega (arith, same, c.in_ok-check.ensures.room)) ends in
+    (let same = ap (λ (v : KeptView). length v.front.entries) c.self.view_is in
+    omega (arith, same, c.in_ok-check.ensures.room)) ends in
     let two : IsKept o (record { trace = c.let_go-steps.new.self; front = after }) =
     subst (λ (v : TraceView). IsKept o (record { trace = v; front = after })) (sym gone) one in (
-      subst (λ (f : FrontView). IsKept o (record { trace = c.let_go-steps.new.self; front = f })) (sym c.without_steps.ensures) two,
+      subst (λ (f : FrontView). IsKept o (record { trace = c.let_go-steps.new.self; front = f }))
+          (sym c.without_steps.ensures) two,
       c.self.invariant.1 ∙ sym (ap (λ (f : FrontView). f.shard) c.without_steps.ensures),
     )
 

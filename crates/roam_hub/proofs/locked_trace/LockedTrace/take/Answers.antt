@@ -16,17 +16,28 @@ use Rattle.roam_hub.proofs.locked_trace.LockedTrace.take.Given.{Over}
 use Rattle.roam_hub.proofs.locked_trace.LockedTrace.take.Goals as goal
 
 all : (g : Over) (c : goal.After-recorded-number g)
-    → Recorded g.N.Opened.opening (record { trace = c.take.new.self; front = c.recorded-number.new.front }) c.args.shard c.args.seat.now c.recorded-number.new.seat
-    c.recorded-number.result (record { event = arrives c.args.call.moment (arrival_of (shown_job c.args.job)); answer = shown_answer c.in-Ok.answer })
+    → Recorded g.N.Opened.opening (record { trace = c.take.new.self; front = c.recorded-number.new.front })
+    c.args.shard c.args.seat.now c.recorded-number.new.seat
+    c.recorded-number.result (record {
+      event = arrives c.args.call.moment (arrival_of (shown_job c.args.job));
+      answer = shown_answer c.in-Ok.answer;
+    })
 all g c =
     let i = c.self.inside in
     let k : KeptView = record { trace = i.traced; front = i.front } in
-    let s : PlainStep = record { event = arrives c.args.call.moment (arrival_of (shown_job c.args.job)); answer = shown_answer c.in-Ok.answer } in
+    let s : PlainStep = record {
+      event = arrives c.args.call.moment (arrival_of (shown_job c.args.job));
+      answer =
+          shown_answer c.in-Ok.answer;
+    } in
     let trace : c.take.new.self ≡ with_step i.traced s = c.in-Ok.ensures.stores.ok in
-    let here : i.front.shard ≡ c.args.shard = ap (λ (v : KeptView). v.front.shard) c.self.view_is ∙ c.in_default.ensures.shard in
+    let here : i.front.shard ≡ c.args.shard = ap (λ (v : KeptView). v.front.shard) c.self.view_is
+    ∙ c.in_default.ensures.shard in
     let begins : IsPrefix (front_of c.args.seat.now c.args.shard) i.front.entries =
-    subst (λ (v : KeptView). IsPrefix (front_of c.args.seat.now c.args.shard) v.front.entries) (sym c.self.view_is) c.in_default.ensures.begins in
-    recorded g.N.Opened.opening k c.take.new.self c.recorded-number.new.front s c.args.shard c.recorded-number.result c.args.seat.now c.recorded-number.new.seat c.self.invariant.0
+    subst (λ (v : KeptView). IsPrefix (front_of c.args.seat.now c.args.shard) v.front.entries) (sym c.self.view_is)
+    c.in_default.ensures.begins in
+    recorded g.N.Opened.opening k c.take.new.self c.recorded-number.new.front s c.args.shard c.recorded-number.result
+    c.args.seat.now c.recorded-number.new.seat c.self.invariant.0
     (record {
       trace = trace;
       more = c.in-Ok.ensures.stores.history;
@@ -34,18 +45,29 @@ all g c =
       here = here;
       there = c.in_default.ensures.there;
       begins = begins;
-      room = (let same = ap (λ (v : KeptView). length v.front.entries) c.self.view_is in omega (arith, same, c.in_default.ensures.room));
+      room = (let same = ap (λ (v : KeptView). length v.front.entries) c.self.view_is in
+          omega (arith, same, c.in_default.ensures.room));
       number_is = c.recorded-number.ensures.number;
-      noted = c.recorded-number.ensures.seat ∙ ap (λ (n : ℕ). after_call c.args.seat.now n c.recorded-number.result c.recorded-number.new.front.entries) here;
+      noted = c.recorded-number.ensures.seat
+          ∙ ap (λ (n : ℕ). after_call c.args.seat.now n c.recorded-number.result c.recorded-number.new.front.entries)
+          here;
     })
 
 pub recorded-number-requires-clause-step : goal.recorded-number-requires-clause-step
 recorded-number-requires-clause-step g c =
-    let s : PlainStep = record { event = arrives c.args.call.moment (arrival_of (shown_job c.args.job)); answer = shown_answer c.in-Ok.answer } in
+    let s : PlainStep = record {
+      event = arrives c.args.call.moment (arrival_of (shown_job c.args.job));
+      answer =
+          shown_answer c.in-Ok.answer;
+    } in
     (s, ap (λ (v : TraceView). last_of v.steps) c.in-Ok.ensures.stores.ok ∙ last-push c.self.inside.traced.steps s)
 
 pub invariant_of-self : goal.invariant_of-self
-invariant_of-self g c = ((all g c).kept, c.self.invariant.1 ∙ sym (ap (λ (f : FrontView). f.shard) c.recorded-number.ensures.front))
+invariant_of-self g c = (
+  (all g c).kept,
+  c.self.invariant.1
+      ∙ sym (ap (λ (f : FrontView). f.shard) c.recorded-number.ensures.front),
+)
 
 pub returns-in-Ok-clause-calls : goal.returns-in-Ok-clause-calls
 returns-in-Ok-clause-calls g c =
@@ -64,7 +86,11 @@ returns-in-Ok-clause-calls g c =
 
 pub returns-in-Ok-clause-one : goal.returns-in-Ok-clause-one
 returns-in-Ok-clause-one g c =
-    let s : PlainStep = record { event = arrives c.args.call.moment (arrival_of (shown_job c.args.job)); answer = shown_answer c.in-Ok.answer } in
+    let s : PlainStep = record {
+      event = arrives c.args.call.moment (arrival_of (shown_job c.args.job));
+      answer =
+          shown_answer c.in-Ok.answer;
+    } in
     ap (λ (f : FrontView). f.entries) c.recorded-number.ensures.front
     ∙ (ap (λ (e : HistoryEntry). c.self.inside.front.entries ++ e ∷ []) (all g c).last
     ∙ ap (λ (v : KeptView). v.front.entries ++ step_entry s ∷ []) c.self.view_is)

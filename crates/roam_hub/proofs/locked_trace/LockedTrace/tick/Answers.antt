@@ -15,18 +15,35 @@ use Rattle.roam_hub.proofs.locked_trace.LockedTrace.tick.Given.{Over}
 use Rattle.roam_hub.proofs.locked_trace.LockedTrace.tick.Goals as goal
 
 all : (g : Over) (c : goal.After-recorded-number g)
-    → Recorded g.N.Opened.opening (record { trace = c.tick.new.self; front = c.recorded-number.new.front }) c.args.shard c.args.seat.now c.recorded-number.new.seat
-    c.recorded-number.result (record { event = ticks c.args.call.moment c.args.shard; answer = shown_answer c.in-Ok.answer })
+    → Recorded g.N.Opened.opening (record { trace = c.tick.new.self; front = c.recorded-number.new.front })
+    c.args.shard c.args.seat.now c.recorded-number.new.seat
+    c.recorded-number.result (record {
+      event = ticks c.args.call.moment c.args.shard;
+      answer =
+          shown_answer c.in-Ok.answer;
+    })
 all g c =
     let i = c.self.inside in
     let k : KeptView = record { trace = i.traced; front = i.front } in
-    let s : PlainStep = record { event = ticks c.args.call.moment c.args.shard; answer = shown_answer c.in-Ok.answer } in
-    let here : i.front.shard ≡ c.args.shard = ap (λ (v : KeptView). v.front.shard) c.self.view_is ∙ c.in_ok-check.ensures.shard in
+    let s : PlainStep = record {
+      event = ticks c.args.call.moment c.args.shard;
+      answer =
+          shown_answer c.in-Ok.answer;
+    } in
+    let here : i.front.shard ≡ c.args.shard = ap (λ (v : KeptView). v.front.shard) c.self.view_is
+    ∙ c.in_ok-check.ensures.shard in
     let opened : i.traced.opening.shard ≡ c.args.shard = c.self.invariant.0.shard ∙ here in
-    let trace : c.tick.new.self ≡ with_step i.traced s = c.in-Ok.ensures.ok ∙ (λ j. with_step i.traced (record { event = ticks c.args.call.moment (opened j); answer = shown_answer c.in-Ok.answer })) in
+    let trace : c.tick.new.self ≡ with_step i.traced s = c.in-Ok.ensures.ok
+    ∙ (λ j. with_step i.traced (record {
+      event = ticks c.args.call.moment (opened j);
+      answer =
+          shown_answer c.in-Ok.answer;
+    })) in
     let begins : IsPrefix (front_of c.args.seat.now c.args.shard) i.front.entries =
-    subst (λ (v : KeptView). IsPrefix (front_of c.args.seat.now c.args.shard) v.front.entries) (sym c.self.view_is) c.in_ok-check.ensures.begins in
-    recorded g.N.Opened.opening k c.tick.new.self c.recorded-number.new.front s c.args.shard c.recorded-number.result c.args.seat.now c.recorded-number.new.seat c.self.invariant.0
+    subst (λ (v : KeptView). IsPrefix (front_of c.args.seat.now c.args.shard) v.front.entries) (sym c.self.view_is)
+    c.in_ok-check.ensures.begins in
+    recorded g.N.Opened.opening k c.tick.new.self c.recorded-number.new.front s c.args.shard c.recorded-number.result
+    c.args.seat.now c.recorded-number.new.seat c.self.invariant.0
     (record {
       trace = trace;
       more = c.in-Ok.ensures.history;
@@ -34,9 +51,12 @@ all g c =
       here = here;
       there = c.in_ok-check.ensures.there;
       begins = begins;
-      room = (let same = ap (λ (v : KeptView). length v.front.entries) c.self.view_is in omega (arith, same, c.in_ok-check.ensures.room));
+      room = (let same = ap (λ (v : KeptView). length v.front.entries) c.self.view_is in
+          omega (arith, same, c.in_ok-check.ensures.room));
       number_is = c.recorded-number.ensures.number;
-      noted = c.recorded-number.ensures.seat ∙ ap (λ (n : ℕ). after_call c.args.seat.now n c.recorded-number.result c.recorded-number.new.front.entries) here;
+      noted = c.recorded-number.ensures.seat
+          ∙ ap (λ (n : ℕ). after_call c.args.seat.now n c.recorded-number.result c.recorded-number.new.front.entries)
+          here;
     })
 
 pub returns-in-Ok-clause-call : goal.returns-in-Ok-clause-call
@@ -44,7 +64,11 @@ returns-in-Ok-clause-call g c = (all g c).call
 
 pub returns-in-Ok-clause-one : goal.returns-in-Ok-clause-one
 returns-in-Ok-clause-one g c =
-    let s : PlainStep = record { event = ticks c.args.call.moment c.args.shard; answer = shown_answer c.in-Ok.answer } in
+    let s : PlainStep = record {
+      event = ticks c.args.call.moment c.args.shard;
+      answer =
+          shown_answer c.in-Ok.answer;
+    } in
     ap (λ (f : FrontView). f.entries) c.recorded-number.ensures.front
     ∙ (ap (λ (e : HistoryEntry). c.self.inside.front.entries ++ e ∷ []) (all g c).last
     ∙ ap (λ (v : KeptView). v.front.entries ++ step_entry s ∷ []) c.self.view_is)
@@ -54,11 +78,19 @@ returns-in-Ok-clause-all g c = (all g c).front
 
 pub recorded-number-requires-clause-step : goal.recorded-number-requires-clause-step
 recorded-number-requires-clause-step g c =
-    let s : PlainStep = record { event = ticks c.args.call.moment c.self.inside.traced.opening.shard; answer = shown_answer c.in-Ok.answer } in
+    let s : PlainStep = record {
+      event = ticks c.args.call.moment c.self.inside.traced.opening.shard;
+      answer =
+          shown_answer c.in-Ok.answer;
+    } in
     (s, ap (λ (v : TraceView). last_of v.steps) c.in-Ok.ensures.ok ∙ last-push c.self.inside.traced.steps s)
 
 pub invariant_of-self : goal.invariant_of-self
-invariant_of-self g c = ((all g c).kept, c.self.invariant.1 ∙ sym (ap (λ (f : FrontView). f.shard) c.recorded-number.ensures.front))
+invariant_of-self g c = (
+  (all g c).kept,
+  c.self.invariant.1
+      ∙ sym (ap (λ (f : FrontView). f.shard) c.recorded-number.ensures.front),
+)
 
 pub returns-in-Ok-clause-octets : goal.returns-in-Ok-clause-octets
 returns-in-Ok-clause-octets g c =
@@ -74,5 +106,6 @@ returns-in-Ok-clause-ends g c =
     let f = c.recorded-number.new.front in
     let k : KeptView = record { trace = c.tick.new.self; front = f } in
     let here : f.shard ≡ c.args.shard =
-    ap (λ (x : FrontView). x.shard) c.recorded-number.ensures.front ∙ (ap (λ (v : KeptView). v.front.shard) c.self.view_is ∙ c.in_ok-check.ensures.shard) in
+    ap (λ (x : FrontView). x.shard) c.recorded-number.ensures.front
+    ∙ (ap (λ (v : KeptView). v.front.shard) c.self.view_is ∙ c.in_ok-check.ensures.shard) in
     whole_end o k (all g c).kept ∙ ap (λ (n : ℕ). end_of (opening_at o n) (steps_in f.entries)) here

@@ -20,13 +20,18 @@ returns-in-None-clause-tick g c =
     let i = c.self.inside in
     let k : KeptView = record { trace = i.traced; front = i.front } in
     let old = c.args.seat.now in
-    let here : i.front.shard ≡ c.args.shard = ap (λ (v : KeptView). v.front.shard) c.self.view_is ∙ c.in_ok-check.ensures.shard in
+    let here : i.front.shard ≡ c.args.shard = ap (λ (v : KeptView). v.front.shard) c.self.view_is
+    ∙ c.in_ok-check.ensures.shard in
     let begins : IsPrefix (front_of old c.args.shard) i.front.entries =
-    subst (λ (v : KeptView). IsPrefix (front_of old c.args.shard) v.front.entries) (sym c.self.view_is) c.in_ok-check.ensures.begins in
+    subst (λ (v : KeptView). IsPrefix (front_of old c.args.shard) v.front.entries) (sym c.self.view_is)
+    c.in_ok-check.ensures.begins in
     let seen : c.learn.new.self ≡ having_seen old c.args.shard i.front.entries =
-    c.learn.ensures ∙ (ap (λ (f : FrontView). having_seen old f.shard f.entries) c.again.ensures ∙ ap (λ (n : ℕ). having_seen old n i.front.entries) here) in
-    let none = subst (λ (v : KeptView). NothingDue c.args.call.moment v.trace.states) (sym c.self.view_is) c.in-None.ensures.none in
-    let both = look g.N.Opened.opening k c.args.shard c.args.call.moment old c.learn.new.self false c.self.invariant.0 here c.in_ok-check.ensures.there begins
+    c.learn.ensures ∙ (ap (λ (f : FrontView). having_seen old f.shard f.entries) c.again.ensures
+    ∙ ap (λ (n : ℕ). having_seen old n i.front.entries) here) in
+    let none = subst (λ (v : KeptView). NothingDue c.args.call.moment v.trace.states) (sym c.self.view_is)
+    c.in-None.ensures.none in
+    let both = look g.N.Opened.opening k c.args.shard c.args.call.moment old c.learn.new.self false
+    c.self.invariant.0 here c.in_ok-check.ensures.there begins
     (λ _. none, λ _. refl) seen in
     record { tick = both.0; seen = both.1; err = tt; full = λ is. absurd (let bad : Ok _ ≡ Err _ = is in cc) }
 
@@ -40,18 +45,28 @@ returns-in_ok-answered-in-Some-clause-tick g c =
     let a = c.in_ok-answered-in-Some.answered in
     let s = answered_step (ticks moment c.args.shard) a in
     let is = sym c.self.view_is in
-    let here : i.front.shard ≡ c.args.shard = ap (λ (v : KeptView). v.front.shard) c.self.view_is ∙ c.in_ok-check.ensures.shard in
+    let here : i.front.shard ≡ c.args.shard = ap (λ (v : KeptView). v.front.shard) c.self.view_is
+    ∙ c.in_ok-check.ensures.shard in
     let begins : IsPrefix (front_of c.args.seat.now c.args.shard) i.front.entries =
-    subst (λ (v : KeptView). IsPrefix (front_of c.args.seat.now c.args.shard) v.front.entries) is c.in_ok-check.ensures.begins in
+    subst (λ (v : KeptView). IsPrefix (front_of c.args.seat.now c.args.shard) v.front.entries) is
+    c.in_ok-check.ensures.begins in
     let due = subst (λ (v : KeptView). NothingDue now v.trace.states → ⊥) is c.in-Some.ensures.due in
     let part = subst (λ (v : KeptView). IsTickMoment now v.trace.states moment) is c.in-Some.ensures.part in
-    let call = due_call o k c.args.shard now moment c.args.seat.now c.tick.new.seat a.number s c.self.invariant.0 here begins
+    let call = due_call o k c.args.shard now moment c.args.seat.now c.tick.new.seat a.number s c.self.invariant.0
+    here begins
     due part c.in_ok-answered-in-Some.ensures.call
-    (c.in_ok-answered-in-Some.ensures.all ∙ (c.in_ok-answered-in-Some.ensures.one ∙ ap (λ (v : KeptView). v.front.entries ++ step_entry s ∷ []) is)) in
+    (c.in_ok-answered-in-Some.ensures.all
+    ∙ (c.in_ok-answered-in-Some.ensures.one ∙ ap (λ (v : KeptView). v.front.entries ++ step_entry s ∷ []) is)) in
     let end = c.in_ok-answered-in-Some.ensures.ends
-    ∙ ap (λ (l : List HistoryEntry). end_of (opening_at o c.args.shard) (steps_in l)) (sym c.in_ok-answered-in-Some.ensures.all) in
+    ∙ ap (λ (l : List HistoryEntry). end_of (opening_at o c.args.shard) (steps_in l))
+    (sym c.in_ok-answered-in-Some.ensures.all) in
     record {
-      tick = record { call = call; more = subst (λ (t : List RealmState). c.has_due-is_more.result ≡ false ↔ NothingDue now t) end c.has_due-is_more.ensures };
+      tick = record {
+        call = call;
+        more =
+            subst (λ (t : List RealmState). c.has_due-is_more.result ≡ false
+            ↔ NothingDue now t) end c.has_due-is_more.ensures;
+      };
       seen = c.in_ok-answered-in-Some.ensures.seen;
       err = tt;
       full = λ is. absurd (let bad : Ok _ ≡ Err _ = is in cc);

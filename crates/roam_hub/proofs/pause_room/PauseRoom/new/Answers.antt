@@ -20,6 +20,10 @@ invariant_of-result g c =
       shard_room = record { empty = one.items; room = (let le = one.capacity in omega (arith, le, count)) };
       step_room = record { empty = two.items; room = (let le = two.capacity in omega (arith, le, count)) };
       front_room = record { empty = three.items; room = (let le = three.capacity in omega (arith, le, count)) };
-      start_room = record { empty = four.items; room = (let le = four.capacity in omega (arith, le, same, many, realms.ok.0, c.len.ensures)) };
+      start_room = record {
+        empty = four.items;
+        room =
+            (let le = four.capacity in omega (arith, le, same, many, realms.ok.0, c.len.ensures));
+      };
       paused_room = record { empty = five.items; room = (let le = five.capacity in omega (arith, le, count)) };
     }

@@ -13,4 +13,5 @@ returns-in-Some-clause-found g c =
     let within = rw c.deref.ensures.value at c.in-Some.ensures.none in
     let at = rw c.deref.ensures.value at (c.in-Some.ensures.found entry) in
     let found = found_at c.args.ticket es c.in-Some.place entry within at c.self.invariant.in_order in
-    ap (λ (e : Entry g.row.A.Denot). Some (shown e)) c.index.ensures ∙ sym found ∙ ap (λ (h : Held). find_ticket c.args.ticket h.entries) c.self.view_is
+    ap (λ (e : Entry g.row.A.Denot). Some (shown e)) c.index.ensures ∙ sym found
+    ∙ ap (λ (h : Held). find_ticket c.args.ticket h.entries) c.self.view_is

@@ -13,7 +13,8 @@ invariant_of-self g c =
     let old = c.index_mut.result.now in
     let within = rw c.deref.ensures.value at c.in-Some.ensures.none in
     let at = rw c.deref.ensures.value at (c.in-Some.ensures.found old) in
-    stands-list c.args.ticket c.self.inside.entries.items c.in-Some.place old c.self.invariant within at c.index_mut.ensures.value c.wait_on.new.self
+    stands-list c.args.ticket c.self.inside.entries.items c.in-Some.place old c.self.invariant within at
+    c.index_mut.ensures.value c.wait_on.new.self
 
 -- it waits on
 pub returns-in-Some-clause-entries : goal.returns-in-Some-clause-entries
@@ -24,6 +25,9 @@ returns-in-Some-clause-entries g c =
     let at = rw c.deref.ensures.value at (c.in-Some.ensures.found old) in
     let change = sent_again c.args.deadline in
     let same = ap (λ (s : PlainStanding). with_standing s (shown old)) c.wait_on.ensures in
-    let changed = stands-changed c.args.ticket es c.in-Some.place old c.self.invariant within at c.index_mut.ensures.value c.wait_on.new.self change same in
-    let new : Entry g.row.A.Denot = record { request = old.request; ticket = old.ticket; standing = c.wait_on.new.self } in
-    subst (λ (h : Held). IsChanged change c.args.ticket h.entries (shown_all (slice_set es c.in-Some.place new))) c.self.view_is changed
+    let changed = stands-changed c.args.ticket es c.in-Some.place old c.self.invariant within at
+    c.index_mut.ensures.value c.wait_on.new.self change same in
+    let new : Entry g.row.A.Denot =
+    record { request = old.request; ticket = old.ticket; standing = c.wait_on.new.self } in
+    subst (λ (h : Held). IsChanged change c.args.ticket h.entries (shown_all (slice_set es c.in-Some.place new)))
+    c.self.view_is changed

@@ -10,27 +10,34 @@ use Rattle.roam_shard.proofs.paused.Paused.reserve.Goals as goal
 
 pub returns-in_err-add_realms-clause-still : goal.returns-in_err-add_realms-clause-still
 returns-in_err-add_realms-clause-still g c =
-    more_realms_still (shown c.args.old.now) c.args.self.now c.add_realms.new.self c.requires.stands c.add_realms.ensures.entries c.add_realms.ensures.realms
+    more_realms_still (shown c.args.old.now) c.args.self.now c.add_realms.new.self c.requires.stands
+    c.add_realms.ensures.entries c.add_realms.ensures.realms
 
 pub returns-in_err-numbers-clause-still : goal.returns-in_err-numbers-clause-still
 returns-in_err-numbers-clause-still g c =
-    more_realms_still (shown c.args.old.now) c.args.self.now c.add_realms.new.self c.requires.stands c.add_realms.ensures.entries c.add_realms.ensures.realms
+    more_realms_still (shown c.args.old.now) c.args.self.now c.add_realms.new.self c.requires.stands
+    c.add_realms.ensures.entries c.add_realms.ensures.realms
 
 pub loop-realm-init : goal.loop-realm-init
 loop-realm-init g c =
     let realms = c.args.new.now.realms in
     record {
-      still = more_realms_still (shown c.args.old.now) c.args.self.now c.add_realms.new.self c.requires.stands c.add_realms.ensures.entries
+      still = more_realms_still (shown c.args.old.now) c.args.self.now c.add_realms.new.self c.requires.stands
+          c.add_realms.ensures.entries
           c.add_realms.ensures.realms;
-      ready = rw c.in_ok-numbers.ensures.items (none_ready (shown c.args.old.now) (shown c.args.new.now) c.args.self.now.shard c.args.self.now.numbers.items);
-      kept = (let le = c.in_ok-add_realms.ensures.ok in omega (arith, le, length-map realms.items shown_realm, realms.ok.0, c.len.ensures));
+      ready = rw c.in_ok-numbers.ensures.items
+          (none_ready (shown c.args.old.now) (shown c.args.new.now) c.args.self.now.shard
+          c.args.self.now.numbers.items);
+      kept = (let le = c.in_ok-add_realms.ensures.ok in
+          omega (arith, le, length-map realms.items shown_realm, realms.ok.0, c.len.ensures));
       len = c.in_ok-numbers.ensures.len;
       room = (let le = c.in_ok-numbers.ensures.capacity in omega (arith, le, c.len-2.ensures));
     }
 
 pub returns-in_err-fresh-clause-still : goal.returns-in_err-fresh-clause-still
 returns-in_err-fresh-clause-still g c =
-    still_then (shown c.args.old.now) c.args.self.now c.loop-realm.self c.reserve_one.new.self c.loop-realm.invariant.still c.reserve_one.ensures.still
+    still_then (shown c.args.old.now) c.args.self.now c.loop-realm.self c.reserve_one.new.self
+    c.loop-realm.invariant.still c.reserve_one.ensures.still
 
 pub loop-realm-preserved : goal.loop-realm-preserved
 loop-realm-preserved g c =
@@ -41,12 +48,15 @@ loop-realm-preserved g c =
     let still = still_then old c.args.self.now c.loop-realm.self c.reserve_one.new.self inv.still one.still in
     let fresh = c.in_ok-fresh.fresh in
     let ready : IsReadyAt old new c.args.self.now.shard c.loop-realm.realm c.reserve_one.new.self.numbers.items fresh =
-    subst (λ (n : ℕ). IsReadyAt old new n c.loop-realm.realm c.reserve_one.new.self.numbers.items fresh) still.shard c.in_ok-fresh.ensures.ready in
+    subst (λ (n : ℕ). IsReadyAt old new n c.loop-realm.realm c.reserve_one.new.self.numbers.items fresh) still.shard
+    c.in_ok-fresh.ensures.ready in
     record {
       still = still;
-      ready = rw c.push_reserved.ensures.items (one_ready old new c.args.self.now.shard c.loop-realm.self.numbers.items c.reserve_one.new.self.numbers.items
+      ready = rw c.push_reserved.ensures.items
+          (one_ready old new c.args.self.now.shard c.loop-realm.self.numbers.items c.reserve_one.new.self.numbers.items
           c.loop-realm.numbers.items fresh c.loop-realm.realm inv.ready one.others.others ready);
-      kept = (let same = ap (λ (t : List RealmView). length t) one.others.entries in let kept = inv.kept in omega (arith, same, kept));
+      kept = (let same = ap (λ (t : List RealmView). length t) one.others.entries in let kept = inv.kept in
+          omega (arith, same, kept));
       len = (let len = c.push_reserved.ensures.len in omega (arith, len, inv.len));
       room = (let same = c.push_reserved.ensures.capacity in omega (arith, same, inv.room));
     }
@@ -59,7 +69,16 @@ returns-clause-ready g c =
     let realms = c.args.new.now.realms in
     let number = inv.ready.number in
     record {
-      count = omega (arith, number, length-map realms.items shown_realm, realms.ok.0, c.loop-realm-test.false, c.loop-realm.auto.realm-end, c.len-realm-end.ensures);
+      count = omega (
+        arith,
+        number,
+        length-map realms.items shown_realm,
+        realms.ok.0,
+        c.loop-realm-test.false,
+        c.loop-realm.auto.realm-end,
+        c.len-realm-end.ensures,
+      );
       kept = inv.kept;
-      each = λ r n at. subst (λ (k : ℕ). IsReadyAt old new k r c.loop-realm.self.numbers.items n) (sym inv.still.shard) (inv.ready.each r n at);
+      each = λ r n at. subst (λ (k : ℕ). IsReadyAt old new k r c.loop-realm.self.numbers.items n)
+          (sym inv.still.shard) (inv.ready.each r n at);
     }

@@ -20,33 +20,47 @@ unreachable-requires g c =
     (omega (arith, there, c.from.ensures)) (rw c.from.ensures own) c.index_mut.ensures.value c.in_default.is
 
 -- where the numbers stand
-at : (g : Over) (c : goal.After-self-2-1 g) → slice_get c.args.self.now.numbers.items c.from.result ≡ Some (Some c.in-Some.numbers)
+at : (g : Over) (c : goal.After-self-2-1 g) →
+    slice_get c.args.self.now.numbers.items c.from.result ≡ Some (Some c.in-Some.numbers)
 at g c =
     let there = c.requires.goes_on.carried.there in
-    read_there (shown c.args.old.now) (shown c.args.new.now) c.args.self.now.shard c.from.result c.args.self.now.numbers.items
-    c.index_mut.result.now c.in-Some.numbers (within_numbers (opening_under (shown c.args.old.now) c.args.self.now) c.args.self.now.entries
-    c.args.self.now.numbers.items c.requires.stands c.from.result (omega (arith, there, c.from.ensures))) c.index_mut.ensures.value c.in-Some.is
+    read_there (shown c.args.old.now) (shown c.args.new.now) c.args.self.now.shard c.from.result
+    c.args.self.now.numbers.items
+    c.index_mut.result.now c.in-Some.numbers
+    (within_numbers (opening_under (shown c.args.old.now) c.args.self.now) c.args.self.now.entries
+    c.args.self.now.numbers.items c.requires.stands c.from.result (omega (arith, there, c.from.ensures)))
+    c.index_mut.ensures.value c.in-Some.is
 
 same : (g : Over) (c : goal.After-self-2-1 g) → AreSame c.in-Some.numbers c.reserve_lanes.new.self
 same g c =
     let is = c.reserve_lanes.ensures in
-    record { lanes = is.lanes; ticket = is.ticket; place = is.stream_position; rests = is.rests; sessions = is.sessions }
+    record {
+      lanes = is.lanes;
+      ticket = is.ticket;
+      place = is.stream_position;
+      rests = is.rests;
+      sessions =
+          is.sessions;
+    }
 
 pub returns-clause-still : goal.returns-clause-still
 returns-clause-still g c =
     let old = shown c.args.old.now in
     let p = c.args.self.now in
     record {
-      stands = reserved_shard (opening_under old p) p.entries p.numbers.items c.requires.stands c.from.result c.in-Some.numbers
+      stands = reserved_shard (opening_under old p) p.entries p.numbers.items c.requires.stands c.from.result
+          c.in-Some.numbers
           c.reserve_lanes.new.self (at g c) (same g c);
-      states = reserved_states (opening_under old p) p.entries p.numbers.items c.requires.stands c.from.result c.in-Some.numbers
+      states = reserved_states (opening_under old p) p.entries p.numbers.items c.requires.stands c.from.result
+          c.in-Some.numbers
           c.reserve_lanes.new.self (at g c) (same g c);
       shard = refl;
     }
 
 pub returns-clause-others : goal.returns-clause-others
 returns-clause-others g c = record {
-  others = λ r ne. get-set_other c.args.self.now.numbers.items c.from.result r (Some c.reserve_lanes.new.self) (λ is. ne (is ∙ c.from.ensures));
+  others = λ r ne. get-set_other c.args.self.now.numbers.items c.from.result r (Some c.reserve_lanes.new.self)
+      (λ is. ne (is ∙ c.from.ensures));
   entries = refl;
 }
 
@@ -56,5 +70,6 @@ returns-clause-ready g c =
     let new = shown c.args.new.now in
     let p = c.args.self.now in
     on_ok (link_count c.new-settings.result ≤ vec_capacity c.reserve_lanes.new.self.lanes) _ c.reserve_lanes.result
-    (ready_lanes old new p.shard c.args.realm c.from.result p.numbers.items c.in-Some.numbers c.reserve_lanes.new.self c.new-settings.result
+    (ready_lanes old new p.shard c.args.realm c.from.result p.numbers.items c.in-Some.numbers
+    c.reserve_lanes.new.self c.new-settings.result
     c.from.ensures c.requires.goes_on (at g c) c.new-settings.ensures) c.reserve_lanes.ensures.room

@@ -22,5 +22,6 @@ returns-clause-ready g c =
     let away : GoesOn (shown c.args.old.now) (shown c.args.new.now) p.shard c.args.realm → ⊥ =
     λ goes. absurd (cc (c.if-goes_on.ensures.1 goes)) in
     IfOk-weaker c.opened_at.result _ _
-    (λ m one. ready_fresh (shown c.args.old.now) (shown c.args.new.now) p.shard c.args.realm p.numbers.items c.begin_at-start.result m away is one)
+    (λ m one. ready_fresh (shown c.args.old.now) (shown c.args.new.now) p.shard c.args.realm p.numbers.items
+    c.begin_at-start.result m away is one)
     c.opened_at.ensures

@@ -6,7 +6,7 @@ use Rattle.roam_route.specs.Shown.{shown_out}
 use Rattle.roam_book.specs.Rooms.{only_done_due}
 use Rattle.roam_book.specs.Turn.{Turn, packets_of, shown_outs, state_after}
 use Rattle.roam_core.specs.Events.{is_in_shard}
-use Rattle.roam_core.specs.ManyRealms.{state_at, tick_of}
+use Rattle.roam_core.specs.ManyRealms.{state_at}
 use Rattle.roam_core.specs.ShardRooms.{most_of, wants_room}
 use Rattle.roam_core.proofs.ShardLemmas.{only_lets_go, takes_part}
 use Rattle.roam_shard.proofs.TickLemmas.{as_many_shown, fewer_places, part_ticks}

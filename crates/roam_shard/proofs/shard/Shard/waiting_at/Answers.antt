@@ -31,14 +31,16 @@ pub waiting_at-requires-clause-sound : goal.waiting_at-requires-clause-sound
 waiting_at-requires-clause-sound g c =
     let i = c.self.inside in
     let at = ap (λ (ns : List _). slice_get ns c.args.realm) (sym c.deref.ensures.value) ∙ c.in-Some.ensures.some in
-    realm_sound (shown_opening i.opening) i.entries i.numbers.items c.self.invariant c.args.realm c.in-Some.numbers.now at
+    realm_sound (shown_opening i.opening) i.entries i.numbers.items c.self.invariant c.args.realm
+    c.in-Some.numbers.now at
     c.new-settings.result c.new-settings.ensures
 
 pub waiting_at-requires-clause-list : goal.waiting_at-requires-clause-list
 waiting_at-requires-clause-list g c =
     let i = c.self.inside in
     let at = ap (λ (ns : List _). slice_get ns c.args.realm) (sym c.deref.ensures.value) ∙ c.in-Some.ensures.some in
-    realm_list (shown_opening i.opening) i.entries i.numbers.items c.self.invariant c.args.realm c.in-Some.numbers.now at
+    realm_list (shown_opening i.opening) i.entries i.numbers.items c.self.invariant c.args.realm
+    c.in-Some.numbers.now at
     c.new-settings.result c.new-settings.ensures
 
 pub returns : goal.returns
@@ -46,5 +48,6 @@ returns g c = λ own.
     let i = c.self.inside in
     let seen = entries-seen (shown_opening i.opening) i.entries i.numbers.items c.args.self.now c.self.view_is
     c.deref.result.now c.deref.ensures.value c.args.realm c.in-Some.numbers.now c.in-Some.ensures.some in
-    let index = ap (λ (x : RealmConfig). find_link c.args.link c.args.id (entries_in i.entries x.index)) c.new-settings.ensures in
+    let index = ap (λ (x : RealmConfig). find_link c.args.link c.args.id (entries_in i.entries x.index))
+    c.new-settings.ensures in
     c.waiting_at.ensures ∙ index ∙ ap (λ (es : List PlainEntry). find_link c.args.link c.args.id es) seen

@@ -28,7 +28,8 @@ invariant_of-self g c =
     c.self.view_is c.args.realm c.args.ticket c.in-Some.at
     (sym c.ticket_slot.ensures ∙ c.in-Some.is) (sent_again c.args.deadline)
     (λ e. refl) (λ e. refl) c.send_again-marks.result.0 c.send_again-marks.result.1 c.send_again-marks.ensures.from
-    c.send_again-marks.ensures.to c.send_again-marks.new.slots c.change_at.new.realms.items c.send_again-marks.ensures.puts
+    c.send_again-marks.ensures.to c.send_again-marks.new.slots c.change_at.new.realms.items
+    c.send_again-marks.ensures.puts
     c.change_at.ensures
 
 pub returns-in-Some-clause-entries : goal.returns-in-Some-clause-entries
@@ -38,7 +39,8 @@ returns-in-Some-clause-entries g c =
     c.self.view_is c.args.realm c.args.ticket c.in-Some.at
     (sym c.ticket_slot.ensures ∙ c.in-Some.is) (sent_again c.args.deadline)
     (λ e. refl) (λ e. refl) c.send_again-marks.result.0 c.send_again-marks.result.1 c.send_again-marks.ensures.from
-    c.send_again-marks.ensures.to c.send_again-marks.new.slots c.change_at.new.realms.items c.send_again-marks.ensures.puts
+    c.send_again-marks.ensures.to c.send_again-marks.new.slots c.change_at.new.realms.items
+    c.send_again-marks.ensures.puts
     c.change_at.ensures
 
 pub returns-in-Some-clause-room : goal.returns-in-Some-clause-room
@@ -48,7 +50,8 @@ returns-in-Some-clause-room g c =
     c.self.view_is c.args.realm c.args.ticket c.in-Some.at
     (sym c.ticket_slot.ensures ∙ c.in-Some.is) (sent_again c.args.deadline)
     (λ e. refl) (λ e. refl) c.send_again-marks.result.0 c.send_again-marks.result.1 c.send_again-marks.ensures.from
-    c.send_again-marks.ensures.to c.send_again-marks.new.slots c.change_at.new.realms.items c.send_again-marks.ensures.puts
+    c.send_again-marks.ensures.to c.send_again-marks.new.slots c.change_at.new.realms.items
+    c.send_again-marks.ensures.puts
     c.change_at.ensures c.send_again-marks.ensures.room
 
 pub returns-in-Some-clause-keeps : goal.returns-in-Some-clause-keeps
@@ -58,7 +61,8 @@ returns-in-Some-clause-keeps g c =
     c.self.view_is c.args.realm c.args.ticket c.in-Some.at
     (sym c.ticket_slot.ensures ∙ c.in-Some.is) (sent_again c.args.deadline)
     (λ e. refl) (λ e. refl) c.send_again-marks.result.0 c.send_again-marks.result.1 c.send_again-marks.ensures.from
-    c.send_again-marks.ensures.to c.send_again-marks.new.slots c.change_at.new.realms.items c.send_again-marks.ensures.puts
+    c.send_again-marks.ensures.to c.send_again-marks.new.slots c.change_at.new.realms.items
+    c.send_again-marks.ensures.puts
     c.change_at.ensures
 
 pub returns-in_default-clause-entries : goal.returns-in_default-clause-entries

@@ -13,5 +13,6 @@ abbrev pub invariant-loop-tally : goal.invariant-loop-tally
 invariant-loop-tally l =
     l.initial.self.dropped + counted_in (all_tallies l.initial.self.repeats) < 2 ^ 64 →
     (notices_among (sent l.self.queue) + l.self.dropped + counted_in (all_tallies l.self.repeats)
-    ≡ notices_among (sent l.initial.self.queue) + l.initial.self.dropped + counted_in (all_tallies l.initial.self.repeats))
+    ≡ notices_among (sent l.initial.self.queue) + l.initial.self.dropped + counted_in
+    (all_tallies l.initial.self.repeats))
     × (l.self.dropped + counted_in (all_tallies l.self.repeats) < 2 ^ 64)

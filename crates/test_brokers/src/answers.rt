@@ -9,7 +9,7 @@ use std::io;
 use std::io::Write;
 
 /// What stands for want of memory.
-pub(crate) const WANTING: &str = "no memory\n";
+pub const WANTING: &str = "no memory\n";
 
 /// The answers to an event that no realm and no shard takes: its refusal, or want of memory.
 const UNTAKEN: [&str; 13] = [
@@ -30,15 +30,12 @@ const UNTAKEN: [&str; 13] = [
 
 /// Whether an event that is answered so was taken by a realm or a shard: it wasn't refused before that, nor rejected
 /// there, and memory wasn't wanting.
-pub(crate) fn is_taken(answer: &[u8]) -> bool {
+pub fn is_taken(answer: &[u8]) -> bool {
     !answer.starts_with(b"- ") && !UNTAKEN.iter().any(|line| line.as_bytes() == answer)
 }
 
 /// Prints packets, a line for each.
-pub(crate) fn print_packets<A: Allocator>(
-    text: &mut Vec<u8>,
-    packets: &[Out<A>],
-) -> io::Result<()> {
+pub fn print_packets<A: Allocator>(text: &mut Vec<u8>, packets: &[Out<A>]) -> io::Result<()> {
     for packet in packets {
         let octets = packet.bytes.as_slice();
         print_packet(text, packet.realm, packet.from, packet.to, octets)?;
@@ -47,7 +44,7 @@ pub(crate) fn print_packets<A: Allocator>(
 }
 
 /// Prints an answer: a line for each packet, and one for its refusal.
-pub(crate) fn print_answer<A: Allocator>(text: &mut Vec<u8>, answer: &Answer<A>) -> io::Result<()> {
+pub fn print_answer<A: Allocator>(text: &mut Vec<u8>, answer: &Answer<A>) -> io::Result<()> {
     print_packets(text, &answer.outs)?;
     match answer.refusal {
         Some(refusal) => {
@@ -59,7 +56,7 @@ pub(crate) fn print_answer<A: Allocator>(text: &mut Vec<u8>, answer: &Answer<A>)
 }
 
 /// Prints why an event isn't answered.
-pub(crate) fn print_fault(text: &mut Vec<u8>, fault: HubFault) -> io::Result<()> {
+pub fn print_fault(text: &mut Vec<u8>, fault: HubFault) -> io::Result<()> {
     match fault {
         HubFault::NoMemory => text.write_all(WANTING.as_bytes()),
         HubFault::NoShard => text.write_all(b"refused 20\n"),
@@ -68,7 +65,7 @@ pub(crate) fn print_fault(text: &mut Vec<u8>, fault: HubFault) -> io::Result<()>
 }
 
 /// The first line in which two texts differ, of each.
-pub(crate) fn first_difference<'a>(wanted: &'a str, got: &'a str) -> (&'a str, &'a str) {
+pub fn first_difference<'a>(wanted: &'a str, got: &'a str) -> (&'a str, &'a str) {
     let mut others = got.lines();
     for line in wanted.lines() {
         let other = others.next().unwrap_or("nothing");

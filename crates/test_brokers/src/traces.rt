@@ -27,7 +27,7 @@ const MOST_SHARDS: usize = 64;
 
 /// A broker of one trace for each shard, which never are full.
 #[derive(Drop)]
-pub(crate) struct Traces<'c, A: Allocator> {
+pub struct Traces<'c, A: Allocator> {
     alloc: A,
     config: &'c Config,
     traces: Vec<Traced<'c, A>, A>,
@@ -86,7 +86,7 @@ fn given<A: Allocator + Copy>(
 
 impl<'c, A: Allocator + Copy> Traces<'c, A> {
     /// A fresh broker of a configuration.
-    pub(crate) fn fresh(alloc: A, config: &'c Config) -> Result<Traces<'c, A>, NoMemory> {
+    pub fn fresh(alloc: A, config: &'c Config) -> Result<Traces<'c, A>, NoMemory> {
         let starts = first_starts(alloc, config)?;
         let traces = traces_of(alloc, config, &starts)?;
         Ok(Traces {
@@ -98,7 +98,7 @@ impl<'c, A: Allocator + Copy> Traces<'c, A> {
     }
 
     /// How many steps more the traces hold than when this was looked at last, where none lost one.
-    pub(crate) fn more_steps(&mut self) -> Option<u64> {
+    pub fn more_steps(&mut self) -> Option<u64> {
         let mut more = 0u64;
         for (seen, traced) in self.seen.iter_mut().zip(self.traces.iter()) {
             let length = traced.len();
@@ -137,7 +137,7 @@ impl<'c, A: Allocator + Copy> Traces<'c, A> {
     }
 
     /// Answers an event. The fault is `NoMemory` where a growth was refused, and no other: nothing has changed then.
-    pub(crate) fn step(&mut self, event: &Event<A>) -> Result<Answer<A>, HubFault> {
+    pub fn step(&mut self, event: &Event<A>) -> Result<Answer<A>, HubFault> {
         match event {
             Event::Arrive { now, datagram } => self.arrive(*now, datagram),
             Event::Tick { now, shard } => self.tick(*now, *shard),
@@ -146,7 +146,7 @@ impl<'c, A: Allocator + Copy> Traces<'c, A> {
 
     /// Gives events to the broker, one after the other, as `run` of `roam_core` does: an event that isn't answered is
     /// lost.
-    pub(crate) fn run(&mut self, alloc: A, events: &[Event<A>]) -> Result<Outcome<A>, NoMemory> {
+    pub fn run(&mut self, alloc: A, events: &[Event<A>]) -> Result<Outcome<A>, NoMemory> {
         let mut outcome = Outcome {
             outs: Vec::new(alloc),
             lost: Vec::new(alloc),
@@ -161,7 +161,7 @@ impl<'c, A: Allocator + Copy> Traces<'c, A> {
     }
 
     /// The steps of each shard, in the order of their numbers.
-    pub(crate) fn cut(self) -> Result<Vec<Vec<Step<A>, A>, A>, NoMemory> {
+    pub fn cut(self) -> Result<Vec<Vec<Step<A>, A>, A>, NoMemory> {
         let mut steps = Vec::new(self.alloc);
         for traced in self.traces {
             let (_shard, its_steps) = traced.cut();

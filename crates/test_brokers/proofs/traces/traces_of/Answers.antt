@@ -3,7 +3,7 @@ use Rattle.std.proofs.Common.{◌≡◌}
 use Rattle.std.proofs.lemmas.List.Elements.{All-push}
 use Rattle.roam_conf.specs.Shown.{shown}
 use Rattle.roam_trace.specs.History.{TraceView}
-use Rattle.test_rows.proofs.traces.traces_of.Goals as goal
+use Rattle.test_brokers.proofs.traces.traces_of.Goals as goal
 
 pub loop-number-preserved : goal.loop-number-preserved
 loop-number-preserved g c =

@@ -7,7 +7,7 @@ use roam_wire::{NoMemory, Refusal};
 use std::alloc::Allocator;
 
 /// A local reject is sent.
-pub(crate) fn rejected<A: Allocator>(alloc: A, out: Out<A>) -> Result<Answer<A>, NoMemory> {
+pub fn rejected<A: Allocator>(alloc: A, out: Out<A>) -> Result<Answer<A>, NoMemory> {
     let mut outs = Vec::new(alloc);
     outs.push(out)?;
     Ok(Answer {
@@ -17,7 +17,7 @@ pub(crate) fn rejected<A: Allocator>(alloc: A, out: Out<A>) -> Result<Answer<A>,
 }
 
 /// What an arrival is answered with that wasn't prepared: its refusal, or it is lost for want of memory.
-pub(crate) fn lost_or_refused<A: Allocator>(alloc: A, why: Refusal) -> Result<Answer<A>, HubFault> {
+pub fn lost_or_refused<A: Allocator>(alloc: A, why: Refusal) -> Result<Answer<A>, HubFault> {
     if why == Refusal::NoMemory {
         return Err(HubFault::NoMemory);
     }

@@ -16,19 +16,19 @@ use std::sync::Wait;
 
 /// What an event gave: the receipt of a call that was recorded, or the answer to an arrival that came to no realm.
 #[derive(Drop)]
-pub(crate) enum Given<A: Allocator, N: Opened> {
+pub enum Given<A: Allocator, N: Opened> {
     Recorded(Receipt<A, N>),
     Unrecorded(Answer<A>),
 }
 
 /// The one caller of a hub: its seat, its receipts, and the configuration by which it prepares what arrives.
 #[derive(Drop)]
-pub(crate) struct Caller<'h, 'c, A: Allocator, N: Opened> {
+pub struct Caller<'h, 'c, A: Allocator, N: Opened> {
     alloc: A,
     config: &'h Config,
     hub: &'h Hub<'c, A, N>,
     seat: Seat<A, N>,
-    pub(crate) receipts: Vec<Receipt<A, N>>,
+    pub receipts: Vec<Receipt<A, N>>,
     /// How many of them there were when steps were let go of last.
     gone: usize,
     ghost same: { shown config.now ≡ N.opening.config },
@@ -36,7 +36,7 @@ pub(crate) struct Caller<'h, 'c, A: Allocator, N: Opened> {
 
 impl<'h, 'c, A: Allocator + Copy, N: Opened> Caller<'h, 'c, A, N> {
     /// The caller who has this seat, and no receipts yet.
-    pub(crate) fn new(
+    pub fn new(
         alloc: A,
         config: &'h Config,
         hub: &'h Hub<'c, A, N>,
@@ -83,11 +83,7 @@ impl<'h, 'c, A: Allocator + Copy, N: Opened> Caller<'h, 'c, A, N> {
     }
 
     /// Gives an event to the hub.
-    pub(crate) fn call<R: Wait>(
-        &mut self,
-        rt: &R,
-        event: &Event<A>,
-    ) -> Result<Given<A, N>, HubFault> {
+    pub fn call<R: Wait>(&mut self, rt: &R, event: &Event<A>) -> Result<Given<A, N>, HubFault> {
         match event {
             Event::Arrive { now, datagram } => self.arrive(rt, *now, datagram),
             Event::Tick { now, shard } => self.tick(rt, *now, *shard),
@@ -96,7 +92,7 @@ impl<'h, 'c, A: Allocator + Copy, N: Opened> Caller<'h, 'c, A, N> {
 
     /// Lets go of the stored steps of the shard of its last call. Whether they are just the step of that call's
     /// receipt, or none where it got no receipt since.
-    pub(crate) fn lets_go<R: Wait>(&mut self, rt: &R) -> bool {
+    pub fn lets_go<R: Wait>(&mut self, rt: &R) -> bool {
         let Some(receipt) = self.receipts.last() else {
             return true;
         };
@@ -113,7 +109,7 @@ impl<'h, 'c, A: Allocator + Copy, N: Opened> Caller<'h, 'c, A, N> {
     }
 
     /// Its seat and its receipts, once it calls no more.
-    pub(crate) fn into_parts(self) -> (Seat<A, N>, Vec<Receipt<A, N>>) {
+    pub fn into_parts(self) -> (Seat<A, N>, Vec<Receipt<A, N>>) {
         let Caller { seat, receipts, .. } = self;
         (seat, receipts)
     }
