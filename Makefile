@@ -15,7 +15,8 @@ help:
 	@echo 'make look CRATE=NAME      layout, names, types and borrows of a crate; no proof'
 	@echo 'make proof CRATE=NAME     a crate and what it needs, proved'
 	@echo 'make scripts              tries the converter and f-ticks.py; no program, no root'
-	@echo 'make trials ROAM=PROGRAM  tries a program by its sockets: diagnoses, control, reload, exchanges; no root'
+	@echo 'make trials ROAM=PROGRAM  tries a program by its sockets: diagnoses, control, reload, exchanges, and what fails beside'
+	@echo '                          it (a log, a path, descriptors, an answer, a socket without room); no root'
 	@echo 'make deb ROAM=PROGRAM     the Debian package'
 	@echo 'What each is about: docs/CONTRIBUTING.md.'
 
@@ -57,6 +58,8 @@ trials: scripts
 	packaging/tests/try-control.py $(ROAM)
 	packaging/tests/try-reload.py $(ROAM)
 	packaging/tests/try-exchanges.py $(ROAM)
+	packaging/tests/try-faults.py $(ROAM)
+	packaging/tests/try-blocked.py $(ROAM)
 
 deb:
 	$(MAKE) -C packaging deb ROAM=$(ROAM)

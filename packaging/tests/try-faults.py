@@ -3,7 +3,7 @@
 
 Has what stands beside a server fail, on loopback and in folders of its own, and looks whether the server serves on: a
 terminal or a pipe that nobody reads, a disk that is full, a path of the control socket that is something else or somebody
-else's, a process without a descriptor left, an answer of `roam ctl` that is cut. Each case is bounded in time and prints
+else's, a process without a descriptor or a thread left, an answer of `roam ctl` that is cut. Each case is bounded in time and prints
 `ok` or `BAD` for each thing that it wants; the status is 1 where one is bad. It needs no root. `try-faults.py PROGRAM help`
 prints the cases.
 """
@@ -104,7 +104,7 @@ class Server:
     """A server of one realm, whose standard error is this, or a file that is read."""
 
     def __init__(self, program, work, stderr=None, port=PORT, name='one', path=None, metrics=METRICS, limit=100000,
-                 nofile=None, more='', shards=1):
+                 nofile=None, more='', shards=1, user=None):
         self.program, self.work, self.name = program, work, name
         self.path = os.path.join(work, name + '.socket') if path is None else path
         self.conf = os.path.join(work, name + '.conf')
@@ -113,8 +113,9 @@ class Server:
             file.write(CONF.format(port=port, acct=port + 10, out=port + 20, reverse=port + 30, more=more, limit=limit, shards=shards))
         self.log = None if stderr is not None else open(os.path.join(work, name + '.log'), 'w+')
         limits = (lambda: resource.setrlimit(resource.RLIMIT_NOFILE, (nofile, nofile))) if nofile else None
+        who = {'user': user, 'group': user, 'extra_groups': []} if user else {}
         self.process = subprocess.Popen([program, 'serve', self.conf], stdin=subprocess.DEVNULL, stdout=subprocess.DEVNULL,
-                                        stderr=self.log if stderr is None else stderr, preexec_fn=limits)
+                                        stderr=self.log if stderr is None else stderr, preexec_fn=limits, **who)
 
     def said(self):
         with open(self.log.name) as file:
@@ -395,6 +396,37 @@ def descriptors_count(program, work):
             one.close()
 
 
+def limit_threads(pid, count, user):
+    """Has a process of a user find no room for a thread more than so many of that user's."""
+    who = {'user': user, 'group': user, 'extra_groups': []} if user else {}
+    subprocess.run(['prlimit', f'--pid={pid}', f'--nproc={count}:'], check=True, **who)
+
+
+def threads_none(program, work):
+    """no thread can be started at a reload: it keeps what it has, tries again, and serves on"""
+    # The limit doesn't hold for root.
+    user = 65534 if os.geteuid() == 0 else None
+    if user:
+        os.chown(work, user, user)
+    with Server(program, work, user=user) as server:
+        want(server.waits(), 'it serves')
+        want(answered(50) == 50, '50 exchanges are answered')
+        most = resource.getrlimit(resource.RLIMIT_NPROC)[1]
+        limit_threads(server.process.pid, 1, user)
+        reload = subprocess.Popen([program, 'ctl', server.path, 'reload'], stdout=subprocess.PIPE, stderr=subprocess.STDOUT)
+        end = time.monotonic() + 8
+        while 'tried again' not in server.said() and time.monotonic() < end:
+            time.sleep(.1)
+        want(server.process.poll() is None and 'tried again' in server.said(), f'it says that it tries again: {server.said().splitlines()[-1:]}')
+        limit_threads(server.process.pid, 'unlimited' if most == resource.RLIM_INFINITY else most, user)
+        more = answered(50, name=b'v%d')
+        want(more == 50, f'{more} of 50 more are answered once it can')
+        said = reload.communicate(timeout=20)[0]
+        want(reload.returncode == 0, f'the reload ends with {reload.returncode}: {said[-60:]}')
+        steps = server.count('roam_history_steps_total{outcome="stored",}')
+        want(steps >= 200, f'what it counted goes on: {steps} steps')
+
+
 def steps_of(text):
     return sum(line[:2] in (b'A ', b'T ') for line in text.splitlines())
 
@@ -557,7 +589,7 @@ def scrape_whole(program, work):
 
 
 CASES = [log_terminal, log_pipe, log_full, log_dead, log_again, control_file, control_foreign, control_left, control_two,
-         descriptors_none, descriptors_count, trace_slow, trace_killed, answer_cut, answer_foreign, scrape_whole]
+         descriptors_none, descriptors_count, threads_none, trace_slow, trace_killed, answer_cut, answer_foreign, scrape_whole]
 
 
 def main():
