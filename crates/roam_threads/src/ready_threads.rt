@@ -3,13 +3,12 @@
 ghost use Rattle.std.specs.Prelude.{IfErr};
 ghost use Rattle.roam_sockets.specs.Faults.{IsAfterBinding};
 
-use crate::dealing::{ports, receivers};
 use crate::kits::{Kit, ThreadKits};
 use mio::{Events, Poll};
 use roam_hub::{Opened, Seat, split};
 use roam_notices::Exchange;
 use roam_port::{Outbox, socket_numbers};
-use roam_sockets::{BoundSocket, ServeFault};
+use roam_sockets::{BoundSocket, ServeFault, ports, receivers};
 use roam_telling::{Counting, Notice};
 use roam_workers::{
     ExchangeQueues, Logger, Outgoing, Rests, RoomEvents, Shared, Timer, Worker, WorkerContext,
