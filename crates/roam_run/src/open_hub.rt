@@ -21,6 +21,7 @@ use crate::start::{ResultRoom, RunResult, run_threads};
 use log::Log;
 use roam_book::Start;
 use roam_conf::Config;
+use roam_counters::Datagrams;
 use roam_hub::{Blanks, Gate, Hub, Opened, PauseRoom, Seat};
 use roam_port::Outbox;
 use roam_shard::Paused;
@@ -80,15 +81,18 @@ fn gather<N: Opened>(
     ensures err { IfErr result IsAfterBinding }
 {
     let mut has_given_up = false;
+    let mut datagrams = Datagrams::none();
     let mut rests = None;
     for end in ends {
         has_given_up = has_given_up_after(has_given_up, end.ending);
+        datagrams = datagrams.and(end.datagrams);
         seats.push(end.seat)?;
         outboxes.push(end.outbox)?;
         rests = first_of(end.rests, rests);
     }
     Ok(Ended {
         has_given_up,
+        datagrams,
         seats,
         outboxes,
         rests,
@@ -187,6 +191,7 @@ fn run_hub<
     let RunResult { ends, end } = run(parts, configured, &hub, seat, threads, means);
     let Ended {
         has_given_up,
+        datagrams,
         seats,
         outboxes,
         rests,
@@ -197,6 +202,7 @@ fn run_hub<
     let closed = close_and_audit(parts.rt, hub, pause, seats)?;
     Ok(Left {
         end,
+        datagrams,
         outboxes,
         rests,
         closed,

@@ -5,6 +5,7 @@ ghost use Rattle.roam_sockets.specs.Faults.{IsAfterBinding};
 
 use crate::kits::{Kit, ThreadKits};
 use mio::{Events, Poll};
+use roam_counters::Datagrams;
 use roam_hub::{Opened, Seat, split};
 use roam_notices::Exchange;
 use roam_port::{Outbox, socket_numbers};
@@ -132,6 +133,7 @@ impl<'s, 'c, G, N: Opened> Builder<'s, 'c, G, N> {
             notices,
             exchanges,
             counting,
+            datagrams: Datagrams::none(),
             now: 0,
         };
         Ok(Equipped {

@@ -15,6 +15,7 @@
 //!   the loop's code | `remedy_for`
 #![tactic(auto)]
 
+mod arrivals;
 mod context;
 mod ending;
 mod exchange_ends;
