@@ -33,10 +33,13 @@ both a b = record {
   dropped = up_to_end a.dropped b.dropped;
 }
 
--- those of several, the first ones last
+-- those of several beside these
+abbrev pub with_all : DatagramCounts → List DatagramCounts → DatagramCounts
+with_all so_far [] = so_far
+with_all so_far (d ∷ ds) = with_all (both so_far d) ds
+
 abbrev pub all_of : List DatagramCounts → DatagramCounts
-all_of [] = none_received
-all_of (d ∷ ds) = both d (all_of ds)
+all_of ds = with_all none_received ds
 
 -- ## Account of datagrams
 -- How many were received, and what became of each: a realm's rules took it, the broker answered by itself, it was

@@ -66,7 +66,7 @@ impl DatagramCounts {
 /// fewer than 2^64 - 1 were received.
 #[derive(Clone, Copy, Debug, PartialEq, Eq)]
 pub struct Datagrams {
-    counts: DatagramCounts,
+    pub counts: DatagramCounts,
     ghost balanced: { IsBalanced counts },
 }
 
@@ -85,13 +85,6 @@ impl Datagrams {
                 dropped: 0,
             },
         }
-    }
-
-    /// The counts.
-    pub fn counts(self) -> DatagramCounts
-        ensures { result ≡ self.counts }
-    {
-        self.counts
     }
 
     /// One more was received, and this became of it.

@@ -8,7 +8,8 @@ ghost use Rattle.roam_shard.specs.ShardView.{AreStarts};
 ghost use Rattle.roam_audit.specs.Shown.{recorded};
 ghost use Rattle.roam_hub.specs.Pausing.{ArePaused, opening_over};
 ghost use Rattle.roam_run.specs.Closed.{EndSomewhere, EndsOf, IsUnserved, MayGoOn};
-ghost use Rattle.roam_workers.specs.Endings.{endings_of};
+ghost use Rattle.roam_counters.specs.Datagrams.{all_of};
+ghost use Rattle.roam_workers.specs.Endings.{datagrams_of, endings_of};
 ghost use Rattle.roam_workers.specs.declared.ending.Ending.TheVariants as ending;
 ghost use Rattle.roam_sockets.specs.Faults.{IsAfterBinding};
 
@@ -78,6 +79,7 @@ fn gather<N: Opened>(
 ) -> Result<Ended<N>, ServeFault>
     ensures gave_up { IfOk result (λ e. IsTrue e.has_given_up
         ↔ Contains (endings_of ends.items) ending.GaveUp) }
+    ensures datagrams { IfOk result (λ e. e.datagrams.counts ≡ all_of (datagrams_of ends.items)) }
     ensures err { IfErr result IsAfterBinding }
 {
     let mut has_given_up = false;

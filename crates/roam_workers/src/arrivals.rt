@@ -1,9 +1,11 @@
 //! What a worker does with a datagram that came.
 
-ghost use Rattle.std.specs.Prelude.{◌≡◌};
+ghost use Rattle.std.specs.Prelude.{◌≡◌, IfOk, OnErr};
+ghost use Rattle.roam_route.specs.Admission.{admission, admitted};
 ghost use Rattle.roam_route.specs.Events.{IsEvent};
-ghost use Rattle.roam_route.specs.Shown.{shown_job};
+ghost use Rattle.roam_route.specs.Shown.{shown_arrival, shown_job};
 ghost use Rattle.roam_workers.specs.Handlings as handlings;
+ghost use Rattle.roam_workers.specs.Handlings.{Arrives, IsAnswered, IsHandled};
 
 use crate::context::{WorkerContext, is_request};
 use roam_counters::Handling;
@@ -27,7 +29,11 @@ fn refused_as(refusal: Refusal) -> Handling
 
 impl<G: Gate, N: Opened> WorkerContext<'_, '_, G, N> {
     /// Takes a datagram: hands its packets to the sockets, or tells why it is refused; and counts what became of it.
-    pub fn arrive<R: Wait>(&mut self, rt: &R, alloc: Global, datagram: &Datagram<Global>) {
+    pub fn arrive<R: Wait>(&mut self, rt: &R, alloc: Global, datagram: &Datagram<Global>)
+        ensures arrives { Arrives N.opening self.old.now (shown_arrival datagram.now) self.old.seat
+            self.new.seat self.old.datagrams.counts self.new.datagrams.counts }
+        ensures now { self.new.now ≡ self.old.now }
+    {
         self.counting.received(datagram.at);
         let handling = self.handle(rt, alloc, datagram);
         self.counting.handled(handling);
@@ -35,7 +41,11 @@ impl<G: Gate, N: Opened> WorkerContext<'_, '_, G, N> {
     }
 
     /// Takes a datagram, and answers what became of it. A server that is asked to stop takes no request.
-    fn handle<R: Wait>(&mut self, rt: &R, alloc: Global, datagram: &Datagram<Global>) -> Handling {
+    fn handle<R: Wait>(&mut self, rt: &R, alloc: Global, datagram: &Datagram<Global>) -> Handling
+        ensures handled { IsHandled N.opening self.old.now (shown_arrival datagram.now) self.old.seat
+            self.new.seat result }
+        ensures kept { (self.new.datagrams ≡ self.old.datagrams) × (self.new.now ≡ self.old.now) }
+    {
         if self.shared.stopping.is_asked() && is_request(datagram.octets.as_slice()) {
             return Handling::Dropped;
         }
@@ -57,7 +67,12 @@ impl<G: Gate, N: Opened> WorkerContext<'_, '_, G, N> {
 
     /// Gives a job to the hub: hands its packets to the sockets, or tells why it is refused. Answers what became of it.
     fn take<R: Wait>(&mut self, rt: &R, job: Job<Global>, datagram: &Datagram<Global>) -> Handling
-        requires { IsEvent N.opening.config (shown_job job) }
+        requires event { IsEvent N.opening.config (shown_job job) }
+        requires admission { admission N.opening.config (shown_arrival datagram.now)
+            ≡ admitted (shown_job job) }
+        ensures handled { IsHandled N.opening self.old.now (shown_arrival datagram.now) self.old.seat
+            self.new.seat result }
+        ensures kept { (self.new.datagrams ≡ self.old.datagrams) × (self.new.now ≡ self.old.now) }
     {
         let turn = turn_of(&job);
         self.counting.came(turn);
@@ -82,6 +97,10 @@ impl<G: Gate, N: Opened> WorkerContext<'_, '_, G, N> {
     /// the same job handed in again.
     fn answer<R: Wait>(&mut self, rt: &R, job: Job<Global>) -> Result<Answered<Global>, Refusal>
         requires { IsEvent N.opening.config (shown_job job) }
+        ensures answered { IfOk result (IsAnswered N.opening self.old.now (shown_job job) self.old.seat
+            self.new.seat) }
+        ensures failed { OnErr result (self.new.seat.tallies ≡ self.old.seat.tallies) }
+        ensures kept { (self.new.datagrams ≡ self.old.datagrams) × (self.new.now ≡ self.old.now) }
     {
         let shared = self.shared;
         let shard = shared.config.shard_of(job.realm);

@@ -136,13 +136,10 @@ impl<G: Gate, N: Opened> WorkerContext<'_, '_, G, N> {
     }
 
     /// Does what helps against a fault of a call. Answers whether it can be made again.
-    pub fn remedy<R: Wait>(
-        &mut self,
-        rt: &R,
-        shard: u16,
-        fault: HubFault,
-        is_second: bool,
-    ) -> bool {
+    pub fn remedy<R: Wait>(&mut self, rt: &R, shard: u16, fault: HubFault, is_second: bool) -> bool
+        ensures kept { (self.new.seat.tallies ≡ self.old.seat.tallies)
+            × (self.new.datagrams ≡ self.old.datagrams) × (self.new.now ≡ self.old.now) }
+    {
         match remedy_for(fault, is_second) {
             Remedy::LetGo => self.let_go(rt, shard),
             Remedy::FreeMemory => self.free_history(rt, shard),
@@ -151,7 +148,10 @@ impl<G: Gate, N: Opened> WorkerContext<'_, '_, G, N> {
     }
 
     /// Lets go of the stored steps of a shard, which are freed beside. Answers whether that was done.
-    pub fn let_go<R: Wait>(&mut self, rt: &R, shard: u16) -> bool {
+    fn let_go<R: Wait>(&mut self, rt: &R, shard: u16) -> bool
+        ensures kept { (self.new.seat.tallies ≡ self.old.seat.tallies)
+            × (self.new.datagrams ≡ self.old.datagrams) × (self.new.now ≡ self.old.now) }
+    {
         let shared = self.shared;
         match shared.hub.let_go(rt, &mut self.seat, shard) {
             Ok(steps) => {
@@ -164,7 +164,10 @@ impl<G: Gate, N: Opened> WorkerContext<'_, '_, G, N> {
     }
 
     /// Lets go of the stored steps of a shard, and frees them here and now: their memory is wanted.
-    pub fn free_history<R: Wait>(&mut self, rt: &R, shard: u16) -> bool {
+    fn free_history<R: Wait>(&mut self, rt: &R, shard: u16) -> bool
+        ensures kept { (self.new.seat.tallies ≡ self.old.seat.tallies)
+            × (self.new.datagrams ≡ self.old.datagrams) × (self.new.now ≡ self.old.now) }
+    {
         match self.shared.hub.let_go(rt, &mut self.seat, shard) {
             Ok(steps) => {
                 self.counting.let_go(shard, steps.len());
@@ -179,7 +182,10 @@ impl<G: Gate, N: Opened> WorkerContext<'_, '_, G, N> {
 
     /// Hands the packets of an answer on, tells a refusal, and lets go of the shard's steps where their octets are
     /// more than are to be stored.
-    pub fn finish<R: Wait>(&mut self, rt: &R, answered: Answered<Global>, origin: Origin) {
+    pub fn finish<R: Wait>(&mut self, rt: &R, answered: Answered<Global>, origin: Origin)
+        ensures kept { (self.new.seat.tallies ≡ self.old.seat.tallies)
+            × (self.new.datagrams ≡ self.old.datagrams) × (self.new.now ≡ self.old.now) }
+    {
         self.counting.stored(answered.shard, answered.octets);
         if let Some(refusal) = answered.answer.refusal {
             self.refuse(refusal, origin);
@@ -192,7 +198,10 @@ impl<G: Gate, N: Opened> WorkerContext<'_, '_, G, N> {
     }
 
     /// Notes that an arrival or a tick is refused.
-    pub fn refuse(&mut self, refusal: Refusal, origin: Origin) {
+    pub fn refuse(&mut self, refusal: Refusal, origin: Origin)
+        ensures kept { (self.new.seat ≡ self.old.seat) × (self.new.datagrams ≡ self.old.datagrams)
+            × (self.new.now ≡ self.old.now) }
+    {
         self.notices.refused(refusal, origin, self.now);
     }
 
@@ -218,6 +227,8 @@ impl<G: Gate, N: Opened> WorkerContext<'_, '_, G, N> {
     /// Sends what can be sent, gives back the seat and the packets that wait on, and has all workers end.
     pub fn leave(mut self, ending: Ending) -> WorkerEnd<N>
         ensures ending { result.ending ≡ ending }
+        ensures datagrams { result.datagrams ≡ self.entry.datagrams }
+        ensures seat { result.seat ≡ self.entry.seat }
     {
         self.outgoing.send();
         let dropped = self.exchanges.tell_folded();
