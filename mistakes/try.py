@@ -1,6 +1,5 @@
 #!/usr/bin/env python3
-"""Tries the mistakes that the gate doesn't: of each crate the gate tries three or four, and none of those whose edits
-would cost it a second proof of a long crate.
+"""Tries the mistakes that the gate doesn't: of each crate the gate tries three or four, of a long one a single one or none.
 
     mistakes/try.py [CRATE ..]
 

@@ -51,7 +51,7 @@ processes-apart p q same =
 pub event-below : (a : CountedEvent) → event_place a < 91
 event-below a = slice_get_within all_events (event_place a) a (event-at_place a)
 
-pub process-below : (p : Process) → process_place p < 14
+pub process-below : (p : Process) → process_place p < 19
 process-below p = slice_get_within all_processes (process_place p) p (process-at_place p)
 
 -- subjects of a configuration have rows of their own

@@ -150,7 +150,8 @@ abbrev pub all_processes : List Process
 all_processes =
     process.ReceivedAuth ∷ process.ReceivedAcct ∷ process.ReceivedOut ∷ process.ReceivedReverse ∷ process.Sent ∷
     process.LostFullRing ∷ process.LostUnreachable ∷ process.LostNotPermitted ∷ process.LostOther ∷ process.Step ∷
-    process.StepLetGo ∷ process.TimeLetGo ∷ process.LineDropped ∷ process.NoteMissed ∷ []
+    process.StepLetGo ∷ process.TimeLetGo ∷ process.LineDropped ∷ process.NoteMissed ∷ process.DatagramTaken ∷
+    process.DatagramAnswered ∷ process.DatagramRefused ∷ process.DatagramFailed ∷ process.DatagramDropped ∷ []
 
 pub process-at_place : (process : Process) → slice_get all_processes (process_place process) ≡ Some process
 process-at_place process.ReceivedAuth = refl
@@ -167,3 +168,8 @@ process-at_place process.StepLetGo = refl
 process-at_place process.TimeLetGo = refl
 process-at_place process.LineDropped = refl
 process-at_place process.NoteMissed = refl
+process-at_place process.DatagramTaken = refl
+process-at_place process.DatagramAnswered = refl
+process-at_place process.DatagramRefused = refl
+process-at_place process.DatagramFailed = refl
+process-at_place process.DatagramDropped = refl

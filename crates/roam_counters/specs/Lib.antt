@@ -1,5 +1,6 @@
 pub mod Apart
 pub mod Cells
+pub mod Datagrams
 pub mod Delays
 pub mod Ends
 pub mod Events

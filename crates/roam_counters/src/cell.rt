@@ -48,7 +48,7 @@ impl Layout {
     pub fn cells(self) -> usize
         ensures { result ≡ spec.cells self }
     {
-        14 + EVENTS * (1 + (SERVERS + 1) * usize::from(self.realms) + usize::from(self.peers))
+        19 + EVENTS * (1 + (SERVERS + 1) * usize::from(self.realms) + usize::from(self.peers))
     }
 
     /// The row of counts of a subject.
@@ -72,7 +72,7 @@ impl Layout {
     pub fn cell(self, subject: Subject, event: CountedEvent) -> usize
         ensures { result ≡ spec.cell_of self subject event }
     {
-        14 + EVENTS * self.row(subject) + event.place()
+        19 + EVENTS * self.row(subject) + event.place()
     }
 }
 

@@ -6,11 +6,14 @@
 //!
 //! - what an arrival, an answer and a tick's packet are counted as, and of whom: who sent it, and who is at the
 //!   other end | `CountedTurn::arrival`, `outcome`, `sender`; `tick_event`, `end_at`, `Process::received`
+//! - each datagram that was received is one that was taken, answered, refused or dropped, or one that failed: so many
+//!   together as were received, also of several threads | `Datagrams`: `balanced`; `Datagrams::after`, `and`
 //! - two counts stand at one place only where they are one: of the same realm, home server or peer of a
 //!   configuration and of the same event | law `cells_are_apart`; `Layout::cell`, `cells`, `Process::cell`
 #![tactic(auto)]
 
 mod cell;
+mod datagrams;
 mod delay;
 mod end;
 mod event;
@@ -20,6 +23,7 @@ mod process;
 mod turn;
 
 pub use cell::{Layout, Subject};
+pub use datagrams::{DatagramCounts, Datagrams, Handling};
 pub use delay::Delay;
 pub use end::{end_at, subject_of};
 pub use event::{CountedEvent, EVENTS};

@@ -3,6 +3,7 @@
 ghost use Rattle.std.specs.Prelude.{◌≡◌, ◌<◌};
 ghost use Rattle.roam_counters.specs.Process as spec;
 
+use crate::datagrams::Handling;
 use roam_conf::Place;
 
 /// What is counted of the whole server.
@@ -31,6 +32,16 @@ pub enum Process {
     /// A tick found no room to note a request that it may have given up: no line tells of it, and it isn't counted
     /// whether it went to another server or was given up.
     NoteMissed,
+    /// A realm's rules took a datagram.
+    DatagramTaken,
+    /// The broker answered one by itself.
+    DatagramAnswered,
+    /// One was refused before it came to a realm.
+    DatagramRefused,
+    /// One was given to no realm, for want of memory, or since the call for it wasn't recorded.
+    DatagramFailed,
+    /// A request came when the server was asked to stop.
+    DatagramDropped,
 }
 
 impl Process {
@@ -46,10 +57,23 @@ impl Process {
         }
     }
 
+    /// That this became of a datagram.
+    pub fn handled(handling: Handling) -> Process
+        ensures { result ≡ spec.handled_as handling }
+    {
+        match handling {
+            Handling::Taken => Process::DatagramTaken,
+            Handling::Answered => Process::DatagramAnswered,
+            Handling::Refused => Process::DatagramRefused,
+            Handling::Failed => Process::DatagramFailed,
+            Handling::Dropped => Process::DatagramDropped,
+        }
+    }
+
     /// Its place among these counts.
     pub fn place(self) -> usize
         ensures value { result ≡ spec.process_place self }
-        ensures below { result < 14 }
+        ensures below { result < 19 }
     {
         match self {
             Process::ReceivedAuth => 0,
@@ -66,6 +90,11 @@ impl Process {
             Process::TimeLetGo => 11,
             Process::LineDropped => 12,
             Process::NoteMissed => 13,
+            Process::DatagramTaken => 14,
+            Process::DatagramAnswered => 15,
+            Process::DatagramRefused => 16,
+            Process::DatagramFailed => 17,
+            Process::DatagramDropped => 18,
         }
     }
 }

@@ -11,7 +11,7 @@ pub(crate) struct OfServer {
 }
 
 /// The metrics of the whole server, in the order in which they are told.
-pub(crate) const OF_SERVER: [OfServer; 6] = [
+pub(crate) const OF_SERVER: [OfServer; 7] = [
     OfServer {
         name: "roam_received_datagrams_total",
         help: "Datagrams that were received.",
@@ -21,6 +21,18 @@ pub(crate) const OF_SERVER: [OfServer; 6] = [
             ("acct", Process::ReceivedAcct),
             ("out", Process::ReceivedOut),
             ("reverse", Process::ReceivedReverse),
+        ],
+    },
+    OfServer {
+        name: "roam_handled_datagrams_total",
+        help: "What became of the datagrams that were received.",
+        label: "outcome",
+        samples: &[
+            ("taken", Process::DatagramTaken),
+            ("answered", Process::DatagramAnswered),
+            ("refused", Process::DatagramRefused),
+            ("failed", Process::DatagramFailed),
+            ("dropped", Process::DatagramDropped),
         ],
     },
     OfServer {

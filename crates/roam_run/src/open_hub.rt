@@ -8,7 +8,8 @@ ghost use Rattle.roam_shard.specs.ShardView.{AreStarts};
 ghost use Rattle.roam_audit.specs.Shown.{recorded};
 ghost use Rattle.roam_hub.specs.Pausing.{ArePaused, opening_over};
 ghost use Rattle.roam_run.specs.Closed.{EndSomewhere, EndsOf, IsUnserved, MayGoOn};
-ghost use Rattle.roam_workers.specs.Endings.{endings_of};
+ghost use Rattle.roam_counters.specs.Datagrams.{all_of};
+ghost use Rattle.roam_workers.specs.Endings.{datagrams_of, endings_of};
 ghost use Rattle.roam_workers.specs.declared.ending.Ending.TheVariants as ending;
 ghost use Rattle.roam_sockets.specs.Faults.{IsAfterBinding};
 
@@ -21,6 +22,7 @@ use crate::parts::{HubEnd, Left, Means, Served, ServerParts, Unserved, counters_
 use crate::start::{ResultRoom, RunResult, run_threads};
 use log::Log;
 use roam_book::Start;
+use roam_counters::Datagrams;
 use roam_hub::{Blanks, Gate, Hub, Opened, Seat};
 use roam_port::Outbox;
 use roam_shard::Paused;
@@ -51,18 +53,22 @@ fn gather<N: Opened>(
 ) -> Result<Ended<N>, ServeFault>
     ensures gave_up { IfOk result (λ e. IsTrue e.has_given_up
         ↔ Contains (endings_of ends.items) ending.GaveUp) }
+    ensures datagrams { IfOk result (λ e. e.datagrams.counts ≡ all_of (datagrams_of ends.items)) }
     ensures err { IfErr result IsAfterBinding }
 {
     let mut has_given_up = false;
+    let mut datagrams = Datagrams::none();
     let mut rests = None;
     for end in ends {
         has_given_up = has_given_up_after(has_given_up, end.ending);
+        datagrams = datagrams.and(end.datagrams);
         seats.push(end.seat)?;
         outboxes.push(end.outbox)?;
         rests = first_of(end.rests, rests);
     }
     Ok(Ended {
         has_given_up,
+        datagrams,
         seats,
         outboxes,
         rests,
@@ -208,6 +214,7 @@ fn run_hub<
         Err(fault) => return Err(fault),
     };
     let Ended {
+        datagrams,
         seats,
         outboxes,
         rests,
@@ -216,6 +223,7 @@ fn run_hub<
     match close_and_audit(parts.rt, hub, pause, seats) {
         Ok(closed) => Ok(Left {
             end,
+            datagrams,
             outboxes,
             rests,
             closed,

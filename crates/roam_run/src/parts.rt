@@ -9,6 +9,7 @@ use crate::change::configured::Handover;
 use crate::change::next::Next;
 use crate::watch::Watch;
 use roam_control::{Office, Stopping};
+use roam_counters::Datagrams;
 use roam_hub::Opened;
 use roam_port::Outbox;
 use roam_shard::Paused;
@@ -69,6 +70,8 @@ pub enum HubEnd {
 #[derive(Drop)]
 pub struct Left<N: Opened> {
     pub end: HubEnd,
+    /// What became of the datagrams that its threads received.
+    pub datagrams: Datagrams,
     /// The packets that still wait for room at a socket.
     pub outboxes: Vec<Outbox<Global>>,
     /// Which home servers keep silent, as it was told; none where the timer didn't run.
@@ -110,6 +113,7 @@ impl<N: Opened> Left<N> {
             outboxes,
             rests,
             closed: AuditedHub { audited, shards },
+            ..
         } = self;
         Served {
             end,

@@ -1,1 +1,3 @@
 mod PathLemmas
+pub mod BoundLemmas
+pub mod DealingLemmas

@@ -3,7 +3,8 @@ use Rattle.std.specs.Prelude.{ℕ, ◌+◌, ◌-◌, ◌*◌, length, if◌then�
 use Rattle.roam_conf.specs.Config.{ConfigView}
 use Rattle.roam_port.specs.Sockets.{socket_endpoints}
 
--- those of a configuration: a socket for each of its endpoints, and two for each worker more where `auth` and `acct` are
+-- those of a configuration: a socket for each of its endpoints, and two for each worker more where `auth` and
+-- `acct` are
 -- spread; three for each worker and for the timer: two to wait with, and one to be woken by
 abbrev pub descriptors_of : ConfigView → ℕ
 descriptors_of config =
@@ -19,7 +20,8 @@ descriptors_of config =
 -- Rules out: a server that stops in the middle of its start and doesn't say what it lacks
 -- Stands in: `roam_sockets` `Descriptors.antt`: `descriptors_wanted`
 --
--- a server that changes from one configuration to another has those of both for a while; and the three standard streams,
+-- a server that changes from one configuration to another has those of both for a while; and the three standard
+-- streams,
 -- two sockets at which connections are taken, 32 connections, and the file of the configuration that is read
 abbrev pub descriptors_wanted : ConfigView → ConfigView → ℕ
 descriptors_wanted old new = descriptors_of old + descriptors_of new + 38

@@ -1,3 +1,4 @@
+pub mod Bound
 pub mod Descriptors
 pub mod Faults
 pub mod Seeded

@@ -1,25 +1,22 @@
 //! The broker's sockets are bound.
 
-ghost use Rattle.std.specs.Prelude.{◌≡◌, ◌≤◌, ◌^◌, Contains, IfErr};
+ghost use Rattle.std.specs.Prelude.{◌↔◌, ◌<◌, ℕ, IsTrue, Contains, IfErr, IfOk, OnOk};
 ghost use Rattle.roam_conf.specs.Shown.{shown};
 ghost use Rattle.roam_port.specs.Sockets.{socket_endpoints};
+ghost use Rattle.roam_sockets.specs.Bound.{AreBoundFor, Gains, GainsSome};
 ghost use Rattle.roam_sockets.specs.Faults.{IsFaultOf};
-ghost use Rattle.roam_sockets.specs.Descriptors as spec;
 
+use crate::descriptors::descriptors_wanted;
 use crate::fault::{ServeFault, reason_of};
 use crate::options::{address_octets, set_option};
 use crate::socket::socket_address;
 use os::FromRawFd;
 use roam_conf::{Config, Endpoint, Place, is_same_endpoint};
-use roam_port::{endpoint_of, place_of, socket_count, socket_numbers, worker_of};
+use roam_port::{endpoint_of, place_of, socket_numbers, worker_of};
 use std::alloc::Global;
 use std::io;
 use std::net::{Net, UdpSocket};
 use std::os::fd::AsRawFd;
-
-/// How many descriptors a server has beside those of its configuration: the three standard streams, the two sockets at
-/// which connections are taken, 32 connections, and the file of its configuration while that is read.
-const BESIDE: u32 = 38;
 
 /// A socket that is bound.
 #[derive(Drop)]
@@ -33,25 +30,6 @@ pub struct BoundSocket {
     /// Whether it was open before for another configuration.
     pub was_open: bool,
     pub socket: UdpSocket,
-}
-
-/// How many descriptors a configuration takes: its sockets, and two to wait with and one to be woken by for each
-/// worker and the timer.
-fn descriptors_of(config: &Config) -> u32
-    ensures value { result ≡ spec.descriptors_of (shown config.now) }
-    ensures bound { result ≤ 2 ^ 20 }
-{
-    let workers = u32::from(config.shards);
-    let more = if config.spread { 2 * (workers - 1) } else { 0 };
-    socket_count(config) as u32 + more + 3 * (workers + 1)
-}
-
-/// How many descriptors a server wants in all that serves one configuration and changes to another: those of both, and
-/// what it has beside them, connections that ask it among it.
-pub fn descriptors_wanted(old: &Config, new: &Config) -> u32
-    ensures { result ≡ spec.descriptors_wanted (shown old.now) (shown new.now) }
-{
-    descriptors_of(old) + descriptors_of(new) + BESIDE
 }
 
 /// A socket that doesn't wait.
@@ -123,7 +101,8 @@ impl Sockets {
         endpoint: Endpoint,
     ) -> Result<(), ServeFault>
         requires { Contains (socket_endpoints (shown config.now)) endpoint }
-        ensures { IfErr result (IsFaultOf (shown config.now)) }
+        ensures ok { OnOk result (GainsSome place endpoint self.old.bound.items self.new.bound.items) }
+        ensures err { IfErr result (IsFaultOf (shown config.now)) }
     {
         match bind(rt, endpoint) {
             Ok(socket) => {
@@ -151,7 +130,8 @@ impl Sockets {
         endpoint: Endpoint,
     ) -> Result<(), ServeFault>
         requires { Contains (socket_endpoints (shown config.now)) endpoint }
-        ensures { IfErr result (IsFaultOf (shown config.now)) }
+        ensures ok { OnOk result (GainsSome place endpoint self.old.bound.items self.new.bound.items) }
+        ensures err { IfErr result (IsFaultOf (shown config.now)) }
     {
         if let Err(error) = is_free(rt, endpoint) {
             return Err(fault_at(config, endpoint, &error, self.wanted));
@@ -195,7 +175,10 @@ impl Sockets {
         endpoint: Endpoint,
         open: &[BoundSocket],
     ) -> Result<bool, ServeFault>
-        ensures { IfErr result (IsFaultOf (shown config.now)) }
+        ensures ok { IfOk result (λ are_open.
+            (count : ℕ) × Gains place endpoint self.old.bound.items self.new.bound.items count
+            × (IsTrue are_open ↔ 0 < count)) }
+        ensures err { IfErr result (IsFaultOf (shown config.now)) }
     {
         let mut are_open = false;
         for bound in open {
@@ -209,7 +192,7 @@ impl Sockets {
                 match bound.socket.try_clone() {
                     Ok(socket) => self.bound.push(BoundSocket {
                         place,
-                        endpoint,
+                        endpoint: bound.endpoint,
                         worker,
                         is_spread: bound.is_spread,
                         was_open: true,
@@ -231,7 +214,8 @@ impl Sockets {
         endpoint: Endpoint,
     ) -> Result<(), ServeFault>
         requires { Contains (socket_endpoints (shown config.now)) endpoint }
-        ensures { IfErr result (IsFaultOf (shown config.now)) }
+        ensures ok { OnOk result (GainsSome place endpoint self.old.bound.items self.new.bound.items) }
+        ensures err { IfErr result (IsFaultOf (shown config.now)) }
     {
         match place {
             Place::Auth | Place::Acct if config.spread => {
@@ -239,6 +223,25 @@ impl Sockets {
             }
             _ => self.bind_one(rt, config, place, endpoint),
         }
+    }
+
+    /// Takes the sockets of an endpoint that are open, or binds those of its place.
+    fn take_or_bind<R: Net>(
+        &mut self,
+        rt: &R,
+        config: &Config,
+        place: Place,
+        endpoint: Endpoint,
+        open: &[BoundSocket],
+    ) -> Result<(), ServeFault>
+        requires { Contains (socket_endpoints (shown config.now)) endpoint }
+        ensures ok { OnOk result (GainsSome place endpoint self.old.bound.items self.new.bound.items) }
+        ensures err { IfErr result (IsFaultOf (shown config.now)) }
+    {
+        if self.take_open(config, place, endpoint, open)? {
+            return Ok(());
+        }
+        self.bind_place(rt, config, place, endpoint)
     }
 }
 
@@ -256,7 +259,8 @@ pub fn bind_following<R: Net>(
     open: &[BoundSocket],
     wanted: u32,
 ) -> Result<Vec<BoundSocket>, ServeFault>
-    ensures { IfErr result (IsFaultOf (shown config.now)) }
+    ensures bound { IfOk result (λ sockets. AreBoundFor (shown config.now) sockets.items) }
+    ensures err { IfErr result (IsFaultOf (shown config.now)) }
 {
     let mut sockets = Sockets {
         bound: Vec::new(alloc),
@@ -265,9 +269,7 @@ pub fn bind_following<R: Net>(
     for number in 0..socket_numbers(config) {
         let place = place_of(number);
         if let Some(endpoint) = endpoint_of(config, place) {
-            if !sockets.take_open(config, place, endpoint, open)? {
-                sockets.bind_place(rt, config, place, endpoint)?;
-            }
+            sockets.take_or_bind(rt, config, place, endpoint, open)?;
         }
     }
     Ok(sockets.bound)
@@ -283,7 +285,8 @@ pub fn bind_all<R: Net>(
     alloc: Global,
     config: &Config,
 ) -> Result<Vec<BoundSocket>, ServeFault>
-    ensures { IfErr result (IsFaultOf (shown config.now)) }
+    ensures bound { IfOk result (λ sockets. AreBoundFor (shown config.now) sockets.items) }
+    ensures err { IfErr result (IsFaultOf (shown config.now)) }
 {
     let wanted = descriptors_wanted(config, config);
     bind_following(rt, alloc, config, &[], wanted)

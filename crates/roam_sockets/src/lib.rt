@@ -6,6 +6,10 @@
 //!
 //! # Proved
 //!
+//! - each socket that is bound is at the endpoint of its own place, and each place that is configured has one at
+//!   least; a worker receives from exactly those that it hears, each at its place, and sends from the number of a
+//!   place by a socket of that place. That a socket is where it says, the system alone knows | `bind_all`,
+//!   `bind_following`: `bound`; `receivers`: `heard`; `ports`: `own`
 //! - a drawn seed changes the seed alone; without one the fault says so | `with_drawn_seed`: `ok`, `err`
 //! - a socket at which a receive failed is due again from eleven milliseconds later on, and not before. That it
 //!   is received from just then is the loop's code | `Receiver::is_due`: `due`, `waits`; `rest_after_fault`:
@@ -15,6 +19,8 @@
 mod bind;
 mod clock;
 mod control_socket;
+mod dealing;
+mod descriptors;
 mod fault;
 mod listener;
 mod options;
@@ -23,9 +29,11 @@ mod receiver;
 mod seed;
 mod socket;
 
-pub use bind::{BoundSocket, bind_all, bind_following, descriptors_wanted};
+pub use bind::{BoundSocket, bind_all, bind_following};
 pub use clock::now;
 pub use control_socket::ControlSocket;
+pub use dealing::{ports, receivers};
+pub use descriptors::descriptors_wanted;
 pub use fault::{Reason, ServeFault, SocketPath, reason_of};
 pub use listener::listen_at;
 pub use options::{RECEIVE_BUFFER, widen};

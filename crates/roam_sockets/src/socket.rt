@@ -59,7 +59,9 @@ pub struct Socket<'s> {
 
 impl<'s> Socket<'s> {
     /// The socket is one that doesn't wait.
-    pub fn new(socket: &'s UdpSocket) -> Socket<'s> {
+    pub fn new(socket: &'s UdpSocket) -> Socket<'s>
+        ensures { result.socket.now ≡ socket.now }
+    {
         Socket {
             socket,
             is_watched: false,

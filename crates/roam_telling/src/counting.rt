@@ -6,8 +6,8 @@ use crate::ended::cause_of;
 use roam_book::Answer;
 use roam_conf::{Config, Endpoint, Link, Place};
 use roam_counters::{
-    CountedEvent, CountedTurn, Delay, NakCause, Process, ReplyKind, Subject, end_at, subject_of,
-    tick_event,
+    CountedEvent, CountedTurn, Delay, Handling, NakCause, Process, ReplyKind, Subject, end_at,
+    subject_of, tick_event,
 };
 use roam_hub::{Past, Requester, Stood};
 use roam_port::Account;
@@ -41,6 +41,13 @@ impl Counting<'_> {
     pub fn received(&self, place: Place) {
         if let Some(counts) = &self.counts {
             counts.process(Process::received(place), 1);
+        }
+    }
+
+    /// This became of a datagram.
+    pub fn handled(&self, handling: Handling) {
+        if let Some(counts) = &self.counts {
+            counts.process(Process::handled(handling), 1);
         }
     }
 

@@ -3,14 +3,14 @@
 ghost use Rattle.std.specs.Prelude.{IfErr};
 ghost use Rattle.roam_sockets.specs.Faults.{IsAfterBinding};
 
-use crate::dealing::{ports, receivers};
 use crate::kits::{Kit, ThreadKits};
 use crate::parts::{Part, Parts, parts_of};
 use mio::{Events, Poll};
+use roam_counters::Datagrams;
 use roam_hub::{Opened, Seat};
 use roam_notices::Exchange;
 use roam_port::{Outbox, socket_numbers};
-use roam_sockets::{BoundSocket, ServeFault};
+use roam_sockets::{BoundSocket, ServeFault, ports, receivers};
 use roam_telling::{Counting, Notice};
 use roam_workers::{
     ExchangeQueues, Logger, Outgoing, Rests, RoomEvents, Shared, Timer, Worker, WorkerContext,
@@ -127,6 +127,7 @@ impl<'s, 'c, G, N: Opened> Builder<'s, 'c, G, N> {
             notices,
             exchanges,
             counting,
+            datagrams: Datagrams::none(),
             now: 0,
         };
         Ok(Equipped {

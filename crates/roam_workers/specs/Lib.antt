@@ -1,3 +1,4 @@
 pub mod Endings
+pub mod Handlings
 pub mod Remedies
 pub mod Requests

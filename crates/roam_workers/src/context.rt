@@ -1,19 +1,16 @@
 //! What a worker has: its seat at the hub, its packets on their way out, and its notices.
 
 ghost use Rattle.std.specs.Prelude.{◌≡◌};
-ghost use Rattle.roam_route.specs.Events.{IsEvent};
-ghost use Rattle.roam_route.specs.Shown.{shown_job};
 ghost use Rattle.roam_workers.specs.Remedies as remedies;
 
-use crate::codes::is_request;
 use crate::ending::{Ending, WorkerEnd};
 use crate::outgoing::Outgoing;
 use crate::shared::Shared;
-use roam_hub::{Answered, Call, Gate, HubFault, Opened, Refused, Seat, Ticked};
+use roam_counters::Datagrams;
+use roam_hub::{Answered, Call, Gate, HubFault, Opened, Seat, Ticked};
 use roam_notices::Origin;
-use roam_route::{Datagram, Job, Prepared, prepare};
 use roam_sockets::now;
-use roam_telling::{Counting, Exchanges, Notices, origin_of, turn_of};
+use roam_telling::{Counting, Exchanges, Notices};
 use roam_wire::Refusal;
 use std::alloc::Global;
 use std::sync::Wait;
@@ -28,6 +25,8 @@ pub struct WorkerContext<'s, 'c, G, N: Opened> {
     pub notices: Notices,
     pub exchanges: Exchanges,
     pub counting: Counting<'s>,
+    /// What became of the datagrams that it received.
+    pub datagrams: Datagrams,
     /// The last moment, in milliseconds since the server's start.
     pub now: u64,
 }
@@ -59,79 +58,6 @@ impl<G: Gate, N: Opened> WorkerContext<'_, '_, G, N> {
     /// Looks at the clock.
     pub fn look_at_clock<R: Clock>(&mut self, rt: &R) {
         self.now = now(rt, self.shared.start, self.now);
-    }
-
-    /// Takes a datagram: hands its packets to the sockets, or tells why it is refused. A server that is asked to stop
-    /// takes no request.
-    pub fn arrive<R: Wait>(&mut self, rt: &R, alloc: Global, datagram: &Datagram<Global>) {
-        let origin = Origin::Datagram(datagram.at, datagram.from);
-        self.counting.received(datagram.at);
-        if self.shared.stopping.is_asked() && is_request(datagram.octets.as_slice()) {
-            return;
-        }
-        match prepare(alloc, self.shared.config, datagram) {
-            Ok(Prepared::Job(job)) => self.take(rt, job, datagram),
-            Ok(Prepared::Reject(out)) => {
-                self.counting.answered(&out);
-                self.tell_local(datagram, out.bytes.as_slice());
-                self.outgoing.put(out);
-            }
-            Err(refusal) => {
-                self.counting.refused(refusal, datagram.at, datagram.from);
-                self.refuse(refusal, origin);
-            }
-        }
-    }
-
-    /// Gives a job to the hub: hands its packets to the sockets, or tells why it is refused.
-    fn take<R: Wait>(&mut self, rt: &R, job: Job<Global>, datagram: &Datagram<Global>)
-        requires { IsEvent N.opening.config (shown_job job) }
-    {
-        let turn = turn_of(&job);
-        self.counting.came(turn);
-        match self.answer(rt, job) {
-            Ok(answered) => {
-                self.shared.rest.wake();
-                self.counting.gave(turn, &answered.answer);
-                self.end_by(turn, datagram, &answered.answer);
-                let origin = origin_of(datagram, answered.answer.refusal);
-                self.finish(rt, answered, origin);
-            }
-            Err(refusal) => {
-                self.counting.failed(turn, refusal);
-                self.refuse(refusal, Origin::Datagram(datagram.at, datagram.from));
-            }
-        }
-    }
-
-    /// Gives a job to the hub. Where the history is full, or memory is wanting, that of its shard is let go of, and
-    /// the same job handed in again.
-    fn answer<R: Wait>(&mut self, rt: &R, job: Job<Global>) -> Result<Answered<Global>, Refusal>
-        requires { IsEvent N.opening.config (shown_job job) }
-    {
-        let shared = self.shared;
-        let shard = shared.config.shard_of(job.realm);
-        let mut job = job;
-        let mut is_second = false;
-        for _ in rt.forever() {
-            let notes = &mut self.exchanges.notes;
-            let call = Call {
-                rt,
-                gate: shared.gate,
-                moment: self.now,
-            };
-            match shared.hub.answer_noting(call, &mut self.seat, job, notes) {
-                Ok(answered) => return Ok(answered),
-                Err(Refused { fault, job: same }) => {
-                    if !self.remedy(rt, shard, fault, is_second) {
-                        return Err(fault.refusal());
-                    }
-                    job = same;
-                    is_second = true;
-                }
-            }
-        }
-        unreachable!()
     }
 
     /// Ticks a shard where something is due there, and hands its packets to the sockets. Answers whether more is due: the
@@ -190,7 +116,10 @@ impl<G: Gate, N: Opened> WorkerContext<'_, '_, G, N> {
     }
 
     /// Does what helps against a fault of a call. Answers whether it can be made again.
-    fn remedy<R: Wait>(&mut self, rt: &R, shard: u16, fault: HubFault, is_second: bool) -> bool {
+    pub fn remedy<R: Wait>(&mut self, rt: &R, shard: u16, fault: HubFault, is_second: bool) -> bool
+        ensures kept { (self.new.seat.tallies ≡ self.old.seat.tallies)
+            × (self.new.datagrams ≡ self.old.datagrams) × (self.new.now ≡ self.old.now) }
+    {
         match remedy_for(fault, is_second) {
             Remedy::LetGo => self.let_go(rt, shard),
             Remedy::FreeMemory => self.free_history(rt, shard),
@@ -199,7 +128,10 @@ impl<G: Gate, N: Opened> WorkerContext<'_, '_, G, N> {
     }
 
     /// Lets go of the stored steps of a shard, which are freed beside. Answers whether that was done.
-    fn let_go<R: Wait>(&mut self, rt: &R, shard: u16) -> bool {
+    fn let_go<R: Wait>(&mut self, rt: &R, shard: u16) -> bool
+        ensures kept { (self.new.seat.tallies ≡ self.old.seat.tallies)
+            × (self.new.datagrams ≡ self.old.datagrams) × (self.new.now ≡ self.old.now) }
+    {
         let shared = self.shared;
         match shared.hub.let_go(rt, &mut self.seat, shard) {
             Ok(steps) => {
@@ -212,7 +144,10 @@ impl<G: Gate, N: Opened> WorkerContext<'_, '_, G, N> {
     }
 
     /// Lets go of the stored steps of a shard, and frees them here and now: their memory is wanted.
-    fn free_history<R: Wait>(&mut self, rt: &R, shard: u16) -> bool {
+    fn free_history<R: Wait>(&mut self, rt: &R, shard: u16) -> bool
+        ensures kept { (self.new.seat.tallies ≡ self.old.seat.tallies)
+            × (self.new.datagrams ≡ self.old.datagrams) × (self.new.now ≡ self.old.now) }
+    {
         match self.shared.hub.let_go(rt, &mut self.seat, shard) {
             Ok(steps) => {
                 self.counting.let_go(shard, steps.len());
@@ -227,7 +162,10 @@ impl<G: Gate, N: Opened> WorkerContext<'_, '_, G, N> {
 
     /// Hands the packets of an answer on, tells a refusal, and lets go of the shard's steps where their octets are
     /// more than are to be stored.
-    fn finish<R: Wait>(&mut self, rt: &R, answered: Answered<Global>, origin: Origin) {
+    pub fn finish<R: Wait>(&mut self, rt: &R, answered: Answered<Global>, origin: Origin)
+        ensures kept { (self.new.seat.tallies ≡ self.old.seat.tallies)
+            × (self.new.datagrams ≡ self.old.datagrams) × (self.new.now ≡ self.old.now) }
+    {
         self.counting.stored(answered.shard, answered.octets);
         if let Some(refusal) = answered.answer.refusal {
             self.refuse(refusal, origin);
@@ -240,7 +178,10 @@ impl<G: Gate, N: Opened> WorkerContext<'_, '_, G, N> {
     }
 
     /// Notes that an arrival or a tick is refused.
-    pub fn refuse(&mut self, refusal: Refusal, origin: Origin) {
+    pub fn refuse(&mut self, refusal: Refusal, origin: Origin)
+        ensures kept { (self.new.seat ≡ self.old.seat) × (self.new.datagrams ≡ self.old.datagrams)
+            × (self.new.now ≡ self.old.now) }
+    {
         self.notices.refused(refusal, origin, self.now);
     }
 
@@ -266,6 +207,8 @@ impl<G: Gate, N: Opened> WorkerContext<'_, '_, G, N> {
     /// Sends what can be sent, gives back the seat and the packets that wait on, and has all workers end.
     pub fn leave(mut self, ending: Ending) -> WorkerEnd<N>
         ensures ending { result.ending ≡ ending }
+        ensures datagrams { result.datagrams ≡ self.entry.datagrams }
+        ensures seat { result.seat ≡ self.entry.seat }
     {
         self.outgoing.send();
         let dropped = self.exchanges.tell_folded();
@@ -275,6 +218,7 @@ impl<G: Gate, N: Opened> WorkerContext<'_, '_, G, N> {
         let shared = self.shared;
         let end = WorkerEnd {
             ending,
+            datagrams: self.datagrams,
             seat: self.seat,
             outbox: self.outgoing.outbox,
             rests: None,

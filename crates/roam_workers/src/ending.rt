@@ -3,6 +3,7 @@
 ghost use Rattle.std.specs.Prelude.{◌≡◌, ◌⊎◌, ◌↔◌, IsTrue};
 
 use crate::rests::Rests;
+use roam_counters::Datagrams;
 use roam_hub::{Opened, Seat};
 use roam_port::Outbox;
 use std::alloc::Global;
@@ -22,6 +23,8 @@ pub enum Ending {
 #[derive(Drop)]
 pub struct WorkerEnd<N: Opened> {
     pub ending: Ending,
+    /// What became of the datagrams that it received.
+    pub datagrams: Datagrams,
     pub seat: Seat<Global, N>,
     /// The packets that still wait for room at a socket.
     pub outbox: Outbox<Global>,
@@ -34,6 +37,8 @@ pub struct WorkerEnd<N: Opened> {
 pub struct Ended<N: Opened> {
     /// Whether one of them gave up a socket.
     pub has_given_up: bool,
+    /// What became of the datagrams that all received.
+    pub datagrams: Datagrams,
     pub seats: Vec<Seat<Global, N>>,
     /// The packets of each that still wait, in the order of the workers; the timer's last.
     pub outboxes: Vec<Outbox<Global>>,

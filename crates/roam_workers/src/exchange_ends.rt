@@ -1,5 +1,7 @@
 //! What a worker tells and counts of the exchanges that end by what it does.
 
+ghost use Rattle.std.specs.Prelude.{◌≡◌};
+
 use crate::context::WorkerContext;
 use roam_book::Answer;
 use roam_counters::{CountedEvent, CountedTurn, Process};
@@ -12,7 +14,10 @@ use std::alloc::Global;
 
 impl<G: Gate, N: Opened> WorkerContext<'_, '_, G, N> {
     /// Has an exchange be told of which lines tell, and counts it where it can't be.
-    fn tell(&mut self, exchange: Option<Exchange>) {
+    fn tell(&mut self, exchange: Option<Exchange>)
+        ensures kept { (self.new.seat ≡ self.old.seat) × (self.new.datagrams ≡ self.old.datagrams)
+            × (self.new.now ≡ self.old.now) }
+    {
         let is_dropped = match exchange {
             Some(exchange) => self.exchanges.tell(exchange),
             None => true,
@@ -23,7 +28,10 @@ impl<G: Gate, N: Opened> WorkerContext<'_, '_, G, N> {
     }
 
     /// Counts a request that the broker rejected by itself, and has it be told with those that are like it.
-    pub fn tell_local(&mut self, datagram: &Datagram<Global>, octets: &[u8]) {
+    pub fn tell_local(&mut self, datagram: &Datagram<Global>, octets: &[u8])
+        ensures kept { (self.new.seat ≡ self.old.seat) × (self.new.datagrams ≡ self.old.datagrams)
+            × (self.new.now ≡ self.old.now) }
+    {
         if octets.first() == Some(&ACCESS_REJECT) {
             self.counting.rejected(datagram.at, datagram.from);
             if self.exchanges.are_told(ExchangeEnd::LocalReject) {
@@ -39,7 +47,10 @@ impl<G: Gate, N: Opened> WorkerContext<'_, '_, G, N> {
         turn: CountedTurn,
         datagram: &Datagram<Global>,
         answer: &Answer<Global>,
-    ) {
+    )
+        ensures kept { (self.new.seat ≡ self.old.seat) × (self.new.datagrams ≡ self.old.datagrams)
+            × (self.new.now ≡ self.old.now) }
+    {
         let past = match self.exchanges.notes.pasts() {
             [past] => Some(*past),
             _ => None,
@@ -62,7 +73,10 @@ impl<G: Gate, N: Opened> WorkerContext<'_, '_, G, N> {
     }
 
     /// Has a request that was noted, and that another one replaced, be told with those that are like it.
-    fn tell_replaced(&mut self, past: Past) {
+    fn tell_replaced(&mut self, past: Past)
+        ensures kept { (self.new.seat ≡ self.old.seat) × (self.new.datagrams ≡ self.old.datagrams)
+            × (self.new.now ≡ self.old.now) }
+    {
         if !self.exchanges.are_told(ExchangeEnd::Replaced) {
             return;
         }
@@ -75,7 +89,10 @@ impl<G: Gate, N: Opened> WorkerContext<'_, '_, G, N> {
     }
 
     /// Tells a request that was noted, where lines tell of those that end so.
-    fn tell_past(&mut self, past: Past, outcome: ExchangeEnd) {
+    fn tell_past(&mut self, past: Past, outcome: ExchangeEnd)
+        ensures kept { (self.new.seat ≡ self.old.seat) × (self.new.datagrams ≡ self.old.datagrams)
+            × (self.new.now ≡ self.old.now) }
+    {
         if !self.exchanges.are_told(outcome) {
             return;
         }
@@ -85,7 +102,10 @@ impl<G: Gate, N: Opened> WorkerContext<'_, '_, G, N> {
     }
 
     /// Tells and counts a request whose reply is returned.
-    fn end_by_reply(&mut self, past: Past, answer: &Answer<Global>) {
+    fn end_by_reply(&mut self, past: Past, answer: &Answer<Global>)
+        ensures kept { (self.new.seat ≡ self.old.seat) × (self.new.datagrams ≡ self.old.datagrams)
+            × (self.new.now ≡ self.old.now) }
+    {
         self.counting.replied(past, self.now);
         let code = match answer.outs.first() {
             Some(out) => out.bytes.as_slice().first(),

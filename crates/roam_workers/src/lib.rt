@@ -10,12 +10,18 @@
 //!
 //! - what its threads give to the hub is what the hub takes: jobs that are events of its configuration | what
 //!   `Hub::answer` requires
+//! - what becomes of a datagram is one of five, each as admission says: a realm's rules took it, by one call more that
+//!   the seat counts and whose step is the arrival's; the broker answered by itself, or it was refused, and nothing was
+//!   given to a realm; it failed, and the seat counts nothing; or it is a request and the server was asked to stop. It is
+//!   counted once, as that; what a worker counted is what it gives back | `WorkerContext::arrive`: `arrives`;
+//!   `WorkerContext::leave`: `datagrams`
 //! - which remedy there is for a call that a hub doesn't record: where the history is full it is let go of,
 //!   each time; out of memory it is, once; else the call is refused. That the same event is handed in again is
 //!   the loop's code | `remedy_for`
 //! - which datagrams are dropped where the server is asked to stop: requests, by their code | `is_request`
 #![tactic(auto)]
 
+mod arrivals;
 mod codes;
 mod context;
 mod ending;

@@ -114,7 +114,7 @@ fn tick_shard<R: Wait, G: Gate, N: Opened>(rt: &R, timer: &mut Timer<'_, '_, G, 
     for _ in 0..LATE {
         let is_more = timer.context.tick(rt, shard);
         timer.context.outgoing.send();
-        if !is_more {
+        if !is_more || timer.context.shared.is_over() {
             return;
         }
     }

@@ -106,8 +106,37 @@ fn crowd(counters: &Counters) -> Verdict {
     Ok(())
 }
 
+/// Where a datagram came to.
+const RECEIVED: [Process; 4] = [
+    Process::ReceivedAuth,
+    Process::ReceivedAcct,
+    Process::ReceivedOut,
+    Process::ReceivedReverse,
+];
+
+/// What became of it.
+const HANDLED: [Process; 5] = [
+    Process::DatagramTaken,
+    Process::DatagramAnswered,
+    Process::DatagramRefused,
+    Process::DatagramFailed,
+    Process::DatagramDropped,
+];
+
+/// How often one of these was counted.
+fn sum_of(counters: &Counters, processes: &[Process]) -> u64 {
+    let mut sum = 0u64;
+    for process in processes {
+        sum = sum.saturating_add(counters.process(*process));
+    }
+    sum
+}
+
 /// Whether the server counted what the row did.
 pub(crate) fn judge(row: Row, counters: &Counters) -> Verdict {
+    if sum_of(counters, &RECEIVED) != sum_of(counters, &HANDLED) {
+        return Err("a datagram is received, and counted as nothing else");
+    }
     match row {
         Row::Accounting => accounting(counters),
         Row::Hostile => hostile(counters),

@@ -4,7 +4,9 @@ use Rattle.std.proofs.Common.{◌≡◌, [], ◌∷◌, ◌++◌, ◌↔◌, ◌
 use Rattle.std.specs.Prelude.{Contains}
 use Rattle.std.proofs.lemmas.List.{map-append}
 use Rattle.roam_workers.specs.declared.ending.Ending.TheVariants as ending
-use Rattle.roam_workers.specs.Endings.{endings_of}
+use Rattle.std.proofs.lemmas.List.{nil_from_length}
+use Rattle.roam_counters.specs.Datagrams.{all_of, with_all}
+use Rattle.roam_workers.specs.Endings.{datagrams_of, endings_of}
 use Rattle.roam_workers.proofs.EndingLemmas.{all-seen, given-up-after, none-gave-up}
 use Rattle.roam_run.proofs.open_hub.gather.Goals as goal
 
@@ -13,6 +15,7 @@ loop-end-init g c =
     let iter = c.into_iter-end-iterator.ensures.into_iter_gives in
     record {
       given_up = none-gave-up;
+      datagrams = rw c.none-datagrams.ensures (ap (λ ends. all_of (datagrams_of ends)) iter.0);
       all = iter.0;
       left = iter.1 ∙ c.args.ends.ok.0 ∙ ap length (sym iter.0);
     }
@@ -26,10 +29,20 @@ loop-end-preserved g c =
       given_up = rw (map-append (λ e. e.ending) c.loop-end.yielded (c.in-Some.end ∷ []))
           (given-up-after _ c.in-Some.end.ending c.loop-end.has_given_up c.has_given_up_after-has_given_up.result
           inv.given_up c.has_given_up_after-has_given_up.ensures);
+      datagrams = (
+          let all_before = ap (λ ends. with_all c.loop-end.datagrams.counts (datagrams_of ends)) (sym steps.0) in
+          rw c.and-datagrams.ensures (all_before ∙ inv.datagrams));
       all = append_assoc c.loop-end.yielded (c.in-Some.end ∷ []) _ ∙ ap (λ l. c.loop-end.yielded ++ l) (sym steps.0)
           ∙ inv.all;
       left = omega (arith, short, steps.1, inv.left);
     }
+
+pub returns-clause-datagrams : goal.returns-clause-datagrams
+returns-clause-datagrams g c =
+    let inv = c.loop-end.invariant in
+    let none : length (into_iter_items c.loop-end.end-iterator) ≡ 0 = sym inv.left ∙ c.in-None.ensures.steps.0 in
+    let rest = nil_from_length (into_iter_items c.loop-end.end-iterator) none in
+    ap (λ ends. with_all c.loop-end.datagrams.counts (datagrams_of ends)) (sym rest) ∙ inv.datagrams
 
 pub returns-clause-gave_up : goal.returns-clause-gave_up
 returns-clause-gave_up g c =

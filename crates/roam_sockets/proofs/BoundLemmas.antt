@@ -1,0 +1,214 @@
+-- Sockets come in behind others, and each place has one of its own.
+use Rattle.std.proofs.Common.{◌≡◌, ◌≢◌, ◌⊎◌, inl, inr, ℕ, zero, suc, ◌+◌, ◌*◌, ◌<◌, ◌≤◌, List, [], ◌∷◌, ◌++◌, length}
+use Rattle.std.proofs.Common.{◌↔◌, Bool, true, IsTrue}
+use Rattle.std.proofs.Common.{Contains, Option, Some, None, option_map, option_and_then, slice_get, refl, ap, sym, subst, ◌∙◌, append_assoc, append-nil, arith}
+use Rattle.std.proofs.lemmas.Bool.{cases_lt}
+use Rattle.std.proofs.lemmas.List.{length-append}
+use Rattle.std.proofs.lemmas.List.Elements.{Contains-append_cases, Contains-append_left, Contains-append_right, Contains-push_cases}
+use Rattle.std.proofs.lemmas.Option.{slice_get_within}
+use Rattle.roam_conf.specs.Config.{ConfigView, RealmView}
+use Rattle.roam_conf.specs.declared.endpoint.Endpoint.{Endpoint}
+use Rattle.roam_conf.specs.Duplicates.{same_endpoint}
+use Rattle.roam_conf.proofs.EqualLemmas.{endpoint_decides}
+use Rattle.roam_conf.specs.declared.place.Place.{Place}
+use Rattle.roam_conf.specs.declared.place.Place.TheVariants as place
+use Rattle.roam_port.specs.Sockets.{socket_endpoint, socket_number}
+use Rattle.roam_sockets.specs.Bound.{AreBoundFor, AreBoundUpTo, Gains, GainsSome, HasOne, IsAt}
+use Rattle.roam_sockets.specs.declared.bind.BoundSocket.{BoundSocket}
+
+none_in : {X : Type 0} {P : Type 0} (x : X) → Contains [] x → P
+none_in x h = absurd (let lt = h.1 in omega (arith, lt))
+
+pub gains_none : (at : Place) (e : Endpoint) (xs : List BoundSocket) → Gains at e xs xs 0
+gains_none at e xs = record {
+  more = [];
+  behind = sym (append-nil xs);
+  each = λ b h. none_in b h;
+  as_many = refl;
+}
+
+pub gains_more : (at : Place) (e : Endpoint) (old mid new : List BoundSocket) (n : ℕ) (b : BoundSocket) →
+    Gains at e old mid n
+    → new ≡ mid ++ b ∷ [] → b.place ≡ at → b.endpoint ≡ e → Gains at e old new (n + 1)
+gains_more at e old mid new n b g behind place_is endpoint_is = record {
+  more = g.more ++ b ∷ [];
+  behind = behind ∙ (ap (λ (l : List BoundSocket). l ++ b ∷ []) g.behind ∙ append_assoc old g.more (b ∷ []));
+  each = λ c h. (elim (Contains-push_cases g.more b c h) [
+    | inl was ↦ g.each c was
+    | inr same ↦ subst (IsAt at e) same (record { place_is = place_is; endpoint_is = endpoint_is })
+  ]);
+  as_many = (let long = length-append g.more (b ∷ []) in let many = g.as_many in omega (arith, long, many));
+}
+
+-- the first one
+pub gains_first : (at : Place) (e : Endpoint) (old new : List BoundSocket) (b : BoundSocket) → new ≡ old ++ b ∷ [] →
+    b.place ≡ at
+    → b.endpoint ≡ e → GainsSome at e old new
+gains_first at e old new b behind place_is endpoint_is = record {
+  count = 1;
+  gains = gains_more at e old old new 0 b (gains_none at e old) behind place_is endpoint_is;
+  some = omega arith;
+}
+
+-- endpoints that are the same by the test are one
+pub same_is : (a b : Endpoint) → same_endpoint a b ≡ true → a ≡ b
+same_is a b test = (endpoint_decides a b).0 test
+
+-- of those that are open one more is taken
+abbrev pub AreTaken : Place → Endpoint → List BoundSocket → List BoundSocket → Bool → Type 0
+AreTaken at e old new are_open = (n : ℕ) × Gains at e old new n × (IsTrue are_open ↔ 0 < n)
+
+pub taken_one : (at : Place) (e : Endpoint) (old mid new : List BoundSocket) (was now : Bool) (b : BoundSocket)
+    → AreTaken at e old mid was → new ≡ mid ++ b ∷ [] → now ≡ true → b.place ≡ at → true ≡ same_endpoint b.endpoint e
+    → AreTaken at e old new now
+taken_one at e old mid new was now b before behind opened place_is same = (
+  before.0 + 1,
+  gains_more at e old mid new before.0 b before.1 behind place_is (same_is b.endpoint e (sym same)),
+  ((λ is. omega arith), (λ lt. opened)),
+)
+
+pub taken_as_before : (at : Place) (e : Endpoint) (old mid new : List BoundSocket) (was now : Bool) →
+    AreTaken at e old mid was
+    → new ≡ mid → now ≡ was → AreTaken at e old new now
+taken_as_before at e old mid new was now before same as_was =
+    subst (λ (l : List BoundSocket). AreTaken at e old l now) (sym same)
+    (subst (AreTaken at e old mid) (sym as_was) before)
+
+pub gains_on : (at : Place) (e : Endpoint) (a b c : List BoundSocket) (n m : ℕ) → Gains at e a b n → Gains at e b c m
+    → Gains at e a c (n + m)
+gains_on at e a b c n m g h = record {
+  more = g.more ++ h.more;
+  behind = h.behind ∙ (ap (λ (l : List BoundSocket). l ++ h.more) g.behind ∙ append_assoc a g.more h.more);
+  each = λ x is. (elim (Contains-append_cases g.more h.more x is) [
+    | inl first ↦ g.each x first
+    | inr second ↦ h.each x second
+  ]);
+  as_many = (let long = length-append g.more h.more in let one = g.as_many in let two = h.as_many in
+      omega (arith, long, one, two));
+}
+
+-- a number is one place's
+pub same_place : (a b : Place) → socket_number a ≡ socket_number b → a ≡ b
+same_place place.Auth place.Auth is = refl
+same_place place.Auth place.Acct is = absurd (omega (arith, is))
+same_place place.Auth (place.Out r) is = absurd (omega (arith, is))
+same_place place.Auth (place.Reverse r) is = absurd (omega (arith, is))
+same_place place.Acct place.Auth is = absurd (omega (arith, is))
+same_place place.Acct place.Acct is = refl
+same_place place.Acct (place.Out r) is = absurd (omega (arith, is))
+same_place place.Acct (place.Reverse r) is = absurd (omega (arith, is))
+same_place (place.Out q) place.Auth is = absurd (omega (arith, is))
+same_place (place.Out q) place.Acct is = absurd (omega (arith, is))
+same_place (place.Out q) (place.Out r) is = ap place.Out (omega (arith, is))
+same_place (place.Out q) (place.Reverse r) is = absurd (omega (arith, is))
+same_place (place.Reverse q) place.Auth is = absurd (omega (arith, is))
+same_place (place.Reverse q) place.Acct is = absurd (omega (arith, is))
+same_place (place.Reverse q) (place.Out r) is = absurd (omega (arith, is))
+same_place (place.Reverse q) (place.Reverse r) is = ap place.Reverse (omega (arith, is))
+
+-- what is configured has one of so many numbers
+realm_within : {E : Type 0} (realms : List RealmView) (k : ℕ) (f : RealmView → E) (e : E) →
+    option_map f (slice_get realms k) ≡ Some e
+    → k < length realms
+realm_within [] k f e is = absurd cc
+realm_within (r ∷ rs) zero f e is = omega arith
+realm_within (r ∷ rs) (suc k) f e is = let lt = realm_within rs k f e is in omega (arith, lt)
+
+reverse_within : (realms : List RealmView) (k : ℕ) (e : Endpoint) →
+    option_and_then (λ r. r.reverse) (slice_get realms k) ≡ Some e
+    → k < length realms
+reverse_within [] k e is = absurd cc
+reverse_within (r ∷ rs) zero e is = omega arith
+reverse_within (r ∷ rs) (suc k) e is = let lt = reverse_within rs k e is in omega (arith, lt)
+
+pub numbered : (config : ConfigView) (at : Place) (e : Endpoint) → socket_endpoint config at ≡ Some e
+    → socket_number at < 2 * length config.realms + 2
+numbered config place.Auth e is = omega arith
+numbered config place.Acct e is = omega arith
+numbered config (place.Out r) e is = let lt = realm_within config.realms r (λ x. x.out) e is in omega (arith, lt)
+numbered config (place.Reverse r) e is = let lt = reverse_within config.realms r e is in omega (arith, lt)
+
+pub bound_none : (config : ConfigView) → AreBoundUpTo config 0 []
+bound_none config = record {
+  each = λ b h. none_in b h;
+  all = λ at e is lt. absurd (omega (arith, lt));
+}
+
+first_in : (xs : List BoundSocket) → 0 < length xs → (b : BoundSocket) × Contains xs b
+first_in [] some = absurd (omega (arith, some))
+first_in (x ∷ xs) some = (x, (0, some, refl))
+
+has_more : (old new more : List BoundSocket) (at : Place) → new ≡ old ++ more → HasOne old at → HasOne new at
+has_more old new more at behind h = record {
+  bound = h.bound;
+  among = subst (λ (l : List BoundSocket). Contains l h.bound) (sym behind)
+      (Contains-append_left old more h.bound h.among);
+  place_is = h.place_is;
+}
+
+has_first : (old new : List BoundSocket) (at : Place) (e : Endpoint) → GainsSome at e old new → HasOne new at
+has_first old new at e s =
+    let g = s.gains in
+    let many = g.as_many in
+    let some = s.some in
+    let first = first_in g.more (omega (arith, many, some)) in record {
+      bound = first.0;
+      among = subst (λ (l : List BoundSocket). Contains l first.0) (sym g.behind)
+          (Contains-append_right old g.more first.0 first.1);
+      place_is = (g.each first.0 first.1).place_is;
+    }
+
+pub bound_more : (config : ConfigView) (k : ℕ) (at : Place) (e : Endpoint) (old new : List BoundSocket) →
+    socket_number at ≡ k
+    → socket_endpoint config at ≡ Some e → GainsSome at e old new → AreBoundUpTo config k old →
+    AreBoundUpTo config (k + 1) new
+bound_more config k at e old new number of s before =
+    let g = s.gains in record {
+      each = λ b h. (elim (Contains-append_cases old g.more b
+          (subst (λ (l : List BoundSocket). Contains l b) g.behind h)) [
+            | inl was ↦ before.each b was
+            | inr comes ↦ (let is = g.each b comes in ap (socket_endpoint config) is.place_is
+                ∙ (of ∙ ap Some (sym is.endpoint_is)))
+          ]);
+      all = λ other its there lt. (elim (cases_lt (socket_number other) k) [
+        | inl less ↦ has_more old new g.more other g.behind (before.all other its there less)
+        | inr more ↦ (let same = same_place at other (omega (arith, number, lt, more)) in
+            subst (HasOne new) same (has_first old new at e s))
+      ]);
+    }
+
+-- a place that isn't there has none
+pub bound_passed : (config : ConfigView) (k : ℕ) (at : Place) (xs : List BoundSocket) → socket_number at ≡ k
+    → socket_endpoint config at ≡ None → AreBoundUpTo config k xs → AreBoundUpTo config (k + 1) xs
+bound_passed config k at xs number none before = record {
+  each = before.each;
+  all = λ other its there lt. (elim (cases_lt (socket_number other) k) [
+    | inl less ↦ before.all other its there less
+    | inr more ↦ (
+        let same = same_place at other (omega (arith, number, lt, more)) in
+        let bad : None ≡ Some its = sym none ∙ (ap (socket_endpoint config) same ∙ there) in
+        absurd cc)
+  ]);
+}
+
+pub bound_all : (config : ConfigView) (k : ℕ) (xs : List BoundSocket) → k ≡ 2 * length config.realms + 2 →
+    AreBoundUpTo config k xs
+    → AreBoundFor config xs
+bound_all config k xs is up = record {
+  each = up.each;
+  all = λ at e there. up.all at e there (let lt = numbered config at e there in omega (arith, lt, is));
+}
+
+-- what is open is all, or what is bound stands behind
+pub some_gained : (at : Place) (e : Endpoint) (old new : List BoundSocket) (any : Bool) → AreTaken at e old new any →
+    any ≡ true
+    → GainsSome at e old new
+some_gained at e old new any taken is = record { count = taken.0; gains = taken.1; some = taken.2.0 is }
+
+pub some_behind : (at : Place) (e : Endpoint) (old mid new : List BoundSocket) (any : Bool) → AreTaken at e old mid any
+    → GainsSome at e mid new → GainsSome at e old new
+some_behind at e old mid new any taken more = record {
+  count = taken.0 + more.count;
+  gains = gains_on at e old mid new taken.0 more.count taken.1 more.gains;
+  some = (let lt = more.some in omega (arith, lt));
+}

@@ -1,0 +1,31 @@
+//! How many descriptors a server wants.
+
+ghost use Rattle.std.specs.Prelude.{◌≡◌, ◌≤◌, ◌^◌};
+ghost use Rattle.roam_conf.specs.Shown.{shown};
+ghost use Rattle.roam_sockets.specs.Descriptors as spec;
+
+use roam_conf::Config;
+use roam_port::socket_count;
+
+/// How many descriptors a server has beside those of its configuration: the three standard streams, the two sockets at
+/// which connections are taken, 32 connections, and the file of its configuration while that is read.
+const BESIDE: u32 = 38;
+
+/// How many descriptors a configuration takes: its sockets, and two to wait with and one to be woken by for each
+/// worker and the timer.
+fn descriptors_of(config: &Config) -> u32
+    ensures value { result ≡ spec.descriptors_of (shown config.now) }
+    ensures bound { result ≤ 2 ^ 20 }
+{
+    let workers = u32::from(config.shards);
+    let more = if config.spread { 2 * (workers - 1) } else { 0 };
+    socket_count(config) as u32 + more + 3 * (workers + 1)
+}
+
+/// How many descriptors a server wants in all that serves one configuration and changes to another: those of both, and
+/// what it has beside them, connections that ask it among it.
+pub fn descriptors_wanted(old: &Config, new: &Config) -> u32
+    ensures { result ≡ spec.descriptors_wanted (shown old.now) (shown new.now) }
+{
+    descriptors_of(old) + descriptors_of(new) + BESIDE
+}

@@ -1,0 +1,14 @@
+use Rattle.std.proofs.Common.{◌≡◌}
+use Rattle.roam_route.specs.Events.{IsEvent}
+use Rattle.roam_route.specs.Shown.{shown_job}
+use Rattle.roam_workers.proofs.arrivals.WorkerContext.answer.Given as goal
+
+-- the job is the one that was handed in, which the hub takes, and none was counted yet
+abbrev pub invariant-loop : goal.invariant-loop
+invariant-loop g l = record {
+  event : IsEvent g.N.Opened.opening.config (shown_job l.job);
+  same : shown_job l.job ≡ shown_job l.fn.job;
+  tallies : l.self.seat.tallies ≡ l.fn.self.seat.tallies;
+  datagrams : l.self.datagrams ≡ l.fn.self.datagrams;
+  now : l.self.now ≡ l.fn.self.now;
+}
