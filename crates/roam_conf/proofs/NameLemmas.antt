@@ -14,7 +14,7 @@ use Rattle.std.specs.Str.{bytes_eq, str_to_ascii_lowercase}
 use Rattle.roam_conf.specs.declared.realm.Realm.{Realm}
 use Rattle.roam_conf.specs.Config.{PatternView, whole, suffix, any, RealmView}
 use Rattle.roam_conf.specs.Duplicates.{has_pair, has_duplicate_realm}
-use Rattle.roam_conf.specs.Index.{owner_of, all_new, pattern_key, of_realm, all_patterns}
+use Rattle.roam_conf.specs.Index.{owner_of, all_new, pattern_key, of_owner, all_patterns}
 use Rattle.roam_conf.specs.Lookup.{first_place, realm_with, realm_named, further_patterns, first_answer, after_dots}
 use Rattle.roam_conf.specs.Parts.{shown_realm}
 use Rattle.roam_conf.specs.Letters.{is_realm_letter}
@@ -35,7 +35,7 @@ same_key any any = refl
 
 -- The look-up in the list of all patterns.
 
-lookup_of_realm : (p : PatternView) (i : ℕ) (ps : List PatternView) (rest : List (List ℕ × ℕ)) → owner_of (map (of_realm i) ps ++ rest) (pattern_key p) ≡ cond (list_any (same_pattern p) ps) (Some i) (owner_of rest (pattern_key p))
+lookup_of_realm : (p : PatternView) (i : ℕ) (ps : List PatternView) (rest : List (List ℕ × ℕ)) → owner_of (map (of_owner i) ps ++ rest) (pattern_key p) ≡ cond (list_any (same_pattern p) ps) (Some i) (owner_of rest (pattern_key p))
 lookup_of_realm p i [] rest = refl
 lookup_of_realm p i (q ∷ qs) rest =
     elim (cases_Bool (same_pattern p q)) [
@@ -109,22 +109,22 @@ new_or_pair done (x ∷ xs) none =
     ]
 
 -- pairs of entries are pairs of patterns
-any_key : (p : PatternView) (i j : ℕ) (ps : List PatternView) (rest : List (List ℕ × ℕ)) → list_any (same_entry (of_realm i p)) (map (of_realm j) ps ++ rest) ≡ list_any (same_pattern p) ps || list_any (same_entry (of_realm i p)) rest
+any_key : (p : PatternView) (i j : ℕ) (ps : List PatternView) (rest : List (List ℕ × ℕ)) → list_any (same_entry (of_owner i p)) (map (of_owner j) ps ++ rest) ≡ list_any (same_pattern p) ps || list_any (same_entry (of_owner i p)) rest
 any_key p i j [] rest = refl
 any_key p i j (q ∷ qs) rest =
-    rw (same_key p q, any_key p i j qs rest) (sym (or_assoc (same_pattern p q) (list_any (same_pattern p) qs) (list_any (same_entry (of_realm i p)) rest)))
+    rw (same_key p q, any_key p i j qs rest) (sym (or_assoc (same_pattern p q) (list_any (same_pattern p) qs) (list_any (same_entry (of_owner i p)) rest)))
 
-any_key_all : (p : PatternView) (i j : ℕ) (realms : List RealmView) → list_any (same_entry (of_realm i p)) (all_patterns j realms) ≡ list_any (same_pattern p) (flat_map patterns_of realms)
+any_key_all : (p : PatternView) (i j : ℕ) (realms : List RealmView) → list_any (same_entry (of_owner i p)) (all_patterns j realms) ≡ list_any (same_pattern p) (flat_map patterns_of realms)
 any_key_all p i j [] = refl
 any_key_all p i j (realm ∷ realms) =
     any_key p i j (patterns_of realm) (all_patterns (suc j) realms)
     ∙ ap (λ b. list_any (same_pattern p) (patterns_of realm) || b) (any_key_all p i (suc j) realms)
     ∙ sym (any_append (same_pattern p) (patterns_of realm) (flat_map patterns_of realms))
 
-pair_of_realm : (i : ℕ) (ps : List PatternView) (realms : List RealmView) → has_pair same_entry (all_patterns (suc i) realms) ≡ has_pair same_pattern (flat_map patterns_of realms) → has_pair same_entry (map (of_realm i) ps ++ all_patterns (suc i) realms) ≡ has_pair same_pattern (ps ++ flat_map patterns_of realms)
+pair_of_realm : (i : ℕ) (ps : List PatternView) (realms : List RealmView) → has_pair same_entry (all_patterns (suc i) realms) ≡ has_pair same_pattern (flat_map patterns_of realms) → has_pair same_entry (map (of_owner i) ps ++ all_patterns (suc i) realms) ≡ has_pair same_pattern (ps ++ flat_map patterns_of realms)
 pair_of_realm i [] realms rest = rest
 pair_of_realm i (p ∷ ps) realms rest =
-    let first : list_any (same_entry (of_realm i p)) (map (of_realm i) ps ++ all_patterns (suc i) realms) ≡ list_any (same_pattern p) (ps ++ flat_map patterns_of realms) =
+    let first : list_any (same_entry (of_owner i p)) (map (of_owner i) ps ++ all_patterns (suc i) realms) ≡ list_any (same_pattern p) (ps ++ flat_map patterns_of realms) =
     any_key p i i ps (all_patterns (suc i) realms)
     ∙ ap (λ b. list_any (same_pattern p) ps || b) (any_key_all p i (suc i) realms)
     ∙ sym (any_append (same_pattern p) ps (flat_map patterns_of realms)) in
@@ -156,11 +156,11 @@ all_new_split done (x ∷ xs) ys =
     ∙ sym (and_assoc (is_none (owner_of done x.0)) (all_new (done ++ x ∷ []) xs) (all_new (done ++ x ∷ xs) ys))
 
 -- the patterns of a realm, and then those of the realms behind it
-pub patterns_at : (realms : List Realm) (i : ℕ) (realm : Realm) → i < length realms → realm ≡ get_or realms i realm → all_patterns i (map shown_realm (drop i realms)) ≡ map (of_realm i) (patterns_of (shown_realm realm)) ++ all_patterns (i + 1) (map shown_realm (drop (i + 1) realms))
+pub patterns_at : (realms : List Realm) (i : ℕ) (realm : Realm) → i < length realms → realm ≡ get_or realms i realm → all_patterns i (map shown_realm (drop i realms)) ≡ map (of_owner i) (patterns_of (shown_realm realm)) ++ all_patterns (i + 1) (map shown_realm (drop (i + 1) realms))
 patterns_at realms i realm within is =
     let next : suc i ≡ i + 1 = omega arith in
     let here : drop i realms ≡ realm ∷ drop (i + 1) realms = drop-cons realms i realm within ∙ ap (λ n. get_or realms i realm ∷ drop n realms) next ∙ ap (λ r. r ∷ drop (i + 1) realms) (sym is) in
-    ap (λ rs. all_patterns i (map shown_realm rs)) here ∙ ap (λ n. map (of_realm i) (patterns_of (shown_realm realm)) ++ all_patterns n (map shown_realm (drop (i + 1) realms))) next
+    ap (λ rs. all_patterns i (map shown_realm rs)) here ∙ ap (λ n. map (of_owner i) (patterns_of (shown_realm realm)) ++ all_patterns n (map shown_realm (drop (i + 1) realms))) next
 
 module _ (old done here rest all : List (List ℕ × ℕ)) where
   -- a realm whose patterns are new

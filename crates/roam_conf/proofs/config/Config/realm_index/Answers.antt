@@ -11,5 +11,5 @@ returns-in-Some-clause-bound c =
 
 pub returns-in-None-clause-bound : goal.returns-in-None-clause-bound
 returns-in-None-clause-bound c =
-    let found = c.realm_with_pattern.ensures ∙ sym (named_further (shown c.args.self.now).realms c.args.name.now (sym c.in-None.ensures)) in
-    realm_named_bound c.args.self.now.realms.items c.args.name.now _ c.realm_with_pattern.result (omega (arith, c.args.self.now.realms.ok)) found
+    let found = c.owner_of_pattern.ensures ∙ sym (named_further (shown c.args.self.now).realms c.args.name.now (sym c.in-None.ensures)) in
+    realm_named_bound c.args.self.now.realms.items c.args.name.now _ c.owner_of_pattern.result (omega (arith, c.args.self.now.realms.ok)) found

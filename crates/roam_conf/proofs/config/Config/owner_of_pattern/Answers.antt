@@ -1,17 +1,17 @@
 use Rattle.std.proofs.Common.{◌≡◌, ◌∙◌, ◌≤◌, length, sym, ap, arith}
 use Rattle.std.proofs.lemmas.Bool.Decides.{nat_tests}
 use Rattle.roam_conf.specs.Config.{suffix}
-use Rattle.roam_conf.specs.Lookup.{realm_with, first_answer, after_dots}
+use Rattle.roam_conf.specs.Lookup.{owner_with, first_answer, after_dots}
 use Rattle.roam_conf.specs.Shown.{shown}
 use Rattle.roam_conf.proofs.NameLemmas.{further_answer}
-use Rattle.roam_conf.proofs.config.Config.realm_with_pattern.Goals as goal
+use Rattle.roam_conf.proofs.config.Config.owner_of_pattern.Goals as goal
 
 -- some suffix is a realm's
 pub returns-in-Some : goal.returns-in-Some
 returns-in-Some c =
     let realms = (shown c.args.self.now).realms in
     let some : 1 ≤ length c.args.name.now = grind (arith, nat_tests, c.is_empty.ensures, c.if-is_empty.false) in
-    let found = sym c.in-Some.is ∙ c.realm_with_suffix.ensures ∙ ap (λ l. first_answer (λ n. realm_with realms (suffix n)) (after_dots l)) c.from_place.ensures in
+    let found = sym c.in-Some.is ∙ c.owner_of_longest_suffix.ensures ∙ ap (λ l. first_answer (λ n. realm_with realms (suffix n)) (after_dots l)) c.from_place.ensures in
     further_answer (realm_with realms) c.args.name.now _ some found
 
 -- none is
@@ -19,5 +19,5 @@ pub returns-in-None : goal.returns-in-None
 returns-in-None c =
     let realms = (shown c.args.self.now).realms in
     let some : 1 ≤ length c.args.name.now = grind (arith, nat_tests, c.is_empty.ensures, c.if-is_empty.false) in
-    let found = sym c.in-None.is ∙ c.realm_with_suffix.ensures ∙ ap (λ l. first_answer (λ n. realm_with realms (suffix n)) (after_dots l)) c.from_place.ensures in
-    c.realm_with.ensures ∙ further_answer (realm_with realms) c.args.name.now _ some found
+    let found = sym c.in-None.is ∙ c.owner_of_longest_suffix.ensures ∙ ap (λ l. first_answer (λ n. realm_with realms (suffix n)) (after_dots l)) c.from_place.ensures in
+    c.owner_with.ensures ∙ further_answer (realm_with realms) c.args.name.now _ some found

@@ -1,7 +1,7 @@
 use Rattle.std.proofs.Common.{◌∙◌, arith}
 use Rattle.roam_conf.specs.Index.{pattern_seen}
 use Rattle.roam_conf.proofs.NameLemmas.{found_in, not_found}
-use Rattle.roam_conf.proofs.config.Config.realm_with.Goals as goal
+use Rattle.roam_conf.proofs.config.Config.owner_with.Goals as goal
 
 pub returns-then-name-gt253 : goal.returns-then-name-gt253
 returns-then-name-gt253 c =
@@ -9,4 +9,4 @@ returns-then-name-gt253 c =
 
 pub returns : goal.returns
 returns c =
-    c.realm_of.ensures ∙ found_in c.args.self.now.realms.items (pattern_seen c.args.pattern) _ _ c.args.self.now.names_noted c.kind_and_name-kind.ensures
+    c.owner_of_pattern.ensures ∙ found_in c.args.self.now.realms.items (pattern_seen c.args.pattern) _ _ c.args.self.now.names_noted c.kind_and_name-kind.ensures

@@ -1,5 +1,5 @@
 use Rattle.std.proofs.Common.{◌∙◌}
-use Rattle.roam_conf.proofs.config.Config.realm_with_lowered_suffix.Goals as goal
+use Rattle.roam_conf.proofs.config.Config.owner_of_lowered_suffix.Goals as goal
 
 -- the realm of a suffix was found
 pub returns-in-Some : goal.returns-in-Some

@@ -1,7 +1,7 @@
 use Rattle.std.proofs.Common.{◌∙◌}
 use Rattle.roam_conf.specs.Config.{suffix}
 use Rattle.roam_conf.proofs.NameLemmas.{found_in}
-use Rattle.roam_conf.proofs.config.Config.realm_of_suffix.Goals as goal
+use Rattle.roam_conf.proofs.config.Config.owner_of_suffix.Goals as goal
 
 pub returns : goal.returns
 returns c = λ name is.
