@@ -1,6 +1,7 @@
 -- Who may ask whom: which peers' requests a realm takes. Ours.
 use Rattle.std.specs.Prelude.{ℕ, ◌&&◌, not, Bool, true, false, List, Option, Some, None, is_some, slice_get}
-use Rattle.std.specs.List.{list_any, list_all}
+use Rattle.std.specs.List.{list_any}
+use Rattle.std.specs.Option.{option_map_or}
 use Rattle.std.specs.Str.{bytes_eq}
 use Rattle.roam_conf.specs.Config.{PeerView, RealmView, ConfigView}
 use Rattle.roam_conf.specs.Lookup.{server_with_ip}
@@ -45,11 +46,10 @@ is_peer_in config realm peer = both_pass is_peer_of (slice_get config.realms rea
 abbrev pub is_no_peer : List PeerView → List ℕ → Bool
 is_no_peer peers name = not (list_any (λ peer. bytes_eq name peer.name) peers)
 
--- one of these names, where there are any, is no peer's
-abbrev pub names_no_peer : List PeerView → Option (List (List ℕ)) → Bool
-names_no_peer peers None = false
-names_no_peer peers (Some names) = list_any (is_no_peer peers) names
+-- one of the names that the realm has, where it has any, is no peer's
+abbrev pub names_no_peer : List PeerView → RealmView → Bool
+names_no_peer peers realm = option_map_or (list_any (is_no_peer peers)) realm.peers false
 
 -- a realm names a peer that isn't there
 unfoldable pub has_unknown_peer : List PeerView → List RealmView → Bool
-has_unknown_peer peers realms = list_any (λ realm. names_no_peer peers realm.peers) realms
+has_unknown_peer peers realms = list_any (names_no_peer peers) realms

@@ -1,7 +1,7 @@
 -- What may not stand twice in a configuration. Ours.
 use Rattle.std.specs.Prelude.{ℕ, ◌==◌, ◌&&◌, ◌||◌, Bool, false, List, [], ◌∷◌, ◌++◌, Option, Some}
-use Rattle.std.specs.List.{list_any, filter_map, flat_map}
-use Rattle.std.specs.Option.{option_to_list}
+use Rattle.std.specs.List.{list_any, filter_map, flat_map, cons_option}
+use Rattle.std.specs.Option.{option_to_list, option_map_or}
 use Rattle.std.specs.Str.{bytes_eq, str_eq_ignore_ascii_case}
 use Rattle.roam_conf.specs.declared.endpoint.Endpoint.{Endpoint}
 use Rattle.roam_conf.specs.Config.{ServerView, PeerView, PatternView, RealmView}
@@ -44,9 +44,10 @@ realm_endpoints realm = realm.out ∷ option_to_list realm.reverse
 abbrev pub own_endpoints : Endpoint → Endpoint → List RealmView → List Endpoint
 own_endpoints auth acct realms = auth ∷ acct ∷ flat_map realm_endpoints realms
 
--- the endpoints of one realm's servers
+-- the endpoints of one realm's servers: `auth`, and `acct` where there is one
 abbrev pub server_endpoints : List ServerView → List Endpoint
-server_endpoints servers = flat_map (λ server. server.auth ∷ option_to_list server.acct) servers
+server_endpoints [] = []
+server_endpoints (server ∷ servers) = server.auth ∷ cons_option server.acct (server_endpoints servers)
 
 -- the endpoints of those peers that take reverse requests
 abbrev pub coa_endpoints : List PeerView → List Endpoint
@@ -55,7 +56,7 @@ coa_endpoints peers = filter_map (λ peer. peer.coa) peers
 -- some server of the list is at one of these endpoints
 abbrev pub some_server_at : List Endpoint → List ServerView → Bool
 some_server_at endpoints servers =
-    list_any (λ server. list_any (is_among endpoints) (server.auth ∷ option_to_list server.acct)) servers
+    list_any (λ server. is_among endpoints server.auth || option_map_or (is_among endpoints) server.acct false) servers
 
 -- two names, two suffixes or two `*` of all realms, and of those that are rejected, are the same
 unfoldable pub has_duplicate_realm : List RealmView → List PatternView → Bool

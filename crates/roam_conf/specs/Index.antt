@@ -19,6 +19,10 @@ owners index = map entry_shown index.entries
 abbrev pub owner_of : List (List ℕ × ℕ) → List ℕ → Option ℕ
 owner_of entries key = lookup (bytes_eq key) entries
 
+-- nobody owns a key
+abbrev pub is_unowned : List (List ℕ × ℕ) → List ℕ → Bool
+is_unowned entries key = is_none (owner_of entries key)
+
 -- a key with its owner behind the others, unless the key is there
 abbrev pub with_key : List (List ℕ × ℕ) → List ℕ → ℕ → List (List ℕ × ℕ)
 with_key entries key owner = if is_none (owner_of entries key) then entries ++ (key, owner) ∷ [] else entries

@@ -7,7 +7,7 @@ ghost use Rattle.roam_conf.specs.Lookup.{peer_with_ip, pattern_lists};
 ghost use Rattle.roam_conf.specs.Parts.{shown_peer, shown_realm};
 ghost use Rattle.roam_conf.specs.Patterns.{shown_pattern};
 
-use crate::index::{Index, note};
+use crate::index::{Index, note, row_of};
 use crate::names::{note_all, suffix_lengths};
 use crate::{Peer, Realm, RealmPattern};
 use indexmap::IndexMap;
@@ -23,15 +23,6 @@ pub(crate) struct Indexes {
     /// The peer of each address.
     pub(crate) ips: Index,
     ghost marked: { AreMarked suffix_lengths (owners names) },
-}
-
-/// A copy of these octets.
-fn row_of(alloc: Global, octets: &[u8]) -> Result<Vec<u8>, AllocError>
-    ensures { IfOk result (λ row. row.items ≡ octets.now) }
-{
-    let mut row = Vec::new(alloc);
-    row.extend_from_slice(octets)?;
-    Ok(row)
 }
 
 /// The first peer of each address.

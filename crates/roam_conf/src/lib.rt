@@ -30,8 +30,10 @@ mod names;
 mod parts;
 mod pattern;
 mod peer;
+mod peer_names;
 mod place;
 mod realm;
+mod removed;
 mod server;
 mod well_formed;
 
@@ -50,6 +52,8 @@ pub use laws::{
 pub use parts::ConfigParts;
 pub use pattern::RealmPattern;
 pub use peer::Peer;
+pub use peer_names::has_unknown_peer;
 pub use place::{Link, Place};
 pub use realm::Realm;
+pub use removed::removed_attribute;
 pub use server::Server;

@@ -1,8 +1,10 @@
 -- What tables state, with the texts and the arrays still in the document, as plain records. Ours.
-use Rattle.std.specs.Prelude.{◌≡◌, codes, List, Some}
+use Rattle.std.specs.Prelude.{◌≡◌, ℕ, codes, true, List, Option, Some}
 use Rattle.std.specs.Option.{option_copied}
 use Rattle.toml.specs.Data.{Members, get_member}
 use Rattle.toml.specs.View.{array_view}
+use Rattle.roam_wire.specs.RemovedAttributes.{is_removal_in_requests, is_removal_in_replies}
+use Rattle.roam_wire.specs.declared.removed_attribute.RemovedAttribute.{RemovedAttribute}
 use Rattle.roam_conf.specs.Config.{ServerView, PeerView, PatternView, whole, suffix, any, RealmView, ConfigView}
 use Rattle.roam_conf_reader.specs.declared.server.ServerText.{ServerText}
 use Rattle.roam_conf_reader.specs.declared.pattern.PatternText.{PatternText}
@@ -10,8 +12,8 @@ use Rattle.roam_conf_reader.specs.declared.pattern.PatternText.TheVariants.{Name
 use Rattle.roam_conf_reader.specs.declared.peer.PeerText.{PeerText}
 use Rattle.roam_conf_reader.specs.declared.realm.RealmText.{RealmText}
 use Rattle.roam_conf_reader.specs.declared.stated.TopText.{TopText}
-use Rattle.roam_conf_reader.specs.Document.{StatesEach, StatesServer, StatesPeer, StatesRealm, StatesConfig}
-use Rattle.roam_conf_reader.specs.Values.{patterns}
+use Rattle.roam_conf_reader.specs.Document.{StatesEach, StatesServer, StatesPeer, StatesRealm, StatesConfig, are_accounted}
+use Rattle.roam_conf_reader.specs.Values.{pattern, list_of, rejects, removed, peer_names, optional_at}
 
 -- a text of `also`
 abbrev pub pattern_said : PatternText → PatternView
@@ -27,8 +29,9 @@ server_in text = record {
   require_seal = text.require_seal;
 }
 
-abbrev pub peer_in : PeerText → PeerView
-peer_in text = record {
+-- with these lists of attributes to remove
+abbrev pub peer_in : PeerText → List RemovedAttribute → List RemovedAttribute → PeerView
+peer_in text request reply = record {
   name = text.name.now;
   ip = text.ip;
   secret = text.secret.now;
@@ -36,13 +39,43 @@ peer_in text = record {
   nas_ip = text.nas_ip;
   nas_id = option_copied text.nas_id;
   require_seal = text.require_seal;
+  limit_proxy_state = text.limit_proxy_state;
+  operator_name = option_copied text.operator_name;
+  ask_cui = text.ask_cui;
+  request_without = request;
+  reply_without = reply;
 }
 
--- with these patterns and servers
-abbrev pub realm_in : RealmText → List PatternView → List ServerView → RealmView
-realm_in text also servers = record {
+-- the two lists of attributes to remove that a table states
+pub record StatesRemoved (members : Members) (request reply : List RemovedAttribute) : Type 0 where
+  pub of_requests : list_of (removed is_removal_in_requests) 64 (get_member (codes "request_without") members) ≡ Some request
+  pub of_replies : list_of (removed is_removal_in_replies) 64 (get_member (codes "reply_without") members) ≡ Some reply
+
+-- the table states a peer, whatever lists it states
+abbrev pub StatesPeerBesideLists : Members → PeerText → Type 0
+StatesPeerBesideLists members text =
+    (request : List RemovedAttribute) → (reply : List RemovedAttribute)
+    → StatesRemoved members request reply → StatesPeer members (peer_in text request reply)
+
+-- what stands in a realm's arrays
+pub record RealmLists : Type 0 where
+  pub also : List PatternView
+  pub peers : Option (List (List ℕ))
+  pub request_without : List RemovedAttribute
+  pub reply_without : List RemovedAttribute
+  pub servers : List ServerView
+
+-- with these lists
+abbrev pub realm_in : RealmText → RealmLists → RealmView
+realm_in text lists = record {
   name = text.name.now;
-  also = also;
+  also = lists.also;
+  peers = lists.peers;
+  loop_prevention = text.loop_prevention;
+  accounting = text.accounting;
+  request_without = lists.request_without;
+  reply_without = lists.reply_without;
+  share = text.share;
   out = text.out;
   reverse = text.reverse;
   tries = text.tries;
@@ -52,20 +85,25 @@ realm_in text also servers = record {
   max_sessions = text.max_sessions;
   rest = text.rest;
   rest_after = text.rest_after;
-  servers = servers;
+  servers = lists.servers;
 }
 
--- the table states a realm, whatever patterns and servers its arrays state
+-- a realm's arrays state these lists
+pub record StatesLists (members : Members) (text : RealmText) (lists : RealmLists) : Type 0 where
+  pub also : list_of pattern 256 (get_member (codes "also") members) ≡ Some lists.also
+  pub peers : optional_at peer_names (codes "peers") members ≡ Some lists.peers
+  pub removed : StatesRemoved members lists.request_without lists.reply_without
+  pub servers : StatesEach StatesServer (array_view text.servers.now) lists.servers
+  pub accounted : are_accounted text.accounting lists.servers ≡ true
+
+-- the table states a realm, whatever lists its arrays state
 abbrev pub StatesBesideLists : Members → RealmText → Type 0
 StatesBesideLists members text =
-    (also : List PatternView) → (servers : List ServerView)
-    → patterns (get_member (codes "also") members) ≡ Some also
-    → StatesEach StatesServer (array_view text.servers.now) servers
-    → StatesRealm members (realm_in text also servers)
+    (lists : RealmLists) → StatesLists members text lists → StatesRealm members (realm_in text lists)
 
--- with these peers and realms
-abbrev pub config_in : TopText → List PeerView → List RealmView → ConfigView
-config_in text peers realms = record {
+-- with these names to reject, peers and realms
+abbrev pub config_in : TopText → List PatternView → List PeerView → List RealmView → ConfigView
+config_in text reject peers realms = record {
   shards = text.shards;
   seed = text.seed;
   auth = text.auth;
@@ -75,14 +113,18 @@ config_in text peers realms = record {
   max_hops = text.max_hops;
   status_server = text.status_server;
   spread = text.spread;
+  reject = reject;
+  well_formed = text.well_formed;
+  answer_unnamed = text.answer_unnamed;
   peers = peers;
   realms = realms;
 }
 
--- the document states a configuration, whatever peers and realms its arrays state
+-- the document states a configuration, whatever names to reject, peers and realms its arrays state
 abbrev pub StatesBesideArrays : Members → TopText → Type 0
 StatesBesideArrays members text =
-    (peers : List PeerView) → (realms : List RealmView)
+    (reject : List PatternView) → (peers : List PeerView) → (realms : List RealmView)
+    → rejects (get_member (codes "reject") members) ≡ Some reject
     → StatesEach StatesPeer (array_view text.peers.now) peers
     → StatesEach StatesRealm (array_view text.realms.now) realms
-    → StatesConfig members (config_in text peers realms)
+    → StatesConfig members (config_in text reject peers realms)
