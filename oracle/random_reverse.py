@@ -40,7 +40,8 @@ class ReverseScript(AccessScript):
 
     def answered(self):
         """An Accounting-Request, and its reply."""
-        before = {id(entry) for entry in self.entries()}
+        held = self.entries()
+        before = {id(entry) for entry in held}
         self.accounting()
         for realm, entry in self.waiting():
             if id(entry) not in before:

@@ -1,5 +1,6 @@
 -- Servers, peers and realms as plain records. Ours.
-use Rattle.std.specs.Prelude.{ℕ, List, map, option_map, string_bytes, String, Global}
+use Rattle.std.specs.Prelude.{ℕ, List, map, option_map, string_bytes, String}
+use Rattle.std.specs.declared.alloc.Global.{Global}
 use Rattle.std.specs.declared.vec.Vec.{Vec}
 use Rattle.roam_conf.specs.declared.peer.Peer.{Peer}
 use Rattle.roam_conf.specs.declared.realm.Realm.{Realm}

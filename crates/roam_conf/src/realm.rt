@@ -6,6 +6,7 @@ ghost use Rattle.std.specs.Option.{ForSome};
 ghost use Rattle.roam_wire.specs.RemovedAttributes.{is_removal_in_requests, is_removal_in_replies};
 ghost use Rattle.roam_conf.specs.Letters.{is_realm_letter};
 ghost use Rattle.roam_conf.specs.declared.accounting.Accounting.TheVariants.{Forwarded};
+ghost use Rattle.roam_conf.specs.declared.server.Server.{Server};
 ghost use Rattle.roam_conf.specs.Patterns.{is_pattern, shown_pattern};
 
 use crate::{Accounting, Endpoint, RealmPattern, Server};

@@ -14,6 +14,8 @@ mod name_tests;
 #[cfg(test)]
 mod order_tests;
 #[cfg(test)]
+mod policy_tests;
+#[cfg(test)]
 mod sample_tests;
 #[cfg(test)]
 mod size_tests;
