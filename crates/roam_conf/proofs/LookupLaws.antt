@@ -1,6 +1,6 @@
 -- The laws of the look-up of names.
-use Rattle.std.proofs.Common.{◌≡◌, ◌≢◌, ℕ, ◌+◌, ◌<◌, ◌≤◌, ◌==◌, Bool, true, false, cond, ◌||◌, List, [], ◌∷◌, ◌++◌, length, map, Option, Some, None, refl, sym, ap, ◌∙◌, inl, inr, arith}
-use Rattle.std.proofs.lemmas.Bool.{cases_Bool, cases_eq}
+use Rattle.std.proofs.Common.{◌≡◌, ◌≢◌, ℕ, ◌+◌, ◌<◌, ◌≤◌, ◌==◌, Bool, true, false, ◌||◌, List, [], ◌∷◌, ◌++◌, length, Option, Some, None, refl, ap, ◌∙◌, inl, inr, arith}
+use Rattle.std.proofs.lemmas.Bool.{cases_eq}
 use Rattle.std.proofs.lemmas.Bool.Decides.{nat_tests}
 use Rattle.std.proofs.lemmas.List.{length-append}
 use Rattle.std.specs.List.{list_any, position_from, AllByRecursion}
@@ -9,7 +9,7 @@ use Rattle.std.specs.Prelude.{⊤, nat_lt, if◌then◌else◌}
 use Rattle.std.specs.Str.{str_eq_ignore_ascii_case}
 use Rattle.roam_conf.specs.Config.{PatternView, whole, suffix, any, RealmView, ConfigView}
 use Rattle.roam_conf.specs.Lookup.{EndsIn, NoSuffix, first_place, owner_in, owner_with, pattern_lists, realm_owning, realm_owned, realm_named, may_fit, patterns_for, further_patterns, first_answer, after_dots}
-use Rattle.roam_conf.specs.Patterns.{same_pattern, patterns_of}
+use Rattle.roam_conf.specs.Patterns.{same_pattern}
 use Rattle.roam_conf.proofs.IndexLemmas.{or_none}
 use Rattle.roam_conf.proofs.NameLemmas.{answers_of_suffixes, named_whole, named_further, named_alone, within}
 

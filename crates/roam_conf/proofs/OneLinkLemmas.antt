@@ -1,8 +1,8 @@
 -- In a realm whose endpoints stand once, each link is the one that its endpoint finds.
 use Rattle.std.proofs.Common.{◌≡◌, ℕ, ◌+◌, ◌<◌, ◌≤◌, suc, zero, ◌||◌, Bool, true, false, List, [], ◌∷◌, length, get_or, map, Option, Some, None, option_map, refl, sym, ap, ◌∙◌, inl, inr, arith}
-use Rattle.std.proofs.lemmas.Bool.{cases_Bool, false≢true, or_parts, or_left, or_right}
+use Rattle.std.proofs.lemmas.Bool.{cases_Bool, false≢true, or_parts}
 use Rattle.std.proofs.lemmas.Option.{same_Some, slice_get_within, slice_get-map, slice_get_read, slice_get_past}
-use Rattle.std.specs.List.{position_from, slice_get, list_any, cons_option}
+use Rattle.std.specs.List.{position_from, slice_get, list_any}
 use Rattle.std.specs.Option.{option_or, option_and_then, option_map_or, IfSome}
 use Rattle.roam_conf.specs.declared.endpoint.Endpoint.{Endpoint}
 use Rattle.roam_conf.specs.declared.place.Link.{Link}
@@ -12,7 +12,6 @@ use Rattle.roam_conf.specs.Parts.{shown_realm}
 use Rattle.roam_conf.specs.Config.{ServerView, PeerView, RealmView, ConfigView}
 use Rattle.roam_conf.specs.Duplicates.{has_pair, same_endpoint, is_among, server_endpoints, coa_endpoints, some_server_at, has_duplicate_server, has_duplicate_link}
 use Rattle.roam_conf.specs.Lookup.{endpoint_of, link_at, is_there, is_coa, first_place, link_in, endpoint_in_realm, servers_in, IsLinkIn, server_with_ip, reverse_home, home_in}
-use Rattle.roam_conf.proofs.EqualPartsLemmas.{endpoint_decides}
 use Rattle.roam_conf.proofs.LinkLemmas.{link_found, link_in_found}
 use Rattle.roam_conf.proofs.OneServerLemmas.{same_itself, among_more, among_first, once_more, once_first, option_source, then_source, part_of, part_apart, auth_part, one_server}
 

@@ -12,7 +12,6 @@ use Rattle.std.specs.List.{list_all, All}
 use Rattle.std.specs.Result.{OkIff}
 use Rattle.std.specs.Str.Parse.{ParsesUnsigned, digits_value}
 use Rattle.roam_conf.specs.declared.endpoint.Endpoint.{Endpoint}
-use Rattle.roam_wire.specs.declared.removed_attribute.RemovedAttribute.{RemovedAttribute}
 use Rattle.roam_conf.specs.Texts.{is_decimal, decimal_in, parts, four_octets, all_four, address_in, address_and_port, endpoint_from, endpoint_in, vendor_kind, vendor_from}
 
 own : IsNumeralModel (λ ds. list_all is_ascii_digit ds ≡ true) (digits_value 10)
