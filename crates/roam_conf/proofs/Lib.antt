@@ -7,5 +7,6 @@ pub mod NameLemmas
 pub mod OneLinkLemmas
 pub mod OneServerLemmas
 pub mod PeerLemmas
+pub mod ShortNameLemmas
 pub mod SuffixLemmas
 pub mod TextLemmas

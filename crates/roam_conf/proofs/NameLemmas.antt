@@ -1,26 +1,20 @@
 -- What the index of names finds is what the look-up says; and the laws of the look-up.
 use Rattle.std.proofs.Common.{◌≡◌, ◌≢◌, ℕ, suc, ◌+◌, ◌<◌, ◌≤◌, ◌==◌, Bool, true, false, cond, ◌&&◌, ◌||◌, not, List, [], ◌∷◌, ◌++◌, length, map, get_or, drop-cons, Option, Some, None, refl, sym, ap, ◌∙◌, inl, inr, append_assoc, arith}
-use Rattle.std.proofs.lemmas.Bool.{cases_Bool, false≢true, or_parts, and_parts}
+use Rattle.std.proofs.lemmas.Bool.{cases_Bool, false≢true, or_parts}
 use Rattle.std.proofs.lemmas.List.{append-nil, length-map}
 use Rattle.std.proofs.lemmas.Option.{same_Some}
-use Rattle.std.proofs.lemmas.Slice.Eq.{bytes_eq-Decides}
-use Rattle.std.specs.List.{list_any, list_all, position_from, flat_map, AllByRecursion}
+use Rattle.std.specs.List.{list_any, position_from, flat_map}
 use Rattle.std.specs.Option.{option_or}
-use Rattle.std.specs.Prelude.{if◌then◌else◌, is_none, take, drop, slice_set, nat_le, string_bytes}
-use Rattle.std.specs.Char.{to_ascii_lowercase}
-use Rattle.std.proofs.lemmas.Bool.Decides.{nat_tests}
-use Rattle.std.specs.Str.{bytes_eq, str_to_ascii_lowercase}
-use Rattle.roam_conf.specs.declared.config.Config.{Config}
+use Rattle.std.specs.Prelude.{if◌then◌else◌, is_none, take, drop, slice_set}
+use Rattle.std.specs.Str.{bytes_eq}
 use Rattle.roam_conf.specs.declared.realm.Realm.{Realm}
 use Rattle.roam_conf.specs.Config.{PatternView, whole, suffix, any, RealmView, ConfigView}
 use Rattle.roam_conf.specs.Duplicates.{has_pair, has_duplicate_realm}
 use Rattle.roam_conf.specs.Index.{owner_of, all_new, pattern_key, of_owner, all_patterns}
 use Rattle.roam_conf.specs.Lookup.{owner_in, owner_with, pattern_lists, may_fit, patterns_for, further_patterns, first_answer, after_dots}
 use Rattle.roam_conf.specs.Parts.{shown_realm}
-use Rattle.roam_conf.specs.Shown.{shown}
-use Rattle.roam_conf.specs.Letters.{is_realm_letter}
 use Rattle.roam_conf.proofs.IndexLemmas.{or_none, same_both_ways}
-use Rattle.roam_conf.specs.Patterns.{is_realm_name, is_pattern, is_reject, shown_pattern, same_pattern, patterns_of}
+use Rattle.roam_conf.specs.Patterns.{same_pattern, patterns_of}
 
 -- two patterns are the same just where their keys are
 pub same_key : (p q : PatternView) → bytes_eq (pattern_key p) (pattern_key q) ≡ same_pattern p q
@@ -204,6 +198,26 @@ rejects_behind realms reject =
     ∙ ap (λ n. all_patterns 0 lists ++ all_patterns n (reject ∷ [])) count
     ∙ ap (λ l. all_patterns 0 lists ++ l) (append-nil (map (of_owner (length realms)) reject))
 
+-- those of realms that were noted, and then those to reject
+module _ (old : List (List ℕ × ℕ)) (realms : List Realm) (reject : List PatternView) where
+  abbrev of_realms : List (List ℕ × ℕ)
+  of_realms = all_patterns 0 (map patterns_of (map shown_realm realms))
+
+  abbrev of_rejects : List (List ℕ × ℕ)
+  of_rejects = map (of_owner (length realms)) reject
+
+  both_new : all_new old of_realms && all_new (old ++ of_realms) of_rejects ≡ all_new old (all_patterns 0 (pattern_lists (map shown_realm realms) reject))
+  both_new = sym (all_new_split old of_realms of_rejects) ∙ ap (all_new old) (sym (rejects_behind realms reject))
+
+  pub not_all_new : false ≡ all_new old (all_patterns 0 (map patterns_of (map shown_realm realms))) → false ≡ all_new old (all_patterns 0 (pattern_lists (map shown_realm realms) reject))
+  not_all_new twice = ap (λ b. b && all_new (old ++ of_realms) of_rejects) twice ∙ both_new
+
+  pub all_are_new : (new : Bool) → true ≡ all_new old (all_patterns 0 (map patterns_of (map shown_realm realms))) → new ≡ all_new (old ++ all_patterns 0 (map patterns_of (map shown_realm realms))) (map (of_owner (length realms)) reject) → new ≡ all_new old (all_patterns 0 (pattern_lists (map shown_realm realms) reject))
+  all_are_new new realms_new is = is ∙ ap (λ b. b && all_new (old ++ of_realms) of_rejects) realms_new ∙ both_new
+
+  pub all_noted : (old ++ all_patterns 0 (map patterns_of (map shown_realm realms))) ++ map (of_owner (length realms)) reject ≡ old ++ all_patterns 0 (pattern_lists (map shown_realm realms) reject)
+  all_noted = append_assoc old of_realms of_rejects ∙ ap (λ l. old ++ l) (sym (rejects_behind realms reject))
+
 -- what was noted into an empty index
 pub first_noted : (realms : List RealmView) (reject : List PatternView) (done : List (List ℕ × ℕ)) (new : Bool) → done ≡ [] → new ≡ all_new done (all_patterns 0 (pattern_lists realms reject)) → new ≡ not (has_duplicate_realm realms reject)
 first_noted realms reject done new empty is = is ∙ ap (λ l. all_new l (all_patterns 0 (pattern_lists realms reject))) empty ∙ new_or_duplicate realms reject
@@ -211,76 +225,11 @@ first_noted realms reject done new empty is = is ∙ ap (λ l. all_new l (all_pa
 pub found_twice : (realms : List RealmView) (reject : List PatternView) (done : List (List ℕ × ℕ)) (new : Bool) → done ≡ [] → new ≡ all_new done (all_patterns 0 (pattern_lists realms reject)) → not new ≡ has_duplicate_realm realms reject
 found_twice realms reject done new empty is = not_not new (has_duplicate_realm realms reject) (first_noted realms reject done new empty is)
 
--- No name has more than 253 octets.
-
-short_name : (name : List ℕ) → is_realm_name name ≡ true → length name ≤ 253
-unfolding is_realm_name
-short_name name is =
-    let outer = and_parts (nat_le 1 (length name) && nat_le (length name) 253) (list_all is_realm_letter name) is in
-    let inner = and_parts (nat_le 1 (length name)) (nat_le (length name) 253) outer.0 in
-    grind (arith, nat_tests)
-
-pub is_name : (name : List ℕ) → (1 ≤ length name) × (length name ≤ 253) → list_all is_realm_letter name ≡ true → is_realm_name name ≡ true
-unfolding is_realm_name
-is_name name size letters =
-    let least : nat_le 1 (length name) ≡ true = grind (arith, nat_tests) in
-    let most : nat_le (length name) 253 ≡ true = grind (arith, nat_tests) in
-    rw (least, most, letters) refl
-
-short_key : (p : PatternView) → is_pattern p ≡ true → length (pattern_key p) ≤ 254
-short_key (whole name) is = omega (arith, short_name name is, length-map name to_ascii_lowercase)
-short_key (suffix name) is = omega (arith, short_name name is, length-map name to_ascii_lowercase)
-short_key any is = omega arith
-
-module _ (p : PatternView) (long : 254 < length (pattern_key p)) where
-  long_apart : (q : PatternView) → is_pattern q ≡ true → same_pattern p q ≡ false
-  long_apart q is =
-      elim (cases_Bool (same_pattern p q)) [
-        | inl yes' ↦ (
-            let keys : pattern_key p ≡ pattern_key q = (bytes_eq-Decides (pattern_key p) (pattern_key q)).0 (same_key p q ∙ yes') in
-            absurd (omega (arith, long, ap length keys, short_key q is)))
-        | inr no' ↦ no'
-      ]
-
-  none_long : (qs : List PatternView) → list_all is_pattern qs ≡ true → list_any (same_pattern p) qs ≡ false
-  none_long [] all = refl
-  none_long (q ∷ qs) all =
-      let parts = and_parts (is_pattern q) (list_all is_pattern qs) all in
-      rw (long_apart q parts.0, none_long qs parts.1) refl
-
-  none_among : (i : ℕ) (lists : List (List PatternView)) → AllByRecursion (λ list. list_all is_pattern list ≡ true) lists → position_from (list_any (same_pattern p)) i lists ≡ None
-  none_among i [] all = refl
-  none_among i (list ∷ lists) all = rw (none_long list all.0) (none_among (i + 1) lists all.1)
-
--- what may be rejected is a pattern
-reject_patterns : (ps : List PatternView) → list_all is_reject ps ≡ true → list_all is_pattern ps ≡ true
-reject_patterns [] all = refl
-reject_patterns (p ∷ ps) all =
-    let parts = and_parts (is_reject p) (list_all is_reject ps) all in
-    rw (one p parts.0, reject_patterns ps parts.1) refl
-  where
-    one : (q : PatternView) → is_reject q ≡ true → is_pattern q ≡ true
-    one (whole name) is = is
-    one (suffix name) is = is
-    one any is = refl
-
--- all of a configuration's lists hold patterns
-are_patterns : (realms : List Realm) (reject : List PatternView) → list_all is_reject reject ≡ true → AllByRecursion (λ list. list_all is_pattern list ≡ true) (pattern_lists (map shown_realm realms) reject)
-are_patterns [] reject all = (reject_patterns reject all, tt)
-are_patterns (r ∷ rs) reject all =
-    let name : is_pattern (whole (string_bytes r.name)) ≡ true = is_name (string_bytes r.name) r.name_length r.name_letters in
-    (rw name r.also_names, are_patterns rs reject all)
-
 -- what the index finds
 pub found_in : (config : ConfigView) (p : PatternView) (key : List ℕ) (entries : List (List ℕ × ℕ)) → entries ≡ all_patterns 0 (pattern_lists config.realms config.reject) → key ≡ pattern_key p → owner_of entries key ≡ owner_with config p
 found_in config p key entries noted is =
     let lists = pattern_lists config.realms config.reject in
     ap (λ es. owner_of es key) noted ∙ ap (owner_of (all_patterns 0 lists)) is ∙ finds lists p
-
-pub not_found : (config : Config) (p : PatternView) (kind : ℕ) (name : List ℕ) → 253 < length name → kind ∷ str_to_ascii_lowercase name ≡ pattern_key p → None ≡ owner_with (shown config) p
-not_found config p kind name long is =
-    let lists = are_patterns config.realms.items (map shown_pattern config.reject.items) config.reject_names in
-    sym (none_among p (omega (arith, long, ap length is, length-map name to_ascii_lowercase)) 0 _ lists)
 
 -- a place that is found lies within the list
 pub within : {X : Type 0} (test : X → Bool) (n : ℕ) (xs : List X) (i : ℕ) → position_from test n xs ≡ Some i → i < n + length xs

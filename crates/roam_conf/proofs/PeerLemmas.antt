@@ -1,9 +1,10 @@
 -- What the index of peers finds is what the look-up of a peer says.
-use Rattle.std.proofs.Common.{◌≡◌, ℕ, ◌+◌, ◌<◌, ◌≤◌, Bool, false, not, inl, inr, cond, List, [], ◌∷◌, length, map, get_or, drop, drop-cons, suc, Option, Some, None, refl, sym, ap, ◌∙◌, arith}
+use Rattle.std.proofs.Common.{◌≡◌, ℕ, ◌+◌, ◌<◌, ◌≤◌, Bool, false, not, inl, inr, cond, List, [], ◌∷◌, length, map, get_or, drop, drop-cons, suc, Option, Some, None, option_map, refl, sym, ap, ◌∙◌, arith}
 use Rattle.std.proofs.Math.ListN.{drop_of_length-le}
 use Rattle.std.proofs.lemmas.List.{length-map}
 use Rattle.std.proofs.lemmas.Bool.{cases_Bool}
-use Rattle.std.specs.List.{list_any, position_from}
+use Rattle.std.proofs.lemmas.Option.{slice_get-map, slice_get_read, slice_get_past}
+use Rattle.std.specs.List.{list_any, position_from, slice_get}
 use Rattle.std.specs.Option.{option_or, option_map_or, IfSome}
 use Rattle.std.specs.Prelude.{is_none}
 use Rattle.std.specs.Str.{bytes_eq}
@@ -68,3 +69,11 @@ module _ (peers : List PeerView) (entries : List (List ℕ × ℕ)) (found : (na
   unfolding has_unknown_peer
   unknown_by_index [] = refl
   unknown_by_index (r ∷ rs) = rw (of_names r.peers, unknown_by_index rs) refl
+
+-- a peer by its index, as it is shown
+pub peer_shown : (peers : List Peer) (i : ℕ) (peer : Peer) → i < length peers → peer ≡ get_or peers i peer → slice_get (map shown_peer peers) i ≡ Some (shown_peer peer)
+peer_shown peers i peer within is =
+    slice_get-map shown_peer peers i ∙ ap (option_map shown_peer) (slice_get_read peers (length peers) i peer refl within is)
+
+pub peer_absent : (peers : List Peer) (i : ℕ) → length peers ≤ i → slice_get (map shown_peer peers) i ≡ None
+peer_absent peers i past = slice_get-map shown_peer peers i ∙ ap (option_map shown_peer) (slice_get_past peers i past)

@@ -70,8 +70,8 @@ vendor_from (vendor ∷ []) = option_map (λ v. Vendor v) (decimal_in 0 16777215
 vendor_from (vendor ∷ kind ∷ []) = vendor_kind (decimal_in 0 16777215 vendor) (decimal_in 1 255 kind)
 vendor_from _ = None
 
--- an attribute to remove: a Type from 1; or `26.` and a vendor; or these, a dot, and a type of the vendor
+-- an attribute to remove: a Type from 1; or `26.` (50, 54, 46) and a vendor; or these, a dot, and a type of the vendor
 unfoldable pub removed_in : List ℕ → Option RemovedAttribute
 removed_in text =
-    if bytes_eq (take 3 text) (codes "26.") then vendor_from (parts 46 (drop 3 text))
+    if bytes_eq (take 3 text) (50 ∷ 54 ∷ 46 ∷ []) then vendor_from (parts 46 (drop 3 text))
     else option_map (λ k. Kind k) (decimal_in 1 255 text)

@@ -1,5 +1,5 @@
 -- Names that are well formed: realms of network access identifiers (RFC 7542, section 2.2).
-use Rattle.std.specs.Prelude.{ℕ, ◌==◌, ◌&&◌, ◌||◌, ◌-◌, not, nat_lt, Bool, List, length, slice_index_or}
+use Rattle.std.specs.Prelude.{ℕ, ◌==◌, ◌&&◌, ◌||◌, ◌-◌, not, nat_lt, Bool, List, length, slice_index}
 use Rattle.std.specs.Char.{is_ascii_alphanumeric}
 use Rattle.std.specs.List.{list_all, list_any}
 use Rattle.roam_conf.specs.Texts.{parts}
@@ -10,10 +10,10 @@ is_label_octet octet = is_ascii_alphanumeric octet || octet == 45 || nat_lt 127 
 
 -- the first octet is a hyphen; and the last
 abbrev pub begins_with_hyphen : List ℕ → Bool
-begins_with_hyphen label = slice_index_or label 0 0 == 45
+begins_with_hyphen label = slice_index label 0 == 45
 
 abbrev pub ends_in_hyphen : List ℕ → Bool
-ends_in_hyphen label = slice_index_or label (length label - 1) 0 == 45
+ends_in_hyphen label = slice_index label (length label - 1) == 45
 
 -- a label: at least one octet, none but those that it may have, no hyphen at either end
 abbrev pub is_label : List ℕ → Bool

@@ -124,7 +124,8 @@ pub(crate) fn note_all(
     if !note_realms(index, alloc, realms)? {
         return Ok(false);
     }
-    note_patterns(index, alloc, reject, realms.len() as u16)
+    let are_new = note_patterns(index, alloc, reject, realms.len() as u16)?;
+    Ok(are_new)
 }
 
 /// A key in front of a buffer that has room for it: a kind, and a name in lower case.

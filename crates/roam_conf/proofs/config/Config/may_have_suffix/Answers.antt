@@ -2,7 +2,7 @@ use Rattle.std.proofs.Common.{refl, sym, arith}
 use Rattle.std.proofs.lemmas.Bool.Decides.{nat_tests}
 use Rattle.roam_conf.specs.Config.{suffix}
 use Rattle.roam_conf.specs.Shown.{shown}
-use Rattle.roam_conf.proofs.NameLemmas.{not_found}
+use Rattle.roam_conf.proofs.ShortNameLemmas.{not_found}
 use Rattle.roam_conf.proofs.SuffixLemmas.{no_suffix}
 use Rattle.roam_conf.proofs.config.Config.may_have_suffix.Goals as goal
 

@@ -1,7 +1,8 @@
 use Rattle.std.proofs.Common.{◌∙◌, arith}
 use Rattle.roam_conf.specs.Index.{pattern_seen}
 use Rattle.roam_conf.specs.Shown.{shown}
-use Rattle.roam_conf.proofs.NameLemmas.{found_in, not_found}
+use Rattle.roam_conf.proofs.NameLemmas.{found_in}
+use Rattle.roam_conf.proofs.ShortNameLemmas.{not_found}
 use Rattle.roam_conf.proofs.config.Config.owner_with.Goals as goal
 
 pub returns-then-name-gt253 : goal.returns-then-name-gt253
