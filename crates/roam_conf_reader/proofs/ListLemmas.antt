@@ -1,6 +1,6 @@
 -- What stands in an array states values that pass a test, at most so many.
-use Rattle.std.proofs.Common.{◌≡◌, ◌≤◌, ℕ, suc, Bool, true, false, cond, List, [], ◌∷◌, ◌&&◌, length, drop, map, Option, Some, None, is_some, option_map, String, Global, string_bytes, refl, ap, ◌∙◌, arith, inl, inr}
-use Rattle.std.proofs.lemmas.Bool.{and_from, and_parts, cases_Bool}
+use Rattle.std.proofs.Common.{◌≡◌, ◌≤◌, ℕ, suc, Bool, true, false, cond, List, [], ◌∷◌, ◌&&◌, length, drop, map, codes, Option, Some, None, is_some, option_map, String, Global, string_bytes, refl, sym, ap, subst, ◌∙◌, arith, inl, inr}
+use Rattle.std.proofs.lemmas.Bool.{and_from, and_parts, cases_Bool, false≢true}
 use Rattle.std.proofs.lemmas.Bool.Decides.{nat_tests}
 use Rattle.std.proofs.lemmas.List.{length-map}
 use Rattle.std.proofs.lemmas.Option.{same_Some, cond_some}
@@ -8,15 +8,18 @@ use Rattle.std.specs.List.{list_all}
 use Rattle.std.specs.Prelude.{nat_le, take}
 use Rattle.std.specs.Str.{bytes_eq}
 use Rattle.std.specs.declared.vec.Vec.{Vec}
-use Rattle.toml.specs.Data.{Data, string, array, Items, no_items, item}
+use Rattle.toml.specs.Data.{Data, string, array, Items, no_items, item, Members, get_member}
 use Rattle.roam_wire.specs.declared.removed_attribute.RemovedAttribute.{RemovedAttribute}
+use Rattle.roam_conf.specs.declared.accounting.Accounting.{Accounting}
 use Rattle.roam_conf.specs.declared.server.Server.{Server}
-use Rattle.roam_conf.specs.Config.{ServerView, PatternView, whole, suffix, any}
+use Rattle.roam_conf.specs.Config.{ServerView, PatternView, whole, suffix, any, RealmView}
 use Rattle.roam_conf.specs.Parts.{shown_names, shown_server}
 use Rattle.roam_conf.specs.Patterns.{is_realm_name, is_pattern, is_reject}
 use Rattle.roam_conf.specs.Texts.{removed_in}
 use Rattle.roam_conf_reader.specs.declared.values.Letters.TheVariants.{Any}
-use Rattle.roam_conf_reader.specs.Values.{pattern_in, pattern, each_of, cons_if_both, list_of, passing, rejects, removed, peer_names, text, letters_of, if_there, item_count}
+use Rattle.roam_conf_reader.specs.Document.{StatesEach, StatesTables, StatesServer, StatesRealm, are_accounted}
+use Rattle.roam_conf_reader.specs.Values.{accounting, array_of, value_at, pattern_in, pattern, each_of, cons_if_both, list_of, passing, rejects, removed, peer_names, text, letters_of, if_there, item_count}
+use Rattle.roam_conf_reader.proofs.UniqueLemmas.{each_unique, server_unique}
 
 -- a text that says a pattern says one with a realm's name
 said_pattern : (octets : List ℕ) (p : PatternView) → pattern_in octets ≡ Some p → is_pattern p ≡ true
@@ -139,3 +142,11 @@ few_names (Some found) copy is v there = by_read (peer_names found) refl is
 pub accounted_shown : (servers : List Server) → list_all (λ (s : ServerView). is_some s.acct) (map shown_server servers) ≡ list_all (λ (s : Server). is_some s.acct) servers
 accounted_shown [] = refl
 accounted_shown (s ∷ ss) = ap (λ b. is_some s.acct && b) (accounted_shown ss)
+
+-- a table in which some server takes no accounting that is forwarded states no realm
+pub not_accounted : (members : Members) (items : Items) (r : RealmView) (a : Accounting) (servers : List ServerView) → value_at (array_of 8) (codes "server") members ≡ Some items → accounting (get_member (codes "accounting") members) ≡ Some a → StatesEach StatesServer items servers → are_accounted a servers ≡ false → StatesRealm members r → ⊥
+not_accounted members items r a servers there said each none stated =
+    let same : r.accounting ≡ a = same_Some r.accounting a (sym stated.accounting ∙ said) in
+    let ours : StatesEach StatesServer items r.servers = subst (λ (o : Option Items). StatesTables StatesServer o r.servers) there stated.servers in
+    let all : r.servers ≡ servers = each_unique StatesServer server_unique items r.servers servers ours each in
+    false≢true (sym none ∙ ap (λ x. are_accounted x servers) (sym same) ∙ ap (are_accounted r.accounting) (sym all) ∙ stated.accounted)

@@ -46,35 +46,26 @@ peer_in text request reply = record {
   reply_without = reply;
 }
 
--- the two lists of attributes to remove that a table states
-pub record StatesRemoved (members : Members) (request reply : List RemovedAttribute) : Type 0 where
-  pub of_requests : list_of (removed is_removal_in_requests) 64 (get_member (codes "request_without") members) ≡ Some request
-  pub of_replies : list_of (removed is_removal_in_replies) 64 (get_member (codes "reply_without") members) ≡ Some reply
-
--- the table states a peer, whatever lists it states
+-- the table states a peer, whatever attributes to remove its arrays state
 abbrev pub StatesPeerBesideLists : Members → PeerText → Type 0
 StatesPeerBesideLists members text =
     (request : List RemovedAttribute) → (reply : List RemovedAttribute)
-    → StatesRemoved members request reply → StatesPeer members (peer_in text request reply)
-
--- what stands in a realm's arrays
-pub record RealmLists : Type 0 where
-  pub also : List PatternView
-  pub peers : Option (List (List ℕ))
-  pub request_without : List RemovedAttribute
-  pub reply_without : List RemovedAttribute
-  pub servers : List ServerView
+    → list_of (removed is_removal_in_requests) 64 (get_member (codes "request_without") members) ≡ Some request
+    → list_of (removed is_removal_in_replies) 64 (get_member (codes "reply_without") members) ≡ Some reply
+    → StatesPeer members (peer_in text request reply)
 
 -- with these lists
-abbrev pub realm_in : RealmText → RealmLists → RealmView
-realm_in text lists = record {
+abbrev pub realm_in :
+    RealmText → List PatternView → Option (List (List ℕ)) → List RemovedAttribute → List RemovedAttribute
+    → List ServerView → RealmView
+realm_in text also peers request reply servers = record {
   name = text.name.now;
-  also = lists.also;
-  peers = lists.peers;
+  also = also;
+  peers = peers;
   loop_prevention = text.loop_prevention;
   accounting = text.accounting;
-  request_without = lists.request_without;
-  reply_without = lists.reply_without;
+  request_without = request;
+  reply_without = reply;
   share = text.share;
   out = text.out;
   reverse = text.reverse;
@@ -85,21 +76,21 @@ realm_in text lists = record {
   max_sessions = text.max_sessions;
   rest = text.rest;
   rest_after = text.rest_after;
-  servers = lists.servers;
+  servers = servers;
 }
 
--- a realm's arrays state these lists
-pub record StatesLists (members : Members) (text : RealmText) (lists : RealmLists) : Type 0 where
-  pub also : list_of pattern 256 (get_member (codes "also") members) ≡ Some lists.also
-  pub peers : optional_at peer_names (codes "peers") members ≡ Some lists.peers
-  pub removed : StatesRemoved members lists.request_without lists.reply_without
-  pub servers : StatesEach StatesServer (array_view text.servers.now) lists.servers
-  pub accounted : are_accounted text.accounting lists.servers ≡ true
-
--- the table states a realm, whatever lists its arrays state
+-- the table states a realm, whatever lists its arrays state, in which the servers take accounting that is forwarded
 abbrev pub StatesBesideLists : Members → RealmText → Type 0
 StatesBesideLists members text =
-    (lists : RealmLists) → StatesLists members text lists → StatesRealm members (realm_in text lists)
+    (also : List PatternView) → (peers : Option (List (List ℕ))) → (request : List RemovedAttribute)
+    → (reply : List RemovedAttribute) → (servers : List ServerView)
+    → list_of pattern 256 (get_member (codes "also") members) ≡ Some also
+    → optional_at peer_names (codes "peers") members ≡ Some peers
+    → list_of (removed is_removal_in_requests) 64 (get_member (codes "request_without") members) ≡ Some request
+    → list_of (removed is_removal_in_replies) 64 (get_member (codes "reply_without") members) ≡ Some reply
+    → StatesEach StatesServer (array_view text.servers.now) servers
+    → are_accounted text.accounting servers ≡ true
+    → StatesRealm members (realm_in text also peers request reply servers)
 
 -- with these names to reject, peers and realms
 abbrev pub config_in : TopText → List PatternView → List PeerView → List RealmView → ConfigView

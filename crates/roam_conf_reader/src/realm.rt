@@ -2,6 +2,7 @@
 
 ghost use Rattle.std.specs.Prelude.{◌≡◌, ◌≤◌, codes, Err, IfOk, List, MatchOption, Some, is_some, map};
 ghost use Rattle.std.specs.List.{list_all};
+ghost use Rattle.toml.specs.Data.{get_member};
 ghost use Rattle.toml.specs.View.{array_view, table_view};
 ghost use Rattle.roam_conf.specs.Config.{RealmView, ServerView};
 ghost use Rattle.roam_conf.specs.Parts.{shown_realm, shown_server};
@@ -9,7 +10,7 @@ ghost use Rattle.roam_conf_reader.specs.declared.realm.RealmText.{RealmText};
 ghost use Rattle.roam_conf_reader.specs.Document.{StatesEach, StatesRealm, sessions_unless_said, are_accounted};
 ghost use Rattle.roam_conf_reader.specs.Reading.{IsValueFault};
 ghost use Rattle.roam_conf_reader.specs.Texts.{StatesBesideLists};
-ghost use Rattle.roam_conf_reader.specs.Values.{array_of, value_at};
+ghost use Rattle.roam_conf_reader.specs.Values.{accounting, array_of, value_at};
 
 use crate::tables::{REALM_KEYS, REALM_OPTIONAL_KEYS, has_only};
 use crate::values::Letters;
@@ -54,7 +55,8 @@ fn realm_text(table: &Table) -> Option<RealmText<'_>>
     ensures { MatchOption result
         ((r : RealmView) → ¬ (StatesRealm (table_view table.now) r))
         (λ text. StatesBesideLists (table_view table.now) text × (value_at (array_of 8)
-        (codes "server") (table_view table.now) ≡ Some (array_view text.servers.now))) }
+        (codes "server") (table_view table.now) ≡ Some (array_view text.servers.now))
+        × (accounting (get_member (codes "accounting") (table_view table.now)) ≡ Some text.accounting)) }
 {
     if !has_only(table, &REALM_KEYS, &REALM_OPTIONAL_KEYS) {
         return None;

@@ -2,7 +2,6 @@ use Rattle.toml.specs.Data.{get_member}
 use Rattle.toml.specs.View.{table_view}
 use Rattle.std.proofs.Common.{codes, arith}
 use Rattle.roam_wire.specs.RemovedAttributes.{is_removal_in_requests, is_removal_in_replies}
-use Rattle.roam_conf_reader.specs.Texts.{StatesRemoved}
 use Rattle.roam_conf_reader.specs.Values.{removed}
 use Rattle.roam_conf_reader.proofs.ListLemmas.{is_list_of, stated_removed}
 use Rattle.roam_conf_reader.proofs.RangeLemmas.{text_at, optional_port_at, optional_text_at}
@@ -14,10 +13,9 @@ invariant_of-result c =
     let members = table_view c.args.table.now in
     let request = c.in_ok-of_requests.field-0 in
     let reply = c.in_ok-of_replies.field-0 in
-    let lists : StatesRemoved members request.items reply.items = record { of_requests = c.in_ok-of_requests.ensures.ok; of_replies = c.in_ok-of_replies.ensures.ok } in
-    let stated = c.in-Some.ensures request.items reply.items lists in
-    let of_requests = is_list_of (removed is_removal_in_requests) is_removal_in_requests (stated_removed is_removal_in_requests) 64 (get_member (codes "request_without") members) request.items lists.of_requests in
-    let of_replies = is_list_of (removed is_removal_in_replies) is_removal_in_replies (stated_removed is_removal_in_replies) 64 (get_member (codes "reply_without") members) reply.items lists.of_replies in
+    let stated = c.in-Some.ensures request.items reply.items c.in_ok-of_requests.ensures.ok c.in_ok-of_replies.ensures.ok in
+    let of_requests = is_list_of (removed is_removal_in_requests) is_removal_in_requests (stated_removed is_removal_in_requests) 64 (get_member (codes "request_without") members) request.items c.in_ok-of_requests.ensures.ok in
+    let of_replies = is_list_of (removed is_removal_in_replies) is_removal_in_replies (stated_removed is_removal_in_replies) 64 (get_member (codes "reply_without") members) reply.items c.in_ok-of_replies.ensures.ok in
     let name = text_at 64 _ (codes "name") members _ stated.name in
     record {
       name_length = rw c.in_ok-from_str.ensures.ok name.size;
@@ -34,8 +32,6 @@ invariant_of-result c =
 -- The table states the peer: its own values, and those of its lists.
 pub returns-clause-ok : goal.returns-clause-ok
 returns-clause-ok c =
-    let members = table_view c.args.table.now in
     let request = c.in_ok-of_requests.field-0 in
     let reply = c.in_ok-of_replies.field-0 in
-    let lists : StatesRemoved members request.items reply.items = record { of_requests = c.in_ok-of_requests.ensures.ok; of_replies = c.in_ok-of_replies.ensures.ok } in
-    rw (c.in_ok-from_str.ensures.ok, c.in_ok-from_str-2.ensures.ok, c.in_ok-copied.ensures.ok, c.in_ok-copied-2.ensures.ok) (c.in-Some.ensures request.items reply.items lists)
+    rw (c.in_ok-from_str.ensures.ok, c.in_ok-from_str-2.ensures.ok, c.in_ok-copied.ensures.ok, c.in_ok-copied-2.ensures.ok) (c.in-Some.ensures request.items reply.items c.in_ok-of_requests.ensures.ok c.in_ok-of_replies.ensures.ok)

@@ -11,9 +11,8 @@ use Rattle.roam_conf.specs.declared.server.Server.{Server}
 use Rattle.roam_conf.specs.Parts.{shown_names, shown_server}
 use Rattle.roam_conf.specs.Patterns.{is_pattern, shown_pattern}
 use Rattle.roam_conf_reader.specs.Document.{StatesServer, sessions_unless_said, are_accounted}
-use Rattle.roam_conf_reader.specs.Texts.{RealmLists, StatesLists}
 use Rattle.roam_conf_reader.specs.Values.{pattern, removed}
-use Rattle.roam_conf_reader.proofs.ListLemmas.{is_list_of, stated_pattern, stated_removed, few_names, accounted_shown}
+use Rattle.roam_conf_reader.proofs.ListLemmas.{is_list_of, stated_pattern, stated_removed, few_names, accounted_shown, not_accounted}
 use Rattle.roam_conf_reader.proofs.RangeLemmas.{text_at, port_at, optional_port_at, number_or_at, optional_number_at, each_range}
 use Rattle.roam_conf_reader.proofs.realm.from_table.Goals as goal
 
@@ -36,19 +35,11 @@ invariant_of-result c =
     let request = c.in_ok-of_requests.field-0 in
     let reply = c.in_ok-of_replies.field-0 in
     let servers = c.in_ok-servers.servers in
-    let lists : RealmLists = record { also = map shown_pattern patterns.items; peers = option_map shown_names peers; request_without = request.items; reply_without = reply.items; servers = map shown_server servers.items } in
     let accounted : are_accounted c.in-Some.text.accounting (map shown_server servers.items) ≡ true = rw (← c.as_slice.ensures.value, ← c.are_accounted.ensures) c.if-not-are_accounted.false in
-    let read : StatesLists members c.in-Some.text lists = record {
-      also = c.in_ok-all_from.ensures.ok;
-      peers = c.in_ok-of_peers.ensures.ok;
-      removed = record { of_requests = c.in_ok-of_requests.ensures.ok; of_replies = c.in_ok-of_replies.ensures.ok };
-      servers = c.in_ok-servers.ensures.ok;
-      accounted = accounted;
-    } in
-    let stated = c.in-Some.ensures.0 lists read in
+    let stated = c.in-Some.ensures.0 (map shown_pattern patterns.items) (option_map shown_names peers) request.items reply.items (map shown_server servers.items) c.in_ok-all_from.ensures.ok c.in_ok-of_peers.ensures.ok c.in_ok-of_requests.ensures.ok c.in_ok-of_replies.ensures.ok c.in_ok-servers.ensures.ok accounted in
     let count = each_range StatesServer shown_server 8 (codes "server") members (array_view c.in-Some.text.servers.now) servers.items c.in-Some.ensures.1 c.in_ok-servers.ensures.ok in
     let name = text_at 253 _ (codes "name") members _ stated.name in
-    let also = is_list_of pattern is_pattern stated_pattern 256 (get_member (codes "also") members) lists.also c.in_ok-all_from.ensures.ok in
+    let also = is_list_of pattern is_pattern stated_pattern 256 (get_member (codes "also") members) (map shown_pattern patterns.items) c.in_ok-all_from.ensures.ok in
     let of_requests = is_list_of (removed is_removal_in_requests) is_removal_in_requests (stated_removed is_removal_in_requests) 64 (get_member (codes "request_without") members) request.items c.in_ok-of_requests.ensures.ok in
     let of_replies = is_list_of (removed is_removal_in_replies) is_removal_in_replies (stated_removed is_removal_in_replies) 64 (get_member (codes "reply_without") members) reply.items c.in_ok-of_replies.ensures.ok in
     record {
@@ -76,15 +67,17 @@ invariant_of-result c =
 -- The table states the realm: its own values, and those of its lists.
 pub returns-clause-ok : goal.returns-clause-ok
 returns-clause-ok c =
-    let members = table_view c.args.table.now in
+    let patterns = c.in_ok-all_from.field-0 in
+    let peers = c.in_ok-of_peers.field-0 in
+    let request = c.in_ok-of_requests.field-0 in
+    let reply = c.in_ok-of_replies.field-0 in
     let servers = c.in_ok-servers.servers in
-    let lists : RealmLists = record { also = map shown_pattern c.in_ok-all_from.field-0.items; peers = option_map shown_names c.in_ok-of_peers.field-0; request_without = c.in_ok-of_requests.field-0.items; reply_without = c.in_ok-of_replies.field-0.items; servers = map shown_server servers.items } in
     let accounted : are_accounted c.in-Some.text.accounting (map shown_server servers.items) ≡ true = rw (← c.as_slice.ensures.value, ← c.are_accounted.ensures) c.if-not-are_accounted.false in
-    let read : StatesLists members c.in-Some.text lists = record {
-      also = c.in_ok-all_from.ensures.ok;
-      peers = c.in_ok-of_peers.ensures.ok;
-      removed = record { of_requests = c.in_ok-of_requests.ensures.ok; of_replies = c.in_ok-of_replies.ensures.ok };
-      servers = c.in_ok-servers.ensures.ok;
-      accounted = accounted;
-    } in
-    rw c.in_ok-from_str.ensures.ok (c.in-Some.ensures.0 lists read)
+    rw c.in_ok-from_str.ensures.ok (c.in-Some.ensures.0 (map shown_pattern patterns.items) (option_map shown_names peers) request.items reply.items (map shown_server servers.items) c.in_ok-all_from.ensures.ok c.in_ok-of_peers.ensures.ok c.in_ok-of_requests.ensures.ok c.in_ok-of_replies.ensures.ok c.in_ok-servers.ensures.ok accounted)
+
+-- A realm whose accounting is forwarded to a server that takes none is stated by no table.
+pub returns-then-not-are_accounted-clause-bad : goal.returns-then-not-are_accounted-clause-bad
+returns-then-not-are_accounted-clause-bad c = λ is_bad r stated.
+    let servers = c.in_ok-servers.servers in
+    let none : are_accounted c.in-Some.text.accounting (map shown_server servers.items) ≡ false = rw (← c.as_slice.ensures.value, ← c.are_accounted.ensures) c.if-not-are_accounted.true in
+    not_accounted (table_view c.args.table.now) (array_view c.in-Some.text.servers.now) r c.in-Some.text.accounting (map shown_server servers.items) c.in-Some.ensures.1 c.in-Some.ensures.2 c.in_ok-servers.ensures.ok none stated
