@@ -261,6 +261,26 @@ secret = "xyzzy5461"
     "share-of-one-and-two-places": decided(also=["*"], share=1, max_pending=2),
     "share-at-two-servers": decided(share=2, tries=1, servers_of_first=servers(2)),
     "share-of-all": decided(also=["*"], share=256),
+    "policy": configuration(
+        realm("a", [*servers(1), server("198.51.100.2", "h2", require_seal=True)], wait=10, hold=20, tries=1,
+              max_pending=6, max_sessions=2, also=["*.a.b", "*"], rest=30, share=2, loop_prevention=True,
+              request_without=["31", "26.9.1"], reply_without=["64", "26.311.7"]),
+        realm("b.c", servers(2), wait=8, hold=10, max_pending=5, max_sessions=1, also=["*.x.a.b"], peers_of="nas1 nas3",
+              request_without=["26.311"], reply_without=["6", "25", "126"]),
+        peers=(NAS1 + stated(operator_name="inst.example", ask_cui=True, request_without=["30"], reply_without=["81"]),
+               NAS3 + stated(limit_proxy_state=True, reply_without=["26.9", "4", "32"]), HOME1),
+        seed="3c" * 32, max_hops=2, status_server=True, well_formed=True, answer_unnamed=True,
+        reject=["*.y.a.b", "b.x.a.b", "*.fr"]),
+    "policy-in-two-shards": configuration(
+        realm("a", servers(2), wait=10, hold=10, max_pending=5, max_sessions=2, also=["*.t", "y"], rest=20, share=1,
+              request_without=["26"], reply_without=["26.9.1", "26.9.2"]),
+        realm("b", [NO_ACCT], wait=5, hold=20, tries=1, max_pending=4, also=["*.a.t"], accounting="answer",
+              peers_of="nas1 nas2", reply_without=["25"]),
+        realm("c", servers(1), wait=7, hold=0, tries=2, max_pending=3, also=["*", "z.a.t"], accounting="drop", share=3,
+              loop_prevention=True, request_without=["126", "89"]),
+        peers=(NAS2 + stated(operator_name="n", request_without=["6", "64", "81"]),
+               NAS1 + stated(ask_cui=True, limit_proxy_state=True, reply_without=["31", "26.311"]), HOME1),
+        seed="b4" * 32, shards=2, max_hops=1, reject=["a.t", "*.o.t"]),
 }
 
 CONFIGURATIONS = POLICIES | {

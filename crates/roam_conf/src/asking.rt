@@ -47,8 +47,8 @@ impl Realm {
 
 /// Whether the realm takes requests of the peer; not where one of the two is missing.
 fn takes_if_both(realm: Option<&Realm>, peer: Option<&Peer>) -> bool
-    ensures { result ≡ both_pass takes (option_map (λ r. shown_realm r.now) realm)
-        (option_map (λ p. shown_peer p.now) peer) }
+    ensures { result ≡ both_pass takes (option_map (λ r. shown_realm r.now) realm.entry)
+        (option_map (λ p. shown_peer p.now) peer.entry) }
 {
     match (realm, peer) {
         (Some(realm), Some(peer)) => realm.takes(peer),
@@ -58,8 +58,8 @@ fn takes_if_both(realm: Option<&Realm>, peer: Option<&Peer>) -> bool
 
 /// Whether the peer is one of the realm's; not where one of the two is missing.
 fn is_peer_if_both(realm: Option<&Realm>, peer: Option<&Peer>) -> bool
-    ensures { result ≡ both_pass is_peer_of (option_map (λ r. shown_realm r.now) realm)
-        (option_map (λ p. shown_peer p.now) peer) }
+    ensures { result ≡ both_pass is_peer_of (option_map (λ r. shown_realm r.now) realm.entry)
+        (option_map (λ p. shown_peer p.now) peer.entry) }
 {
     match (realm, peer) {
         (Some(realm), Some(peer)) => realm.is_peer(peer),
