@@ -18,20 +18,24 @@ pub record Reads (text : List ℕ) (members : Members) (config : ConfigView) : T
   pub complete : document_misses members ≡ false
   pub stated : StatesConfig members config
 
-pub not_syntax : (text : List ℕ) (members : Members) → parse_document text ≡ Some members → parse_document text ≡ None → ⊥
+pub not_syntax : (text : List ℕ) (members : Members) → parse_document text ≡ Some members →
+    parse_document text ≡ None → ⊥
 not_syntax text ms parsed unparsed = cc
 
-pub not_missed : (text : List ℕ) (members : Members) → parse_document text ≡ Some members → document_misses members ≡ false → Misses text → ⊥
+pub not_missed : (text : List ℕ) (members : Members) → parse_document text ≡ Some members →
+    document_misses members ≡ false → Misses text → ⊥
 not_missed text ms parsed complete misses =
     let same : ms ≡ misses.members = same_Some ms misses.members (sym parsed ∙ misses.parsed) in
     cc
 
-pub not_none : (text : List ℕ) (members : Members) (config : ConfigView) → parse_document text ≡ Some members → StatesConfig members config → StatesNone text → ⊥
+pub not_none : (text : List ℕ) (members : Members) (config : ConfigView) → parse_document text ≡ Some members →
+    StatesConfig members config → StatesNone text → ⊥
 not_none text ms config parsed stated none =
     let same : ms ≡ none.members = same_Some ms none.members (sym parsed ∙ none.parsed) in
     none.unstated config (subst (λ m. StatesConfig m config) same stated)
 
-not_twice : (text : List ℕ) (members : Members) (config : ConfigView) (fault : ConfFault) → Reads text members config → has_duplicate fault config ≡ false → StatesDuplicate text fault → ⊥
+not_twice : (text : List ℕ) (members : Members) (config : ConfigView) (fault : ConfFault) → Reads text members config
+    → has_duplicate fault config ≡ false → StatesDuplicate text fault → ⊥
 not_twice text ms config fault reads once twice =
     let same : twice.stated.members ≡ ms = same_Some twice.stated.members ms (sym twice.stated.parsed ∙ reads.parsed) in
     let stated : StatesConfig ms twice.config = subst (λ m. StatesConfig m twice.config) same twice.stated.stated in
@@ -48,11 +52,18 @@ first_of false false false false true f = Some DuplicateLink
 first_of false false false false false true = Some UnknownPeer
 first_of false false false false false false = None
 
-first_of_config : (config : ConfigView) → first_duplicate config ≡ first_of (has_duplicate DuplicateRealm config) (has_duplicate DuplicatePeer config) (has_duplicate DuplicateEndpoint config) (has_duplicate DuplicateServer config) (has_duplicate DuplicateLink config) (has_duplicate UnknownPeer config)
+first_of_config : (config : ConfigView) →
+    first_duplicate config ≡ first_of (has_duplicate DuplicateRealm config) (has_duplicate DuplicatePeer config)
+    (has_duplicate DuplicateEndpoint config) (has_duplicate DuplicateServer config)
+    (has_duplicate DuplicateLink config) (has_duplicate UnknownPeer config)
 unfolding first_duplicate
 first_of_config config = by_cases _ _ _ _ _ _
   where
-    by_cases : (a b c d e f : Bool) → cond a (Some DuplicateRealm) (cond b (Some DuplicatePeer) (cond c (Some DuplicateEndpoint) (cond d (Some DuplicateServer) (cond e (Some DuplicateLink) (cond f (Some UnknownPeer) None))))) ≡ first_of a b c d e f
+    by_cases : (a b c d e f : Bool) →
+        cond a (Some DuplicateRealm) (cond b (Some DuplicatePeer)
+        (cond c (Some DuplicateEndpoint)
+        (cond d (Some DuplicateServer) (cond e (Some DuplicateLink) (cond f (Some UnknownPeer) None)))))
+        ≡ first_of a b c d e f
     by_cases true b c d e f = refl
     by_cases false true c d e f = refl
     by_cases false false true d e f = refl
@@ -71,14 +82,17 @@ record Tests (config : ConfigView) (a b c d e f : Bool) : Type 0 where
   known : has_duplicate UnknownPeer config ≡ f
 
 -- a fault that is there, after those that aren't
-found : (text : List ℕ) (members : Members) (config : ConfigView) (fault : ConfFault) → Reads text members config → has_duplicate fault config ≡ true → StatesDuplicate text fault
+found : (text : List ℕ) (members : Members) (config : ConfigView) (fault : ConfFault) → Reads text members config →
+    has_duplicate fault config ≡ true → StatesDuplicate text fault
 found text ms config fault reads twice = record {
   config = config;
   stated = record { members = ms; parsed = reads.parsed; stated = reads.stated };
   twice = twice;
 }
 
-first_fault_at : (text : List ℕ) (members : Members) (config : ConfigView) (fault : ConfFault) → Reads text members config → (a b c d e f : Bool) → Tests config a b c d e f → first_of a b c d e f ≡ Some fault → IsFirstFault text fault
+first_fault_at : (text : List ℕ) (members : Members) (config : ConfigView) (fault : ConfFault) →
+    Reads text members config → (a b c d e f : Bool) → Tests config a b c d e f → first_of a b c d e f ≡ Some fault →
+    IsFirstFault text fault
 first_fault_at text ms config fault reads true b c d e f tests is =
     let n1 = not_syntax text ms reads.parsed in
     let n2 = not_missed text ms reads.parsed reads.complete in
@@ -145,11 +159,15 @@ first_fault_at text ms config fault reads false false false false false true tes
 first_fault_at text ms config fault reads false false false false false false tests is = cc
 
 -- a text with duplicates, or that names a peer that isn't there, has the first of these as its first fault
-pub first_fault : (text : List ℕ) (members : Members) (config : ConfigView) (fault : ConfFault) → Reads text members config → first_duplicate config ≡ Some fault → IsFirstFault text fault
+pub first_fault : (text : List ℕ) (members : Members) (config : ConfigView) (fault : ConfFault) →
+    Reads text members config → first_duplicate config ≡ Some fault → IsFirstFault text fault
 first_fault text ms config fault reads is =
-    first_fault_at text ms config fault reads _ _ _ _ _ _ (record { realm = refl; peer = refl; endpoint = refl; server = refl; link = refl; known = refl }) (sym (first_of_config config) ∙ is)
+    first_fault_at text ms config fault reads _ _ _ _ _ _
+    (record { realm = refl; peer = refl; endpoint = refl; server = refl; link = refl; known = refl })
+    (sym (first_of_config config) ∙ is)
 
-none_of : (a b c d e f : Bool) → first_of a b c d e f ≡ None → (a ≡ false) × ((b ≡ false) × ((c ≡ false) × ((d ≡ false) × ((e ≡ false) × ((f ≡ false))))))
+none_of : (a b c d e f : Bool) → first_of a b c d e f ≡ None → (a ≡ false)
+    × ((b ≡ false) × ((c ≡ false) × ((d ≡ false) × ((e ≡ false) × ((f ≡ false))))))
 none_of true b c d e f is = cc
 none_of false true c d e f is = cc
 none_of false false true d e f is = cc
@@ -162,8 +180,41 @@ none_of false false false false false false is = (refl, (refl, (refl, (refl, (re
 pub all_consistent : (config : ConfigView) → first_duplicate config ≡ None → IsConsistent config
 all_consistent config is =
     let none = none_of _ _ _ _ _ _ (sym (first_of_config config) ∙ is) in
-    record { realms = none.0; peers = none.1.0; endpoints = none.1.1.0; servers = none.1.1.1.0; links = none.1.1.1.1.0; known = none.1.1.1.1.1 }
+    record {
+      realms = none.0;
+      peers = none.1.0;
+      endpoints = none.1.1.0;
+      servers = none.1.1.1.0;
+      links =
+          none.1.1.1.1.0;
+      known = none.1.1.1.1.1;
+    }
 
 -- no fault holds in a text whose configuration has none of them
-pub none_holds : (text : List ℕ) (members : Members) (config : ConfigView) → Reads text members config → IsConsistent config → NoneHolds text every_fault
-none_holds text ms config reads consistent = (not_syntax text ms reads.parsed, (not_missed text ms reads.parsed reads.complete, (not_none text ms config reads.parsed reads.stated, (not_twice text ms config DuplicateRealm reads consistent.realms, (not_twice text ms config DuplicatePeer reads consistent.peers, (not_twice text ms config DuplicateEndpoint reads consistent.endpoints, (not_twice text ms config DuplicateServer reads consistent.servers, (not_twice text ms config DuplicateLink reads consistent.links, (not_twice text ms config UnknownPeer reads consistent.known, tt)))))))))
+pub none_holds : (text : List ℕ) (members : Members) (config : ConfigView) → Reads text members config →
+    IsConsistent config → NoneHolds text every_fault
+none_holds text ms config reads consistent = (
+  not_syntax text ms reads.parsed,
+  (
+    not_missed text ms reads.parsed reads.complete,
+    (
+      not_none text ms config reads.parsed reads.stated,
+      (
+        not_twice text ms config DuplicateRealm reads consistent.realms,
+        (
+          not_twice text ms config DuplicatePeer reads consistent.peers,
+          (
+            not_twice text ms config DuplicateEndpoint reads consistent.endpoints,
+            (
+              not_twice text ms config DuplicateServer reads consistent.servers,
+              (
+                not_twice text ms config DuplicateLink reads consistent.links,
+                (not_twice text ms config UnknownPeer reads consistent.known, tt),
+              ),
+            ),
+          ),
+        ),
+      ),
+    ),
+  ),
+)

@@ -1,8 +1,7 @@
 //! What an operator decides: the keys for it, their ranges and their faults.
 
 use crate::documents::{
-    AS_IT_IS, Change, Document, SECOND_PEER, changed, expect_changes, expect_documents, fault_of,
-    joined,
+    AS_IT_IS, Change, Document, SECOND_PEER, expect_changes, expect_documents, joined,
 };
 use roam_conf::{Accounting, Config};
 use roam_conf_reader::{ConfFault, read_config};
@@ -10,7 +9,7 @@ use roam_wire::RemovedAttribute;
 use std::alloc::Global;
 use std::process::Abort;
 use std::test::Fail;
-use test_fixtures::configuration::{PEER, REALM, SECOND_REALM, SERVER, TOP};
+use test_fixtures::configuration::{PEER, REALM, SERVER, TOP};
 
 const MISSING: Option<ConfFault> = Some(ConfFault::Missing);
 
@@ -212,92 +211,6 @@ const OPERATORS: [Document; 2] = [
     ),
 ];
 
-/// What may stand in a list of attributes to remove, of requests and of replies.
-const LISTS: [(&str, bool, bool); 24] = [
-    (
-        "[\"26.9.1\", \"31\", \"26.0\", \"26.16777215.255\", \"255\", \"26\", \"31\"]",
-        true,
-        true,
-    ),
-    ("[]", true, true),
-    ("[\"0\"]", false, false),
-    ("[\"256\"]", false, false),
-    ("[\"031\"]", false, false),
-    ("[\"26.16777216\"]", false, false),
-    ("[\"26.9.0\"]", false, false),
-    ("[\"26.9.256\"]", false, false),
-    ("[\"25.9\"]", false, false),
-    ("[\"26.\"]", false, false),
-    ("[\"26.9.1.1\"]", false, false),
-    ("[31]", false, false),
-    ("\"31\"", false, false),
-    ("[\" 31\"]", false, false),
-    ("[\"24\"]", false, false),
-    ("[\"80\"]", false, false),
-    ("[\"33\"]", false, false),
-    ("[\"79\"]", false, false),
-    ("[\"-1\"]", false, false),
-    ("[\"1\"]", false, true),
-    ("[\"2\"]", false, true),
-    ("[\"3\"]", false, true),
-    ("[\"60\"]", false, true),
-    ("[\"4\", \"\"]", false, false),
-];
-
-/// The fault of a document in which this key has the list, of the peer or of the realm.
-fn fault_with(
-    alloc: Global,
-    key: &str,
-    list: &str,
-    before: &str,
-) -> Result<Option<ConfFault>, Fail> {
-    let line = joined(alloc, &[key, " = ", list, "\n", before])?;
-    let text = changed(alloc, &[TOP, PEER, REALM, SERVER], before, line.as_str())?;
-    Ok(fault_of(alloc, text.as_str()))
-}
-
-/// Whether the key may have the list, both in a peer and in a realm.
-fn expect_list(
-    rt: &impl Abort,
-    alloc: Global,
-    key: &str,
-    list: &str,
-    is_good: bool,
-) -> Result<(), Fail> {
-    let expected = match is_good {
-        true => None,
-        false => BAD_VALUE,
-    };
-    for before in ["nas_id", "tries"] {
-        let fault = fault_with(alloc, key, list, before)?;
-        assert!(rt; fault == expected, "{key} {list}");
-    }
-    Ok(())
-}
-
-/// A list of as many attributes, all the same.
-fn list_of(alloc: Global, count: usize) -> Result<String, Fail> {
-    let mut list = String::from_str(alloc, "[\"31\"")?;
-    for _ in 1..count {
-        list.push_str(", \"31\"")?;
-    }
-    list.push_str("]")?;
-    Ok(list)
-}
-
-pub(crate) fn the_lists_of_attributes<R: Abort + AllocGlobal>(rt: &R) -> Result<(), Fail> {
-    for &(list, of_requests, of_replies) in &LISTS {
-        expect_list(rt, rt.alloc(), "request_without", list, of_requests)?;
-        expect_list(rt, rt.alloc(), "reply_without", list, of_replies)?;
-    }
-    for (count, is_good) in [(64, true), (65, false)] {
-        let list = list_of(rt.alloc(), count)?;
-        expect_list(rt, rt.alloc(), "request_without", list.as_str(), is_good)?;
-        expect_list(rt, rt.alloc(), "reply_without", list.as_str(), is_good)?;
-    }
-    Ok(())
-}
-
 pub(crate) fn the_faults_of_the_keys<R: Abort + AllocGlobal>(rt: &R) -> Result<(), Fail> {
     expect_documents(rt, rt.alloc(), &ACCOUNTED)?;
     expect_documents(rt, rt.alloc(), &PEERS)?;
@@ -357,46 +270,5 @@ pub(crate) fn the_keys_are_read<R: Abort + AllocGlobal>(rt: &R) -> Result<(), Fa
     assert!(rt; realm.request_without.as_slice() == [RemovedAttribute::Kind(126)].as_slice());
     assert!(rt; realm.reply_without.as_slice() == [RemovedAttribute::Kind(6)].as_slice());
     assert!(rt; realm.servers[0].acct.is_none());
-    Ok(())
-}
-
-/// Two peers, of which the first realm takes the second alone; the second realm, which guards against loops, has a
-/// server at the address of the first peer.
-fn with_peers(alloc: Global) -> Result<Config, Fail> {
-    let text = changed(
-        alloc,
-        &[
-            TOP,
-            PEER,
-            SECOND_PEER,
-            REALM,
-            "peers = [\"nas2\"]\n",
-            SERVER,
-            SECOND_REALM,
-            "loop_prevention = true\n",
-            "\n[[realm.server]]\nauth = \"198.51.100.3:1812\"\nacct = \"192.0.2.1:1813\"\nsecret = \"h\"\n",
-        ],
-        AS_IT_IS,
-        AS_IT_IS,
-    )?;
-    Ok(read_config(alloc, text.as_str())?)
-}
-
-/// Whether a realm takes requests of a peer, and whether the peer is one of its own.
-const TAKEN: [(u16, u16, bool, bool); 6] = [
-    (0, 0, false, false),
-    (0, 1, true, true),
-    (1, 0, false, true),
-    (1, 1, true, true),
-    (2, 0, false, false),
-    (0, 2, false, false),
-];
-
-pub(crate) fn who_may_ask_whom<R: Abort + AllocGlobal>(rt: &R) -> Result<(), Fail> {
-    let config = with_peers(rt.alloc())?;
-    for (realm, peer, takes, is_peer) in TAKEN {
-        assert!(rt; config.takes(realm, peer) == takes, "{realm} {peer}");
-        assert!(rt; config.is_peer_of(realm, peer) == is_peer, "{realm} {peer}");
-    }
     Ok(())
 }

@@ -5,4 +5,5 @@ use Rattle.roam_conf_reader.proofs.pattern.are_rejects.Given as goal
 
 abbrev pub invariant-loop-pattern : goal.invariant-loop-pattern
 invariant-loop-pattern l =
-    list_all is_reject (map shown_pattern (drop l.pattern-index l.patterns)) ≡ list_all is_reject (map shown_pattern l.fn.patterns)
+    list_all is_reject (map shown_pattern (drop l.pattern-index l.patterns))
+    ≡ list_all is_reject (map shown_pattern l.fn.patterns)

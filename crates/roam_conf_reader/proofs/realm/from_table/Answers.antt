@@ -21,7 +21,9 @@ few_sessions None = omega arith
 few_sessions (Some e) = omega arith
 
 -- where accounting is forwarded, each server takes it
-all_take : (accounting : Accounting) (servers : List Server) → are_accounted accounting (map shown_server servers) ≡ true → accounting ≡ Forwarded → list_all (λ (s : Server). is_some s.acct) servers ≡ true
+all_take : (accounting : Accounting) (servers : List Server) →
+    are_accounted accounting (map shown_server servers) ≡ true → accounting ≡ Forwarded →
+    list_all (λ (s : Server). is_some s.acct) servers ≡ true
 all_take Forwarded servers all is = sym (accounted_shown servers) ∙ all
 all_take Answered servers all is = cc
 all_take Dropped servers all is = cc
@@ -35,32 +37,51 @@ invariant_of-result c =
     let request = c.in_ok-of_requests.field-0 in
     let reply = c.in_ok-of_replies.field-0 in
     let servers = c.in_ok-servers.servers in
-    let accounted : are_accounted c.in-Some.text.accounting (map shown_server servers.items) ≡ true = rw (← c.as_slice.ensures.value, ← c.are_accounted.ensures) c.if-not-are_accounted.false in
-    let stated = c.in-Some.ensures.0 (map shown_pattern patterns.items) (option_map shown_names peers) request.items reply.items (map shown_server servers.items) c.in_ok-all_from.ensures.ok c.in_ok-of_peers.ensures.ok c.in_ok-of_requests.ensures.ok c.in_ok-of_replies.ensures.ok c.in_ok-servers.ensures.ok accounted in
-    let count = each_range StatesServer shown_server 8 (codes "server") members (array_view c.in-Some.text.servers.now) servers.items c.in-Some.ensures.1 c.in_ok-servers.ensures.ok in
+    let accounted : are_accounted c.in-Some.text.accounting (map shown_server servers.items) ≡ true =
+    rw (← c.as_slice.ensures.value, ← c.are_accounted.ensures) c.if-not-are_accounted.false in
+    let stated = c.in-Some.ensures.0 (map shown_pattern patterns.items) (option_map shown_names peers) request.items
+    reply.items (map shown_server servers.items) c.in_ok-all_from.ensures.ok c.in_ok-of_peers.ensures.ok
+    c.in_ok-of_requests.ensures.ok c.in_ok-of_replies.ensures.ok c.in_ok-servers.ensures.ok accounted in
+    let count = each_range StatesServer shown_server 8 (codes "server") members
+    (array_view c.in-Some.text.servers.now) servers.items c.in-Some.ensures.1 c.in_ok-servers.ensures.ok in
     let name = text_at 253 _ (codes "name") members _ stated.name in
-    let also = is_list_of pattern is_pattern stated_pattern 256 (get_member (codes "also") members) (map shown_pattern patterns.items) c.in_ok-all_from.ensures.ok in
-    let of_requests = is_list_of (removed is_removal_in_requests) is_removal_in_requests (stated_removed is_removal_in_requests) 64 (get_member (codes "request_without") members) request.items c.in_ok-of_requests.ensures.ok in
-    let of_replies = is_list_of (removed is_removal_in_replies) is_removal_in_replies (stated_removed is_removal_in_replies) 64 (get_member (codes "reply_without") members) reply.items c.in_ok-of_replies.ensures.ok in
+    let also = is_list_of pattern is_pattern stated_pattern 256 (get_member (codes "also") members)
+    (map shown_pattern patterns.items) c.in_ok-all_from.ensures.ok in
+    let of_requests = is_list_of (removed is_removal_in_requests) is_removal_in_requests
+    (stated_removed is_removal_in_requests) 64 (get_member (codes "request_without") members) request.items
+    c.in_ok-of_requests.ensures.ok in
+    let of_replies = is_list_of (removed is_removal_in_replies) is_removal_in_replies
+    (stated_removed is_removal_in_replies) 64 (get_member (codes "reply_without") members) reply.items
+    c.in_ok-of_replies.ensures.ok in
     record {
       name_length = rw c.in_ok-from_str.ensures.ok name.size;
       name_letters = rw c.in_ok-from_str.ensures.ok name.letters_only;
       also_count = omega (arith, also.count, patterns.ok, length-map patterns.items shown_pattern);
       also_names = also.all;
-      peer_names = λ v there. omega (arith, few_names (get_member (codes "peers") members) peers c.in_ok-of_peers.ensures.ok v there, v.ok);
+      peer_names = λ v there. omega (
+        arith,
+        few_names (get_member (codes "peers") members) peers c.in_ok-of_peers.ensures.ok v there,
+        v.ok,
+      );
       few_without = (omega (arith, of_requests.count, request.ok), omega (arith, of_replies.count, reply.ok));
       request_removals = of_requests.all;
       reply_removals = of_replies.all;
       share_range = optional_number_at 1 4096 (codes "share") members _ stated.share;
       accounted = all_take c.in-Some.text.accounting servers.items accounted;
-      ports = (port_at (codes "out") members _ stated.out, optional_port_at (codes "reverse") members c.in-Some.text.reverse stated.reverse);
+      ports = (
+        port_at (codes "out") members _ stated.out,
+        optional_port_at (codes "reverse") members c.in-Some.text.reverse stated.reverse,
+      );
       tries_range = number_or_at 3 1 10 (codes "tries") members _ (omega arith) (omega arith) stated.tries;
       wait_range = number_or_at 2000 1 60000 (codes "wait") members _ (omega arith) (omega arith) stated.wait;
       hold_range = (number_or_at 10000 0 60000 (codes "hold") members _ (omega arith) (omega arith) stated.hold).1;
-      max_pending_range = number_or_at 4096 1 4096 (codes "max_pending") members _ (omega arith) (omega arith) stated.max_pending;
-      max_sessions_range = (number_or_at (sessions_unless_said c.in-Some.text.reverse) 0 65536 (codes "max_sessions") members _ (omega arith) (few_sessions c.in-Some.text.reverse) stated.max_sessions).1;
+      max_pending_range = number_or_at 4096 1 4096 (codes "max_pending") members _ (omega arith) (omega arith)
+          stated.max_pending;
+      max_sessions_range = (number_or_at (sessions_unless_said c.in-Some.text.reverse) 0 65536 (codes "max_sessions")
+          members _ (omega arith) (few_sessions c.in-Some.text.reverse) stated.max_sessions).1;
       rest_range = (number_or_at 30000 0 3600000 (codes "rest") members _ (omega arith) (omega arith) stated.rest).1;
-      rest_after_range = number_or_at 3 1 256 (codes "rest_after") members _ (omega arith) (omega arith) stated.rest_after;
+      rest_after_range = number_or_at 3 1 256 (codes "rest_after") members _ (omega arith) (omega arith)
+          stated.rest_after;
       server_count = (omega (arith, count, servers.ok), omega (arith, count, servers.ok));
     }
 
@@ -72,12 +93,18 @@ returns-clause-ok c =
     let request = c.in_ok-of_requests.field-0 in
     let reply = c.in_ok-of_replies.field-0 in
     let servers = c.in_ok-servers.servers in
-    let accounted : are_accounted c.in-Some.text.accounting (map shown_server servers.items) ≡ true = rw (← c.as_slice.ensures.value, ← c.are_accounted.ensures) c.if-not-are_accounted.false in
-    rw c.in_ok-from_str.ensures.ok (c.in-Some.ensures.0 (map shown_pattern patterns.items) (option_map shown_names peers) request.items reply.items (map shown_server servers.items) c.in_ok-all_from.ensures.ok c.in_ok-of_peers.ensures.ok c.in_ok-of_requests.ensures.ok c.in_ok-of_replies.ensures.ok c.in_ok-servers.ensures.ok accounted)
+    let accounted : are_accounted c.in-Some.text.accounting (map shown_server servers.items) ≡ true =
+    rw (← c.as_slice.ensures.value, ← c.are_accounted.ensures) c.if-not-are_accounted.false in
+    rw c.in_ok-from_str.ensures.ok (c.in-Some.ensures.0 (map shown_pattern patterns.items)
+    (option_map shown_names peers) request.items reply.items (map shown_server servers.items)
+    c.in_ok-all_from.ensures.ok c.in_ok-of_peers.ensures.ok c.in_ok-of_requests.ensures.ok
+    c.in_ok-of_replies.ensures.ok c.in_ok-servers.ensures.ok accounted)
 
 -- A realm whose accounting is forwarded to a server that takes none is stated by no table.
 pub returns-then-not-are_accounted-clause-bad : goal.returns-then-not-are_accounted-clause-bad
 returns-then-not-are_accounted-clause-bad c = λ is_bad r stated.
     let servers = c.in_ok-servers.servers in
-    let none : are_accounted c.in-Some.text.accounting (map shown_server servers.items) ≡ false = rw (← c.as_slice.ensures.value, ← c.are_accounted.ensures) c.if-not-are_accounted.true in
-    not_accounted (table_view c.args.table.now) (array_view c.in-Some.text.servers.now) r c.in-Some.text.accounting (map shown_server servers.items) c.in-Some.ensures.1 c.in-Some.ensures.2 c.in_ok-servers.ensures.ok none stated
+    let none : are_accounted c.in-Some.text.accounting (map shown_server servers.items) ≡ false =
+    rw (← c.as_slice.ensures.value, ← c.are_accounted.ensures) c.if-not-are_accounted.true in
+    not_accounted (table_view c.args.table.now) (array_view c.in-Some.text.servers.now) r c.in-Some.text.accounting
+    (map shown_server servers.items) c.in-Some.ensures.1 c.in-Some.ensures.2 c.in_ok-servers.ensures.ok none stated

@@ -7,4 +7,6 @@ use Rattle.roam_conf_reader.proofs.removed.each_from.Given as goal
 -- the attributes of all items are those that were read and those of the items that are left
 abbrev pub invariant-loop-value : goal.invariant-loop-value
 invariant-loop-value l =
-    each_of (removed (may_name l.fn.removals)) (items_view l.fn.items.items) ≡ option_map (λ more. l.all.items ++ more) (each_of (removed (may_name l.removals)) (items_view (drop l.value-index l.items.items)))
+    each_of (removed (may_name l.fn.removals)) (items_view l.fn.items.items)
+    ≡ option_map (λ more. l.all.items ++ more)
+    (each_of (removed (may_name l.removals)) (items_view (drop l.value-index l.items.items)))

@@ -10,5 +10,8 @@ invariant_of-result c =
     let stated = c.in-Some.ensures in
     record {
       secret_length = rw c.in_ok-from_str.ensures.ok (text_at 64 _ (codes "secret") members _ stated.secret).size;
-      ports = (port_at (codes "auth") members _ stated.auth, optional_port_at (codes "acct") members c.in-Some.text.acct stated.acct);
+      ports = (
+        port_at (codes "auth") members _ stated.auth,
+        optional_port_at (codes "acct") members c.in-Some.text.acct stated.acct,
+      );
     }
