@@ -3,6 +3,7 @@ use Rattle.std.proofs.Common.{◌≡◌, ◌≢◌, ℕ, ◌+◌, ◌<◌, ◌�
 use Rattle.std.proofs.lemmas.Bool.{cases_eq}
 use Rattle.std.proofs.lemmas.Bool.Decides.{nat_tests}
 use Rattle.std.proofs.lemmas.List.{length-append}
+use Rattle.std.proofs.lemmas.Option.{cond_some}
 use Rattle.std.specs.List.{list_any, position_from, AllByRecursion}
 use Rattle.std.specs.Option.{option_or}
 use Rattle.std.specs.Prelude.{⊤, nat_lt, if◌then◌else◌}
@@ -100,6 +101,19 @@ any_name config [] some unnamed fits none = absurd (some refl)
 any_name config (first ∷ rest) some unnamed fits none =
     let nothing = no_answer (λ n. owner_with config (suffix n)) rest (λ ending follows. none ending (ends_in first rest ending follows) tt) in
     means config (first ∷ rest) (owner_with config any) (named_further config (first ∷ rest) unnamed fits ∙ suffix_answer config first rest ∙ ap (λ o. option_or o (owner_with config any)) nothing)
+
+-- a realm that a name means is configured
+pub realm_named_within : (config : ConfigView) (name : List ℕ) (i : ℕ) → realm_named config name ≡ Some i → i < length config.realms
+unfolding realm_named
+realm_named_within config name i is = by_owner (first_answer (owner_with config) (patterns_for config name)) is
+  where
+    by_owner : (owner : Option ℕ) → realm_owned config owner ≡ Some i → i < length config.realms
+    by_owner None named = cc
+    by_owner (Some owner) named =
+        let both = cond_some (nat_lt owner (length config.realms)) owner i named in
+        let inside : nat_lt owner (length config.realms) ≡ true = both.0 in
+        let same : owner ≡ i = both.1 in
+        grind (arith, nat_tests)
 
 -- Where no realm has a pattern, and nothing is rejected.
 
