@@ -193,7 +193,7 @@ all_patterns-append i (list ∷ lists) more =
 pub rejects_behind : (realms : List Realm) (reject : List PatternView) → all_patterns 0 (pattern_lists (map shown_realm realms) reject) ≡ all_patterns 0 (map patterns_of (map shown_realm realms)) ++ map (of_owner (length realms)) reject
 rejects_behind realms reject =
     let lists = map patterns_of (map shown_realm realms) in
-    let count : length lists ≡ length realms = length-map (map shown_realm realms) patterns_of ∙ length-map realms shown_realm in
+    let count : 0 + length lists ≡ length realms = omega (arith, length-map (map shown_realm realms) patterns_of, length-map realms shown_realm) in
     all_patterns-append 0 lists (reject ∷ [])
     ∙ ap (λ n. all_patterns 0 lists ++ all_patterns n (reject ∷ [])) count
     ∙ ap (λ l. all_patterns 0 lists ++ l) (append-nil (map (of_owner (length realms)) reject))
