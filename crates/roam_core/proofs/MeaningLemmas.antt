@@ -149,7 +149,7 @@ module _ (realm now : ℕ) where
       (forwarded_for a (side.Home i) p k (realm_of config p.attributes)) (none-forwarded k a (side.Home i) p (realm_of config p.attributes) differs)))))
 
 module _ (one other : ConfigView) (realm now : ℕ) (agree : AgreeFor one other realm) where
-  named-alike : (o : Option (List ℕ)) → is_realm realm (option_and_then (realm_named one.realms) o) ≡ is_realm realm (option_and_then (realm_named other.realms) o)
+  named-alike : (o : Option (List ℕ)) → is_realm realm (option_and_then (realm_named one) o) ≡ is_realm realm (option_and_then (realm_named other) o)
   named-alike None = refl
   named-alike (Some name) = agree.names name
 
