@@ -10,6 +10,7 @@ Nothing here is taken from the project's code.
 import sys
 import tomllib
 from packets import *
+from policy import *
 
 LATEST = 2 ** 62
 LAST_TICKET = 2 ** 63
@@ -50,11 +51,14 @@ class Config:
         self.seed = bytes.fromhex(document.get("seed", "0" * 64))
         self.max_hops = document.get("max_hops")
         self.status_server = document.get("status_server", False)
+        self.reject = [name.lower().encode() for name in document.get("reject", [])]
+        self.well_formed = document.get("well_formed", False)
+        self.answer_unnamed = document.get("answer_unnamed", False)
         self.peers = document["peer"]
         self.realms = [with_unsaid(realm) for realm in document["realm"]]
         for realm in self.realms:
             for server in realm["server"]:
-                server["links"] = {k: endpoint(server[k]) for k in ("auth", "acct")}
+                server["links"] = {k: endpoint(server[k]) for k in ("auth", "acct") if k in server}
 
     def peer_of(self, ip):
         """The index of the access server with that address."""
@@ -66,23 +70,34 @@ class Config:
 
     def realm_named(self, user):
         """The realm that means what stands behind the last `@`: by a whole name, by the longest `*.` and a name with
-        something before it, or by `*`."""
-        if user is None or b"@" not in user:
+        something before it, or by `*`; none where that is a name to reject."""
+        name = name_part(user)
+        if name is None:
             return None
-        name = user[user.rindex(b"@") + 1:].lower()
-        best, fits_best = None, -1
-        for index, realm in enumerate(self.realms):
-            for pattern in self.names_of(realm):
-                fits = how_well(pattern, name)
-                if fits > fits_best:
-                    best, fits_best = index, fits
-        return best
+        owners = [(pattern, index) for index, realm in enumerate(self.realms) for pattern in self.names_of(realm)]
+        fitting = [(how_well(pattern, name), index)
+                   for pattern, index in owners + [(pattern, None) for pattern in self.reject]
+                   if pattern[:1] != b"*" or not self.well_formed or is_well_formed(name)]
+        best = max((fits for fits, _ in fitting), default=-1)
+        return next(index for fits, index in fitting if fits == best) if best >= 0 else None
+
+    def is_peer_of(self, realm, peer):
+        """Whether an access server is one of a realm's."""
+        table = self.realms[realm]
+        return "peers" not in table or self.peers[peer]["name"] in table["peers"]
+
+    def takes(self, realm, peer):
+        """Whether a realm takes requests of an access server."""
+        table = self.realms[realm]
+        addresses = [ip for server in table["server"] for ip, _ in server["links"].values()]
+        is_loop = table.get("loop_prevention", False) and self.peers[peer]["ip"] in addresses
+        return self.is_peer_of(realm, peer) and not is_loop
 
     def link_of(self, realm, source):
         """(kind, index) of a link of the realm."""
         for index, server in enumerate(self.realms[realm]["server"]):
             for kind in ("auth", "acct"):
-                if server["links"][kind] == source:
+                if server["links"].get(kind) == source:
                     return (kind, index)
         for index, peer in enumerate(self.peers):
             if "coa" in peer and endpoint(peer["coa"]) == source:
@@ -94,29 +109,19 @@ class Config:
         if "reverse" not in self.realms[realm]:
             return None
         for server in self.realms[realm]["server"]:
-            if ip in (server["links"]["auth"][0], server["links"]["acct"][0]):
+            if ip in [address for address, _ in server["links"].values()]:
                 return server
         return None
 
-    def access_server_of(self, request):
-        """The access server that a Disconnect or CoA names, by its address, its name or both."""
+    def access_server_of(self, request, realm):
+        """The access server of a realm that a Disconnect or CoA names, by its address, its name or both."""
         ip, name = request.first(NAS_IP_ADDRESS), request.first(NAS_IDENTIFIER)
         for index, peer in enumerate(self.peers):
             fits_ip = ip is None or "nas_ip" in peer and ip == address(peer["nas_ip"])
             fits_name = name is None or "nas_id" in peer and name == peer["nas_id"].encode()
             if "coa" in peer and fits_ip and fits_name and (ip, name) != (None, None):
-                return index
+                return index if self.is_peer_of(realm, index) else None
         return None
-
-
-def how_well(pattern, name):
-    """How well a pattern fits a name: -1 where it doesn't, and more for a longer pattern; a whole name fits best."""
-    if pattern == b"*":
-        return 0 if name else -1
-    if pattern.startswith(b"*."):
-        end = pattern[1:]
-        return len(end) if name.endswith(end) and name != end else -1
-    return 1000 if name == pattern else -1
 
 
 def address(text):
@@ -251,11 +256,18 @@ class Realm:
             self.rests[entry.link] = now + self.rest
         request, secret = entry.request, self.secret_of(entry.link)
         words = self.words(request.packet.code)
-        entry.octets = forwarded(
-            request.packet, request.secret, entry.id, entry.ticket, secret, words)
+        entry.octets = forwarded(request.packet, self.list_for(request, entry.link), request.secret, entry.id,
+                                 entry.ticket, secret, words)
         entry.sends_left = self.table["tries"] - 1
         entry.deadline = now + self.table["wait"]
         return [self.out(entry)]
+
+    def list_for(self, request, link):
+        """What of a request goes on to a link."""
+        kind, index = link
+        if kind == "coa":
+            return list_for_access_server(request.packet, self.table, self.config.peers[index])
+        return list_to_forward(request.packet, self.table, self.config.peers[request.peer])
 
     def hold(self, now, entry, reply):
         entry.reply = reply
@@ -273,7 +285,7 @@ class Realm:
         if request.packet.code not in REVERSE_REQUESTS:
             links = self.server_links(request.packet.code, 0)
             return self.take(now, request, known, links)
-        peer = self.config.access_server_of(request.packet)
+        peer = self.config.access_server_of(request.packet, self.index)
         cause = self.cause_against(request.packet, peer)
         if cause is not None:
             return [self.answer(request, nak(request.packet, request.secret, cause))]
@@ -297,6 +309,8 @@ class Realm:
         others = [e for e in self.entries if e is not known]
         if self.ticket == LAST_TICKET:
             raise Refused(11)
+        if self.is_share_taken(request, others):
+            raise Refused(27)
         target = self.target(now, links, others)
         if target is None:
             raise Refused(12)
@@ -310,6 +324,14 @@ class Realm:
         self.ticket += 1
         return self.send(now, entry, target)
 
+    def is_share_taken(self, request, others):
+        """Whether as many of its code wait for its name as may."""
+        if "share" not in self.table or request.packet.code in REVERSE_REQUESTS:
+            return False
+        names = [name_part(e.request.packet.first(USER_NAME)) for e in others
+                 if e.waits() and e.request.packet.code == request.packet.code]
+        return names.count(name_part(request.packet.first(USER_NAME))) >= self.table["share"]
+
     # A reply
 
     def on_reply(self, now, link, reply):
@@ -321,13 +343,19 @@ class Realm:
         [entry] = waiting
         sent, secret, request = Packet(entry.octets), self.secret_of(link), entry.request
         self.judge(reply, sent, secret, self.must_seal(link))
-        packet = returned(reply, request.packet, request.secret, sent, secret)
+        packet = returned(reply, self.list_of(reply, request), request.packet, request.secret, sent, secret)
         if len(packet) > LARGEST:
             raise Refused(18)
         if reply.code == ACCOUNTING_RESPONSE:
             self.sessions.apply(request.peer, request.packet)
         self.is_answered(link)
         return self.hold(now, entry, packet)
+
+    def list_of(self, reply, request):
+        """What of a reply goes back."""
+        if reply.code not in ACCESS_REPLIES:
+            return reply.attributes
+        return without(reply.attributes, texts_of("reply_without", self.config.peers[request.peer], self.table))
 
     def must_seal(self, link):
         kind, index = link
@@ -375,12 +403,11 @@ class Realm:
         return self.send(now, entry, target)
 
 
-def is_rejected(request, realm):
-    """Whether an Access-Request is answered by a local Access-Reject."""
+def has_bad_passwords(request):
+    """Whether an Access-Request is answered by a local Access-Reject for its passwords."""
     passwords = request.values(USER_PASSWORD)
     return (
-        realm is None
-        or len(passwords) > 1
+        len(passwords) > 1
         or bool(passwords and request.values(CHAP_PASSWORD))
         or not all(password_fits(value) for value in passwords)
     )
@@ -398,36 +425,61 @@ class Broker:
             raise Refused(4)
         if kind == "out":
             return self.reply(now, int(number), source, packet)
-        peer, secret, must_seal = self.requester(kind, number, source[0])
+        peer, secret = self.requester(kind, number, source[0])
         if packet.code == STATUS_SERVER and self.config.status_server and kind in STATUS_AT:
             return self.status(place, source, packet, secret)
         if packet.code not in REQUESTS_AT[kind]:
             raise Refused(5)
-        self.check(packet, secret, must_seal)
+        self.check(packet, secret, self.needs_seal(packet, peer))
         realm = int(number) if number else self.config.realm_named(packet.first(USER_NAME))
         too_many_hops = self.has_too_many_hops(packet)
-        if packet.code == ACCESS_REQUEST and (too_many_hops or is_rejected(packet, realm)):
+        is_taken = realm is not None and (peer is None or self.config.takes(realm, peer))
+        if packet.code == ACCESS_REQUEST and (too_many_hops or not is_taken or has_bad_passwords(packet)):
             return self.answer(ACCESS_REJECT, place, source, packet, secret)
         if too_many_hops:
             raise Refused(24)
-        if realm is None:
-            raise Refused(9)
-        if forwarded_size(packet) > LARGEST:
+        if packet.code == ACCOUNTING_REQUEST and self.is_answered_here(packet, realm, is_taken):
+            return [("-", place, source, local_accounting_answer(packet, secret))]
+        attributes = packet.attributes
+        if peer is not None:
+            attributes = list_to_forward(packet, self.config.realms[realm], self.config.peers[peer])
+        if forwarded_size(packet, attributes) > LARGEST:
             raise Refused(10)
         return self.realms[realm].on_request(now, Request(place, source, packet, secret, peer))
 
+    def is_answered_here(self, packet, realm, is_taken):
+        """Whether accounting is answered by no home server; it is refused where it is dropped, and where no realm takes
+        it."""
+        if self.config.answer_unnamed and not packet.values(USER_NAME):
+            return True
+        if realm is None:
+            raise Refused(9)
+        if not is_taken:
+            raise Refused(25)
+        accounting = self.config.realms[realm].get("accounting", "forward")
+        if accounting == "drop":
+            raise Refused(26)
+        return accounting == "answer"
+
+    def needs_seal(self, packet, peer):
+        """Whether an Access-Request of an access server must be sealed."""
+        if peer is None:
+            return False
+        table = self.config.peers[peer]
+        is_limited = table.get("limit_proxy_state", False) and bool(packet.values(PROXY_STATE))
+        return table.get("require_seal", False) or is_limited
+
     def requester(self, kind, number, ip):
-        """An access server's index, the secret, and whether Access-Requests must be sealed."""
+        """An access server's index, and the secret."""
         if kind == "reverse":
             server = self.config.home_of(int(number), ip)
             if server is None:
                 raise Refused(4)
-            return None, server["secret"].encode(), False
+            return None, server["secret"].encode()
         index = self.config.peer_of(ip)
         if index is None:
             raise Refused(4)
-        peer = self.config.peers[index]
-        return index, peer["secret"].encode(), peer.get("require_seal", False)
+        return index, self.config.peers[index]["secret"].encode()
 
     def check(self, packet, secret, must_seal):
         """The digest of a request, and its Message-Authenticator."""

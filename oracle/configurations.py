@@ -73,6 +73,31 @@ auth = "{auth}"
 acct = "{acct}"
 secret = "{secret}"
 '''
+# One that takes no accounting.
+NO_ACCT = '''
+[[realm.server]]
+auth = "198.51.100.1:1812"
+secret = "h1"
+'''
+# Another proxy, and one at the home server's address, with and without a way back.
+N2 = '''
+[[peer]]
+name = "n2"
+ip = "192.0.2.2"
+secret = "s2"
+'''
+N2_COA = N2 + '''coa = "192.0.2.2:3799"
+nas_id = "n2"
+'''
+HOME2 = '''
+[[peer]]
+name = "home"
+ip = "198.51.100.1"
+secret = "s2"
+'''
+HOME2_COA = HOME2 + '''coa = "198.51.100.1:3799"
+nas_id = "home"
+'''
 
 
 LEAST = '''auth = "127.0.0.1:1812"
@@ -118,21 +143,23 @@ def servers(count):
 
 
 def realm(name, servers, tries=2, wait=1000, hold=5000, max_pending=300, max_sessions=100,
-          also=None, rest=0, rest_after=None):
-    """A realm as a function of its index. Where it isn't said its servers don't rest, or rest after one silence."""
+          also=None, rest=0, rest_after=None, **keys):
+    """A realm as a function of its index. Where it isn't said its servers don't rest, or rest after one silence.
+    `peers_of` are the names of the access servers that may ask."""
     def table(index):
         text = REALM.format(name=name, out=2000 + index, reverse=3000 + index, tries=tries, wait=wait,
                             hold=hold, max_pending=max_pending, max_sessions=max_sessions)
         after = 1 if rest and rest_after is None else rest_after
-        return text + stated(also=also, rest=rest, rest_after=after) + "".join(servers)
+        more = keys | ({"peers": keys["peers_of"].split()} if "peers_of" in keys else {})
+        more.pop("peers_of", None)
+        return text + stated(also=also, rest=rest, rest_after=after, **more) + "".join(servers)
     return table
 
 
-def configuration(*realms, shards=1, trace_limit=1000, ip="127.0.0.1", peers=(NAS1,), seed="0" * 64,
-                  max_hops=None, status_server=None):
+def configuration(*realms, shards=1, trace_limit=1000, ip="127.0.0.1", peers=(NAS1,), seed="0" * 64, **keys):
     """A configuration of these realms, whose own sockets have this address."""
     text = TOP.format(shards=shards, seed=seed, trace_limit=trace_limit)
-    text += stated(max_hops=max_hops, status_server=status_server) + "".join(peers)
+    text += stated(**keys) + "".join(peers)
     text += "".join(table(index) for index, table in enumerate(realms))
     return text.replace('"127.0.0.1:', f'"{ip}:')
 
@@ -170,7 +197,93 @@ OTHER_WORLD = configuration(
     realm("e.example", [server("203.0.113.7", "h1")], tries=1, wait=100, hold=60000, max_pending=4096),
     shards=3, trace_limit=7, ip="127.0.0.9")
 
-CONFIGURATIONS = {
+
+
+def decided(peer=None, second=None, top=None, servers_of_first=None, peers=None, **keys):
+    """One realm or two, with keys of the first access server, of the second realm (None: there is none) and of the
+    top table, and with other servers of the first realm or other access servers where they are said."""
+    realms = [realm("a.example", servers_of_first or servers(1), **keys)]
+    if second is not None:
+        realms.append(realm("b.example", servers(1), **second))
+    return configuration(*realms, peers=peers or (NAS1 + stated(**(peer or {})),), **(top or {}))
+
+
+REJECTING = {"reject": ["x.a.example", "*.gone"]}
+POLICIES = {
+    "names-to-reject": decided(second={"also": []}, top=REJECTING, also=["*.a.example", "*"]),
+    "well-formed-names": decided(second={"also": []}, top=REJECTING | {"well_formed": True}, also=["*.a.example", "*"]),
+    "well-formed-names-and-longer-patterns": decided(
+        second={"also": ["*", "*.z.gone"]}, also=["b", "*.a.example", "*.-", "X..y"],
+        top={"well_formed": True, "reject": ["*.a.Example.", "*.b.a.example", "z.gone", "*.GONE", "*.c"]}),
+    "peers-of-a-realm": decided(second={}, peers=(NAS1, N2), peers_of="n2"),
+    "peers-of-a-realm-that-drops": decided(
+        second={}, peers=(NAS1, N2), peers_of="n2 n2", accounting="drop", top={"max_hops": 1}),
+    "peers-with-a-way-back": decided(second={}, peers=(NAS1, N2_COA), peers_of="n2"),
+    "no-loops": decided(peers=(NAS1, HOME2), loop_prevention=True),
+    "loops": decided(peers=(NAS1, HOME2), loop_prevention=False),
+    "no-loops-and-a-way-back": decided(peers=(NAS1, HOME2_COA), loop_prevention=True, peers_of="home nas1"),
+    "no-loops-of-three": decided(
+        second={"loop_prevention": False, "peers_of": "n2"}, loop_prevention=True, peers_of="nas1 n2 N2",
+        servers_of_first=[server("198.51.100.1", "h1", acct="198.51.100.7:1813")],
+        peers=('''
+[[peer]]
+name = "N2"
+ip = "198.51.100.1"
+secret = "xyzzy5461"
+''', NAS1, N2.replace("192.0.2.2", "198.51.100.7"))),
+    "unnamed-accounting-answered": decided(top={"answer_unnamed": True}),
+    "accounting-answered": decided(accounting="answer", servers_of_first=[NO_ACCT]),
+    "accounting-dropped": decided(accounting="drop", servers_of_first=[NO_ACCT]),
+    "accounting-answered-in-one-of-two": decided(
+        second={}, accounting="answer", top={"answer_unnamed": True, "max_hops": 16}),
+    "requests-without": decided({"request_without": ["26.9.1", "31"]}, request_without=["26.311"]),
+    "requests-without-vendors": decided(
+        {"request_without": ["26.9.1", "26.9.2", "26.0", "26.16777215.255"]}, request_without=["26.311.7", "26.10.1"]),
+    "requests-without-names": decided(request_without=["31", "26.9.1"]),
+    "requests-without-sessions": decided(
+        request_without=["40", "44", "32", "31"], servers_of_first=servers(2)),
+    "replies-without": decided(reply_without=["6", "64", "65", "81"]),
+    "replies-without-keys": decided({"reply_without": ["26.311.16", "25"]}, reply_without=["26.14988"]),
+    "coa-without": decided({"reply_without": ["6", "26.9.1"], "request_without": ["25"]},
+                           reply_without=["64"], request_without=["25"]),
+    "coa-without-by-target": decided(
+        second={}, peers=(NAS1 + stated(reply_without=["6"]), N2_COA + stated(reply_without=["25", "26"])),
+        reply_without=["64"]),
+    "coa-without-passwords": decided({"reply_without": ["6"]}, reply_without=["69"]),
+    "operator": decided({"operator_name": "inst.example", "ask_cui": True}),
+    "operator-replaced": decided({"operator_name": "inst.example", "ask_cui": True, "request_without": ["126"]},
+                                 request_without=["89"]),
+    "operator-of-two-servers": decided({"operator_name": "\u00e9" * 126, "ask_cui": True}, tries=1,
+                                       servers_of_first=servers(2)),
+    "proxy-states-limited": decided({"limit_proxy_state": True}),
+    "share-of-two": decided(also=["*"], share=2),
+    "share-of-one": decided(also=["*"], share=1),
+    "share-of-one-and-two-places": decided(also=["*"], share=1, max_pending=2),
+    "share-at-two-servers": decided(share=2, tries=1, servers_of_first=servers(2)),
+    "share-of-all": decided(also=["*"], share=256),
+    "policy": configuration(
+        realm("a", [*servers(1), server("198.51.100.2", "h2", require_seal=True)], wait=10, hold=20, tries=1,
+              max_pending=6, max_sessions=2, also=["*.a.b", "*"], rest=30, share=2, loop_prevention=True,
+              request_without=["31", "26.9.1"], reply_without=["64", "26.311.7"]),
+        realm("b.c", servers(2), wait=8, hold=10, max_pending=5, max_sessions=1, also=["*.x.a.b"], peers_of="nas1 nas3",
+              request_without=["26.311"], reply_without=["6", "25", "126"]),
+        peers=(NAS1 + stated(operator_name="inst.example", ask_cui=True, request_without=["30"], reply_without=["81"]),
+               NAS3 + stated(limit_proxy_state=True, reply_without=["26.9", "4", "32"]), HOME1),
+        seed="3c" * 32, max_hops=2, status_server=True, well_formed=True, answer_unnamed=True,
+        reject=["*.y.a.b", "b.x.a.b", "*.fr"]),
+    "policy-in-two-shards": configuration(
+        realm("a", servers(2), wait=10, hold=10, max_pending=5, max_sessions=2, also=["*.t", "y"], rest=20, share=1,
+              request_without=["26"], reply_without=["26.9.1", "26.9.2"]),
+        realm("b", [NO_ACCT], wait=5, hold=20, tries=1, max_pending=4, also=["*.a.t"], accounting="answer",
+              peers_of="nas1 nas2", reply_without=["25"]),
+        realm("c", servers(1), wait=7, hold=0, tries=2, max_pending=3, also=["*", "z.a.t"], accounting="drop", share=3,
+              loop_prevention=True, request_without=["126", "89"]),
+        peers=(NAS2 + stated(operator_name="n", request_without=["6", "64", "81"]),
+               NAS1 + stated(ask_cui=True, limit_proxy_state=True, reply_without=["31", "26.311"]), HOME1),
+        seed="b4" * 32, shards=2, max_hops=1, reject=["a.t", "*.o.t"]),
+}
+
+CONFIGURATIONS = POLICIES | {
     "one-server": one(),
     "seal-required": configuration(realm("a.example", servers(1)), peers=(NAS1 + "require_seal = true\n",)),
     "no-session": one(max_sessions=0),

@@ -188,9 +188,8 @@ def password_fits(value):
 
 # What the broker builds
 
-def forwarded_list(request):
-    """What is forwarded, before anything is hidden, sealed or signed anew."""
-    attributes = request.attributes
+def with_seal_and_challenge(request, attributes):
+    """Attributes of a request: of Access with a seal in front, and with a CHAP-Challenge where one is wanting."""
     if request.code == ACCESS_REQUEST:
         attributes = seal_in_front(attributes)
         if request.values(CHAP_PASSWORD) and not request.values(CHAP_CHALLENGE):
@@ -198,13 +197,14 @@ def forwarded_list(request):
     return attributes
 
 
-def forwarded_size(request):
-    return len(text(request.code, 0, ZEROS, forwarded_list(request) + [(PROXY_STATE, bytes(8))]))
+def forwarded_size(request, attributes):
+    return len(text(request.code, 0, ZEROS, attributes + [(PROXY_STATE, bytes(8))]))
 
 
-def forwarded(request, secret, id, ticket, link_secret, words):
-    """The packet that goes on under that Identifier and ticket; an Access-Request takes `words`."""
-    attributes = forwarded_list(request) + [(PROXY_STATE, ticket.to_bytes(8, "big"))]
+def forwarded(request, attributes, secret, id, ticket, link_secret, words):
+    """The packet with these attributes that goes on under that Identifier and ticket; an Access-Request takes
+    `words`."""
+    attributes = attributes + [(PROXY_STATE, ticket.to_bytes(8, "big"))]
     if request.code != ACCESS_REQUEST:
         return signed(request.code, id, ZEROS, attributes, link_secret)
     key, new_key = (secret, request.authenticator), (link_secret, words)
@@ -221,9 +221,9 @@ def restored(request, attributes):
     ]
 
 
-def returned(reply, request, secret, sent, link_secret):
-    """The packet that the requester gets for a reply to what was sent to a link."""
-    attributes = restored(request, reply.attributes)
+def returned(reply, attributes, request, secret, sent, link_secret):
+    """The packet that the requester gets for a reply to what was sent to a link, of which these attributes pass."""
+    attributes = restored(request, attributes)
     if reply.code in ACCESS_REPLIES:
         attributes = seal_in_front(attributes)
     if reply.code == ACCESS_ACCEPT:
@@ -236,6 +236,12 @@ def local_answer(code, request, secret):
     """A sealed answer that has the request's Proxy-States alone."""
     attributes = restored(request, [(SEAL, ZEROS)])
     return signed(code, request.id, request.authenticator, attributes, secret)
+
+
+def local_accounting_answer(request, secret):
+    """The same of accounting: sealed where the request is."""
+    attributes = restored(request, [(SEAL, ZEROS)] if request.values(SEAL) else [])
+    return signed(ACCOUNTING_RESPONSE, request.id, request.authenticator, attributes, secret)
 
 
 def nak(request, secret, cause):

@@ -142,7 +142,9 @@ class FederationScript(ReverseScript):
 
     def silence(self):
         """Requests, and a tick for each time that they are sent."""
-        before = {id(e) for e in self.entries()}
+        # Held, so that no entry that comes has the number of one that went.
+        held = self.entries()
+        before = {id(e) for e in held}
         for _ in range(self.random.choice((1, 2))):
             self.random.choice((type(self).access, type(self).accounting))(self)
         asked = [(realm, e) for realm, e in self.waiting() if id(e) not in before]

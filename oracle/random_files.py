@@ -2,6 +2,7 @@
 from random_access import AccessScript
 from random_federation import FederationScript, SilenceScript
 from random_mutated import MutatedScript
+from random_policy import PolicyScript
 from random_reverse import ReverseScript
 from random_scripts import Script
 
@@ -19,6 +20,8 @@ FILES = {
     "federation": (FederationScript, "federation", 9001, 110),
     "federation-of-silent-servers": (SilenceScript, "federation-of-silent-servers", 10001, 80),
     "federation-in-two-shards": (FederationScript, "federation-in-two-shards", 11001, 110),
+    "policy": (PolicyScript, "policy", 18001, 90),
+    "policy-in-two-shards": (PolicyScript, "policy-in-two-shards", 19001, 90),
     "mutated": (MutatedScript, "all", 12001, 50),
     "mutated-and-shared": (MutatedScript, "all-and-shared", 13001, 50),
     "mutated-in-two-shards": (MutatedScript, "all-in-two-shards", 14001, 50),

@@ -40,7 +40,8 @@ class ReverseScript(AccessScript):
 
     def answered(self):
         """An Accounting-Request, and its reply."""
-        before = {id(entry) for entry in self.entries()}
+        held = self.entries()
+        before = {id(entry) for entry in held}
         self.accounting()
         for realm, entry in self.waiting():
             if id(entry) not in before:
@@ -159,7 +160,7 @@ class ReverseScript(AccessScript):
             ("wrong seals", source, badly_sealed),
             ("another port", (source[0], 3798), good),
             ("perhaps another access server", ("192.0.2.3", 3799), good),
-            ("a home server", self.random.choice(realm.table["server"])["links"]["acct"], good),
+            ("a home server", list(self.random.choice(realm.table["server"])["links"].values())[-1], good),
         ))
         self.from_server(what, realm.index, source, octets)
 

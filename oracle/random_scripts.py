@@ -42,7 +42,8 @@ class Script:
         return max(0, self.now - self.random.choice((0, 0, 0, 0, 0, 4)))
 
     def give(self, what, line):
-        before = {id(e): e.octets for e in self.entries()}
+        held = self.entries()
+        before = {id(e): e.octets for e in held}
         answer = played(self.broker, line)
         self.lines += ["# " + what, line] + answer
         for realm in self.broker.realms:

@@ -5,6 +5,7 @@ use Rattle.roam_wire.specs.declared.code.TheConstants.{ACCESS_REQUEST}
 use Rattle.roam_conf.specs.Config.{ConfigView, PeerView, RealmView, ServerView}
 use Rattle.roam_conf.specs.Lookup.{endpoint_of}
 use Rattle.roam_conf.specs.Secrets as secrets
+use Rattle.roam_conf.specs.declared.accounting.Accounting.TheVariants.{Forwarded}
 use Rattle.roam_conf.specs.declared.endpoint.Endpoint.{Endpoint}
 use Rattle.roam_conf.specs.declared.place.Link.{Link}
 use Rattle.roam_conf.specs.declared.place.Link.TheVariants as link
@@ -42,6 +43,12 @@ no_realm = record {
   max_pending = 0;
   max_sessions = 0;
   also = [];
+  peers = None;
+  loop_prevention = false;
+  accounting = Forwarded;
+  request_without = [];
+  reply_without = [];
+  share = None;
   rest = 0;
   rest_after = 0;
   servers = [];

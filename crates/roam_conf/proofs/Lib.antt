@@ -1,9 +1,12 @@
 pub mod EqualLemmas
+pub mod EqualPartsLemmas
 pub mod IndexLemmas
 pub mod LinkLemmas
 pub mod LookupLaws
 pub mod NameLemmas
 pub mod OneLinkLemmas
+pub mod OneServerLemmas
 pub mod PeerLemmas
+pub mod ShortNameLemmas
 pub mod SuffixLemmas
 pub mod TextLemmas

@@ -10,7 +10,7 @@ use Rattle.roam_conf.specs.declared.place.Link.TheVariants.{Auth, Acct, Coa}
 use Rattle.roam_conf.specs.Config.{ServerView, PeerView, RealmView, ConfigView}
 use Rattle.roam_conf.specs.Duplicates.{same_endpoint}
 use Rattle.roam_conf.specs.Lookup.{endpoint_of, link_at, is_there, is_coa, first_place, link_in, endpoint_in_realm}
-use Rattle.roam_conf.proofs.EqualLemmas.{endpoint_decides}
+use Rattle.roam_conf.proofs.EqualPartsLemmas.{endpoint_decides}
 
 -- the place that is found holds an element that passes
 record IsFound {X : Type 0} (test : X → Bool) (xs : List X) (i : ℕ) : Type 0 where
@@ -57,21 +57,21 @@ auth_found realm peers e i is =
     let found = first_found (λ (server : ServerView). same_endpoint server.auth e) realm.servers i is in
     rw found.there (ap (λ x. Some x) (same_is found.element.auth e found.passes))
 
-acct_found : (realm : RealmView) (peers : List PeerView) (e : Endpoint) (i : ℕ) → first_place (λ server. same_endpoint server.acct e) realm.servers ≡ Some i → endpoint_of peers realm (Acct i) ≡ Some e
-acct_found realm peers e i is =
-    let found = first_found (λ (server : ServerView). same_endpoint server.acct e) realm.servers i is in
-    rw found.there (ap (λ x. Some x) (same_is found.element.acct e found.passes))
-
 there_is : (e : Endpoint) (coa : Option Endpoint) → is_there e coa ≡ true → coa ≡ Some e
 there_is e None test = absurd (false≢true test)
 there_is e (Some other) test = ap (λ x. Some x) (same_is other e test)
+
+acct_found : (realm : RealmView) (peers : List PeerView) (e : Endpoint) (i : ℕ) → first_place (λ server. is_there e server.acct) realm.servers ≡ Some i → endpoint_of peers realm (Acct i) ≡ Some e
+acct_found realm peers e i is =
+    let found = first_found (λ (server : ServerView). is_there e server.acct) realm.servers i is in
+    rw found.there (there_is e found.element.acct found.passes)
 
 coa_found : (realm : RealmView) (peers : List PeerView) (e : Endpoint) (i : ℕ) → first_place (is_coa e) peers ≡ Some i → endpoint_of peers realm (Coa i) ≡ Some e
 coa_found realm peers e i is =
     let found = first_found (is_coa e) peers i is in
     rw found.there (there_is e found.element.coa found.passes)
 
-found_by : (realm : RealmView) (peers : List PeerView) (e : Endpoint) (a b c : Option ℕ) → first_place (λ server. same_endpoint server.auth e) realm.servers ≡ a → first_place (λ server. same_endpoint server.acct e) realm.servers ≡ b → first_place (is_coa e) peers ≡ c → (link : Link) → option_or (option_map (λ i. Auth i) a) (option_or (option_map (λ i. Acct i) b) (option_map (λ i. Coa i) c)) ≡ Some link → endpoint_of peers realm link ≡ Some e
+found_by : (realm : RealmView) (peers : List PeerView) (e : Endpoint) (a b c : Option ℕ) → first_place (λ server. same_endpoint server.auth e) realm.servers ≡ a → first_place (λ server. is_there e server.acct) realm.servers ≡ b → first_place (is_coa e) peers ≡ c → (link : Link) → option_or (option_map (λ i. Auth i) a) (option_or (option_map (λ i. Acct i) b) (option_map (λ i. Coa i) c)) ≡ Some link → endpoint_of peers realm link ≡ Some e
 found_by realm peers e (Some i) b c p q r link is = rw (← same_Some (Auth i) link is) (auth_found realm peers e i p)
 found_by realm peers e None (Some i) c p q r link is = rw (← same_Some (Acct i) link is) (acct_found realm peers e i q)
 found_by realm peers e None None (Some i) p q r link is = rw (← same_Some (Coa i) link is) (coa_found realm peers e i r)

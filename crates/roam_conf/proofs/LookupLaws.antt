@@ -1,17 +1,18 @@
 -- The laws of the look-up of names.
-use Rattle.std.proofs.Common.{◌≡◌, ◌≢◌, ℕ, ◌+◌, ◌<◌, ◌≤◌, ◌==◌, Bool, true, false, cond, ◌||◌, List, [], ◌∷◌, ◌++◌, length, map, Option, Some, None, refl, sym, ap, ◌∙◌, inl, inr, arith}
-use Rattle.std.proofs.lemmas.Bool.{cases_Bool, cases_eq}
+use Rattle.std.proofs.Common.{◌≡◌, ◌≢◌, ℕ, ◌+◌, ◌<◌, ◌≤◌, ◌==◌, Bool, true, false, ◌||◌, List, [], ◌∷◌, ◌++◌, length, Option, Some, None, refl, ap, ◌∙◌, inl, inr, arith}
+use Rattle.std.proofs.lemmas.Bool.{cases_eq}
 use Rattle.std.proofs.lemmas.Bool.Decides.{nat_tests}
 use Rattle.std.proofs.lemmas.List.{length-append}
+use Rattle.std.proofs.lemmas.Option.{cond_some}
 use Rattle.std.specs.List.{list_any, position_from, AllByRecursion}
 use Rattle.std.specs.Option.{option_or}
-use Rattle.std.specs.Prelude.{⊤}
+use Rattle.std.specs.Prelude.{⊤, nat_lt, if◌then◌else◌}
 use Rattle.std.specs.Str.{str_eq_ignore_ascii_case}
-use Rattle.roam_conf.specs.Config.{PatternView, whole, suffix, any, RealmView}
-use Rattle.roam_conf.specs.Lookup.{EndsIn, NoSuffix, first_place, realm_with, realm_named, further_patterns, first_answer, after_dots}
-use Rattle.roam_conf.specs.Patterns.{same_pattern, patterns_of}
+use Rattle.roam_conf.specs.Config.{PatternView, whole, suffix, any, RealmView, ConfigView}
+use Rattle.roam_conf.specs.Lookup.{EndsIn, NoSuffix, first_place, owner_in, owner_with, pattern_lists, realm_owning, realm_owned, realm_named, may_fit, patterns_for, further_patterns, first_answer, after_dots}
+use Rattle.roam_conf.specs.Patterns.{same_pattern}
 use Rattle.roam_conf.proofs.IndexLemmas.{or_none}
-use Rattle.roam_conf.proofs.NameLemmas.{answers_of_suffixes, named_further}
+use Rattle.roam_conf.proofs.NameLemmas.{answers_of_suffixes, named_whole, named_further, named_alone, within}
 
 -- what follows a dot of a text
 abbrev Follows : List ℕ → List ℕ → Type 0
@@ -64,71 +65,104 @@ no_answer f (x ∷ text) none =
 ends_in : (first : ℕ) (rest ending : List ℕ) → Follows rest ending → EndsIn (first ∷ rest) ending
 ends_in first rest ending follows = (first ∷ follows.0, λ e. cc, ap (λ l. first ∷ l) follows.1)
 
-suffix_answer : (realms : List RealmView) (first : ℕ) (rest : List ℕ) → first_answer (realm_with realms) (further_patterns (first ∷ rest)) ≡ option_or (first_answer (λ n. realm_with realms (suffix n)) (after_dots rest)) (realm_with realms any)
-suffix_answer realms first rest =
-    answers_of_suffixes (realm_with realms) (after_dots rest) (any ∷ [])
-    ∙ ap (option_or (first_answer (λ n. realm_with realms (suffix n)) (after_dots rest))) (or_none (realm_with realms any))
+suffix_answer : (config : ConfigView) (first : ℕ) (rest : List ℕ) → first_answer (owner_with config) (further_patterns (first ∷ rest)) ≡ option_or (first_answer (λ n. owner_with config (suffix n)) (after_dots rest)) (owner_with config any)
+suffix_answer config first rest =
+    answers_of_suffixes (owner_with config) (after_dots rest) (any ∷ [])
+    ∙ ap (option_or (first_answer (λ n. owner_with config (suffix n)) (after_dots rest))) (or_none (owner_with config any))
 
-pub longest_suffix : (realms : List RealmView) (name ending : List ℕ) (r : ℕ) → realm_with realms (whole name) ≡ None → EndsIn name ending → realm_with realms (suffix ending) ≡ Some r → NoSuffix (λ longer. length ending < length longer) realms name → realm_named realms name ≡ Some r
-longest_suffix realms [] ending r unnamed ends named none = by_front ends.0 ends.2
+-- what decides of a name is what it means
+means : (config : ConfigView) (name : List ℕ) (owner : Option ℕ) → first_answer (owner_with config) (patterns_for config name) ≡ owner → realm_named config name ≡ realm_owned config owner
+unfolding realm_named
+means config name owner is = ap (realm_owned config) is
+
+pub whole_name : (config : ConfigView) (name : List ℕ) (owner : ℕ) → owner_with config (whole name) ≡ Some owner → realm_named config name ≡ realm_owning config owner
+whole_name config name owner is = means config name (Some owner) (named_whole config name owner is)
+
+pub ill_formed_name : (config : ConfigView) (name : List ℕ) → may_fit config name ≡ false → realm_named config name ≡ realm_owned config (owner_with config (whole name))
+ill_formed_name config name ill = means config name (owner_with config (whole name)) (named_alone config name ill)
+
+pub longest_suffix : (config : ConfigView) (name ending : List ℕ) (owner : ℕ) → owner_with config (whole name) ≡ None → may_fit config name ≡ true → EndsIn name ending → owner_with config (suffix ending) ≡ Some owner → NoSuffix (λ longer. length ending < length longer) config name → realm_named config name ≡ realm_owning config owner
+longest_suffix config [] ending owner unnamed fits ends named none = by_front ends.0 ends.2
   where
-    by_front : (front : List ℕ) → [] ≡ front ++ 46 ∷ ending → realm_named realms [] ≡ Some r
+    by_front : (front : List ℕ) → [] ≡ front ++ 46 ∷ ending → realm_named config [] ≡ realm_owning config owner
     by_front [] is = cc
     by_front (x ∷ front) is = cc
-longest_suffix realms (first ∷ rest) ending r unnamed ends named none = by_front ends.0 ends.1 ends.2
+longest_suffix config (first ∷ rest) ending owner unnamed fits ends named none = by_front ends.0 ends.1 ends.2
   where
-    by_front : (front : List ℕ) → front ≢ [] → first ∷ rest ≡ front ++ 46 ∷ ending → realm_named realms (first ∷ rest) ≡ Some r
+    by_front : (front : List ℕ) → front ≢ [] → first ∷ rest ≡ front ++ 46 ∷ ending → realm_named config (first ∷ rest) ≡ realm_owning config owner
     by_front [] some is = absurd (some refl)
     by_front (x ∷ front) some is =
         let behind : rest ≡ front ++ 46 ∷ ending = cc in
-        let found = longest (λ n. realm_with realms (suffix n)) rest front ending r behind named (λ longer follows above. none longer (ends_in first rest longer follows) above) in
-        named_further realms (first ∷ rest) unnamed ∙ suffix_answer realms first rest ∙ ap (λ o. option_or o (realm_with realms any)) found
+        let found = longest (λ n. owner_with config (suffix n)) rest front ending owner behind named (λ longer follows above. none longer (ends_in first rest longer follows) above) in
+        means config (first ∷ rest) (Some owner) (named_further config (first ∷ rest) unnamed fits ∙ suffix_answer config first rest ∙ ap (λ o. option_or o (owner_with config any)) found)
 
-pub any_name : (realms : List RealmView) (name : List ℕ) → name ≢ [] → realm_with realms (whole name) ≡ None → NoSuffix (λ ending. ⊤) realms name → realm_named realms name ≡ realm_with realms any
-any_name realms [] some unnamed none = absurd (some refl)
-any_name realms (first ∷ rest) some unnamed none =
-    let nothing = no_answer (λ n. realm_with realms (suffix n)) rest (λ ending follows. none ending (ends_in first rest ending follows) tt) in
-    named_further realms (first ∷ rest) unnamed ∙ suffix_answer realms first rest ∙ ap (λ o. option_or o (realm_with realms any)) nothing
+pub any_name : (config : ConfigView) (name : List ℕ) → name ≢ [] → owner_with config (whole name) ≡ None → may_fit config name ≡ true → NoSuffix (λ ending. ⊤) config name → realm_named config name ≡ realm_owned config (owner_with config any)
+any_name config [] some unnamed fits none = absurd (some refl)
+any_name config (first ∷ rest) some unnamed fits none =
+    let nothing = no_answer (λ n. owner_with config (suffix n)) rest (λ ending follows. none ending (ends_in first rest ending follows) tt) in
+    means config (first ∷ rest) (owner_with config any) (named_further config (first ∷ rest) unnamed fits ∙ suffix_answer config first rest ∙ ap (λ o. option_or o (owner_with config any)) nothing)
 
--- Where no realm has a pattern.
+-- a realm that a name means is configured
+pub realm_named_within : (config : ConfigView) (name : List ℕ) (i : ℕ) → realm_named config name ≡ Some i → i < length config.realms
+unfolding realm_named
+realm_named_within config name i is = by_owner (first_answer (owner_with config) (patterns_for config name)) is
+  where
+    by_owner : (owner : Option ℕ) → realm_owned config owner ≡ Some i → i < length config.realms
+    by_owner None named = cc
+    by_owner (Some owner) named =
+        let both = cond_some (nat_lt owner (length config.realms)) owner i named in
+        let inside : nat_lt owner (length config.realms) ≡ true = both.0 in
+        let same : owner ≡ i = both.1 in
+        grind (arith, nat_tests)
+
+-- Where no realm has a pattern, and nothing is rejected.
 
 abbrev HasNone : RealmView → Type 0
 HasNone realm = realm.also ≡ []
 
-same_place : (test other : RealmView → Bool) (n : ℕ) (realms : List RealmView) → AllByRecursion (λ realm. test realm ≡ other realm) realms → position_from test n realms ≡ position_from other n realms
-same_place test other n [] all = refl
-same_place test other n (r ∷ rs) all = rw (all.0, same_place test other (n + 1) rs all.1) refl
+or_false : (b : Bool) → b || false ≡ b
+or_false true = refl
+or_false false = refl
 
-no_place : (test : RealmView → Bool) (n : ℕ) (realms : List RealmView) → AllByRecursion (λ realm. test realm ≡ false) realms → position_from test n realms ≡ None
-no_place test n [] all = refl
-no_place test n (r ∷ rs) all = rw all.0 (no_place test (n + 1) rs all.1)
+whole_place : (name : List ℕ) (n : ℕ) (realms : List RealmView) → AllByRecursion HasNone realms → position_from (list_any (same_pattern (whole name))) n (pattern_lists realms []) ≡ position_from (λ realm. str_eq_ignore_ascii_case name realm.name) n realms
+whole_place name n [] all = refl
+whole_place name n (r ∷ rs) all = rw (all.0, or_false (str_eq_ignore_ascii_case name r.name), whole_place name (n + 1) rs all.1) refl
 
-each_whole : (name : List ℕ) (realms : List RealmView) → AllByRecursion HasNone realms → AllByRecursion (λ realm. list_any (same_pattern (whole name)) (patterns_of realm) ≡ str_eq_ignore_ascii_case name realm.name) realms
-each_whole name [] all = tt
-each_whole name (r ∷ rs) all = (rw all.0 (or_false (str_eq_ignore_ascii_case name r.name)), each_whole name rs all.1)
-  where
-    or_false : (b : Bool) → b || false ≡ b
-    or_false true = refl
-    or_false false = refl
+no_place : (p : PatternView) → ((name : List ℕ) → same_pattern p (whole name) ≡ false) → (n : ℕ) (realms : List RealmView) → AllByRecursion HasNone realms → position_from (list_any (same_pattern p)) n (pattern_lists realms []) ≡ None
+no_place p never n [] all = refl
+no_place p never n (r ∷ rs) all = rw (all.0, never r.name) (no_place p never (n + 1) rs all.1)
 
-each_other : (p : PatternView) → ((name : List ℕ) → same_pattern p (whole name) ≡ false) → (realms : List RealmView) → AllByRecursion HasNone realms → AllByRecursion (λ realm. list_any (same_pattern p) (patterns_of realm) ≡ false) realms
-each_other p never [] all = tt
-each_other p never (r ∷ rs) all = (rw (all.0, never r.name) refl, each_other p never rs all.1)
+module _ (config : ConfigView) (all : AllByRecursion HasNone config.realms) (none : config.reject ≡ []) where
+  nobody : (p : PatternView) → ((name : List ℕ) → same_pattern p (whole name) ≡ false) → owner_with config p ≡ None
+  nobody p never = ap (λ l. owner_in (pattern_lists config.realms l) p) none ∙ no_place p never 0 config.realms all
 
-no_suffixes : (realms : List RealmView) (names : List (List ℕ)) → AllByRecursion HasNone realms → first_answer (λ n. realm_with realms (suffix n)) names ≡ None
-no_suffixes realms [] all = refl
-no_suffixes realms (n ∷ ns) all = rw (no_place _ 0 realms (each_other (suffix n) (λ _. refl) realms all)) (no_suffixes realms ns all)
+  no_suffixes : (names : List (List ℕ)) → first_answer (λ n. owner_with config (suffix n)) names ≡ None
+  no_suffixes [] = refl
+  no_suffixes (n ∷ ns) = rw (nobody (suffix n) (λ _. refl)) (no_suffixes ns)
 
-no_further : (realms : List RealmView) (name : List ℕ) → AllByRecursion HasNone realms → first_answer (realm_with realms) (further_patterns name) ≡ None
-no_further realms [] all = refl
-no_further realms (first ∷ rest) all =
-    suffix_answer realms first rest
-    ∙ ap (λ o. option_or o (realm_with realms any)) (no_suffixes realms (after_dots rest) all)
-    ∙ no_place _ 0 realms (each_other any (λ _. refl) realms all)
+  no_further : (name : List ℕ) → first_answer (owner_with config) (further_patterns name) ≡ None
+  no_further [] = refl
+  no_further (first ∷ rest) =
+      suffix_answer config first rest
+      ∙ ap (λ o. option_or o (owner_with config any)) (no_suffixes (after_dots rest))
+      ∙ nobody any (λ _. refl)
 
-pub names_alone : (realms : List RealmView) (name : List ℕ) → AllByRecursion (λ realm. realm.also ≡ []) realms → realm_named realms name ≡ first_place (λ realm. str_eq_ignore_ascii_case name realm.name) realms
-unfolding realm_named
-names_alone realms name all =
-    ap (option_or (realm_with realms (whole name))) (no_further realms name all)
-    ∙ or_none (realm_with realms (whole name))
-    ∙ same_place _ _ 0 realms (each_whole name realms all)
+  no_more : (name : List ℕ) (fits : Bool) → first_answer (owner_with config) (if fits then further_patterns name else []) ≡ None
+  no_more name true = no_further name
+  no_more name false = refl
+
+  -- a place among the realms is a realm
+  owned_place : (test : RealmView → Bool) (found : Option ℕ) → first_place test config.realms ≡ found → realm_owned config found ≡ found
+  owned_place test None is = refl
+  owned_place test (Some i) is =
+      let inside : nat_lt i (length config.realms) ≡ true = grind (arith, nat_tests, within test 0 config.realms i is) in
+      rw inside refl
+
+  pub names_alone : (name : List ℕ) → realm_named config name ≡ first_place (λ realm. str_eq_ignore_ascii_case name realm.name) config.realms
+  names_alone name =
+      let owner : first_answer (owner_with config) (patterns_for config name) ≡ first_place (λ realm. str_eq_ignore_ascii_case name realm.name) config.realms =
+      ap (option_or (owner_with config (whole name))) (no_more name (may_fit config name))
+      ∙ or_none (owner_with config (whole name))
+      ∙ ap (λ l. owner_in (pattern_lists config.realms l) (whole name)) none
+      ∙ whole_place name 0 config.realms all in
+      means config name _ owner ∙ owned_place (λ realm. str_eq_ignore_ascii_case name realm.name) _ refl

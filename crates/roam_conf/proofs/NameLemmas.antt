@@ -1,25 +1,20 @@
 -- What the index of names finds is what the look-up says; and the laws of the look-up.
-use Rattle.std.proofs.Common.{◌≡◌, ◌≢◌, ℕ, zero, suc, ◌+◌, ◌<◌, ◌≤◌, ◌==◌, Bool, true, false, cond, ◌&&◌, ◌||◌, not, List, [], ◌∷◌, ◌++◌, length, map, get_or, drop-cons, Option, Some, None, is_some, refl, sym, ap, ◌∙◌, inl, inr, append_assoc, arith}
-use Rattle.std.proofs.lemmas.Bool.{cases_Bool, false≢true, or_parts, and_parts}
+use Rattle.std.proofs.Common.{◌≡◌, ◌≢◌, ℕ, suc, ◌+◌, ◌<◌, ◌≤◌, ◌==◌, Bool, true, false, cond, ◌&&◌, ◌||◌, not, List, [], ◌∷◌, ◌++◌, length, map, get_or, drop-cons, Option, Some, None, refl, sym, ap, ◌∙◌, inl, inr, append_assoc, arith}
+use Rattle.std.proofs.lemmas.Bool.{cases_Bool, false≢true, or_parts}
 use Rattle.std.proofs.lemmas.List.{append-nil, length-map}
 use Rattle.std.proofs.lemmas.Option.{same_Some}
-use Rattle.std.proofs.lemmas.Slice.Eq.{bytes_eq-Decides}
-use Rattle.std.specs.List.{list_any, list_all, position_from, flat_map}
-use Rattle.std.specs.Map.{lookup}
-use Rattle.std.specs.Option.{option_or, IfSome}
-use Rattle.std.specs.Prelude.{is_none, take, drop, slice_set, nat_le, string_bytes}
-use Rattle.std.specs.Char.{to_ascii_lowercase}
-use Rattle.std.proofs.lemmas.Bool.Decides.{nat_tests}
-use Rattle.std.specs.Str.{bytes_eq, str_to_ascii_lowercase}
+use Rattle.std.specs.List.{list_any, position_from, flat_map}
+use Rattle.std.specs.Option.{option_or}
+use Rattle.std.specs.Prelude.{if◌then◌else◌, is_none, take, drop, slice_set}
+use Rattle.std.specs.Str.{bytes_eq}
 use Rattle.roam_conf.specs.declared.realm.Realm.{Realm}
-use Rattle.roam_conf.specs.Config.{PatternView, whole, suffix, any, RealmView}
+use Rattle.roam_conf.specs.Config.{PatternView, whole, suffix, any, RealmView, ConfigView}
 use Rattle.roam_conf.specs.Duplicates.{has_pair, has_duplicate_realm}
-use Rattle.roam_conf.specs.Index.{owner_of, all_new, pattern_key, of_realm, all_patterns}
-use Rattle.roam_conf.specs.Lookup.{first_place, realm_with, realm_named, further_patterns, first_answer, after_dots}
+use Rattle.roam_conf.specs.Index.{owner_of, all_new, pattern_key, of_owner, all_patterns}
+use Rattle.roam_conf.specs.Lookup.{owner_in, owner_with, pattern_lists, may_fit, patterns_for, further_patterns, first_answer, after_dots}
 use Rattle.roam_conf.specs.Parts.{shown_realm}
-use Rattle.roam_conf.specs.Letters.{is_realm_letter}
 use Rattle.roam_conf.proofs.IndexLemmas.{or_none, same_both_ways}
-use Rattle.roam_conf.specs.Patterns.{is_realm_name, is_pattern, shown_pattern, same_pattern, patterns_of}
+use Rattle.roam_conf.specs.Patterns.{same_pattern, patterns_of}
 
 -- two patterns are the same just where their keys are
 pub same_key : (p q : PatternView) → bytes_eq (pattern_key p) (pattern_key q) ≡ same_pattern p q
@@ -35,24 +30,24 @@ same_key any any = refl
 
 -- The look-up in the list of all patterns.
 
-lookup_of_realm : (p : PatternView) (i : ℕ) (ps : List PatternView) (rest : List (List ℕ × ℕ)) → owner_of (map (of_realm i) ps ++ rest) (pattern_key p) ≡ cond (list_any (same_pattern p) ps) (Some i) (owner_of rest (pattern_key p))
-lookup_of_realm p i [] rest = refl
-lookup_of_realm p i (q ∷ qs) rest =
+lookup_of_owner : (p : PatternView) (i : ℕ) (ps : List PatternView) (rest : List (List ℕ × ℕ)) → owner_of (map (of_owner i) ps ++ rest) (pattern_key p) ≡ cond (list_any (same_pattern p) ps) (Some i) (owner_of rest (pattern_key p))
+lookup_of_owner p i [] rest = refl
+lookup_of_owner p i (q ∷ qs) rest =
     elim (cases_Bool (same_pattern p q)) [
       | inl yes' ↦ rw (same_key p q, yes')
-      | inr no' ↦ rw (same_key p q, no') (lookup_of_realm p i qs rest)
+      | inr no' ↦ rw (same_key p q, no') (lookup_of_owner p i qs rest)
     ]
 
-lookup_from : (p : PatternView) (i : ℕ) (realms : List RealmView) → owner_of (all_patterns i realms) (pattern_key p) ≡ position_from (λ realm. list_any (same_pattern p) (patterns_of realm)) i realms
+lookup_from : (p : PatternView) (i : ℕ) (lists : List (List PatternView)) → owner_of (all_patterns i lists) (pattern_key p) ≡ position_from (list_any (same_pattern p)) i lists
 lookup_from p i [] = refl
-lookup_from p i (realm ∷ realms) =
+lookup_from p i (list ∷ lists) =
     let next : suc i ≡ i + 1 = omega arith in
-    lookup_of_realm p i (patterns_of realm) (all_patterns (suc i) realms)
-    ∙ ap (cond (list_any (same_pattern p) (patterns_of realm)) (Some i)) (lookup_from p (suc i) realms ∙ ap (λ n. position_from (λ realm. list_any (same_pattern p) (patterns_of realm)) n realms) next)
+    lookup_of_owner p i list (all_patterns (suc i) lists)
+    ∙ ap (cond (list_any (same_pattern p) list) (Some i)) (lookup_from p (suc i) lists ∙ ap (λ n. position_from (list_any (same_pattern p)) n lists) next)
 
--- the index of all patterns finds the realm that has one
-pub finds : (realms : List RealmView) (p : PatternView) → owner_of (all_patterns 0 realms) (pattern_key p) ≡ realm_with realms p
-finds realms p = lookup_from p 0 realms
+-- the index of all patterns finds the list that has one
+pub finds : (lists : List (List PatternView)) (p : PatternView) → owner_of (all_patterns 0 lists) (pattern_key p) ≡ owner_in lists p
+finds lists p = lookup_from p 0 lists
 
 -- Duplicates: all patterns are new just where no two are the same.
 
@@ -108,35 +103,46 @@ new_or_pair done (x ∷ xs) none =
       | inr no' ↦ rw (none_owns done x, no') (new_or_pair (done ++ x ∷ []) xs (no_pair_behind done x none no') ∙ ap (λ l. not (has_pair same_entry l)) (append_assoc done (x ∷ []) xs))
     ]
 
+-- the patterns of all lists
+abbrev joined : List (List PatternView) → List PatternView
+joined lists = flat_map (λ list. list) lists
+
 -- pairs of entries are pairs of patterns
-any_key : (p : PatternView) (i j : ℕ) (ps : List PatternView) (rest : List (List ℕ × ℕ)) → list_any (same_entry (of_realm i p)) (map (of_realm j) ps ++ rest) ≡ list_any (same_pattern p) ps || list_any (same_entry (of_realm i p)) rest
+any_key : (p : PatternView) (i j : ℕ) (ps : List PatternView) (rest : List (List ℕ × ℕ)) → list_any (same_entry (of_owner i p)) (map (of_owner j) ps ++ rest) ≡ list_any (same_pattern p) ps || list_any (same_entry (of_owner i p)) rest
 any_key p i j [] rest = refl
 any_key p i j (q ∷ qs) rest =
-    rw (same_key p q, any_key p i j qs rest) (sym (or_assoc (same_pattern p q) (list_any (same_pattern p) qs) (list_any (same_entry (of_realm i p)) rest)))
+    rw (same_key p q, any_key p i j qs rest) (sym (or_assoc (same_pattern p q) (list_any (same_pattern p) qs) (list_any (same_entry (of_owner i p)) rest)))
 
-any_key_all : (p : PatternView) (i j : ℕ) (realms : List RealmView) → list_any (same_entry (of_realm i p)) (all_patterns j realms) ≡ list_any (same_pattern p) (flat_map patterns_of realms)
+any_key_all : (p : PatternView) (i j : ℕ) (lists : List (List PatternView)) → list_any (same_entry (of_owner i p)) (all_patterns j lists) ≡ list_any (same_pattern p) (joined lists)
 any_key_all p i j [] = refl
-any_key_all p i j (realm ∷ realms) =
-    any_key p i j (patterns_of realm) (all_patterns (suc j) realms)
-    ∙ ap (λ b. list_any (same_pattern p) (patterns_of realm) || b) (any_key_all p i (suc j) realms)
-    ∙ sym (any_append (same_pattern p) (patterns_of realm) (flat_map patterns_of realms))
+any_key_all p i j (list ∷ lists) =
+    any_key p i j list (all_patterns (suc j) lists)
+    ∙ ap (λ b. list_any (same_pattern p) list || b) (any_key_all p i (suc j) lists)
+    ∙ sym (any_append (same_pattern p) list (joined lists))
 
-pair_of_realm : (i : ℕ) (ps : List PatternView) (realms : List RealmView) → has_pair same_entry (all_patterns (suc i) realms) ≡ has_pair same_pattern (flat_map patterns_of realms) → has_pair same_entry (map (of_realm i) ps ++ all_patterns (suc i) realms) ≡ has_pair same_pattern (ps ++ flat_map patterns_of realms)
-pair_of_realm i [] realms rest = rest
-pair_of_realm i (p ∷ ps) realms rest =
-    let first : list_any (same_entry (of_realm i p)) (map (of_realm i) ps ++ all_patterns (suc i) realms) ≡ list_any (same_pattern p) (ps ++ flat_map patterns_of realms) =
-    any_key p i i ps (all_patterns (suc i) realms)
-    ∙ ap (λ b. list_any (same_pattern p) ps || b) (any_key_all p i (suc i) realms)
-    ∙ sym (any_append (same_pattern p) ps (flat_map patterns_of realms)) in
-    rw (first, pair_of_realm i ps realms rest) refl
+pair_of_owner : (i : ℕ) (ps : List PatternView) (lists : List (List PatternView)) → has_pair same_entry (all_patterns (suc i) lists) ≡ has_pair same_pattern (joined lists) → has_pair same_entry (map (of_owner i) ps ++ all_patterns (suc i) lists) ≡ has_pair same_pattern (ps ++ joined lists)
+pair_of_owner i [] lists rest = rest
+pair_of_owner i (p ∷ ps) lists rest =
+    let first : list_any (same_entry (of_owner i p)) (map (of_owner i) ps ++ all_patterns (suc i) lists) ≡ list_any (same_pattern p) (ps ++ joined lists) =
+    any_key p i i ps (all_patterns (suc i) lists)
+    ∙ ap (λ b. list_any (same_pattern p) ps || b) (any_key_all p i (suc i) lists)
+    ∙ sym (any_append (same_pattern p) ps (joined lists)) in
+    rw (first, pair_of_owner i ps lists rest) refl
 
-pair_of_all : (i : ℕ) (realms : List RealmView) → has_pair same_entry (all_patterns i realms) ≡ has_pair same_pattern (flat_map patterns_of realms)
+pair_of_all : (i : ℕ) (lists : List (List PatternView)) → has_pair same_entry (all_patterns i lists) ≡ has_pair same_pattern (joined lists)
 pair_of_all i [] = refl
-pair_of_all i (realm ∷ realms) = pair_of_realm i (patterns_of realm) realms (pair_of_all (suc i) realms)
+pair_of_all i (list ∷ lists) = pair_of_owner i list lists (pair_of_all (suc i) lists)
 
-pub new_or_duplicate : (realms : List RealmView) → all_new [] (all_patterns 0 realms) ≡ not (has_duplicate_realm realms)
+joined_lists : (realms : List RealmView) (reject : List PatternView) → joined (pattern_lists realms reject) ≡ flat_map patterns_of realms ++ reject
+joined_lists [] reject = append-nil reject
+joined_lists (realm ∷ realms) reject =
+    ap (λ l. patterns_of realm ++ l) (joined_lists realms reject) ∙ sym (append_assoc (patterns_of realm) (flat_map patterns_of realms) reject)
+
+pub new_or_duplicate : (realms : List RealmView) (reject : List PatternView) → all_new [] (all_patterns 0 (pattern_lists realms reject)) ≡ not (has_duplicate_realm realms reject)
 unfolding has_duplicate_realm
-new_or_duplicate realms = new_or_pair [] (all_patterns 0 realms) refl ∙ ap not (pair_of_all 0 realms)
+new_or_duplicate realms reject =
+    new_or_pair [] (all_patterns 0 (pattern_lists realms reject)) refl
+    ∙ ap not (pair_of_all 0 (pattern_lists realms reject) ∙ ap (has_pair same_pattern) (joined_lists realms reject))
 
 -- The loops that note patterns.
 
@@ -156,11 +162,11 @@ all_new_split done (x ∷ xs) ys =
     ∙ sym (and_assoc (is_none (owner_of done x.0)) (all_new (done ++ x ∷ []) xs) (all_new (done ++ x ∷ xs) ys))
 
 -- the patterns of a realm, and then those of the realms behind it
-pub patterns_at : (realms : List Realm) (i : ℕ) (realm : Realm) → i < length realms → realm ≡ get_or realms i realm → all_patterns i (map shown_realm (drop i realms)) ≡ map (of_realm i) (patterns_of (shown_realm realm)) ++ all_patterns (i + 1) (map shown_realm (drop (i + 1) realms))
+pub patterns_at : (realms : List Realm) (i : ℕ) (realm : Realm) → i < length realms → realm ≡ get_or realms i realm → all_patterns i (map patterns_of (map shown_realm (drop i realms))) ≡ map (of_owner i) (patterns_of (shown_realm realm)) ++ all_patterns (i + 1) (map patterns_of (map shown_realm (drop (i + 1) realms)))
 patterns_at realms i realm within is =
     let next : suc i ≡ i + 1 = omega arith in
     let here : drop i realms ≡ realm ∷ drop (i + 1) realms = drop-cons realms i realm within ∙ ap (λ n. get_or realms i realm ∷ drop n realms) next ∙ ap (λ r. r ∷ drop (i + 1) realms) (sym is) in
-    ap (λ rs. all_patterns i (map shown_realm rs)) here ∙ ap (λ n. map (of_realm i) (patterns_of (shown_realm realm)) ++ all_patterns n (map shown_realm (drop (i + 1) realms))) next
+    ap (λ rs. all_patterns i (map patterns_of (map shown_realm rs))) here ∙ ap (λ n. map (of_owner i) (patterns_of (shown_realm realm)) ++ all_patterns n (map patterns_of (map shown_realm (drop (i + 1) realms)))) next
 
 module _ (old done here rest all : List (List ℕ × ℕ)) where
   -- a realm whose patterns are new
@@ -175,67 +181,57 @@ not_not : (a b : Bool) → a ≡ not b → not a ≡ b
 not_not a true is = ap not is
 not_not a false is = ap not is
 
+-- the patterns of two rows of lists
+pub all_patterns-append : (i : ℕ) (lists more : List (List PatternView)) → all_patterns i (lists ++ more) ≡ all_patterns i lists ++ all_patterns (i + length lists) more
+all_patterns-append i [] more = let none : i ≡ i + 0 = omega arith in ap (λ n. all_patterns n more) none
+all_patterns-append i (list ∷ lists) more =
+    let next : suc i + length lists ≡ i + suc (length lists) = omega arith in
+    ap (λ l. map (of_owner i) list ++ l) (all_patterns-append (suc i) lists more ∙ ap (λ n. all_patterns (suc i) lists ++ all_patterns n more) next)
+    ∙ sym (append_assoc (map (of_owner i) list) (all_patterns (suc i) lists) (all_patterns (i + suc (length lists)) more))
+
+-- those of realms, and behind them those to reject
+pub rejects_behind : (realms : List Realm) (reject : List PatternView) → all_patterns 0 (pattern_lists (map shown_realm realms) reject) ≡ all_patterns 0 (map patterns_of (map shown_realm realms)) ++ map (of_owner (length realms)) reject
+rejects_behind realms reject =
+    let lists = map patterns_of (map shown_realm realms) in
+    let count : 0 + length lists ≡ length realms = omega (arith, length-map (map shown_realm realms) patterns_of, length-map realms shown_realm) in
+    all_patterns-append 0 lists (reject ∷ [])
+    ∙ ap (λ n. all_patterns 0 lists ++ all_patterns n (reject ∷ [])) count
+    ∙ ap (λ l. all_patterns 0 lists ++ l) (append-nil (map (of_owner (length realms)) reject))
+
+-- those of realms that were noted, and then those to reject
+module _ (old : List (List ℕ × ℕ)) (realms : List Realm) (reject : List PatternView) where
+  abbrev of_realms : List (List ℕ × ℕ)
+  of_realms = all_patterns 0 (map patterns_of (map shown_realm realms))
+
+  abbrev of_rejects : List (List ℕ × ℕ)
+  of_rejects = map (of_owner (length realms)) reject
+
+  both_new : all_new old of_realms && all_new (old ++ of_realms) of_rejects ≡ all_new old (all_patterns 0 (pattern_lists (map shown_realm realms) reject))
+  both_new = sym (all_new_split old of_realms of_rejects) ∙ ap (all_new old) (sym (rejects_behind realms reject))
+
+  pub not_all_new : false ≡ all_new old (all_patterns 0 (map patterns_of (map shown_realm realms))) → false ≡ all_new old (all_patterns 0 (pattern_lists (map shown_realm realms) reject))
+  not_all_new twice = ap (λ b. b && all_new (old ++ of_realms) of_rejects) twice ∙ both_new
+
+  pub all_are_new : (new : Bool) → true ≡ all_new old (all_patterns 0 (map patterns_of (map shown_realm realms))) → new ≡ all_new (old ++ all_patterns 0 (map patterns_of (map shown_realm realms))) (map (of_owner (length realms)) reject) → new ≡ all_new old (all_patterns 0 (pattern_lists (map shown_realm realms) reject))
+  all_are_new new realms_new is = is ∙ ap (λ b. b && all_new (old ++ of_realms) of_rejects) realms_new ∙ both_new
+
+  pub all_noted : (old ++ all_patterns 0 (map patterns_of (map shown_realm realms))) ++ map (of_owner (length realms)) reject ≡ old ++ all_patterns 0 (pattern_lists (map shown_realm realms) reject)
+  all_noted = append_assoc old of_realms of_rejects ∙ ap (λ l. old ++ l) (sym (rejects_behind realms reject))
+
 -- what was noted into an empty index
-pub first_noted : (realms : List RealmView) (done : List (List ℕ × ℕ)) (new : Bool) → done ≡ [] → new ≡ all_new done (all_patterns 0 realms) → new ≡ not (has_duplicate_realm realms)
-first_noted realms done new empty is = is ∙ ap (λ l. all_new l (all_patterns 0 realms)) empty ∙ new_or_duplicate realms
+pub first_noted : (realms : List RealmView) (reject : List PatternView) (done : List (List ℕ × ℕ)) (new : Bool) → done ≡ [] → new ≡ all_new done (all_patterns 0 (pattern_lists realms reject)) → new ≡ not (has_duplicate_realm realms reject)
+first_noted realms reject done new empty is = is ∙ ap (λ l. all_new l (all_patterns 0 (pattern_lists realms reject))) empty ∙ new_or_duplicate realms reject
 
-pub found_twice : (realms : List RealmView) (done : List (List ℕ × ℕ)) (new : Bool) → done ≡ [] → new ≡ all_new done (all_patterns 0 realms) → not new ≡ has_duplicate_realm realms
-found_twice realms done new empty is = not_not new (has_duplicate_realm realms) (first_noted realms done new empty is)
-
--- No realm has a name of more than 253 octets.
-
-short_name : (name : List ℕ) → is_realm_name name ≡ true → length name ≤ 253
-unfolding is_realm_name
-short_name name is =
-    let outer = and_parts (nat_le 1 (length name) && nat_le (length name) 253) (list_all is_realm_letter name) is in
-    let inner = and_parts (nat_le 1 (length name)) (nat_le (length name) 253) outer.0 in
-    grind (arith, nat_tests)
-
-pub is_name : (name : List ℕ) → (1 ≤ length name) × (length name ≤ 253) → list_all is_realm_letter name ≡ true → is_realm_name name ≡ true
-unfolding is_realm_name
-is_name name size letters =
-    let least : nat_le 1 (length name) ≡ true = grind (arith, nat_tests) in
-    let most : nat_le (length name) 253 ≡ true = grind (arith, nat_tests) in
-    rw (least, most, letters) refl
-
-short_key : (p : PatternView) → is_pattern p ≡ true → length (pattern_key p) ≤ 254
-short_key (whole name) is = omega (arith, short_name name is, length-map name to_ascii_lowercase)
-short_key (suffix name) is = omega (arith, short_name name is, length-map name to_ascii_lowercase)
-short_key any is = omega arith
-
-module _ (p : PatternView) (long : 254 < length (pattern_key p)) where
-  long_apart : (q : PatternView) → is_pattern q ≡ true → same_pattern p q ≡ false
-  long_apart q is =
-      elim (cases_Bool (same_pattern p q)) [
-        | inl yes' ↦ (
-            let keys : pattern_key p ≡ pattern_key q = (bytes_eq-Decides (pattern_key p) (pattern_key q)).0 (same_key p q ∙ yes') in
-            absurd (omega (arith, long, ap length keys, short_key q is)))
-        | inr no' ↦ no'
-      ]
-
-  none_long : (qs : List PatternView) → list_all is_pattern qs ≡ true → list_any (same_pattern p) qs ≡ false
-  none_long [] all = refl
-  none_long (q ∷ qs) all =
-      let parts = and_parts (is_pattern q) (list_all is_pattern qs) all in
-      rw (long_apart q parts.0, none_long qs parts.1) refl
-
-  no_realm_from : (i : ℕ) (realms : List Realm) → position_from (λ realm. list_any (same_pattern p) (patterns_of realm)) i (map shown_realm realms) ≡ None
-  no_realm_from i [] = refl
-  no_realm_from i (r ∷ rs) =
-      let name : is_pattern (whole (string_bytes r.name)) ≡ true = is_name (string_bytes r.name) r.name_length r.name_letters in
-      let apart : list_any (same_pattern p) (patterns_of (shown_realm r)) ≡ false = rw (long_apart (whole (string_bytes r.name)) name, none_long (map shown_pattern r.also.items) r.also_names) refl in
-      rw apart (no_realm_from (i + 1) rs)
+pub found_twice : (realms : List RealmView) (reject : List PatternView) (done : List (List ℕ × ℕ)) (new : Bool) → done ≡ [] → new ≡ all_new done (all_patterns 0 (pattern_lists realms reject)) → not new ≡ has_duplicate_realm realms reject
+found_twice realms reject done new empty is = not_not new (has_duplicate_realm realms reject) (first_noted realms reject done new empty is)
 
 -- what the index finds
-pub found_in : (realms : List Realm) (p : PatternView) (key : List ℕ) (entries : List (List ℕ × ℕ)) → entries ≡ all_patterns 0 (map shown_realm realms) → key ≡ pattern_key p → owner_of entries key ≡ realm_with (map shown_realm realms) p
-found_in realms p key entries noted is =
-    ap (λ es. owner_of es key) noted ∙ ap (owner_of (all_patterns 0 (map shown_realm realms))) is ∙ finds (map shown_realm realms) p
+pub found_in : (config : ConfigView) (p : PatternView) (key : List ℕ) (entries : List (List ℕ × ℕ)) → entries ≡ all_patterns 0 (pattern_lists config.realms config.reject) → key ≡ pattern_key p → owner_of entries key ≡ owner_with config p
+found_in config p key entries noted is =
+    let lists = pattern_lists config.realms config.reject in
+    ap (λ es. owner_of es key) noted ∙ ap (owner_of (all_patterns 0 lists)) is ∙ finds lists p
 
-pub not_found : (realms : List Realm) (p : PatternView) (kind : ℕ) (name : List ℕ) → 253 < length name → kind ∷ str_to_ascii_lowercase name ≡ pattern_key p → None ≡ realm_with (map shown_realm realms) p
-not_found realms p kind name long is =
-    sym (no_realm_from p (omega (arith, long, ap length is, length-map name to_ascii_lowercase)) 0 realms)
-
--- a realm that is found is one of the realms
+-- a place that is found lies within the list
 pub within : {X : Type 0} (test : X → Bool) (n : ℕ) (xs : List X) (i : ℕ) → position_from test n xs ≡ Some i → i < n + length xs
 within test n [] i is = cc
 within test n (x ∷ xs) i is =
@@ -243,23 +239,6 @@ within test n (x ∷ xs) i is =
       | inl yes' ↦ (let same : Some n ≡ Some i = rw yes' at is in omega (arith, same_Some n i same))
       | inr no' ↦ (let rest : position_from test (n + 1) xs ≡ Some i = rw no' at is in omega (arith, within test (n + 1) xs i rest))
     ]
-
-first_within : (realms : List RealmView) (ps : List PatternView) (i : ℕ) → first_answer (realm_with realms) ps ≡ Some i → i < length realms
-first_within realms [] i is = cc
-first_within realms (p ∷ ps) i is = by_answer (realm_with realms p) refl is (first_within realms ps i)
-  where
-    by_answer : (answer : Option ℕ) → realm_with realms p ≡ answer → option_or answer (first_answer (realm_with realms) ps) ≡ Some i → (first_answer (realm_with realms) ps ≡ Some i → i < length realms) → i < length realms
-    by_answer None none more rest = rest more
-    by_answer (Some j) here is rest = omega (arith, within _ 0 realms i (here ∙ is))
-
-pub realm_named_within : (realms : List RealmView) (name : List ℕ) (i : ℕ) → realm_named realms name ≡ Some i → i < length realms
-unfolding realm_named
-realm_named_within realms name i is = first_within realms (whole name ∷ further_patterns name) i is
-
-pub realm_named_bound : (realms : List Realm) (name : List ℕ) (n : ℕ) (found : Option ℕ) → length realms ≡ n → found ≡ realm_named (map shown_realm realms) name → IfSome found (λ i. i < n)
-realm_named_bound realms name n None size is = tt
-realm_named_bound realms name n (Some i) size is =
-    omega (arith, size, length-map realms shown_realm, realm_named_within (map shown_realm realms) name i (sym is))
 
 -- the answers of suffixes, and of what is asked behind them
 pub answers_of_suffixes : (f : PatternView → Option ℕ) (names : List (List ℕ)) (more : List PatternView) → first_answer f (map suffix names ++ more) ≡ option_or (first_answer (λ name. f (suffix name)) names) (first_answer f more)
@@ -276,11 +255,17 @@ further_answer f [] found some is = absurd (omega arith)
 further_answer f (first ∷ rest) found some is =
     sym (answers_of_suffixes f (after_dots rest) (any ∷ []) ∙ ap (λ o. option_or o (option_or (f any) None)) (sym is) ∙ ap (option_or found) (or_none (f any)))
 
--- a realm that has the name itself is found; where none has, what the name fits besides counts
-pub named_whole : (realms : List RealmView) (name : List ℕ) (r : ℕ) → realm_with realms (whole name) ≡ Some r → realm_named realms name ≡ Some r
-unfolding realm_named
-named_whole realms name r is = ap (λ o. option_or o (first_answer (realm_with realms) (further_patterns name))) is
+-- a name that is somebody's decides; where it is nobody's, what it fits besides decides
+pub named_whole : (config : ConfigView) (name : List ℕ) (owner : ℕ) → owner_with config (whole name) ≡ Some owner → first_answer (owner_with config) (patterns_for config name) ≡ Some owner
+named_whole config name owner is =
+    ap (λ o. option_or o (first_answer (owner_with config) (if may_fit config name then further_patterns name else []))) is
 
-pub named_further : (realms : List RealmView) (name : List ℕ) → realm_with realms (whole name) ≡ None → realm_named realms name ≡ first_answer (realm_with realms) (further_patterns name)
-unfolding realm_named
-named_further realms name none = ap (λ o. option_or o (first_answer (realm_with realms) (further_patterns name))) none
+pub named_further : (config : ConfigView) (name : List ℕ) → owner_with config (whole name) ≡ None → may_fit config name ≡ true → first_answer (owner_with config) (patterns_for config name) ≡ first_answer (owner_with config) (further_patterns name)
+named_further config name none fits =
+    ap (λ o. option_or o (first_answer (owner_with config) (if may_fit config name then further_patterns name else []))) none
+    ∙ ap (λ b. first_answer (owner_with config) (if b then further_patterns name else [])) fits
+
+pub named_alone : (config : ConfigView) (name : List ℕ) → may_fit config name ≡ false → first_answer (owner_with config) (patterns_for config name) ≡ owner_with config (whole name)
+named_alone config name ill =
+    ap (λ b. option_or (owner_with config (whole name)) (first_answer (owner_with config) (if b then further_patterns name else []))) ill
+    ∙ or_none (owner_with config (whole name))

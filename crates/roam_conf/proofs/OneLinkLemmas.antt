@@ -1,9 +1,9 @@
 -- In a realm whose endpoints stand once, each link is the one that its endpoint finds.
 use Rattle.std.proofs.Common.{◌≡◌, ℕ, ◌+◌, ◌<◌, ◌≤◌, suc, zero, ◌||◌, Bool, true, false, List, [], ◌∷◌, length, get_or, map, Option, Some, None, option_map, refl, sym, ap, ◌∙◌, inl, inr, arith}
-use Rattle.std.proofs.lemmas.Bool.{cases_Bool, false≢true, or_parts, or_left, or_right}
+use Rattle.std.proofs.lemmas.Bool.{cases_Bool, false≢true, or_parts}
 use Rattle.std.proofs.lemmas.Option.{same_Some, slice_get_within, slice_get-map, slice_get_read, slice_get_past}
-use Rattle.std.specs.List.{position_from, slice_get, list_any, cons_option}
-use Rattle.std.specs.Option.{option_or, option_and_then, IfSome}
+use Rattle.std.specs.List.{position_from, slice_get, list_any}
+use Rattle.std.specs.Option.{option_or, option_and_then, option_map_or, IfSome}
 use Rattle.roam_conf.specs.declared.endpoint.Endpoint.{Endpoint}
 use Rattle.roam_conf.specs.declared.place.Link.{Link}
 use Rattle.roam_conf.specs.declared.place.Link.TheVariants.{Auth, Acct, Coa}
@@ -12,11 +12,8 @@ use Rattle.roam_conf.specs.Parts.{shown_realm}
 use Rattle.roam_conf.specs.Config.{ServerView, PeerView, RealmView, ConfigView}
 use Rattle.roam_conf.specs.Duplicates.{has_pair, same_endpoint, is_among, server_endpoints, coa_endpoints, some_server_at, has_duplicate_server, has_duplicate_link}
 use Rattle.roam_conf.specs.Lookup.{endpoint_of, link_at, is_there, is_coa, first_place, link_in, endpoint_in_realm, servers_in, IsLinkIn, server_with_ip, reverse_home, home_in}
-use Rattle.roam_conf.proofs.EqualLemmas.{endpoint_decides}
 use Rattle.roam_conf.proofs.LinkLemmas.{link_found, link_in_found}
-
-same_itself : (e : Endpoint) → same_endpoint e e ≡ true
-same_itself e = (endpoint_decides e e).1 refl
+use Rattle.roam_conf.proofs.OneServerLemmas.{same_itself, among_more, among_first, once_more, once_first, option_source, then_source, part_of, part_apart, auth_part, one_server}
 
 -- an element of a list of which none passes a test doesn't pass it
 none_passes : {X : Type 0} (test : X → Bool) (xs : List X) (i : ℕ) (x : X) → list_any test xs ≡ false → slice_get xs i ≡ Some x → test x ≡ false
@@ -38,61 +35,10 @@ place_exists test n (y ∷ ys) (suc i) x at passes none =
       | inr no' ↦ (let rest : position_from test (n + 1) ys ≡ None = rw no' at none in place_exists test (n + 1) ys i x at passes rest)
     ]
 
-first_place_alone : (x : Endpoint) (xs : List Endpoint) (j : ℕ) (e : Endpoint) → has_pair same_endpoint (x ∷ xs) ≡ false → Some x ≡ Some e → slice_get xs j ≡ Some e → ⊥
-first_place_alone x xs j e once p q =
-    let apart : same_endpoint x e ≡ false = none_passes (same_endpoint x) xs j e (or_parts (list_any (same_endpoint x) xs) (has_pair same_endpoint xs) once).0 q in
-    let same : x ≡ e = same_Some x e p in
-    false≢true (sym apart ∙ ap (λ a. same_endpoint a e) same ∙ same_itself e)
-
--- two places of a list without equal endpoints that hold one endpoint are one
-one_place : (xs : List Endpoint) (i j : ℕ) (e : Endpoint) → has_pair same_endpoint xs ≡ false → slice_get xs i ≡ Some e → slice_get xs j ≡ Some e → i ≡ j
-one_place [] i j e once p q = cc
-one_place (x ∷ xs) zero zero e once p q = refl
-one_place (x ∷ xs) zero (suc j) e once p q = absurd (first_place_alone x xs j e once p q)
-one_place (x ∷ xs) (suc i) zero e once p q = absurd (first_place_alone x xs i e once q p)
-one_place (x ∷ xs) (suc i) (suc j) e once p q =
-    ap suc (one_place xs i j e (or_parts (list_any (same_endpoint x) xs) (has_pair same_endpoint xs) once).1 p q)
-
--- the endpoints of the server at `i` are the two from `i + i` on
-auth_place : (servers : List ServerView) (i : ℕ) → slice_get (server_endpoints servers) (i + i) ≡ option_map (λ s. s.auth) (slice_get servers i)
-auth_place [] i = refl
-auth_place (s ∷ ss) zero = refl
-auth_place (s ∷ ss) (suc i) =
-    let twice : suc i + suc i ≡ suc (suc (i + i)) = omega arith in
-    rw twice (auth_place ss i)
-
-acct_place : (servers : List ServerView) (i : ℕ) → slice_get (server_endpoints servers) (suc (i + i)) ≡ option_map (λ s. s.acct) (slice_get servers i)
-acct_place [] i = refl
-acct_place (s ∷ ss) zero = refl
-acct_place (s ∷ ss) (suc i) =
-    let twice : suc i + suc i ≡ suc (suc (i + i)) = omega arith in
-    rw twice (acct_place ss i)
-
--- what a peer takes is among what peers take
-among_more : (e : Endpoint) (coa : Option Endpoint) (rest : List Endpoint) → is_among rest e ≡ true → is_among (cons_option coa rest) e ≡ true
-among_more e None rest among = among
-among_more e (Some other) rest among = or_right (same_endpoint e other) (is_among rest e) among
-
-among_first : (e : Endpoint) (coa : Option Endpoint) (rest : List Endpoint) → coa ≡ Some e → is_among (cons_option coa rest) e ≡ true
-among_first e None rest is = cc
-among_first e (Some other) rest is =
-    let same : other ≡ e = same_Some other e is in
-    or_left (same_endpoint e other) (is_among rest e) (rw same (same_itself e))
-
 coa_among : (peers : List PeerView) (i : ℕ) (e : Endpoint) → option_and_then (λ p. p.coa) (slice_get peers i) ≡ Some e → is_among (coa_endpoints peers) e ≡ true
 coa_among [] i e at = cc
 coa_among (p ∷ ps) zero e at = among_first e p.coa (coa_endpoints ps) at
 coa_among (p ∷ ps) (suc i) e at = among_more e p.coa (coa_endpoints ps) (coa_among ps i e at)
-
-once_more : (coa : Option Endpoint) (rest : List Endpoint) → has_pair same_endpoint (cons_option coa rest) ≡ false → has_pair same_endpoint rest ≡ false
-once_more None rest once = once
-once_more (Some e) rest once = (or_parts (list_any (same_endpoint e) rest) (has_pair same_endpoint rest) once).1
-
-once_first : (e : Endpoint) (coa : Option Endpoint) (rest : List Endpoint) → coa ≡ Some e → has_pair same_endpoint (cons_option coa rest) ≡ false → is_among rest e ≡ false
-once_first e None rest is once = cc
-once_first e (Some other) rest is once =
-    let same : other ≡ e = same_Some other e is in
-    rw (← same) (or_parts (list_any (same_endpoint other) rest) (has_pair same_endpoint rest) once).0
 
 one_coa : (peers : List PeerView) (i j : ℕ) (e : Endpoint) → has_pair same_endpoint (coa_endpoints peers) ≡ false → option_and_then (λ p. p.coa) (slice_get peers i) ≡ Some e → option_and_then (λ p. p.coa) (slice_get peers j) ≡ Some e → i ≡ j
 one_coa [] i j e once p q = cc
@@ -109,49 +55,27 @@ record StandsOnce (peers : List PeerView) (servers : List ServerView) : Type 0 w
   of_peers : has_pair same_endpoint (coa_endpoints peers) ≡ false
   apart : some_server_at (coa_endpoints peers) servers ≡ false
 
--- what an optional thing was taken of is there
-option_source : {X Y : Type 0} (f : X → Y) (o : Option X) (y : Y) → option_map f o ≡ Some y → (x : X) × (o ≡ Some x) × (f x ≡ y)
-option_source f None y is = absurd (cc is)
-option_source f (Some x) y is = (x, refl, same_Some (f x) y is)
-
-server_apart : (peers : List PeerView) (servers : List ServerView) (i : ℕ) (s : ServerView) → some_server_at (coa_endpoints peers) servers ≡ false → slice_get servers i ≡ Some s → (is_among (coa_endpoints peers) s.auth ≡ false) × (is_among (coa_endpoints peers) s.acct ≡ false)
-server_apart peers servers i s apart at =
-    or_parts (is_among (coa_endpoints peers) s.auth) (is_among (coa_endpoints peers) s.acct)
-    (none_passes (λ (server : ServerView). is_among (coa_endpoints peers) server.auth || is_among (coa_endpoints peers) server.acct) servers i s apart at)
-
-auth_no_coa : (peers : List PeerView) (servers : List ServerView) (i j : ℕ) (e : Endpoint) → StandsOnce peers servers → option_map (λ s. s.auth) (slice_get servers i) ≡ Some e → option_and_then (λ p. p.coa) (slice_get peers j) ≡ Some e → ⊥
-auth_no_coa peers servers i j e once p q =
-    let source = option_source (λ (s : ServerView). s.auth) (slice_get servers i) e p in
-    let apart = (server_apart peers servers i source.0 once.apart source.1).0 in
-    false≢true (sym apart ∙ ap (is_among (coa_endpoints peers)) source.2 ∙ coa_among peers j e q)
-
-acct_no_coa : (peers : List PeerView) (servers : List ServerView) (i j : ℕ) (e : Endpoint) → StandsOnce peers servers → option_map (λ s. s.acct) (slice_get servers i) ≡ Some e → option_and_then (λ p. p.coa) (slice_get peers j) ≡ Some e → ⊥
-acct_no_coa peers servers i j e once p q =
-    let source = option_source (λ (s : ServerView). s.acct) (slice_get servers i) e p in
-    let apart = (server_apart peers servers i source.0 once.apart source.1).1 in
-    false≢true (sym apart ∙ ap (is_among (coa_endpoints peers)) source.2 ∙ coa_among peers j e q)
-
-auth_no_acct : (peers : List PeerView) (servers : List ServerView) (i j : ℕ) (e : Endpoint) → StandsOnce peers servers → option_map (λ s. s.auth) (slice_get servers i) ≡ Some e → option_map (λ s. s.acct) (slice_get servers j) ≡ Some e → ⊥
-auth_no_acct peers servers i j e once p q =
-    let same : i + i ≡ suc (j + j) = one_place (server_endpoints servers) (i + i) (suc (j + j)) e once.of_servers (auth_place servers i ∙ p) (acct_place servers j ∙ q) in
-    omega arith
+-- no server's endpoint is a peer's
+server_no_coa : (peers : List PeerView) (servers : List ServerView) (k : Bool) (i j : ℕ) (e : Endpoint) → StandsOnce peers servers → option_and_then (part_of k) (slice_get servers i) ≡ Some e → option_and_then (λ p. p.coa) (slice_get peers j) ≡ Some e → ⊥
+server_no_coa peers servers k i j e once p q =
+    let source = then_source (part_of k) (slice_get servers i) e p in
+    let apart = none_passes (λ (server : ServerView). is_among (coa_endpoints peers) server.auth || option_map_or (is_among (coa_endpoints peers)) server.acct false) servers i source.0 once.apart source.1 in
+    false≢true (sym (part_apart (coa_endpoints peers) k source.0 e source.2 apart) ∙ coa_among peers j e q)
 
 -- two links of a realm with one endpoint are one link
 one_link : (peers : List PeerView) (realm : RealmView) (e : Endpoint) (a b : Link) → StandsOnce peers realm.servers → endpoint_of peers realm a ≡ Some e → endpoint_of peers realm b ≡ Some e → a ≡ b
 one_link peers realm e (Auth i) (Auth j) once p q =
-    let same : i + i ≡ j + j = one_place (server_endpoints realm.servers) (i + i) (j + j) e once.of_servers (auth_place realm.servers i ∙ p) (auth_place realm.servers j ∙ q) in
-    let one : i ≡ j = omega arith in
-    ap (λ n. Auth n) one
-one_link peers realm e (Auth i) (Acct j) once p q = absurd (auth_no_acct peers realm.servers i j e once p q)
-one_link peers realm e (Auth i) (Coa j) once p q = absurd (auth_no_coa peers realm.servers i j e once p q)
-one_link peers realm e (Acct i) (Auth j) once p q = absurd (auth_no_acct peers realm.servers j i e once q p)
+    ap (λ n. Auth n) (one_server realm.servers true true i j e once.of_servers (auth_part realm.servers i e p) (auth_part realm.servers j e q)).0
+one_link peers realm e (Auth i) (Acct j) once p q =
+    absurd (false≢true (sym (one_server realm.servers true false i j e once.of_servers (auth_part realm.servers i e p) q).1))
+one_link peers realm e (Auth i) (Coa j) once p q = absurd (server_no_coa peers realm.servers true i j e once (auth_part realm.servers i e p) q)
+one_link peers realm e (Acct i) (Auth j) once p q =
+    absurd (false≢true (one_server realm.servers false true i j e once.of_servers p (auth_part realm.servers j e q)).1)
 one_link peers realm e (Acct i) (Acct j) once p q =
-    let same : suc (i + i) ≡ suc (j + j) = one_place (server_endpoints realm.servers) (suc (i + i)) (suc (j + j)) e once.of_servers (acct_place realm.servers i ∙ p) (acct_place realm.servers j ∙ q) in
-    let one : i ≡ j = omega arith in
-    ap (λ n. Acct n) one
-one_link peers realm e (Acct i) (Coa j) once p q = absurd (acct_no_coa peers realm.servers i j e once p q)
-one_link peers realm e (Coa i) (Auth j) once p q = absurd (auth_no_coa peers realm.servers j i e once q p)
-one_link peers realm e (Coa i) (Acct j) once p q = absurd (acct_no_coa peers realm.servers j i e once q p)
+    ap (λ n. Acct n) (one_server realm.servers false false i j e once.of_servers p q).0
+one_link peers realm e (Acct i) (Coa j) once p q = absurd (server_no_coa peers realm.servers false i j e once p q)
+one_link peers realm e (Coa i) (Auth j) once p q = absurd (server_no_coa peers realm.servers true j i e once (auth_part realm.servers j e q) p)
+one_link peers realm e (Coa i) (Acct j) once p q = absurd (server_no_coa peers realm.servers false j i e once q p)
 one_link peers realm e (Coa i) (Coa j) once p q = ap (λ n. Coa n) (one_coa peers i j e once.of_peers p q)
 
 -- where a link has the endpoint, one is found
@@ -163,16 +87,16 @@ peer_at : (peers : List PeerView) (i : ℕ) (e : Endpoint) (found : Option PeerV
 peer_at peers i e None at is none = cc
 peer_at peers i e (Some p) at is none = place_exists (is_coa e) 0 peers i p at (coa_is e p.coa is) none
 
-none_at : (peers : List PeerView) (realm : RealmView) (e : Endpoint) (link : Link) → endpoint_of peers realm link ≡ Some e → first_place (λ server. same_endpoint server.auth e) realm.servers ≡ None → first_place (λ server. same_endpoint server.acct e) realm.servers ≡ None → first_place (is_coa e) peers ≡ None → ⊥
+none_at : (peers : List PeerView) (realm : RealmView) (e : Endpoint) (link : Link) → endpoint_of peers realm link ≡ Some e → first_place (λ server. same_endpoint server.auth e) realm.servers ≡ None → first_place (λ server. is_there e server.acct) realm.servers ≡ None → first_place (is_coa e) peers ≡ None → ⊥
 none_at peers realm e (Auth i) is p q r =
     let source = option_source (λ (s : ServerView). s.auth) (slice_get realm.servers i) e is in
     place_exists (λ (server : ServerView). same_endpoint server.auth e) 0 realm.servers i source.0 source.1 (rw source.2 (same_itself e)) p
 none_at peers realm e (Acct i) is p q r =
-    let source = option_source (λ (s : ServerView). s.acct) (slice_get realm.servers i) e is in
-    place_exists (λ (server : ServerView). same_endpoint server.acct e) 0 realm.servers i source.0 source.1 (rw source.2 (same_itself e)) q
+    let source = then_source (λ (s : ServerView). s.acct) (slice_get realm.servers i) e is in
+    place_exists (λ (server : ServerView). is_there e server.acct) 0 realm.servers i source.0 source.1 (coa_is e source.0.acct source.2) q
 none_at peers realm e (Coa i) is p q r = peer_at peers i e (slice_get peers i) refl is r
 
-some_link : (peers : List PeerView) (realm : RealmView) (e : Endpoint) (link : Link) → endpoint_of peers realm link ≡ Some e → (a b c : Option ℕ) → first_place (λ server. same_endpoint server.auth e) realm.servers ≡ a → first_place (λ server. same_endpoint server.acct e) realm.servers ≡ b → first_place (is_coa e) peers ≡ c → (l : Link) × (option_or (option_map (λ i. Auth i) a) (option_or (option_map (λ i. Acct i) b) (option_map (λ i. Coa i) c)) ≡ Some l)
+some_link : (peers : List PeerView) (realm : RealmView) (e : Endpoint) (link : Link) → endpoint_of peers realm link ≡ Some e → (a b c : Option ℕ) → first_place (λ server. same_endpoint server.auth e) realm.servers ≡ a → first_place (λ server. is_there e server.acct) realm.servers ≡ b → first_place (is_coa e) peers ≡ c → (l : Link) × (option_or (option_map (λ i. Auth i) a) (option_or (option_map (λ i. Acct i) b) (option_map (λ i. Coa i) c)) ≡ Some l)
 some_link peers realm e link is (Some i) b c p q r = (Auth i, refl)
 some_link peers realm e link is None (Some i) c p q r = (Acct i, refl)
 some_link peers realm e link is None None (Some i) p q r = (Coa i, refl)
@@ -220,7 +144,7 @@ link_in_bound config realm e link is = by_link (slice_get config.realms realm) r
         let source = option_source (λ (s : ServerView). s.auth) (slice_get r.servers i) e is in
         rw at (slice_get_within r.servers i source.0 source.1)
     by_link (Some r) at (Acct i) is =
-        let source = option_source (λ (s : ServerView). s.acct) (slice_get r.servers i) e is in
+        let source = then_source (λ (s : ServerView). s.acct) (slice_get r.servers i) e is in
         rw at (slice_get_within r.servers i source.0 source.1)
     by_link (Some r) at (Coa i) is = peer_there config.peers i e (slice_get config.peers i) refl is
 

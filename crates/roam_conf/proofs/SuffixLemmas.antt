@@ -10,11 +10,9 @@ use Rattle.std.specs.Map.{keys_of}
 use Rattle.std.specs.Option.{option_or}
 use Rattle.std.specs.Str.{bytes_eq, str_to_ascii_lowercase}
 use Rattle.std.specs.declared.vec.Vec.{Vec}
-use Rattle.roam_conf.specs.declared.realm.Realm.{Realm}
-use Rattle.roam_conf.specs.Config.{suffix}
+use Rattle.roam_conf.specs.Config.{suffix, ConfigView}
 use Rattle.roam_conf.specs.Index.{entry_shown, owner_of, all_patterns, pattern_key, is_marked, HasMark, AreMarked}
-use Rattle.roam_conf.specs.Lookup.{realm_with, first_answer, after_dots}
-use Rattle.roam_conf.specs.Parts.{shown_realm}
+use Rattle.roam_conf.specs.Lookup.{owner_with, pattern_lists, first_answer, after_dots}
 use Rattle.roam_conf.proofs.NameLemmas.{found_in}
 
 -- a length that isn't marked wasn't before
@@ -52,12 +50,12 @@ module _ {Z : Type 0} where
   pub none_left : (row : List ℕ) (keys : List (Vec ℕ Z)) (i : ℕ) → length keys ≤ i → is_among row (drop i keys) ≡ is_among row keys → is_among row keys ≡ false
   none_left row keys i past same = sym same ∙ ap (is_among row) (drop_all i keys past)
 
--- of a length that isn't marked no realm has a suffix
-pub no_suffix : (realms : List Realm) (marks : List Bool) (entries : List (List ℕ × ℕ)) (octets : ℕ) → AreMarked marks entries → entries ≡ all_patterns 0 (map shown_realm realms) → octets ≤ 253 → is_marked marks octets ≡ false → (name : List ℕ) → length name ≡ octets → realm_with (map shown_realm realms) (suffix name) ≡ None
-no_suffix realms marks entries octets marked noted small off name size =
+-- of a length that isn't marked no suffix is anybody's
+pub no_suffix : (config : ConfigView) (marks : List Bool) (entries : List (List ℕ × ℕ)) (octets : ℕ) → AreMarked marks entries → entries ≡ all_patterns 0 (pattern_lists config.realms config.reject) → octets ≤ 253 → is_marked marks octets ≡ false → (name : List ℕ) → length name ≡ octets → owner_with config (suffix name) ≡ None
+no_suffix config marks entries octets marked noted small off name size =
     let lower = str_to_ascii_lowercase name in
     let as_long : length lower ≡ octets = length-map name to_ascii_lowercase ∙ size in
-    sym (found_in realms (suffix name) (46 ∷ lower) entries noted refl)
+    sym (found_in config (suffix name) (46 ∷ lower) entries noted refl)
     ∙ marked lower (omega (arith, as_long, small)) (ap (is_marked marks) as_long ∙ off)
 
 -- The answers of what follows the dots, past an octet.

@@ -2,7 +2,7 @@
 use Rattle.std.proofs.Common.{◌≡◌, ℕ, ◌<◌, ◌≤◌, ◌^◌, true, false, cond, eqb, leb, ◌&&◌, List, [], ◌∷◌, length, get_or, Option, Some, None, Ok, Err, MatchOption, Bor, refl, sym, ap, arith, rules}
 use Rattle.std.proofs.lemmas.Bool.Decides.{nat_tests}
 use Rattle.std.proofs.lemmas.Grind.{common_steps}
-use Rattle.std.proofs.lemmas.List.Splits.{slice_split_none, slice_split_first, join_with_byte-slice_split}
+use Rattle.std.proofs.lemmas.List.Splits.{slice_split_none, slice_split_first, join_with_byte-slice_split, length-slice_split}
 use Rattle.std.proofs.lemmas.List.Recursion.{and_at}
 use Rattle.std.proofs.lemmas.Option.{same_Some}
 use Rattle.std.proofs.lemmas.Str.Parse.{IsNumeralModel, numerals_by_value, parse_digits}
@@ -12,7 +12,7 @@ use Rattle.std.specs.List.{list_all, All}
 use Rattle.std.specs.Result.{OkIff}
 use Rattle.std.specs.Str.Parse.{ParsesUnsigned, digits_value}
 use Rattle.roam_conf.specs.declared.endpoint.Endpoint.{Endpoint}
-use Rattle.roam_conf.specs.Texts.{is_decimal, decimal_in, parts, four_octets, all_four, address_in, address_and_port, endpoint_from, endpoint_in}
+use Rattle.roam_conf.specs.Texts.{is_decimal, decimal_in, parts, four_octets, all_four, address_in, address_and_port, endpoint_from, endpoint_in, vendor_kind, vendor_from}
 
 own : IsNumeralModel (λ ds. list_all is_ascii_digit ds ≡ true) (digits_value 10)
 own = numerals_by_value _ (search rules)
@@ -133,5 +133,24 @@ port_in texts e is = cc
 pub endpoint_in-port : (text : List ℕ) (e : Endpoint) → endpoint_in text ≡ Some e → 1 ≤ e.port
 unfolding endpoint_in
 endpoint_in-port text e is = port_in (parts 58 text) e is
+
+-- a text has one part at least
+some_part : (separator : ℕ) (text : List ℕ) → parts separator text ≡ [] → ⊥
+unfolding parts
+some_part separator text none = absurd (omega (arith, ap length none, length-slice_split (λ octet. eqb octet separator) text))
+
+no_kind : (vendor : Option ℕ) → vendor_kind vendor None ≡ None
+no_kind None = refl
+no_kind (Some x) = refl
+
+vendor_from_at : (vendor kind : List ℕ) (number : Option ℕ) (rest : List (List ℕ)) → decimal_in 1 255 kind ≡ number → parts 46 kind ≡ rest → vendor_from (vendor ∷ rest) ≡ vendor_kind (decimal_in 0 16777215 vendor) number
+vendor_from_at vendor kind (Some n) rest is cut = rw (← cut, decimal_part 46 1 255 kind n refl is, is)
+vendor_from_at vendor kind None [] is cut = absurd (some_part 46 kind cut)
+vendor_from_at vendor kind None (x ∷ []) is cut = rw (one_part 46 kind x cut, is)
+vendor_from_at vendor kind None (x ∷ y ∷ more) is cut = sym (no_kind _)
+
+-- what follows the vendor's dot is the type or none
+pub vendor_from_parts : (vendor kind : List ℕ) → vendor_from (vendor ∷ parts 46 kind) ≡ vendor_kind (decimal_in 0 16777215 vendor) (decimal_in 1 255 kind)
+vendor_from_parts vendor kind = vendor_from_at vendor kind _ _ refl refl
 
 pub ruleset shown_parts = (four_octets-parts, address_and_port-parts)

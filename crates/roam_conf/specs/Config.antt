@@ -1,16 +1,19 @@
 -- A configuration as plain records: texts as octets, lists in the order of the file. Ours.
 use Rattle.std.specs.Prelude.{ℕ, Bool, List, Option}
+use Rattle.roam_wire.specs.declared.removed_attribute.RemovedAttribute.{RemovedAttribute}
+use Rattle.roam_conf.specs.declared.accounting.Accounting.{Accounting}
 use Rattle.roam_conf.specs.declared.endpoint.Endpoint.{Endpoint}
 
--- a home server: where it takes Access-Requests and Accounting-Requests, its shared secret, and whether its
--- answers to Access-Requests need a Message-Authenticator
+-- a home server: where it takes Access-Requests, and Accounting-Requests if it does, its shared secret, and whether
+-- its answers to Access-Requests need a Message-Authenticator
 pub record ServerView : Type 0 where
   pub auth : Endpoint
-  pub acct : Endpoint
+  pub acct : Option Endpoint
   pub secret : List ℕ
   pub require_seal : Bool
 
--- an access server, or the proxy of a visited network
+-- an access server, or the proxy of a visited network: how it is known and named, what its Access-Requests need, what
+-- is added to its requests, and what is taken out of them and of what is sent to it
 pub record PeerView : Type 0 where
   pub name : List ℕ
   pub ip : List ℕ
@@ -19,6 +22,11 @@ pub record PeerView : Type 0 where
   pub nas_ip : Option (List ℕ)
   pub nas_id : Option (List ℕ)
   pub require_seal : Bool
+  pub limit_proxy_state : Bool
+  pub operator_name : Option (List ℕ)
+  pub ask_cui : Bool
+  pub request_without : List RemovedAttribute
+  pub reply_without : List RemovedAttribute
 
 -- what else names a realm: one more whole name, all names that end in a dot and a name, or any name
 pub data PatternView : Type 0 where
@@ -26,11 +34,18 @@ pub data PatternView : Type 0 where
   suffix : List ℕ → PatternView
   any : PatternView
 
--- a realm with its own sockets (that for reverse requests where it takes them), its limits, and its servers in the
--- order of their use
+-- a realm with the names of the peers that may ask it (where not all may), what becomes of its accounting, what is
+-- taken out of its requests and replies, its own sockets (that for reverse requests where it takes them), its limits,
+-- and its servers in the order of their use
 pub record RealmView : Type 0 where
   pub name : List ℕ
   pub also : List PatternView
+  pub peers : Option (List (List ℕ))
+  pub loop_prevention : Bool
+  pub accounting : Accounting
+  pub request_without : List RemovedAttribute
+  pub reply_without : List RemovedAttribute
+  pub share : Option ℕ
   pub out : Endpoint
   pub reverse : Option Endpoint
   pub tries : ℕ
@@ -44,13 +59,15 @@ pub record RealmView : Type 0 where
 
 -- ## Configuration
 -- The operator's values as a record: shards, seed, the broker's endpoints, the limits of a trace in steps and
--- in octets, the limit of hops, whether a Status-Server is answered and whether the workers share `auth` and
--- `acct`, the peers, and the realms with their servers in order of use. Each value is in its range, and nothing
--- stands twice that may not.
+-- in octets, the limit of hops, whether a Status-Server is answered, whether the workers share `auth` and `acct`,
+-- which names no realm has, whether names have to be well formed, whether unnamed accounting is answered, the
+-- peers, and the realms with their servers in order of use. Each value is in its range, nothing stands twice that
+-- may not, and no peer is named that isn't there.
 -- Source: ours
--- Rules out: a realm without servers; an empty secret; two realms of one name
--- Stands in: `roam_conf` `Config.antt`: `ConfigView`, `Duplicates.antt`; the invariants of `Config`, `Peer`,
--- `Realm`, `Server`
+-- Rules out: a realm without servers; an empty secret; two realms of one name; a realm whose requests are
+-- accounted for at a server that takes none
+-- Stands in: `roam_conf` `Config.antt`: `ConfigView`, `Duplicates.antt`, `Asking.antt`: `has_unknown_peer`; the
+-- invariants of `Config`, `Peer`, `Realm`, `Server`
 --
 -- the whole configuration
 pub record ConfigView : Type 0 where
@@ -63,5 +80,8 @@ pub record ConfigView : Type 0 where
   pub max_hops : Option ℕ
   pub status_server : Bool
   pub spread : Bool
+  pub reject : List PatternView
+  pub well_formed : Bool
+  pub answer_unnamed : Bool
   pub peers : List PeerView
   pub realms : List RealmView

@@ -1,10 +1,10 @@
 -- What may not stand twice in a configuration. Ours.
-use Rattle.std.specs.Prelude.{◌≡◌, ℕ, ◌==◌, ◌&&◌, ◌||◌, Bool, false, List, [], ◌∷◌, Option, Some}
-use Rattle.std.specs.List.{list_any, filter_map, flat_map}
-use Rattle.std.specs.Option.{option_to_list}
-use Rattle.std.specs.Str.{bytes_eq}
+use Rattle.std.specs.Prelude.{ℕ, ◌==◌, ◌&&◌, ◌||◌, Bool, false, List, [], ◌∷◌, ◌++◌, Option, Some}
+use Rattle.std.specs.List.{list_any, filter_map, flat_map, cons_option}
+use Rattle.std.specs.Option.{option_to_list, option_map_or}
+use Rattle.std.specs.Str.{bytes_eq, str_eq_ignore_ascii_case}
 use Rattle.roam_conf.specs.declared.endpoint.Endpoint.{Endpoint}
-use Rattle.roam_conf.specs.Config.{ServerView, PeerView, RealmView, ConfigView}
+use Rattle.roam_conf.specs.Config.{ServerView, PeerView, PatternView, RealmView}
 use Rattle.roam_conf.specs.Patterns.{same_pattern, patterns_of}
 
 -- two elements, at different places of the list, are the same by the test
@@ -25,10 +25,16 @@ abbrev pub same_if_there : Option (List ℕ) → Option (List ℕ) → Bool
 same_if_there (Some a) (Some b) = bytes_eq a b
 same_if_there _ _ = false
 
--- equal names, addresses, NAS-IP-Addresses or NAS-Identifiers
+-- both are there, and equal without ASCII case
+abbrev pub same_name_if_there : Option (List ℕ) → Option (List ℕ) → Bool
+same_name_if_there (Some a) (Some b) = str_eq_ignore_ascii_case a b
+same_name_if_there _ _ = false
+
+-- equal names, addresses, NAS-IP-Addresses, NAS-Identifiers or, without ASCII case, Operator-Names
 abbrev pub same_peer : PeerView → PeerView → Bool
 same_peer a b =
     bytes_eq a.name b.name || bytes_eq a.ip b.ip || same_if_there a.nas_ip b.nas_ip || same_if_there a.nas_id b.nas_id
+    || same_name_if_there a.operator_name b.operator_name
 
 -- where the broker's own sockets of a realm are: its `out`, and its `reverse` where it has one
 abbrev pub realm_endpoints : RealmView → List Endpoint
@@ -38,9 +44,10 @@ realm_endpoints realm = realm.out ∷ option_to_list realm.reverse
 abbrev pub own_endpoints : Endpoint → Endpoint → List RealmView → List Endpoint
 own_endpoints auth acct realms = auth ∷ acct ∷ flat_map realm_endpoints realms
 
--- the endpoints of one realm's servers
+-- the endpoints of one realm's servers: `auth`, and `acct` where there is one
 abbrev pub server_endpoints : List ServerView → List Endpoint
-server_endpoints servers = flat_map (λ server. server.auth ∷ server.acct ∷ []) servers
+server_endpoints [] = []
+server_endpoints (server ∷ servers) = server.auth ∷ cons_option server.acct (server_endpoints servers)
 
 -- the endpoints of those peers that take reverse requests
 abbrev pub coa_endpoints : List PeerView → List Endpoint
@@ -49,13 +56,13 @@ coa_endpoints peers = filter_map (λ peer. peer.coa) peers
 -- some server of the list is at one of these endpoints
 abbrev pub some_server_at : List Endpoint → List ServerView → Bool
 some_server_at endpoints servers =
-    list_any (λ server. is_among endpoints server.auth || is_among endpoints server.acct) servers
+    list_any (λ server. is_among endpoints server.auth || option_map_or (is_among endpoints) server.acct false) servers
 
--- two names, two suffixes or two `*` of all realms are the same
-unfoldable pub has_duplicate_realm : List RealmView → Bool
-has_duplicate_realm realms = has_pair same_pattern (flat_map patterns_of realms)
+-- two names, two suffixes or two `*` of all realms, and of those that are rejected, are the same
+unfoldable pub has_duplicate_realm : List RealmView → List PatternView → Bool
+has_duplicate_realm realms reject = has_pair same_pattern (flat_map patterns_of realms ++ reject)
 
--- two peers are equal in one of the four
+-- two peers are equal in one of the five
 unfoldable pub has_duplicate_peer : List PeerView → Bool
 has_duplicate_peer peers = has_pair same_peer peers
 
@@ -72,11 +79,3 @@ unfoldable pub has_duplicate_link : List PeerView → List RealmView → Bool
 has_duplicate_link peers realms =
     has_pair same_endpoint (coa_endpoints peers)
     || list_any (λ realm. some_server_at (coa_endpoints peers) realm.servers) realms
-
--- nothing stands twice that may not
-pub record IsDistinct (config : ConfigView) : Type 0 where
-  pub realms : has_duplicate_realm config.realms ≡ false
-  pub peers : has_duplicate_peer config.peers ≡ false
-  pub endpoints : has_duplicate_endpoint config.auth config.acct config.realms ≡ false
-  pub servers : has_duplicate_server config.realms ≡ false
-  pub links : has_duplicate_link config.peers config.realms ≡ false

@@ -6,8 +6,7 @@ use Rattle.std.specs.declared.vec.Vec.{Vec}
 use Rattle.indexmap.specs.IndexMap.{IndexMap}
 use Rattle.roam_conf.specs.declared.names.PatternRef.{PatternRef}
 use Rattle.roam_conf.specs.declared.names.PatternRef.TheVariants.{Name, Suffix, Any}
-use Rattle.roam_conf.specs.Config.{PatternView, whole, suffix, any, RealmView}
-use Rattle.roam_conf.specs.Patterns.{patterns_of}
+use Rattle.roam_conf.specs.Config.{PatternView, whole, suffix, any}
 
 -- the keys of an index with their owners, in the order in which they came
 abbrev pub entry_shown : {Z : Type 0} → Vec ℕ Z × ℕ → List ℕ × ℕ
@@ -19,6 +18,10 @@ owners index = map entry_shown index.entries
 -- the owner of a key
 abbrev pub owner_of : List (List ℕ × ℕ) → List ℕ → Option ℕ
 owner_of entries key = lookup (bytes_eq key) entries
+
+-- nobody owns a key
+abbrev pub is_unowned : List (List ℕ × ℕ) → List ℕ → Bool
+is_unowned entries key = is_none (owner_of entries key)
 
 -- a key with its owner behind the others, unless the key is there
 abbrev pub with_key : List (List ℕ × ℕ) → List ℕ → ℕ → List (List ℕ × ℕ)
@@ -42,14 +45,14 @@ pattern_seen (Name name) = whole name.now
 pattern_seen (Suffix name) = suffix name.now
 pattern_seen Any = any
 
--- patterns of one realm
-abbrev pub of_realm : ℕ → PatternView → List ℕ × ℕ
-of_realm realm pattern = (pattern_key pattern, realm)
+-- a pattern of this owner
+abbrev pub of_owner : ℕ → PatternView → List ℕ × ℕ
+of_owner owner pattern = (pattern_key pattern, owner)
 
--- all patterns of these realms, of which the first has this index
-abbrev pub all_patterns : ℕ → List RealmView → List (List ℕ × ℕ)
+-- all patterns of these lists, of which the first has this owner
+abbrev pub all_patterns : ℕ → List (List PatternView) → List (List ℕ × ℕ)
 all_patterns i [] = []
-all_patterns i (realm ∷ realms) = map (of_realm i) (patterns_of realm) ++ all_patterns (suc i) realms
+all_patterns i (list ∷ lists) = map (of_owner i) list ++ all_patterns (suc i) lists
 
 -- whether a length is marked
 abbrev pub is_marked : List Bool → ℕ → Bool

@@ -1,4 +1,6 @@
+pub mod Asking
 pub mod Config
+pub mod Consistent
 pub mod Duplicates
 pub mod Index
 pub mod Letters
@@ -8,3 +10,4 @@ pub mod Patterns
 pub mod Secrets
 pub mod Shown
 pub mod Texts
+pub mod WellFormed

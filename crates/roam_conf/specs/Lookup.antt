@@ -1,7 +1,7 @@
 -- Look-ups in a configuration. Ours.
-use Rattle.std.specs.Prelude.{◌≡◌, ◌≢◌, ℕ, ◌<◌, ◌==◌, ◌||◌, if◌then◌else◌, Bool, false, List, [], ◌∷◌, ◌++◌, length, map, Option, Some, None, option_map, option_and_then, slice_get}
+use Rattle.std.specs.Prelude.{◌≡◌, ◌≢◌, ℕ, ◌<◌, ◌==◌, ◌||◌, not, nat_lt, if◌then◌else◌, Bool, false, List, [], ◌∷◌, ◌++◌, length, map, Option, Some, None, option_map, option_and_then, slice_get}
 use Rattle.std.specs.List.{list_any, position_from}
-use Rattle.std.specs.Option.{option_or}
+use Rattle.std.specs.Option.{option_or, option_map_or}
 use Rattle.std.specs.Str.{bytes_eq}
 use Rattle.roam_conf.specs.declared.endpoint.Endpoint.{Endpoint}
 use Rattle.roam_conf.specs.declared.place.Link.{Link}
@@ -9,14 +9,30 @@ use Rattle.roam_conf.specs.declared.place.Link.TheVariants.{Auth, Acct, Coa}
 use Rattle.roam_conf.specs.Config.{ServerView, PeerView, PatternView, whole, suffix, any, RealmView, ConfigView}
 use Rattle.roam_conf.specs.Duplicates.{same_endpoint}
 use Rattle.roam_conf.specs.Patterns.{same_pattern, patterns_of}
+use Rattle.roam_conf.specs.WellFormed.{is_well_formed}
 
 -- the first place, from 0, at which the list has an element that passes the test
 abbrev pub first_place : {X : Type 0} → (X → Bool) → List X → Option ℕ
 first_place test xs = position_from test 0 xs
 
--- the realm that has a pattern: the first, and in a configuration the only one
-abbrev pub realm_with : List RealmView → PatternView → Option ℕ
-realm_with realms pattern = first_place (λ realm. list_any (same_pattern pattern) (patterns_of realm)) realms
+-- the patterns of each realm and, behind them, those that are of no realm
+abbrev pub pattern_lists : List RealmView → List PatternView → List (List PatternView)
+pattern_lists realms reject = map patterns_of realms ++ reject ∷ []
+
+-- whose a pattern is: the place of the list that has it, the first, and in a configuration the only one. It is a
+-- realm's index, or behind them where the pattern is rejected
+abbrev pub owner_in : List (List PatternView) → PatternView → Option ℕ
+owner_in lists pattern = first_place (list_any (same_pattern pattern)) lists
+
+abbrev pub owner_with : ConfigView → PatternView → Option ℕ
+owner_with config pattern = owner_in (pattern_lists config.realms config.reject) pattern
+
+-- the owner, where it is a realm; the same of the owner that there may be
+abbrev pub realm_owning : ConfigView → ℕ → Option ℕ
+realm_owning config owner = if nat_lt owner (length config.realms) then Some owner else None
+
+abbrev pub realm_owned : ConfigView → Option ℕ → Option ℕ
+realm_owned config owner = option_and_then (realm_owning config) owner
 
 -- what follows each dot (46), the longest first
 abbrev pub after_dots : List ℕ → List (List ℕ)
@@ -29,33 +45,45 @@ abbrev pub further_patterns : List ℕ → List PatternView
 further_patterns [] = []
 further_patterns (first ∷ rest) = map suffix (after_dots rest) ++ any ∷ []
 
+-- a name may fit a pattern: names needn't be well formed, or it is
+abbrev pub may_fit : ConfigView → List ℕ → Bool
+may_fit config name = not config.well_formed || is_well_formed name
+
+-- the patterns that a name is looked up by, the nearest first: its own and, if it may fit any, those that it fits
+abbrev pub patterns_for : ConfigView → List ℕ → List PatternView
+patterns_for config name = whole name ∷ (if may_fit config name then further_patterns name else [])
+
 -- the first answer that there is
 abbrev pub first_answer : {X Y : Type 0} → (X → Option Y) → List X → Option Y
 first_answer answer [] = None
 first_answer answer (x ∷ xs) = option_or (answer x) (first_answer answer xs)
 
 -- ## Names of a realm
--- Its `name` and those of `also`, each a whole name, `*.` and a name, or `*`. A name means the realm that has
--- it whole; else the one with the longest `*.` pattern that it ends in, dot included, with an octet at least
--- before the dot; else, where it has an octet at least, the one with `*`; else none. Always without ASCII case.
--- No two realms have an equal name, pattern or `*`, so the order of the file doesn't count.
--- Source: ours
--- Rules out: a pattern that beats a whole name; the shortest suffix; `*.a` that takes `ba` or `a`
--- Stands in: `roam_conf` `Lookup.antt`: `realm_named`; `Patterns.antt`, `Duplicates.antt`; `realm_index`, the
--- invariant of `Config`
+-- A realm's `name` and those of `also`, and the names of `reject`, each a whole name, `*.` and a name, or, of a
+-- realm, `*`. The first of these that is there decides of a name: that it stands there whole; the longest `*.`
+-- pattern that it ends in, dot included, with an octet at least before the dot; and, where it has an octet at
+-- least, `*`. It means the realm whose that is, and none where it is one of `reject`. With `well_formed` a name
+-- that isn't well formed fits no pattern. Always without ASCII case. No two of all these are equal, so the order
+-- of the file doesn't count.
+-- Source: RFC 7542 section 2.2, ours
+-- Rules out: a pattern that beats a whole name; the shortest suffix; `*.a` that takes `ba` or `a`; a name to
+-- reject that a shorter pattern of a realm beats; `*` for `a..b`
+-- Stands in: `roam_conf` `Lookup.antt`: `realm_named`; `WellFormed.antt`, `Patterns.antt`, `Duplicates.antt`;
+-- `realm_index`, the invariant of `Config`
 --
--- which realm a name means: the one that has this name; else the one that has the nearest pattern that it fits
-unfoldable pub realm_named : List RealmView → List ℕ → Option ℕ
-realm_named realms name = first_answer (realm_with realms) (whole name ∷ further_patterns name)
+-- which realm a name means: the one whose pattern decides, if it is a realm's
+unfoldable pub realm_named : ConfigView → List ℕ → Option ℕ
+realm_named config name =
+    realm_owned config (first_answer (owner_with config) (patterns_for config name))
 
 -- the name ends in a dot and this suffix, and has at least one octet before that
 abbrev pub EndsIn : List ℕ → List ℕ → Type 0
 EndsIn name ending = (front : List ℕ) × (front ≢ []) × (name ≡ front ++ 46 ∷ ending)
 
--- no realm has a suffix that the name ends in and that passes the test
-abbrev pub NoSuffix : (List ℕ → Type 0) → List RealmView → List ℕ → Type 0
-NoSuffix Test realms name =
-    (ending : List ℕ) → EndsIn name ending → Test ending → realm_with realms (suffix ending) ≡ None
+-- no suffix that the name ends in and that passes the test is anybody's
+abbrev pub NoSuffix : (List ℕ → Type 0) → ConfigView → List ℕ → Type 0
+NoSuffix Test config name =
+    (ending : List ℕ) → EndsIn name ending → Test ending → owner_with config (suffix ending) ≡ None
 
 -- the peer with this address
 unfoldable pub peer_with_ip : List PeerView → List ℕ → Option ℕ
@@ -64,7 +92,7 @@ peer_with_ip peers ip = first_place (λ peer. bytes_eq peer.ip ip) peers
 -- the first server, in the order of use, that has the address in its `auth` or its `acct` endpoint
 unfoldable pub server_with_ip : List ServerView → List ℕ → Option ℕ
 server_with_ip servers ip =
-    first_place (λ server. bytes_eq server.auth.ip ip || bytes_eq server.acct.ip ip) servers
+    first_place (λ server. bytes_eq server.auth.ip ip || option_map_or (λ e. bytes_eq e.ip ip) server.acct false) servers
 
 -- the server of a realm whose reverse requests come from the address; none where the realm takes no reverse requests
 abbrev pub reverse_home : RealmView → List ℕ → Option ℕ
@@ -73,7 +101,7 @@ reverse_home realm ip = option_and_then (λ own. server_with_ip realm.servers ip
 -- the endpoint of a link of a realm, where there is such a link
 abbrev pub endpoint_of : List PeerView → RealmView → Link → Option Endpoint
 endpoint_of peers realm (Auth server) = option_map (λ s. s.auth) (slice_get realm.servers server)
-endpoint_of peers realm (Acct server) = option_map (λ s. s.acct) (slice_get realm.servers server)
+endpoint_of peers realm (Acct server) = option_and_then (λ s. s.acct) (slice_get realm.servers server)
 endpoint_of peers realm (Coa peer) = option_and_then (λ p. p.coa) (slice_get peers peer)
 
 -- the endpoint is there, and is this one
@@ -91,7 +119,7 @@ coa_at peers endpoint = option_map (λ i. Coa i) (first_place (is_coa endpoint) 
 
 abbrev pub acct_or_coa_at : List PeerView → RealmView → Endpoint → Option Link
 acct_or_coa_at peers realm endpoint =
-    option_or (option_map (λ i. Acct i) (first_place (λ server. same_endpoint server.acct endpoint) realm.servers))
+    option_or (option_map (λ i. Acct i) (first_place (λ server. is_there endpoint server.acct) realm.servers))
     (coa_at peers endpoint)
 
 unfoldable pub link_at : List PeerView → RealmView → Endpoint → Option Link

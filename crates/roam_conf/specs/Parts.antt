@@ -1,5 +1,7 @@
 -- Servers, peers and realms as plain records. Ours.
-use Rattle.std.specs.Prelude.{map, option_map, string_bytes}
+use Rattle.std.specs.Prelude.{ℕ, List, map, option_map, string_bytes, String}
+use Rattle.std.specs.declared.alloc.Global.{Global}
+use Rattle.std.specs.declared.vec.Vec.{Vec}
 use Rattle.roam_conf.specs.declared.peer.Peer.{Peer}
 use Rattle.roam_conf.specs.declared.realm.Realm.{Realm}
 use Rattle.roam_conf.specs.declared.server.Server.{Server}
@@ -23,12 +25,26 @@ shown_peer peer = record {
   nas_ip = peer.nas_ip;
   nas_id = option_map string_bytes peer.nas_id;
   require_seal = peer.require_seal;
+  limit_proxy_state = peer.limit_proxy_state;
+  operator_name = option_map string_bytes peer.operator_name;
+  ask_cui = peer.ask_cui;
+  request_without = peer.request_without.items;
+  reply_without = peer.reply_without.items;
 }
+
+abbrev pub shown_names : Vec (String Global) Global → List (List ℕ)
+shown_names names = map string_bytes names.items
 
 abbrev pub shown_realm : Realm → RealmView
 shown_realm realm = record {
   name = string_bytes realm.name;
   also = map shown_pattern realm.also.items;
+  peers = option_map shown_names realm.peers;
+  loop_prevention = realm.loop_prevention;
+  accounting = realm.accounting;
+  request_without = realm.request_without.items;
+  reply_without = realm.reply_without.items;
+  share = realm.share;
   out = realm.out;
   reverse = realm.reverse;
   tries = realm.tries;

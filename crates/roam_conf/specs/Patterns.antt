@@ -22,6 +22,12 @@ is_pattern (whole name) = is_realm_name name
 is_pattern (suffix name) = is_realm_name name
 is_pattern any = true
 
+-- what may be rejected: a name or a suffix
+abbrev pub is_reject : PatternView → Bool
+is_reject (whole name) = is_realm_name name
+is_reject (suffix name) = is_realm_name name
+is_reject any = false
+
 -- the same kind, and the same name without ASCII case
 abbrev pub same_pattern : PatternView → PatternView → Bool
 same_pattern (whole a) (whole b) = str_eq_ignore_ascii_case a b

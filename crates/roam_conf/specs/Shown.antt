@@ -4,6 +4,7 @@ use Rattle.roam_conf.specs.declared.config.Config.{Config}
 use Rattle.roam_conf.specs.declared.parts.ConfigParts.{ConfigParts}
 use Rattle.roam_conf.specs.Config.{ConfigView}
 use Rattle.roam_conf.specs.Parts.{shown_peer, shown_realm}
+use Rattle.roam_conf.specs.Patterns.{shown_pattern}
 
 abbrev pub shown : Config → ConfigView
 shown config = record {
@@ -16,6 +17,9 @@ shown config = record {
   max_hops = config.max_hops;
   status_server = config.status_server;
   spread = config.spread;
+  reject = map shown_pattern config.reject.items;
+  well_formed = config.well_formed;
+  answer_unnamed = config.answer_unnamed;
   peers = map shown_peer config.peers.items;
   realms = map shown_realm config.realms.items;
 }
@@ -32,6 +36,9 @@ shown_parts parts = record {
   max_hops = parts.max_hops;
   status_server = parts.status_server;
   spread = parts.spread;
+  reject = map shown_pattern parts.reject.items;
+  well_formed = parts.well_formed;
+  answer_unnamed = parts.answer_unnamed;
   peers = map shown_peer parts.peers.items;
   realms = map shown_realm parts.realms.items;
 }

@@ -1,15 +1,18 @@
 //! The configuration of the broker.
 
-ghost use Rattle.std.specs.Prelude.{◌≡◌, ℕ, List, ◌≤◌, false, map, vec_len};
+ghost use Rattle.std.specs.Prelude.{◌≡◌, ℕ, List, ◌≤◌, false, true, map, vec_len};
+ghost use Rattle.std.specs.List.{list_all};
 ghost use Rattle.std.specs.Option.{ForSome};
 ghost use Rattle.roam_conf.specs.Duplicates.{has_duplicate_realm, has_duplicate_peer, has_duplicate_endpoint};
 ghost use Rattle.roam_conf.specs.Duplicates.{has_duplicate_server, has_duplicate_link};
+ghost use Rattle.roam_conf.specs.Asking.{has_unknown_peer};
 ghost use Rattle.roam_conf.specs.Index.{owners, owner_of, all_patterns};
-ghost use Rattle.roam_conf.specs.Lookup.{peer_with_ip};
+ghost use Rattle.roam_conf.specs.Lookup.{peer_with_ip, pattern_lists};
 ghost use Rattle.roam_conf.specs.Parts.{shown_peer, shown_realm};
+ghost use Rattle.roam_conf.specs.Patterns.{is_reject, shown_pattern};
 
 use crate::indexes::Indexes;
-use crate::{ConfigParts, Endpoint, Peer, Realm};
+use crate::{ConfigParts, Endpoint, Peer, Realm, RealmPattern};
 use std::alloc::{AllocError, Global};
 
 /// An accepted configuration: each value is in its range, and nothing stands twice that may not.
@@ -36,6 +39,12 @@ pub struct Config {
     pub status_server: bool,
     /// Whether each worker has an `auth` and an `acct` socket of its own.
     pub spread: bool,
+    /// Names and suffixes that are of no realm: at most 1024.
+    pub reject: Vec<RealmPattern>,
+    /// Whether a name has to be well formed (RFC 7542, section 2.2) to fit a pattern.
+    pub well_formed: bool,
+    /// Whether an Accounting-Request without a User-Name is answered by the broker itself.
+    pub answer_unnamed: bool,
     /// 1 to 1024 peers.
     pub peers: Vec<Peer>,
     /// 1 to 1024 realms.
@@ -47,27 +56,32 @@ pub struct Config {
     ghost trace_limit_range: { (1 ≤ trace_limit) × (trace_limit ≤ 1000000) },
     ghost trace_octets_range: { (1 ≤ trace_octets) × (trace_octets ≤ 1073741824) },
     ghost max_hops_range: { ForSome max_hops (λ n. (1 ≤ n) × (n ≤ 100)) },
+    ghost reject_count: { vec_len reject ≤ 1024 },
+    ghost reject_names: { list_all is_reject (map shown_pattern reject.items) ≡ true },
     ghost peer_count: { (1 ≤ vec_len peers) × (vec_len peers ≤ 1024) },
     ghost realm_count: { (1 ≤ vec_len realms) × (vec_len realms ≤ 1024) },
-    ghost names_noted: { owners found_by.names ≡ all_patterns 0 (map shown_realm realms.items) },
+    ghost names_noted: { owners found_by.names
+        ≡ all_patterns 0 (pattern_lists (map shown_realm realms.items) (map shown_pattern reject.items)) },
     ghost ips_noted: { (ip : List ℕ)
         → owner_of (owners found_by.ips) ip ≡ peer_with_ip (map shown_peer peers.items) ip },
-    ghost distinct_realms: { has_duplicate_realm (map shown_realm realms.items) ≡ false },
+    ghost distinct_realms: { has_duplicate_realm (map shown_realm realms.items)
+        (map shown_pattern reject.items) ≡ false },
     ghost distinct_peers: { has_duplicate_peer (map shown_peer peers.items) ≡ false },
     ghost distinct_endpoints: { has_duplicate_endpoint auth acct (map shown_realm realms.items) ≡ false },
     ghost distinct_servers: { has_duplicate_server (map shown_realm realms.items) ≡ false },
     ghost distinct_links: { has_duplicate_link (map shown_peer peers.items) (map shown_realm realms.items) ≡ false },
+    ghost known_peers: { has_unknown_peer (map shown_peer peers.items) (map shown_realm realms.items) ≡ false },
 }
 
 impl Config {
     ghost use Rattle.std.specs.Prelude.{IfOk};
-    ghost use Rattle.roam_conf.specs.Duplicates.{IsDistinct};
+    ghost use Rattle.roam_conf.specs.Consistent.{IsConsistent};
     ghost use Rattle.roam_conf.specs.Shown.{shown, shown_parts};
 
-    /// The configuration of these parts, in which nothing stands twice that may not. An error says only
-    /// that memory was refused.
+    /// The configuration of these parts, in which nothing stands twice that may not and no peer is named that isn't
+    /// there. An error says only that memory was refused.
     pub fn new(alloc: Global, parts: ConfigParts) -> Result<Config, AllocError>
-        requires { IsDistinct (shown_parts parts) }
+        requires { IsConsistent (shown_parts parts) }
         ensures { IfOk result (λ config. shown config ≡ shown_parts parts) }
     {
         let ConfigParts {
@@ -80,10 +94,18 @@ impl Config {
             max_hops,
             status_server,
             spread,
+            reject,
+            well_formed,
+            answer_unnamed,
             peers,
             realms,
         } = parts;
-        let found_by = Indexes::new(alloc, peers.as_slice(), realms.as_slice())?;
+        let found_by = Indexes::new(
+            alloc,
+            peers.as_slice(),
+            realms.as_slice(),
+            reject.as_slice(),
+        )?;
         Ok(Config {
             shards,
             seed,
@@ -94,6 +116,9 @@ impl Config {
             max_hops,
             status_server,
             spread,
+            reject,
+            well_formed,
+            answer_unnamed,
             peers,
             realms,
             found_by,

@@ -57,7 +57,7 @@ fn octet(text: &str) -> Option<u8>
 }
 
 /// What stands before the first dot, and after it.
-fn cut_at_dot(text: &str) -> Option<(&str, &str)>
+pub(crate) fn cut_at_dot(text: &str) -> Option<(&str, &str)>
     ensures { MatchOption result (parts 46 text.now ≡ text.now ∷ [])
         (λ cut. parts 46 text.now ≡ cut.0.now ∷ parts 46 cut.1.now) }
 {

@@ -28,3 +28,12 @@ pub(crate) fn note(index: &mut Index, key: Vec<u8>, owner: u16) -> Result<bool, 
     index.insert(key, owner)?;
     Ok(true)
 }
+
+/// A copy of these octets.
+pub(crate) fn row_of(alloc: Global, octets: &[u8]) -> Result<Vec<u8>, AllocError>
+    ensures { IfOk result (λ row. row.items ≡ octets.now) }
+{
+    let mut row = Vec::new(alloc);
+    row.extend_from_slice(octets)?;
+    Ok(row)
+}

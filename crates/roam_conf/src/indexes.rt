@@ -3,34 +3,26 @@
 ghost use Rattle.std.specs.Prelude.{◌≡◌, ℕ, List, ◌≤◌, ◌^◌, IfOk, length, map, false, true, refl};
 ghost use Rattle.roam_conf.specs.Duplicates.{has_duplicate_realm};
 ghost use Rattle.roam_conf.specs.Index.{owners, owner_of, all_patterns, AreMarked};
-ghost use Rattle.roam_conf.specs.Lookup.{peer_with_ip};
+ghost use Rattle.roam_conf.specs.Lookup.{peer_with_ip, pattern_lists};
 ghost use Rattle.roam_conf.specs.Parts.{shown_peer, shown_realm};
+ghost use Rattle.roam_conf.specs.Patterns.{shown_pattern};
 
-use crate::index::{Index, note};
-use crate::names::{note_realms, suffix_lengths};
-use crate::{Peer, Realm};
+use crate::index::{Index, note, row_of};
+use crate::names::{note_all, suffix_lengths};
+use crate::{Peer, Realm, RealmPattern};
 use indexmap::IndexMap;
 use std::alloc::{AllocError, Global};
 
 /// The indexes of a configuration. They follow from its lists, so they tell no two configurations apart.
 #[derive(Drop)]
 pub(crate) struct Indexes {
-    /// The realm of each name and pattern.
+    /// The realm of each name and pattern; behind the realms comes what is rejected.
     pub(crate) names: Index,
     /// Which lengths the suffixes among them have, in octets: one of another length isn't looked for.
     pub(crate) suffix_lengths: [bool; 254],
     /// The peer of each address.
     pub(crate) ips: Index,
     ghost marked: { AreMarked suffix_lengths (owners names) },
-}
-
-/// A copy of these octets.
-fn row_of(alloc: Global, octets: &[u8]) -> Result<Vec<u8>, AllocError>
-    ensures { IfOk result (λ row. row.items ≡ octets.now) }
-{
-    let mut row = Vec::new(alloc);
-    row.extend_from_slice(octets)?;
-    Ok(row)
 }
 
 /// The first peer of each address.
@@ -53,16 +45,18 @@ impl Indexes {
         alloc: Global,
         peers: &[Peer],
         realms: &[Realm],
+        reject: &[RealmPattern],
     ) -> Result<Indexes, AllocError>
         requires few { (length peers.now ≤ 1024) × (length realms.now ≤ 1024) }
-        requires distinct { has_duplicate_realm (map shown_realm realms.now) ≡ false }
+        requires distinct { has_duplicate_realm (map shown_realm realms.now) (map shown_pattern reject.now) ≡ false }
         ensures names { IfOk result
-            (λ indexes. owners indexes.names ≡ all_patterns 0 (map shown_realm realms.now)) }
+            (λ indexes. owners indexes.names
+            ≡ all_patterns 0 (pattern_lists (map shown_realm realms.now) (map shown_pattern reject.now))) }
         ensures ips { IfOk result (λ indexes. (ip : List ℕ)
             → owner_of (owners indexes.ips) ip ≡ peer_with_ip (map shown_peer peers.now) ip) }
     {
         let mut names = IndexMap::new(alloc);
-        note_realms(&mut names, alloc, realms)?;
+        note_all(&mut names, alloc, realms, reject)?;
         let suffix_lengths = suffix_lengths(&names);
         let ips = ips_of(alloc, peers)?;
         Ok(Indexes {
@@ -87,12 +81,17 @@ impl Eq for Indexes {
     ghost laws = { record { refl = λ _. refl; symm = λ _ _. refl; congr = λ _ _ _ _. refl } };
 }
 
-/// Whether two names, two suffixes or two `*` of all realms are the same.
-pub fn has_duplicate_realm(alloc: Global, realms: &[Realm]) -> Result<bool, AllocError>
+/// Whether two names, two suffixes or two `*` of all realms, and of what is rejected, are the same.
+pub fn has_duplicate_realm(
+    alloc: Global,
+    realms: &[Realm],
+    reject: &[RealmPattern],
+) -> Result<bool, AllocError>
     requires { length realms.now ≤ 1024 }
-    ensures { IfOk result (λ twice. twice ≡ has_duplicate_realm (map shown_realm realms.now)) }
+    ensures { IfOk result (λ twice. twice
+        ≡ has_duplicate_realm (map shown_realm realms.now) (map shown_pattern reject.now)) }
 {
     let mut names = IndexMap::new(alloc);
-    let all_new = note_realms(&mut names, alloc, realms)?;
+    let all_new = note_all(&mut names, alloc, realms, reject)?;
     Ok(!all_new)
 }

@@ -1,10 +1,11 @@
 //! Laws of the look-ups.
 
-ghost use Rattle.std.specs.Prelude.{◌≡◌, ◌≢◌, ◌<◌, [], length, None, Some, ⊤};
+ghost use Rattle.std.specs.Prelude.{◌≡◌, ◌≢◌, ◌<◌, [], false, length, None, Some, true, ⊤};
 ghost use Rattle.std.specs.List.{AllByRecursion};
 ghost use Rattle.std.specs.Str.{str_eq_ignore_ascii_case};
 ghost use Rattle.roam_conf.specs.Config.{whole, suffix, any};
-ghost use Rattle.roam_conf.specs.Lookup.{EndsIn, NoSuffix, first_place, realm_named, realm_with, link_in};
+ghost use Rattle.roam_conf.specs.Lookup.{EndsIn, NoSuffix, first_place, realm_named, realm_owning, realm_owned};
+ghost use Rattle.roam_conf.specs.Lookup.{owner_with, may_fit, link_in};
 ghost use Rattle.roam_conf.specs.Lookup.{endpoint_in_realm};
 ghost use Rattle.roam_conf.specs.Shown.{shown};
 
@@ -22,35 +23,42 @@ pub fn link_of_finds_each_link(config: &Config, realm: u16, endpoint: Endpoint, 
     ensures { link_in (shown config.now) realm endpoint ≡ Some link }
 {}
 
-/// A realm that has the name itself is the one that the name means, whatever patterns there are.
-pub fn whole_name_comes_first(config: &Config, name: &[u8], realm: u16)
-    requires { realm_with (shown config.now).realms (whole name.now) ≡ Some realm }
-    ensures { realm_named (shown config.now).realms name.now ≡ Some realm }
+/// Whose the name itself is decides, whatever patterns there are.
+pub fn whole_name_comes_first(config: &Config, name: &[u8], owner: u16)
+    requires { owner_with (shown config.now) (whole name.now) ≡ Some owner }
+    ensures { realm_named (shown config.now) name.now ≡ realm_owning (shown config.now) owner }
 {}
 
-/// Of the suffixes that the name ends in, the longest that a realm has counts, where no realm has the name
-/// itself.
-pub fn longest_suffix_comes_next(config: &Config, name: &[u8], ending: &[u8], realm: u16)
-    requires unnamed { realm_with (shown config.now).realms (whole name.now) ≡ None }
+/// Of the suffixes that the name ends in, the longest that is anybody's decides, where the name itself is nobody's.
+pub fn longest_suffix_comes_next(config: &Config, name: &[u8], ending: &[u8], owner: u16)
+    requires unnamed { owner_with (shown config.now) (whole name.now) ≡ None }
+    requires fits { may_fit (shown config.now) name.now ≡ true }
     requires ends { EndsIn name.now ending.now }
-    requires named { realm_with (shown config.now).realms (suffix ending.now) ≡ Some realm }
-    requires longest { NoSuffix (λ longer. length ending.now < length longer)
-        (shown config.now).realms name.now }
-    ensures { realm_named (shown config.now).realms name.now ≡ Some realm }
+    requires named { owner_with (shown config.now) (suffix ending.now) ≡ Some owner }
+    requires longest { NoSuffix (λ longer. length ending.now < length longer) (shown config.now) name.now }
+    ensures { realm_named (shown config.now) name.now ≡ realm_owning (shown config.now) owner }
 {}
 
 /// The realm of any name is the last that counts.
 pub fn any_name_comes_last(config: &Config, name: &[u8])
     requires some { name.now ≢ [] }
-    requires unnamed { realm_with (shown config.now).realms (whole name.now) ≡ None }
-    requires no_suffix { NoSuffix (λ ending. ⊤) (shown config.now).realms name.now }
-    ensures { realm_named (shown config.now).realms name.now
-        ≡ realm_with (shown config.now).realms any }
+    requires unnamed { owner_with (shown config.now) (whole name.now) ≡ None }
+    requires fits { may_fit (shown config.now) name.now ≡ true }
+    requires no_suffix { NoSuffix (λ ending. ⊤) (shown config.now) name.now }
+    ensures { realm_named (shown config.now) name.now ≡ realm_owned (shown config.now) (owner_with (shown config.now) any) }
 {}
 
-/// Where no realm has a pattern, a name means the realm whose name it is, matched whole.
+/// A name that fits no pattern, as it has to be well formed and isn't, is matched whole.
+pub fn ill_formed_names_are_matched_whole(config: &Config, name: &[u8])
+    requires { may_fit (shown config.now) name.now ≡ false }
+    ensures { realm_named (shown config.now) name.now
+        ≡ realm_owned (shown config.now) (owner_with (shown config.now) (whole name.now)) }
+{}
+
+/// Where no realm has a pattern, and nothing is rejected, a name means the realm whose name it is, matched whole.
 pub fn names_alone_are_matched_whole(config: &Config, name: &[u8])
-    requires { AllByRecursion (λ realm. realm.also ≡ []) (shown config.now).realms }
-    ensures { realm_named (shown config.now).realms name.now
+    requires realms { AllByRecursion (λ realm. realm.also ≡ []) (shown config.now).realms }
+    requires reject { (shown config.now).reject ≡ [] }
+    ensures { realm_named (shown config.now) name.now
         ≡ first_place (λ realm. str_eq_ignore_ascii_case name.now realm.name) (shown config.now).realms }
 {}

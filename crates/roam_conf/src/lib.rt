@@ -6,11 +6,15 @@
 //!
 //! - a configuration keeps every range and has no duplicates; the look-ups are exact | types' invariants;
 //!   `realm_index`, `peer_by_ip`, `link_of`, `home_of`, `shard_of`
-//! - which realm a name means: the one that has this name, else the one with the longest suffix that the name
-//!   ends in, else the one of any name; without patterns whole names alone | laws `whole_name_comes_first`,
-//!   `longest_suffix_comes_next`, `any_name_comes_last`, `names_alone_are_matched_whole`
+//! - which realm a name means: whose it is decides, else whose the longest suffix is that it ends in, else the realm
+//!   of any name; none where that is to reject; without patterns, or where it is ill formed, whole names alone | laws
+//!   `whole_name_comes_first`, `longest_suffix_comes_next`, `any_name_comes_last`,
+//!   `ill_formed_names_are_matched_whole`, `names_alone_are_matched_whole`
+//! - which peers' requests a realm takes | `takes`, `is_peer_of`
 #![tactic(auto)]
 
+mod accounting;
+mod asking;
 mod comparison;
 mod config;
 mod decimals;
@@ -26,10 +30,14 @@ mod names;
 mod parts;
 mod pattern;
 mod peer;
+mod peer_names;
 mod place;
 mod realm;
+mod removed;
 mod server;
+mod well_formed;
 
+pub use accounting::Accounting;
 pub use comparison::{is_same_endpoint, is_same_name};
 pub use config::Config;
 pub use decimals::{address, decimal};
@@ -37,12 +45,15 @@ pub use endpoint::Endpoint;
 pub use exchange_lines::ExchangeLines;
 pub use indexes::has_duplicate_realm;
 pub use laws::{
-    any_name_comes_last, link_of_finds_each_link, link_of_finds_its_endpoint,
-    longest_suffix_comes_next, names_alone_are_matched_whole, whole_name_comes_first,
+    any_name_comes_last, ill_formed_names_are_matched_whole, link_of_finds_each_link,
+    link_of_finds_its_endpoint, longest_suffix_comes_next, names_alone_are_matched_whole,
+    whole_name_comes_first,
 };
 pub use parts::ConfigParts;
 pub use pattern::RealmPattern;
 pub use peer::Peer;
+pub use peer_names::has_unknown_peer;
 pub use place::{Link, Place};
 pub use realm::Realm;
+pub use removed::removed_attribute;
 pub use server::Server;

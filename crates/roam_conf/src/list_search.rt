@@ -1,12 +1,24 @@
 //! The place of what is looked for, in a list of the configuration.
 
-ghost use Rattle.std.specs.Prelude.{◌≡◌, ◌<◌, ◌^◌, IfSome, length, map, option_map};
+ghost use Rattle.std.specs.Prelude.{◌≡◌, ◌<◌, ◌^◌, IfSome, false, length, map, option_map};
+ghost use Rattle.std.specs.Option.{option_map_or};
+ghost use Rattle.std.specs.Str.{bytes_eq};
 ghost use Rattle.roam_conf.specs.Duplicates.{same_endpoint};
 ghost use Rattle.roam_conf.specs.Lookup.{server_with_ip, first_place, is_there, is_coa};
 ghost use Rattle.roam_conf.specs.Parts.{shown_server, shown_peer};
 
 use crate::comparison::is_same_endpoint;
 use crate::{Endpoint, Link, Peer, Server};
+
+/// Whether the endpoint is there, and at the address.
+fn is_at(ip: [u8; 4], endpoint: Option<Endpoint>) -> bool
+    ensures { result ≡ option_map_or (λ e. bytes_eq e.ip ip) endpoint false }
+{
+    match endpoint {
+        Some(endpoint) => endpoint.ip == ip,
+        None => false,
+    }
+}
 
 /// The first server that has the address in one of its endpoints.
 #[tactic(auto, unfolding(crate::specs::Lookup::server_with_ip))]
@@ -15,7 +27,7 @@ pub(crate) fn server_with_ip(servers: &[Server], ip: [u8; 4]) -> Option<usize>
     ensures bound { IfSome result (λ i. i < length servers.now) }
 {
     for place in 0..servers.len() {
-        if servers[place].auth.ip == ip || servers[place].acct.ip == ip {
+        if servers[place].auth.ip == ip || is_at(ip, servers[place].acct) {
             return Some(place);
         }
     }
@@ -36,20 +48,6 @@ pub(crate) fn auth_at(servers: &[Server], endpoint: Endpoint) -> Option<usize>
     None
 }
 
-/// The first server that takes Accounting-Requests at the endpoint.
-pub(crate) fn acct_at(servers: &[Server], endpoint: Endpoint) -> Option<usize>
-    ensures value { result ≡ first_place (λ server. same_endpoint server.acct endpoint)
-        (map shown_server servers.now) }
-    ensures bound { IfSome result (λ i. i < length servers.now) }
-{
-    for (i, server) in servers.iter().enumerate() {
-        if is_same_endpoint(server.acct, endpoint) {
-            return Some(i);
-        }
-    }
-    None
-}
-
 fn is_there(endpoint: Endpoint, other: Option<Endpoint>) -> bool
     ensures { result ≡ is_there endpoint other }
 {
@@ -57,6 +55,20 @@ fn is_there(endpoint: Endpoint, other: Option<Endpoint>) -> bool
         Some(other) => is_same_endpoint(other, endpoint),
         None => false,
     }
+}
+
+/// The first server that takes Accounting-Requests at the endpoint.
+pub(crate) fn acct_at(servers: &[Server], endpoint: Endpoint) -> Option<usize>
+    ensures value { result ≡ first_place (λ server. is_there endpoint server.acct)
+        (map shown_server servers.now) }
+    ensures bound { IfSome result (λ i. i < length servers.now) }
+{
+    for (i, server) in servers.iter().enumerate() {
+        if is_there(endpoint, server.acct) {
+            return Some(i);
+        }
+    }
+    None
 }
 
 /// The first peer that takes reverse requests at the endpoint.

@@ -3,7 +3,8 @@
 ghost use Rattle.std.specs.Prelude.{◌≡◌, ◌≤◌, length, drop};
 
 use crate::index::owner_of;
-use crate::names::{PatternRef, kind_and_name, lower_in, realm_of};
+use crate::names::{PatternRef, kind_and_name, lower_in, owner_of_pattern};
+use crate::well_formed::is_well_formed;
 use crate::{Config, Endpoint, Link, Peer, Realm, list_search};
 
 impl Realm {
@@ -63,132 +64,168 @@ impl Config {
     ghost use Rattle.std.specs.Str.{str_to_ascii_lowercase};
     ghost use Rattle.roam_conf.specs.Config.{suffix};
     ghost use Rattle.roam_conf.specs.Index.{pattern_key, pattern_seen};
-    ghost use Rattle.roam_conf.specs.Lookup.{realm_named, realm_with, after_dots, further_patterns, first_answer};
+    ghost use Rattle.roam_conf.specs.Lookup.{realm_named, realm_owning, owner_with, may_fit, patterns_for, after_dots};
+    ghost use Rattle.roam_conf.specs.Lookup.{further_patterns, first_answer};
     ghost use Rattle.roam_conf.specs.Lookup.{peer_with_ip, link_in, home_in, servers_in, IsLinkIn};
     ghost use Rattle.roam_conf.specs.Shown.{shown};
 
-    /// The realm that has a pattern; none has a name of more than 253 octets in it.
-    fn realm_with(&self, pattern: PatternRef<'_>) -> Option<u16>
-        ensures { result ≡ realm_with (shown self.now).realms (pattern_seen pattern.entry) }
+    /// Whose a pattern is; none has a name of more than 253 octets in it.
+    fn owner_with(&self, pattern: PatternRef<'_>) -> Option<u16>
+        ensures { result ≡ owner_with (shown self.now) (pattern_seen pattern.entry) }
     {
         let (kind, name) = kind_and_name(pattern);
         if name.len() > 253 {
             return None;
         }
-        realm_of(&self.found_by.names, kind, name)
+        owner_of_pattern(&self.found_by.names, kind, name)
     }
 
-    /// Whether a realm may have a suffix of so many octets.
+    /// Whether there may be a suffix of so many octets.
     fn may_have_suffix(&self, octets: usize) -> bool
         ensures short { IsTrue result → octets ≤ 253 }
         ensures none { IsFalse result → (name : List ℕ) → length name ≡ octets
-            → realm_with (shown self.now).realms (suffix name) ≡ None }
+            → owner_with (shown self.now) (suffix name) ≡ None }
     {
         octets < 254 && self.found_by.suffix_lengths[octets]
     }
 
-    /// Whether there is a dot at the place, and a realm may have a suffix as long as what follows it.
+    /// Whether there is a dot at the place, and there may be a suffix as long as what follows it.
     fn may_follow(&self, text: &[u8], place: usize) -> bool
         requires { place < length text.now }
         ensures short { IsTrue result → length text.now ≤ place + 254 }
         ensures dot { IsTrue result → get_or text.now place 0 ≡ 46 }
         ensures none { IsFalse result
-            → first_answer (λ name. realm_with (shown self.now).realms (suffix name))
+            → first_answer (λ name. owner_with (shown self.now) (suffix name))
             (after_dots (drop (place + 1) text.now))
-            ≡ first_answer (λ name. realm_with (shown self.now).realms (suffix name))
+            ≡ first_answer (λ name. owner_with (shown self.now) (suffix name))
             (after_dots (drop place text.now)) }
     {
         text[place] == b'.' && self.may_have_suffix(text.len() - place - 1)
     }
 
-    /// The realm that has the suffix of this key.
-    fn realm_of_suffix(&self, key: &[u8]) -> Option<u16>
+    /// Whose the suffix of this key is.
+    fn owner_of_suffix(&self, key: &[u8]) -> Option<u16>
         ensures { (name : List ℕ) → key.now ≡ pattern_key (suffix name)
-            → result ≡ realm_with (shown self.now).realms (suffix name) }
+            → result ≡ owner_with (shown self.now) (suffix name) }
     {
         owner_of(&self.found_by.names, key)
     }
 
-    /// The realm that has the suffix behind a place of a text, which stands there in lower case too: what begins at a
+    /// Whose the suffix is behind a place of a text, which stands there in lower case too: what begins at a
     /// dot there is a suffix's key.
-    fn realm_behind(&self, text: &[u8], lowered: &[u8], place: usize) -> Option<u16>
+    fn owner_behind(&self, text: &[u8], lowered: &[u8], place: usize) -> Option<u16>
         requires same { lowered.now ≡ str_to_ascii_lowercase text.now }
         requires within { place < length text.now }
-        ensures { option_or result (first_answer (λ name. realm_with (shown self.now).realms (suffix name))
+        ensures { option_or result (first_answer (λ name. owner_with (shown self.now) (suffix name))
             (after_dots (drop (place + 1) text.now)))
-            ≡ first_answer (λ name. realm_with (shown self.now).realms (suffix name))
+            ≡ first_answer (λ name. owner_with (shown self.now) (suffix name))
             (after_dots (drop place text.now)) }
     {
         if self.may_follow(text, place) {
-            self.realm_of_suffix(from_place(lowered, place))
+            self.owner_of_suffix(from_place(lowered, place))
         } else {
             None
         }
     }
 
-    /// The realm of the longest suffix that follows one of the dots of a text, which stands there in lower case too.
-    fn realm_with_lowered_suffix(&self, text: &[u8], lowered: &[u8]) -> Option<u16>
+    /// Whose the longest suffix is that follows one of the dots of a text, which stands there in lower case too.
+    fn owner_of_lowered_suffix(&self, text: &[u8], lowered: &[u8]) -> Option<u16>
         requires { lowered.now ≡ str_to_ascii_lowercase text.now }
-        ensures { result ≡ first_answer (λ name. realm_with (shown self.now).realms (suffix name))
+        ensures { result ≡ first_answer (λ name. owner_with (shown self.now) (suffix name))
             (after_dots text.now) }
     {
         for i in 0..text.len() {
-            if let Some(realm) = self.realm_behind(text, lowered, i) {
-                return Some(realm);
+            if let Some(owner) = self.owner_behind(text, lowered, i) {
+                return Some(owner);
             }
         }
         None
     }
 
-    /// The same of a text that no realm's suffix with its dot is longer than.
-    fn realm_with_near_suffix(&self, text: &[u8]) -> Option<u16>
+    /// The same of a text that no suffix with its dot is longer than.
+    fn owner_of_near_suffix(&self, text: &[u8]) -> Option<u16>
         requires { length text.now ≤ 254 }
-        ensures { result ≡ first_answer (λ name. realm_with (shown self.now).realms (suffix name))
+        ensures { result ≡ first_answer (λ name. owner_with (shown self.now) (suffix name))
             (after_dots text.now) }
     {
         let mut buffer = [0; 254];
         lower_in(&mut buffer, text);
-        self.realm_with_lowered_suffix(text, &buffer[..text.len()])
+        self.owner_of_lowered_suffix(text, &buffer[..text.len()])
     }
 
-    /// The realm of the longest suffix that follows one of the dots. Nothing is copied where no realm has a
-    /// suffix as long as what follows any of them.
-    fn realm_with_suffix(&self, rest: &[u8]) -> Option<u16>
-        ensures { result ≡ first_answer (λ name. realm_with (shown self.now).realms (suffix name))
+    /// Whose the longest suffix is that follows one of the dots. Nothing is copied where there is no suffix as long
+    /// as what follows any of them.
+    fn owner_of_longest_suffix(&self, rest: &[u8]) -> Option<u16>
+        ensures { result ≡ first_answer (λ name. owner_with (shown self.now) (suffix name))
             (after_dots rest.now) }
     {
         for i in 0..rest.len() {
             if self.may_follow(rest, i) {
-                return self.realm_with_near_suffix(from_place(rest, i));
+                return self.owner_of_near_suffix(from_place(rest, i));
             }
         }
         None
     }
 
-    /// The realm of a pattern that a name fits, where no realm has the name itself.
-    fn realm_with_pattern(&self, name: &[u8]) -> Option<u16>
-        ensures { result ≡ first_answer (realm_with (shown self.now).realms)
-            (further_patterns name.now) }
+    /// Whose the nearest pattern is that a name fits, where the name itself is nobody's.
+    fn owner_of_pattern(&self, name: &[u8]) -> Option<u16>
+        ensures { result ≡ first_answer (owner_with (shown self.now)) (further_patterns name.now) }
     {
         if name.is_empty() {
             return None;
         }
-        match self.realm_with_suffix(from_place(name, 1)) {
-            Some(realm) => Some(realm),
-            None => self.realm_with(PatternRef::Any),
+        match self.owner_of_longest_suffix(from_place(name, 1)) {
+            Some(owner) => Some(owner),
+            None => self.owner_with(PatternRef::Any),
         }
     }
 
-    /// The index of the realm that a name means, without ASCII case: the one that has this name, else the
-    /// one that has the longest suffix `*.` and a name which it fits, else the one that has `*`.
-    #[tactic(auto, unfolding(crate::specs::Lookup::realm_named))]
-    pub fn realm_index(&self, name: &[u8]) -> Option<u16>
-        ensures value { result ≡ realm_named (shown self.now).realms name.now }
+    /// Whether a name may fit a pattern: names needn't be well formed, or it is.
+    fn may_fit(&self, name: &[u8]) -> bool
+        ensures { result ≡ may_fit (shown self.now) name.now }
+    {
+        !self.well_formed || is_well_formed(name)
+    }
+
+    /// Whose the nearest pattern is that decides of a name.
+    fn owner_of_name(&self, name: &[u8]) -> Option<u16>
+        ensures { result ≡ first_answer (owner_with (shown self.now)) (patterns_for (shown self.now) name.now) }
+    {
+        match self.owner_with(PatternRef::Name(name)) {
+            Some(owner) => Some(owner),
+            None => {
+                if self.may_fit(name) {
+                    self.owner_of_pattern(name)
+                } else {
+                    None
+                }
+            }
+        }
+    }
+
+    /// The owner, where it is a realm.
+    fn realm_owning(&self, owner: u16) -> Option<u16>
+        ensures value { result ≡ realm_owning (shown self.now) owner }
         ensures bound { IfSome result (λ r. r < vec_len self.now.realms) }
     {
-        match self.realm_with(PatternRef::Name(name)) {
-            Some(realm) => Some(realm),
-            None => self.realm_with_pattern(name),
+        if usize::from(owner) < self.realms.len() {
+            Some(owner)
+        } else {
+            None
+        }
+    }
+
+    /// The index of the realm that a name means, without ASCII case. The first of these that is there decides: the
+    /// name itself, the longest suffix `*.` and a name which it fits, and `*`; a name that has to be well formed and
+    /// isn't fits none of the two. None where that is one to reject.
+    #[tactic(auto, unfolding(crate::specs::Lookup::realm_named))]
+    pub fn realm_index(&self, name: &[u8]) -> Option<u16>
+        ensures value { result ≡ realm_named (shown self.now) name.now }
+        ensures bound { IfSome result (λ r. r < vec_len self.now.realms) }
+    {
+        match self.owner_of_name(name) {
+            Some(owner) => self.realm_owning(owner),
+            None => None,
         }
     }
 

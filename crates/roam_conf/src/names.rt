@@ -3,8 +3,9 @@
 ghost use Rattle.std.specs.Prelude.{◌≡◌, ◌≤◌, ◌+◌, ◌^◌, ◌∷◌, ◌++◌, IfOk, length, map};
 ghost use Rattle.std.specs.Prelude.{ℕ, take, drop, true};
 ghost use Rattle.std.specs.Str.{str_to_ascii_lowercase};
-ghost use Rattle.roam_conf.specs.Index.{owners, owner_of, all_new, pattern_key, of_realm, all_patterns, pattern_seen};
+ghost use Rattle.roam_conf.specs.Index.{owners, owner_of, all_new, pattern_key, of_owner, all_patterns, pattern_seen};
 ghost use Rattle.roam_conf.specs.Index.{is_marked, HasMark, AreMarked};
+ghost use Rattle.roam_conf.specs.Lookup.{pattern_lists};
 ghost use Rattle.roam_conf.specs.Parts.{shown_realm};
 ghost use Rattle.roam_conf.specs.Patterns.{shown_pattern, patterns_of};
 
@@ -50,21 +51,21 @@ fn pattern_key(alloc: Global, pattern: &RealmPattern) -> Result<Vec<u8>, AllocEr
     }
 }
 
-/// Notes patterns of a realm, until one is there already: whether all are new.
+/// Notes patterns of an owner, until one is there already: whether all are new.
 fn note_patterns(
     index: &mut Index,
     alloc: Global,
     patterns: &[RealmPattern],
-    realm: u16,
+    owner: u16,
 ) -> Result<bool, AllocError>
     ensures new { IfOk result (λ new. new ≡ all_new (owners index.old)
-        (map (of_realm realm) (map shown_pattern patterns.now))) }
+        (map (of_owner owner) (map shown_pattern patterns.now))) }
     ensures noted { IfOk result (λ new. new ≡ true → owners index.new
-        ≡ owners index.old ++ map (of_realm realm) (map shown_pattern patterns.now)) }
+        ≡ owners index.old ++ map (of_owner owner) (map shown_pattern patterns.now)) }
 {
     for pattern in patterns {
         let key = pattern_key(alloc, pattern)?;
-        if !note(index, key, realm)? {
+        if !note(index, key, owner)? {
             return Ok(false);
         }
     }
@@ -79,9 +80,9 @@ fn note_realm(
     place: u16,
 ) -> Result<bool, AllocError>
     ensures new { IfOk result (λ new. new ≡ all_new (owners index.old)
-        (map (of_realm place) (patterns_of (shown_realm realm.now)))) }
+        (map (of_owner place) (patterns_of (shown_realm realm.now)))) }
     ensures noted { IfOk result (λ new. new ≡ true → owners index.new
-        ≡ owners index.old ++ map (of_realm place) (patterns_of (shown_realm realm.now))) }
+        ≡ owners index.old ++ map (of_owner place) (patterns_of (shown_realm realm.now))) }
 {
     let key = key_of(alloc, WHOLE, realm.name.as_bytes())?;
     if !note(index, key, place)? {
@@ -91,16 +92,12 @@ fn note_realm(
 }
 
 /// Notes the names and the patterns of realms, until one is there already: whether all are new.
-pub(crate) fn note_realms(
-    index: &mut Index,
-    alloc: Global,
-    realms: &[Realm],
-) -> Result<bool, AllocError>
+fn note_realms(index: &mut Index, alloc: Global, realms: &[Realm]) -> Result<bool, AllocError>
     requires { length realms.now ≤ 2 ^ 16 }
     ensures new { IfOk result (λ new. new ≡ all_new (owners index.old)
-        (all_patterns 0 (map shown_realm realms.now))) }
+        (all_patterns 0 (map patterns_of (map shown_realm realms.now)))) }
     ensures noted { IfOk result (λ new. new ≡ true → owners index.new
-        ≡ owners index.old ++ all_patterns 0 (map shown_realm realms.now)) }
+        ≡ owners index.old ++ all_patterns 0 (map patterns_of (map shown_realm realms.now))) }
 {
     for (place, realm) in realms.iter().enumerate() {
         if !note_realm(index, alloc, realm, place as u16)? {
@@ -108,6 +105,27 @@ pub(crate) fn note_realms(
         }
     }
     Ok(true)
+}
+
+/// Notes the names and the patterns of realms and those to reject, which come behind them, until one is there already:
+/// whether all are new.
+pub(crate) fn note_all(
+    index: &mut Index,
+    alloc: Global,
+    realms: &[Realm],
+    reject: &[RealmPattern],
+) -> Result<bool, AllocError>
+    requires { length realms.now ≤ 1024 }
+    ensures new { IfOk result (λ new. new ≡ all_new (owners index.old)
+        (all_patterns 0 (pattern_lists (map shown_realm realms.now) (map shown_pattern reject.now)))) }
+    ensures noted { IfOk result (λ new. new ≡ true → owners index.new ≡ owners index.old
+        ++ all_patterns 0 (pattern_lists (map shown_realm realms.now) (map shown_pattern reject.now))) }
+{
+    if !note_realms(index, alloc, realms)? {
+        return Ok(false);
+    }
+    let are_new = note_patterns(index, alloc, reject, realms.len() as u16)?;
+    Ok(are_new)
 }
 
 /// A key in front of a buffer that has room for it: a kind, and a name in lower case.
@@ -142,8 +160,8 @@ pub(crate) fn kind_and_name(pattern: PatternRef<'_>) -> (u8, &[u8])
     }
 }
 
-/// The realm that has the pattern of this kind and name. Takes no memory.
-pub(crate) fn realm_of(index: &Index, kind: u8, name: &[u8]) -> Option<u16>
+/// The owner of the pattern of this kind and name. Takes no memory.
+pub(crate) fn owner_of_pattern(index: &Index, kind: u8, name: &[u8]) -> Option<u16>
     requires { length name.now ≤ 253 }
     ensures { result ≡ owner_of (owners index.now) (kind ∷ str_to_ascii_lowercase name.now) }
 {

@@ -1,9 +1,11 @@
 //! The parts that a configuration is made of.
 
-ghost use Rattle.std.specs.Prelude.{◌≤◌, vec_len};
+ghost use Rattle.std.specs.Prelude.{◌≡◌, ◌≤◌, map, true, vec_len};
+ghost use Rattle.std.specs.List.{list_all};
 ghost use Rattle.std.specs.Option.{ForSome};
+ghost use Rattle.roam_conf.specs.Patterns.{is_reject, shown_pattern};
 
-use crate::{Endpoint, Peer, Realm};
+use crate::{Endpoint, Peer, Realm, RealmPattern};
 
 /// The parts that a configuration is made of: each value is in its range, and something may still stand
 /// twice.
@@ -29,6 +31,12 @@ pub struct ConfigParts {
     pub status_server: bool,
     /// Whether each worker has an `auth` and an `acct` socket of its own.
     pub spread: bool,
+    /// Names and suffixes that are of no realm: at most 1024.
+    pub reject: Vec<RealmPattern>,
+    /// Whether a name has to be well formed (RFC 7542, section 2.2) to fit a pattern.
+    pub well_formed: bool,
+    /// Whether an Accounting-Request without a User-Name is answered by the broker itself.
+    pub answer_unnamed: bool,
     /// 1 to 1024 peers.
     pub peers: Vec<Peer>,
     /// 1 to 1024 realms.
@@ -38,6 +46,8 @@ pub struct ConfigParts {
     ghost trace_limit_range: { (1 ≤ trace_limit) × (trace_limit ≤ 1000000) },
     ghost trace_octets_range: { (1 ≤ trace_octets) × (trace_octets ≤ 1073741824) },
     ghost max_hops_range: { ForSome max_hops (λ n. (1 ≤ n) × (n ≤ 100)) },
+    ghost reject_count: { vec_len reject ≤ 1024 },
+    ghost reject_names: { list_all is_reject (map shown_pattern reject.items) ≡ true },
     ghost peer_count: { (1 ≤ vec_len peers) × (vec_len peers ≤ 1024) },
     ghost realm_count: { (1 ≤ vec_len realms) × (vec_len realms ≤ 1024) },
 }

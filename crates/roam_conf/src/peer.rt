@@ -1,11 +1,13 @@
 //! An access server, or the proxy of a visited network.
 
-ghost use Rattle.std.specs.Prelude.{◌≤◌, length, string_bytes, ◌≡◌, true};
+ghost use Rattle.std.specs.Prelude.{◌≤◌, length, string_bytes, ◌≡◌, true, vec_len};
 ghost use Rattle.std.specs.List.{list_all};
 ghost use Rattle.roam_conf.specs.Letters.{is_peer_letter};
 ghost use Rattle.std.specs.Option.{ForSome};
+ghost use Rattle.roam_wire.specs.RemovedAttributes.{is_removal_in_requests, is_removal_in_replies};
 
 use crate::Endpoint;
+use roam_wire::RemovedAttribute;
 
 /// An access server (NAS), or the proxy of a visited network, known by its IPv4 address.
 #[derive(Drop, PartialEq, Eq)]
@@ -23,11 +25,26 @@ pub struct Peer {
     pub nas_id: Option<String>,
     /// Whether each Access-Request of the peer needs a Message-Authenticator.
     pub require_seal: bool,
+    /// Whether an Access-Request of the peer with a Proxy-State needs a Message-Authenticator.
+    pub limit_proxy_state: bool,
+    /// The peer's realm, which its requests go out with as Operator-Name (RFC 5580): 1 to 252 octets.
+    pub operator_name: Option<String>,
+    /// Whether a Chargeable-User-Identity (RFC 4372) is asked for in the peer's Access-Requests.
+    pub ask_cui: bool,
+    /// The attributes of the peer's requests that aren't forwarded: at most 64.
+    pub request_without: Vec<RemovedAttribute>,
+    /// The attributes of replies to the peer, and of CoA-Requests, that aren't returned: at most 64.
+    pub reply_without: Vec<RemovedAttribute>,
     ghost name_length: { (1 ≤ length (string_bytes name)) × (length (string_bytes name) ≤ 64) },
     ghost name_letters: { list_all is_peer_letter (string_bytes name) ≡ true },
     ghost secret_length: { (1 ≤ length (string_bytes secret)) × (length (string_bytes secret) ≤ 64) },
     ghost nas_id_length: { ForSome nas_id
         (λ s. (1 ≤ length (string_bytes s)) × (length (string_bytes s) ≤ 253)) },
+    ghost operator_name_length: { ForSome operator_name
+        (λ s. (1 ≤ length (string_bytes s)) × (length (string_bytes s) ≤ 252)) },
+    ghost few_without: { (vec_len request_without ≤ 64) × (vec_len reply_without ≤ 64) },
+    ghost request_removals: { list_all is_removal_in_requests request_without.items ≡ true },
+    ghost reply_removals: { list_all is_removal_in_replies reply_without.items ≡ true },
     ghost coa_port: { ForSome coa (λ e. 1 ≤ e.port) },
 }
 

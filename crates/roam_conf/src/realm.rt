@@ -1,12 +1,16 @@
 //! A realm: its sockets, its limits and its home servers.
 
-ghost use Rattle.std.specs.Prelude.{◌≤◌, length, map, string_bytes, vec_len, ◌≡◌, true};
+ghost use Rattle.std.specs.Prelude.{◌≤◌, length, map, string_bytes, vec_len, ◌≡◌, true, is_some};
 ghost use Rattle.std.specs.List.{list_all};
 ghost use Rattle.std.specs.Option.{ForSome};
+ghost use Rattle.roam_wire.specs.RemovedAttributes.{is_removal_in_requests, is_removal_in_replies};
 ghost use Rattle.roam_conf.specs.Letters.{is_realm_letter};
+ghost use Rattle.roam_conf.specs.declared.accounting.Accounting.TheVariants.{Forwarded};
+ghost use Rattle.roam_conf.specs.declared.server.Server.{Server};
 ghost use Rattle.roam_conf.specs.Patterns.{is_pattern, shown_pattern};
 
-use crate::{Endpoint, RealmPattern, Server};
+use crate::{Accounting, Endpoint, RealmPattern, Server};
+use roam_wire::RemovedAttribute;
 
 /// A realm: its home servers, and the sockets that the broker keeps for it.
 #[derive(Drop, PartialEq, Eq)]
@@ -15,6 +19,18 @@ pub struct Realm {
     pub name: String,
     /// What names the realm besides: at most 256 patterns.
     pub also: Vec<RealmPattern>,
+    /// The names of the peers whose requests the realm takes, where it doesn't take all peers': at most 1024.
+    pub peers: Option<Vec<String>>,
+    /// Whether the realm takes no requests of a peer at the address of one of its servers.
+    pub loop_prevention: bool,
+    /// What becomes of the realm's Accounting-Requests.
+    pub accounting: Accounting,
+    /// The attributes of the realm's requests that aren't forwarded: at most 64.
+    pub request_without: Vec<RemovedAttribute>,
+    /// The attributes of the realm's replies, and of its CoA-Requests, that aren't returned: at most 64.
+    pub reply_without: Vec<RemovedAttribute>,
+    /// How many requests of one code for one name may wait, where that is limited: 1 to 4096.
+    pub share: Option<u16>,
     /// The broker's socket from which the realm's packets are forwarded; its port isn't 0.
     pub out: Endpoint,
     /// The broker's socket that takes the realm's reverse requests (RFC 5176), where it takes them; its port
@@ -41,6 +57,12 @@ pub struct Realm {
     ghost name_letters: { list_all is_realm_letter (string_bytes name) ≡ true },
     ghost also_count: { vec_len also ≤ 256 },
     ghost also_names: { list_all is_pattern (map shown_pattern also.items) ≡ true },
+    ghost peer_names: { ForSome peers (λ names. vec_len names ≤ 1024) },
+    ghost few_without: { (vec_len request_without ≤ 64) × (vec_len reply_without ≤ 64) },
+    ghost request_removals: { list_all is_removal_in_requests request_without.items ≡ true },
+    ghost reply_removals: { list_all is_removal_in_replies reply_without.items ≡ true },
+    ghost share_range: { ForSome share (λ n. (1 ≤ n) × (n ≤ 4096)) },
+    ghost accounted: { accounting ≡ Forwarded → list_all (λ (s : Server). is_some s.acct) servers.items ≡ true },
     ghost ports: { (1 ≤ out.port) × ForSome reverse (λ e. 1 ≤ e.port) },
     ghost tries_range: { (1 ≤ tries) × (tries ≤ 10) },
     ghost wait_range: { (1 ≤ wait) × (wait ≤ 60000) },

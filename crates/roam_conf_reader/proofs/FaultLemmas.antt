@@ -5,9 +5,9 @@ use Rattle.std.proofs.lemmas.Option.{same_Some}
 use Rattle.toml.specs.Data.{Members}
 use Rattle.toml.specs.Parse.{parse_document}
 use Rattle.roam_conf_reader.specs.declared.fault.ConfFault.{ConfFault}
-use Rattle.roam_conf_reader.specs.declared.fault.ConfFault.TheVariants.{DuplicateRealm, DuplicatePeer, DuplicateEndpoint, DuplicateServer, DuplicateLink}
+use Rattle.roam_conf_reader.specs.declared.fault.ConfFault.TheVariants.{DuplicateRealm, DuplicatePeer, DuplicateEndpoint, DuplicateServer, DuplicateLink, UnknownPeer}
 use Rattle.roam_conf.specs.Config.{ConfigView}
-use Rattle.roam_conf.specs.Duplicates.{IsDistinct}
+use Rattle.roam_conf.specs.Consistent.{IsConsistent}
 use Rattle.roam_conf_reader.specs.Document.{StatesConfig, document_misses}
 use Rattle.roam_conf_reader.specs.Faults.{first_duplicate, Misses, StatesNone, StatesDuplicate, has_duplicate, NoneHolds, IsFirstFault, every_fault}
 use Rattle.roam_conf_reader.proofs.UniqueLemmas.{config_unique}
@@ -18,65 +18,82 @@ pub record Reads (text : List ℕ) (members : Members) (config : ConfigView) : T
   pub complete : document_misses members ≡ false
   pub stated : StatesConfig members config
 
-pub not_syntax : (text : List ℕ) (members : Members) → parse_document text ≡ Some members → parse_document text ≡ None → ⊥
+pub not_syntax : (text : List ℕ) (members : Members) → parse_document text ≡ Some members →
+    parse_document text ≡ None → ⊥
 not_syntax text ms parsed unparsed = cc
 
-pub not_missed : (text : List ℕ) (members : Members) → parse_document text ≡ Some members → document_misses members ≡ false → Misses text → ⊥
+pub not_missed : (text : List ℕ) (members : Members) → parse_document text ≡ Some members →
+    document_misses members ≡ false → Misses text → ⊥
 not_missed text ms parsed complete misses =
     let same : ms ≡ misses.members = same_Some ms misses.members (sym parsed ∙ misses.parsed) in
     cc
 
-pub not_none : (text : List ℕ) (members : Members) (config : ConfigView) → parse_document text ≡ Some members → StatesConfig members config → StatesNone text → ⊥
+pub not_none : (text : List ℕ) (members : Members) (config : ConfigView) → parse_document text ≡ Some members →
+    StatesConfig members config → StatesNone text → ⊥
 not_none text ms config parsed stated none =
     let same : ms ≡ none.members = same_Some ms none.members (sym parsed ∙ none.parsed) in
     none.unstated config (subst (λ m. StatesConfig m config) same stated)
 
-not_twice : (text : List ℕ) (members : Members) (config : ConfigView) (fault : ConfFault) → Reads text members config → has_duplicate fault config ≡ false → StatesDuplicate text fault → ⊥
+not_twice : (text : List ℕ) (members : Members) (config : ConfigView) (fault : ConfFault) → Reads text members config
+    → has_duplicate fault config ≡ false → StatesDuplicate text fault → ⊥
 not_twice text ms config fault reads once twice =
     let same : twice.stated.members ≡ ms = same_Some twice.stated.members ms (sym twice.stated.parsed ∙ reads.parsed) in
     let stated : StatesConfig ms twice.config = subst (λ m. StatesConfig m twice.config) same twice.stated.stated in
     let one : twice.config ≡ config = config_unique ms twice.config config stated reads.stated in
     false≢true (sym once ∙ ap (has_duplicate fault) (sym one) ∙ twice.twice)
 
--- the first of five tests that is true
-abbrev first_of : Bool → Bool → Bool → Bool → Bool → Option ConfFault
-first_of true b c d e = Some DuplicateRealm
-first_of false true c d e = Some DuplicatePeer
-first_of false false true d e = Some DuplicateEndpoint
-first_of false false false true e = Some DuplicateServer
-first_of false false false false true = Some DuplicateLink
-first_of false false false false false = None
+-- the first of six tests that is true
+abbrev first_of : Bool → Bool → Bool → Bool → Bool → Bool → Option ConfFault
+first_of true b c d e f = Some DuplicateRealm
+first_of false true c d e f = Some DuplicatePeer
+first_of false false true d e f = Some DuplicateEndpoint
+first_of false false false true e f = Some DuplicateServer
+first_of false false false false true f = Some DuplicateLink
+first_of false false false false false true = Some UnknownPeer
+first_of false false false false false false = None
 
-first_of_config : (config : ConfigView) → first_duplicate config ≡ first_of (has_duplicate DuplicateRealm config) (has_duplicate DuplicatePeer config) (has_duplicate DuplicateEndpoint config) (has_duplicate DuplicateServer config) (has_duplicate DuplicateLink config)
+first_of_config : (config : ConfigView) →
+    first_duplicate config ≡ first_of (has_duplicate DuplicateRealm config) (has_duplicate DuplicatePeer config)
+    (has_duplicate DuplicateEndpoint config) (has_duplicate DuplicateServer config)
+    (has_duplicate DuplicateLink config) (has_duplicate UnknownPeer config)
 unfolding first_duplicate
-first_of_config config = by_cases _ _ _ _ _
+first_of_config config = by_cases _ _ _ _ _ _
   where
-    by_cases : (a b c d e : Bool) → cond a (Some DuplicateRealm) (cond b (Some DuplicatePeer) (cond c (Some DuplicateEndpoint) (cond d (Some DuplicateServer) (cond e (Some DuplicateLink) None)))) ≡ first_of a b c d e
-    by_cases true b c d e = refl
-    by_cases false true c d e = refl
-    by_cases false false true d e = refl
-    by_cases false false false true e = refl
-    by_cases false false false false true = refl
-    by_cases false false false false false = refl
+    by_cases : (a b c d e f : Bool) →
+        cond a (Some DuplicateRealm) (cond b (Some DuplicatePeer)
+        (cond c (Some DuplicateEndpoint)
+        (cond d (Some DuplicateServer) (cond e (Some DuplicateLink) (cond f (Some UnknownPeer) None)))))
+        ≡ first_of a b c d e f
+    by_cases true b c d e f = refl
+    by_cases false true c d e f = refl
+    by_cases false false true d e f = refl
+    by_cases false false false true e f = refl
+    by_cases false false false false true f = refl
+    by_cases false false false false false true = refl
+    by_cases false false false false false false = refl
 
--- the five tests of a configuration, with the answer of each
-record Tests (config : ConfigView) (a b c d e : Bool) : Type 0 where
+-- the six tests of a configuration, with the answer of each
+record Tests (config : ConfigView) (a b c d e f : Bool) : Type 0 where
   realm : has_duplicate DuplicateRealm config ≡ a
   peer : has_duplicate DuplicatePeer config ≡ b
   endpoint : has_duplicate DuplicateEndpoint config ≡ c
   server : has_duplicate DuplicateServer config ≡ d
   link : has_duplicate DuplicateLink config ≡ e
+  known : has_duplicate UnknownPeer config ≡ f
 
 -- a fault that is there, after those that aren't
-found : (text : List ℕ) (members : Members) (config : ConfigView) (fault : ConfFault) → Reads text members config → has_duplicate fault config ≡ true → StatesDuplicate text fault
+found : (text : List ℕ) (members : Members) (config : ConfigView) (fault : ConfFault) → Reads text members config →
+    has_duplicate fault config ≡ true → StatesDuplicate text fault
 found text ms config fault reads twice = record {
   config = config;
   stated = record { members = ms; parsed = reads.parsed; stated = reads.stated };
   twice = twice;
 }
 
-first_fault_at : (text : List ℕ) (members : Members) (config : ConfigView) (fault : ConfFault) → Reads text members config → (a b c d e : Bool) → Tests config a b c d e → first_of a b c d e ≡ Some fault → IsFirstFault text fault
-first_fault_at text ms config fault reads true b c d e tests is =
+first_fault_at : (text : List ℕ) (members : Members) (config : ConfigView) (fault : ConfFault) →
+    Reads text members config → (a b c d e f : Bool) → Tests config a b c d e f → first_of a b c d e f ≡ Some fault →
+    IsFirstFault text fault
+first_fault_at text ms config fault reads true b c d e f tests is =
     let n1 = not_syntax text ms reads.parsed in
     let n2 = not_missed text ms reads.parsed reads.complete in
     let n3 = not_none text ms config reads.parsed reads.stated in
@@ -84,7 +101,7 @@ first_fault_at text ms config fault reads true b c d e tests is =
       holds = found text ms config DuplicateRealm reads tests.realm;
       none_before = (n1, (n2, (n3, tt)));
     })
-first_fault_at text ms config fault reads false true c d e tests is =
+first_fault_at text ms config fault reads false true c d e f tests is =
     let n1 = not_syntax text ms reads.parsed in
     let n2 = not_missed text ms reads.parsed reads.complete in
     let n3 = not_none text ms config reads.parsed reads.stated in
@@ -93,7 +110,7 @@ first_fault_at text ms config fault reads false true c d e tests is =
       holds = found text ms config DuplicatePeer reads tests.peer;
       none_before = (n1, (n2, (n3, (n4, tt))));
     })
-first_fault_at text ms config fault reads false false true d e tests is =
+first_fault_at text ms config fault reads false false true d e f tests is =
     let n1 = not_syntax text ms reads.parsed in
     let n2 = not_missed text ms reads.parsed reads.complete in
     let n3 = not_none text ms config reads.parsed reads.stated in
@@ -103,7 +120,7 @@ first_fault_at text ms config fault reads false false true d e tests is =
       holds = found text ms config DuplicateEndpoint reads tests.endpoint;
       none_before = (n1, (n2, (n3, (n4, (n5, tt)))));
     })
-first_fault_at text ms config fault reads false false false true e tests is =
+first_fault_at text ms config fault reads false false false true e f tests is =
     let n1 = not_syntax text ms reads.parsed in
     let n2 = not_missed text ms reads.parsed reads.complete in
     let n3 = not_none text ms config reads.parsed reads.stated in
@@ -114,7 +131,7 @@ first_fault_at text ms config fault reads false false false true e tests is =
       holds = found text ms config DuplicateServer reads tests.server;
       none_before = (n1, (n2, (n3, (n4, (n5, (n6, tt))))));
     })
-first_fault_at text ms config fault reads false false false false true tests is =
+first_fault_at text ms config fault reads false false false false true f tests is =
     let n1 = not_syntax text ms reads.parsed in
     let n2 = not_missed text ms reads.parsed reads.complete in
     let n3 = not_none text ms config reads.parsed reads.stated in
@@ -126,44 +143,74 @@ first_fault_at text ms config fault reads false false false false true tests is 
       holds = found text ms config DuplicateLink reads tests.link;
       none_before = (n1, (n2, (n3, (n4, (n5, (n6, (n7, tt)))))));
     })
-first_fault_at text ms config fault reads false false false false false tests is = cc
+first_fault_at text ms config fault reads false false false false false true tests is =
+    let n1 = not_syntax text ms reads.parsed in
+    let n2 = not_missed text ms reads.parsed reads.complete in
+    let n3 = not_none text ms config reads.parsed reads.stated in
+    let n4 = not_twice text ms config DuplicateRealm reads tests.realm in
+    let n5 = not_twice text ms config DuplicatePeer reads tests.peer in
+    let n6 = not_twice text ms config DuplicateEndpoint reads tests.endpoint in
+    let n7 = not_twice text ms config DuplicateServer reads tests.server in
+    let n8 = not_twice text ms config DuplicateLink reads tests.link in
+    subst (IsFirstFault text) (same_Some _ _ is) (record {
+      holds = found text ms config UnknownPeer reads tests.known;
+      none_before = (n1, (n2, (n3, (n4, (n5, (n6, (n7, (n8, tt))))))));
+    })
+first_fault_at text ms config fault reads false false false false false false tests is = cc
 
--- a text with duplicates has the first of them as its first fault
-pub first_fault : (text : List ℕ) (members : Members) (config : ConfigView) (fault : ConfFault) → Reads text members config → first_duplicate config ≡ Some fault → IsFirstFault text fault
+-- a text with duplicates, or that names a peer that isn't there, has the first of these as its first fault
+pub first_fault : (text : List ℕ) (members : Members) (config : ConfigView) (fault : ConfFault) →
+    Reads text members config → first_duplicate config ≡ Some fault → IsFirstFault text fault
 first_fault text ms config fault reads is =
-    first_fault_at text ms config fault reads _ _ _ _ _ (record { realm = refl; peer = refl; endpoint = refl; server = refl; link = refl }) (sym (first_of_config config) ∙ is)
+    first_fault_at text ms config fault reads _ _ _ _ _ _
+    (record { realm = refl; peer = refl; endpoint = refl; server = refl; link = refl; known = refl })
+    (sym (first_of_config config) ∙ is)
 
-none_of : (a b c d e : Bool) → first_of a b c d e ≡ None → (a ≡ false) × ((b ≡ false) × ((c ≡ false) × ((d ≡ false) × (e ≡ false))))
-none_of true b c d e is = cc
-none_of false true c d e is = cc
-none_of false false true d e is = cc
-none_of false false false true e is = cc
-none_of false false false false true is = cc
-none_of false false false false false is = (refl, (refl, (refl, (refl, refl))))
+none_of : (a b c d e f : Bool) → first_of a b c d e f ≡ None → (a ≡ false)
+    × ((b ≡ false) × ((c ≡ false) × ((d ≡ false) × ((e ≡ false) × ((f ≡ false))))))
+none_of true b c d e f is = cc
+none_of false true c d e f is = cc
+none_of false false true d e f is = cc
+none_of false false false true e f is = cc
+none_of false false false false true f is = cc
+none_of false false false false false true is = cc
+none_of false false false false false false is = (refl, (refl, (refl, (refl, (refl, refl)))))
 
--- a configuration without a first duplicate has none of the five
-pub all_distinct : (config : ConfigView) → first_duplicate config ≡ None → IsDistinct config
-all_distinct config is =
-    let none = none_of _ _ _ _ _ (sym (first_of_config config) ∙ is) in
-    record { realms = none.0; peers = none.1.0; endpoints = none.1.1.0; servers = none.1.1.1.0; links = none.1.1.1.1 }
+-- a configuration without a first duplicate has none of the six
+pub all_consistent : (config : ConfigView) → first_duplicate config ≡ None → IsConsistent config
+all_consistent config is =
+    let none = none_of _ _ _ _ _ _ (sym (first_of_config config) ∙ is) in
+    record {
+      realms = none.0;
+      peers = none.1.0;
+      endpoints = none.1.1.0;
+      servers = none.1.1.1.0;
+      links =
+          none.1.1.1.1.0;
+      known = none.1.1.1.1.1;
+    }
 
--- no fault holds in a text whose configuration has no duplicates
-pub none_holds : (text : List ℕ) (members : Members) (config : ConfigView) → Reads text members config → IsDistinct config → NoneHolds text every_fault
-none_holds text ms config reads distinct = (
+-- no fault holds in a text whose configuration has none of them
+pub none_holds : (text : List ℕ) (members : Members) (config : ConfigView) → Reads text members config →
+    IsConsistent config → NoneHolds text every_fault
+none_holds text ms config reads consistent = (
   not_syntax text ms reads.parsed,
   (
     not_missed text ms reads.parsed reads.complete,
     (
       not_none text ms config reads.parsed reads.stated,
       (
-        not_twice text ms config DuplicateRealm reads distinct.realms,
+        not_twice text ms config DuplicateRealm reads consistent.realms,
         (
-          not_twice text ms config DuplicatePeer reads distinct.peers,
+          not_twice text ms config DuplicatePeer reads consistent.peers,
           (
-            not_twice text ms config DuplicateEndpoint reads distinct.endpoints,
+            not_twice text ms config DuplicateEndpoint reads consistent.endpoints,
             (
-              not_twice text ms config DuplicateServer reads distinct.servers,
-              (not_twice text ms config DuplicateLink reads distinct.links, tt),
+              not_twice text ms config DuplicateServer reads consistent.servers,
+              (
+                not_twice text ms config DuplicateLink reads consistent.links,
+                (not_twice text ms config UnknownPeer reads consistent.known, tt),
+              ),
             ),
           ),
         ),

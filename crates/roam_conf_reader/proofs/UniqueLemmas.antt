@@ -11,7 +11,9 @@ use Rattle.roam_conf_reader.specs.Values.{number_or}
 same_value : {V : Type 0} (o : Option V) (a b : V) → o ≡ Some a → o ≡ Some b → a ≡ b
 same_value o a b p q = same_Some a b (sym p ∙ q)
 
-pub each_unique : {V : Type 0} (States : Members → V → Type 0) → ((members : Members) (a b : V) → States members a → States members b → a ≡ b) → (items : Items) (xs ys : List V) → StatesEach States items xs → StatesEach States items ys → xs ≡ ys
+pub each_unique : {V : Type 0} (States : Members → V → Type 0) →
+    ((members : Members) (a b : V) → States members a → States members b → a ≡ b) → (items : Items) (xs ys : List V)
+    → StatesEach States items xs → StatesEach States items ys → xs ≡ ys
 each_unique States unique no_items [] [] p q = refl
 each_unique States unique no_items [] (y ∷ ys) p q = absurd q
 each_unique States unique no_items (x ∷ xs) ys p q = absurd p
@@ -23,7 +25,9 @@ each_unique States unique (item (table ms) items) (x ∷ xs) (y ∷ ys) p q =
     cc
 each_unique States unique (item found items) xs ys p q = absurd p
 
-tables_unique : {V : Type 0} (States : Members → V → Type 0) → ((members : Members) (a b : V) → States members a → States members b → a ≡ b) → (items : Option Items) (xs ys : List V) → StatesTables States items xs → StatesTables States items ys → xs ≡ ys
+tables_unique : {V : Type 0} (States : Members → V → Type 0) →
+    ((members : Members) (a b : V) → States members a → States members b → a ≡ b) →
+    (items : Option Items) (xs ys : List V) → StatesTables States items xs → StatesTables States items ys → xs ≡ ys
 tables_unique States unique None xs ys p q = absurd p
 tables_unique States unique (Some items) xs ys p q = each_unique States unique items xs ys p q
 
@@ -44,6 +48,12 @@ peer_unique ms a b p q =
     let nas_ip = same_value _ a.nas_ip b.nas_ip p.nas_ip q.nas_ip in
     let nas_id = same_value _ a.nas_id b.nas_id p.nas_id q.nas_id in
     let require_seal = same_value _ a.require_seal b.require_seal p.require_seal q.require_seal in
+    let limit_proxy_state = same_value _ a.limit_proxy_state b.limit_proxy_state p.limit_proxy_state
+    q.limit_proxy_state in
+    let operator_name = same_value _ a.operator_name b.operator_name p.operator_name q.operator_name in
+    let ask_cui = same_value _ a.ask_cui b.ask_cui p.ask_cui q.ask_cui in
+    let request_without = same_value _ a.request_without b.request_without p.request_without q.request_without in
+    let reply_without = same_value _ a.reply_without b.reply_without p.reply_without q.reply_without in
     λ i. record {
       name = name i;
       ip = ip i;
@@ -52,19 +62,31 @@ peer_unique ms a b p q =
       nas_ip = nas_ip i;
       nas_id = nas_id i;
       require_seal = require_seal i;
+      limit_proxy_state = limit_proxy_state i;
+      operator_name = operator_name i;
+      ask_cui = ask_cui i;
+      request_without = request_without i;
+      reply_without = reply_without i;
     }
 
 pub realm_unique : (members : Members) (a b : RealmView) → StatesRealm members a → StatesRealm members b → a ≡ b
 realm_unique ms a b p q =
     let name = same_value _ a.name b.name p.name q.name in
     let also = same_value _ a.also b.also p.also q.also in
+    let peers = same_value _ a.peers b.peers p.peers q.peers in
+    let loop_prevention = same_value _ a.loop_prevention b.loop_prevention p.loop_prevention q.loop_prevention in
+    let accounting = same_value _ a.accounting b.accounting p.accounting q.accounting in
+    let request_without = same_value _ a.request_without b.request_without p.request_without q.request_without in
+    let reply_without = same_value _ a.reply_without b.reply_without p.reply_without q.reply_without in
+    let share = same_value _ a.share b.share p.share q.share in
     let out = same_value _ a.out b.out p.out q.out in
     let reverse = same_value _ a.reverse b.reverse p.reverse q.reverse in
     let tries = same_value _ a.tries b.tries p.tries q.tries in
     let wait = same_value _ a.wait b.wait p.wait q.wait in
     let hold = same_value _ a.hold b.hold p.hold q.hold in
     let max_pending = same_value _ a.max_pending b.max_pending p.max_pending q.max_pending in
-    let alike = subst (λ (r : Option Endpoint). number_or (sessions_unless_said r) 0 65536 (get_member (codes "max_sessions") ms) ≡ Some b.max_sessions) (sym reverse) q.max_sessions in
+    let alike = subst (λ (r : Option Endpoint). number_or (sessions_unless_said r) 0 65536
+    (get_member (codes "max_sessions") ms) ≡ Some b.max_sessions) (sym reverse) q.max_sessions in
     let max_sessions = same_value _ a.max_sessions b.max_sessions p.max_sessions alike in
     let rest = same_value _ a.rest b.rest p.rest q.rest in
     let rest_after = same_value _ a.rest_after b.rest_after p.rest_after q.rest_after in
@@ -72,6 +94,12 @@ realm_unique ms a b p q =
     λ i. record {
       name = name i;
       also = also i;
+      peers = peers i;
+      loop_prevention = loop_prevention i;
+      accounting = accounting i;
+      request_without = request_without i;
+      reply_without = reply_without i;
+      share = share i;
       out = out i;
       reverse = reverse i;
       tries = tries i;
@@ -95,6 +123,9 @@ config_unique ms a b p q =
     let max_hops = same_value _ a.max_hops b.max_hops p.max_hops q.max_hops in
     let status_server = same_value _ a.status_server b.status_server p.status_server q.status_server in
     let spread = same_value _ a.spread b.spread p.spread q.spread in
+    let reject = same_value _ a.reject b.reject p.reject q.reject in
+    let well_formed = same_value _ a.well_formed b.well_formed p.well_formed q.well_formed in
+    let answer_unnamed = same_value _ a.answer_unnamed b.answer_unnamed p.answer_unnamed q.answer_unnamed in
     let peers = tables_unique StatesPeer peer_unique _ a.peers b.peers p.peers q.peers in
     let realms = tables_unique StatesRealm realm_unique _ a.realms b.realms p.realms q.realms in
     λ i. record {
@@ -107,6 +138,9 @@ config_unique ms a b p q =
       max_hops = max_hops i;
       status_server = status_server i;
       spread = spread i;
+      reject = reject i;
+      well_formed = well_formed i;
+      answer_unnamed = answer_unnamed i;
       peers = peers i;
       realms = realms i;
     }

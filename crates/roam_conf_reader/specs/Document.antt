@@ -2,15 +2,22 @@
 use Rattle.std.specs.Prelude.{◌≡◌, ℕ, codes, ◌&&◌, ◌||◌, not, Bool, true, false, List, [], ◌∷◌, Option, Some, None, is_some}
 use Rattle.std.specs.List.{list_any, list_all}
 use Rattle.std.specs.Str.{bytes_eq}
-use Rattle.toml.specs.Data.{Data, array, table, Items, no_items, item, Members, no_members, member, get_member}
+use Rattle.toml.specs.Data.{Data, string, array, table, Items, no_items, item, Members, no_members, member, get_member}
 use Rattle.roam_conf_reader.specs.declared.values.Letters.TheVariants.{Any, PeerName, RealmName}
+use Rattle.roam_wire.specs.RemovedAttributes.{is_removal_in_requests, is_removal_in_replies}
+use Rattle.roam_conf.specs.declared.accounting.Accounting.{Accounting}
+use Rattle.roam_conf.specs.declared.accounting.Accounting.TheVariants as kinds
 use Rattle.roam_conf.specs.declared.endpoint.Endpoint.{Endpoint}
 use Rattle.roam_conf.specs.Config.{ServerView, PeerView, RealmView, ConfigView}
-use Rattle.roam_conf_reader.specs.Values.{number, letters_of, text, address, endpoint, seed_or_zeros, flag, exchange_lines, number_or, patterns, array_of, value_at, optional_at, socket_path}
+use Rattle.roam_conf_reader.specs.Values.{number, letters_of, text, address, endpoint, seed_or_zeros, flag, exchange_lines, number_or, pattern, list_of, rejects, removed, peer_names, accounting, array_of, value_at, optional_at, socket_path}
 
 -- the required keys of the four tables
 abbrev pub server_required : List (List ℕ)
-server_required = codes "auth" ∷ codes "acct" ∷ codes "secret" ∷ []
+server_required = codes "auth" ∷ codes "secret" ∷ []
+
+-- what such a table needs besides, where the realm's accounting is forwarded
+abbrev pub accounted_required : List (List ℕ)
+accounted_required = codes "acct" ∷ []
 
 abbrev pub peer_required : List (List ℕ)
 peer_required = codes "name" ∷ codes "ip" ∷ codes "secret" ∷ []
@@ -25,20 +32,24 @@ top_required =
 
 -- the keys that the four may have besides
 abbrev pub server_optional : List (List ℕ)
-server_optional = codes "require_seal" ∷ []
+server_optional = codes "acct" ∷ codes "require_seal" ∷ []
 
 abbrev pub peer_optional : List (List ℕ)
-peer_optional = codes "coa" ∷ codes "nas_ip" ∷ codes "nas_id" ∷ codes "require_seal" ∷ []
+peer_optional =
+    codes "coa" ∷ codes "nas_ip" ∷ codes "nas_id" ∷ codes "require_seal" ∷ codes "limit_proxy_state"
+    ∷ codes "operator_name" ∷ codes "ask_cui" ∷ codes "request_without" ∷ codes "reply_without" ∷ []
 
 abbrev pub realm_optional : List (List ℕ)
 realm_optional =
-    codes "also" ∷ codes "reverse" ∷ codes "tries" ∷ codes "wait" ∷ codes "hold" ∷ codes "max_pending"
-    ∷ codes "max_sessions" ∷ codes "rest" ∷ codes "rest_after" ∷ []
+    codes "also" ∷ codes "peers" ∷ codes "loop_prevention" ∷ codes "accounting" ∷ codes "request_without"
+    ∷ codes "reply_without" ∷ codes "share" ∷ codes "reverse" ∷ codes "tries" ∷ codes "wait" ∷ codes "hold"
+    ∷ codes "max_pending" ∷ codes "max_sessions" ∷ codes "rest" ∷ codes "rest_after" ∷ []
 
 abbrev pub top_optional : List (List ℕ)
 top_optional =
-    codes "shards" ∷ codes "seed" ∷ codes "trace_limit" ∷ codes "max_hops" ∷ codes "status_server" ∷ codes "trace_octets" ∷ codes "spread" ∷ codes "metrics"
-    ∷ codes "control" ∷ codes "log_exchanges" ∷ []
+    codes "shards" ∷ codes "seed" ∷ codes "trace_limit" ∷ codes "max_hops" ∷ codes "status_server" ∷ codes
+    "trace_octets" ∷ codes "spread" ∷ codes "metrics"
+    ∷ codes "control" ∷ codes "log_exchanges" ∷ codes "reject" ∷ codes "well_formed" ∷ codes "answer_unnamed" ∷ []
 
 -- the key is one of these
 abbrev pub is_one_of : List (List ℕ) → List ℕ → Bool
@@ -64,7 +75,7 @@ StatesTables States (Some items) values = StatesEach States items values
 -- a table of the array `server` of a realm
 pub record StatesServer (members : Members) (server : ServerView) : Type 0 where
   pub auth : value_at endpoint (codes "auth") members ≡ Some server.auth
-  pub acct : value_at endpoint (codes "acct") members ≡ Some server.acct
+  pub acct : optional_at endpoint (codes "acct") members ≡ Some server.acct
   pub secret : value_at (text 64 (letters_of Any)) (codes "secret") members ≡ Some server.secret
   pub require_seal : flag (get_member (codes "require_seal") members) ≡ Some server.require_seal
   pub no_other_key : has_only server_required server_optional members ≡ true
@@ -78,6 +89,14 @@ pub record StatesPeer (members : Members) (peer : PeerView) : Type 0 where
   pub nas_ip : optional_at address (codes "nas_ip") members ≡ Some peer.nas_ip
   pub nas_id : optional_at (text 253 (letters_of Any)) (codes "nas_id") members ≡ Some peer.nas_id
   pub require_seal : flag (get_member (codes "require_seal") members) ≡ Some peer.require_seal
+  pub limit_proxy_state : flag (get_member (codes "limit_proxy_state") members) ≡ Some peer.limit_proxy_state
+  pub operator_name : optional_at (text 252 (letters_of Any)) (codes "operator_name") members ≡ Some peer.operator_name
+  pub ask_cui : flag (get_member (codes "ask_cui") members) ≡ Some peer.ask_cui
+  pub request_without :
+      list_of (removed is_removal_in_requests) 64 (get_member (codes "request_without") members)
+      ≡ Some peer.request_without
+  pub reply_without :
+      list_of (removed is_removal_in_replies) 64 (get_member (codes "reply_without") members) ≡ Some peer.reply_without
   pub no_other_key : has_only peer_required peer_optional members ≡ true
 
 -- how many sessions a realm remembers where its table doesn't say it: none where it takes no reverse requests
@@ -85,10 +104,27 @@ abbrev pub sessions_unless_said : Option Endpoint → ℕ
 sessions_unless_said None = 0
 sessions_unless_said (Some reverse) = 20000
 
+-- where the realm's accounting is forwarded, each of its servers takes it
+abbrev pub are_accounted : Accounting → List ServerView → Bool
+are_accounted kinds.Forwarded servers = list_all (λ server. is_some server.acct) servers
+are_accounted _ servers = true
+
+abbrev pub is_accounted : RealmView → Bool
+is_accounted realm = are_accounted realm.accounting realm.servers
+
 -- a table of the array `realm`; `wait`, `hold` and `rest` are in milliseconds
 pub record StatesRealm (members : Members) (realm : RealmView) : Type 0 where
   pub name : value_at (text 253 (letters_of RealmName)) (codes "name") members ≡ Some realm.name
-  pub also : patterns (get_member (codes "also") members) ≡ Some realm.also
+  pub also : list_of pattern 256 (get_member (codes "also") members) ≡ Some realm.also
+  pub peers : optional_at peer_names (codes "peers") members ≡ Some realm.peers
+  pub loop_prevention : flag (get_member (codes "loop_prevention") members) ≡ Some realm.loop_prevention
+  pub accounting : accounting (get_member (codes "accounting") members) ≡ Some realm.accounting
+  pub request_without :
+      list_of (removed is_removal_in_requests) 64 (get_member (codes "request_without") members)
+      ≡ Some realm.request_without
+  pub reply_without :
+      list_of (removed is_removal_in_replies) 64 (get_member (codes "reply_without") members) ≡ Some realm.reply_without
+  pub share : optional_at (number 1 4096) (codes "share") members ≡ Some realm.share
   pub out : value_at endpoint (codes "out") members ≡ Some realm.out
   pub reverse : optional_at endpoint (codes "reverse") members ≡ Some realm.reverse
   pub tries : number_or 3 1 10 (get_member (codes "tries") members) ≡ Some realm.tries
@@ -101,14 +137,17 @@ pub record StatesRealm (members : Members) (realm : RealmView) : Type 0 where
   pub rest : number_or 30000 0 3600000 (get_member (codes "rest") members) ≡ Some realm.rest
   pub rest_after : number_or 3 1 256 (get_member (codes "rest_after") members) ≡ Some realm.rest_after
   pub servers : StatesTables StatesServer (value_at (array_of 8) (codes "server") members) realm.servers
+  pub accounted : is_accounted realm ≡ true
   pub no_other_key : has_only realm_required realm_optional members ≡ true
 
 -- ## Stated configuration
 -- A text states a configuration where it is a TOML document (as the toolchain's `toml` defines it) whose tables
 -- hold just the keys of the format, each with a value of its kind and range. A number that may be absent has a
--- default; of `max_sessions` it depends on whether the realm has a `reverse`.
+-- default; of `max_sessions` it depends on whether the realm has a `reverse`. A server's `acct` may be absent where
+-- the realm's `accounting` isn't forwarded.
 -- Source: ours
--- Rules out: a key that is overlooked; a port with a leading zero
+-- Rules out: a key that is overlooked; a port with a leading zero; `*` among the names to reject; a list that takes
+-- out a Proxy-State
 -- Stands in: `roam_conf_reader` `Document.antt`: `StatesConfig`, `Faults.antt`: `States`; `read_config`
 --
 -- the whole document
@@ -124,6 +163,9 @@ pub record StatesConfig (members : Members) (config : ConfigView) : Type 0 where
   pub max_hops : optional_at (number 1 100) (codes "max_hops") members ≡ Some config.max_hops
   pub status_server : flag (get_member (codes "status_server") members) ≡ Some config.status_server
   pub spread : flag (get_member (codes "spread") members) ≡ Some config.spread
+  pub reject : rejects (get_member (codes "reject") members) ≡ Some config.reject
+  pub well_formed : flag (get_member (codes "well_formed") members) ≡ Some config.well_formed
+  pub answer_unnamed : flag (get_member (codes "answer_unnamed") members) ≡ Some config.answer_unnamed
   pub peers : StatesTables StatesPeer (value_at (array_of 1024) (codes "peer") members) config.peers
   pub realms : StatesTables StatesRealm (value_at (array_of 1024) (codes "realm") members) config.realms
   -- what serves isn't the broker's: here it only has to be such a value
@@ -151,10 +193,19 @@ within test _ = false
 abbrev pub misses : List (List ℕ) → Members → Bool
 misses required members = not (has_all required members)
 
--- the same of a realm's table, or of one of its servers'
+-- a realm's accounting is forwarded, as far as its table says: the key is absent, or has this text
+unfoldable pub forwards : Option Data → Bool
+forwards None = true
+forwards (Some (string octets)) = bytes_eq octets (codes "forward")
+forwards (Some _) = false
+
+-- one of the required keys is absent from a realm's table, or from one of its servers'
 unfoldable pub realm_misses : Members → Bool
 realm_misses members =
-    misses realm_required members || within (misses server_required) (get_member (codes "server") members)
+    misses realm_required members
+    || within (misses server_required) (get_member (codes "server") members)
+    || forwards (get_member (codes "accounting") members)
+    && within (misses accounted_required) (get_member (codes "server") members)
 
 -- the same of the document, or of a table within it
 unfoldable pub document_misses : Members → Bool

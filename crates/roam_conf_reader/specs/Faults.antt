@@ -4,7 +4,8 @@ use Rattle.std.specs.List.{AllByRecursion}
 use Rattle.toml.specs.Data.{Members}
 use Rattle.toml.specs.Parse.{parse_document}
 use Rattle.roam_conf_reader.specs.declared.fault.ConfFault.{ConfFault}
-use Rattle.roam_conf_reader.specs.declared.fault.ConfFault.TheVariants.{Syntax, Missing, BadValue, DuplicateRealm, DuplicatePeer, DuplicateEndpoint, DuplicateServer, DuplicateLink, Memory}
+use Rattle.roam_conf_reader.specs.declared.fault.ConfFault.TheVariants.{Syntax, Missing, BadValue, DuplicateRealm, DuplicatePeer, DuplicateEndpoint, DuplicateServer, DuplicateLink, UnknownPeer, Memory}
+use Rattle.roam_conf.specs.Asking.{has_unknown_peer}
 use Rattle.roam_conf.specs.Config.{ConfigView}
 use Rattle.roam_conf_reader.specs.Document.{StatesConfig, document_misses}
 use Rattle.roam_conf.specs.Duplicates.{has_duplicate_realm, has_duplicate_peer, has_duplicate_endpoint, has_duplicate_server, has_duplicate_link}
@@ -28,16 +29,17 @@ pub record StatesNone (text : List ℕ) : Type 0 where
   pub parsed : parse_document text ≡ Some members
   pub unstated : (config : ConfigView) → ¬ (StatesConfig members config)
 
--- whether a configuration has the duplicates that the fault names
+-- whether a configuration has the duplicates that the fault names, or names a peer that isn't there
 abbrev pub has_duplicate : ConfFault → ConfigView → Bool
-has_duplicate DuplicateRealm config = has_duplicate_realm config.realms
+has_duplicate DuplicateRealm config = has_duplicate_realm config.realms config.reject
 has_duplicate DuplicatePeer config = has_duplicate_peer config.peers
 has_duplicate DuplicateEndpoint config = has_duplicate_endpoint config.auth config.acct config.realms
 has_duplicate DuplicateServer config = has_duplicate_server config.realms
 has_duplicate DuplicateLink config = has_duplicate_link config.peers config.realms
+has_duplicate UnknownPeer config = has_unknown_peer config.peers config.realms
 has_duplicate _ config = false
 
--- the text states a configuration with the duplicates that the fault names
+-- the text states such a configuration
 pub record StatesDuplicate (text : List ℕ) (fault : ConfFault) : Type 0 where
   pub config : ConfigView
   pub stated : States text config
@@ -45,7 +47,7 @@ pub record StatesDuplicate (text : List ℕ) (fault : ConfFault) : Type 0 where
 
 -- ## First fault
 -- The first of Syntax, Missing, BadValue, DuplicateRealm, DuplicatePeer, DuplicateEndpoint, DuplicateServer,
--- DuplicateLink that holds anywhere in the text.
+-- DuplicateLink, UnknownPeer that holds anywhere in the text.
 -- Source: ours
 -- Rules out: a later fault that hides an earlier one
 -- Stands in: `roam_conf_reader` `Faults.antt`: `Holds`, `IsFirstFault`; `read_config`
@@ -60,15 +62,16 @@ Holds text DuplicatePeer = StatesDuplicate text DuplicatePeer
 Holds text DuplicateEndpoint = StatesDuplicate text DuplicateEndpoint
 Holds text DuplicateServer = StatesDuplicate text DuplicateServer
 Holds text DuplicateLink = StatesDuplicate text DuplicateLink
+Holds text UnknownPeer = StatesDuplicate text UnknownPeer
 Holds text Memory = ⊥
 
--- all eight
+-- all nine
 abbrev pub every_fault : List ConfFault
 every_fault =
     Syntax ∷ Missing ∷ BadValue ∷ DuplicateRealm ∷ DuplicatePeer ∷ DuplicateEndpoint ∷ DuplicateServer
-    ∷ DuplicateLink ∷ []
+    ∷ DuplicateLink ∷ UnknownPeer ∷ []
 
--- the faults before a fault in the list of all eight
+-- the faults before a fault in the list of all nine
 abbrev pub earlier : ConfFault → List ConfFault
 earlier Syntax = []
 earlier Missing = Syntax ∷ []
@@ -79,6 +82,9 @@ earlier DuplicateEndpoint = Syntax ∷ Missing ∷ BadValue ∷ DuplicateRealm �
 earlier DuplicateServer = Syntax ∷ Missing ∷ BadValue ∷ DuplicateRealm ∷ DuplicatePeer ∷ DuplicateEndpoint ∷ []
 earlier DuplicateLink =
     Syntax ∷ Missing ∷ BadValue ∷ DuplicateRealm ∷ DuplicatePeer ∷ DuplicateEndpoint ∷ DuplicateServer ∷ []
+earlier UnknownPeer =
+    Syntax ∷ Missing ∷ BadValue ∷ DuplicateRealm ∷ DuplicatePeer ∷ DuplicateEndpoint ∷ DuplicateServer
+    ∷ DuplicateLink ∷ []
 earlier Memory = every_fault
 
 -- none of these holds in the text
@@ -90,7 +96,7 @@ pub record IsFirstFault (text : List ℕ) (fault : ConfFault) : Type 0 where
   pub holds : Holds text fault
   pub none_before : NoneHolds text (earlier fault)
 
--- the first of the five that is there
+-- the first of the six that is there
 unfoldable pub first_duplicate : ConfigView → Option ConfFault
 first_duplicate config =
     if has_duplicate DuplicateRealm config then Some DuplicateRealm
@@ -98,4 +104,5 @@ first_duplicate config =
     else if has_duplicate DuplicateEndpoint config then Some DuplicateEndpoint
     else if has_duplicate DuplicateServer config then Some DuplicateServer
     else if has_duplicate DuplicateLink config then Some DuplicateLink
+    else if has_duplicate UnknownPeer config then Some UnknownPeer
     else None

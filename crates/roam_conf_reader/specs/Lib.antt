@@ -2,6 +2,7 @@ pub mod Document
 pub mod FaultNames
 pub mod Faults
 pub mod Reading
+pub mod Removals
 pub mod Settings
 pub mod Tables
 pub mod Texts

@@ -1,8 +1,10 @@
 -- What tables state, with the texts and the arrays still in the document, as plain records. Ours.
-use Rattle.std.specs.Prelude.{◌≡◌, codes, List, Some}
+use Rattle.std.specs.Prelude.{◌≡◌, ℕ, codes, true, List, Option, Some}
 use Rattle.std.specs.Option.{option_copied}
 use Rattle.toml.specs.Data.{Members, get_member}
 use Rattle.toml.specs.View.{array_view}
+use Rattle.roam_wire.specs.RemovedAttributes.{is_removal_in_requests, is_removal_in_replies}
+use Rattle.roam_wire.specs.declared.removed_attribute.RemovedAttribute.{RemovedAttribute}
 use Rattle.roam_conf.specs.Config.{ServerView, PeerView, PatternView, whole, suffix, any, RealmView, ConfigView}
 use Rattle.roam_conf_reader.specs.declared.server.ServerText.{ServerText}
 use Rattle.roam_conf_reader.specs.declared.pattern.PatternText.{PatternText}
@@ -10,8 +12,8 @@ use Rattle.roam_conf_reader.specs.declared.pattern.PatternText.TheVariants.{Name
 use Rattle.roam_conf_reader.specs.declared.peer.PeerText.{PeerText}
 use Rattle.roam_conf_reader.specs.declared.realm.RealmText.{RealmText}
 use Rattle.roam_conf_reader.specs.declared.stated.TopText.{TopText}
-use Rattle.roam_conf_reader.specs.Document.{StatesEach, StatesServer, StatesPeer, StatesRealm, StatesConfig}
-use Rattle.roam_conf_reader.specs.Values.{patterns}
+use Rattle.roam_conf_reader.specs.Document.{StatesEach, StatesServer, StatesPeer, StatesRealm, StatesConfig, are_accounted}
+use Rattle.roam_conf_reader.specs.Values.{pattern, list_of, rejects, removed, peer_names, optional_at}
 
 -- a text of `also`
 abbrev pub pattern_said : PatternText → PatternView
@@ -27,8 +29,9 @@ server_in text = record {
   require_seal = text.require_seal;
 }
 
-abbrev pub peer_in : PeerText → PeerView
-peer_in text = record {
+-- with these lists of attributes to remove
+abbrev pub peer_in : PeerText → List RemovedAttribute → List RemovedAttribute → PeerView
+peer_in text request reply = record {
   name = text.name.now;
   ip = text.ip;
   secret = text.secret.now;
@@ -36,13 +39,34 @@ peer_in text = record {
   nas_ip = text.nas_ip;
   nas_id = option_copied text.nas_id;
   require_seal = text.require_seal;
+  limit_proxy_state = text.limit_proxy_state;
+  operator_name = option_copied text.operator_name;
+  ask_cui = text.ask_cui;
+  request_without = request;
+  reply_without = reply;
 }
 
--- with these patterns and servers
-abbrev pub realm_in : RealmText → List PatternView → List ServerView → RealmView
-realm_in text also servers = record {
+-- the table states a peer, whatever attributes to remove its arrays state
+abbrev pub StatesPeerBesideLists : Members → PeerText → Type 0
+StatesPeerBesideLists members text =
+    (request : List RemovedAttribute) → (reply : List RemovedAttribute)
+    → list_of (removed is_removal_in_requests) 64 (get_member (codes "request_without") members) ≡ Some request
+    → list_of (removed is_removal_in_replies) 64 (get_member (codes "reply_without") members) ≡ Some reply
+    → StatesPeer members (peer_in text request reply)
+
+-- with these lists
+abbrev pub realm_in :
+    RealmText → List PatternView → Option (List (List ℕ)) → List RemovedAttribute → List RemovedAttribute
+    → List ServerView → RealmView
+realm_in text also peers request reply servers = record {
   name = text.name.now;
   also = also;
+  peers = peers;
+  loop_prevention = text.loop_prevention;
+  accounting = text.accounting;
+  request_without = request;
+  reply_without = reply;
+  share = text.share;
   out = text.out;
   reverse = text.reverse;
   tries = text.tries;
@@ -55,17 +79,22 @@ realm_in text also servers = record {
   servers = servers;
 }
 
--- the table states a realm, whatever patterns and servers its arrays state
+-- the table states a realm, whatever lists its arrays state, in which the servers take accounting that is forwarded
 abbrev pub StatesBesideLists : Members → RealmText → Type 0
 StatesBesideLists members text =
-    (also : List PatternView) → (servers : List ServerView)
-    → patterns (get_member (codes "also") members) ≡ Some also
+    (also : List PatternView) → (peers : Option (List (List ℕ))) → (request : List RemovedAttribute)
+    → (reply : List RemovedAttribute) → (servers : List ServerView)
+    → list_of pattern 256 (get_member (codes "also") members) ≡ Some also
+    → optional_at peer_names (codes "peers") members ≡ Some peers
+    → list_of (removed is_removal_in_requests) 64 (get_member (codes "request_without") members) ≡ Some request
+    → list_of (removed is_removal_in_replies) 64 (get_member (codes "reply_without") members) ≡ Some reply
     → StatesEach StatesServer (array_view text.servers.now) servers
-    → StatesRealm members (realm_in text also servers)
+    → are_accounted text.accounting servers ≡ true
+    → StatesRealm members (realm_in text also peers request reply servers)
 
--- with these peers and realms
-abbrev pub config_in : TopText → List PeerView → List RealmView → ConfigView
-config_in text peers realms = record {
+-- with these names to reject, peers and realms
+abbrev pub config_in : TopText → List PatternView → List PeerView → List RealmView → ConfigView
+config_in text reject peers realms = record {
   shards = text.shards;
   seed = text.seed;
   auth = text.auth;
@@ -75,14 +104,18 @@ config_in text peers realms = record {
   max_hops = text.max_hops;
   status_server = text.status_server;
   spread = text.spread;
+  reject = reject;
+  well_formed = text.well_formed;
+  answer_unnamed = text.answer_unnamed;
   peers = peers;
   realms = realms;
 }
 
--- the document states a configuration, whatever peers and realms its arrays state
+-- the document states a configuration, whatever names to reject, peers and realms its arrays state
 abbrev pub StatesBesideArrays : Members → TopText → Type 0
 StatesBesideArrays members text =
-    (peers : List PeerView) → (realms : List RealmView)
+    (reject : List PatternView) → (peers : List PeerView) → (realms : List RealmView)
+    → rejects (get_member (codes "reject") members) ≡ Some reject
     → StatesEach StatesPeer (array_view text.peers.now) peers
     → StatesEach StatesRealm (array_view text.realms.now) realms
-    → StatesConfig members (config_in text peers realms)
+    → StatesConfig members (config_in text reject peers realms)

@@ -5,6 +5,9 @@ use Rattle.std.specs.Result.{result_ok}
 use Rattle.std.specs.Str.{bytes_eq}
 use Rattle.hex.specs.Hex.{decode_sized}
 use Rattle.toml.specs.Data.{Data, string, integer, boolean, array, Items, no_items, item, Members, get_member}
+use Rattle.roam_wire.specs.declared.removed_attribute.RemovedAttribute.{RemovedAttribute}
+use Rattle.roam_conf.specs.declared.accounting.Accounting.{Accounting}
+use Rattle.roam_conf.specs.declared.accounting.Accounting.TheVariants as kinds
 use Rattle.roam_conf.specs.declared.endpoint.Endpoint.{Endpoint}
 use Rattle.roam_conf.specs.declared.exchange_lines.ExchangeLines.{ExchangeLines}
 use Rattle.roam_conf.specs.declared.exchange_lines.ExchangeLines.TheVariants as lines
@@ -12,8 +15,8 @@ use Rattle.roam_conf_reader.specs.declared.values.Letters.{Letters}
 use Rattle.roam_conf_reader.specs.declared.values.Letters.TheVariants.{Any, NoZero, PeerName, RealmName}
 use Rattle.roam_conf.specs.Config.{PatternView, whole, suffix, any}
 use Rattle.roam_conf.specs.Letters.{is_peer_letter, is_realm_letter}
-use Rattle.roam_conf.specs.Patterns.{is_realm_name}
-use Rattle.roam_conf.specs.Texts.{address_in, endpoint_in}
+use Rattle.roam_conf.specs.Patterns.{is_realm_name, is_reject}
+use Rattle.roam_conf.specs.Texts.{address_in, endpoint_in, removed_in}
 
 -- an integer from `least` to `most`
 unfoldable pub number : ℕ → ℕ → Data → Option ℕ
@@ -104,10 +107,10 @@ abbrev pub cons_if_both : {V : Type 0} → Option V → Option (List V) → Opti
 cons_if_both (Some value) (Some values) = Some (value ∷ values)
 cons_if_both _ _ = None
 
--- items of which each is such a text
-abbrev pub each_pattern : Items → Option (List PatternView)
-each_pattern no_items = Some []
-each_pattern (item found items) = cons_if_both (pattern found) (each_pattern items)
+-- items of which each states a value
+abbrev pub each_of : {V : Type 0} → (Data → Option V) → Items → Option (List V)
+each_of reads no_items = Some []
+each_of reads (item found items) = cons_if_both (reads found) (each_of reads items)
 
 -- how many items an array has
 abbrev pub item_count : Items → ℕ
@@ -119,11 +122,44 @@ unfoldable pub array_of : ℕ → Data → Option Items
 array_of most (array items) = if nat_le 1 (item_count items) && nat_le (item_count items) most then Some items else None
 array_of most _ = None
 
--- an array of at most 256 such texts; none where it is absent
-unfoldable pub patterns : Option Data → Option (List PatternView)
-patterns None = Some []
-patterns (Some (array items)) = if nat_le (item_count items) 256 then each_pattern items else None
-patterns (Some _) = None
+-- an array of at most `most` items of which each states a value; none where it is absent
+unfoldable pub list_of : {V : Type 0} → (Data → Option V) → ℕ → Option Data → Option (List V)
+list_of reads most None = Some []
+list_of reads most (Some (array items)) = if nat_le (item_count items) most then each_of reads items else None
+list_of reads most (Some _) = None
+
+-- what passes a test
+abbrev pub passing : {V : Type 0} → (V → Bool) → Option V → Option V
+passing test None = None
+passing test (Some value) = if test value then Some value else None
+
+-- names and suffixes that no realm has: at most 1024
+abbrev pub rejects : Option Data → Option (List PatternView)
+rejects found = passing (list_all is_reject) (list_of pattern 1024 found)
+
+-- a text that names an attribute which such a list may name
+unfoldable pub removed : (RemovedAttribute → Bool) → Data → Option RemovedAttribute
+removed may_name (string octets) = passing may_name (removed_in octets)
+removed may_name _ = None
+
+-- the names of peers: an array of 1 to 1024 texts of 1 to 64 octets
+unfoldable pub peer_names : Data → Option (List (List ℕ))
+peer_names (array items) =
+    if nat_le 1 (item_count items) && nat_le (item_count items) 1024
+    then each_of (text 64 (letters_of Any)) items else None
+peer_names _ = None
+
+-- what becomes of accounting; it is forwarded where the key is absent
+unfoldable pub accounting_in : List ℕ → Option Accounting
+accounting_in octets =
+    if bytes_eq octets (codes "forward") then Some kinds.Forwarded
+    else if bytes_eq octets (codes "answer") then Some kinds.Answered
+    else if bytes_eq octets (codes "drop") then Some kinds.Dropped else None
+
+unfoldable pub accounting : Option Data → Option Accounting
+accounting None = Some kinds.Forwarded
+accounting (Some (string octets)) = accounting_in octets
+accounting (Some _) = None
 
 -- what a required key states
 abbrev pub value_at : {V : Type 0} → (Data → Option V) → List ℕ → Members → Option V

@@ -4,9 +4,11 @@
 //! pairs: of at most 1024 peers, 2050 sockets of the broker, 16 endpoints of one realm's servers, and of
 //! 1024 endpoints of peers with 16384 of servers.
 
-ghost use Rattle.std.specs.Prelude.{◌≡◌, ◌≤◌, ◌+◌, ◌||◌, ◌⊎◌, Some, None, IfOk, IfErr, MatchResult, length, map, drop};
+ghost use Rattle.std.specs.Prelude.{◌≡◌, ◌≤◌, ◌+◌, ◌||◌, ◌⊎◌, Some, None, IfOk, IfErr, MatchResult, false, length, map, drop};
 ghost use Rattle.std.specs.List.{list_any};
-ghost use Rattle.roam_conf.specs.Duplicates.{has_pair, same_endpoint, is_among, same_if_there, same_peer};
+ghost use Rattle.std.specs.Option.{option_map_or};
+ghost use Rattle.roam_conf.specs.Duplicates.{has_pair, same_endpoint, is_among, same_if_there, same_name_if_there};
+ghost use Rattle.roam_conf.specs.Duplicates.{same_peer};
 ghost use Rattle.roam_conf.specs.Duplicates.{own_endpoints, server_endpoints, coa_endpoints, some_server_at};
 ghost use Rattle.roam_conf.specs.Duplicates.{has_duplicate_peer, has_duplicate_endpoint, has_duplicate_server};
 ghost use Rattle.roam_conf.specs.Duplicates.{has_duplicate_link};
@@ -17,7 +19,8 @@ ghost use Rattle.roam_conf_reader.specs.Reading.{IsMemoryFault};
 
 use crate::ConfFault;
 use roam_conf::{
-    ConfigParts, Endpoint, Peer, Realm, Server, has_duplicate_realm, is_same_endpoint,
+    ConfigParts, Endpoint, Peer, Realm, Server, has_duplicate_realm, has_unknown_peer,
+    is_same_endpoint, is_same_name,
 };
 use std::alloc::Global;
 
@@ -68,6 +71,15 @@ fn have_same_id(a: &Peer, b: &Peer) -> bool
     }
 }
 
+fn have_same_operator(a: &Peer, b: &Peer) -> bool
+    ensures { result ≡ same_name_if_there (shown_peer a.now).operator_name (shown_peer b.now).operator_name }
+{
+    match (&a.operator_name, &b.operator_name) {
+        (Some(a), Some(b)) => is_same_name(a.as_bytes(), b.as_bytes()),
+        _ => false,
+    }
+}
+
 fn is_same_peer(a: &Peer, b: &Peer) -> bool
     ensures { result ≡ same_peer (shown_peer a.now) (shown_peer b.now) }
 {
@@ -75,6 +87,7 @@ fn is_same_peer(a: &Peer, b: &Peer) -> bool
         || a.ip == b.ip
         || have_same_ip(a.nas_ip, b.nas_ip)
         || have_same_id(a, b)
+        || have_same_operator(a, b)
 }
 
 fn is_among_peers(peer: &Peer, others: &[Peer]) -> bool
@@ -88,7 +101,7 @@ fn is_among_peers(peer: &Peer, others: &[Peer]) -> bool
     false
 }
 
-/// Whether two peers are equal in their name, address, NAS-IP-Address or NAS-Identifier.
+/// Whether two peers are equal in their name, address, NAS-IP-Address, NAS-Identifier or Operator-Name.
 #[tactic(auto, unfolding(roam_conf::specs::Duplicates::has_duplicate_peer))]
 fn has_duplicate_peer(peers: &[Peer]) -> bool
     ensures { result ≡ has_duplicate_peer (map shown_peer peers.now) }
@@ -131,7 +144,9 @@ fn server_endpoints(alloc: Global, servers: &[Server]) -> Result<Vec<Endpoint>, 
     let mut endpoints = Vec::new(alloc);
     for server in servers {
         endpoints.push(server.auth)?;
-        endpoints.push(server.acct)?;
+        if let Some(acct) = server.acct {
+            endpoints.push(acct)?;
+        }
     }
     Ok(endpoints)
 }
@@ -150,12 +165,22 @@ fn coa_endpoints(alloc: Global, peers: &[Peer]) -> Result<Vec<Endpoint>, ConfFau
     Ok(endpoints)
 }
 
+/// Whether the server takes accounting at one of the endpoints.
+fn is_acct_among(endpoints: &[Endpoint], server: &Server) -> bool
+    ensures { result ≡ option_map_or (is_among endpoints.now) (shown_server server.now).acct false }
+{
+    match server.acct {
+        Some(acct) => is_among(endpoints, acct),
+        None => false,
+    }
+}
+
 /// Whether one of the servers is at one of the endpoints.
 fn some_server_at(endpoints: &[Endpoint], servers: &[Server]) -> bool
     ensures { result ≡ some_server_at endpoints.now (map shown_server servers.now) }
 {
     for server in servers {
-        if is_among(endpoints, server.auth) || is_among(endpoints, server.acct) {
+        if is_among(endpoints, server.auth) || is_acct_among(endpoints, server) {
             return true;
         }
     }
@@ -215,7 +240,7 @@ fn has_duplicate_link(alloc: Global, peers: &[Peer], realms: &[Realm]) -> Result
     Ok(has_equal_endpoints(coas.as_slice()) || some_realm_at(coas.as_slice(), realms))
 }
 
-/// The first duplicate that is there, in the order of the faults.
+/// The first duplicate that is there, in the order of the faults, or else that a peer is named that isn't there.
 #[tactic(auto, unfolding(crate::specs::Faults::first_duplicate))]
 pub(crate) fn first_duplicate(
     alloc: Global,
@@ -226,7 +251,7 @@ pub(crate) fn first_duplicate(
 {
     let peers = parts.peers.as_slice();
     let realms = parts.realms.as_slice();
-    if has_duplicate_realm(alloc, realms)? {
+    if has_duplicate_realm(alloc, realms, parts.reject.as_slice())? {
         return Ok(Some(ConfFault::DuplicateRealm));
     }
     if has_duplicate_peer(peers) {
@@ -240,6 +265,9 @@ pub(crate) fn first_duplicate(
     }
     if has_duplicate_link(alloc, peers, realms)? {
         return Ok(Some(ConfFault::DuplicateLink));
+    }
+    if has_unknown_peer(alloc, peers, realms)? {
+        return Ok(Some(ConfFault::UnknownPeer));
     }
     Ok(None)
 }

@@ -19,9 +19,9 @@ pub enum ConfFault {
     Missing,
     /// A value has the wrong type or is out of its range, or a key is unknown.
     BadValue,
-    /// Two names, two suffixes `*.` and a name, or two `*` of realms are equal without ASCII case.
+    /// Two names, two suffixes `*.` and a name, or two `*` of realms and of `reject` are equal without ASCII case.
     DuplicateRealm,
-    /// Two peers have equal names, addresses, NAS-IP-Addresses or NAS-Identifiers.
+    /// Two peers have equal names, addresses, NAS-IP-Addresses, NAS-Identifiers or, without ASCII case, Operator-Names.
     DuplicatePeer,
     /// Two of the broker's own sockets are at one endpoint.
     DuplicateEndpoint,
@@ -29,6 +29,8 @@ pub enum ConfFault {
     DuplicateServer,
     /// A peer's `coa` endpoint is another peer's or a server's.
     DuplicateLink,
+    /// A realm names a peer that isn't there.
+    UnknownPeer,
     /// A growth of memory was refused, which says nothing of the text.
     Memory,
 }
@@ -46,6 +48,7 @@ fn name_of(fault: ConfFault) -> &'static str
         ConfFault::DuplicateEndpoint => "DuplicateEndpoint",
         ConfFault::DuplicateServer => "DuplicateServer",
         ConfFault::DuplicateLink => "DuplicateLink",
+        ConfFault::UnknownPeer => "UnknownPeer",
         ConfFault::Memory => "Memory",
     }
 }

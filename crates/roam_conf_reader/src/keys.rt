@@ -8,9 +8,9 @@ ghost use Rattle.roam_conf_reader.specs.Values as spec;
 ghost use Rattle.roam_conf_reader.specs.Values.{letters_of, value_at, optional_at};
 
 use crate::values::{self, Letters, value};
-use roam_conf::{Endpoint, ExchangeLines};
-use toml::Table;
+use roam_conf::{Accounting, Endpoint, ExchangeLines};
 use toml::value::Array;
+use toml::{Table, Value};
 
 pub(crate) fn address(table: &Table, key: &str) -> Option<[u8; 4]>
     ensures { result ≡ value_at spec.address key.now (table_view table.now) }
@@ -86,6 +86,16 @@ pub(crate) fn optional_octet(table: &Table, key: &str, most: u8) -> Option<Optio
     }
 }
 
+/// The same, of up to 16 bits.
+pub(crate) fn optional_count(table: &Table, key: &str, most: u16) -> Option<Option<u16>>
+    ensures { result ≡ optional_at (spec.number 1 most) key.now (table_view table.now) }
+{
+    match value(table, key) {
+        Some(value) => Some(Some(values::number_of(value, 1, u32::from(most))? as u16)),
+        None => Some(None),
+    }
+}
+
 /// An address, or `Some(None)` where the key is absent.
 pub(crate) fn optional_address(table: &Table, key: &str) -> Option<Option<[u8; 4]>>
     ensures { result ≡ optional_at spec.address key.now (table_view table.now) }
@@ -136,6 +146,18 @@ pub(crate) fn exchange_lines(table: &Table, key: &str) -> Option<ExchangeLines>
     match value(table, key) {
         Some(value) => values::exchange_lines_of(value),
         None => Some(ExchangeLines::OfAll),
+    }
+}
+
+/// What becomes of accounting: it is forwarded where the key is absent.
+#[tactic(auto, unfolding(crate::specs::Values::accounting))]
+pub(crate) fn accounting(table: &Table, key: &str) -> Option<Accounting>
+    ensures { result ≡ spec.accounting (get_member key.now (table_view table.now)) }
+{
+    match value(table, key) {
+        Some(Value::String(text)) => values::accounting_in(text.as_str()),
+        Some(_) => None,
+        None => Some(Accounting::Forwarded),
     }
 }
 

@@ -1,9 +1,10 @@
 //! The patterns that texts state: what names a realm beside its name.
 
 ghost use Rattle.std.specs.Prelude.{◌≡◌, codes, Err, IfOk, None, Some, map, option_map};
+ghost use Rattle.std.specs.List.{list_all};
 ghost use Rattle.toml.specs.Data.{get_member};
 ghost use Rattle.toml.specs.View.{array_view, table_view, view};
-ghost use Rattle.roam_conf.specs.Patterns.{is_realm_name, shown_pattern};
+ghost use Rattle.roam_conf.specs.Patterns.{is_realm_name, is_reject, shown_pattern};
 ghost use Rattle.roam_conf_reader.specs.Reading.{IsValueFault};
 ghost use Rattle.roam_conf_reader.specs.Texts.{pattern_said};
 ghost use Rattle.roam_conf_reader.specs.Values as spec;
@@ -72,8 +73,9 @@ fn from_value(alloc: Global, value: &Value) -> Result<RealmPattern, ConfFault>
 /// The patterns that the texts of an array state, in its order.
 fn each_from(alloc: Global, items: &Array) -> Result<Vec<RealmPattern>, ConfFault>
     ensures ok { IfOk result
-        (λ v. spec.each_pattern (array_view items.now) ≡ Some (map shown_pattern v.items)) }
-    ensures bad { result ≡ Err ConfFault.BadValue → spec.each_pattern (array_view items.now) ≡ None }
+        (λ v. spec.each_of spec.pattern (array_view items.now) ≡ Some (map shown_pattern v.items)) }
+    ensures bad { result ≡ Err ConfFault.BadValue
+        → spec.each_of spec.pattern (array_view items.now) ≡ None }
     ensures causes { IsValueFault result }
 {
     let mut all = Vec::new(alloc);
@@ -84,25 +86,80 @@ fn each_from(alloc: Global, items: &Array) -> Result<Vec<RealmPattern>, ConfFaul
     Ok(all)
 }
 
-/// The patterns that a realm's table states; none where the key is absent.
-#[tactic(auto, using(crate::proofs::ArrayLemmas::item_count_of), unfolding(crate::specs::Values::patterns))]
-pub(crate) fn all_from(alloc: Global, table: &Table) -> Result<Vec<RealmPattern>, ConfFault>
-    ensures ok { IfOk result (λ v. spec.patterns (get_member (codes "also") (table_view table.now))
+/// The patterns that a key of a table has, at most `most`; none where it is absent.
+#[tactic(auto, using(crate::proofs::ArrayLemmas::item_count_of), unfolding(crate::specs::Values::list_of))]
+fn list_from(
+    alloc: Global,
+    table: &Table,
+    key: &str,
+    most: usize,
+) -> Result<Vec<RealmPattern>, ConfFault>
+    ensures ok { IfOk result (λ v. spec.list_of spec.pattern most (get_member key.now (table_view table.now))
         ≡ Some (map shown_pattern v.items)) }
     ensures bad { result ≡ Err ConfFault.BadValue
-        → spec.patterns (get_member (codes "also") (table_view table.now)) ≡ None }
+        → spec.list_of spec.pattern most (get_member key.now (table_view table.now)) ≡ None }
     ensures causes { IsValueFault result }
 {
-    let Some(value) = value(table, "also") else {
+    let Some(value) = value(table, key) else {
         return Ok(Vec::new(alloc));
     };
     match value.as_array() {
         Some(items) => {
-            if items.len() > 256 {
+            if items.len() > most {
                 return Err(ConfFault::BadValue);
             }
             each_from(alloc, items)
         }
         None => Err(ConfFault::BadValue),
+    }
+}
+
+/// The patterns that a realm's table states; none where the key is absent.
+pub(crate) fn all_from(alloc: Global, table: &Table) -> Result<Vec<RealmPattern>, ConfFault>
+    ensures ok { IfOk result (λ v. spec.list_of spec.pattern 256 (get_member (codes "also") (table_view table.now))
+        ≡ Some (map shown_pattern v.items)) }
+    ensures bad { result ≡ Err ConfFault.BadValue
+        → spec.list_of spec.pattern 256 (get_member (codes "also") (table_view table.now)) ≡ None }
+    ensures causes { IsValueFault result }
+{
+    list_from(alloc, table, "also", 256)
+}
+
+/// Whether a pattern may be rejected.
+fn is_reject(pattern: &RealmPattern) -> bool
+    ensures { result ≡ is_reject (shown_pattern pattern.now) }
+{
+    match pattern {
+        RealmPattern::Name(name) => is_realm_name(name.as_bytes()),
+        RealmPattern::Suffix(name) => is_realm_name(name.as_bytes()),
+        RealmPattern::Any => false,
+    }
+}
+
+/// Whether all of these patterns may be rejected.
+fn are_rejects(patterns: &[RealmPattern]) -> bool
+    ensures { result ≡ list_all is_reject (map shown_pattern patterns.now) }
+{
+    for pattern in patterns {
+        if !is_reject(pattern) {
+            return false;
+        }
+    }
+    true
+}
+
+/// The names and suffixes that the document rejects; none where the key is absent.
+pub(crate) fn rejects_from(alloc: Global, table: &Table) -> Result<Vec<RealmPattern>, ConfFault>
+    ensures ok { IfOk result (λ v. spec.rejects (get_member (codes "reject") (table_view table.now))
+        ≡ Some (map shown_pattern v.items)) }
+    ensures bad { result ≡ Err ConfFault.BadValue
+        → spec.rejects (get_member (codes "reject") (table_view table.now)) ≡ None }
+    ensures causes { IsValueFault result }
+{
+    let patterns = list_from(alloc, table, "reject", 1024)?;
+    if are_rejects(patterns.as_slice()) {
+        Ok(patterns)
+    } else {
+        Err(ConfFault::BadValue)
     }
 }

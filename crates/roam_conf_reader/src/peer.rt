@@ -7,17 +7,18 @@ ghost use Rattle.roam_conf.specs.Config.{PeerView};
 ghost use Rattle.roam_conf.specs.Parts.{shown_peer};
 ghost use Rattle.roam_conf_reader.specs.Document.{StatesEach, StatesPeer};
 ghost use Rattle.roam_conf_reader.specs.Reading.{IsValueFault, IsMemoryFault};
-ghost use Rattle.roam_conf_reader.specs.Texts.{peer_in};
+ghost use Rattle.roam_conf_reader.specs.declared.peer.PeerText.{PeerText};
+ghost use Rattle.roam_conf_reader.specs.Texts.{StatesPeerBesideLists};
 
 use crate::tables::{PEER_KEYS, PEER_OPTIONAL_KEYS, has_only};
 use crate::values::Letters;
-use crate::{ConfFault, keys};
+use crate::{ConfFault, keys, removed};
 use roam_conf::{Endpoint, Peer};
 use std::alloc::Global;
 use toml::Table;
 use toml::value::Array;
 
-/// What a table states of a peer. Its texts still stand in the document.
+/// What a table states of a peer, beside the attributes to remove. Its texts still stand in the document.
 #[derive(Clone, Copy)]
 struct PeerText<'a> {
     name: &'a str,
@@ -27,13 +28,16 @@ struct PeerText<'a> {
     nas_ip: Option<[u8; 4]>,
     nas_id: Option<&'a str>,
     require_seal: bool,
+    limit_proxy_state: bool,
+    operator_name: Option<&'a str>,
+    ask_cui: bool,
 }
 
-/// What a table states of a peer; nothing where one of its values is bad.
+/// What a table states of a peer; nothing where one of its own values is bad.
 fn peer_text(table: &Table) -> Option<PeerText<'_>>
     ensures { MatchOption result
         ((p : PeerView) → ¬ (StatesPeer (table_view table.now) p))
-        (λ text. StatesPeer (table_view table.now) (peer_in text)) }
+        (λ text. StatesPeerBesideLists (table_view table.now) text) }
 {
     if !has_only(table, &PEER_KEYS, &PEER_OPTIONAL_KEYS) {
         return None;
@@ -46,6 +50,9 @@ fn peer_text(table: &Table) -> Option<PeerText<'_>>
         nas_ip: keys::optional_address(table, "nas_ip")?,
         nas_id: keys::optional_text(table, "nas_id", 253)?,
         require_seal: keys::flag(table, "require_seal")?,
+        limit_proxy_state: keys::flag(table, "limit_proxy_state")?,
+        operator_name: keys::optional_text(table, "operator_name", 252)?,
+        ask_cui: keys::flag(table, "ask_cui")?,
     })
 }
 
@@ -60,13 +67,13 @@ pub(crate) fn copied(alloc: Global, text: Option<&str>) -> Result<Option<String>
     }
 }
 
-/// The peer that a table states. Memory is asked for only where the table states one.
+/// The peer that a table states. Memory is asked for only where the table's own values are good.
 fn from_table(alloc: Global, table: &Table) -> Result<Peer, ConfFault>
     ensures ok { IfOk result (λ p. StatesPeer (table_view table.now) (shown_peer p)) }
     ensures bad { result ≡ Err ConfFault.BadValue
         → (p : PeerView) → ¬ (StatesPeer (table_view table.now) p) }
     ensures memory { result ≡ Err ConfFault.Memory
-        → (p : PeerView) × StatesPeer (table_view table.now) p }
+        → (text : PeerText) × StatesPeerBesideLists (table_view table.now) text }
     ensures causes { IsValueFault result }
 {
     let Some(text) = peer_text(table) else {
@@ -80,6 +87,11 @@ fn from_table(alloc: Global, table: &Table) -> Result<Peer, ConfFault>
         nas_ip: text.nas_ip,
         nas_id: copied(alloc, text.nas_id)?,
         require_seal: text.require_seal,
+        limit_proxy_state: text.limit_proxy_state,
+        operator_name: copied(alloc, text.operator_name)?,
+        ask_cui: text.ask_cui,
+        request_without: removed::of_requests(alloc, table)?,
+        reply_without: removed::of_replies(alloc, table)?,
     })
 }
 

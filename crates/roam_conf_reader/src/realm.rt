@@ -1,28 +1,32 @@
 //! The realms that tables state.
 
-ghost use Rattle.std.specs.Prelude.{◌≡◌, ◌≤◌, codes, Err, IfOk, List, MatchOption, Some, map};
+ghost use Rattle.std.specs.Prelude.{◌≡◌, ◌≤◌, codes, Err, IfOk, List, MatchOption, Some, is_some, map};
+ghost use Rattle.std.specs.List.{list_all};
+ghost use Rattle.toml.specs.Data.{get_member};
 ghost use Rattle.toml.specs.View.{array_view, table_view};
-ghost use Rattle.roam_conf.specs.Config.{RealmView};
-ghost use Rattle.roam_conf.specs.Parts.{shown_realm};
+ghost use Rattle.roam_conf.specs.Config.{RealmView, ServerView};
+ghost use Rattle.roam_conf.specs.Parts.{shown_realm, shown_server};
 ghost use Rattle.roam_conf_reader.specs.declared.realm.RealmText.{RealmText};
-ghost use Rattle.roam_conf_reader.specs.Document.{StatesEach, StatesRealm, sessions_unless_said};
+ghost use Rattle.roam_conf_reader.specs.Document.{StatesEach, StatesRealm, sessions_unless_said, are_accounted};
 ghost use Rattle.roam_conf_reader.specs.Reading.{IsValueFault};
 ghost use Rattle.roam_conf_reader.specs.Texts.{StatesBesideLists};
-ghost use Rattle.roam_conf_reader.specs.Values.{array_of, value_at};
+ghost use Rattle.roam_conf_reader.specs.Values.{accounting, array_of, value_at};
 
 use crate::tables::{REALM_KEYS, REALM_OPTIONAL_KEYS, has_only};
 use crate::values::Letters;
-use crate::{ConfFault, keys, pattern, server};
-use roam_conf::{Endpoint, Realm};
+use crate::{ConfFault, keys, names, pattern, removed, server};
+use roam_conf::{Accounting, Endpoint, Realm, Server};
 use std::alloc::Global;
 use toml::Table;
 use toml::value::Array;
 
-/// What a table states of a realm. Its name, its patterns and its servers' tables still stand in the
-/// document.
+/// What a table states of a realm. Its name, its lists and its servers' tables still stand in the document.
 #[derive(Clone, Copy)]
 struct RealmText<'a> {
     name: &'a str,
+    loop_prevention: bool,
+    accounting: Accounting,
+    share: Option<u16>,
     out: Endpoint,
     reverse: Option<Endpoint>,
     tries: u8,
@@ -51,7 +55,8 @@ fn realm_text(table: &Table) -> Option<RealmText<'_>>
     ensures { MatchOption result
         ((r : RealmView) → ¬ (StatesRealm (table_view table.now) r))
         (λ text. StatesBesideLists (table_view table.now) text × (value_at (array_of 8)
-        (codes "server") (table_view table.now) ≡ Some (array_view text.servers.now))) }
+        (codes "server") (table_view table.now) ≡ Some (array_view text.servers.now))
+        × (accounting (get_member (codes "accounting") (table_view table.now)) ≡ Some text.accounting)) }
 {
     if !has_only(table, &REALM_KEYS, &REALM_OPTIONAL_KEYS) {
         return None;
@@ -59,6 +64,9 @@ fn realm_text(table: &Table) -> Option<RealmText<'_>>
     let reverse = keys::optional_endpoint(table, "reverse")?;
     Some(RealmText {
         name: keys::text(table, "name", 253, Letters::RealmName)?,
+        loop_prevention: keys::flag(table, "loop_prevention")?,
+        accounting: keys::accounting(table, "accounting")?,
+        share: keys::optional_count(table, "share", 4096)?,
         out: keys::endpoint(table, "out")?,
         reverse,
         tries: keys::number_or(table, "tries", 3, 1, 10)? as u8,
@@ -78,6 +86,28 @@ fn realm_text(table: &Table) -> Option<RealmText<'_>>
     })
 }
 
+/// Whether each of these servers takes accounting.
+fn all_take_accounting(servers: &[Server]) -> bool
+    ensures { result ≡ list_all (λ (s : ServerView). is_some s.acct) (map shown_server servers.now) }
+{
+    for server in servers {
+        if server.acct.is_none() {
+            return false;
+        }
+    }
+    true
+}
+
+/// Whether each of these servers takes accounting, where it is forwarded.
+fn are_accounted(accounting: Accounting, servers: &[Server]) -> bool
+    ensures { result ≡ are_accounted accounting (map shown_server servers.now) }
+{
+    match accounting {
+        Accounting::Forwarded => all_take_accounting(servers),
+        Accounting::Answered | Accounting::Dropped => true,
+    }
+}
+
 /// The realm that a table states. Memory is asked for only where the table's own values are good.
 fn from_table(alloc: Global, table: &Table) -> Result<Realm, ConfFault>
     ensures ok { IfOk result (λ r. StatesRealm (table_view table.now) (shown_realm r)) }
@@ -90,9 +120,19 @@ fn from_table(alloc: Global, table: &Table) -> Result<Realm, ConfFault>
     let Some(text) = realm_text(table) else {
         return Err(ConfFault::BadValue);
     };
+    let servers = server::all_from(alloc, text.servers)?;
+    if !are_accounted(text.accounting, servers.as_slice()) {
+        return Err(ConfFault::BadValue);
+    }
     Ok(Realm {
         name: String::from_str(alloc, text.name)?,
         also: pattern::all_from(alloc, table)?,
+        peers: names::of_peers(alloc, table)?,
+        loop_prevention: text.loop_prevention,
+        accounting: text.accounting,
+        request_without: removed::of_requests(alloc, table)?,
+        reply_without: removed::of_replies(alloc, table)?,
+        share: text.share,
         out: text.out,
         reverse: text.reverse,
         tries: text.tries,
@@ -102,7 +142,7 @@ fn from_table(alloc: Global, table: &Table) -> Result<Realm, ConfFault>
         max_sessions: text.max_sessions,
         rest: text.rest,
         rest_after: text.rest_after,
-        servers: server::all_from(alloc, text.servers)?,
+        servers,
     })
 }
 

@@ -20,7 +20,7 @@ use toml::value::Array;
 #[derive(Clone, Copy)]
 struct ServerText<'a> {
     auth: Endpoint,
-    acct: Endpoint,
+    acct: Option<Endpoint>,
     secret: &'a str,
     require_seal: bool,
 }
@@ -36,7 +36,7 @@ fn server_text(table: &Table) -> Option<ServerText<'_>>
     }
     Some(ServerText {
         auth: keys::endpoint(table, "auth")?,
-        acct: keys::endpoint(table, "acct")?,
+        acct: keys::optional_endpoint(table, "acct")?,
         secret: keys::text(table, "secret", 64, Letters::Any)?,
         require_seal: keys::flag(table, "require_seal")?,
     })

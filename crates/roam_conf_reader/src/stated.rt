@@ -10,13 +10,13 @@ ghost use Rattle.roam_conf_reader.specs.Texts.{StatesBesideArrays};
 ghost use Rattle.roam_conf_reader.specs.Values.{array_of, value_at};
 
 use crate::tables::{TOP_KEYS, TOP_OPTIONAL_KEYS, has_only};
-use crate::{ConfFault, keys, peer, realm};
+use crate::{ConfFault, keys, pattern, peer, realm};
 use roam_conf::{ConfigParts, Endpoint};
 use std::alloc::Global;
 use toml::Table;
 use toml::value::Array;
 
-/// What a document states. The tables of its peers and realms still stand in it.
+/// What a document states. The names to reject, and the tables of its peers and realms, still stand in it.
 #[derive(Clone, Copy)]
 struct TopText<'a> {
     shards: u16,
@@ -28,6 +28,8 @@ struct TopText<'a> {
     max_hops: Option<u8>,
     status_server: bool,
     spread: bool,
+    well_formed: bool,
+    answer_unnamed: bool,
     peers: &'a Array,
     realms: &'a Array,
 }
@@ -57,6 +59,8 @@ fn top_text(table: &Table) -> Option<TopText<'_>>
         max_hops: keys::optional_octet(table, "max_hops", 100)?,
         status_server: keys::flag(table, "status_server")?,
         spread: keys::flag(table, "spread")?,
+        well_formed: keys::flag(table, "well_formed")?,
+        answer_unnamed: keys::flag(table, "answer_unnamed")?,
         peers: keys::array(table, "peer", 1024)?,
         realms: keys::array(table, "realm", 1024)?,
     })
@@ -82,6 +86,9 @@ pub(crate) fn parts_from(alloc: Global, table: &Table) -> Result<ConfigParts, Co
         max_hops: text.max_hops,
         status_server: text.status_server,
         spread: text.spread,
+        reject: pattern::rejects_from(alloc, table)?,
+        well_formed: text.well_formed,
+        answer_unnamed: text.answer_unnamed,
         peers: peer::all_from(alloc, text.peers)?,
         realms: realm::all_from(alloc, text.realms)?,
     })

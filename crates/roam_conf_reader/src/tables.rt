@@ -8,27 +8,46 @@ ghost use Rattle.roam_conf_reader.specs.Document.{misses, some_table, within};
 ghost use Rattle.roam_conf_reader.specs.Tables.{shown_keys};
 
 use crate::values::value;
-use toml::Table;
 use toml::value::Array;
+use toml::{Table, Value};
 
 /// The keys that a home server's table must have.
-pub(crate) const SERVER_KEYS: [&str; 3] = ["auth", "acct", "secret"];
+pub(crate) const SERVER_KEYS: [&str; 2] = ["auth", "secret"];
 
-/// The key that a home server's table may have besides.
-pub(crate) const SERVER_OPTIONAL_KEYS: [&str; 1] = ["require_seal"];
+/// The key that it must have too where the realm's accounting is forwarded.
+const ACCOUNTED_KEYS: [&str; 1] = ["acct"];
+
+/// The keys that a home server's table may have besides.
+pub(crate) const SERVER_OPTIONAL_KEYS: [&str; 2] = ["acct", "require_seal"];
 
 /// The keys that a peer's table must have.
 pub(crate) const PEER_KEYS: [&str; 3] = ["name", "ip", "secret"];
 
 /// The keys that a peer's table may have besides.
-pub(crate) const PEER_OPTIONAL_KEYS: [&str; 4] = ["coa", "nas_ip", "nas_id", "require_seal"];
+pub(crate) const PEER_OPTIONAL_KEYS: [&str; 9] = [
+    "coa",
+    "nas_ip",
+    "nas_id",
+    "require_seal",
+    "limit_proxy_state",
+    "operator_name",
+    "ask_cui",
+    "request_without",
+    "reply_without",
+];
 
 /// The keys that a realm's table must have.
 pub(crate) const REALM_KEYS: [&str; 3] = ["name", "out", "server"];
 
 /// The keys that a realm's table may have besides.
-pub(crate) const REALM_OPTIONAL_KEYS: [&str; 9] = [
+pub(crate) const REALM_OPTIONAL_KEYS: [&str; 15] = [
     "also",
+    "peers",
+    "loop_prevention",
+    "accounting",
+    "request_without",
+    "reply_without",
+    "share",
     "reverse",
     "tries",
     "wait",
@@ -43,7 +62,7 @@ pub(crate) const REALM_OPTIONAL_KEYS: [&str; 9] = [
 pub(crate) const TOP_KEYS: [&str; 4] = ["auth", "acct", "peer", "realm"];
 
 /// The keys that the document itself may have besides.
-pub(crate) const TOP_OPTIONAL_KEYS: [&str; 10] = [
+pub(crate) const TOP_OPTIONAL_KEYS: [&str; 13] = [
     "shards",
     "seed",
     "trace_limit",
@@ -54,6 +73,9 @@ pub(crate) const TOP_OPTIONAL_KEYS: [&str; 10] = [
     "metrics",
     "control",
     "log_exchanges",
+    "reject",
+    "well_formed",
+    "answer_unnamed",
 ];
 
 fn is_one_of(keys: &[&str], key: &str) -> bool
@@ -119,12 +141,26 @@ fn some_misses_within(table: &Table, key: &str, keys: &[&str]) -> bool
     }
 }
 
+/// Whether a realm's accounting is forwarded, as far as its table says.
+#[tactic(auto, unfolding(crate::specs::Document::forwards))]
+fn forwards(table: &Table) -> bool
+    ensures { result ≡ spec.forwards (get_member (codes "accounting") (table_view table.now)) }
+{
+    match value(table, "accounting") {
+        Some(Value::String(text)) => text.as_str() == "forward",
+        Some(_) => false,
+        None => true,
+    }
+}
+
 /// Whether a realm's table, or the table of one of its servers, misses a key.
 #[tactic(auto, unfolding(crate::specs::Document::realm_misses))]
 fn realm_misses(table: &Table) -> bool
     ensures { result ≡ spec.realm_misses (table_view table.now) }
 {
-    !has_all(table, &REALM_KEYS) || some_misses_within(table, "server", &SERVER_KEYS)
+    !has_all(table, &REALM_KEYS)
+        || some_misses_within(table, "server", &SERVER_KEYS)
+        || forwards(table) && some_misses_within(table, "server", &ACCOUNTED_KEYS)
 }
 
 /// Whether one of the items is a realm's table that misses a key.

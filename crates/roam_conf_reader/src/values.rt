@@ -11,7 +11,7 @@ ghost use Rattle.roam_conf_reader.specs.Values as spec;
 ghost use Rattle.roam_conf_reader.specs.Values.{letters_of, text_fits, value_at, optional_at};
 
 use hex::FromHex;
-use roam_conf::{Endpoint, ExchangeLines, address};
+use roam_conf::{Accounting, Endpoint, ExchangeLines, address};
 use toml::value::Array;
 use toml::{Table, Value};
 
@@ -135,6 +135,23 @@ pub(crate) fn exchange_lines_of(value: &Value) -> Option<ExchangeLines>
         Value::String(text) => exchange_lines_in(text.as_str()),
         _ => None,
     }
+}
+
+/// What becomes of accounting, by a text.
+#[tactic(auto, unfolding(crate::specs::Values::accounting_in))]
+pub(crate) fn accounting_in(text: &str) -> Option<Accounting>
+    ensures { result ≡ spec.accounting_in text.now }
+{
+    if text == "forward" {
+        return Some(Accounting::Forwarded);
+    }
+    if text == "answer" {
+        return Some(Accounting::Answered);
+    }
+    if text == "drop" {
+        return Some(Accounting::Dropped);
+    }
+    None
 }
 
 #[tactic(auto, unfolding(crate::specs::Values::seed))]

@@ -167,8 +167,8 @@ module _ (realm now : ℕ) where
 
 module _ (one other : ConfigView) (realm now : ℕ) (agree : AgreeFor one other realm) where
   named-alike : (o : Option (List ℕ)) →
-      is_realm realm (option_and_then (realm_named one.realms) o)
-      ≡ is_realm realm (option_and_then (realm_named other.realms) o)
+      is_realm realm (option_and_then (realm_named one) o)
+      ≡ is_realm realm (option_and_then (realm_named other) o)
   named-alike None = refl
   named-alike (Some name) = agree.names name
 

@@ -30,7 +30,7 @@ use Rattle.roam_core.specs.Openings.{openings, start_of}
 abbrev pub MeanAlike : ConfigView → ConfigView → ℕ → Type 0
 MeanAlike one other realm =
     (name : List ℕ)
-    → is_realm realm (realm_named one.realms name) ≡ is_realm realm (realm_named other.realms name)
+    → is_realm realm (realm_named one name) ≡ is_realm realm (realm_named other name)
 
 -- two configurations agree for a realm: what an arrival gives to it, its random words, and its ticks
 pub record AgreeFor (one other : ConfigView) (realm : ℕ) : Type 0 where

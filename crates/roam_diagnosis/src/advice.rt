@@ -32,6 +32,12 @@ enum Unwise {
     Default,
     /// Names below this one go to the realm of all names.
     OpenBelow,
+    /// The realm of all names takes names that aren't well formed.
+    IllFormed,
+    /// It sends requests back to where they come from.
+    Looping,
+    /// One of the realms behind it may take all that wait.
+    Unshared,
 }
 
 /// The numbers of a realm that the advice is about, also where they aren't written.
@@ -77,6 +83,11 @@ impl Unwise {
             Unwise::OtherSecret => servers::has_other_secret(document, at),
             Unwise::Default => names::has_default(at, key),
             Unwise::OpenBelow => names::is_open_below(document, at),
+            Unwise::IllFormed => {
+                names::has_pattern(at, "*") && !names::are_well_formed(document)
+            }
+            Unwise::Looping => { names::has_pattern(at, "*") && !at.keys.is_set("loop_prevention") }
+            Unwise::Unshared => names::has_pattern(at, "*") && !at.keys.has("share"),
         }
     }
 }
@@ -120,7 +131,7 @@ const OF_PEERS: [Advice; 3] = [
     ),
 ];
 
-const OF_REALMS: [Advice; 6] = [
+const OF_REALMS: [Advice; 9] = [
     Advice(TableKind::Realm, "name", Unwise::Default, DEFAULT),
     Advice(TableKind::Realm, "also", Unwise::Default, DEFAULT),
     Advice(
@@ -128,6 +139,24 @@ const OF_REALMS: [Advice; 6] = [
         "name",
         Unwise::OpenBelow,
         "is without *. and this name in also: names below it go to the realm of *",
+    ),
+    Advice(
+        TableKind::Realm,
+        "also",
+        Unwise::IllFormed,
+        "has * without well_formed: names that can be no realm's, as a..b, are forwarded too",
+    ),
+    Advice(
+        TableKind::Realm,
+        "loop_prevention",
+        Unwise::Looping,
+        "isn't true beside *: a request may go back to the proxy that it came from",
+    ),
+    Advice(
+        TableKind::Realm,
+        "share",
+        Unwise::Unshared,
+        "is absent beside *: one realm of a dead server may take all Identifiers from the others",
     ),
     Advice(
         TableKind::Realm,

@@ -1,7 +1,7 @@
 //! Which values aren't of their form, and which keys a table doesn't have.
 
 use crate::document::{Document, Located};
-use crate::forms::{ValueForm, misfit};
+use crate::forms::{ValueForm, is_list, misfit};
 use crate::line::Line;
 use crate::lines::Lines;
 use crate::place::TableKind;
@@ -30,13 +30,12 @@ fn write_remedy(line: &mut Line, form: ValueForm, value: &Value, header: &str) -
             line.write_str(": leave the quotation marks out")
         }
         (ValueForm::Number(..), Value::Float(_)) => line.write_str(": it is a whole number"),
-        (ValueForm::Names, Value::String(text)) => {
+        (form, Value::String(text)) if is_list(form) => {
             write!(line, ": write [{}]", Quoted(text.as_str()))
         }
         (ValueForm::Tables(_), Value::Table(_)) => write!(line, ": write [[{header}]]"),
-        (ValueForm::Number(..) | ValueForm::Flag | ValueForm::Names | ValueForm::Tables(_), _) => {
-            Ok(())
-        }
+        (ValueForm::Number(..) | ValueForm::Flag | ValueForm::Tables(_), _) => Ok(()),
+        (form, _) if is_list(form) => Ok(()),
         (_, Value::Integer(_) | Value::Float(_) | Value::Boolean(_)) => {
             line.write_str(": put it in quotation marks")
         }

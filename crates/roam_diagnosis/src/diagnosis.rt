@@ -7,6 +7,7 @@ use crate::duplicates::say_duplicates;
 use crate::lines::Lines;
 use crate::missing::say_missing;
 use crate::syntax::say_syntax;
+use crate::unknown_peers::say_unknown_peers;
 use crate::unsaid::Unsaid;
 use roam_conf_reader::ConfFault;
 use std::alloc::Global;
@@ -25,6 +26,7 @@ fn say_fault(
     match fault {
         ConfFault::Missing => say_missing(&document, lines),
         ConfFault::BadValue => say_bad_values(&document, lines),
+        ConfFault::UnknownPeer => say_unknown_peers(&document, lines),
         _ => say_duplicates(&document, fault, lines),
     }
 }

@@ -21,36 +21,50 @@ struct Group {
     keys: &'static [ComparedKey],
     /// Whether the values of each realm are compared apart.
     is_apart: bool,
+    /// Whether they are compared without ASCII case.
+    is_caseless: bool,
 }
 
-const GROUPS: [Group; 8] = [
+const GROUPS: [Group; 9] = [
     Group {
         fault: ConfFault::DuplicateRealm,
         keys: &[
             ComparedKey(TableKind::Realm, "name"),
             ComparedKey(TableKind::Realm, "also"),
+            ComparedKey(TableKind::Top, "reject"),
         ],
         is_apart: false,
+        is_caseless: true,
     },
     Group {
         fault: ConfFault::DuplicatePeer,
         keys: &[ComparedKey(TableKind::Peer, "name")],
         is_apart: false,
+        is_caseless: false,
     },
     Group {
         fault: ConfFault::DuplicatePeer,
         keys: &[ComparedKey(TableKind::Peer, "ip")],
         is_apart: false,
+        is_caseless: false,
     },
     Group {
         fault: ConfFault::DuplicatePeer,
         keys: &[ComparedKey(TableKind::Peer, "nas_ip")],
         is_apart: false,
+        is_caseless: false,
     },
     Group {
         fault: ConfFault::DuplicatePeer,
         keys: &[ComparedKey(TableKind::Peer, "nas_id")],
         is_apart: false,
+        is_caseless: false,
+    },
+    Group {
+        fault: ConfFault::DuplicatePeer,
+        keys: &[ComparedKey(TableKind::Peer, "operator_name")],
+        is_apart: false,
+        is_caseless: true,
     },
     Group {
         fault: ConfFault::DuplicateEndpoint,
@@ -61,6 +75,7 @@ const GROUPS: [Group; 8] = [
             ComparedKey(TableKind::Realm, "reverse"),
         ],
         is_apart: false,
+        is_caseless: false,
     },
     Group {
         fault: ConfFault::DuplicateServer,
@@ -69,6 +84,7 @@ const GROUPS: [Group; 8] = [
             ComparedKey(TableKind::Server, "acct"),
         ],
         is_apart: true,
+        is_caseless: false,
     },
     Group {
         fault: ConfFault::DuplicateLink,
@@ -78,6 +94,7 @@ const GROUPS: [Group; 8] = [
             ComparedKey(TableKind::Server, "acct"),
         ],
         is_apart: false,
+        is_caseless: false,
     },
 ];
 
@@ -104,7 +121,7 @@ impl<'a> Seen<'a> {
         text: &str,
     ) -> Result<String, Unsaid> {
         let mut compared = String::from_str(document.alloc, text)?;
-        if self.group.fault == ConfFault::DuplicateRealm {
+        if self.group.is_caseless {
             compared.make_ascii_lowercase();
         }
         if self.group.is_apart {

@@ -1,6 +1,7 @@
 //! What may stand under a key, and the words for what doesn't fit.
 
-use roam_conf::{Endpoint, address};
+use roam_conf::{Endpoint, address, removed_attribute};
+use roam_wire::RemovedAttribute;
 use std::fmt;
 use toml::Value;
 
@@ -30,6 +31,16 @@ pub(crate) enum ValueForm {
     RealmName,
     /// At most 256 texts: each a realm's name, `*.` and one, or `*`.
     Names,
+    /// At most 1024 texts: each a realm's name, or `*.` and one.
+    Rejects,
+    /// 1 to 1024 texts of 1 to 64 octets.
+    PeerNames,
+    /// At most 64 texts, each an attribute that may be taken out of requests.
+    RequestRemovals,
+    /// The same of replies.
+    ReplyRemovals,
+    /// One of three texts: what becomes of accounting.
+    Accounting,
     /// 1 to so many tables.
     Tables(usize),
 }
@@ -78,6 +89,15 @@ fn is_pattern(text: &str) -> bool {
     }
 }
 
+/// Whether the text names an attribute, and none of these Types.
+fn is_removal(text: &str, kept: &[u8]) -> bool {
+    match removed_attribute(text) {
+        Some(RemovedAttribute::Kind(kind)) => !kept.contains(&kind),
+        Some(_) => true,
+        None => false,
+    }
+}
+
 /// Whether the text is of the form, where that is one of texts.
 fn text_fits(form: ValueForm, text: &str) -> bool {
     match form {
@@ -90,6 +110,11 @@ fn text_fits(form: ValueForm, text: &str) -> bool {
         ValueForm::PeerName => is_name(text, 64, true),
         ValueForm::RealmName => is_name(text, 253, false),
         ValueForm::Names => is_pattern(text),
+        ValueForm::Rejects => is_pattern(text) && text != "*",
+        ValueForm::PeerNames => !text.is_empty() && text.len() <= 64,
+        ValueForm::RequestRemovals => is_removal(text, &[1, 2, 3, 24, 33, 60, 79, 80]),
+        ValueForm::ReplyRemovals => is_removal(text, &[24, 33, 79, 80]),
+        ValueForm::Accounting => text == "forward" || text == "answer" || text == "drop",
         ValueForm::ExchangeLines => text == "all" || text == "final" || text == "none",
         _ => false,
     }
@@ -110,14 +135,33 @@ fn first_misfit(form: ValueForm, items: &[Value]) -> Option<&Value> {
     None
 }
 
-/// Whether so many items, of which one may not fit, are of the form.
-fn items_fit(form: ValueForm, items: &[Value]) -> bool {
-    let fits = match form {
-        ValueForm::Names => items.len() <= 256,
-        ValueForm::Tables(most) => !items.is_empty() && items.len() <= most,
+/// Whether the form is one of arrays of texts.
+pub(crate) fn is_list(form: ValueForm) -> bool {
+    match form {
+        ValueForm::Names
+        | ValueForm::Rejects
+        | ValueForm::PeerNames
+        | ValueForm::RequestRemovals
+        | ValueForm::ReplyRemovals => true,
         _ => false,
-    };
-    fits && first_misfit(form, items).is_none()
+    }
+}
+
+/// Whether an array of the form may have so many items.
+fn may_have(form: ValueForm, items: usize) -> bool {
+    match form {
+        ValueForm::Names => items <= 256,
+        ValueForm::Rejects => items <= 1024,
+        ValueForm::PeerNames => 1 <= items && items <= 1024,
+        ValueForm::RequestRemovals | ValueForm::ReplyRemovals => items <= 64,
+        ValueForm::Tables(most) => 1 <= items && items <= most,
+        _ => false,
+    }
+}
+
+/// Whether the items are of the form.
+fn items_fit(form: ValueForm, items: &[Value]) -> bool {
+    may_have(form, items.len()) && first_misfit(form, items).is_none()
 }
 
 /// Whether the value is of the form.
@@ -132,10 +176,7 @@ pub(crate) fn fits(form: ValueForm, value: &Value) -> bool {
             ValueForm::Flag | ValueForm::ExchangeLines => true,
             _ => false,
         },
-        Value::String(text) => match form {
-            ValueForm::Names => false,
-            _ => text_fits(form, text.as_str()),
-        },
+        Value::String(text) => !is_list(form) && text_fits(form, text.as_str()),
         Value::Array(items) => items_fit(form, items.as_slice()),
         _ => false,
     }
@@ -146,14 +187,18 @@ pub(crate) fn misfit(form: ValueForm, value: &Value) -> &Value {
     let Value::Array(items) = value else {
         return value;
     };
-    match form {
-        ValueForm::Names if items.len() <= 256 => match first_misfit(form, items.as_slice()) {
-            Some(item) => item,
-            None => value,
-        },
-        _ => value,
+    if !is_list(form) || !may_have(form, items.len()) {
+        return value;
+    }
+    match first_misfit(form, items.as_slice()) {
+        Some(item) => item,
+        None => value,
     }
 }
+
+/// What an array of attributes to take out is, up to those that stay.
+const OF_REMOVALS: &str =
+    "is not in an array of 0..64 texts, each a type 1..255, 26. and a vendor, or these, a dot and a type, without";
 
 /// What a value isn't that doesn't fit.
 impl fmt::Display for ValueForm {
@@ -181,6 +226,19 @@ impl fmt::Display for ValueForm {
             ValueForm::Names => {
                 f.write_str("is not in an array of 0..256 texts, each a name, *. and a name, or *")
             }
+            ValueForm::Rejects => {
+                f.write_str("is not in an array of 0..1024 texts, each a name, or *. and a name")
+            }
+            ValueForm::PeerNames => {
+                f.write_str(
+                    "is not in an array of 1..1024 texts of 1..64 octets, each a peer's name",
+                )
+            }
+            ValueForm::RequestRemovals => write!(f, "{OF_REMOVALS} 1, 2, 3, 24, 33, 60, 79 and 80"),
+            ValueForm::ReplyRemovals => write!(f, "{OF_REMOVALS} 24, 33, 79 and 80"),
+            ValueForm::Accounting => {
+                f.write_str("is none of \"forward\", \"answer\" and \"drop\"")
+            }
             ValueForm::Tables(most) => write!(f, "is no array of 1..{most} tables"),
         }
     }
@@ -191,7 +249,13 @@ pub(crate) fn write_wanted<W: fmt::Write>(form: ValueForm, f: &mut W) -> fmt::Re
     match form {
         ValueForm::Number(least, most) => write!(f, "a whole number in {least}..{most}"),
         ValueForm::Flag => f.write_str("true or false"),
-        ValueForm::Names => f.write_str("an array of texts, as [\"*.example.org\"]"),
+        ValueForm::Names | ValueForm::Rejects => {
+            f.write_str("an array of texts, as [\"*.example.org\"]")
+        }
+        ValueForm::PeerNames => f.write_str("an array of texts, as [\"nas1\"]"),
+        ValueForm::RequestRemovals | ValueForm::ReplyRemovals => {
+            f.write_str("an array of texts, as [\"31\", \"26.9.1\"]")
+        }
         ValueForm::Tables(_) => f.write_str("tables, each below a header of its own"),
         _ => f.write_str("a text in quotation marks"),
     }

@@ -28,6 +28,7 @@ mod scan;
 mod servers;
 mod statements;
 mod syntax;
+mod unknown_peers;
 mod unsaid;
 
 pub use diagnosis::{advise, diagnose};

@@ -2,10 +2,12 @@
 
 use crate::document::{Document, Located};
 use crate::lines::Lines;
+use crate::place::TableKind;
 use crate::quoted::Quoted;
 use crate::rules::{Rule, has_rule, rules_of};
 use crate::unsaid::Unsaid;
 use std::fmt::Write;
+use toml::Value;
 
 /// The first key of a table that its kind doesn't have: what is absent may be misspelt there.
 fn first_unknown<'a>(at: Located<'a>) -> Option<&'a str> {
@@ -48,10 +50,23 @@ fn say(
     lines.push(line)
 }
 
+/// Whether a table needs a key that its kind requires: a server needs no `acct` where the realm's accounting isn't
+/// forwarded.
+fn needs(at: Located<'_>, key: &str) -> bool {
+    if at.place.kind != TableKind::Server || key != "acct" {
+        return true;
+    }
+    match at.named.value("accounting") {
+        Some(Value::String(text)) => text.as_str() == "forward",
+        Some(_) => false,
+        None => true,
+    }
+}
+
 /// Says which keys of a table are absent.
 fn say_in_table(document: &Document<'_>, at: Located<'_>, lines: &mut Lines) -> Result<(), Unsaid> {
     for Rule(key, is_required, _) in rules_of(at.place.kind) {
-        if *is_required && !at.keys.has(key) && !lines.is_full() {
+        if *is_required && !at.keys.has(key) && needs(at, key) && !lines.is_full() {
             say(document, at, key, lines)?;
         }
     }

@@ -17,7 +17,7 @@ fn holds(items: &[Value], text: &str) -> bool {
 }
 
 /// Whether a realm has this pattern in `also`.
-fn has_pattern(at: Located<'_>, pattern: &str) -> bool {
+pub(crate) fn has_pattern(at: Located<'_>, pattern: &str) -> bool {
     match at.keys.array("also") {
         Some(items) => holds(items.as_slice(), pattern),
         None => false,
@@ -73,6 +73,14 @@ fn is_taken_below(document: &Document<'_>, name: &str) -> bool {
         }
     }
     false
+}
+
+/// Whether a name has to be well formed to fit a pattern.
+pub(crate) fn are_well_formed(document: &Document<'_>) -> bool {
+    match document.top() {
+        Some(top) => top.is_set("well_formed"),
+        None => false,
+    }
 }
 
 /// Whether some realm takes any name.

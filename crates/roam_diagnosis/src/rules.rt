@@ -7,7 +7,7 @@ use crate::place::TableKind;
 #[derive(Clone, Copy)]
 pub(crate) struct Rule(pub &'static str, pub bool, pub ValueForm);
 
-const TOP: [Rule; 14] = [
+const TOP: [Rule; 17] = [
     Rule("shards", false, ValueForm::Number(1, 64)),
     Rule("seed", false, ValueForm::Seed),
     Rule("auth", true, ValueForm::Endpoint),
@@ -20,11 +20,14 @@ const TOP: [Rule; 14] = [
     Rule("metrics", false, ValueForm::Endpoint),
     Rule("control", false, ValueForm::SocketPath),
     Rule("log_exchanges", false, ValueForm::ExchangeLines),
+    Rule("reject", false, ValueForm::Rejects),
+    Rule("well_formed", false, ValueForm::Flag),
+    Rule("answer_unnamed", false, ValueForm::Flag),
     Rule("peer", true, ValueForm::Tables(1024)),
     Rule("realm", true, ValueForm::Tables(1024)),
 ];
 
-const PEER: [Rule; 7] = [
+const PEER: [Rule; 12] = [
     Rule("name", true, ValueForm::PeerName),
     Rule("ip", true, ValueForm::Address),
     Rule("secret", true, ValueForm::Secret),
@@ -32,11 +35,22 @@ const PEER: [Rule; 7] = [
     Rule("nas_ip", false, ValueForm::Address),
     Rule("nas_id", false, ValueForm::Text(253)),
     Rule("require_seal", false, ValueForm::Flag),
+    Rule("limit_proxy_state", false, ValueForm::Flag),
+    Rule("operator_name", false, ValueForm::Text(252)),
+    Rule("ask_cui", false, ValueForm::Flag),
+    Rule("request_without", false, ValueForm::RequestRemovals),
+    Rule("reply_without", false, ValueForm::ReplyRemovals),
 ];
 
-const REALM: [Rule; 12] = [
+const REALM: [Rule; 18] = [
     Rule("name", true, ValueForm::RealmName),
     Rule("also", false, ValueForm::Names),
+    Rule("peers", false, ValueForm::PeerNames),
+    Rule("loop_prevention", false, ValueForm::Flag),
+    Rule("accounting", false, ValueForm::Accounting),
+    Rule("request_without", false, ValueForm::RequestRemovals),
+    Rule("reply_without", false, ValueForm::ReplyRemovals),
+    Rule("share", false, ValueForm::Number(1, 4096)),
     Rule("out", true, ValueForm::Endpoint),
     Rule("reverse", false, ValueForm::Endpoint),
     Rule("tries", false, ValueForm::Number(1, 10)),

@@ -106,8 +106,10 @@ fn write_servers<C: Counts>(
             "{comma}{{\"endpoint\":\"{endpoint}\",{totals},\"auth\":"
         )?;
         write_service(out, counts, (number, place), Service::Auth, server.auth)?;
-        out.push_str(",\"acct\":")?;
-        write_service(out, counts, (number, place), Service::Acct, server.acct)?;
+        if let Some(acct) = server.acct {
+            out.push_str(",\"acct\":")?;
+            write_service(out, counts, (number, place), Service::Acct, acct)?;
+        }
         out.push_str("}")?;
     }
     Ok(())

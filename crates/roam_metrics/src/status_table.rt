@@ -165,7 +165,7 @@ fn push_service<C: Counts>(
     table.end_row()
 }
 
-/// Adds the table of home servers: a row for each endpoint.
+/// Adds the table of home servers: a row for each endpoint that there is.
 fn write_servers<C: Counts>(
     alloc: Global,
     out: &mut Vec<u8>,
@@ -180,9 +180,10 @@ fn write_servers<C: Counts>(
             let auth = server.auth;
             table.push(format_args!("auth {auth}"))?;
             push_service(&mut table, counts, of, realm, Service::Auth)?;
-            let acct = server.acct;
-            table.push(format_args!("acct {acct}"))?;
-            push_service(&mut table, counts, of, realm, Service::Acct)?;
+            if let Some(acct) = server.acct {
+                table.push(format_args!("acct {acct}"))?;
+                push_service(&mut table, counts, of, realm, Service::Acct)?;
+            }
         }
     }
     table.write(out, OF_SERVERS.len(), 3)

@@ -4,7 +4,7 @@ use Rattle.roam_conf.specs.Config.{ConfigView, RealmView}
 use Rattle.roam_reload.specs.Differences.{RealmsDiffer}
 use Rattle.roam_reload.specs.Reload.{IsCarried, KeepsPeers, realm_part}
 use Rattle.roam_reload.specs.declared.keys.RealmKey.{RealmKey}
-use Rattle.roam_reload.specs.declared.keys.RealmKey.TheVariants.{Out, Reverse, Tries, Wait, Hold, MaxPending, MaxSessions, Rest, RestAfter, Servers}
+use Rattle.roam_reload.specs.declared.keys.RealmKey.TheVariants.{Out, Reverse, Tries, Wait, Hold, MaxPending, MaxSessions, Rest, RestAfter, Servers, Peers, LoopPrevention, Accounting, RequestWithout, ReplyWithout, Share}
 
 -- some realm
 abbrev no_realm : RealmView
@@ -34,6 +34,12 @@ other_part a b MaxPending d = λ e. d (ap (λ (x : RealmView). x.max_pending) e)
 other_part a b MaxSessions d = λ e. d (ap (λ (x : RealmView). x.max_sessions) e)
 other_part a b Rest d = λ e. d (ap (λ (x : RealmView). x.rest) e)
 other_part a b RestAfter d = λ e. d (ap (λ (x : RealmView). x.rest_after) e)
+other_part a b Peers d = λ e. d (ap (λ (x : RealmView). x.peers) e)
+other_part a b LoopPrevention d = λ e. d (ap (λ (x : RealmView). x.loop_prevention) e)
+other_part a b Accounting d = λ e. d (ap (λ (x : RealmView). x.accounting) e)
+other_part a b RequestWithout d = λ e. d (ap (λ (x : RealmView). x.request_without) e)
+other_part a b ReplyWithout d = λ e. d (ap (λ (x : RealmView). x.reply_without) e)
+other_part a b Share d = λ e. d (ap (λ (x : RealmView). x.share) e)
 other_part a b Servers d = λ e. d (ap (λ (x : RealmView). x.servers) e)
 
 -- both tables are there, and the same in this part

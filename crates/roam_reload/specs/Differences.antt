@@ -26,6 +26,12 @@ RealmsDiffer old new realm_key.MaxSessions = new.max_sessions ≢ old.max_sessio
 RealmsDiffer old new realm_key.Rest = new.rest ≢ old.rest
 RealmsDiffer old new realm_key.RestAfter = new.rest_after ≢ old.rest_after
 RealmsDiffer old new realm_key.Servers = new.servers ≢ old.servers
+RealmsDiffer old new realm_key.Peers = new.peers ≢ old.peers
+RealmsDiffer old new realm_key.LoopPrevention = new.loop_prevention ≢ old.loop_prevention
+RealmsDiffer old new realm_key.Accounting = new.accounting ≢ old.accounting
+RealmsDiffer old new realm_key.RequestWithout = new.request_without ≢ old.request_without
+RealmsDiffer old new realm_key.ReplyWithout = new.reply_without ≢ old.reply_without
+RealmsDiffer old new realm_key.Share = new.share ≢ old.share
 
 abbrev pub PeersDiffer : PeerView → PeerView → PeerKey → Type 0
 PeersDiffer old new peer_key.Ip = new.ip ≢ old.ip
@@ -33,6 +39,10 @@ PeersDiffer old new peer_key.Secret = new.secret ≢ old.secret
 PeersDiffer old new peer_key.Coa = new.coa ≢ old.coa
 PeersDiffer old new peer_key.NasIp = new.nas_ip ≢ old.nas_ip
 PeersDiffer old new peer_key.NasId = new.nas_id ≢ old.nas_id
+PeersDiffer old new peer_key.OperatorName = new.operator_name ≢ old.operator_name
+PeersDiffer old new peer_key.AskCui = new.ask_cui ≢ old.ask_cui
+PeersDiffer old new peer_key.RequestWithout = new.request_without ≢ old.request_without
+PeersDiffer old new peer_key.ReplyWithout = new.reply_without ≢ old.reply_without
 
 -- the old peer of an index isn't the new one
 pub record IsOtherPeer (old new : List PeerView) (peer : ℕ) : Type 0 where

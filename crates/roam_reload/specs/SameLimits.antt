@@ -1,4 +1,5 @@
--- Two tables of a realm with equal times and limits: words of private functions alone (ours).
+-- Two tables of a realm with equal times and limits, and with equal decisions of the operator: words of private
+-- functions alone (ours).
 use Rattle.std.specs.Prelude.{◌≡◌}
 use Rattle.roam_conf.specs.Config.{RealmView}
 
@@ -10,3 +11,12 @@ pub record HaveSameLimits (old new : RealmView) : Type 0 where
   pub max_sessions : new.max_sessions ≡ old.max_sessions
   pub rest : new.rest ≡ old.rest
   pub rest_after : new.rest_after ≡ old.rest_after
+
+-- who may ask, what becomes of accounting, what is taken out, and the share of a name
+pub record HaveSamePolicy (old new : RealmView) : Type 0 where
+  pub peers : new.peers ≡ old.peers
+  pub loop_prevention : new.loop_prevention ≡ old.loop_prevention
+  pub accounting : new.accounting ≡ old.accounting
+  pub request_without : new.request_without ≡ old.request_without
+  pub reply_without : new.reply_without ≡ old.reply_without
+  pub share : new.share ≡ old.share

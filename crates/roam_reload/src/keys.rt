@@ -14,9 +14,15 @@ pub enum RealmKey {
     RestAfter,
     /// The tables `server`: their number, or any of their keys.
     Servers,
+    Peers,
+    LoopPrevention,
+    Accounting,
+    RequestWithout,
+    ReplyWithout,
+    Share,
 }
 
-/// A key of a peer's table; `name` and `require_seal` aside.
+/// A key of a peer's table; `name`, `require_seal` and `limit_proxy_state` aside.
 #[derive(Clone, Copy, PartialEq, Eq)]
 pub enum PeerKey {
     Ip,
@@ -24,6 +30,10 @@ pub enum PeerKey {
     Coa,
     NasIp,
     NasId,
+    OperatorName,
+    AskCui,
+    RequestWithout,
+    ReplyWithout,
 }
 
 impl RealmKey {
@@ -40,6 +50,12 @@ impl RealmKey {
             RealmKey::Rest => "rest",
             RealmKey::RestAfter => "rest_after",
             RealmKey::Servers => "server",
+            RealmKey::Peers => "peers",
+            RealmKey::LoopPrevention => "loop_prevention",
+            RealmKey::Accounting => "accounting",
+            RealmKey::RequestWithout => "request_without",
+            RealmKey::ReplyWithout => "reply_without",
+            RealmKey::Share => "share",
         }
     }
 }
@@ -53,6 +69,10 @@ impl PeerKey {
             PeerKey::Coa => "coa",
             PeerKey::NasIp => "nas_ip",
             PeerKey::NasId => "nas_id",
+            PeerKey::OperatorName => "operator_name",
+            PeerKey::AskCui => "ask_cui",
+            PeerKey::RequestWithout => "request_without",
+            PeerKey::ReplyWithout => "reply_without",
         }
     }
 }

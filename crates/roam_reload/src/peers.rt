@@ -8,7 +8,7 @@ ghost use Rattle.roam_reload.specs.Reload.{KeepsPeers, peer_part};
 use crate::keys::PeerKey;
 use roam_conf::Peer;
 
-/// The first key in which two tables of a peer differ, its `name` and `require_seal` aside.
+/// The first key in which two tables of a peer differ, its `name`, `require_seal` and `limit_proxy_state` aside.
 pub fn peer_difference(old: &Peer, new: &Peer) -> Option<PeerKey>
     ensures none { IfNone result (peer_part (shown_peer new.now) ≡ peer_part (shown_peer old.now)) }
     ensures some { IfSome result (PeersDiffer (shown_peer old.now) (shown_peer new.now)) }
@@ -23,13 +23,21 @@ pub fn peer_difference(old: &Peer, new: &Peer) -> Option<PeerKey>
         Some(PeerKey::NasIp)
     } else if old.nas_id != new.nas_id {
         Some(PeerKey::NasId)
+    } else if old.operator_name != new.operator_name {
+        Some(PeerKey::OperatorName)
+    } else if old.ask_cui != new.ask_cui {
+        Some(PeerKey::AskCui)
+    } else if old.request_without != new.request_without {
+        Some(PeerKey::RequestWithout)
+    } else if old.reply_without != new.reply_without {
+        Some(PeerKey::ReplyWithout)
     } else {
         None
     }
 }
 
 /// The first of the old peers that the new ones don't have at its index, or have there with another table, its
-/// `name` and `require_seal` aside.
+/// `name`, `require_seal` and `limit_proxy_state` aside.
 pub fn other_peer(old: &[Peer], new: &[Peer]) -> Option<usize>
     ensures none { IfNone result (KeepsPeers (map shown_peer old.now) (map shown_peer new.now)) }
     ensures some { IfSome result (IsOtherPeer (map shown_peer old.now) (map shown_peer new.now)) }

@@ -4,7 +4,7 @@ ghost use Rattle.std.specs.Prelude.{◌≡◌, ◌≢◌, IfNone, IfSome, IsFals
 ghost use Rattle.roam_conf.specs.Parts.{shown_realm};
 ghost use Rattle.roam_reload.specs.Differences.{RealmsDiffer};
 ghost use Rattle.roam_reload.specs.Reload.{realm_part};
-ghost use Rattle.roam_reload.specs.SameLimits.{HaveSameLimits};
+ghost use Rattle.roam_reload.specs.SameLimits.{HaveSameLimits, HaveSamePolicy};
 
 use crate::keys::RealmKey;
 use roam_conf::{Endpoint, Realm, is_same_endpoint};
@@ -33,6 +33,41 @@ fn limit_difference(old: &Realm, new: &Realm) -> Option<RealmKey>
     }
 }
 
+/// The first key in which two tables differ of who may ask a realm, of what becomes of its accounting, of what is taken
+/// out of its packets, and of the share of a name.
+fn policy_difference(old: &Realm, new: &Realm) -> Option<RealmKey>
+    ensures none { IfNone result (HaveSamePolicy (shown_realm old.now) (shown_realm new.now)) }
+    ensures some { IfSome result (RealmsDiffer (shown_realm old.now) (shown_realm new.now)) }
+{
+    if old.peers != new.peers {
+        Some(RealmKey::Peers)
+    } else if old.loop_prevention != new.loop_prevention {
+        Some(RealmKey::LoopPrevention)
+    } else if old.accounting != new.accounting {
+        Some(RealmKey::Accounting)
+    } else if old.request_without != new.request_without {
+        Some(RealmKey::RequestWithout)
+    } else if old.reply_without != new.reply_without {
+        Some(RealmKey::ReplyWithout)
+    } else if old.share != new.share {
+        Some(RealmKey::Share)
+    } else {
+        None
+    }
+}
+
+/// The first key in which two tables of a realm differ beside its sockets and servers.
+fn other_difference(old: &Realm, new: &Realm) -> Option<RealmKey>
+    ensures none { IfNone result (HaveSamePolicy (shown_realm old.now) (shown_realm new.now)
+        × HaveSameLimits (shown_realm old.now) (shown_realm new.now)) }
+    ensures some { IfSome result (RealmsDiffer (shown_realm old.now) (shown_realm new.now)) }
+{
+    match policy_difference(old, new) {
+        Some(key) => Some(key),
+        None => limit_difference(old, new),
+    }
+}
+
 /// Whether two realms take reverse requests at one endpoint, or neither takes them.
 fn is_same_reverse(a: Option<Endpoint>, b: Option<Endpoint>) -> bool
     ensures same { IsTrue result → a ≡ b }
@@ -57,6 +92,6 @@ pub fn realm_difference(old: &Realm, new: &Realm) -> Option<RealmKey>
     } else if old.servers != new.servers {
         Some(RealmKey::Servers)
     } else {
-        limit_difference(old, new)
+        other_difference(old, new)
     }
 }

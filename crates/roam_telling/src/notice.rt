@@ -79,7 +79,7 @@ fn link_text(config: &Config, realm: u16, link: Link) -> LinkText<'_> {
 pub fn server_endpoint(realm: &Realm, link: Link) -> Option<Endpoint> {
     match link {
         Link::Auth(server) => Some(realm.servers.get(usize::from(server))?.auth),
-        Link::Acct(server) => Some(realm.servers.get(usize::from(server))?.acct),
+        Link::Acct(server) => realm.servers.get(usize::from(server))?.acct,
         Link::Coa(_) => None,
     }
 }

@@ -9,3 +9,4 @@ pub mod Constants
 pub mod Building
 pub mod Secret
 pub mod Laws
+pub mod RemovedAttributes

@@ -29,3 +29,6 @@ number_of refusal.NoMemory = 21
 number_of refusal.TraceFull = 22
 number_of refusal.Misplaced = 23
 number_of refusal.TooManyHops = 24
+number_of refusal.NotForPeer = 25
+number_of refusal.AccountingDropped = 26
+number_of refusal.ShareTaken = 27

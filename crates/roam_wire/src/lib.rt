@@ -22,6 +22,7 @@ mod octets;
 mod packet_buf;
 mod packet_size;
 mod refusal;
+mod removed_attribute;
 mod view;
 pub mod writing;
 
@@ -33,4 +34,5 @@ pub use octets::Octets;
 pub use packet_buf::PacketBuf;
 pub use packet_size::MAX_PACKET_LENGTH;
 pub use refusal::{NoMemory, Refusal};
+pub use removed_attribute::RemovedAttribute;
 pub use view::View;

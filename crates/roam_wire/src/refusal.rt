@@ -23,9 +23,11 @@ impl<T: Drop> From<AllocFailed<T>> for NoMemory {
 /// Why the broker refuses an event. Every refusal leaves the broker as it was.
 ///
 /// An arrival is refused by the first of `Short` to `TooLong` whose cause holds, where `TooManyHops`
-/// stands between `MissingMessageAuthenticator` and `NoRealm`; and a tick by `NoShard`. Then comes
-/// `Moment`; then, for a request, the first of `Exhausted` to `Busy`, and for a reply the first of
-/// `NoEntry` to `ReplyTooLong`. `NoMemory` comes wherever a growth was refused.
+/// stands between `MissingMessageAuthenticator` and `NoRealm`, and `NotForPeer` and then
+/// `AccountingDropped` between `NoRealm` and `TooLong`; and a tick by `NoShard`. Then comes
+/// `Moment`; then, for a request, the first of `Exhausted` to `Busy`, where `ShareTaken` stands behind
+/// `Exhausted`, and for a reply the first of `NoEntry` to `ReplyTooLong`. `NoMemory` comes wherever a
+/// growth was refused.
 #[derive(Clone, Copy, PartialEq, Eq)]
 pub enum Refusal {
     /// The datagram has fewer than 20 octets.
@@ -79,12 +81,18 @@ pub enum Refusal {
     Misplaced,
     /// An Accounting-, Disconnect- or CoA-Request has more Proxy-States than proxies may have added.
     TooManyHops,
+    /// The realm that an Accounting-Request names doesn't take requests of this peer.
+    NotForPeer,
+    /// The realm that an Accounting-Request names has its accounting dropped.
+    AccountingDropped,
+    /// As many requests of one code for one name wait in the realm as may.
+    ShareTaken,
 }
 
 impl Refusal {
     ghost use Rattle.roam_wire.specs.Refusal.{number_of};
 
-    /// The number of the refusal, from 1 to 24, under which it is logged.
+    /// The number of the refusal, from 1 to 27, under which it is logged.
     pub fn number(self) -> u8
         ensures { result ≡ number_of self }
     {
@@ -113,6 +121,9 @@ impl Refusal {
             Refusal::TraceFull => 22,
             Refusal::Misplaced => 23,
             Refusal::TooManyHops => 24,
+            Refusal::NotForPeer => 25,
+            Refusal::AccountingDropped => 26,
+            Refusal::ShareTaken => 27,
         }
     }
 }

@@ -28,6 +28,9 @@ secret = \"s\"
 /// The sample configuration, whose peer, realm and server are one each.
 pub const SAMPLE: [&str; 4] = [TOP, PEER, REALM, SERVER];
 
+/// Nothing is replaced: the line ends before the first table.
+pub const AS_IT_IS: &str = "\n";
+
 /// A change of the sample: the first text that is replaced, what stands there then, and the fault of
 /// what comes.
 pub type Change = (&'static str, &'static str, Option<ConfFault>);

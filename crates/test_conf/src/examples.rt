@@ -1,6 +1,9 @@
 //! All examples, in one test: a test costs the proof more than an example.
 
-use crate::{name_tests, order_tests, sample_tests, size_tests, value_tests};
+use crate::{
+    asking_tests, name_tests, order_tests, policy_tests, removed_tests, sample_tests, size_tests,
+    value_tests,
+};
 use std::test::Fail;
 
 #[test]
@@ -9,9 +12,15 @@ fn all_examples(rt: HostRuntime) -> Result<(), Fail> {
     name_tests::the_realm_of_a_name_without_a_default(&rt)?;
     name_tests::the_realm_of_a_long_name(&rt)?;
     name_tests::the_faults_of_patterns(&rt)?;
+    name_tests::the_names_to_reject(&rt)?;
+    name_tests::the_names_that_are_well_formed(&rt)?;
     order_tests::the_earlier_of_two_faults(&rt)?;
     order_tests::what_may_not_stand_twice(&rt)?;
     order_tests::a_faults_text_is_its_name(&rt)?;
+    removed_tests::the_lists_of_attributes(&rt)?;
+    policy_tests::the_faults_of_the_keys(&rt)?;
+    policy_tests::the_keys_are_read(&rt)?;
+    asking_tests::who_may_ask_whom(&rt)?;
     sample_tests::the_sample_is_read(&rt)?;
     sample_tests::numbers_that_are_not_written(&rt)?;
     sample_tests::a_realm_may_take_no_reverse_requests(&rt)?;

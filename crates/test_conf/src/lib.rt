@@ -6,6 +6,8 @@
 #![tactic(auto)]
 
 #[cfg(test)]
+mod asking_tests;
+#[cfg(test)]
 mod documents;
 #[cfg(test)]
 mod examples;
@@ -13,6 +15,10 @@ mod examples;
 mod name_tests;
 #[cfg(test)]
 mod order_tests;
+#[cfg(test)]
+mod policy_tests;
+#[cfg(test)]
+mod removed_tests;
 #[cfg(test)]
 mod sample_tests;
 #[cfg(test)]

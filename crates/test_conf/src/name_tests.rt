@@ -124,6 +124,61 @@ pub(crate) fn the_realm_of_a_long_name<R: Abort + AllocGlobal>(rt: &R) -> Result
     Ok(())
 }
 
+/// The realm of each name, where `x.a.example` and `*.gone` are rejected, and the first realm has `*.a.example` and
+/// `*`: where names needn't be well formed, and where they have to be.
+const REJECTED: [(&str, Option<u16>, Option<u16>); 18] = [
+    ("y.a.example", Some(0), Some(0)),
+    ("b.c", Some(0), Some(0)),
+    ("x.a.example", None, None),
+    ("X.A.example", None, None),
+    ("y.gone", None, None),
+    // Nothing stands before the dot, or there is none: by `*`.
+    (".gone", Some(0), None),
+    ("gone", Some(0), None),
+    ("b..c", Some(0), None),
+    ("b.", Some(0), None),
+    (".b", Some(0), None),
+    ("b c.d", Some(0), None),
+    ("-a.b", Some(0), None),
+    ("a-.b", Some(0), None),
+    ("b", Some(0), None),
+    ("b-1.C", Some(0), Some(0)),
+    ("\u{e9}.fr", Some(0), Some(0)),
+    // A whole name is taken as it stands.
+    ("a.example", Some(0), Some(0)),
+    ("b.example", Some(1), Some(1)),
+];
+
+/// The configuration with these names to reject.
+fn rejecting(alloc: Global, top: &str) -> Result<Config, Fail> {
+    let text = with_patterns(alloc, "also = [\"*.a.example\", \"*\"]\n", "")?;
+    let text = joined(
+        alloc,
+        &[
+            "reject = [\"x.a.example\", \"*.gone\"]\n",
+            top,
+            text.as_str(),
+        ],
+    )?;
+    Ok(read_config(alloc, text.as_str())?)
+}
+
+pub(crate) fn the_names_to_reject<R: Abort + AllocGlobal>(rt: &R) -> Result<(), Fail> {
+    let config = rejecting(rt.alloc(), "")?;
+    for &(name, realm, _) in &REJECTED {
+        assert!(rt; config.realm_index(name.as_bytes()) == realm, "{name}");
+    }
+    Ok(())
+}
+
+pub(crate) fn the_names_that_are_well_formed<R: Abort + AllocGlobal>(rt: &R) -> Result<(), Fail> {
+    let config = rejecting(rt.alloc(), "well_formed = true\n")?;
+    for &(name, _, realm) in &REJECTED {
+        assert!(rt; config.realm_index(name.as_bytes()) == realm, "{name}");
+    }
+    Ok(())
+}
+
 const BAD_VALUE: Option<ConfFault> = Some(ConfFault::BadValue);
 
 const DUPLICATE_REALM: Option<ConfFault> = Some(ConfFault::DuplicateRealm);

@@ -1,7 +1,7 @@
 //! What may not stand twice, and which of two faults at once is the answer.
 
 use crate::documents::{
-    Change, Document, SAMPLE, SECOND_PEER, THIRD_PEER, expect_changes, expect_documents,
+    AS_IT_IS, Change, Document, SAMPLE, SECOND_PEER, THIRD_PEER, expect_changes, expect_documents,
 };
 use roam_conf_reader::ConfFault;
 use std::alloc::Global;
@@ -54,9 +54,6 @@ const NO_SECRET: &str = "
 auth = \"198.51.100.1:1812\"
 acct = \"198.51.100.1:1813\"
 ";
-
-/// Nothing is replaced: the line ends before the first table.
-const AS_IT_IS: &str = "\n";
 
 /// Two neighbouring faults at once, for each pair of neighbours: the earlier one is the answer.
 const TWO_FAULTS: [Document; 8] = [

@@ -37,13 +37,13 @@ fn numbers(config: &Config, realm: &Realm) -> [u32; 7] {
 }
 
 /// The endpoints of a configuration, of its first realm and of that realm's first server.
-fn endpoints(config: &Config, realm: &Realm) -> [Endpoint; 5] {
+fn endpoints(config: &Config, realm: &Realm) -> [Option<Endpoint>; 5] {
     let server = &realm.servers[0];
     [
-        config.auth,
-        config.acct,
-        realm.out,
-        server.auth,
+        Some(config.auth),
+        Some(config.acct),
+        Some(realm.out),
+        Some(server.auth),
         server.acct,
     ]
 }
@@ -70,11 +70,11 @@ pub(crate) fn the_sample_is_read<R: Abort + AllocGlobal>(rt: &R) -> Result<(), F
     assert!(rt;
         endpoints(&config, realm)
             == [
-                own(1812),
-                own(1813),
-                own(2000),
-                home_server(1, 1812),
-                home_server(1, 1813),
+                Some(own(1812)),
+                Some(own(1813)),
+                Some(own(2000)),
+                Some(home_server(1, 1812)),
+                Some(home_server(1, 1813)),
             ]
     );
     assert!(rt; realm.reverse == Some(own(3000)));

@@ -4,7 +4,7 @@ use crate::samples::{Change, expect_told};
 use std::process::Abort;
 use std::test::Fail;
 
-const ADVICE: [Change; 19] = [
+const ADVICE: [Change; 21] = [
     ("shards = 1", "shards = 1", ""),
     ("0001", "0000", ""),
     (
@@ -68,11 +68,22 @@ const ADVICE: [Change; 19] = [
     (
         "\n[[realm]]\n",
         "[[realm]]\nname = \"upstream.invalid\"\nalso = [\"*\"]\nout = \"127.0.0.1:2001\"\n[[realm.server]]\nauth = \"198.51.100.9:1812\"\nacct = \"198.51.100.9:1813\"\nsecret = \"of another server\"\nrequire_seal = true\n[[realm]]\n",
-        "a.conf:23: realm \"a.example\": name: is without *. and this name in also: names below it go to the realm of *\n",
+        "a.conf:23: realm \"a.example\": name: is without *. and this name in also: names below it go to the realm of *\na.conf:15: realm \"upstream.invalid\": also: has * without well_formed: names that can be no realm's, as a..b, are forwarded too\na.conf:13: realm \"upstream.invalid\": loop_prevention: isn't true beside *: a request may go back to the proxy that it came from\na.conf:13: realm \"upstream.invalid\": share: is absent beside *: one realm of a dead server may take all Identifiers from the others\n",
     ),
     (
         "\n[[realm]]\n",
         "[[realm]]\nname = \"upstream.invalid\"\nalso = [\"*\", \"*.Example\"]\nout = \"127.0.0.1:2001\"\n[[realm.server]]\nauth = \"198.51.100.9:1812\"\nacct = \"198.51.100.9:1813\"\nsecret = \"of another server\"\nrequire_seal = true\n[[realm]]\n",
+        "a.conf:15: realm \"upstream.invalid\": also: has * without well_formed: names that can be no realm's, as a..b, are forwarded too\na.conf:13: realm \"upstream.invalid\": loop_prevention: isn't true beside *: a request may go back to the proxy that it came from\na.conf:13: realm \"upstream.invalid\": share: is absent beside *: one realm of a dead server may take all Identifiers from the others\n",
+    ),
+    (
+        "trace_limit = 1000\n",
+        "well_formed = true\n[[realm]]\nname = \"upstream.invalid\"\nalso = [\"*\", \"*.Example\"]\nloop_prevention = true\nshare = 64\nout = \"127.0.0.1:2001\"\n[[realm.server]]\nauth = \"198.51.100.9:1812\"\nacct = \"198.51.100.9:1813\"\nsecret = \"of another server\"\nrequire_seal = true\n",
+        "",
+    ),
+    // A server that takes no accounting, where none is forwarded.
+    (
+        "\n[[realm.server]]\nauth = \"198.51.100.1:1812\"\nacct = \"198.51.100.1:1813\"\n",
+        "accounting = \"answer\"\n[[realm.server]]\nauth = \"198.51.100.1:1812\"\n",
         "",
     ),
     (

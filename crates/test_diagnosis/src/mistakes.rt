@@ -60,6 +60,50 @@ pub const MISSING: [Change; 6] = [
     ),
 ];
 
+/// What an operator decides: values that aren't of their form, what stands twice, and peers that aren't there.
+pub const POLICIES: [Change; 8] = [
+    (
+        "tries = 2",
+        "tries = 2\nrequest_without = [\"31\", \"33\"]",
+        "BadValue\na.conf:19: realm \"a.example\": request_without: \"33\" is not in an array of 0..64 texts, each a type 1..255, 26. and a vendor, or these, a dot and a type, without 1, 2, 3, 24, 33, 60, 79 and 80\n",
+    ),
+    (
+        "coa = \"192.0.2.1:3799\"",
+        "reply_without = \"26.9\"",
+        "BadValue\na.conf:11: peer \"nas1\": reply_without: \"26.9\" is not in an array of 0..64 texts, each a type 1..255, 26. and a vendor, or these, a dot and a type, without 24, 33, 79 and 80: write [\"26.9\"]\n",
+    ),
+    (
+        "shards = 1",
+        "reject = [\"*\"]",
+        "BadValue\na.conf:1: reject: \"*\" is not in an array of 0..1024 texts, each a name, or *. and a name\n",
+    ),
+    (
+        "tries = 2",
+        "accounting = \"no\"",
+        "BadValue\na.conf:18: realm \"a.example\": accounting: \"no\" is none of \"forward\", \"answer\" and \"drop\"\n",
+    ),
+    (
+        "tries = 2",
+        "peers = []",
+        "BadValue\na.conf:18: realm \"a.example\": peers: an array of 0 is not in an array of 1..1024 texts of 1..64 octets, each a peer's name\n",
+    ),
+    (
+        "shards = 1",
+        "reject = [\"A.Example\"]",
+        "DuplicateRealm\na.conf:15: realm \"a.example\": name: \"a.example\" stands also in line 1: reject\n",
+    ),
+    (
+        "coa = \"192.0.2.1:3799\"\nrequire_seal = true\n",
+        "operator_name = \"A.b\"\n[[peer]]\nname = \"nas2\"\nip = \"192.0.2.2\"\nsecret = \"of the second\"\noperator_name = \"a.B\"\n",
+        "DuplicatePeer\na.conf:16: peer \"nas2\": operator_name: \"a.B\" stands also in line 11: peer \"nas1\": operator_name\n",
+    ),
+    (
+        "tries = 2",
+        "peers = [\"nas1\", \"NAS1\", \"nas2\"]",
+        "UnknownPeer\na.conf:18: realm \"a.example\": peers: \"NAS1\" is no peer's name, but \"nas1\" is\na.conf:18: realm \"a.example\": peers: \"nas2\" is no peer's name\n",
+    ),
+];
+
 /// Values aren't of their form, or keys are unknown. No secret is shown.
 pub const BAD_VALUES: [Change; 17] = [
     (

@@ -140,7 +140,7 @@ impl<'c> RealmSettings<'c> {
         ensures secret { server_secret self.now server ≡ (shown_server result.now).secret }
         ensures auth { link_endpoint self.now (Link.Auth server) ≡ result.now.auth }
         ensures seal { seal_required self.now (Link.Auth server) ≡ result.now.require_seal }
-        ensures acct { link_endpoint self.now (Link.Acct server) ≡ result.now.acct }
+        ensures acct { link_endpoint self.now (Link.Acct server) ≡ unwrap_or result.now.acct nowhere }
     {
         &self.realm().servers[usize::from(server)]
     }
@@ -213,7 +213,7 @@ impl<'c> RealmSettings<'c> {
     {
         match link {
             Link::Auth(server) => self.server(server).auth,
-            Link::Acct(server) => self.server(server).acct,
+            Link::Acct(server) => self.server(server).acct.unwrap_or(NOWHERE),
             Link::Coa(peer) => self.peer(peer).coa.unwrap_or(NOWHERE),
         }
     }

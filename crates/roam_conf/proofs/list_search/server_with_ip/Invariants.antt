@@ -1,5 +1,6 @@
-use Rattle.std.proofs.Common.{◌≡◌, ◌||◌, map, drop}
+use Rattle.std.proofs.Common.{◌≡◌, ◌||◌, false, map, drop}
 use Rattle.std.specs.List.{position_from}
+use Rattle.std.specs.Option.{option_map_or}
 use Rattle.std.specs.Str.{bytes_eq}
 use Rattle.roam_conf.specs.Config.{ServerView}
 use Rattle.roam_conf.specs.Lookup.{first_place}
@@ -8,4 +9,4 @@ use Rattle.roam_conf.proofs.list_search.server_with_ip.Given as goal
 
 abbrev pub invariant-loop-place : goal.invariant-loop-place
 invariant-loop-place l =
-    position_from (λ (x : ServerView). bytes_eq x.auth.ip l.ip || bytes_eq x.acct.ip l.ip) l.place (map shown_server (drop l.place l.servers)) ≡ first_place (λ (x : ServerView). bytes_eq x.auth.ip l.fn.ip || bytes_eq x.acct.ip l.fn.ip) (map shown_server l.fn.servers)
+    position_from (λ (x : ServerView). bytes_eq x.auth.ip l.ip || option_map_or (λ e. bytes_eq e.ip l.ip) x.acct false) l.place (map shown_server (drop l.place l.servers)) ≡ first_place (λ (x : ServerView). bytes_eq x.auth.ip l.fn.ip || option_map_or (λ e. bytes_eq e.ip l.fn.ip) x.acct false) (map shown_server l.fn.servers)

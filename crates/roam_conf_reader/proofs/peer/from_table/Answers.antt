@@ -1,5 +1,9 @@
+use Rattle.toml.specs.Data.{get_member}
 use Rattle.toml.specs.View.{table_view}
-use Rattle.std.proofs.Common.{codes}
+use Rattle.std.proofs.Common.{codes, arith}
+use Rattle.roam_wire.specs.RemovedAttributes.{is_removal_in_requests, is_removal_in_replies}
+use Rattle.roam_conf_reader.specs.Values.{removed}
+use Rattle.roam_conf_reader.proofs.ListLemmas.{is_list_of, stated_removed}
 use Rattle.roam_conf_reader.proofs.RangeLemmas.{text_at, optional_port_at, optional_text_at}
 use Rattle.roam_conf_reader.proofs.peer.from_table.Goals as goal
 
@@ -7,12 +11,40 @@ use Rattle.roam_conf_reader.proofs.peer.from_table.Goals as goal
 pub invariant_of-result : goal.invariant_of-result
 invariant_of-result c =
     let members = table_view c.args.table.now in
-    let stated = c.in-Some.ensures in
+    let request = c.in_ok-of_requests.field-0 in
+    let reply = c.in_ok-of_replies.field-0 in
+    let stated = c.in-Some.ensures request.items reply.items c.in_ok-of_requests.ensures.ok
+    c.in_ok-of_replies.ensures.ok in
+    let of_requests = is_list_of (removed is_removal_in_requests) is_removal_in_requests
+    (stated_removed is_removal_in_requests) 64 (get_member (codes "request_without") members) request.items
+    c.in_ok-of_requests.ensures.ok in
+    let of_replies = is_list_of (removed is_removal_in_replies) is_removal_in_replies
+    (stated_removed is_removal_in_replies) 64 (get_member (codes "reply_without") members) reply.items
+    c.in_ok-of_replies.ensures.ok in
     let name = text_at 64 _ (codes "name") members _ stated.name in
     record {
       name_length = rw c.in_ok-from_str.ensures.ok name.size;
       name_letters = rw c.in_ok-from_str.ensures.ok name.letters_only;
       secret_length = rw c.in_ok-from_str-2.ensures.ok (text_at 64 _ (codes "secret") members _ stated.secret).size;
-      nas_id_length = optional_text_at 253 _ (codes "nas_id") members _ c.in_ok-copied.field-0 stated.nas_id c.in_ok-copied.ensures.ok;
+      nas_id_length = optional_text_at 253 _ (codes "nas_id") members _ c.in_ok-copied.field-0 stated.nas_id
+          c.in_ok-copied.ensures.ok;
+      operator_name_length = optional_text_at 252 _ (codes "operator_name") members _ c.in_ok-copied-2.field-0
+          stated.operator_name c.in_ok-copied-2.ensures.ok;
+      few_without = (omega (arith, of_requests.count, request.ok), omega (arith, of_replies.count, reply.ok));
+      request_removals = of_requests.all;
+      reply_removals = of_replies.all;
       coa_port = optional_port_at (codes "coa") members c.in-Some.text.coa stated.coa;
     }
+
+-- The table states the peer: its own values, and those of its lists.
+pub returns-clause-ok : goal.returns-clause-ok
+returns-clause-ok c =
+    let request = c.in_ok-of_requests.field-0 in
+    let reply = c.in_ok-of_replies.field-0 in
+    rw (
+      c.in_ok-from_str.ensures.ok,
+      c.in_ok-from_str-2.ensures.ok,
+      c.in_ok-copied.ensures.ok,
+      c.in_ok-copied-2.ensures.ok,
+    ) (c.in-Some.ensures request.items reply.items c.in_ok-of_requests.ensures.ok
+    c.in_ok-of_replies.ensures.ok)

@@ -1,6 +1,6 @@
 use Rattle.toml.specs.View.{table_view}
 use Rattle.std.proofs.Common.{codes}
-use Rattle.roam_conf_reader.proofs.RangeLemmas.{text_at, port_at}
+use Rattle.roam_conf_reader.proofs.RangeLemmas.{text_at, port_at, optional_port_at}
 use Rattle.roam_conf_reader.proofs.server.from_table.Goals as goal
 
 -- What is stated is in its range.
@@ -10,5 +10,8 @@ invariant_of-result c =
     let stated = c.in-Some.ensures in
     record {
       secret_length = rw c.in_ok-from_str.ensures.ok (text_at 64 _ (codes "secret") members _ stated.secret).size;
-      ports = (port_at (codes "auth") members _ stated.auth, port_at (codes "acct") members _ stated.acct);
+      ports = (
+        port_at (codes "auth") members _ stated.auth,
+        optional_port_at (codes "acct") members c.in-Some.text.acct stated.acct,
+      );
     }

@@ -4,9 +4,10 @@ use Rattle.std.specs.Cmp.Lexicographic.{pointwise}
 use Rattle.roam_conf.specs.Config.{RealmView}
 use Rattle.roam_conf.specs.Parts.{shown_realm, shown_server}
 use Rattle.roam_conf.specs.declared.server.Server.{Server}
-use Rattle.roam_conf.proofs.EqualLemmas.{list_decides, server_decides, server_eq, endpoint_decides}
+use Rattle.roam_conf.proofs.EqualLemmas.{server_decides, server_eq}
+use Rattle.roam_conf.proofs.EqualPartsLemmas.{list_decides, endpoint_decides}
 use Rattle.roam_reload.specs.Reload.{realm_part}
-use Rattle.roam_reload.specs.SameLimits.{HaveSameLimits}
+use Rattle.roam_reload.specs.SameLimits.{HaveSameLimits, HaveSamePolicy}
 use Rattle.roam_reload.proofs.realms.realm_difference.Goals as goal
 
 -- servers of another list
@@ -29,20 +30,26 @@ sames a b test is no' = sym ((list_decides server_eq shown_server server_decides
     passed false e = absurd (true≢false e)
 
 -- the same tables in this part
-same_part : (a b : RealmView) → b.out ≡ a.out → b.reverse ≡ a.reverse → b.servers ≡ a.servers → HaveSameLimits a b →
-    realm_part b ≡ realm_part a
-same_part a b out reverse servers limits = λ i. record {
+same_part : (a b : RealmView) → b.out ≡ a.out → b.reverse ≡ a.reverse → b.servers ≡ a.servers →
+    HaveSamePolicy a b × HaveSameLimits a b → realm_part b ≡ realm_part a
+same_part a b out reverse servers same = λ i. record {
   name = [];
   also = [];
+  peers = same.0.peers i;
+  loop_prevention = same.0.loop_prevention i;
+  accounting = same.0.accounting i;
+  request_without = same.0.request_without i;
+  reply_without = same.0.reply_without i;
+  share = same.0.share i;
   out = out i;
   reverse = reverse i;
-  tries = limits.tries i;
-  wait = limits.wait i;
-  hold = limits.hold i;
-  max_pending = limits.max_pending i;
-  max_sessions = limits.max_sessions i;
-  rest = limits.rest i;
-  rest_after = limits.rest_after i;
+  tries = same.1.tries i;
+  wait = same.1.wait i;
+  hold = same.1.hold i;
+  max_pending = same.1.max_pending i;
+  max_sessions = same.1.max_sessions i;
+  rest = same.1.rest i;
+  rest_after = same.1.rest_after i;
   servers = servers i;
 }
 
@@ -62,7 +69,7 @@ returns-else-ne-clause-none c =
     sym ((endpoint_decides old.out new.out).0 (sym c.is_same_endpoint.ensures ∙ c.if-not-is_same_endpoint.false)) in
     let reverse : new.reverse ≡ old.reverse =
     c.is_same_reverse.ensures.same c.if-not-is_same_reverse.false in
-    if_none c.limit_difference.result
+    if_none c.other_difference.result
     (same_part (shown_realm old) (shown_realm new) out reverse
     (sames old.servers.items new.servers.items c.ne.result c.ne.ensures c.if-ne.false))
-    c.limit_difference.ensures.none
+    c.other_difference.ensures.none

@@ -1,0 +1,9 @@
+use Rattle.std.proofs.Common.{◌∙◌}
+use Rattle.roam_conf.specs.Config.{suffix}
+use Rattle.roam_conf.specs.Shown.{shown}
+use Rattle.roam_conf.proofs.NameLemmas.{found_in}
+use Rattle.roam_conf.proofs.config.Config.owner_of_suffix.Goals as goal
+
+pub returns : goal.returns
+returns c = λ name is.
+    c.owner_of.ensures ∙ found_in (shown c.args.self.now) (suffix name) c.args.key.now _ c.args.self.now.names_noted is

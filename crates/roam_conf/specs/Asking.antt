@@ -1,0 +1,55 @@
+-- Who may ask whom: which peers' requests a realm takes. Ours.
+use Rattle.std.specs.Prelude.{ℕ, ◌&&◌, not, Bool, true, false, List, Option, Some, None, is_some, slice_get}
+use Rattle.std.specs.List.{list_any}
+use Rattle.std.specs.Option.{option_map_or}
+use Rattle.std.specs.Str.{bytes_eq}
+use Rattle.roam_conf.specs.Config.{PeerView, RealmView, ConfigView}
+use Rattle.roam_conf.specs.Lookup.{server_with_ip}
+
+-- the name is one of these, where there are any
+abbrev pub is_listed : Option (List (List ℕ)) → List ℕ → Bool
+is_listed None name = true
+is_listed (Some names) name = list_any (bytes_eq name) names
+
+-- the peer is one of the realm's: the realm has no list of peers, or its name stands there
+abbrev pub is_peer_of : RealmView → PeerView → Bool
+is_peer_of realm peer = is_listed realm.peers peer.name
+
+-- the peer is at the address of one of the realm's servers, `auth` or `acct`
+abbrev pub is_at_server : RealmView → PeerView → Bool
+is_at_server realm peer = is_some (server_with_ip realm.servers peer.ip)
+
+-- ## Who may ask whom
+-- A realm takes Access-Requests and Accounting-Requests of a peer unless it has `peers` and the peer's name isn't
+-- among them, or it has `loop_prevention` and one of its servers has the peer's address. A reverse request goes to
+-- no peer that isn't among `peers`.
+-- Source: ours
+-- Rules out: a realm without `peers` that takes none; a request that is sent back to where it came from
+-- Stands in: `roam_conf` `Asking.antt`: `takes`, `is_peer_of`; `takes`, `is_peer_of`
+--
+-- the realm takes requests of the peer
+unfoldable pub takes : RealmView → PeerView → Bool
+takes realm peer = is_peer_of realm peer && not (realm.loop_prevention && is_at_server realm peer)
+
+-- a test of a realm and a peer, by their indexes; one that isn't configured passes none
+abbrev pub both_pass : (RealmView → PeerView → Bool) → Option RealmView → Option PeerView → Bool
+both_pass test (Some realm) (Some peer) = test realm peer
+both_pass test _ _ = false
+
+abbrev pub takes_in : ConfigView → ℕ → ℕ → Bool
+takes_in config realm peer = both_pass takes (slice_get config.realms realm) (slice_get config.peers peer)
+
+abbrev pub is_peer_in : ConfigView → ℕ → ℕ → Bool
+is_peer_in config realm peer = both_pass is_peer_of (slice_get config.realms realm) (slice_get config.peers peer)
+
+-- no peer has the name
+abbrev pub is_no_peer : List PeerView → List ℕ → Bool
+is_no_peer peers name = not (list_any (λ peer. bytes_eq name peer.name) peers)
+
+-- one of the names that the realm has, where it has any, is no peer's
+abbrev pub names_no_peer : List PeerView → RealmView → Bool
+names_no_peer peers realm = option_map_or (list_any (is_no_peer peers)) realm.peers false
+
+-- a realm names a peer that isn't there
+unfoldable pub has_unknown_peer : List PeerView → List RealmView → Bool
+has_unknown_peer peers realms = list_any (names_no_peer peers) realms

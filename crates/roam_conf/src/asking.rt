@@ -1,0 +1,111 @@
+//! Which peers' requests a realm takes. None of this takes memory.
+
+ghost use Rattle.std.specs.Prelude.{◌≡◌, Some, is_some, map, option_map, string_bytes};
+ghost use Rattle.roam_conf.specs.Asking.{is_listed, is_peer_of, is_at_server, takes, both_pass};
+ghost use Rattle.roam_conf.specs.Parts.{shown_peer, shown_realm};
+
+use crate::{Config, Peer, Realm, list_search};
+
+/// Whether the name is one of these.
+fn is_one_of(names: &[String], name: &str) -> bool
+    ensures { result ≡ is_listed (Some (map string_bytes names.now)) name.now }
+{
+    for other in names {
+        if name == other.as_str() {
+            return true;
+        }
+    }
+    false
+}
+
+impl Realm {
+    /// Whether the peer is one of the realm's.
+    fn is_peer(&self, peer: &Peer) -> bool
+        ensures { result ≡ is_peer_of (shown_realm self.now) (shown_peer peer.now) }
+    {
+        match &self.peers {
+            Some(names) => is_one_of(names.as_slice(), peer.name.as_str()),
+            None => true,
+        }
+    }
+
+    /// Whether the peer is at the address of one of the realm's servers.
+    fn is_at_server(&self, peer: &Peer) -> bool
+        ensures { result ≡ is_at_server (shown_realm self.now) (shown_peer peer.now) }
+    {
+        list_search::server_with_ip(self.servers.as_slice(), peer.ip).is_some()
+    }
+
+    /// Whether the realm takes requests of the peer.
+    #[tactic(auto, unfolding(crate::specs::Asking::takes))]
+    fn takes(&self, peer: &Peer) -> bool
+        ensures { result ≡ takes (shown_realm self.now) (shown_peer peer.now) }
+    {
+        self.is_peer(peer) && !(self.loop_prevention && self.is_at_server(peer))
+    }
+}
+
+/// Whether the realm takes requests of the peer; not where one of the two is missing.
+fn takes_if_both(realm: Option<&Realm>, peer: Option<&Peer>) -> bool
+    ensures { result ≡ both_pass takes (option_map (λ r. shown_realm r.now) realm.entry)
+        (option_map (λ p. shown_peer p.now) peer.entry) }
+{
+    match (realm, peer) {
+        (Some(realm), Some(peer)) => realm.takes(peer),
+        _ => false,
+    }
+}
+
+/// Whether the peer is one of the realm's; not where one of the two is missing.
+fn is_peer_if_both(realm: Option<&Realm>, peer: Option<&Peer>) -> bool
+    ensures { result ≡ both_pass is_peer_of (option_map (λ r. shown_realm r.now) realm.entry)
+        (option_map (λ p. shown_peer p.now) peer.entry) }
+{
+    match (realm, peer) {
+        (Some(realm), Some(peer)) => realm.is_peer(peer),
+        _ => false,
+    }
+}
+
+impl Config {
+    ghost use Rattle.std.specs.Prelude.{◌≡◌, option_map, slice_get};
+    ghost use Rattle.roam_conf.specs.Asking.{takes_in, is_peer_in};
+    ghost use Rattle.roam_conf.specs.Parts.{shown_peer, shown_realm};
+    ghost use Rattle.roam_conf.specs.Shown.{shown};
+
+    /// The realm of an index, where it is configured.
+    fn realm_at(&self, realm: u16) -> Option<&Realm>
+        ensures { option_map (λ r. shown_realm r.now) result ≡ slice_get (shown self.now).realms realm }
+    {
+        match self.realms.get(usize::from(realm)) {
+            Some(realm) => Some(realm),
+            None => None,
+        }
+    }
+
+    /// The peer of an index, where it is configured.
+    fn peer_at(&self, peer: u16) -> Option<&Peer>
+        ensures { option_map (λ p. shown_peer p.now) result ≡ slice_get (shown self.now).peers peer }
+    {
+        match self.peers.get(usize::from(peer)) {
+            Some(peer) => Some(peer),
+            None => None,
+        }
+    }
+
+    /// Whether a realm takes requests of a peer: it has no list of peers or the peer is in it, and unless it guards
+    /// against loops the peer may be at the address of one of its servers. False where one of the two isn't configured.
+    pub fn takes(&self, realm: u16, peer: u16) -> bool
+        ensures { result ≡ takes_in (shown self.now) realm peer }
+    {
+        takes_if_both(self.realm_at(realm), self.peer_at(peer))
+    }
+
+    /// Whether a peer is one of a realm's: it has no list of peers, or the peer is in it. False where one of the two
+    /// isn't configured.
+    pub fn is_peer_of(&self, realm: u16, peer: u16) -> bool
+        ensures { result ≡ is_peer_in (shown self.now) realm peer }
+    {
+        is_peer_if_both(self.realm_at(realm), self.peer_at(peer))
+    }
+}

@@ -1,0 +1,10 @@
+use Rattle.std.proofs.Common.{Option, Some, None, IfNone}
+use Rattle.roam_reload.proofs.realms.other_difference.Goals as goal
+
+if_none : {K P Q : Type 0} (o : Option K) → (P → Q) → IfNone o P → IfNone o Q
+if_none None f p = f p
+if_none (Some k) f p = tt
+
+pub returns-in-None-clause-none : goal.returns-in-None-clause-none
+returns-in-None-clause-none c =
+    if_none c.limit_difference.result (λ limits. (c.in-None.ensures.none, limits)) c.limit_difference.ensures.none

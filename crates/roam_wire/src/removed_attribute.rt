@@ -1,0 +1,13 @@
+//! What the lists of attributes that don't pass the broker name.
+
+/// What a list of attributes that don't pass the broker names (RFC 2865, sections 5 and 5.26).
+#[derive(Clone, Copy, Debug, PartialEq, Eq)]
+pub enum RemovedAttribute {
+    /// All attributes of a Type: `"T"`, from 1.
+    Kind(u8),
+    /// All Vendor-Specific attributes of a vendor: `"26.V"`, at most 16777215.
+    Vendor(u32),
+    /// Of the Vendor-Specific attributes of a vendor the sub-attributes of a type: `"26.V.T"`, the vendor at most
+    /// 16777215 and the type from 1.
+    VendorKind(u32, u8),
+}
