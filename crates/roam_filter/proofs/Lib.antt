@@ -1,0 +1,3 @@
+pub mod RemovalLemmas
+pub mod LeftLemmas
+pub mod WithoutLemmas
