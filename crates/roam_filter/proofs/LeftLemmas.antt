@@ -1,7 +1,7 @@
 -- What passes of an attribute, and the octets that it takes.
 use Rattle.std.proofs.Common.{◌≡◌, ◌≢◌, ℕ, ◌+◌, ◌≤◌, Bool, true, false, List, [], ◌∷◌, ◌++◌, length, take, drop, filter, Option, Some, None, subst, refl, sym, ap, ◌∙◌, arith, append-nil, length-append}
 use Rattle.std.specs.Prelude.{unwrap_or, if◌then◌else◌}
-use Rattle.std.specs.List.{AllByRecursion}
+use Rattle.std.specs.List.{AllByRecursion, list_any}
 use Rattle.std.proofs.lemmas.Bool.{cases_Bool, eqb-true}
 use Rattle.std.proofs.lemmas.Bool.Decides.{nat_tests}
 use Rattle.std.proofs.lemmas.List.{length-take-le}
@@ -13,7 +13,8 @@ use Rattle.roam_wire.proofs.AttributeLemmas.{Spell, read_spells}
 use Rattle.roam_wire.proofs.KeptLemmas.{IsAppending, IsCount, kept_text, length-kept_text}
 use Rattle.roam_filter.specs.declared.passing.Passing.{Passing}
 use Rattle.roam_filter.specs.declared.passing.Passing.TheVariants.{Nothing, Whole, Parts}
-use Rattle.roam_filter.specs.Without.{has_vendor, vendor_of, how_passed, is_left, left_text, with_subs, with_left, parts_of, passed, passed_as}
+use Rattle.roam_filter.specs.Removal.{is_kind}
+use Rattle.roam_filter.specs.Without.{has_vendor, vendor_of, passing_of_vendor, how_passed, is_left, left_text, with_subs, with_left, parts_of, passed, passed_as}
 
 -- ---- how an attribute passes
 
@@ -32,7 +33,9 @@ parts_of_cases false true passing h = refl
 parts_of_cases false false passing h = absurd (cc)
 
 pub how_passed-parts : (removed : List RemovedAttribute) (a : Attribute) → how_passed removed a ≡ Parts → HasParts a
-how_passed-parts removed a h = has_vendor-parts a (parts_of_cases _ (has_vendor a) _ h)
+how_passed-parts removed a h =
+    has_vendor-parts a (parts_of_cases (list_any (is_kind a.kind) removed) (has_vendor a)
+    (passing_of_vendor removed (vendor_of a.value)) h)
 
 -- what passes, by how it passes
 pub passed-as : (removed : List RemovedAttribute) (a : Attribute) (way : Passing) → how_passed removed a ≡ way →
@@ -120,26 +123,29 @@ no-subs vendor [] none = refl
 no-subs vendor (sub ∷ subs) none =
     absurd (omega (arith, none))
 
+no-parts-of : (removed : List RemovedAttribute) (number : ℕ) (vendor : List ℕ) (o : Option (List Attribute)) →
+    length (left_text removed number o) ≡ 0 → with_left removed number vendor o ≡ []
+no-parts-of removed number vendor None none = refl
+no-parts-of removed number vendor (Some subs) none = no-subs vendor (filter (is_left removed number) subs) none
+
 pub no-parts : (removed : List RemovedAttribute) (value : List ℕ) →
     length (left_text removed (vendor_of value) (attributes_of (drop 4 value))) ≡ 0 → parts_of removed value ≡ []
-no-parts removed value none = of (attributes_of (drop 4 value)) none
-  where
-    of : (o : Option (List Attribute)) → length (left_text removed (vendor_of value) o) ≡ 0 →
-        with_left removed (vendor_of value) (take 4 value) o ≡ []
-    of None none = refl
-    of (Some subs) none = no-subs (take 4 value) (filter (is_left removed (vendor_of value)) subs) none
+no-parts removed value none =
+    no-parts-of removed (vendor_of value) (take 4 value) (attributes_of (drop 4 value)) none
+
+parts-text-of : (removed : List RemovedAttribute) (number : ℕ) (vendor : List ℕ) (o : Option (List Attribute)) →
+    length vendor ≡ 4 → length (left_text removed number o) ≢ 0 →
+    attributes_text (with_left removed number vendor o)
+    ≡ VENDOR_SPECIFIC ∷ (length (left_text removed number o) + 6) ∷ (vendor ++ left_text removed number o)
+parts-text-of removed number vendor None four some = absurd (some refl)
+parts-text-of removed number vendor (Some subs) four some =
+    subs-text vendor (filter (is_left removed number) subs) four some
 
 pub parts-text : (removed : List RemovedAttribute) (value : List ℕ) → 4 ≤ length value →
     length (left_text removed (vendor_of value) (attributes_of (drop 4 value))) ≢ 0 →
     attributes_text (parts_of removed value)
     ≡ VENDOR_SPECIFIC ∷ (length (left_text removed (vendor_of value) (attributes_of (drop 4 value))) + 6)
     ∷ (take 4 value ++ left_text removed (vendor_of value) (attributes_of (drop 4 value)))
-parts-text removed value four some = of (attributes_of (drop 4 value)) some
-  where
-    of : (o : Option (List Attribute)) → length (left_text removed (vendor_of value) o) ≢ 0 →
-        attributes_text (with_left removed (vendor_of value) (take 4 value) o)
-        ≡ VENDOR_SPECIFIC ∷ (length (left_text removed (vendor_of value) o) + 6)
-        ∷ (take 4 value ++ left_text removed (vendor_of value) o)
-    of None some = absurd (some refl)
-    of (Some subs) some =
-        subs-text (take 4 value) (filter (is_left removed (vendor_of value)) subs) (length-take-le 4 value four) some
+parts-text removed value four some =
+    parts-text-of removed (vendor_of value) (take 4 value) (attributes_of (drop 4 value))
+    (length-take-le 4 value four) some

@@ -1,6 +1,6 @@
 -- What passes of a list of attributes.
-use Rattle.std.proofs.Common.{◌≡◌, ◌≢◌, ℕ, ◌+◌, ◌≤◌, Bool, true, false, List, [], ◌∷◌, ◌++◌, length, take, drop, filter, Option, Some, None, subst, refl, sym, ap, ap₂, ◌∙◌, inl, inr, arith, append_assoc, length-append, length-drop}
-use Rattle.std.specs.Prelude.{◌⊎◌, if◌then◌else◌}
+use Rattle.std.proofs.Common.{◌≡◌, ◌≢◌, ℕ, ◌+◌, ◌≤◌, Bool, true, false, List, [], ◌∷◌, ◌++◌, length, take, drop, filter, Option, Some, None, subst, refl, sym, ap, ap₂, ◌∙◌, inl, inr, arith, append_assoc, length-append, length-drop, append-nil}
+use Rattle.std.specs.Prelude.{◌⊎◌, not, if◌then◌else◌}
 use Rattle.std.specs.List.{AllByRecursion, list_any}
 use Rattle.std.proofs.lemmas.Bool.{cases_Bool, eqb-true, ne_eqb}
 use Rattle.std.proofs.lemmas.List.{length-take-le}
@@ -8,7 +8,7 @@ use Rattle.std.proofs.lemmas.List.Concat.{flat_map-append}
 use Rattle.std.proofs.lemmas.List.Elements.{filter-append}
 use Rattle.std.proofs.lemmas.List.Sums.{sum_by-append}
 use Rattle.roam_wire.specs.Packet.{AreOctets, Attribute, IsAttribute, attribute_text, attributes_text}
-use Rattle.roam_wire.specs.Attributes.{has_kind, count_of, first_value, only_kind}
+use Rattle.roam_wire.specs.Attributes.{has_kind, count_of, first_value, only_kind, without_kind}
 use Rattle.roam_wire.specs.Reading.{attributes_of}
 use Rattle.roam_wire.specs.declared.attribute_type.TheConstants.{VENDOR_SPECIFIC}
 use Rattle.roam_wire.specs.declared.removed_attribute.RemovedAttribute.{RemovedAttribute}
@@ -52,7 +52,7 @@ of_left removed a has subs read (sub ∷ left) left-is is =
     let keep : Attribute → Bool = is_left removed (vendor_of a.value) in
     inr (record {
       value = vendor ++ text;
-      is = is ∙ ap (λ (kind : ℕ). record { kind = kind; value = vendor ++ text } ∷ []) (sym has.kind);
+      is = is ∙ ap (λ (kind : ℕ). let one : Attribute = record { kind = kind; value = vendor ++ text } in one ∷ []) (sym has.kind);
       plain = λ other. absurd (other has.kind);
       short = λ fits.
           let spelt = spelt_subs (drop 4 a.value) subs (AreOctets-drop 4 a.value fits) read in
@@ -151,8 +151,10 @@ IsAttribute-passed removed a h =
       | inl none ↦ subst (AllByRecursion IsAttribute) (sym none) tt
       | inr some ↦
           let fits = some.short h.octets in
-          subst (AllByRecursion IsAttribute) (sym some.is)
-          (record { kind = h.kind; octets = some.octets h.octets; size = omega arith }, tt)
+          let one : Attribute = record { kind = a.kind; value = some.value } in
+          let is : IsAttribute one =
+          record { kind = h.kind; octets = some.octets h.octets; size = omega arith } in
+          subst (AllByRecursion IsAttribute) (sym some.is) (is, tt)
     ]
 
 pub all_joined : (P : Attribute → Type 0) (xs ys : List Attribute) → AllByRecursion P xs → AllByRecursion P ys →
@@ -423,3 +425,67 @@ IsPassing-more removed all left rest before after next size more capacity a spli
       );
       attributes = (subst (AllByRecursion IsAttribute) split h.attributes).1;
     }
+
+-- where none is left, all was appended
+pub IsPassing-end : (removed : List RemovedAttribute) (all left : List Attribute) (before after : List ℕ)
+    (size capacity : ℕ) → left ≡ [] → IsPassing removed all left before after size capacity →
+    after ≡ before ++ attributes_text (without removed all)
+unfolding without
+IsPassing-end removed all left before after size capacity none h =
+    sym (append-nil after)
+    ∙ ap (λ (l : List Attribute). after ++ attributes_text (without removed l)) (sym none)
+    ∙ h.items
+
+-- ---- attributes of all other Types
+
+apart-append : (kind : ℕ) (xs ys : List Attribute) →
+    without_kind kind (xs ++ ys) ≡ without_kind kind xs ++ without_kind kind ys
+apart-append kind xs ys = filter-append (λ (a : Attribute). not (has_kind kind a)) xs ys
+
+apart-found : (kind : ℕ) (a : Attribute) (all : List Attribute) → has_kind kind a ≡ true →
+    without_kind kind (a ∷ all) ≡ without_kind kind all
+apart-found kind a all found = rw found refl
+
+apart-other : (kind : ℕ) (a : Attribute) (all : List Attribute) → has_kind kind a ≡ false →
+    without_kind kind (a ∷ all) ≡ a ∷ without_kind kind all
+apart-other kind a all other = rw other refl
+
+-- what passes of an attribute has its Type
+passed-found : (removed : List RemovedAttribute) (kind : ℕ) (a : Attribute) → has_kind kind a ≡ true →
+    without_kind kind (passed removed a) ≡ []
+passed-found removed kind a found =
+    elim (nothing_or_one removed a) [
+      | inl none ↦ ap (without_kind kind) none
+      | inr some ↦
+          ap (without_kind kind) some.is ∙ apart-found kind (record { kind = a.kind; value = some.value }) [] found
+    ]
+
+passed-other : (removed : List RemovedAttribute) (kind : ℕ) (a : Attribute) → has_kind kind a ≡ false →
+    without_kind kind (passed removed a) ≡ passed removed a
+passed-other removed kind a other =
+    elim (nothing_or_one removed a) [
+      | inl none ↦ ap (without_kind kind) none ∙ sym none
+      | inr some ↦
+          ap (without_kind kind) some.is
+          ∙ apart-other kind (record { kind = a.kind; value = some.value }) [] other
+          ∙ sym some.is
+    ]
+
+-- what passes of all but a Type is all but that Type of what passes
+pub without_kind-without : (removed : List RemovedAttribute) (kind : ℕ) (all : List Attribute) →
+    without_kind kind (without removed all) ≡ without removed (without_kind kind all)
+unfolding without
+without_kind-without removed kind [] = refl
+without_kind-without removed kind (a ∷ all) =
+    let behind = without_kind-without removed kind all in
+    let split = apart-append kind (passed removed a) (without removed all) in
+    elim (cases_Bool (has_kind kind a)) [
+      | inl found ↦
+          split
+          ∙ ap₂ (λ (x y : List Attribute). x ++ y) (passed-found removed kind a found) behind
+          ∙ ap (without removed) (sym (apart-found kind a all found))
+      | inr other ↦
+          split
+          ∙ ap₂ (λ (x y : List Attribute). x ++ y) (passed-other removed kind a other) behind
+          ∙ ap (without removed) (sym (apart-other kind a all other))
+    ]

@@ -4,16 +4,18 @@
 //!
 //! # Proved
 //!
-//! - what passes of an attribute is just what no list names: of a vendor's attribute, whole or by its sub-attributes
-//!   | `append_without`, `without_len`, `count_without`, `append_passed`, `passed_len`
+//! - what passes of a list is in its order just what no list names, of a vendor's attribute by its sub-attributes too
+//!   | `append_without`, `without_len`, `count_without`, `append_passed`, `passed_len`, law `what_passes`
 #![tactic(auto)]
 
+mod laws;
 mod lists;
 mod passed;
 mod passing;
 mod removal;
 mod sub_attributes;
 
+pub use laws::what_passes;
 pub use lists::{append_without, count_without, without_len};
 pub use passed::{append_passed, passed_len};
 pub use passing::Passing;
