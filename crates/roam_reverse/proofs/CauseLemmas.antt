@@ -7,6 +7,9 @@ use Rattle.roam_wire.specs.Attributes.{first_value}
 use Rattle.roam_wire.specs.declared.attribute_type.TheConstants.{ACCT_SESSION_ID, USER_NAME}
 use Rattle.roam_reverse.specs.Sessions.{Session}
 use Rattle.roam_hide.specs.Salted.{is_salted}
+use Rattle.roam_conf.specs.Asking.{is_peer_in}
+use Rattle.roam_conf.specs.Config.{ConfigView}
+use Rattle.roam_reverse.specs.Target.{among}
 use Rattle.roam_reverse.specs.Causes.{cause_at_target, cause_by_name, cause_by_salt, is_realm}
 
 -- with a User-Name the ledger doesn't matter
@@ -35,6 +38,18 @@ forwarded-at-target realm names attributes sessions (Some peer) h = (
       (later-none (cause_by_name realm names peer sessions (first_value USER_NAME attributes)
       (first_value ACCT_SESSION_ID attributes)) (cause_by_salt attributes) h),
 )
+
+-- a peer that is among the realm's was found, and is one of them
+kept : (b : Bool) (found peer : ℕ) → (if b then Some found else None) ≡ Some peer → (found ≡ peer) × (b ≡ true)
+kept true found peer h = (cc, refl)
+kept false found peer h = absurd (cc)
+
+pub among-found : (config : ConfigView) (realm : ℕ) (at : Option ℕ) (peer : ℕ) → among config realm at ≡ Some peer
+    → (at ≡ Some peer) × (is_peer_in config realm peer ≡ true)
+among-found config realm None peer h = absurd (cc)
+among-found config realm (Some found) peer h =
+    let both = kept (is_peer_in config realm found) found peer h in
+    (ap (λ (n : ℕ). Some n) both.0, rw (← both.0) both.1)
 
 -- without a cause for its name, a request with a User-Name is of the realm
 first-none : (first later : Option ℕ) → option_or first later ≡ None → first ≡ None
