@@ -86,7 +86,8 @@ counted-within removed vendor octets subs left size fits read h =
     )
 
 -- nothing is appended yet
-pub appending-start : (removed : List RemovedAttribute) (vendor : ℕ) (octets before : List ℕ) (subs all : List Attribute)
+pub appending-start : (removed : List RemovedAttribute) (vendor : ℕ) (octets before : List ℕ)
+    (subs all : List Attribute)
     (size capacity : ℕ) → AreOctets octets → attributes_of octets ≡ Some subs → all ≡ subs →
     size + length (left_text removed vendor (attributes_of octets)) ≤ capacity →
     IsAppending (is_left removed vendor) (subs_of octets) all before before size capacity

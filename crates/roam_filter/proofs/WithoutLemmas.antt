@@ -52,7 +52,8 @@ of_left removed a has subs read (sub ∷ left) left-is is =
     let keep : Attribute → Bool = is_left removed (vendor_of a.value) in
     inr (record {
       value = vendor ++ text;
-      is = is ∙ ap (λ (kind : ℕ). let one : Attribute = record { kind = kind; value = vendor ++ text } in one ∷ []) (sym has.kind);
+      is = is ∙ ap (λ (kind : ℕ). let one : Attribute = record { kind = kind; value = vendor ++ text } in
+          one ∷ []) (sym has.kind);
       plain = λ other. absurd (other has.kind);
       short = λ fits.
           let spelt = spelt_subs (drop 4 a.value) subs (AreOctets-drop 4 a.value fits) read in
@@ -96,7 +97,8 @@ of_way removed a Parts way-is is =
     of_subs removed a (how_passed-parts removed a way-is) (attributes_of (drop 4 a.value)) refl is
 
 pub nothing_or_one : (removed : List RemovedAttribute) (a : Attribute) → (passed removed a ≡ []) ⊎ Passes removed a
-nothing_or_one removed a = of_way removed a (how_passed removed a) refl (passed-as removed a (how_passed removed a) refl)
+nothing_or_one removed a = of_way removed a (how_passed removed a) refl
+    (passed-as removed a (how_passed removed a) refl)
 
 -- an attribute that isn't Vendor-Specific stays or goes
 pub passed-named : (removed : List RemovedAttribute) (a : Attribute) → list_any (is_kind a.kind) removed ≡ true →
@@ -207,7 +209,8 @@ length-without removed (a ∷ all) h =
 
 -- ---- attributes of one Type
 
-pub only-append : (kind : ℕ) (xs ys : List Attribute) → only_kind kind (xs ++ ys) ≡ only_kind kind xs ++ only_kind kind ys
+pub only-append : (kind : ℕ) (xs ys : List Attribute) →
+    only_kind kind (xs ++ ys) ≡ only_kind kind xs ++ only_kind kind ys
 only-append kind xs ys = filter-append (has_kind kind) xs ys
 
 -- none of another Type pass

@@ -42,12 +42,11 @@ cause_at_target realm named attributes sessions (Some peer) =
     (cause_by_salt attributes)
 
 -- ## Cause of a reverse request
--- Why it isn't forwarded, for the first that holds: 502 without a target among the realm's peers; 502 with a User-Name of no realm or
--- of another one, or with neither User-Name nor Acct-Session-Id; 503 without User-Name where the session of
--- that peer isn't in the ledger; 401 where a salted string stands in it. With a User-Name of the realm the
--- ledger isn't looked at, and only the first User-Name and the first Acct-Session-Id count: so a home server
--- may name another realm's session beside a user of its own, and which session that ends is the access server's
--- to decide.
+-- Why it isn't forwarded, for the first that holds: 502 without a target among the realm's peers; 502 with a
+-- User-Name of no realm or of another one, or with neither User-Name nor Acct-Session-Id; 503 without User-Name where
+-- the session of that peer isn't in the ledger; 401 where a salted string stands in it. With a User-Name of the realm
+-- the ledger isn't looked at, and only the first User-Name and the first Acct-Session-Id count: so a home server may
+-- name another realm's session beside a user of its own, and which session that ends is the access server's to decide.
 -- Source: RFC 5176 section 3.5 for the numbers; when each comes is ours
 -- Rules out: causes in another order
 -- Stands in: `roam_reverse` `Causes.antt`: `cause`; `verdict`, `route_of`, the laws `forwarded_has_target`,

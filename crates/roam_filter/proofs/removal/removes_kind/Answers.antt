@@ -15,7 +15,8 @@ returns-then-any_kind c =
     let removal = c.args.removal.now in
     let first = list_any (is_kind c.args.kind) removal.peer.now in
     let second = list_any (is_kind c.args.kind) removal.realm.now in
-    c.any_kind.ensures ∙ sym (or_first first second (sym c.any_kind.ensures ∙ c.if-any_kind.true)) ∙ sym (kind_free c.args.removal.now c.args.kind (sym c.is_kept.ensures ∙ c.if-is_kept.false))
+    c.any_kind.ensures ∙ sym (or_first first second (sym c.any_kind.ensures ∙ c.if-any_kind.true))
+    ∙ sym (kind_free c.args.removal.now c.args.kind (sym c.is_kept.ensures ∙ c.if-is_kept.false))
 
 -- the second decides
 pub returns-else-any_kind : goal.returns-else-any_kind

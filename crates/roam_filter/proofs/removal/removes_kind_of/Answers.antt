@@ -10,7 +10,8 @@ returns-then-any_kind_of c =
     let removal = c.args.removal.now in
     let first = list_any (is_kind_of c.args.vendor c.args.kind) removal.peer.now in
     let second = list_any (is_kind_of c.args.vendor c.args.kind) removal.realm.now in
-    c.any_kind_of.ensures ∙ sym (or_first first second (sym c.any_kind_of.ensures ∙ c.if-any_kind_of.true)) ∙ sym (kind_of_removed c.args.removal.now c.args.vendor c.args.kind)
+    c.any_kind_of.ensures ∙ sym (or_first first second (sym c.any_kind_of.ensures ∙ c.if-any_kind_of.true))
+    ∙ sym (kind_of_removed c.args.removal.now c.args.vendor c.args.kind)
 
 -- the second decides
 pub returns-else-any_kind_of : goal.returns-else-any_kind_of

@@ -10,7 +10,8 @@ returns-then-any_of c =
     let removal = c.args.removal.now in
     let first = list_any (is_some_of c.args.vendor) removal.peer.now in
     let second = list_any (is_some_of c.args.vendor) removal.realm.now in
-    c.any_of.ensures ∙ sym (or_first first second (sym c.any_of.ensures ∙ c.if-any_of.true)) ∙ sym (some_of_removed c.args.removal.now c.args.vendor)
+    c.any_of.ensures ∙ sym (or_first first second (sym c.any_of.ensures ∙ c.if-any_of.true))
+    ∙ sym (some_of_removed c.args.removal.now c.args.vendor)
 
 -- the second decides
 pub returns-else-any_of : goal.returns-else-any_of

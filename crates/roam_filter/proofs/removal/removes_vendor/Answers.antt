@@ -10,7 +10,8 @@ returns-then-any_vendor c =
     let removal = c.args.removal.now in
     let first = list_any (is_vendor c.args.vendor) removal.peer.now in
     let second = list_any (is_vendor c.args.vendor) removal.realm.now in
-    c.any_vendor.ensures ∙ sym (or_first first second (sym c.any_vendor.ensures ∙ c.if-any_vendor.true)) ∙ sym (vendor_removed c.args.removal.now c.args.vendor)
+    c.any_vendor.ensures ∙ sym (or_first first second (sym c.any_vendor.ensures ∙ c.if-any_vendor.true))
+    ∙ sym (vendor_removed c.args.removal.now c.args.vendor)
 
 -- the second decides
 pub returns-else-any_vendor : goal.returns-else-any_vendor
