@@ -49,7 +49,7 @@ pub(crate) const OF_REPLIES: [OfReplies; 4] = [
 ];
 
 /// All refusals, by their numbers from 1 on.
-pub(crate) const REFUSALS: [Refusal; 24] = [
+pub(crate) const REFUSALS: [Refusal; 27] = [
     Refusal::Short,
     Refusal::BadLength,
     Refusal::BadAttribute,
@@ -74,6 +74,9 @@ pub(crate) const REFUSALS: [Refusal; 24] = [
     Refusal::TraceFull,
     Refusal::Misplaced,
     Refusal::TooManyHops,
+    Refusal::NotForPeer,
+    Refusal::AccountingDropped,
+    Refusal::ShareTaken,
 ];
 
 impl OfRequests {
