@@ -5,7 +5,7 @@ use Rattle.std.specs.Option.{option_or}
 use Rattle.roam_wire.specs.Packet.{Attribute}
 use Rattle.roam_wire.specs.Attributes.{first_value}
 use Rattle.roam_wire.specs.declared.attribute_type.TheConstants.{ACCT_SESSION_ID, USER_NAME}
-use Rattle.roam_conf.specs.Config.{ConfigView}
+use Rattle.roam_conf.specs.Config.{PeerView, RealmView}
 use Rattle.roam_reverse.specs.Sessions.{Session, has_session}
 use Rattle.roam_hide.specs.Salted.{is_salted}
 use Rattle.roam_reverse.specs.Target.{target_in}
@@ -52,8 +52,8 @@ cause_at_target realm named attributes sessions (Some peer) =
 -- Stands in: `roam_reverse` `Causes.antt`: `cause`; `verdict`, `route_of`, the laws `forwarded_has_target`,
 -- `named_requests_need_no_session`
 --
--- why a reverse request to a realm isn't forwarded, if it isn't, by the realm which its first User-Name
--- names: the first cause that holds
-unfoldable pub cause : ConfigView → ℕ → Option ℕ → List Attribute → List Session → Option ℕ
-cause config realm named attributes sessions =
-    cause_at_target realm named attributes sessions (target_in config realm attributes)
+-- why a reverse request to a realm, of which its entry and its index are given, isn't forwarded, if it isn't, by the
+-- realm which its first User-Name names: the first cause that holds
+unfoldable pub cause : Option RealmView → List PeerView → ℕ → Option ℕ → List Attribute → List Session → Option ℕ
+cause entry peers realm named attributes sessions =
+    cause_at_target realm named attributes sessions (target_in entry peers attributes)

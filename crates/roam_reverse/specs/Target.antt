@@ -1,11 +1,11 @@
 -- The access server that a reverse request is for (RFC 5176, section 3: NAS-IP-Address and
 -- NAS-Identifier name it; that it is the first one that fits is ours).
-use Rattle.std.specs.Prelude.{ℕ, ◌&&◌, ◌||◌, Bool, true, false, List, Option, Some, None, if◌then◌else◌}
+use Rattle.std.specs.Prelude.{ℕ, ◌&&◌, ◌||◌, Bool, true, false, List, Option, Some, None, slice_get, if◌then◌else◌}
 use Rattle.std.specs.Option.{is_some}
 use Rattle.std.specs.Str.{bytes_eq}
 use Rattle.roam_wire.specs.Packet.{Attribute}
-use Rattle.roam_conf.specs.Asking.{is_peer_in}
-use Rattle.roam_conf.specs.Config.{PeerView, ConfigView}
+use Rattle.roam_conf.specs.Asking.{both_pass, is_peer_of}
+use Rattle.roam_conf.specs.Config.{PeerView, RealmView}
 use Rattle.roam_conf.specs.Lookup.{first_place}
 use Rattle.roam_route.specs.UserName.{nas_of}
 
@@ -44,11 +44,15 @@ is_target names peer = is_some peer.coa && fits names peer
 unfoldable pub target : List PeerView → List Attribute → Option ℕ
 target peers attributes = first_place (is_target (nas_of attributes)) peers
 
+-- whether the peer of an index is among the realm's
+abbrev pub is_among : Option RealmView → List PeerView → ℕ → Bool
+is_among realm peers index = both_pass is_peer_of realm (slice_get peers index)
+
 -- a peer that is among the realm's
-abbrev pub among : ConfigView → ℕ → Option ℕ → Option ℕ
-among config realm None = None
-among config realm (Some peer) = if is_peer_in config realm peer then Some peer else None
+abbrev pub among : Option RealmView → List PeerView → Option ℕ → Option ℕ
+among realm peers None = None
+among realm peers (Some index) = if is_among realm peers index then Some index else None
 
 -- the peer that a reverse request to a realm is for
-abbrev pub target_in : ConfigView → ℕ → List Attribute → Option ℕ
-target_in config realm attributes = among config realm (target config.peers attributes)
+abbrev pub target_in : Option RealmView → List PeerView → List Attribute → Option ℕ
+target_in realm peers attributes = among realm peers (target peers attributes)

@@ -1,6 +1,6 @@
 //! Where a reverse request is forwarded to, or why it can't be (RFC 5176, section 3.5).
 
-ghost use Rattle.std.specs.Prelude.{◌≡◌, ◌<◌, IfOk, Some, vec_len};
+ghost use Rattle.std.specs.Prelude.{◌≡◌, ◌<◌, IfOk, Some, slice_get, vec_len};
 ghost use Rattle.std.specs.Result.{result_err};
 ghost use Rattle.roam_wire.specs.Attributes.{first_value};
 ghost use Rattle.roam_conf.specs.Shown.{shown};
@@ -93,8 +93,8 @@ pub fn route_of<A: Allocator + Copy>(
     request: &View<'_>,
     sessions: &Sessions<A>,
 ) -> Result<u16, u32>
-    ensures cause { result_err result ≡ cause (shown config.now) realm named
-        request.now.attributes sessions.now.sessions }
+    ensures cause { result_err result ≡ cause (slice_get (shown config.now).realms realm)
+        (shown config.now).peers realm named request.now.attributes sessions.now.sessions }
     ensures target { IfOk result (λ peer. Some peer
         ≡ target (shown config.now).peers request.now.attributes) }
     ensures bound { IfOk result (λ peer. peer < vec_len config.now.peers) }
@@ -123,8 +123,8 @@ pub fn verdict<A: Allocator + Copy>(
     request: &View<'_>,
     sessions: &Sessions<A>,
 ) -> Option<u32>
-    ensures { result ≡ cause (shown config.now) realm named request.now.attributes
-        sessions.now.sessions }
+    ensures { result ≡ cause (slice_get (shown config.now).realms realm) (shown config.now).peers
+        realm named request.now.attributes sessions.now.sessions }
 {
     route_of(config, realm, named, request, sessions).err()
 }

@@ -5,5 +5,5 @@ use Rattle.roam_reverse.proofs.laws.named_requests_need_no_session.Goals as goal
 
 pub returns : goal.returns
 unfolding cause
-returns c = λ config realm names attributes name sessions others named.
-    named-at-target realm names attributes name sessions others (target_in config realm attributes) named
+returns c = λ entry peers realm names attributes name sessions others named.
+    named-at-target realm names attributes name sessions others (target_in entry peers attributes) named
