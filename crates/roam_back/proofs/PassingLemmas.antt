@@ -1,5 +1,5 @@
 -- What is returned of a reply's attributes that pass, one by one.
-use Rattle.std.proofs.Common.{◌≡◌, ◌≢◌, ℕ, ◌+◌, ◌≤◌, Bool, true, false, inl, inr, Option, List, [], ◌∷◌, ◌++◌, length, filter, subst, refl, sym, ap, ◌∙◌, arith, append_assoc, length-append}
+use Rattle.std.proofs.Common.{◌≡◌, ◌≢◌, ℕ, ◌+◌, ◌≤◌, Bool, true, false, inl, inr, Option, List, [], ◌∷◌, ◌++◌, length, filter, subst, refl, sym, ap, ◌∙◌, arith, append_assoc, append-nil, length-append}
 use Rattle.std.specs.Prelude.{if◌then◌else◌, IsSomeAnd}
 use Rattle.std.specs.List.{AllByRecursion, list_any}
 use Rattle.std.proofs.lemmas.Bool.{cases_Bool}
@@ -102,6 +102,13 @@ IsCountedBack-within access removed all left size h are limit =
       length-without removed all are,
     )
 
+-- where none is left, all is counted
+pub IsCountedBack-end : (access : Bool) (removed : List RemovedAttribute) (all left : List Attribute) (size : ℕ) →
+    left ≡ [] → IsCountedBack access removed all left size → size ≡ length (carried_text access removed all)
+unfolding without
+IsCountedBack-end access removed all left size none h =
+    omega (arith, h.total, ap (λ (l : List Attribute). length (carried_text access removed l)) none)
+
 -- what was appended, with what is returned of the attributes that are left, is all
 pub record IsReturning (access : Bool) (removed : List RemovedAttribute) (all left : List Attribute)
     (before after : List ℕ) (size capacity : ℕ) : Type 0 where
@@ -149,6 +156,16 @@ IsReturning-more access removed all left rest before after next size more capaci
       );
       attributes = (subst (AllByRecursion IsAttribute) split h.attributes).1;
     }
+
+-- where none is left, all was appended
+pub IsReturning-end : (access : Bool) (removed : List RemovedAttribute) (all left : List Attribute)
+    (before after : List ℕ) (size capacity : ℕ) → left ≡ [] →
+    IsReturning access removed all left before after size capacity → after ≡ before ++ carried_text access removed all
+unfolding without
+IsReturning-end access removed all left before after size capacity none h =
+    sym (append-nil after)
+    ∙ ap (λ (l : List Attribute). after ++ carried_text access removed l) (sym none)
+    ∙ h.items
 
 -- ---- the reply
 
