@@ -14,7 +14,7 @@ ghost use Rattle.roam_back.specs.Shown.{shown};
 use crate::plain_packet::{append_plain, returned_len};
 use crate::terms::Returning;
 use roam_auth::seal_and_sign;
-use roam_filter::{NOTHING_REMOVED, Removal};
+use roam_filter::{Removal, nothing_removed};
 use roam_hide::{Hidden, HidingKey, rehide_packet};
 use roam_wire::code::{ACCESS_ACCEPT, is_access_reply};
 use roam_wire::{MAX_PACKET_LENGTH, Refusal, View};
@@ -85,7 +85,7 @@ fn removal_of<'a>(code: u8, removal: &Removal<'a>) -> Removal<'a>
     if is_access_reply(code) {
         *removal
     } else {
-        NOTHING_REMOVED
+        nothing_removed()
     }
 }
 
@@ -190,10 +190,11 @@ pub fn back<A: Allocator>(
         → vec_capacity out.old < vec_len out.old + returned_length
         (returning forwarded_authenticator home_secret.now client_secret.now) reply.now request.now }
 {
+    let removal = nothing_removed();
     back_passing(
         reply,
         request,
-        &NOTHING_REMOVED,
+        &removal,
         forwarded_authenticator,
         home_secret,
         client_secret,

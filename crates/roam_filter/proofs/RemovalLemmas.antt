@@ -8,7 +8,6 @@ use Rattle.roam_wire.specs.declared.removed_attribute.RemovedAttribute.{RemovedA
 use Rattle.roam_wire.specs.declared.removed_attribute.RemovedAttribute.TheVariants.{Kind, Vendor, VendorKind}
 use Rattle.roam_wire.specs.RemovedAttributes.{is_one_of}
 use Rattle.roam_filter.specs.declared.removal.Removal.{Removal}
-use Rattle.roam_filter.specs.declared.removal.TheConstants.{NOTHING_REMOVED}
 use Rattle.roam_filter.specs.Removal.{is_kind, is_vendor, is_kind_of, is_some_of, without_sessions, session_kinds, removed_by}
 
 -- a test that is false of each Type finds the same without what names a session
@@ -120,8 +119,3 @@ or_first false b is = absurd (cc)
 pub or_second : (a b : Bool) → a ≡ false → (a || b) ≡ b
 or_second true b is = absurd (cc)
 or_second false b is = refl
-
--- where no list names an attribute, nothing is removed
-pub removed_by-nothing : removed_by NOTHING_REMOVED ≡ []
-unfolding removed_by
-removed_by-nothing = refl

@@ -19,4 +19,4 @@ pub use laws::what_passes;
 pub use lists::{append_without, count_without, without_len};
 pub use passed::{append_passed, passed_len};
 pub use passing::Passing;
-pub use removal::{NOTHING_REMOVED, Removal};
+pub use removal::{Removal, nothing_removed};

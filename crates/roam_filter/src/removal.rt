@@ -1,6 +1,6 @@
 //! The lists of attributes that don't pass, and what they name.
 
-ghost use Rattle.std.specs.Prelude.{◌≡◌, ◌&&◌};
+ghost use Rattle.std.specs.Prelude.{◌≡◌, ◌&&◌, []};
 ghost use Rattle.std.specs.List.{list_any};
 ghost use Rattle.roam_filter.specs.Removal.{is_kind, is_vendor, is_kind_of, is_some_of, removed_by, session_kinds};
 ghost use Rattle.roam_wire.specs.RemovedAttributes.{is_one_of};
@@ -18,11 +18,16 @@ pub struct Removal<'a> {
 }
 
 /// No list names an attribute.
-pub const NOTHING_REMOVED: Removal<'static> = Removal {
-    peer: &[],
-    realm: &[],
-    keeps_session: false,
-};
+#[tactic(auto, unfolding(crate::specs::Removal::removed_by))]
+pub fn nothing_removed() -> Removal<'static>
+    ensures { removed_by result ≡ [] }
+{
+    Removal {
+        peer: &[],
+        realm: &[],
+        keeps_session: false,
+    }
+}
 
 /// Whether a session is named by attributes of this Type.
 fn names_session(kind: u8) -> bool

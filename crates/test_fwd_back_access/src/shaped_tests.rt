@@ -3,7 +3,7 @@
 //! (section 2.1) and RFC 5580 (section 4.1).
 
 use crate::exchanges::{ACCESS_SERVER, HOME_SERVER, octets};
-use roam_filter::{NOTHING_REMOVED, Removal};
+use roam_filter::{Removal, nothing_removed};
 use roam_fwd::{Forwarding, Shaping, can_be_shaped, forward_shaped_reserved, forwarded_shaped_len};
 use roam_wire::{RemovedAttribute, View};
 use std::alloc::Global;
@@ -76,7 +76,7 @@ fn shaping_of(case: Case) -> Shaping<'static> {
             },
             false,
         ),
-        Case::Added => (NOTHING_REMOVED, true),
+        Case::Added => (nothing_removed(), true),
         Case::Replaced => (
             Removal {
                 peer: &OPERATOR_NAME,

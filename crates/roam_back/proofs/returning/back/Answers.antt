@@ -1,8 +1,6 @@
 use Rattle.std.proofs.Common.{◌≡◌, List, ℕ, refl}
 use Rattle.roam_wire.specs.Packet.{Packet}
 use Rattle.roam_filter.specs.Removal.{removed_by}
-use Rattle.roam_filter.specs.declared.removal.TheConstants.{NOTHING_REMOVED}
-use Rattle.roam_filter.proofs.RemovalLemmas.{removed_by-nothing}
 use Rattle.roam_back.specs.Returned.{passing_reply}
 use Rattle.roam_back.proofs.PassingLemmas.{passing_reply-none}
 use Rattle.roam_back.proofs.returning.back.Goals as goal
@@ -10,18 +8,21 @@ use Rattle.roam_back.proofs.returning.back.Goals as goal
 -- where nothing is named, all passes
 pub returns-clause-ok : goal.returns-clause-ok
 returns-clause-ok g c =
-    let same : passing_reply (removed_by NOTHING_REMOVED) c.args.reply.now ≡ c.args.reply.now =
-    passing_reply-none (removed_by NOTHING_REMOVED) c.args.reply.now removed_by-nothing in
+    let removed = removed_by c.nothing_removed-removal.result in
+    let same : passing_reply removed c.args.reply.now ≡ c.args.reply.now =
+    passing_reply-none removed c.args.reply.now c.nothing_removed-removal.ensures in
     rw same at c.back_passing.ensures.ok
 
 pub returns-clause-reply_too_long : goal.returns-clause-reply_too_long
 returns-clause-reply_too_long g c =
-    let same : passing_reply (removed_by NOTHING_REMOVED) c.args.reply.now ≡ c.args.reply.now =
-    passing_reply-none (removed_by NOTHING_REMOVED) c.args.reply.now removed_by-nothing in
+    let removed = removed_by c.nothing_removed-removal.result in
+    let same : passing_reply removed c.args.reply.now ≡ c.args.reply.now =
+    passing_reply-none removed c.args.reply.now c.nothing_removed-removal.ensures in
     rw same at c.back_passing.ensures.reply_too_long
 
 pub returns-clause-full : goal.returns-clause-full
 returns-clause-full g c =
-    let same : passing_reply (removed_by NOTHING_REMOVED) c.args.reply.now ≡ c.args.reply.now =
-    passing_reply-none (removed_by NOTHING_REMOVED) c.args.reply.now removed_by-nothing in
+    let removed = removed_by c.nothing_removed-removal.result in
+    let same : passing_reply removed c.args.reply.now ≡ c.args.reply.now =
+    passing_reply-none removed c.args.reply.now c.nothing_removed-removal.ensures in
     rw same at c.back_passing.ensures.full
