@@ -4,3 +4,5 @@ pub mod EveryCodeLemmas
 pub mod PlainLemmas
 pub mod CarriedLemmas
 pub mod NakLemmas
+pub mod PassingLemmas
+pub mod PassingLawLemmas

@@ -1,9 +1,11 @@
 -- The packet that is returned for a reply (RFC 2865, section 2.3).
-use Rattle.std.specs.Prelude.{◌==◌, ℕ, List, ◌∷◌, ◌++◌, map, if◌then◌else◌}
+use Rattle.std.specs.Prelude.{◌==◌, ℕ, List, [], ◌∷◌, ◌++◌, map, if◌then◌else◌}
 use Rattle.roam_wire.specs.Packet.{Attribute, Packet, packet_length}
 use Rattle.roam_wire.specs.Attributes.{only_kind, without_kind}
 use Rattle.roam_wire.specs.declared.attribute_type.TheConstants.{PROXY_STATE, MESSAGE_AUTHENTICATOR}
 use Rattle.roam_wire.specs.declared.code.TheConstants.{ACCESS_ACCEPT}
+use Rattle.roam_wire.specs.declared.removed_attribute.RemovedAttribute.{RemovedAttribute}
+use Rattle.roam_filter.specs.Without.{without}
 use Rattle.roam_auth.specs.Authenticators.{with_authenticator, response_authenticator}
 use Rattle.roam_auth.specs.MessageAuthenticator.{empty_message_authenticator, with_message_authenticator}
 use Rattle.roam_hide.specs.Hiding.{Key}
@@ -24,6 +26,25 @@ returning forwarded_authenticator home_secret client_secret = record {
   home_secret = home_secret;
   client_secret = client_secret;
 }
+
+-- a reply without the attributes that don't pass
+abbrev pub passing : List RemovedAttribute → Packet → Packet
+passing removed reply = record reply { attributes = without removed reply.attributes }
+
+-- which don't pass of a reply of this code: of Access replies those that are named, of any other none
+abbrev pub removed_of : List RemovedAttribute → ℕ → List RemovedAttribute
+removed_of removed code = if is_access_reply code then removed else []
+
+-- ## Reply that passes
+-- A reply as it is returned to a peer for a realm: an Access-Accept, -Reject or -Challenge without the attributes that
+-- the lists of the two name, in the order of the reply; any other reply whole. What is returned for a reply is what is
+-- returned for this.
+-- Source: ours
+-- Rules out: an attribute taken out of another realm's replies; a reply's State or Proxy-State taken for one that goes
+-- Stands in: `roam_back` `Returned.antt`: `passing_reply`; `back_passing`, the law `passing_replies`
+--
+abbrev pub passing_reply : List RemovedAttribute → Packet → Packet
+passing_reply removed reply = passing (removed_of removed reply.code) reply
 
 -- a packet's Proxy-States, in their order (RFC 2865, section 5.33)
 abbrev pub proxy_states : Packet → List Attribute

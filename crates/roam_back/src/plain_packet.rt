@@ -4,14 +4,17 @@
 ghost use Rattle.std.specs.Prelude.{◌≡◌, ◌+◌, ◌≤◌, ◌++◌, length, filter, vec_len, vec_capacity};
 ghost use Rattle.roam_wire.specs.Packet.{IsPacket, attributes_text, packet_length, packet_text};
 ghost use Rattle.roam_wire.specs.Shown.{shown};
-ghost use Rattle.roam_back.specs.Returned.{Returning, returned_length};
-ghost use Rattle.roam_back.specs.Private.Plain.{is_carried, first_seal, plain_packet};
+ghost use Rattle.roam_filter.specs.Removal.{removed_by};
+ghost use Rattle.roam_filter.specs.Without.{without};
+ghost use Rattle.roam_back.specs.Returned.{Returning, passing, returned_length};
+ghost use Rattle.roam_back.specs.Private.Plain.{is_carried, first_seal, piece, plain_packet};
 
+use roam_filter::{Removal, append_passed, passed_len};
 use roam_wire::attribute_type::{MESSAGE_AUTHENTICATOR, PROXY_STATE};
 use roam_wire::code::is_access_reply;
 use roam_wire::writing::{
-    EMPTY_MESSAGE_AUTHENTICATOR, append_attribute, append_header, append_octets,
-    append_proxy_states, proxy_states_len,
+    EMPTY_MESSAGE_AUTHENTICATOR, append_header, append_octets, append_proxy_states,
+    proxy_states_len,
 };
 use roam_wire::{Attr, View};
 use std::alloc::Allocator;
@@ -36,31 +39,44 @@ fn seal_len(access: bool) -> usize
     }
 }
 
-/// How many octets the attributes of a reply take that are returned. One pass.
-fn carried_len(reply: &View<'_>, access: bool) -> usize
-    ensures all { result ≡ length (attributes_text (filter (is_carried access) reply.now.attributes)) }
+/// How many octets what is returned of an attribute of a reply takes.
+fn piece_len(attribute: &Attr<'_>, access: bool, removal: &Removal<'_>) -> usize
+    requires { length attribute.now.value.now ≤ 253 }
+    ensures { result ≡ length (attributes_text (piece access (removed_by removal.now) (shown attribute.now))) }
+{
+    if is_carried(attribute, access) {
+        passed_len(attribute, removal)
+    } else {
+        0
+    }
+}
+
+/// How many octets the attributes of a reply take that pass and are returned. One pass.
+fn carried_len(reply: &View<'_>, access: bool, removal: &Removal<'_>) -> usize
+    ensures all { result ≡ length (attributes_text
+        (filter (is_carried access) (without (removed_by removal.now) reply.now.attributes))) }
     ensures few { result ≤ 4076 }
     ensures packet { IsPacket reply.now }
 {
     let mut size = 0;
     for attribute in reply.attributes() {
-        if is_carried(&attribute, access) {
-            size += 2 + attribute.value.len();
-        }
+        size += piece_len(&attribute, access, removal);
     }
     size
 }
 
 /// The size of the packet that is returned, in octets: the header, a Message-Authenticator in an Access
-/// reply, the reply's attributes that are returned, the request's Proxy-States.
-pub(crate) fn returned_len(reply: &View<'_>, request: &View<'_>) -> usize
-    ensures plain { result ≡ packet_length (plain_packet reply.now request.now) }
-    ensures returned { (r : Returning) → result ≡ returned_length r reply.now request.now }
+/// reply, the reply's attributes that pass and are returned, the request's Proxy-States.
+pub(crate) fn returned_len(reply: &View<'_>, request: &View<'_>, removal: &Removal<'_>) -> usize
+    ensures plain { result
+        ≡ packet_length (plain_packet (passing (removed_by removal.now) reply.now) request.now) }
+    ensures returned { (r : Returning) → result
+        ≡ returned_length r (passing (removed_by removal.now) reply.now) request.now }
     ensures reply { IsPacket reply.now }
     ensures request { IsPacket request.now }
 {
     let access = is_access_reply(reply.code());
-    20 + seal_len(access) + carried_len(reply, access) + proxy_states_len(request)
+    20 + seal_len(access) + carried_len(reply, access, removal) + proxy_states_len(request)
 }
 
 /// Appends a Message-Authenticator that is still to be filled in, to an Access reply.
@@ -74,18 +90,42 @@ fn append_seal<A: Allocator>(out: &mut Vec<u8, A>, access: bool)
     }
 }
 
-/// Appends the attributes of a reply that are returned.
-fn append_carried<A: Allocator>(out: &mut Vec<u8, A>, reply: &View<'_>, access: bool)
-    requires { vec_len out.old + length (attributes_text (filter (is_carried access) reply.now.attributes))
+/// Appends what is returned of an attribute of a reply.
+fn append_piece<A: Allocator>(
+    out: &mut Vec<u8, A>,
+    attribute: Attr<'_>,
+    access: bool,
+    removal: &Removal<'_>,
+)
+    requires short { length attribute.value.now ≤ 253 }
+    requires room { vec_len out.old
+        + length (attributes_text (piece access (removed_by removal.now) (shown attribute)))
         ≤ vec_capacity out.old }
-    ensures items { out.new.items
-        ≡ out.old.items ++ attributes_text (filter (is_carried access) reply.now.attributes) }
+    ensures items { out.new.items ≡ out.old.items
+        ++ attributes_text (piece access (removed_by removal.now) (shown attribute.entry)) }
+    ensures capacity { vec_capacity out.new ≡ vec_capacity out.old }
+{
+    if is_carried(&attribute, access) {
+        append_passed(out, attribute, removal);
+    }
+}
+
+/// Appends the attributes of a reply that pass and are returned.
+fn append_carried<A: Allocator>(
+    out: &mut Vec<u8, A>,
+    reply: &View<'_>,
+    access: bool,
+    removal: &Removal<'_>,
+)
+    requires { vec_len out.old + length (attributes_text
+        (filter (is_carried access) (without (removed_by removal.now) reply.now.attributes)))
+        ≤ vec_capacity out.old }
+    ensures items { out.new.items ≡ out.old.items ++ attributes_text
+        (filter (is_carried access) (without (removed_by removal.now) reply.now.attributes)) }
     ensures capacity { vec_capacity out.new ≡ vec_capacity out.old }
 {
     for next in reply.attributes() {
-        if is_carried(&next, access) {
-            append_attribute(out, next);
-        }
+        append_piece(out, next, access, removal);
     }
 }
 
@@ -95,12 +135,15 @@ pub(crate) fn append_plain<A: Allocator>(
     out: &mut Vec<u8, A>,
     reply: &View<'_>,
     request: &View<'_>,
+    removal: &Removal<'_>,
     size: usize,
 )
-    requires size { size ≡ packet_length (plain_packet reply.now request.now) }
+    requires size { size
+        ≡ packet_length (plain_packet (passing (removed_by removal.now) reply.now) request.now) }
     requires short { size ≤ 4096 }
     requires room { vec_len out.old + size ≤ vec_capacity out.old }
-    ensures { out.new.items ≡ out.old.items ++ packet_text (plain_packet reply.now request.now) }
+    ensures { out.new.items ≡ out.old.items
+        ++ packet_text (plain_packet (passing (removed_by removal.now) reply.now) request.now) }
 {
     let access = is_access_reply(reply.code());
     append_header(
@@ -111,6 +154,6 @@ pub(crate) fn append_plain<A: Allocator>(
         &request.authenticator(),
     );
     append_seal(out, access);
-    append_carried(out, reply, access);
+    append_carried(out, reply, access, removal);
     append_proxy_states(out, request);
 }

@@ -5,22 +5,26 @@ ghost use Rattle.std.specs.Prelude.{vec_len, vec_capacity, IfErr, OnOk, OnErr, I
 ghost use Rattle.roam_wire.specs.Packet.{packet_text};
 ghost use Rattle.roam_wire.specs.Secret.{IsSecret};
 ghost use Rattle.roam_auth.specs.MessageAuthenticator.{HasAtMostOneMessageAuthenticator};
-ghost use Rattle.roam_back.specs.Returned.{returning, unsealed_return, returned, returned_length};
+ghost use Rattle.roam_filter.specs.Removal.{removed_by};
+ghost use Rattle.roam_back.specs.Returned.{passing, passing_reply, removed_of, returning, unsealed_return, returned};
+ghost use Rattle.roam_back.specs.Returned.{returned_length};
 ghost use Rattle.roam_back.specs.Private.Plain.{IsPlainText};
 ghost use Rattle.roam_back.specs.Shown.{shown};
 
 use crate::plain_packet::{append_plain, returned_len};
 use crate::terms::Returning;
 use roam_auth::seal_and_sign;
+use roam_filter::{Removal, nothing_removed};
 use roam_hide::{Hidden, HidingKey, rehide_packet};
-use roam_wire::code::ACCESS_ACCEPT;
+use roam_wire::code::{ACCESS_ACCEPT, is_access_reply};
 use roam_wire::{MAX_PACKET_LENGTH, Refusal, View};
 use std::alloc::Allocator;
 
 /// Hides the salted strings of an Access-Accept anew, in place.
 fn rehide_accept(octets: &mut [u8], reply: &View<'_>, request: &View<'_>, returning: &Returning<'_>)
-    requires plain { IsPlainText reply.now request.now octets.old }
-    ensures { octets.new ≡ packet_text (unsealed_return (shown returning.now) reply.now request.now) }
+    requires plain { IsPlainText (passing (removed_by returning.now.removal) reply.now) request.now octets.old }
+    ensures { octets.new ≡ packet_text (unsealed_return (shown returning.now)
+        (passing (removed_by returning.now.removal) reply.now) request.now) }
 {
     if reply.code() == ACCESS_ACCEPT {
         let from = HidingKey {
@@ -42,10 +46,12 @@ fn seal_for_requester(
     request: &View<'_>,
     returning: &Returning<'_>,
 )
-    requires plain { IsPlainText reply.now request.now octets.old }
-    requires at_most_one { HasAtMostOneMessageAuthenticator reply.now }
+    requires plain { IsPlainText (passing (removed_by returning.now.removal) reply.now) request.now octets.old }
+    requires at_most_one { HasAtMostOneMessageAuthenticator
+        (passing (removed_by returning.now.removal) reply.now) }
     requires secret { IsSecret returning.now.client_secret.now }
-    ensures { octets.new ≡ packet_text (returned (shown returning.now) reply.now request.now) }
+    ensures { octets.new ≡ packet_text (returned (shown returning.now)
+        (passing (removed_by returning.now.removal) reply.now) request.now) }
 {
     rehide_accept(octets, reply, request, returning);
     seal_and_sign(octets, returning.client_secret, request.authenticator());
@@ -60,15 +66,92 @@ fn seal_appended<A: Allocator>(
     returning: &Returning<'_>,
 )
     requires start { start ≤ vec_len out.old }
-    requires plain { IsPlainText reply.now request.now (drop start out.old.items) }
-    requires at_most_one { HasAtMostOneMessageAuthenticator reply.now }
+    requires plain { IsPlainText (passing (removed_by returning.now.removal) reply.now) request.now
+        (drop start out.old.items) }
+    requires at_most_one { HasAtMostOneMessageAuthenticator
+        (passing (removed_by returning.now.removal) reply.now) }
     requires secret { IsSecret returning.now.client_secret.now }
     ensures { out.new.items ≡ take start out.old.items
-        ++ packet_text (returned (shown returning.now) reply.now request.now) }
+        ++ packet_text (returned (shown returning.now)
+        (passing (removed_by returning.now.removal) reply.now) request.now) }
 {
     seal_for_requester(&mut out[start..], reply, request, returning);
 }
 
+/// Which attributes don't pass of a reply of this code: none but of an Access reply.
+fn removal_of<'a>(code: u8, removal: &Removal<'a>) -> Removal<'a>
+    ensures { removed_by result ≡ removed_of (removed_by removal.now) code }
+{
+    if is_access_reply(code) {
+        *removal
+    } else {
+        nothing_removed()
+    }
+}
+
+/// Appends the packet that is returned to the requester for a reply that was taken (RFC 2865, section
+/// 2.3): the reply's code and those of its attributes that pass with the request's Identifier, without the
+/// Proxy-States that the reply came with and with the request's own in their place, sealed and signed for
+/// the requester. In an Access reply the Message-Authenticator stands first, and in an Access-Accept salted
+/// strings are hidden anew (RFC 2868, section 3.5; RFC 2548, section 2.4). Of Access replies alone some
+/// attributes may not pass.
+///
+/// `forwarded_authenticator` and `home_secret` are those of the forwarded request and of the link from
+/// which the reply came, `client_secret` is the requester's; secrets have 1 to 64 octets.
+///
+/// Refused in this order: `ReplyTooLong` where the packet would pass 4096 octets, looked at before
+/// memory is asked for; `NoMemory`. A refusal leaves the buffer as it was, and its
+/// capacity.
+pub fn back_passing<A: Allocator>(
+    reply: &View<'_>,
+    request: &View<'_>,
+    removal: &Removal<'_>,
+    forwarded_authenticator: [u8; 16],
+    home_secret: &[u8],
+    client_secret: &[u8],
+    out: &mut Vec<u8, A>,
+) -> Result<(), Refusal>
+    requires at_most_one { HasAtMostOneMessageAuthenticator reply.now }
+    requires home_secret { IsSecret home_secret.now }
+    requires client_secret { IsSecret client_secret.now }
+    ensures ok { OnOk result (out.new.items ≡ out.old.items ++ packet_text (returned
+        (returning forwarded_authenticator home_secret.now client_secret.now)
+        (passing_reply (removed_by removal.now) reply.now) request.now)) }
+    ensures err { OnErr result (out.new.items ≡ out.old.items) }
+    ensures capacity { OnErr result (vec_capacity out.new ≡ vec_capacity out.old) }
+
+    // The size is looked at before memory is asked for.
+    ensures reply_too_long { IsErrOf result Refusal.ReplyTooLong ↔ (4096 < returned_length
+        (returning forwarded_authenticator home_secret.now client_secret.now)
+        (passing_reply (removed_by removal.now) reply.now) request.now) }
+    ensures causes { IfErr result (λ e. (e ≡ Refusal.ReplyTooLong) ⊎ (e ≡ Refusal.NoMemory)) }
+
+    // Memory is wanting only where there was no room for the packet.
+    ensures full { IsErrOf result Refusal.NoMemory
+        → vec_capacity out.old < vec_len out.old + returned_length
+        (returning forwarded_authenticator home_secret.now client_secret.now)
+        (passing_reply (removed_by removal.now) reply.now) request.now }
+{
+    let removal = removal_of(reply.code(), removal);
+    let size = returned_len(reply, request, &removal);
+    if size > MAX_PACKET_LENGTH {
+        return Err(Refusal::ReplyTooLong);
+    }
+    out.reserve(size).map_err(|_| Refusal::NoMemory)?;
+    let start = out.len();
+    append_plain(out, reply, request, &removal, size);
+    let returning = Returning {
+        forwarded_authenticator,
+        home_secret,
+        client_secret,
+        removal,
+    };
+    seal_appended(out, start, reply, request, &returning);
+    Ok(())
+}
+
+/// The same of a reply of which all attributes pass.
+///
 /// Appends the packet that is returned to the requester for a reply that was taken (RFC 2865, section
 /// 2.3): the reply's code and attributes with the request's Identifier, without the Proxy-States that
 /// the reply came with and with the request's own in their place, sealed and signed for the requester.
@@ -107,18 +190,14 @@ pub fn back<A: Allocator>(
         → vec_capacity out.old < vec_len out.old + returned_length
         (returning forwarded_authenticator home_secret.now client_secret.now) reply.now request.now }
 {
-    let size = returned_len(reply, request);
-    if size > MAX_PACKET_LENGTH {
-        return Err(Refusal::ReplyTooLong);
-    }
-    out.reserve(size).map_err(|_| Refusal::NoMemory)?;
-    let start = out.len();
-    append_plain(out, reply, request, size);
-    let returning = Returning {
+    let removal = nothing_removed();
+    back_passing(
+        reply,
+        request,
+        &removal,
         forwarded_authenticator,
         home_secret,
         client_secret,
-    };
-    seal_appended(out, start, reply, request, &returning);
-    Ok(())
+        out,
+    )
 }

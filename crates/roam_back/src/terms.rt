@@ -1,10 +1,13 @@
 //! With what a reply is returned.
 
+use roam_filter::Removal;
+
 /// With what a reply is returned: the Authenticator of the forwarded request, the secret shared with the
-/// link from which the reply came, and the one shared with the requester.
+/// link from which the reply came, the one shared with the requester, and the attributes that don't pass.
 #[derive(Drop)]
 pub(crate) struct Returning<'a> {
     pub(crate) forwarded_authenticator: [u8; 16],
     pub(crate) home_secret: &'a [u8],
     pub(crate) client_secret: &'a [u8],
+    pub(crate) removal: Removal<'a>,
 }

@@ -22,10 +22,10 @@ use Rattle.roam_fwd.proofs.AccessLemmas.{all_without, count_of-carried, count_of
 -- ---- an Access-Request
 
 -- the keys that a password is hidden with
-abbrev old_key : Forwarding → Packet → Key
+abbrev pub old_key : Forwarding → Packet → Key
 old_key f q = record { secret = f.from_secret; first = q.authenticator }
 
-abbrev new_key : Forwarding → Key
+abbrev pub new_key : Forwarding → Key
 new_key f = record { secret = f.to_secret; first = f.authenticator }
 
 -- a password that is chosen to be hidden anew hides the same plain text
@@ -49,13 +49,13 @@ carried_one f q a h = record {
       (ne_eqb a.kind USER_PASSWORD other);
 }
 
-carried_all : (f : Forwarding) (q : Packet) (all : List Attribute) → AllByRecursion HasPasswordBlocks all →
+pub carried_all : (f : Forwarding) (q : Packet) (all : List Attribute) → AllByRecursion HasPasswordBlocks all →
     AllZip (IsCarried (old_key f q) (new_key f)) all (map (with_password_anew f q) all)
 carried_all f q [] h = tt
 carried_all f q (a ∷ all) h = (carried_one f q a h.0, carried_all f q all h.1)
 
 -- the Message-Authenticator's Value is the only one that is filled in
-filled_in : (f : Forwarding) (q : Packet) →
+pub filled_in : (f : Forwarding) (q : Packet) →
     (forwarded f q).attributes ≡ map
     (attribute_with_value (message_authenticator f.to_secret f.authenticator (access_unsealed f q)))
     (access_unsealed f q).attributes →

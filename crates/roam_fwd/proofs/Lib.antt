@@ -4,3 +4,6 @@ pub mod AccessLemmas
 pub mod LawLemmas
 pub mod ArrangedLemmas
 pub mod CarriedLemmas
+pub mod ShapedLemmas
+pub mod AddedLemmas
+pub mod ShapedLawLemmas

@@ -5,6 +5,7 @@ ghost use Rattle.roam_fwd.specs.ForwardedLaws.{ForwardedIsPacket, ForwardedHasLe
 ghost use Rattle.roam_fwd.specs.ForwardedLaws.{ForwardedIsSigned, AccessHasSeal, AccessHasSealFirst};
 ghost use Rattle.roam_fwd.specs.ForwardedLaws.{AccessHasAuthenticator, ForwardedKeepsCode, ForwardedHasIdentifier};
 ghost use Rattle.roam_fwd.specs.ForwardedLaws.{TicketIsLast};
+ghost use Rattle.roam_fwd.specs.ShapedLaws.{NothingShaped, ShapedAccessCarries};
 
 /// What a forwarded packet is, for every code.
 pub fn forwarded_packet()
@@ -34,4 +35,11 @@ pub fn forwarded_carries()
     ensures reads { ForwardedReads }
     ensures access { AccessCarriesAll }
     ensures others { OthersAreCarried }
+{}
+
+/// What the packet carries that is forwarded for a shaped request: of an Access-Request what passes, in its order, then
+/// what is added; and where nothing is taken out and nothing added, it is the packet that is forwarded for the request.
+pub fn shaped_carries()
+    ensures access { ShapedAccessCarries }
+    ensures nothing { NothingShaped }
 {}

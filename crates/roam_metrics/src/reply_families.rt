@@ -203,5 +203,8 @@ pub(crate) const REFUSED: Family = Family {
         ("22", CountedEvent::Refused(Refusal::TraceFull)),
         ("23", CountedEvent::Refused(Refusal::Misplaced)),
         ("24", CountedEvent::Refused(Refusal::TooManyHops)),
+        ("25", CountedEvent::Refused(Refusal::NotForPeer)),
+        ("26", CountedEvent::Refused(Refusal::AccountingDropped)),
+        ("27", CountedEvent::Refused(Refusal::ShareTaken)),
     ],
 };

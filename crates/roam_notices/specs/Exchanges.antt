@@ -156,6 +156,7 @@ abbrev pub cause_word : RejectCause → List ℕ
 cause_word cause.NoUserName = codes "no_user_name"
 cause_word cause.NoRealmPart = codes "no_realm_part"
 cause_word cause.UnknownRealm = codes "unknown_realm"
+cause_word cause.NotForPeer = codes "not_for_peer"
 cause_word cause.Passwords = codes "passwords"
 cause_word cause.TooManyHops = codes "too_many_hops"
 

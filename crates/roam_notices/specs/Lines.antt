@@ -40,6 +40,9 @@ refusal_name refusal.NoMemory = codes "NoMemory"
 refusal_name refusal.TraceFull = codes "TraceFull"
 refusal_name refusal.Misplaced = codes "Misplaced"
 refusal_name refusal.TooManyHops = codes "TooManyHops"
+refusal_name refusal.NotForPeer = codes "NotForPeer"
+refusal_name refusal.AccountingDropped = codes "AccountingDropped"
+refusal_name refusal.ShareTaken = codes "ShareTaken"
 
 -- a place as a script names it, with the name of its realm
 abbrev pub place_text : Place → List ℕ → List ℕ

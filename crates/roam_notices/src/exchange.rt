@@ -37,6 +37,8 @@ pub enum RejectCause {
     NoRealmPart,
     /// No realm is configured that what follows the `@` means.
     UnknownRealm,
+    /// The realm takes no requests of the peer.
+    NotForPeer,
     /// Its passwords can't be carried (RFC 2865, sections 4.1 and 5.2).
     Passwords,
     /// More proxies forwarded it than may.

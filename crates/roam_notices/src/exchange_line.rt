@@ -184,6 +184,7 @@ fn cause_word(cause: RejectCause) -> &'static str
         RejectCause::NoUserName => "no_user_name",
         RejectCause::NoRealmPart => "no_realm_part",
         RejectCause::UnknownRealm => "unknown_realm",
+        RejectCause::NotForPeer => "not_for_peer",
         RejectCause::Passwords => "passwords",
         RejectCause::TooManyHops => "too_many_hops",
     }

@@ -197,6 +197,9 @@ fn refusal_name(refusal: Refusal) -> &'static str
         Refusal::TraceFull => "TraceFull",
         Refusal::Misplaced => "Misplaced",
         Refusal::TooManyHops => "TooManyHops",
+        Refusal::NotForPeer => "NotForPeer",
+        Refusal::AccountingDropped => "AccountingDropped",
+        Refusal::ShareTaken => "ShareTaken",
     }
 }
 

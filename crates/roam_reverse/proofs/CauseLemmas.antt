@@ -1,5 +1,5 @@
 -- Why a request isn't forwarded, by its target.
-use Rattle.std.proofs.Common.{◌≡◌, ℕ, Bool, true, false, List, Option, Some, None, refl, ap, eqb-true}
+use Rattle.std.proofs.Common.{◌≡◌, ℕ, Bool, true, false, List, Option, Some, None, refl, ap, subst, eqb-true}
 use Rattle.std.specs.Prelude.{if◌then◌else◌}
 use Rattle.std.specs.Option.{option_or}
 use Rattle.roam_wire.specs.Packet.{Attribute}
@@ -7,6 +7,8 @@ use Rattle.roam_wire.specs.Attributes.{first_value}
 use Rattle.roam_wire.specs.declared.attribute_type.TheConstants.{ACCT_SESSION_ID, USER_NAME}
 use Rattle.roam_reverse.specs.Sessions.{Session}
 use Rattle.roam_hide.specs.Salted.{is_salted}
+use Rattle.roam_conf.specs.Config.{PeerView, RealmView}
+use Rattle.roam_reverse.specs.Target.{among, is_among}
 use Rattle.roam_reverse.specs.Causes.{cause_at_target, cause_by_name, cause_by_salt, is_realm}
 
 -- with a User-Name the ledger doesn't matter
@@ -35,6 +37,18 @@ forwarded-at-target realm names attributes sessions (Some peer) h = (
       (later-none (cause_by_name realm names peer sessions (first_value USER_NAME attributes)
       (first_value ACCT_SESSION_ID attributes)) (cause_by_salt attributes) h),
 )
+
+-- a peer that is among the realm's was found, and is one of them
+kept : (b : Bool) (found peer : ℕ) → (if b then Some found else None) ≡ Some peer → (found ≡ peer) × (b ≡ true)
+kept true found peer h = (cc h, refl)
+kept false found peer h = absurd (cc h)
+
+pub among-found : (entry : Option RealmView) (peers : List PeerView) (at : Option ℕ) (peer : ℕ)
+    → among entry peers at ≡ Some peer → (at ≡ Some peer) × (is_among entry peers peer ≡ true)
+among-found entry peers None peer h = absurd (cc h)
+among-found entry peers (Some found) peer h =
+    let both = kept (is_among entry peers found) found peer h in
+    (ap (λ (n : ℕ). Some n) both.0, subst (λ (n : ℕ). is_among entry peers n ≡ true) both.0 both.1)
 
 -- without a cause for its name, a request with a User-Name is of the realm
 first-none : (first later : Option ℕ) → option_or first later ≡ None → first ≡ None

@@ -5,10 +5,10 @@ use Rattle.std.specs.Option.{option_or}
 use Rattle.roam_wire.specs.Packet.{Attribute}
 use Rattle.roam_wire.specs.Attributes.{first_value}
 use Rattle.roam_wire.specs.declared.attribute_type.TheConstants.{ACCT_SESSION_ID, USER_NAME}
-use Rattle.roam_conf.specs.Config.{PeerView}
+use Rattle.roam_conf.specs.Config.{PeerView, RealmView}
 use Rattle.roam_reverse.specs.Sessions.{Session, has_session}
 use Rattle.roam_hide.specs.Salted.{is_salted}
-use Rattle.roam_reverse.specs.Target.{target}
+use Rattle.roam_reverse.specs.Target.{target_in}
 use Rattle.roam_reverse.specs.declared.error_cause.TheConstants.{UNSUPPORTED_ATTRIBUTE, REQUEST_NOT_ROUTABLE, SESSION_CONTEXT_NOT_FOUND}
 
 -- whether the realm that the User-Name names, if it names one, is this realm
@@ -42,19 +42,18 @@ cause_at_target realm named attributes sessions (Some peer) =
     (cause_by_salt attributes)
 
 -- ## Cause of a reverse request
--- Why it isn't forwarded, for the first that holds: 502 without a target; 502 with a User-Name of no realm or
--- of another one, or with neither User-Name nor Acct-Session-Id; 503 without User-Name where the session of
--- that peer isn't in the ledger; 401 where a salted string stands in it. With a User-Name of the realm the
--- ledger isn't looked at, and only the first User-Name and the first Acct-Session-Id count: so a home server
--- may name another realm's session beside a user of its own, and which session that ends is the access server's
--- to decide.
+-- Why it isn't forwarded, for the first that holds: 502 without a target among the realm's peers; 502 with a
+-- User-Name of no realm or of another one, or with neither User-Name nor Acct-Session-Id; 503 without User-Name where
+-- the session of that peer isn't in the ledger; 401 where a salted string stands in it. With a User-Name of the realm
+-- the ledger isn't looked at, and only the first User-Name and the first Acct-Session-Id count: so a home server may
+-- name another realm's session beside a user of its own, and which session that ends is the access server's to decide.
 -- Source: RFC 5176 section 3.5 for the numbers; when each comes is ours
 -- Rules out: causes in another order
 -- Stands in: `roam_reverse` `Causes.antt`: `cause`; `verdict`, `route_of`, the laws `forwarded_has_target`,
 -- `named_requests_need_no_session`
 --
--- why a reverse request to a realm isn't forwarded, if it isn't, by the realm which its first User-Name
--- names: the first cause that holds
-unfoldable pub cause : List PeerView → ℕ → Option ℕ → List Attribute → List Session → Option ℕ
-cause peers realm named attributes sessions =
-    cause_at_target realm named attributes sessions (target peers attributes)
+-- why a reverse request to a realm, of which its entry and its index are given, isn't forwarded, if it isn't, by the
+-- realm which its first User-Name names: the first cause that holds
+unfoldable pub cause : Option RealmView → List PeerView → ℕ → Option ℕ → List Attribute → List Session → Option ℕ
+cause entry peers realm named attributes sessions =
+    cause_at_target realm named attributes sessions (target_in entry peers attributes)

@@ -1,6 +1,6 @@
 //! Where a reverse request is forwarded to, or why it can't be (RFC 5176, section 3.5).
 
-ghost use Rattle.std.specs.Prelude.{◌≡◌, ◌<◌, IfOk, Some, vec_len};
+ghost use Rattle.std.specs.Prelude.{◌≡◌, ◌<◌, IfOk, Some, slice_get, vec_len};
 ghost use Rattle.std.specs.Result.{result_err};
 ghost use Rattle.roam_wire.specs.Attributes.{first_value};
 ghost use Rattle.roam_conf.specs.Shown.{shown};
@@ -81,10 +81,10 @@ fn cause_by_salt(request: &View<'_>) -> Option<u32>
 /// The peer that a reverse request is forwarded to, or the Error-Cause of one that can't be forwarded,
 /// of the first cause that holds. Takes no memory.
 ///
-/// 502 where no peer is found for it, where its User-Name doesn't name this realm, or where it has
-/// neither a User-Name nor an Acct-Session-Id; 503 where it has no User-Name, and its session isn't
-/// an open one of that peer; 401 where it holds a salted string. Which realm its first User-Name names
-/// is said by who looked it up; here nothing of other realms is looked at.
+/// 502 where no peer is found for it or the peer isn't among the realm's, where its User-Name doesn't name
+/// this realm, or where it has neither a User-Name nor an Acct-Session-Id; 503 where it has no User-Name,
+/// and its session isn't an open one of that peer; 401 where it holds a salted string. Which realm its first
+/// User-Name names is said by who looked it up; of other realms nothing is looked at here.
 #[tactic(auto, unfolding(crate::specs::Causes::cause))]
 pub fn route_of<A: Allocator + Copy>(
     config: &Config,
@@ -93,8 +93,8 @@ pub fn route_of<A: Allocator + Copy>(
     request: &View<'_>,
     sessions: &Sessions<A>,
 ) -> Result<u16, u32>
-    ensures cause { result_err result ≡ cause (shown config.now).peers realm named
-        request.now.attributes sessions.now.sessions }
+    ensures cause { result_err result ≡ cause (slice_get (shown config.now).realms realm)
+        (shown config.now).peers realm named request.now.attributes sessions.now.sessions }
     ensures target { IfOk result (λ peer. Some peer
         ≡ target (shown config.now).peers request.now.attributes) }
     ensures bound { IfOk result (λ peer. peer < vec_len config.now.peers) }
@@ -102,6 +102,9 @@ pub fn route_of<A: Allocator + Copy>(
     let Some(peer) = target(config, request) else {
         return Err(REQUEST_NOT_ROUTABLE);
     };
+    if !config.is_peer_of(realm, peer) {
+        return Err(REQUEST_NOT_ROUTABLE);
+    }
     if let Some(cause) = cause_by_name(realm, named, peer, request, sessions) {
         return Err(cause);
     }
@@ -122,8 +125,8 @@ pub fn verdict<A: Allocator + Copy>(
     request: &View<'_>,
     sessions: &Sessions<A>,
 ) -> Option<u32>
-    ensures { result ≡ cause (shown config.now).peers realm named request.now.attributes
-        sessions.now.sessions }
+    ensures { result ≡ cause (slice_get (shown config.now).realms realm) (shown config.now).peers
+        realm named request.now.attributes sessions.now.sessions }
 {
     route_of(config, realm, named, request, sessions).err()
 }

@@ -9,8 +9,8 @@
 //!
 //! - which access server a reverse request is for: the first that takes such requests and fits | `target`, law
 //!   `target_is_the_first`
-//! - why it isn't forwarded: the first cause that holds; without one there is a target, no salted string, and a
-//!   User-Name names this realm | `verdict`, `route_of`, law `forwarded_has_target`
+//! - why it isn't forwarded: the first cause that holds; without one there is a target among the realm's peers, no
+//!   salted string, and a User-Name names this realm | `verdict`, `route_of`, law `forwarded_has_target`
 //! - the numbers of status types and of Error-Causes are those of the RFCs | law
 //!   `numbers_of_statuses_and_causes`
 //! - the ledger of a realm's sessions: what an Accounting-Request does to it, no session twice, never more than

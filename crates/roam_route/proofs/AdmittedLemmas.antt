@@ -1,10 +1,12 @@
 -- What is admitted of a peer or a home server is a right request, and a right one is admitted.
 use Rattle.std.proofs.Common.{◌≡◌, ◌≢◌, ◌↔◌, ◌≤◌, ℕ, Bool, true, false, List, [], ◌∷◌, Option, Some, None, IsSome, IsTrue, inl, inr, refl, sym, ap, subst, ◌∙◌, arith}
-use Rattle.std.specs.Prelude.{◌==◌, Ok, nat_le}
+use Rattle.std.specs.Prelude.{◌==◌, ◌&&◌, not, is_some, option_and_then, if◌then◌else◌, Ok, nat_le}
 use Rattle.std.proofs.lemmas.Bool.{cases_Bool}
 use Rattle.std.proofs.lemmas.Bool.Decides.{Decides-eqb, nat_tests}
 use Rattle.roam_wire.specs.Packet.{Packet, packet_text}
+use Rattle.roam_wire.specs.Attributes.{first_value}
 use Rattle.roam_wire.specs.Reading.{reading}
+use Rattle.roam_wire.specs.declared.attribute_type.TheConstants.{USER_NAME}
 use Rattle.roam_wire.specs.declared.code.TheConstants.{ACCESS_REQUEST, ACCOUNTING_REQUEST, COA_REQUEST, DISCONNECT_REQUEST}
 use Rattle.roam_wire.specs.declared.refusal.Refusal.{Refusal}
 use Rattle.roam_wire.specs.declared.refusal.Refusal.TheVariants as refusal
@@ -12,14 +14,17 @@ use Rattle.roam_wire.specs.declared.packet_size.TheConstants.{MAX_PACKET_LENGTH}
 use Rattle.roam_auth.specs.Deciding.{is_well_sealed}
 use Rattle.roam_auth.specs.MessageAuthenticator.{IsWellSealed}
 use Rattle.roam_conf.specs.Config.{ConfigView}
+use Rattle.roam_conf.specs.Lookup.{realm_named}
+use Rattle.roam_conf.specs.declared.accounting.Accounting.{Accounting}
+use Rattle.roam_conf.specs.declared.accounting.Accounting.TheVariants.{Forwarded, Answered, Dropped}
 use Rattle.roam_conf.specs.declared.place.Link.{Link}
 use Rattle.roam_conf.specs.declared.place.Place.{Place}
 use Rattle.roam_conf.specs.declared.place.Place.TheVariants as place
 use Rattle.roam_fwd.specs.Forwarded.{forwarded_length}
-use Rattle.roam_route.specs.UserName.{realm_of}
+use Rattle.roam_route.specs.UserName.{realm_of, realm_part}
 use Rattle.roam_route.specs.LocalAnswer.{answer_length, local_reject, status_answer}
-use Rattle.roam_route.specs.LocalReject.{is_rejected}
-use Rattle.roam_route.specs.Admission.{Arrival, PlainJob, Admission, refused, admitted, sender, checked, job_of, forwarded_for, answered_by, rejected_for, for_named_realm, route_request, packet_admission, sent_admission, read_admission, admission, is_taken, is_rightly_signed, is_rightly_sealed, has_needed_seal, has_few_hops, has_seal, is_status_request, status_from, seal_required, peer_secret, home_secret}
+use Rattle.roam_route.specs.LocalReject.{is_rejected, takes_of, taking}
+use Rattle.roam_route.specs.Admission.{Arrival, PlainJob, Admission, refused, admitted, sender, checked, accounted, accounting_in, by_accounting, is_answered_unnamed, job_of, forwarded_for, answered_by, rejected_for, for_named_realm, route_request, packet_admission, sent_admission, read_admission, admission, is_taken, is_rightly_signed, is_rightly_sealed, has_needed_seal, has_few_hops, has_seal, is_status_request, status_from, seal_required, peer_secret, home_secret}
 use Rattle.roam_route.specs.AdmittedRequests.{IsRequestAt, IsRightlySigned, sealing_authenticator, HasNeededSeal, HasFewHops, IsRightRequest, IsJobOf, IsOfRequest, AdmittedIsRight, FailsFirst, IsPassedOn}
 use Rattle.roam_route.specs.declared.job.Side.{Side}
 use Rattle.roam_route.specs.declared.job.Side.TheVariants as side
@@ -138,13 +143,13 @@ rejected_never secret a p job h =
 access_admitted : (config : ConfigView) (secret : List ℕ) (a : Arrival) (s : Side) (p : Packet)
     (job : PlainJob)
     → (route_request config secret a s p place.Auth ≡ admitted job)
-    ↔ (IsPassedOn config p
+    ↔ (IsPassedOn config s p
     × ((realm_of config p.attributes ≡ Some job.realm)
     × (Fits p × IsJob a s p (realm_of config p.attributes) job)))
 access_admitted config secret a s p job =
-    let passed = passed_decided config p in
+    let passed = passed_decided config s p in
     let further = named_admitted a s p (realm_of config p.attributes) job in
-    elim (cases_Bool (is_rejected config p)) [
+    elim (cases_Bool (is_rejected config s p)) [
       | inl rejects ↦ rw rejects (
         λ h. absurd (rejected_never secret a p job h),
         λ h. absurd (cc (sym rejects ∙ passed.1 h.0)),
@@ -154,6 +159,100 @@ access_admitted config secret a s p job =
         λ h. further.1 h.1,
       )
     ]
+
+-- ---- an Accounting-Request
+
+-- by what becomes of the realm's accounting
+by_admitted : (way : Accounting) (secret : List ℕ) (a : Arrival) (s : Side) (p : Packet) (realm : ℕ) (job : PlainJob)
+    → (by_accounting way secret a s p realm ≡ admitted job)
+    ↔ ((way ≡ Forwarded) × (Fits p × ((job.realm ≡ realm) × IsJob a s p (Some realm) job)))
+by_admitted Forwarded secret a s p realm job =
+    let goes = forwarded_admitted a s p realm (Some realm) job in
+    (λ h. (refl, goes.0 h), λ h. goes.1 h.1)
+by_admitted Answered secret a s p realm job = (λ h. absurd (cc h), λ h. absurd (cc h.0))
+by_admitted Dropped secret a s p realm job = (λ h. absurd (cc h), λ h. absurd (cc h.0))
+
+-- to the realm that is named, if one is that takes the sender's requests
+abbrev Accounts : ConfigView → Arrival → Side → Packet → Option ℕ → PlainJob → Type 0
+Accounts config a s p o job =
+    (o ≡ Some job.realm) × (IsTrue (takes_of config job.realm s)
+    × ((accounting_in config job.realm ≡ Forwarded) × (Fits p × IsJob a s p o job)))
+
+accounted_admitted : (config : ConfigView) (secret : List ℕ) (a : Arrival) (s : Side) (p : Packet) (o : Option ℕ)
+    (job : PlainJob) → (accounted config secret a s p o ≡ admitted job) ↔ Accounts config a s p o job
+accounted_admitted config secret a s p None job = (λ h. absurd (cc h), λ h. absurd (cc h.0))
+accounted_admitted config secret a s p (Some realm) job =
+    let Takes : ℕ → Type 0 = λ r. IsTrue (takes_of config r s) in
+    let Goes : ℕ → Type 0 = λ r. accounting_in config r ≡ Forwarded in
+    let itself : Takes realm ↔ Takes realm = (λ h. h, λ h. h) in
+    let further = through (takes_of config realm s) refusal.NotForPeer
+    (by_accounting (accounting_in config realm) secret a s p realm) job itself
+    (by_admitted (accounting_in config realm) secret a s p realm job) in (
+      λ h. (
+          let all = further.0 h in
+          let here : realm ≡ job.realm = sym all.1.1.1.0 in (
+            ap (λ (x : ℕ). Some x) here,
+            (subst Takes here all.0, (subst Goes here all.1.0, (all.1.1.0, all.1.1.1.1))),
+          )
+          ),
+      λ h. (
+          let here : job.realm ≡ realm = cc h.0 in
+          further.1 (subst Takes here h.1.0, (subst Goes here h.1.1.0, (h.1.1.1.0, (here, h.1.1.1.1))))
+          ),
+    )
+
+-- a request without a User-Name names no realm
+no_name : {X Y Z : Type 0} (b : Bool) (f : X → Option Y) (g : Y → Option Z) (o : Option X) (z : Z)
+    → (b && not (is_some o)) ≡ true → option_and_then g (option_and_then f o) ≡ Some z → ⊥
+no_name b f g None z none is = absurd (cc is)
+no_name true f g (Some x) z none is = absurd (cc none)
+no_name false f g (Some x) z none is = absurd (cc none)
+
+unnamed_asks_none : (config : ConfigView) (p : Packet) (realm : ℕ) → is_answered_unnamed config p ≡ true
+    → realm_of config p.attributes ≡ Some realm → ⊥
+unnamed_asks_none config p realm none is =
+    no_name config.answer_unnamed realm_part (realm_named config) (first_value USER_NAME p.attributes) realm none is
+
+acct_goes : (config : ConfigView) (secret : List ℕ) (a : Arrival) (s : Side) (p : Packet) (job : PlainJob)
+    → (route_request config secret a s p place.Acct ≡ admitted job)
+    ↔ Accounts config a s p (realm_of config p.attributes) job
+acct_goes config secret a s p job =
+    elim (cases_Bool (is_answered_unnamed config p)) [
+      | inl unnamed ↦ rw unnamed (
+        λ h. absurd (cc h),
+        λ h. absurd (unnamed_asks_none config p job.realm unnamed h.0),
+      )
+      | inr named ↦ rw named (accounted_admitted config secret a s p (realm_of config p.attributes) job)
+    ]
+
+-- ---- whether a realm takes a sender's requests
+
+if_takes : (b : Bool) (x : ℕ) → IsSome (if b then Some x else None) → IsTrue b
+if_takes true x h = refl
+if_takes false x h = absurd (cc h)
+
+takes_if : (b : Bool) (x : ℕ) → IsTrue b → IsSome (if b then Some x else None)
+takes_if true x h = refl
+takes_if false x h = absurd (cc h)
+
+asked_takes : (config : ConfigView) (s : Side) (o : Option ℕ) (realm : ℕ) → IsSome (taking config s o)
+    → o ≡ Some realm → IsTrue (takes_of config realm s)
+asked_takes config s None realm some is = absurd (cc is)
+asked_takes config s (Some x) realm some is =
+    let same : x ≡ realm = cc is in
+    subst (λ (r : ℕ). IsTrue (takes_of config r s)) same (if_takes (takes_of config x s) x some)
+
+takes_asked : (config : ConfigView) (s : Side) (o : Option ℕ) (realm : ℕ) → o ≡ Some realm
+    → IsTrue (takes_of config realm s) → IsSome (taking config s o)
+takes_asked config s None realm is takes = absurd (cc is)
+takes_asked config s (Some x) realm is takes =
+    let same : realm ≡ x = cc is in
+    takes_if (takes_of config x s) x (subst (λ (r : ℕ). IsTrue (takes_of config r s)) same takes)
+
+-- a realm that may be asked is named
+pub asked_named : (config : ConfigView) (s : Side) (o : Option ℕ) → IsSome (taking config s o) → IsSome o
+asked_named config s None some = absurd (cc some)
+asked_named config s (Some x) some = refl
 
 -- ---- a request, from its signature on
 
@@ -173,13 +272,13 @@ abbrev pub front_checked : ConfigView → List ℕ → Side → Packet → Admis
 front_checked config secret s p further =
     checked (is_rightly_signed secret p) refusal.BadAuthenticator
     (checked (is_rightly_sealed secret p) refusal.BadMessageAuthenticator
-    (checked (has_needed_seal (seal_required config s) p) refusal.MissingMessageAuthenticator further))
+    (checked (has_needed_seal (seal_required config s p) p) refusal.MissingMessageAuthenticator further))
 
 -- the same as facts
 record IsFrontRight (config : ConfigView) (secret : List ℕ) (s : Side) (p : Packet) : Type 0 where
   signed : IsRightlySigned secret p
   well_sealed : IsWellSealed secret (sealing_authenticator p ∷ []) p
-  needed_seal : HasNeededSeal (seal_required config s) p
+  needed_seal : HasNeededSeal (seal_required config s p) p
 
 front_admitted : {Q : Type 0} (config : ConfigView) (secret : List ℕ) (s : Side) (p : Packet)
     (further : Admission) (job : PlainJob)
@@ -187,9 +286,9 @@ front_admitted : {Q : Type 0} (config : ConfigView) (secret : List ℕ) (s : Sid
     → (front_checked config secret s p further ≡ admitted job)
     ↔ (IsFrontRight config secret s p × Q)
 front_admitted config secret s p further job q =
-    let needed : Bool = has_needed_seal (seal_required config s) p in
+    let needed : Bool = has_needed_seal (seal_required config s p) p in
     let third = through needed refusal.MissingMessageAuthenticator further job
-    (needed_decided (seal_required config s) p) q in
+    (needed_decided (seal_required config s p) p) q in
     let second = through (is_rightly_sealed secret p) refusal.BadMessageAuthenticator
     (checked needed refusal.MissingMessageAuthenticator further) job (sealed_decided secret p) third in
     let first = through (is_rightly_signed secret p) refusal.BadAuthenticator
@@ -206,11 +305,6 @@ front_admitted config secret s p further job q =
 abbrev Right : ConfigView → Arrival → Place → Side → Packet → PlainJob → Type 0
 Right config a at s p job =
     IsJob a s p (realm_of config p.attributes) job × IsRightRequest config at s p job.realm
-
--- a realm that is named is there
-named_some : (o : Option ℕ) (realm : ℕ) → o ≡ Some realm → IsSome o
-named_some None realm is = absurd (cc is)
-named_some (Some x) realm is = refl
 
 -- an Access-Request of a peer
 auth_admitted : (config : ConfigView) (a : Arrival) (i : ℕ) (p : Packet) (job : PlainJob)
@@ -242,14 +336,16 @@ auth_admitted config a i p job access =
               hops = passed.hops;
               passwords = λ is. passed.passwords;
               realm_is = rest.0;
+              asks = asked_takes config (side.Peer i) (realm_of config p.attributes) job.realm passed.names rest.0;
+              accounting = λ is. absurd (omega (arith, access, is));
               size = rest.1.0;
             },
           )
           ),
       λ h. (
           let r = h.1 in
-          let passed : IsPassedOn config p = record {
-            names = named_some (realm_of config p.attributes) job.realm r.realm_is;
+          let passed : IsPassedOn config (side.Peer i) p = record {
+            names = takes_asked config (side.Peer i) (realm_of config p.attributes) job.realm r.realm_is r.asks;
             passwords = r.passwords access;
             hops = r.hops;
           } in
@@ -272,17 +368,17 @@ acct_admitted : (config : ConfigView) (a : Arrival) (i : ℕ) (p : Packet) (job 
 acct_admitted config a i p job code =
     let secret : List ℕ = peer_secret config i in
     let other : p.code ≢ ACCESS_REQUEST = λ is. absurd (omega (arith, is, code)) in
-    let goes = named_admitted a (side.Peer i) p (realm_of config p.attributes) job in
+    let goes = acct_goes config secret a (side.Peer i) p job in
     let further = through (has_few_hops config.max_hops p) refusal.TooManyHops
-    (for_named_realm a (side.Peer i) p (realm_of config p.attributes)) job
+    (route_request config secret a (side.Peer i) p place.Acct) job
     (other_hops config.max_hops p other) goes in
     let whole = front_admitted config secret (side.Peer i) p
     (checked (has_few_hops config.max_hops p) refusal.TooManyHops
-    (for_named_realm a (side.Peer i) p (realm_of config p.attributes))) job further in (
+    (route_request config secret a (side.Peer i) p place.Acct)) job further in (
       λ h. (
           let all = whole.0 h in
           let rest = all.1.1 in (
-            rest.1.1,
+            rest.1.1.1.1,
             record {
               code = code;
               signed = all.0.signed;
@@ -291,7 +387,9 @@ acct_admitted config a i p job code =
               hops = all.1.0;
               passwords = λ is. absurd (other is);
               realm_is = rest.0;
-              size = rest.1.0;
+              asks = rest.1.0;
+              accounting = λ _. rest.1.1.0;
+              size = rest.1.1.1.0;
             },
           )
           ),
@@ -302,7 +400,7 @@ acct_admitted config a i p job code =
             well_sealed = r.well_sealed;
             needed_seal = r.needed_seal;
           } in
-          whole.1 (front, (r.hops, (r.realm_is, (r.size, h.0))))
+          whole.1 (front, (r.hops, (r.realm_is, (r.asks, (r.accounting code, (r.size, h.0))))))
           ),
     )
 
@@ -310,6 +408,11 @@ acct_admitted config a i p job code =
 pub reverse_other : (realm i code : ℕ) → IsRequestAt (place.Reverse realm) (side.Home i) code → code ≢ ACCESS_REQUEST
 reverse_other realm i code (inl one) = λ is. absurd (omega (arith, one, is))
 reverse_other realm i code (inr one) = λ is. absurd (omega (arith, one, is))
+
+not_accounting : (realm i code : ℕ) → IsRequestAt (place.Reverse realm) (side.Home i) code
+    → code ≢ ACCOUNTING_REQUEST
+not_accounting realm i code (inl one) = λ is. absurd (omega (arith, one, is))
+not_accounting realm i code (inr one) = λ is. absurd (omega (arith, one, is))
 
 reverse_admitted : (config : ConfigView) (a : Arrival) (own i : ℕ) (p : Packet) (job : PlainJob)
     → IsRequestAt (place.Reverse own) (side.Home i) p.code
@@ -339,6 +442,8 @@ reverse_admitted config a own i p job code =
               hops = all.1.0;
               passwords = λ is. absurd (other is);
               realm_is = rest.1.0;
+              asks = tt;
+              accounting = λ is. absurd (not_accounting own i p.code code is);
               size = rest.0;
             },
           )
@@ -429,7 +534,8 @@ status_never config a (side.Peer i) p job h =
           let k : rest ≡ admitted job = rw is at h in
           elim (cases_Bool (has_seal p)) [
             | inl has ↦ absurd (let j : answer ≡ admitted job = rw has at k in cc j)
-            | inr hasnt ↦ absurd (let j : refused refusal.MissingMessageAuthenticator ≡ admitted job = rw hasnt at k in cc j)
+            | inr hasnt ↦ absurd (let j : refused refusal.MissingMessageAuthenticator ≡ admitted job =
+                rw hasnt at k in cc j)
           ]
       | inr isnt ↦ absurd (let k : refused refusal.BadMessageAuthenticator ≡ admitted job = rw isnt at h in cc k)
     ]
@@ -440,7 +546,8 @@ packet_given : (config : ConfigView) (a : Arrival) (s : Side) (p : Packet) (job 
     → (is_taken a.at s p.code ≡ true) × (packet_admission config a s p a.at ≡ admitted job)
 packet_given config a s p job h =
     elim (cases_Bool (is_status_request config a.at s p.code)) [
-      | inl is ↦ absurd (let k : status_from config a s p ≡ admitted job = rw is at h in status_never config a s p job k)
+      | inl is ↦ absurd (let k : status_from config a s p ≡ admitted job = rw is at h in
+          status_never config a s p job k)
       | inr isnt ↦ elim (cases_Bool (is_taken a.at s p.code)) [
         | inl is ↦ (let k : packet_admission config a s p a.at ≡ admitted job = rw (isnt, is) at h in (is, k))
         | inr wrong ↦ absurd (let k : refused refusal.WrongCode ≡ admitted job = rw (isnt, wrong) at h in cc k)

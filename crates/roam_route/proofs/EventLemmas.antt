@@ -18,13 +18,15 @@ use Rattle.roam_auth.specs.MessageAuthenticator.{HasAtMostOneMessageAuthenticato
 use Rattle.roam_auth.proofs.DecidingLemmas.{well_sealed_decided}
 use Rattle.roam_conf.specs.Config.{ConfigView}
 use Rattle.roam_conf.specs.Lookup.{peer_with_ip}
+use Rattle.roam_conf.specs.declared.accounting.Accounting.{Accounting}
+use Rattle.roam_conf.specs.declared.accounting.Accounting.TheVariants.{Forwarded, Answered, Dropped}
 use Rattle.roam_conf.specs.declared.place.Place.{Place}
 use Rattle.roam_conf.specs.declared.place.Place.TheVariants as place
 use Rattle.roam_fwd.specs.Forwarded.{CanBeForwarded, HasPasswordBlocks, forwarded_length}
 use Rattle.roam_route.specs.UserName.{realm_of}
-use Rattle.roam_route.specs.LocalAnswer.{answer_length, local_reject, status_answer}
-use Rattle.roam_route.specs.LocalReject.{is_rejected}
-use Rattle.roam_route.specs.Admission.{Arrival, PlainJob, PlainOut, Admission, refused, rejected, admitted, sender, checked, job_of, forwarded_for, answered_by, rejected_for, for_named_realm, route_request, request_admission, packet_admission, sent_admission, read_admission, admission, is_taken, is_rightly_signed, is_rightly_sealed, has_needed_seal, has_few_hops, has_seal, is_status_request, status_admission, status_from, seal_required, peer_secret, home_secret}
+use Rattle.roam_route.specs.LocalAnswer.{accounting_answer, answer_length, local_reject, status_answer}
+use Rattle.roam_route.specs.LocalReject.{is_rejected, takes_of}
+use Rattle.roam_route.specs.Admission.{Arrival, PlainJob, PlainOut, Admission, refused, rejected, admitted, sender, checked, accounted, accounting_in, by_accounting, is_answered_unnamed, job_of, forwarded_for, answered_by, rejected_for, for_named_realm, route_request, request_admission, packet_admission, sent_admission, read_admission, admission, is_taken, is_rightly_signed, is_rightly_sealed, has_needed_seal, has_few_hops, has_seal, is_status_request, status_admission, status_from, seal_required, peer_secret, home_secret}
 use Rattle.roam_route.specs.Events.{arrival_of, IsEvent, IsPrepared, IsConfigured, IsForwardable, IsNamed, EventHasRealm, EventIsSound}
 use Rattle.roam_route.specs.Shown.{IsAdmission, shown_job}
 use Rattle.roam_route.specs.declared.job.Prepared.{Prepared}
@@ -151,8 +153,37 @@ reject_admits config secret a p =
     checked_admits config a p (nat_le (answer_length p) 4096) refusal.TooLong (rejected out)
     (λ _. rejected_admits config a p out)
 
+-- an answer of the broker itself
+answer_admits : (config : ConfigView) (secret : List ℕ) (a : Arrival) (p : Packet)
+    → Admits config a p (answered_by a (accounting_answer secret p))
+answer_admits config secret a p =
+    let bytes : List ℕ = packet_text (accounting_answer secret p) in
+    rejected_admits config a p (record { realm = None; from = a.at; to = a.from; bytes = bytes })
+
+-- an Accounting-Request, by what becomes of the realm's accounting
+accounting_admits : (config : ConfigView) (secret : List ℕ) (a : Arrival) (i : ℕ) (p : Packet) (realm : ℕ)
+    (way : Accounting) → IsFor config a (side.Peer i) p realm → IsSealable p
+    → IsNamed config (side.Peer i) p (Some realm)
+    → Admits config a p (by_accounting way secret a (side.Peer i) p realm)
+accounting_admits config secret a i p realm Forwarded h sealable named_so =
+    forwarded_admits config a (side.Peer i) p realm (Some realm) h sealable named_so
+accounting_admits config secret a i p realm Answered h sealable named_so = answer_admits config secret a p
+accounting_admits config secret a i p realm Dropped h sealable named_so =
+    refused_admits config a p refusal.AccountingDropped
+
+accounted_admits : (config : ConfigView) (secret : List ℕ) (a : Arrival) (i : ℕ) (p : Packet) (realm : Option ℕ)
+    → realm ≡ realm_of config p.attributes
+    → ((x : ℕ) → realm ≡ Some x → IsFor config a (side.Peer i) p x) → IsSealable p
+    → Admits config a p (accounted config secret a (side.Peer i) p realm)
+accounted_admits config secret a i p None is h sealable = refused_admits config a p refusal.NoRealm
+accounted_admits config secret a i p (Some realm) is h sealable =
+    let way : Accounting = accounting_in config realm in
+    checked_admits config a p (takes_of config realm (side.Peer i)) refusal.NotForPeer
+    (by_accounting way secret a (side.Peer i) p realm)
+    (λ _. accounting_admits config secret a i p realm way (h realm refl) sealable is)
+
 -- what is well sealed has at most one Message-Authenticator
-sealed_once : (secret : List ℕ) (p : Packet) → is_rightly_sealed secret p ≡ true
+pub sealed_once : (secret : List ℕ) (p : Packet) → is_rightly_sealed secret p ≡ true
     → HasAtMostOneMessageAuthenticator p
 sealed_once secret p h =
     let own : List ℕ = if p.code == ACCESS_REQUEST then p.authenticator else zero_octets in
@@ -164,7 +195,7 @@ request_admits : (config : ConfigView) (secret : List ℕ) (a : Arrival) (s : Si
     → (HasAtMostOneMessageAuthenticator p → Admits config a p (route_request config secret a s p a.at))
     → Admits config a p (request_admission config secret a s p)
 request_admits config secret a s p h =
-    let has_needed : Bool = has_needed_seal (seal_required config s) p in
+    let has_needed : Bool = has_needed_seal (seal_required config s p) p in
     let few : Bool = has_few_hops config.max_hops p in
     let last : Admission = route_request config secret a s p a.at in
     let fourth : Admission = checked few refusal.TooManyHops last in
@@ -196,17 +227,21 @@ peer_admits : (config : ConfigView) (secret : List ℕ) (a : Arrival) (i : ℕ) 
 unfolding IsFromPeer
 peer_admits config secret a i p place.Auth test h seal =
     let named_one : Admission = for_named_realm a (side.Peer i) p (realm_of config p.attributes) in
-    either_admits config a p (is_rejected config p) (rejected_for secret a p) named_one
+    either_admits config a p (is_rejected config (side.Peer i) p) (rejected_for secret a p) named_one
     (reject_admits config secret a p)
     (λ passes. own_realm_admits config a i p h (record {
       seal = seal;
-      passwords = λ _. unrejected_blocks config p passes;
+      passwords = λ _. unrejected_blocks config (side.Peer i) p passes;
     }))
 peer_admits config secret a i p place.Acct test h seal =
-    own_realm_admits config a i p h (record {
+    let named : Option ℕ = realm_of config p.attributes in
+    either_admits config a p (is_answered_unnamed config p) (answered_by a (accounting_answer secret p))
+    (accounted config secret a (side.Peer i) p named) (answer_admits config secret a p)
+    (λ _. accounted_admits config secret a i p named refl (λ x is. h x (realm_of_within config p.attributes x is))
+    (record {
       seal = seal;
       passwords = λ access. absurd (code_at_acct (side.Peer i) p.code test access);
-    })
+    }))
 peer_admits config secret a i p (place.Out realm) test h seal = absurd (cc test)
 peer_admits config secret a i p (place.Reverse realm) test h seal = absurd (cc test)
 

@@ -11,3 +11,4 @@ pub mod RefusedArrivalLemmas
 pub mod RefusedLemmas
 pub mod RequestTestLemmas
 pub mod SenderLemmas
+pub mod AccountingLemmas

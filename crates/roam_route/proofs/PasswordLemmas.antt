@@ -12,8 +12,8 @@ use Rattle.roam_wire.specs.declared.attribute_type.TheConstants.{USER_PASSWORD}
 use Rattle.roam_hide.specs.Hiding.{HasWholeBlocks, password_fits}
 use Rattle.roam_conf.specs.Config.{ConfigView}
 use Rattle.roam_fwd.specs.Forwarded.{HasPasswordBlocks}
-use Rattle.roam_route.specs.UserName.{realm_of}
-use Rattle.roam_route.specs.LocalReject.{has_bad_password, has_too_many_hops, is_rejected}
+use Rattle.roam_route.specs.declared.job.Side.{Side}
+use Rattle.roam_route.specs.LocalReject.{asked_realm, has_bad_password, has_too_many_hops, is_rejected}
 
 -- a password of a size that fits has whole blocks
 fitting : (value : List ℕ) → password_fits value ≡ true → HasWholeBlocks value
@@ -99,11 +99,11 @@ either_false true b h = absurd (cc h)
 either_false false b h = (refl, h)
 
 -- so an Access-Request that isn't rejected has no other passwords
-pub unrejected_blocks : (config : ConfigView) (p : Packet) → is_rejected config p ≡ false
+pub unrejected_blocks : (config : ConfigView) (s : Side) (p : Packet) → is_rejected config s p ≡ false
     → AllByRecursion HasPasswordBlocks p.attributes
-unrejected_blocks config p passes =
+unrejected_blocks config s p passes =
     let all = either_false _ (has_too_many_hops config.max_hops p) passes in
-    let names_none : Bool = not (is_some (realm_of config p.attributes)) in
+    let names_none : Bool = not (is_some (asked_realm config s p.attributes)) in
     let bad = either_false names_none (has_bad_password p) all.0 in
     let parts = either_false _ _ bad.1 in
     let more = either_false _ _ parts.0 in

@@ -1,5 +1,5 @@
 -- A request is refused for the first part that fails.
-use Rattle.std.proofs.Common.{◌≡◌, ◌≢◌, ◌↔◌, ◌≤◌, ℕ, Bool, List, [], ◌∷◌, Option, Some, None, IsSome, inl, inr, refl, sym, ap, subst, ◌∙◌, arith}
+use Rattle.std.proofs.Common.{◌≡◌, ◌≢◌, ◌↔◌, ◌≤◌, ℕ, Bool, List, [], ◌∷◌, Option, Some, None, IsSome, IsTrue, inl, inr, refl, sym, ap, subst, ◌∙◌, arith}
 use Rattle.std.specs.Prelude.{nat_le}
 use Rattle.std.proofs.lemmas.Bool.{cases_Bool}
 use Rattle.roam_wire.specs.Packet.{Packet}
@@ -9,19 +9,21 @@ use Rattle.roam_wire.specs.declared.refusal.Refusal.TheVariants as refusal
 use Rattle.roam_wire.specs.declared.packet_size.TheConstants.{MAX_PACKET_LENGTH}
 use Rattle.roam_auth.specs.MessageAuthenticator.{IsWellSealed}
 use Rattle.roam_conf.specs.Config.{ConfigView}
+use Rattle.roam_conf.specs.declared.accounting.Accounting.{Accounting}
+use Rattle.roam_conf.specs.declared.accounting.Accounting.TheVariants.{Forwarded, Answered, Dropped}
 use Rattle.roam_conf.specs.declared.place.Link.{Link}
 use Rattle.roam_conf.specs.declared.place.Place.{Place}
 use Rattle.roam_conf.specs.declared.place.Place.TheVariants as place
 use Rattle.roam_fwd.specs.Forwarded.{forwarded_length}
 use Rattle.roam_route.specs.UserName.{realm_of}
 use Rattle.roam_route.specs.LocalAnswer.{answer_length, local_reject}
-use Rattle.roam_route.specs.LocalReject.{is_rejected}
-use Rattle.roam_route.specs.Admission.{Arrival, Admission, refused, checked, job_of, forwarded_for, answered_by, rejected_for, for_named_realm, route_request, request_admission, packet_admission, sent_admission, admission, is_rightly_signed, is_rightly_sealed, has_needed_seal, has_few_hops, seal_required, peer_secret, home_secret}
-use Rattle.roam_route.specs.AdmittedRequests.{IsRequestAt, IsRightlySigned, sealing_authenticator, HasNeededSeal, FailsFirst, NothingFails, IsPassedOn, FailsToGo, FailsFor, RefusedFailsFirst}
+use Rattle.roam_route.specs.LocalReject.{is_rejected, takes_of}
+use Rattle.roam_route.specs.Admission.{Arrival, Admission, refused, checked, accounted, accounting_in, by_accounting, is_answered_unnamed, job_of, forwarded_for, answered_by, rejected_for, for_named_realm, route_request, request_admission, packet_admission, sent_admission, admission, is_rightly_signed, is_rightly_sealed, has_needed_seal, has_few_hops, seal_required, peer_secret, home_secret}
+use Rattle.roam_route.specs.AdmittedRequests.{IsRequestAt, IsRightlySigned, sealing_authenticator, HasNeededSeal, FailsFirst, NothingFails, IsPassedOn, FailsToAccount, FailsInRealm, FailsNamed, FailsToGo, FailsFor, RefusedFailsFirst}
 use Rattle.roam_route.specs.declared.job.Side.{Side}
 use Rattle.roam_route.specs.declared.job.Side.TheVariants as side
 use Rattle.roam_route.proofs.RequestTestLemmas.{signed_decided, sealed_decided, needed_decided, size_by, passed_decided}
-use Rattle.roam_route.proofs.AdmittedLemmas.{fails, Fits, other_hops, access_hops, front_checked, reverse_other, judged_is, as_sent}
+use Rattle.roam_route.proofs.AdmittedLemmas.{asked_named, fails, Fits, other_hops, access_hops, front_checked, reverse_other, judged_is, as_sent}
 
 -- ---- what is refused
 
@@ -32,25 +34,44 @@ size_fails a s p realm named why =
     fails NothingFails (nat_le (forwarded_length p) MAX_PACKET_LENGTH) refusal.TooLong
     (job_of a s p realm named) why (size_by (forwarded_length p)) (λ h. absurd (cc h), λ h. absurd h)
 
--- the realm, then the size
-realm_fails : (a : Arrival) (s : Side) (p : Packet) (o : Option ℕ) (why : Refusal)
-    → (for_named_realm a s p o ≡ refused why)
-    ↔ FailsFirst (IsSome o) refusal.NoRealm (FailsFirst (Fits p) refusal.TooLong NothingFails) why
-realm_fails a s p None why = (
-  λ h. inl (λ there. absurd (cc there), (let same : refusal.NoRealm ≡ why = cc h in sym same)),
-  λ h. elim h [
-    | inl failing ↦ ap refused (sym failing.1)
-    | inr holding ↦ absurd (cc holding.0)
-  ],
+-- what becomes of the realm's accounting
+accounting_fails : (way : Accounting) (secret : List ℕ) (a : Arrival) (s : Side) (p : Packet) (realm : ℕ)
+    (why : Refusal) → (by_accounting way secret a s p realm ≡ refused why) ↔ FailsToAccount way p why
+accounting_fails Forwarded secret a s p realm why = size_fails a s p realm (Some realm) why
+accounting_fails Answered secret a s p realm why = (λ h. absurd (cc h), λ h. absurd h)
+accounting_fails Dropped secret a s p realm why = (
+  λ h. (let same : refusal.AccountingDropped ≡ why = cc h in sym same),
+  λ h. ap refused (sym h),
 )
-realm_fails a s p (Some realm) why =
-    let size = size_fails a s p realm (Some realm) why in (
-      λ h. inr (refl, size.0 h),
-      λ h. elim h [
-        | inl failing ↦ absurd (failing.0 refl)
-        | inr holding ↦ size.1 holding.1
-      ],
-    )
+
+-- the realm, whether it may be asked, then that
+accounted_fails : (config : ConfigView) (secret : List ℕ) (a : Arrival) (s : Side) (p : Packet) (o : Option ℕ)
+    (why : Refusal) → (accounted config secret a s p o ≡ refused why) ↔ FailsInRealm config s p o why
+accounted_fails config secret a s p None why = (
+  λ h. (let same : refusal.NoRealm ≡ why = cc h in sym same),
+  λ h. ap refused (sym h),
+)
+accounted_fails config secret a s p (Some realm) why =
+    let way : Accounting = accounting_in config realm in
+    let itself : IsTrue (takes_of config realm s) ↔ IsTrue (takes_of config realm s) = (λ h. h, λ h. h) in
+    fails (FailsToAccount way p) (takes_of config realm s) refusal.NotForPeer (by_accounting way secret a s p realm)
+    why itself (accounting_fails way secret a s p realm why)
+
+-- an Accounting-Request that is answered since it has no name isn't refused
+acct_fails : (config : ConfigView) (secret : List ℕ) (a : Arrival) (s : Side) (p : Packet) (why : Refusal)
+    → (route_request config secret a s p place.Acct ≡ refused why) ↔ FailsNamed config s p why
+acct_fails config secret a s p why =
+    let further = accounted_fails config secret a s p (realm_of config p.attributes) why in
+    elim (cases_Bool (is_answered_unnamed config p)) [
+      | inl unnamed ↦ rw unnamed (
+        λ h. absurd (cc h),
+        λ h. absurd (cc (sym unnamed ∙ h.unanswered)),
+      )
+      | inr named ↦ rw named (
+        λ h. record { unanswered = named; fails = further.0 h },
+        λ h. further.1 h.fails,
+      )
+    ]
 
 -- where one is named, the size alone
 named_fails : (a : Arrival) (s : Side) (p : Packet) (o : Option ℕ) (why : Refusal) → IsSome o
@@ -68,13 +89,13 @@ answer_fails secret a p why =
 
 -- an Access-Request
 access_fails : (config : ConfigView) (secret : List ℕ) (a : Arrival) (s : Side) (p : Packet) (why : Refusal)
-    → (route_request config secret a s p place.Auth ≡ refused why) ↔ FailsToGo config p place.Auth why
+    → (route_request config secret a s p place.Auth ≡ refused why) ↔ FailsToGo config s p place.Auth why
 access_fails config secret a s p why =
-    let passed = passed_decided config p in
-    elim (cases_Bool (is_rejected config p)) [
+    let passed = passed_decided config s p in
+    elim (cases_Bool (is_rejected config s p)) [
       | inl rejects ↦ (
           let size = answer_fails secret a p why in
-          let never : IsPassedOn config p → ⊥ = λ h. absurd (cc (sym rejects ∙ passed.1 h)) in
+          let never : IsPassedOn config s p → ⊥ = λ h. absurd (cc (sym rejects ∙ passed.1 h)) in
           rw rejects (
             λ h. inr (never, size.0 h),
             λ h. elim h [
@@ -84,8 +105,9 @@ access_fails config secret a s p why =
           )
           )
       | inr passes ↦ (
-          let on : IsPassedOn config p = passed.0 passes in
-          let size = named_fails a s p (realm_of config p.attributes) why on.names in
+          let on : IsPassedOn config s p = passed.0 passes in
+          let named = asked_named config s (realm_of config p.attributes) on.names in
+          let size = named_fails a s p (realm_of config p.attributes) why named in
           rw passes (
             λ h. inl (on, size.0 h),
             λ h. elim h [
@@ -102,18 +124,18 @@ front_fails : (F : Refusal → Type 0) (config : ConfigView) (secret : List ℕ)
     → (front_checked config secret s p further ≡ refused why)
     ↔ FailsFirst (IsRightlySigned secret p) refusal.BadAuthenticator
     (FailsFirst (IsWellSealed secret (sealing_authenticator p ∷ []) p) refusal.BadMessageAuthenticator
-    (FailsFirst (HasNeededSeal (seal_required config s) p) refusal.MissingMessageAuthenticator F)) why
+    (FailsFirst (HasNeededSeal (seal_required config s p) p) refusal.MissingMessageAuthenticator F)) why
 front_fails F config secret s p further why f =
-    let needed : Bool = has_needed_seal (seal_required config s) p in
+    let needed : Bool = has_needed_seal (seal_required config s p) p in
     let third = fails F needed refusal.MissingMessageAuthenticator further why
-    (needed_decided (seal_required config s) p) f in
+    (needed_decided (seal_required config s p) p) f in
     let second = fails
-    (FailsFirst (HasNeededSeal (seal_required config s) p) refusal.MissingMessageAuthenticator F)
+    (FailsFirst (HasNeededSeal (seal_required config s p) p) refusal.MissingMessageAuthenticator F)
     (is_rightly_sealed secret p) refusal.BadMessageAuthenticator
     (checked needed refusal.MissingMessageAuthenticator further) why (sealed_decided secret p) third in
     fails
     (FailsFirst (IsWellSealed secret (sealing_authenticator p ∷ []) p) refusal.BadMessageAuthenticator
-    (FailsFirst (HasNeededSeal (seal_required config s) p) refusal.MissingMessageAuthenticator F))
+    (FailsFirst (HasNeededSeal (seal_required config s p) p) refusal.MissingMessageAuthenticator F))
     (is_rightly_signed secret p) refusal.BadAuthenticator
     (checked (is_rightly_sealed secret p) refusal.BadMessageAuthenticator
     (checked needed refusal.MissingMessageAuthenticator further)) why (signed_decided secret p) second
@@ -123,17 +145,14 @@ goes_fails : (config : ConfigView) (secret : List ℕ) (a : Arrival) (s : Side) 
     (why : Refusal) → IsRequestAt at s p.code
     → (checked (has_few_hops config.max_hops p) refusal.TooManyHops (route_request config secret a s p at)
     ≡ refused why)
-    ↔ FailsToGo config p at why
+    ↔ FailsToGo config s p at why
 goes_fails config secret a (side.Peer i) p place.Auth why code =
     rw (access_hops config.max_hops p code) (access_fails config secret a (side.Peer i) p why)
 goes_fails config secret a (side.Peer i) p place.Acct why code =
     let other : p.code ≢ ACCESS_REQUEST = λ is. absurd (omega (arith, is, code)) in
-    fails
-    (FailsFirst (IsSome (realm_of config p.attributes)) refusal.NoRealm
-    (FailsFirst (Fits p) refusal.TooLong NothingFails))
-    (has_few_hops config.max_hops p) refusal.TooManyHops
-    (for_named_realm a (side.Peer i) p (realm_of config p.attributes)) why
-    (other_hops config.max_hops p other) (realm_fails a (side.Peer i) p (realm_of config p.attributes) why)
+    fails (FailsNamed config (side.Peer i) p) (has_few_hops config.max_hops p) refusal.TooManyHops
+    (route_request config secret a (side.Peer i) p place.Acct) why
+    (other_hops config.max_hops p other) (acct_fails config secret a (side.Peer i) p why)
 goes_fails config secret a (side.Home i) p (place.Reverse k) why code =
     fails (FailsFirst (Fits p) refusal.TooLong NothingFails)
     (has_few_hops config.max_hops p) refusal.TooManyHops
@@ -156,14 +175,14 @@ request_fails : (config : ConfigView) (secret : List ℕ) (a : Arrival) (s : Sid
     → (request_admission config secret a s p ≡ refused why)
     ↔ FailsFirst (IsRightlySigned secret p) refusal.BadAuthenticator
     (FailsFirst (IsWellSealed secret (sealing_authenticator p ∷ []) p) refusal.BadMessageAuthenticator
-    (FailsFirst (HasNeededSeal (seal_required config s) p) refusal.MissingMessageAuthenticator
-    (FailsToGo config p at))) why
+    (FailsFirst (HasNeededSeal (seal_required config s p) p) refusal.MissingMessageAuthenticator
+    (FailsToGo config s p at))) why
 request_fails config secret a s p at why is code =
     let goes = subst (λ (x : Place).
     (checked (has_few_hops config.max_hops p) refusal.TooManyHops (route_request config secret a s p x)
     ≡ refused why)
-    ↔ FailsToGo config p at why) (sym is) (goes_fails config secret a s p at why code) in
-    front_fails (FailsToGo config p at) config secret s p
+    ↔ FailsToGo config s p at why) (sym is) (goes_fails config secret a s p at why code) in
+    front_fails (FailsToGo config s p at) config secret s p
     (checked (has_few_hops config.max_hops p) refusal.TooManyHops (route_request config secret a s p a.at))
     why goes
 

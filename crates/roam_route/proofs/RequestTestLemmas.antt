@@ -14,10 +14,10 @@ use Rattle.roam_auth.specs.MessageAuthenticator.{IsWellSealed}
 use Rattle.roam_auth.proofs.DecidingLemmas.{signed_request_decided, well_sealed_decided}
 use Rattle.roam_hide.specs.Hiding.{IsPasswordSize, password_fits}
 use Rattle.roam_conf.specs.Config.{ConfigView}
-use Rattle.roam_route.specs.UserName.{realm_of}
-use Rattle.roam_route.specs.LocalReject.{has_bad_password, has_too_many_hops, is_rejected}
+use Rattle.roam_route.specs.LocalReject.{asked_realm, has_bad_password, has_too_many_hops, is_rejected}
 use Rattle.roam_route.specs.Admission.{is_rightly_signed, is_rightly_sealed, has_needed_seal}
 use Rattle.roam_route.specs.AdmittedRequests.{IsRightlySigned, sealing_authenticator, HasNeededSeal, HasFewHops, HasGoodPasswords, IsPassedOn}
+use Rattle.roam_route.specs.declared.job.Side.{Side}
 
 -- ---- the tests
 
@@ -145,15 +145,18 @@ none_of true false true = (λ h. absurd (cc h), λ h. absurd (cc h.1.1))
 none_of true true many = (λ h. absurd (cc h), λ h. absurd (cc h.1.0))
 none_of false bad many = (λ h. absurd (cc h), λ h. absurd (cc h.0))
 
-pub passed_decided : (config : ConfigView) (p : Packet)
-    → (is_rejected config p ≡ false) ↔ IsPassedOn config p
-passed_decided config p =
-    let named = realm_of config p.attributes in
+pub passed_decided : (config : ConfigView) (s : Side) (p : Packet)
+    → (is_rejected config s p ≡ false) ↔ IsPassedOn config s p
+passed_decided config s p =
+    let named = asked_realm config s p.attributes in
     let all = none_of (is_some named) (has_bad_password p) (has_too_many_hops config.max_hops p) in (
       λ h. record {
         names = (some_by named).0 (all.0 h).0;
         passwords = (passwords_decided p).0 (all.0 h).1.0;
         hops = (hops_decided config.max_hops p).0 (all.0 h).1.1;
       },
-      λ h. all.1 ((some_by named).1 h.names, ((passwords_decided p).1 h.passwords, (hops_decided config.max_hops p).1 h.hops)),
+      λ h. all.1 (
+        (some_by named).1 h.names,
+        ((passwords_decided p).1 h.passwords, (hops_decided config.max_hops p).1 h.hops),
+      ),
     )

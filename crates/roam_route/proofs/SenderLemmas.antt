@@ -42,8 +42,8 @@ pub realm_of_within : (config : ConfigView) (attributes : List Attribute) (x : �
     → realm_of config attributes ≡ Some x → x < length config.realms
 realm_of_within config attributes x h =
     let part = option_and_then realm_part (first_value USER_NAME attributes) in
-    option_and_then_some (realm_named config.realms) part x h
-    (λ name found then. realm_named_within config.realms name x then)
+    option_and_then_some (realm_named config) part x h
+    (λ name found then. realm_named_within config name x then)
 
 -- what a look-up in a thing that may be there found, it found in that thing
 there : {X Y : Type 0} → (g : X → Option Y) (o : Option X) (y : Y) → option_and_then g o ≡ Some y

@@ -1,21 +1,23 @@
 -- What an arrival gives: a refusal, a local answer, or an event of a realm (RFC 2865 sections 2.3 and
 -- 3, RFC 2866, RFC 5176, RFC 5997; the order of the checks is ours).
-use Rattle.std.specs.Prelude.{ℕ, ◌==◌, ◌&&◌, ◌||◌, not, nat_lt, nat_le, Bool, false, List, [], ◌∷◌, Option, Some, None, option_map, slice_get, Result, Ok, Err, if◌then◌else◌}
+use Rattle.std.specs.Prelude.{ℕ, ◌==◌, ◌&&◌, ◌||◌, not, nat_lt, nat_le, Bool, false, List, [], ◌∷◌, Option, Some, None, option_map, is_some, slice_get, Result, Ok, Err, if◌then◌else◌}
 use Rattle.std.specs.Option.{option_map_or}
-use Rattle.roam_wire.specs.Packet.{Packet, packet_text}
-use Rattle.roam_wire.specs.Attributes.{count_of}
+use Rattle.roam_wire.specs.Packet.{Attribute, Packet, packet_text}
+use Rattle.roam_wire.specs.Attributes.{count_of, first_value}
 use Rattle.roam_wire.specs.Codes.{is_access_reply, is_reverse_request, is_reverse_reply}
 use Rattle.roam_wire.specs.Reading.{reading}
-use Rattle.roam_wire.specs.declared.attribute_type.TheConstants.{EAP_MESSAGE, MESSAGE_AUTHENTICATOR}
+use Rattle.roam_wire.specs.declared.attribute_type.TheConstants.{EAP_MESSAGE, MESSAGE_AUTHENTICATOR, PROXY_STATE, USER_NAME}
 use Rattle.roam_wire.specs.declared.code.TheConstants.{ACCESS_REQUEST, ACCOUNTING_REQUEST, ACCOUNTING_RESPONSE, STATUS_SERVER}
 use Rattle.roam_wire.specs.declared.refusal.Refusal.{Refusal}
 use Rattle.roam_wire.specs.declared.refusal.Refusal.TheVariants as refusal
 use Rattle.roam_wire.specs.declared.packet_size.TheConstants.{MAX_PACKET_LENGTH}
 use Rattle.roam_auth.specs.Authenticators.{zero_octets}
 use Rattle.roam_auth.specs.Deciding.{is_signed_request, is_well_sealed}
-use Rattle.roam_conf.specs.Config.{ConfigView}
+use Rattle.roam_conf.specs.Config.{ConfigView, PeerView}
 use Rattle.roam_conf.specs.Lookup.{peer_with_ip, link_in, home_in, servers_in}
 use Rattle.roam_conf.specs.Secrets as secrets
+use Rattle.roam_conf.specs.declared.accounting.Accounting.{Accounting}
+use Rattle.roam_conf.specs.declared.accounting.Accounting.TheVariants.{Forwarded, Answered, Dropped}
 use Rattle.roam_conf.specs.declared.endpoint.Endpoint.{Endpoint}
 use Rattle.roam_conf.specs.declared.place.Link.{Link}
 use Rattle.roam_conf.specs.declared.place.Link.TheVariants as link
@@ -23,8 +25,8 @@ use Rattle.roam_conf.specs.declared.place.Place.{Place}
 use Rattle.roam_conf.specs.declared.place.Place.TheVariants as place
 use Rattle.roam_fwd.specs.Forwarded.{forwarded_length}
 use Rattle.roam_route.specs.UserName.{realm_of}
-use Rattle.roam_route.specs.LocalAnswer.{answer_length, local_reject, status_answer}
-use Rattle.roam_route.specs.LocalReject.{has_too_many_hops, is_rejected}
+use Rattle.roam_route.specs.LocalAnswer.{accounting_answer, answer_length, local_reject, status_answer}
+use Rattle.roam_route.specs.LocalReject.{has_too_many_hops, is_rejected, takes_of}
 use Rattle.roam_route.specs.declared.job.Side.{Side}
 use Rattle.roam_route.specs.declared.job.Side.TheVariants as side
 
@@ -129,10 +131,16 @@ has_needed_seal required p =
     || nat_lt 0 (count_of MESSAGE_AUTHENTICATOR p.attributes)
     || (count_of EAP_MESSAGE p.attributes == 0 && not required)
 
--- whether a peer is required to seal its Access-Requests
-abbrev pub seal_required : ConfigView → Side → Bool
-seal_required config (side.Peer i) = option_map_or (λ p. p.require_seal) (slice_get config.peers i) false
-seal_required config _ = false
+-- whether a peer is to seal an Access-Request: each, or each that has a Proxy-State, which an attack on an unsealed
+-- one needs (CVE-2024-3596)
+abbrev pub wants_seal : PeerView → Packet → Bool
+wants_seal peer p =
+    peer.require_seal || (peer.limit_proxy_state && nat_lt 0 (count_of PROXY_STATE p.attributes))
+
+-- whether a sender is required to seal an Access-Request
+abbrev pub seal_required : ConfigView → Side → Packet → Bool
+seal_required config (side.Peer i) p = option_map_or (λ peer. wants_seal peer p) (slice_get config.peers i) false
+seal_required config _ p = false
 
 -- whether a request that is forwarded hasn't too many hops: an Access-Request that has is answered by a
 -- local reject (ours)
@@ -180,22 +188,49 @@ abbrev pub for_named_realm : Arrival → Side → Packet → Option ℕ → Admi
 for_named_realm a s p None = refused refusal.NoRealm
 for_named_realm a s p (Some realm) = forwarded_for a s p realm (Some realm)
 
+-- what becomes of a realm's accounting
+abbrev pub accounting_in : ConfigView → ℕ → Accounting
+accounting_in config realm = option_map_or (λ r. r.accounting) (slice_get config.realms realm) Forwarded
+
+-- an Accounting-Request of a realm, by what becomes of that
+abbrev pub by_accounting : Accounting → List ℕ → Arrival → Side → Packet → ℕ → Admission
+by_accounting Forwarded secret a s p realm = forwarded_for a s p realm (Some realm)
+by_accounting Answered secret a s p realm = answered_by a (accounting_answer secret p)
+by_accounting Dropped secret a s p realm = refused refusal.AccountingDropped
+
+-- an Accounting-Request that names its realm, or none: the realm has to take the sender's requests
+abbrev pub accounted : ConfigView → List ℕ → Arrival → Side → Packet → Option ℕ → Admission
+accounted config secret a s p None = refused refusal.NoRealm
+accounted config secret a s p (Some realm) =
+    checked (takes_of config realm s) refusal.NotForPeer
+    (by_accounting (accounting_in config realm) secret a s p realm)
+
+-- whether a request has no User-Name
+abbrev pub is_unnamed : List Attribute → Bool
+is_unnamed attributes = not (is_some (first_value USER_NAME attributes))
+
+-- whether an Accounting-Request is answered since it has none
+abbrev pub is_answered_unnamed : ConfigView → Packet → Bool
+is_answered_unnamed config p = config.answer_unnamed && is_unnamed p.attributes
+
 -- what a request that passed the checks of its signature and seal gives: to the realm of its place
 -- where it came from a home server; else to the realm that it names
 abbrev pub route_request : ConfigView → List ℕ → Arrival → Side → Packet → Place → Admission
 route_request config secret a s p (place.Reverse realm) =
     forwarded_for a s p realm (realm_of config p.attributes)
 route_request config secret a s p place.Auth =
-    if is_rejected config p then rejected_for secret a p
+    if is_rejected config s p then rejected_for secret a p
     else for_named_realm a s p (realm_of config p.attributes)
-route_request config secret a s p _ = for_named_realm a s p (realm_of config p.attributes)
+route_request config secret a s p _ =
+    if is_answered_unnamed config p then answered_by a (accounting_answer secret p)
+    else accounted config secret a s p (realm_of config p.attributes)
 
 -- what a request gives
 abbrev pub request_admission : ConfigView → List ℕ → Arrival → Side → Packet → Admission
 request_admission config secret a s p =
     checked (is_rightly_signed secret p) refusal.BadAuthenticator
     (checked (is_rightly_sealed secret p) refusal.BadMessageAuthenticator
-    (checked (has_needed_seal (seal_required config s) p) refusal.MissingMessageAuthenticator
+    (checked (has_needed_seal (seal_required config s p) p) refusal.MissingMessageAuthenticator
     (checked (has_few_hops config.max_hops p) refusal.TooManyHops
     (route_request config secret a s p a.at))))
 
@@ -246,10 +281,11 @@ read_admission config a (Err why) = refused why
 read_admission config a (Ok p) = sent_admission config a p (sender config a a.at)
 
 -- ## Admission
--- What one arrival gives: a refusal, the first of the refusals 1 to 8, 24, 9 and 10 whose cause holds; a local
--- answer: a local reject, for an Access-Request that has too many hops, names no realm or whose password can't
--- be carried, looked at between 8 and 9, or the answer to a Status-Server; or an event of a realm: a request
--- from a peer or a home server, or a reply from a link. It is one function of the configuration and the
+-- What one arrival gives: a refusal, the first of the refusals 1 to 8, 24, 9, 25, 26 and 10 whose cause holds; a local
+-- answer: a local reject, for an Access-Request that has too many hops, names no realm that takes its peer's requests
+-- or whose password can't be carried, looked at between 8 and 9, the answer to a Status-Server, or to an
+-- Accounting-Request that isn't forwarded; or an event of a realm: a request from a peer or a home server, or a
+-- reply from a link. It is one function of the configuration and the
 -- arrival: of no state, and of no time.
 -- Source: RFC 2865 sections 2.3 and 3, RFC 5176; order and causes ours
 -- Rules out: one realm's packets judged by another's secrets; an answer that depends on what came before

@@ -12,12 +12,16 @@ use Rattle.roam_wire.specs.declared.refusal.Refusal.TheVariants as refusal
 use Rattle.roam_auth.specs.Authenticators.{IsSignedRequest, zero_octets}
 use Rattle.roam_auth.specs.MessageAuthenticator.{IsWellSealed}
 use Rattle.roam_hide.specs.Hiding.{IsPasswordSize}
+use Rattle.roam_conf.specs.Asking.{takes_in}
 use Rattle.roam_conf.specs.Config.{ConfigView}
+use Rattle.roam_conf.specs.declared.accounting.Accounting.{Accounting}
+use Rattle.roam_conf.specs.declared.accounting.Accounting.TheVariants.{Forwarded, Answered, Dropped}
 use Rattle.roam_conf.specs.declared.place.Place.{Place}
 use Rattle.roam_conf.specs.declared.place.Place.TheVariants as place
 use Rattle.roam_fwd.specs.Forwarded.{Forwarding, forwarded, forwarded_length}
-use Rattle.roam_route.specs.Admission.{Arrival, PlainJob, admission, admitted, home_secret, is_status_request, peer_secret, refused, seal_required, sender}
+use Rattle.roam_route.specs.Admission.{Arrival, PlainJob, accounting_in, admission, admitted, home_secret, is_answered_unnamed, is_status_request, peer_secret, refused, seal_required, sender}
 use Rattle.roam_route.specs.LocalAnswer.{answer_length}
+use Rattle.roam_route.specs.LocalReject.{asked_realm, takes_of}
 use Rattle.roam_route.specs.UserName.{realm_of}
 use Rattle.roam_route.specs.declared.job.Side.{Side}
 use Rattle.roam_route.specs.declared.job.Side.TheVariants as side
@@ -74,6 +78,15 @@ abbrev pub IsForRealm : ConfigView → Place → Packet → ℕ → Type 0
 IsForRealm config (place.Reverse own) p realm = realm ≡ own
 IsForRealm config _ p realm = realm_of config p.attributes ≡ Some realm
 
+-- the realm takes the requests of the sender: of a peer where it may ask (ours); of a home server always
+abbrev pub MayAsk : ConfigView → Side → ℕ → Type 0
+MayAsk config (side.Peer i) realm = IsTrue (takes_in config realm i)
+MayAsk config s realm = Unit {0}
+
+-- the realm's accounting is forwarded (ours)
+abbrev pub IsForwarded : ConfigView → ℕ → Type 0
+IsForwarded config realm = accounting_in config realm ≡ Forwarded
+
 -- ## A right request
 -- A request that a realm is given, by the side that sent it, a peer or a home server of the realm. Its code
 -- belongs to its place and its sender: a peer's Access-Request where those are taken, its Accounting-Request
@@ -84,11 +97,13 @@ IsForRealm config _ p realm = realm_of config p.attributes ≡ Some realm
 -- peer is required to seal. Where there is a limit of hops, it has at most so many Proxy-States. An
 -- Access-Request's passwords can be carried: at most one User-Password, of 16 to 128 octets in whole blocks,
 -- and none beside a CHAP-Password. It is for a realm: a home server's for the realm of its place, a peer's for
--- the one that its User-Name names. Its forwarded packet has at most 4096 octets. An arrival gives a realm a
+-- the one that its User-Name names, which takes that peer's requests and, of an Accounting-Request, has its accounting
+-- forwarded. Its forwarded packet has at most 4096 octets. An arrival gives a realm a
 -- request just where it is one; what isn't is refused for the first of these parts that fails, in this order:
--- code, signature, Message-Authenticator, that there is one where it must be, hops, realm, size. (An
--- Access-Request that fails in its realm, passwords or hops is answered by a local reject, whose size is then
--- the last part.)
+-- code, signature, Message-Authenticator, that there is one where it must be, hops, realm, that it may be asked, its
+-- accounting, size. (An Access-Request that fails in its realm, passwords or hops is answered by a local reject, whose
+-- size is then the last part; an Accounting-Request without a name, or for a realm that has these answered, may be
+-- answered by the broker, and isn't refused then.)
 -- Source: RFC 2865 sections 3, 4.1, 5.2 and 5.33, RFC 2866 sections 3 and 4.1, RFC 3579 sections 3.1 and 3.2,
 -- RFC 5176 sections 2.3 and 3.4; the order, the limit of hops, the seal that is required and that a seal over
 -- zeros is wanted in accounting: ours
@@ -104,10 +119,12 @@ pub record IsRightRequest (config : ConfigView) (at : Place) (s : Side) (p : Pac
     pub signed : IsRightlySigned (shared_secret config at s) p
     pub well_sealed :
         IsWellSealed (shared_secret config at s) (sealing_authenticator p ∷ []) p
-    pub needed_seal : HasNeededSeal (seal_required config s) p
+    pub needed_seal : HasNeededSeal (seal_required config s p) p
     pub hops : HasFewHops config.max_hops p
     pub passwords : p.code ≡ ACCESS_REQUEST → HasGoodPasswords p
     pub realm_is : IsForRealm config at p realm
+    pub asks : MayAsk config s realm
+    pub accounting : p.code ≡ ACCOUNTING_REQUEST → IsForwarded config realm
     pub size : forwarded_length p ≤ MAX_PACKET_LENGTH
 
 -- a job is a packet's: from the place, the source and the sender of the arrival, with the packet's octets
@@ -141,27 +158,45 @@ FailsFirst part own further why = ((part → ⊥) × (why ≡ own)) ⊎ (part ×
 abbrev pub NothingFails : Refusal → Type 0
 NothingFails why = ⊥
 
--- an Access-Request that isn't answered by a local reject: it names a realm, its passwords can be
--- carried, and it has few hops (ours)
-pub record IsPassedOn (config : ConfigView) (p : Packet) : Type 0 where
-  pub names : IsSome (realm_of config p.attributes)
+-- an Access-Request that isn't answered by a local reject: it names a realm that takes the sender's requests, its
+-- passwords can be carried, and it has few hops (ours)
+pub record IsPassedOn (config : ConfigView) (s : Side) (p : Packet) : Type 0 where
+  pub names : IsSome (asked_realm config s p.attributes)
   pub passwords : HasGoodPasswords p
   pub hops : HasFewHops config.max_hops p
 
+-- why an Accounting-Request for a realm isn't forwarded, by what becomes of the realm's accounting: it is answered, and
+-- not refused; it is dropped; or it is too long
+abbrev pub FailsToAccount : Accounting → Packet → Refusal → Type 0
+FailsToAccount Forwarded p why = FailsFirst (forwarded_length p ≤ MAX_PACKET_LENGTH) refusal.TooLong NothingFails why
+FailsToAccount Answered p why = ⊥
+FailsToAccount Dropped p why = why ≡ refusal.AccountingDropped
+
+-- why an Accounting-Request isn't forwarded, by the realm that it names: there is none, it may not be asked, or the
+-- above
+abbrev pub FailsInRealm : ConfigView → Side → Packet → Option ℕ → Refusal → Type 0
+FailsInRealm config s p None why = why ≡ refusal.NoRealm
+FailsInRealm config s p (Some realm) why =
+    FailsFirst (IsTrue (takes_of config realm s)) refusal.NotForPeer
+    (FailsToAccount (accounting_in config realm) p) why
+
+-- the same of a request that isn't answered since it has no name
+pub record FailsNamed (config : ConfigView) (s : Side) (p : Packet) (why : Refusal) : Type 0 where
+  pub unanswered : is_answered_unnamed config p ≡ false
+  pub fails : FailsInRealm config s p (realm_of config p.attributes) why
+
 -- why a request isn't forwarded that is signed and sealed as it must be: its hops, its realm, its size,
 -- in this order. An Access-Request fails for the size alone, of its local reject where it gets one
-abbrev pub FailsToGo : ConfigView → Packet → Place → Refusal → Type 0
-FailsToGo config p place.Auth why =
-    (IsPassedOn config p × FailsFirst (forwarded_length p ≤ MAX_PACKET_LENGTH) refusal.TooLong NothingFails why)
-    ⊎ ((IsPassedOn config p → ⊥)
+abbrev pub FailsToGo : ConfigView → Side → Packet → Place → Refusal → Type 0
+FailsToGo config s p place.Auth why =
+    (IsPassedOn config s p × FailsFirst (forwarded_length p ≤ MAX_PACKET_LENGTH) refusal.TooLong NothingFails why)
+    ⊎ ((IsPassedOn config s p → ⊥)
     × FailsFirst (answer_length p ≤ MAX_PACKET_LENGTH) refusal.TooLong NothingFails why)
-FailsToGo config p (place.Reverse own) why =
+FailsToGo config s p (place.Reverse own) why =
     FailsFirst (HasFewHops config.max_hops p) refusal.TooManyHops
     (FailsFirst (forwarded_length p ≤ MAX_PACKET_LENGTH) refusal.TooLong NothingFails) why
-FailsToGo config p _ why =
-    FailsFirst (HasFewHops config.max_hops p) refusal.TooManyHops
-    (FailsFirst (IsSome (realm_of config p.attributes)) refusal.NoRealm
-    (FailsFirst (forwarded_length p ≤ MAX_PACKET_LENGTH) refusal.TooLong NothingFails)) why
+FailsToGo config s p _ why =
+    FailsFirst (HasFewHops config.max_hops p) refusal.TooManyHops (FailsNamed config s p) why
 
 -- why a request of a sender isn't admitted: the first part that fails, of its signature, its
 -- Message-Authenticator, that it has one where it must, and what is wanted to forward it (the order is ours)
@@ -170,8 +205,8 @@ FailsFor config at s p why =
     FailsFirst (IsRightlySigned (shared_secret config at s) p) refusal.BadAuthenticator
     (FailsFirst (IsWellSealed (shared_secret config at s) (sealing_authenticator p ∷ []) p)
     refusal.BadMessageAuthenticator
-    (FailsFirst (HasNeededSeal (seal_required config s) p) refusal.MissingMessageAuthenticator
-    (FailsToGo config p at))) why
+    (FailsFirst (HasNeededSeal (seal_required config s p) p) refusal.MissingMessageAuthenticator
+    (FailsToGo config s p at))) why
 
 -- a request is refused just for the first part that fails
 abbrev pub RefusedFailsFirst : Type 0

@@ -1,3 +1,4 @@
+pub mod AccountingLaws
 pub mod Admission
 pub mod AdmittedRequests
 pub mod Events

@@ -1,8 +1,8 @@
 -- The answers that the broker gives itself (RFC 2865 section 4.3, RFC 5997; when is ours).
-use Rattle.std.specs.Prelude.{ℕ, ◌+◌, List, ◌∷◌, length}
-use Rattle.roam_wire.specs.Packet.{Packet, attributes_text}
-use Rattle.roam_wire.specs.Attributes.{only_kind}
-use Rattle.roam_wire.specs.declared.attribute_type.TheConstants.{PROXY_STATE}
+use Rattle.std.specs.Prelude.{ℕ, ◌+◌, nat_lt, List, [], ◌∷◌, ◌++◌, length, if◌then◌else◌}
+use Rattle.roam_wire.specs.Packet.{Attribute, Packet, attributes_text}
+use Rattle.roam_wire.specs.Attributes.{count_of, only_kind}
+use Rattle.roam_wire.specs.declared.attribute_type.TheConstants.{MESSAGE_AUTHENTICATOR, PROXY_STATE}
 use Rattle.roam_wire.specs.declared.code.TheConstants.{ACCESS_ACCEPT, ACCESS_REJECT, ACCOUNTING_RESPONSE}
 use Rattle.roam_auth.specs.Authenticators.{signed_reply}
 use Rattle.roam_auth.specs.MessageAuthenticator.{empty_message_authenticator, with_message_authenticator}
@@ -63,3 +63,33 @@ status_code _ = ACCESS_ACCEPT
 --
 abbrev pub status_answer : Place → List ℕ → Packet → Packet
 status_answer at secret request = local_answer (status_code at) secret request
+
+-- the Message-Authenticator with which an Accounting-Request is answered: one where it has one (ours)
+abbrev pub answering_seal : Packet → List Attribute
+answering_seal request =
+    if nat_lt 0 (count_of MESSAGE_AUTHENTICATOR request.attributes) then empty_message_authenticator ∷ [] else []
+
+-- the answer before it is sealed and signed
+abbrev pub unsealed_accounting_answer : Packet → Packet
+unsealed_accounting_answer request = record {
+  code = ACCOUNTING_RESPONSE;
+  id = request.id;
+  authenticator = request.authenticator;
+  attributes = answering_seal request ++ only_kind PROXY_STATE request.attributes;
+}
+
+-- ## Local accounting answer
+-- An Accounting-Response with the request's Identifier, a Message-Authenticator first where the request has one, and
+-- the request's Proxy-States; sealed, where it has that, and signed for the peer over the request's Authenticator. It
+-- answers an Accounting-Request without a User-Name where `answer_unnamed` is set, as access servers send of their own
+-- start and stop; and one for a realm whose `accounting` is `"answer"`. No longer than the request. It carries no
+-- realm, and looks at no state and no time; no ledger changes by it.
+-- Source: RFC 2866 sections 4.2 and 5.1, RFC 2865 section 5.33; when it is sent is ours
+-- Rules out: an answer to a stranger; an answered request that reaches a realm's ledger
+-- Stands in: `roam_route` `LocalAnswer.antt`: `accounting_answer`; `Admission.antt`: `accounted`; `prepare`, the law
+-- `accounting_answers`
+--
+unfoldable pub accounting_answer : List ℕ → Packet → Packet
+accounting_answer secret request =
+    signed_reply secret request.authenticator
+    (with_message_authenticator secret request.authenticator (unsealed_accounting_answer request))

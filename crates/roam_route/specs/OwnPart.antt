@@ -1,8 +1,9 @@
 -- What an arrival gives to one realm. Ours.
 use Rattle.std.specs.Prelude.{◌≡◌, ℕ, ◌==◌, List, Option, Some, None, slice_get, if◌then◌else◌}
+use Rattle.roam_conf.specs.Asking.{takes_in}
 use Rattle.roam_conf.specs.Config.{ConfigView}
 use Rattle.roam_conf.specs.Lookup.{realm_named}
-use Rattle.roam_route.specs.Admission.{Arrival, PlainJob, PlainOut, Admission, refused, rejected, admitted, admission}
+use Rattle.roam_route.specs.Admission.{Arrival, PlainJob, PlainOut, Admission, accounting_in, refused, rejected, admitted, admission}
 
 -- what an admission gives to the realm of an index
 abbrev pub own : ℕ → Admission → Option PlainJob
@@ -14,7 +15,7 @@ own realm (admitted job) = if job.realm == realm then Some job else None
 -- same entry for a realm: its part of the configuration
 pub record HaveSamePart (one other : ConfigView) (realm : ℕ) : Type 0 where
   pub peers : one.peers ≡ other.peers
-  pub names : (name : List ℕ) → realm_named one.realms name ≡ realm_named other.realms name
+  pub names : (name : List ℕ) → realm_named one name ≡ realm_named other name
   pub max_hops : one.max_hops ≡ other.max_hops
   pub entry : slice_get one.realms realm ≡ slice_get other.realms realm
 
@@ -32,15 +33,19 @@ answered (rejected out) = Some out
 answered (admitted job) = None
 
 -- two configurations have the same peers, the same meaning of each name, the same limit of hops, and both have
--- Status-Servers answered, or neither: what the broker's own answers are made by
+-- Status-Servers answered, or neither, and unnamed accounting; of each realm the same peers may ask, and its accounting
+-- becomes the same: what the broker's own answers are made by
 pub record AnswerAlike (one other : ConfigView) : Type 0 where
   pub peers : one.peers ≡ other.peers
-  pub names : (name : List ℕ) → realm_named one.realms name ≡ realm_named other.realms name
+  pub names : (name : List ℕ) → realm_named one name ≡ realm_named other name
   pub max_hops : one.max_hops ≡ other.max_hops
   pub status_server : one.status_server ≡ other.status_server
+  pub answer_unnamed : one.answer_unnamed ≡ other.answer_unnamed
+  pub takes : (realm peer : ℕ) → takes_in one realm peer ≡ takes_in other realm peer
+  pub accounting : (realm : ℕ) → accounting_in one realm ≡ accounting_in other realm
 
--- which arrivals they answer themselves, and with which packets, is the same: no realm's sockets, servers,
--- secrets or limits are looked at
+-- which arrivals they answer themselves, and with which packets, is the same: no realm's sockets, secrets or limits
+-- are looked at, and of its servers only whether a peer is at the address of one
 abbrev pub OwnAnswersDecided : Type 0
 OwnAnswersDecided = (one other : ConfigView) (a : Arrival) → AnswerAlike one other →
     answered (admission one a) ≡ answered (admission other a)

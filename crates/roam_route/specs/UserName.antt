@@ -29,7 +29,7 @@ realm_part (octet ∷ octets) = part_after octet octets (realm_part octets)
 -- names and patterns of the configuration (ours)
 abbrev pub realm_of : ConfigView → List Attribute → Option ℕ
 realm_of config attributes =
-    option_and_then (realm_named config.realms)
+    option_and_then (realm_named config)
     (option_and_then realm_part (first_value USER_NAME attributes))
 
 -- the access server that a packet names: its first NAS-IP-Address, and its first NAS-Identifier (RFC

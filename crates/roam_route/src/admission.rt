@@ -3,132 +3,24 @@
 ghost use Rattle.std.specs.Prelude.{◌≡◌, ℕ, ◌<◌, Some, None, true, vec_len, IfOk, IsErrOf};
 ghost use Rattle.roam_wire.specs.Secret.{IsSecret};
 ghost use Rattle.roam_conf.specs.Shown.{shown};
-ghost use Rattle.roam_route.specs.Admission.{admission, forwarded_for, job_of, is_taken, for_named_realm};
-ghost use Rattle.roam_route.specs.Admission.{packet_admission};
-ghost use Rattle.roam_route.specs.Admission.{rejected_for, request_admission, route_request, sent_admission};
-ghost use Rattle.roam_route.specs.Admission.{status_admission};
-ghost use Rattle.roam_route.specs.Admission.{status_from};
+ghost use Rattle.roam_route.specs.Admission.{admission, is_taken, packet_admission, request_admission, sent_admission};
+ghost use Rattle.roam_route.specs.Admission.{status_admission, status_from};
 ghost use Rattle.roam_route.specs.Events.{IsPrepared};
 ghost use Rattle.roam_route.specs.Shown.{IsAdmission, IsHome, Prepares, WantsMemory, shown_arrival};
 
-use crate::answering::{reject, status_answer};
+use crate::answering::status_answer;
 use crate::checks::{
-    has_bad_password, has_few_hops, has_needed_seal, has_seal, has_too_many_hops,
-    is_rightly_sealed, is_rightly_signed, is_sealed_over,
+    has_few_hops, has_needed_seal, has_seal, is_rightly_sealed, is_rightly_signed, is_sealed_over,
 };
 use crate::datagram::{Datagram, Out};
-use crate::job::{Job, Prepared, Side};
+use crate::job::{Prepared, Side};
+use crate::routing::{SentPacket, job_of, route_request};
 use crate::source::{
     is_status_request, is_taken, seal_required, secret_of_home, secret_of_peer, sender,
 };
-use crate::user_name::realm_of;
 use roam_conf::{Config, Place};
-use roam_fwd::forwarded_len;
-use roam_wire::{MAX_PACKET_LENGTH, Octets, Refusal, View};
+use roam_wire::{Refusal, View};
 use std::alloc::Allocator;
-
-/// A packet whose sender is known, in the datagram that brought it.
-#[derive(Drop)]
-struct SentPacket<'a, A: Allocator> {
-    alloc: A,
-    datagram: &'a Datagram<A>,
-    side: Side,
-    view: View<'a>,
-}
-
-/// A packet that passed, as the event of a realm, with the realm that it names: its octets are copied,
-/// without padding.
-fn job_of<A: Allocator + Copy>(
-    packet: &SentPacket<'_, A>,
-    realm: u16,
-    names: Option<u16>,
-) -> Result<Prepared<A>, Refusal>
-    ensures { Prepares result (job_of (shown_arrival packet.now.datagram.now) packet.now.side
-        packet.now.view realm names) }
-{
-    let octets = Octets::copy_of(packet.alloc, packet.view.octets())?;
-    Ok(Prepared::Job(Job {
-        realm,
-        place: packet.datagram.at,
-        from: packet.datagram.from,
-        side: packet.side,
-        octets,
-        named: names,
-    }))
-}
-
-/// A request of a realm, where its forwarded packet has at most 4096 octets.
-fn forwarded_for<A: Allocator + Copy>(
-    packet: &SentPacket<'_, A>,
-    realm: u16,
-    names: Option<u16>,
-) -> Result<Prepared<A>, Refusal>
-    ensures { Prepares result (forwarded_for (shown_arrival packet.now.datagram.now)
-        packet.now.side packet.now.view realm names) }
-{
-    if forwarded_len(&packet.view) > MAX_PACKET_LENGTH {
-        return Err(Refusal::TooLong);
-    }
-    job_of(packet, realm, names)
-}
-
-/// A request of the realm that it names, if it names one.
-fn for_named_realm<A: Allocator + Copy>(
-    packet: &SentPacket<'_, A>,
-    realm: Option<u16>,
-) -> Result<Prepared<A>, Refusal>
-    ensures { Prepares result (for_named_realm (shown_arrival packet.now.datagram.now) packet.now.side
-        packet.now.view realm) }
-{
-    match realm {
-        None => Err(Refusal::NoRealm),
-        Some(index) => forwarded_for(packet, index, realm),
-    }
-}
-
-/// The local reject of an Access-Request, where it has at most 4096 octets.
-fn rejected_for<A: Allocator + Copy>(
-    packet: &SentPacket<'_, A>,
-    secret: &[u8],
-) -> Result<Prepared<A>, Refusal>
-    requires secret { IsSecret secret.now }
-    ensures { Prepares result (rejected_for secret.now (shown_arrival packet.now.datagram.now)
-        packet.now.view) }
-{
-    let bytes = reject(packet.alloc, &packet.view, secret)?;
-    Ok(Prepared::Reject(Out {
-        realm: None,
-        from: packet.datagram.at,
-        to: packet.datagram.from,
-        bytes,
-    }))
-}
-
-/// What a request gives that is rightly signed and sealed: it goes to the realm of its place where
-/// it came from a home server, else to the one that it names. An Access-Request that names none, whose
-/// passwords can't be carried, or that has too many hops is answered by a local reject.
-fn route_request<A: Allocator + Copy>(
-    config: &Config,
-    packet: &SentPacket<'_, A>,
-    secret: &[u8],
-) -> Result<Prepared<A>, Refusal>
-    requires secret { IsSecret secret.now }
-    ensures { Prepares result (route_request (shown config.now) secret.now
-        (shown_arrival packet.now.datagram.now) packet.now.side packet.now.view
-        packet.now.datagram.now.at) }
-{
-    let view = &packet.view;
-    let realm = realm_of(config, view);
-    if let Place::Reverse(own) = packet.datagram.at {
-        return forwarded_for(packet, own, realm);
-    }
-    if packet.datagram.at == Place::Auth
-        && (realm.is_none() || has_bad_password(view) || has_too_many_hops(view, config.max_hops))
-    {
-        return rejected_for(packet, secret);
-    }
-    for_named_realm(packet, realm)
-}
 
 /// What a request gives: its signature is looked at, then its seal, its hops, and where it goes.
 fn request<A: Allocator + Copy>(
@@ -148,7 +40,7 @@ fn request<A: Allocator + Copy>(
     if !is_rightly_sealed(view, secret) {
         return Err(Refusal::BadMessageAuthenticator);
     }
-    if !has_needed_seal(view, seal_required(config, packet.side)) {
+    if !has_needed_seal(view, seal_required(config, packet.side, view)) {
         return Err(Refusal::MissingMessageAuthenticator);
     }
     if !has_few_hops(view, config.max_hops) {
@@ -255,8 +147,9 @@ fn sent<A: Allocator + Copy>(
 
 /// What an arrival gives: the event of a realm, with the packet's octets, or a local answer, or the
 /// first of `Short` to `TooLong` whose cause holds, where `TooManyHops` stands between
-/// `MissingMessageAuthenticator` and `NoRealm`. `NoMemory` comes where a growth was refused, and nowhere
-/// else: memory is wanted only for what passes, and for an answer that is sent.
+/// `MissingMessageAuthenticator` and `NoRealm`, and `NotForPeer` and `AccountingDropped` behind that.
+/// `NoMemory` comes where a growth was refused, and nowhere else: memory is wanted only for what passes,
+/// and for an answer that is sent.
 #[tactic(auto, unfolding(crate::specs::Admission::admission))]
 pub fn prepare<A: Allocator + Copy>(
     alloc: A,

@@ -1,19 +1,25 @@
 //! The answers that the broker gives itself: the local reject (RFC 2865, section 4.3), and the answer to
 //! a Status-Server (RFC 5997, section 3).
 
-ghost use Rattle.std.specs.Prelude.{◌≡◌, ◌⊎◌, ◌↔◌, ◌<◌, IfOk, IfErr, IsErrOf};
-ghost use Rattle.roam_wire.specs.Packet.{IsPacket, packet_text};
+ghost use Rattle.std.specs.Prelude.{◌≡◌, ◌⊎◌, ◌↔◌, ◌+◌, ◌<◌, ◌≤◌, ◌++◌, length, vec_len, vec_capacity};
+ghost use Rattle.std.specs.Prelude.{IfOk, IfErr, IsErrOf};
+ghost use Rattle.roam_wire.specs.Packet.{IsPacket, attributes_text, packet_length, packet_text};
 ghost use Rattle.roam_wire.specs.Secret.{IsSecret};
-ghost use Rattle.roam_auth.specs.MessageAuthenticator.{HasOneMessageAuthenticator};
+ghost use Rattle.roam_auth.specs.MessageAuthenticator.{HasAtMostOneMessageAuthenticator, HasOneMessageAuthenticator};
+ghost use Rattle.roam_route.specs.LocalAnswer.{accounting_answer, answering_seal, unsealed_accounting_answer};
 ghost use Rattle.roam_route.specs.LocalAnswer.{answer_length, local_answer, local_reject, status_answer, status_code};
 ghost use Rattle.roam_route.specs.LocalAnswer.{unsealed_answer};
 
+use crate::checks::has_seal;
 use roam_auth::{ZERO_OCTETS, seal_and_sign};
 use roam_conf::Place;
 use roam_wire::attribute_type::{MESSAGE_AUTHENTICATOR, PROXY_STATE};
 use roam_wire::code::{ACCESS_ACCEPT, ACCESS_REJECT, ACCOUNTING_RESPONSE};
-use roam_wire::writing::proxy_states_len;
-use roam_wire::{MAX_PACKET_LENGTH, Octets, PacketBuf, Refusal, View};
+use roam_wire::writing::{
+    EMPTY_MESSAGE_AUTHENTICATOR, append_header, append_octets, append_proxy_states,
+    proxy_states_len,
+};
+use roam_wire::{MAX_PACKET_LENGTH, NoMemory, Octets, PacketBuf, Refusal, View};
 use std::alloc::Allocator;
 
 /// How many octets a local answer to a request has: the header, a Message-Authenticator, the request's
@@ -111,4 +117,74 @@ pub fn status_answer<A: Allocator>(
     ensures causes { IfErr result (λ e. e ≡ Refusal.NoMemory) }
 {
     answer(alloc, status_code(at), request, secret)
+}
+
+/// How many octets the Message-Authenticator takes with which an Accounting-Request is answered.
+fn answering_seal_len(request: &View<'_>) -> usize
+    ensures { result ≡ length (attributes_text (answering_seal request.now)) }
+{
+    if has_seal(request) {
+        EMPTY_MESSAGE_AUTHENTICATOR.len()
+    } else {
+        0
+    }
+}
+
+/// How many octets the answer to an Accounting-Request has that isn't forwarded.
+fn accounting_answer_len(request: &View<'_>) -> usize
+    requires sealed { HasAtMostOneMessageAuthenticator request.now }
+    ensures size { result ≡ packet_length (unsealed_accounting_answer request.now) }
+    ensures short { result ≤ 4096 }
+    ensures packet { IsPacket request.now }
+{
+    20 + answering_seal_len(request) + proxy_states_len(request)
+}
+
+/// Appends a Message-Authenticator that is still to be filled in, where the request has one.
+fn append_answering_seal<A: Allocator>(out: &mut Vec<u8, A>, request: &View<'_>)
+    requires { vec_len out.old + length (attributes_text (answering_seal request.now)) ≤ vec_capacity out.old }
+    ensures items { out.new.items ≡ out.old.items ++ attributes_text (answering_seal request.now) }
+    ensures capacity { vec_capacity out.new ≡ vec_capacity out.old }
+{
+    if has_seal(request) {
+        append_octets(out, &EMPTY_MESSAGE_AUTHENTICATOR);
+    }
+}
+
+/// The answer to an Accounting-Request before it is sealed and signed.
+fn unsealed_accounting<A: Allocator>(alloc: A, request: &View<'_>) -> Result<Vec<u8, A>, NoMemory>
+    requires sealed { HasAtMostOneMessageAuthenticator request.now }
+    ensures text { IfOk result (λ v. v.items ≡ packet_text (unsealed_accounting_answer request.now)) }
+    ensures packet { IsPacket (unsealed_accounting_answer request.now) }
+    ensures request { IsPacket request.now }
+{
+    let size = accounting_answer_len(request);
+    let mut out = Vec::with_capacity(alloc, size)?;
+    append_header(
+        &mut out,
+        ACCOUNTING_RESPONSE,
+        request.id(),
+        size,
+        &request.authenticator(),
+    );
+    append_answering_seal(&mut out, request);
+    append_proxy_states(&mut out, request);
+    Ok(out)
+}
+
+/// The answer to an Accounting-Request that isn't forwarded: an Accounting-Response with a Message-Authenticator
+/// where the request has one, and the request's Proxy-States, sealed and signed for the peer with this secret (RFC
+/// 2866, section 4.2). It is no longer than the request.
+pub fn accounting_answer<A: Allocator>(
+    alloc: A,
+    request: &View<'_>,
+    secret: &[u8],
+) -> Result<Octets<A>, NoMemory>
+    requires sealed { HasAtMostOneMessageAuthenticator request.now }
+    requires secret { IsSecret secret.now }
+    ensures { IfOk result (λ o. o ≡ packet_text (accounting_answer secret.now request.now)) }
+{
+    let mut octets = unsealed_accounting(alloc, request)?;
+    seal_and_sign(octets.as_mut_slice(), secret, request.authenticator());
+    Ok(Octets::from_vec(octets))
 }

@@ -6,14 +6,14 @@ ghost use Rattle.std.specs.Option.{option_map_or};
 ghost use Rattle.roam_auth.specs.Deciding.{is_well_sealed};
 ghost use Rattle.roam_hide.specs.Hiding.{password_fits};
 ghost use Rattle.roam_route.specs.Admission.{has_few_hops, has_needed_seal, has_seal, is_rightly_sealed};
-ghost use Rattle.roam_route.specs.Admission.{is_rightly_signed};
+ghost use Rattle.roam_route.specs.Admission.{is_rightly_signed, is_unnamed};
 ghost use Rattle.roam_route.specs.LocalReject.{has_bad_password, has_too_many_hops};
 
 use roam_auth::{ZERO_OCTETS, message_ok, request_ok};
 use roam_hide::password_fits;
 use roam_wire::View;
 use roam_wire::attribute_type::{
-    CHAP_PASSWORD, EAP_MESSAGE, MESSAGE_AUTHENTICATOR, PROXY_STATE, USER_PASSWORD,
+    CHAP_PASSWORD, EAP_MESSAGE, MESSAGE_AUTHENTICATOR, PROXY_STATE, USER_NAME, USER_PASSWORD,
 };
 use roam_wire::code::ACCESS_REQUEST;
 
@@ -103,4 +103,11 @@ pub(crate) fn has_bad_password(request: &View<'_>) -> bool
     (passwords > 0 && request.count(CHAP_PASSWORD) > 0)
         || passwords > 1
         || is_of_wrong_size(request.first(USER_PASSWORD))
+}
+
+/// Whether a request has no User-Name.
+pub(crate) fn is_unnamed(request: &View<'_>) -> bool
+    ensures { result ≡ is_unnamed request.now.attributes }
+{
+    request.first(USER_NAME).is_none()
 }

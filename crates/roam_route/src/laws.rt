@@ -1,6 +1,10 @@
 //! Laws of names, events and local answers. These functions do nothing: their contracts hold of all
 //! names, configurations, jobs and requests.
 
+ghost use Rattle.roam_route.specs.AccountingLaws.{AccountingAnswerCarriesProxyStates, AccountingAnswerHasCode};
+ghost use Rattle.roam_route.specs.AccountingLaws.{AccountingAnswerHasIdentifier, AccountingAnswerIsNoLonger};
+ghost use Rattle.roam_route.specs.AccountingLaws.{AccountingAnswerIsSigned, AccountingAnswerIsWellSealed};
+ghost use Rattle.roam_route.specs.AccountingLaws.{AccountingAnswerReads};
 ghost use Rattle.roam_route.specs.AdmittedRequests.{AdmittedIsRight, ForwardedHasFewHops, OtherCodeIsRefused};
 ghost use Rattle.roam_route.specs.AdmittedRequests.{RefusedFailsFirst, UnknownIsRefused, UnreadIsRefused};
 ghost use Rattle.roam_route.specs.Events.{EventHasRealm, EventIsSound};
@@ -70,14 +74,28 @@ pub fn status_answers()
     ensures proxy_states { StatusAnswerCarriesProxyStates }
 {}
 
+/// What the broker's own answer to an Accounting-Request is: an Accounting-Response with its Identifier that reads, no
+/// longer than the request, signed for the peer, well sealed where the request has a seal, and with the request's
+/// Proxy-States.
+pub fn accounting_answers()
+    ensures code { AccountingAnswerHasCode }
+    ensures id { AccountingAnswerHasIdentifier }
+    ensures no_longer { AccountingAnswerIsNoLonger }
+    ensures reads { AccountingAnswerReads }
+    ensures signed { AccountingAnswerIsSigned }
+    ensures well_sealed { AccountingAnswerIsWellSealed }
+    ensures proxy_states { AccountingAnswerCarriesProxyStates }
+{}
+
 /// What an arrival gives to a realm is decided by the peers, by what each name means, by the limit of
 /// hops, and by that realm's own entry of the configuration.
 pub fn own_part()
     ensures { OwnPartDecides }
 {}
 
-/// What the broker answers itself is decided by the peers, by what each name means, by the limit of hops,
-/// and by whether Status-Servers are answered.
+/// What the broker answers itself is decided by the peers, by what each name means, by the limit of hops, by whether
+/// Status-Servers and unnamed Accounting-Requests are answered, and by which peers a realm takes requests of and what
+/// becomes of its accounting.
 pub fn own_answers()
     ensures { OwnAnswersDecided }
 {}

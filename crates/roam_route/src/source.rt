@@ -1,16 +1,20 @@
 //! Who sent a datagram, the secret shared with it, and the codes that are taken from it.
 
 ghost use Rattle.std.specs.Prelude.{◌≡◌, ℕ, ◌<◌, Some, vec_len};
+ghost use Rattle.roam_conf.specs.Parts.{shown_peer};
 ghost use Rattle.roam_conf.specs.Shown.{shown};
 ghost use Rattle.roam_wire.specs.Codes.{is_reverse_reply, is_reverse_request};
 ghost use Rattle.roam_wire.specs.Secret.{IsSecret};
 ghost use Rattle.roam_route.specs.Admission.{home_secret, is_code_of_link, is_status_request, is_taken, peer_secret};
-ghost use Rattle.roam_route.specs.Admission.{seal_required, sender};
+ghost use Rattle.roam_route.specs.Admission.{accounting_in, seal_required, sender, wants_seal};
+ghost use Rattle.roam_route.specs.LocalReject.{takes_of};
 ghost use Rattle.roam_route.specs.Shown.{IsHome, shown_arrival};
 
 use crate::datagram::Datagram;
 use crate::job::Side;
-use roam_conf::{Config, Link, Place};
+use roam_conf::{Accounting, Config, Link, Peer, Place};
+use roam_wire::View;
+use roam_wire::attribute_type::PROXY_STATE;
 use roam_wire::code::{
     ACCESS_REQUEST, ACCOUNTING_REQUEST, ACCOUNTING_RESPONSE, COA_ACK, COA_NAK, COA_REQUEST,
     DISCONNECT_ACK, DISCONNECT_NAK, DISCONNECT_REQUEST, STATUS_SERVER, is_access_reply,
@@ -60,14 +64,42 @@ pub(crate) fn secret_of_home(config: &Config, realm: u16, server: u8) -> &[u8]
     config.realms[usize::from(realm)].servers[usize::from(server)].secret()
 }
 
-/// Whether a sender is a peer that is required to seal its Access-Requests.
-pub(crate) fn seal_required(config: &Config, side: Side) -> bool
+/// Whether a peer is to seal an Access-Request: each, or each that has a Proxy-State, which an attack on an
+/// unsealed one needs (CVE-2024-3596).
+fn wants_seal(peer: &Peer, request: &View<'_>) -> bool
+    ensures { result ≡ wants_seal (shown_peer peer.now) request.now }
+{
+    peer.require_seal || (peer.limit_proxy_state && request.count(PROXY_STATE) > 0)
+}
+
+/// Whether a sender is a peer that is required to seal an Access-Request.
+pub(crate) fn seal_required(config: &Config, side: Side, request: &View<'_>) -> bool
     requires { (i : ℕ) → side ≡ Side.Peer i → i < vec_len config.now.peers }
-    ensures { result ≡ seal_required (shown config.now) side }
+    ensures { result ≡ seal_required (shown config.now) side request.now }
 {
     match side {
-        Side::Peer(peer) => config.peers[usize::from(peer)].require_seal,
+        Side::Peer(peer) => wants_seal(&config.peers[usize::from(peer)], request),
         Side::Link(_) | Side::Home(_) => false,
+    }
+}
+
+/// Whether a realm takes the requests of a sender.
+pub(crate) fn takes_of(config: &Config, realm: u16, side: Side) -> bool
+    ensures { result ≡ takes_of (shown config.now) realm side }
+{
+    match side {
+        Side::Peer(peer) => config.takes(realm, peer),
+        Side::Link(_) | Side::Home(_) => false,
+    }
+}
+
+/// What becomes of a realm's accounting.
+pub(crate) fn accounting_of(config: &Config, realm: u16) -> Accounting
+    ensures { result ≡ accounting_in (shown config.now) realm }
+{
+    match config.realms.get(usize::from(realm)) {
+        Some(realm) => realm.accounting,
+        None => Accounting::Forwarded,
     }
 }
 

@@ -1,4 +1,5 @@
 -- Why the broker rejected an Access-Request by itself; and where a reply was refused. Ours.
+use Rattle.std.specs.Option.{option_or}
 use Rattle.std.specs.Prelude.{ℕ, ◌==◌, Bool, List, Option, Some, None, Result, Ok, Err, if◌then◌else◌}
 use Rattle.roam_wire.specs.Attributes.{count_of, first_value}
 use Rattle.roam_wire.specs.Packet.{Packet}
@@ -6,6 +7,7 @@ use Rattle.roam_wire.specs.Reading.{reading}
 use Rattle.roam_wire.specs.declared.attribute_type.TheConstants.{MESSAGE_AUTHENTICATOR, USER_NAME}
 use Rattle.roam_wire.specs.declared.refusal.Refusal.{Refusal}
 use Rattle.roam_wire.specs.declared.refusal.Refusal.TheVariants as refusal
+use Rattle.roam_conf.specs.Asking.{takes_in}
 use Rattle.roam_conf.specs.Config.{ConfigView}
 use Rattle.roam_conf.specs.declared.endpoint.Endpoint.{Endpoint}
 use Rattle.roam_conf.specs.declared.place.Place.{Place}
@@ -27,19 +29,27 @@ abbrev pub cause_of_name : Option (List ℕ) → Option ℕ → Option RejectCau
 cause_of_name None realm = Some cause.NoUserName
 cause_of_name (Some name) realm = cause_of_part (realm_part name) realm
 
+-- the realm that is named takes no requests of the peer
+abbrev pub cause_of_asking : ConfigView → Option ℕ → Option ℕ → Option RejectCause
+cause_of_asking config (Some realm) (Some peer) = if takes_in config realm peer then None else Some cause.NotForPeer
+cause_of_asking config _ _ = None
+
 abbrev pub cause_or : Option RejectCause → Bool → RejectCause
 cause_or (Some cause) has_hops = cause
 cause_or None has_hops = if has_hops then cause.TooManyHops else cause.Passwords
 
 -- ## Cause of a local reject
--- The first that holds: no User-Name, no `@` in it, no realm that it means, too many hops, else its passwords.
+-- The first that holds: no User-Name, no `@` in it, no realm that it means, a realm that takes no
+-- requests of the peer, too many hops, else its passwords.
 -- Source: ours
 -- Stands in: `roam_telling` `Causes.antt`: `reject_cause`; `local_reject_of`
 --
--- the first cause that there is: its name, its hops, else its passwords
-abbrev pub reject_cause : ConfigView → Packet → RejectCause
-reject_cause config request =
-    cause_or (cause_of_name (first_value USER_NAME request.attributes) (realm_of config request.attributes))
+-- the first cause that there is: its name, who asks, its hops, else its passwords
+abbrev pub reject_cause : ConfigView → Option ℕ → Packet → RejectCause
+reject_cause config peer request =
+    cause_or
+    (option_or (cause_of_name (first_value USER_NAME request.attributes) (realm_of config request.attributes))
+    (cause_of_asking config (realm_of config request.attributes) peer))
     (has_too_many_hops config.max_hops request)
 
 -- of a reply that is refused for its seal it is said whether it has one

@@ -182,11 +182,31 @@ fn cause_of_name(name: Option<&[u8]>, realm: Option<u16>) -> Option<RejectCause>
     }
 }
 
-/// Why the broker rejects an Access-Request by itself, where it does.
-fn reject_cause(config: &Config, request: &View<'_>) -> RejectCause
-    ensures { result ≡ causes.reject_cause (shown config.now) request.now }
+/// What is wrong with a realm that doesn't take the peer's requests.
+fn cause_of_asking(config: &Config, realm: Option<u16>, peer: Option<u16>) -> Option<RejectCause>
+    ensures { result ≡ causes.cause_of_asking (shown config.now) realm peer }
 {
-    match cause_of_name(request.first(USER_NAME), realm_of(config, request)) {
+    match (realm, peer) {
+        (Some(realm), Some(peer)) => {
+            if config.takes(realm, peer) {
+                None
+            } else {
+                Some(RejectCause::NotForPeer)
+            }
+        }
+        _ => None,
+    }
+}
+
+/// Why the broker rejects an Access-Request of a peer by itself, where it does.
+fn reject_cause(config: &Config, peer: Option<u16>, request: &View<'_>) -> RejectCause
+    ensures { result ≡ causes.reject_cause (shown config.now) peer request.now }
+{
+    let realm = realm_of(config, request);
+    if let Some(cause) = cause_of_name(request.first(USER_NAME), realm) {
+        return cause;
+    }
+    match cause_of_asking(config, realm, peer) {
         Some(cause) => cause,
         None if has_too_many_hops(config, request) => RejectCause::TooManyHops,
         None => RejectCause::Passwords,
@@ -199,7 +219,7 @@ pub fn local_reject_of(config: &Config, datagram: &Datagram<Global>) -> Exchange
     let mut exchange = said_by(octets, ExchangeEnd::LocalReject);
     exchange.peer = config.peer_by_ip(datagram.from.ip);
     if let Ok(view) = View::read(octets) {
-        exchange.why = Some(reject_cause(config, &view));
+        exchange.why = Some(reject_cause(config, exchange.peer, &view));
     }
     exchange
 }

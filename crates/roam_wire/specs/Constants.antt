@@ -38,11 +38,13 @@ abbrev pub AccountingTypes : Type 0
 AccountingTypes = kind.ACCT_STATUS_TYPE ∷ kind.ACCT_SESSION_ID ∷ [] ≡ 40 ∷ 44 ∷ []
 
 -- Tunnel-Password (RFC 2868, section 3.5), EAP-Message and Message-Authenticator (RFC 3579, sections
--- 3.1 and 3.2), Error-Cause (RFC 5176, section 3.5)
+-- 3.1 and 3.2), Chargeable-User-Identity (RFC 4372, section 2.1), Error-Cause (RFC 5176, section 3.5),
+-- Operator-Name (RFC 5580, section 4.1)
 abbrev pub OtherTypes : Type 0
 OtherTypes =
-    kind.TUNNEL_PASSWORD ∷ kind.EAP_MESSAGE ∷ kind.MESSAGE_AUTHENTICATOR ∷ kind.ERROR_CAUSE ∷ []
-    ≡ 69 ∷ 79 ∷ 80 ∷ 101 ∷ []
+    kind.TUNNEL_PASSWORD ∷ kind.EAP_MESSAGE ∷ kind.MESSAGE_AUTHENTICATOR ∷ kind.CHARGEABLE_USER_IDENTITY
+    ∷ kind.ERROR_CAUSE ∷ kind.OPERATOR_NAME ∷ []
+    ≡ 69 ∷ 79 ∷ 80 ∷ 89 ∷ 101 ∷ 126 ∷ []
 
 -- the most octets that a packet has (RFC 2865, section 3)
 abbrev pub LargestPacket : Type 0

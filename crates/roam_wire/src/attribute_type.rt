@@ -1,5 +1,5 @@
 //! The attribute types that the broker looks at (RFC 2865 section 5, RFC 2866 section 5, RFC 2868,
-//! RFC 3579, RFC 5176). Every other type is carried as it stands.
+//! RFC 3579, RFC 4372, RFC 5176, RFC 5580). Every other type is carried as it stands.
 
 pub const USER_NAME: u8 = 1;
 
@@ -27,4 +27,8 @@ pub const EAP_MESSAGE: u8 = 79;
 
 pub const MESSAGE_AUTHENTICATOR: u8 = 80;
 
+pub const CHARGEABLE_USER_IDENTITY: u8 = 89;
+
 pub const ERROR_CAUSE: u8 = 101;
+
+pub const OPERATOR_NAME: u8 = 126;

@@ -3,7 +3,7 @@
 ghost use Rattle.std.specs.Prelude.{◌≡◌, IsSome, Some};
 ghost use Rattle.roam_wire.specs.Reading.{attributes_of};
 
-use crate::attribute_grammar::split_attribute;
+use crate::attribute_grammar::{are_attributes, split_attribute};
 use std::marker::Model;
 
 /// An attribute of a packet, looked at where it lies (RFC 2865, section 5).
@@ -35,6 +35,18 @@ impl<'a> Model for Attrs<'a> {
 }
 
 impl<'a> Attrs<'a> {
+    /// The attributes that these octets are, as the sub-attributes of a Vendor-Specific (RFC 2865, section
+    /// 5.26); none where a Length is missing, below 2 or past the end. One pass.
+    pub fn read(octets: &'a [u8]) -> Option<Attrs<'a>>
+        ensures { result ≡ attributes_of octets.entry.now }
+    {
+        if are_attributes(octets) {
+            Some(Attrs::over(octets))
+        } else {
+            None
+        }
+    }
+
     /// The attributes that these octets are.
     pub(crate) fn over(rest: &'a [u8]) -> Attrs<'a>
         requires { IsSome (attributes_of rest.now) }

@@ -79,6 +79,9 @@ as_refused refusal.NoMemory = inl refl
 as_refused refusal.TraceFull = inr refl
 as_refused refusal.Misplaced = inr refl
 as_refused refusal.TooManyHops = inr refl
+as_refused refusal.NotForPeer = inr refl
+as_refused refusal.AccountingDropped = inr refl
+as_refused refusal.ShareTaken = inr refl
 
 -- where memory is wanting it failed
 wants : (o : HubOpening) (config : ConfigView) (now : ℕ) (d : Arrival) (why : Refusal) (old new : SeatView)

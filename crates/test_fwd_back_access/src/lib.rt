@@ -10,3 +10,7 @@ mod examples;
 mod exchanges;
 #[cfg(test)]
 mod fwd_tests;
+#[cfg(test)]
+mod passing_tests;
+#[cfg(test)]
+mod shaped_tests;

@@ -36,6 +36,18 @@ nas_ip = \"192.0.2.3\"
 /// Three peers, and two realms.
 const PARTS: [&str; 7] = [TOP, PEER, OTHER_PEERS, REALM, SERVER, SECOND_REALM, SERVER];
 
+/// The same, where the first realm has but the third peer.
+const AMONG: [&str; 8] = [
+    TOP,
+    PEER,
+    OTHER_PEERS,
+    REALM,
+    "peers = [\"nas3\"]\n",
+    SERVER,
+    SECOND_REALM,
+    SERVER,
+];
+
 /// What a request holds, its octets, the peer that it is for, and its cause in the first realm.
 type Row = (&'static str, &'static str, Option<u16>, Option<u32>);
 
@@ -283,6 +295,28 @@ const IN_ORDER: [Row; 9] = [
     ),
 ];
 
+/// Requests to a realm that has but one of the peers.
+const TO_PEERS_AMONG: [Row; 3] = [
+    (
+        "a session of a peer that isn't among the realm's",
+        "2822001e98737cc5f650778d9e25e78d8098ea9320066e6173312c043031",
+        Some(0),
+        Some(REQUEST_NOT_ROUTABLE),
+    ),
+    (
+        "a user at a peer that isn't",
+        "2b21002702f04b3afa42d5ab0ec18a343fd6ca9d20066e617331010d7540612e6578616d706c65",
+        Some(0),
+        Some(REQUEST_NOT_ROUTABLE),
+    ),
+    (
+        "a user at the realm's peer",
+        "2b210027000000000000000000000000000000000406c0000203010d7540612e6578616d706c65",
+        Some(2),
+        None,
+    ),
+];
+
 /// The first realm's ledger: the first peer's session `01`, and one of no octets of the first and
 /// of the third.
 fn ledger(rt: &impl Abort, alloc: Global) -> Result<Sessions<Global>, NoMemory> {
@@ -312,8 +346,8 @@ fn judged(
 }
 
 /// Each request has this target and this cause, and without a cause it is forwarded to its target.
-fn check_rows(rt: &impl Abort, alloc: Global, rows: &[Row]) -> Result<(), Fail> {
-    let text = PARTS.concat(alloc).expect(rt, "memory");
+fn check_rows(rt: &impl Abort, alloc: Global, parts: &[&str], rows: &[Row]) -> Result<(), Fail> {
+    let text = parts.concat(alloc).expect(rt, "memory");
     let config = read_config(alloc, &text).expect(rt, "a configuration");
     for (what, request, peer, cause) in rows {
         let route = if cause.is_none() { *peer } else { None };
@@ -328,8 +362,9 @@ fn check_rows(rt: &impl Abort, alloc: Global, rows: &[Row]) -> Result<(), Fail> 
 pub(crate) fn a_request_that_cannot_be_forwarded_has_a_cause<R: Abort + AllocGlobal>(
     rt: &R,
 ) -> Result<(), Fail> {
-    check_rows(rt, rt.alloc(), &OF_THE_EXCHANGES)?;
-    check_rows(rt, rt.alloc(), &WHAT_IS_NAMED)?;
-    check_rows(rt, rt.alloc(), &ACCESS_SERVERS)?;
-    check_rows(rt, rt.alloc(), &IN_ORDER)
+    check_rows(rt, rt.alloc(), &PARTS, &OF_THE_EXCHANGES)?;
+    check_rows(rt, rt.alloc(), &PARTS, &WHAT_IS_NAMED)?;
+    check_rows(rt, rt.alloc(), &PARTS, &ACCESS_SERVERS)?;
+    check_rows(rt, rt.alloc(), &PARTS, &IN_ORDER)?;
+    check_rows(rt, rt.alloc(), &AMONG, &TO_PEERS_AMONG)
 }

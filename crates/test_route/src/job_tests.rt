@@ -1,7 +1,7 @@
 //! What names a realm and an access server, and what each arrival gives, with each of its growths.
 
 use crate::arrivals::{ARRIVALS, Rows, START, config, octets, spelled};
-use crate::federation;
+use crate::{federation, policies};
 use roam_conf::{Config, Endpoint, Place, decimal};
 use roam_route::{Datagram, Job, NasName, Out, Prepared, Side, nas_of, prepare, realm_of};
 use roam_wire::{Octets, Refusal, View};
@@ -201,6 +201,10 @@ fn each_arrival_gives_what_it_should<R: Abort + AllocGlobal>(rt: &R) -> Result<(
     expect_rows(rt, rt.alloc(), &plain, &ARRIVALS);
     let federated = config(rt.alloc(), federation::KEYS)?;
     expect_rows(rt, rt.alloc(), &federated, &federation::ARRIVALS);
+    for (parts, tables) in policies::CASES {
+        let config = policies::config(rt.alloc(), parts)?;
+        expect_rows(rt, rt.alloc(), &config, tables);
+    }
     Ok(())
 }
 

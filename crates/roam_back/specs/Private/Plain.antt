@@ -1,6 +1,8 @@
 -- The packet that is returned for a reply, before its salted strings are hidden anew (ours).
 use Rattle.std.specs.Prelude.{◌≡◌, ◌==◌, ◌&&◌, ℕ, Bool, not, List, [], ◌∷◌, ◌++◌, filter, if◌then◌else◌}
 use Rattle.roam_wire.specs.Packet.{Attribute, Packet}
+use Rattle.roam_wire.specs.declared.removed_attribute.RemovedAttribute.{RemovedAttribute}
+use Rattle.roam_filter.specs.Without.{passed}
 use Rattle.roam_wire.specs.declared.attribute_type.TheConstants.{PROXY_STATE, MESSAGE_AUTHENTICATOR}
 use Rattle.roam_auth.specs.MessageAuthenticator.{empty_message_authenticator}
 use Rattle.roam_wire.specs.Codes.{is_access_reply}
@@ -11,6 +13,10 @@ use Rattle.roam_back.specs.Returned.{proxy_states}
 -- Access reply, in which another one stands first
 unfoldable pub is_carried : Bool → Attribute → Bool
 is_carried access a = not (a.kind == PROXY_STATE) && not (access && a.kind == MESSAGE_AUTHENTICATOR)
+
+-- what is returned of an attribute of a reply
+abbrev pub piece : Bool → List RemovedAttribute → Attribute → List Attribute
+piece access removed a = filter (is_carried access) (passed removed a)
 
 -- the Message-Authenticator that stands first in an Access reply
 abbrev pub first_seal : Bool → List Attribute

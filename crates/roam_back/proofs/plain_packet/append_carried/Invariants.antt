@@ -1,12 +1,12 @@
 use Rattle.std.proofs.Common.{◌≡◌, vec_len, vec_capacity}
-use Rattle.roam_back.specs.Private.Plain.{is_carried}
-use Rattle.roam_wire.proofs.KeptLemmas.{IsAppending}
+use Rattle.roam_filter.specs.Removal.{removed_by}
+use Rattle.roam_back.proofs.PassingLemmas.{IsReturning}
 use Rattle.roam_back.proofs.plain_packet.append_carried.Given as goal
 
--- all that are appended but those that are left were appended, and there is room for these
+-- what is returned of all but those that are left was appended, and there is room for these
 abbrev pub invariant-loop-next : goal.invariant-loop-next
 invariant-loop-next g l = record {
-  appending : IsAppending (is_carried l.fn.access) l.fn.reply.attributes l.next-iterator l.fn.out.items l.out.items
-      (vec_len l.out) (vec_capacity l.out);
+  returning : IsReturning l.fn.access (removed_by l.fn.removal) l.fn.reply.attributes l.next-iterator l.fn.out.items
+      l.out.items (vec_len l.out) (vec_capacity l.out);
   capacity : vec_capacity l.out ≡ vec_capacity l.fn.out;
 }

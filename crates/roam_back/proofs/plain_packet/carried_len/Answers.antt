@@ -1,18 +1,31 @@
-use Rattle.std.proofs.Common.{◌≤◌, ◌+◌, length, sym, ◌∙◌, arith}
+use Rattle.std.proofs.Common.{◌≤◌, ◌+◌, arith}
 use Rattle.roam_wire.specs.Shown.{shown}
-use Rattle.roam_wire.proofs.KeptLemmas.{IsCount-kept, IsCount-within}
+use Rattle.roam_filter.specs.Removal.{removed_by}
+use Rattle.roam_back.proofs.PassingLemmas.{IsCountedBack-end, IsCountedBack-more, IsCountedBack-within}
 use Rattle.roam_back.proofs.plain_packet.carried_len.Goals as goal
 
--- what is counted, with this attribute, stays within the packet
-pub overflow_add-size-then-is_carried : goal.overflow_add-size-then-is_carried
-overflow_add-size-then-is_carried c =
-    let next = IsCount-kept _ _ _ _ (shown c.in-Some.attribute) _ c.in-Some.ensures.steps (sym c.is_carried.ensures
-    ∙ c.if-is_carried.true) c.loop-attribute.invariant in
-    let within : c.loop-attribute.size + (2 + length c.in-Some.attribute.value.now) ≤ 4076 =
-    IsCount-within _ _ _ _ next c.attributes-attribute-items.ensures.packet.size in
+-- what is counted, with what is returned of this attribute, stays within the packet
+pub overflow_add-size : goal.overflow_add-size
+overflow_add-size c =
+    let next = IsCountedBack-more c.args.access (removed_by c.args.removal.now) c.args.reply.now.attributes _ _
+    (shown c.in-Some.attribute) c.loop-attribute.size c.piece_len-size.result c.in-Some.ensures.steps
+    c.piece_len-size.ensures c.loop-attribute.invariant in
+    let within : c.loop-attribute.size + c.piece_len-size.result ≤ 4076 =
+    IsCountedBack-within _ _ _ _ _ next c.attributes-attribute-items.ensures.packet.attributes
+    c.attributes-attribute-items.ensures.packet.size in
     omega (arith, within)
 
--- and so does all of it
+pub loop-attribute-preserved : goal.loop-attribute-preserved
+loop-attribute-preserved c =
+    IsCountedBack-more c.args.access (removed_by c.args.removal.now) c.args.reply.now.attributes _ _
+    (shown c.in-Some.attribute) c.loop-attribute.size c.piece_len-size.result c.in-Some.ensures.steps
+    c.piece_len-size.ensures c.loop-attribute.invariant
+
+-- where none is left, all is counted
+pub returns-clause-all : goal.returns-clause-all
+returns-clause-all c = IsCountedBack-end _ _ _ _ _ c.in-None.ensures.steps c.loop-attribute.invariant
+
 pub returns-clause-few : goal.returns-clause-few
-returns-clause-few c = IsCount-within _ _ _ _ c.loop-attribute.invariant
+returns-clause-few c =
+    IsCountedBack-within _ _ _ _ _ c.loop-attribute.invariant c.attributes-attribute-items.ensures.packet.attributes
     c.attributes-attribute-items.ensures.packet.size

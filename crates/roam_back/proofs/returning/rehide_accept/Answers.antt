@@ -6,7 +6,8 @@ use Rattle.roam_wire.specs.Reading.{packet_of}
 use Rattle.roam_wire.specs.declared.code.TheConstants.{ACCESS_ACCEPT}
 use Rattle.roam_hide.specs.declared.packet_values.Hidden.TheVariants.{SaltedStrings}
 use Rattle.roam_hide.specs.PacketAnew.{packet_anew}
-use Rattle.roam_back.specs.Returned.{Returning}
+use Rattle.roam_filter.specs.Removal.{removed_by}
+use Rattle.roam_back.specs.Returned.{Returning, passing}
 use Rattle.roam_back.specs.Shown.{shown}
 use Rattle.roam_back.proofs.PlainLemmas.{can_be-salted, from_key, rehidden_text, plain_text_stays}
 use Rattle.roam_back.proofs.returning.rehide_accept.Goals as goal
@@ -25,7 +26,8 @@ returns-then-code-eq-ACCESS_ACCEPT c =
     ∙ ap (λ (first : List ℕ). packet_text
     (packet_anew SaltedStrings (from_key r) (record { secret = r.client_secret; first = first })
     (packet_of c.args.octets.now))) c.authenticator.ensures
-    ∙ rehidden_text r c.args.reply.now c.args.request.now (packet_of c.args.octets.now) c.requires.plain.packet accept
+    ∙ rehidden_text r (passing (removed_by c.args.returning.now.removal) c.args.reply.now) c.args.request.now
+    (packet_of c.args.octets.now) c.requires.plain.packet accept
 
 -- any other reply stays
 pub returns-else-code-eq-ACCESS_ACCEPT : goal.returns-else-code-eq-ACCESS_ACCEPT
@@ -33,5 +35,6 @@ returns-else-code-eq-ACCESS_ACCEPT c =
     let r : Returning = shown c.args.returning.now in
     let other : (c.args.reply.now.code == ACCESS_ACCEPT) ≡ false =
     ne_eqb c.args.reply.now.code ACCESS_ACCEPT (λ e. c.if-code-eq-ACCESS_ACCEPT.false (c.code.ensures ∙ e)) in
-    c.requires.plain.text.spelt ∙ plain_text_stays r c.args.reply.now c.args.request.now
+    c.requires.plain.text.spelt ∙ plain_text_stays r
+    (passing (removed_by c.args.returning.now.removal) c.args.reply.now) c.args.request.now
     (packet_of c.args.octets.now) c.requires.plain.packet other

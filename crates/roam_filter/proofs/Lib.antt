@@ -1,0 +1,4 @@
+pub mod RemovalLemmas
+pub mod LeftLemmas
+pub mod WithoutLemmas
+pub mod WithoutLawLemmas

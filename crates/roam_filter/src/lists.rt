@@ -1,0 +1,53 @@
+//! What passes of a packet's attributes.
+
+ghost use Rattle.std.specs.Prelude.{◌≡◌, ◌≢◌, ◌+◌, ◌≤◌, ◌++◌, length, vec_len, vec_capacity};
+ghost use Rattle.roam_wire.specs.Attributes.{count_of};
+ghost use Rattle.roam_wire.specs.Packet.{IsPacket, attributes_text};
+ghost use Rattle.roam_wire.specs.declared.attribute_type.TheConstants.{VENDOR_SPECIFIC};
+ghost use Rattle.roam_filter.specs.Removal.{removed_by};
+ghost use Rattle.roam_filter.specs.Without.{without};
+
+use crate::passed::{append_passed, passed_len};
+use crate::removal::{Removal, removes_kind};
+use roam_wire::View;
+use std::alloc::Allocator;
+
+/// How many octets the attributes of a packet take that pass. One pass over them.
+pub fn without_len(view: &View<'_>, removal: &Removal<'_>) -> usize
+    ensures all { result
+        ≡ length (attributes_text (without (removed_by removal.now) view.now.attributes)) }
+    ensures few { result ≤ 4076 }
+    ensures packet { IsPacket view.now }
+{
+    let mut size = 0;
+    for attribute in view.attributes() {
+        size += passed_len(&attribute, removal);
+    }
+    size
+}
+
+/// Appends the attributes of a packet that pass, in their order. One pass over them.
+pub fn append_without<A: Allocator>(out: &mut Vec<u8, A>, view: &View<'_>, removal: &Removal<'_>)
+    requires { vec_len out.old
+        + length (attributes_text (without (removed_by removal.now) view.now.attributes))
+        ≤ vec_capacity out.old }
+    ensures items { out.new.items ≡ out.old.items
+        ++ attributes_text (without (removed_by removal.now) view.now.attributes) }
+    ensures capacity { vec_capacity out.new ≡ vec_capacity out.old }
+{
+    for attribute in view.attributes() {
+        append_passed(out, attribute, removal);
+    }
+}
+
+/// How many attributes of a Type pass; not of Vendor-Specific.
+pub fn count_without(view: &View<'_>, removal: &Removal<'_>, kind: u8) -> usize
+    requires { kind ≢ VENDOR_SPECIFIC }
+    ensures { result ≡ count_of kind (without (removed_by removal.now) view.now.attributes) }
+{
+    if removes_kind(removal, kind) {
+        0
+    } else {
+        view.count(kind)
+    }
+}

@@ -1,0 +1,14 @@
+use Rattle.std.proofs.Common.{◌≡◌, Option, Some, None, List, ℕ, subst}
+use Rattle.roam_wire.specs.Packet.{AreOctets}
+use Rattle.roam_fwd.proofs.added.are_octets_of.Goals as goal
+
+pub returns-in-Some : goal.returns-in-Some
+returns-in-Some c = λ octets is.
+    let some : Some c.in-Some.name.now ≡ Some octets = rw c.in-Some.is at is in
+    let same : c.in-Some.name.now ≡ octets = cc some in
+    subst AreOctets same c.are_octets.ensures
+
+pub returns-in-None : goal.returns-in-None
+returns-in-None c = λ octets is.
+    let some : None ≡ Some octets = rw c.in-None.is at is in
+    absurd (cc some)

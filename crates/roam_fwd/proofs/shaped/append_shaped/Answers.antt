@@ -1,0 +1,64 @@
+use Rattle.std.proofs.Common.{◌≡◌, ◌+◌, ◌++◌, List, ℕ, length, ap, ◌∙◌, arith, length-append}
+use Rattle.roam_wire.specs.Packet.{Attribute, attributes_text}
+use Rattle.roam_filter.specs.Without.{without}
+use Rattle.roam_fwd.specs.Private.Added.{shown_added}
+use Rattle.roam_fwd.specs.Shaped.{all_added, shown_shaping}
+use Rattle.roam_fwd.proofs.AddedLemmas.{shaped-text}
+use Rattle.roam_fwd.proofs.ShapedLemmas.{length-shaped}
+use Rattle.roam_fwd.proofs.shaped.append_shaped.Goals as goal
+
+-- there is room for the header, for what passes, and for what is added
+pub append_header-requires-clause-room : goal.append_header-requires-clause-room
+append_header-requires-clause-room g c =
+    let s = shown_shaping c.args.shaping.now in
+    let q = c.args.request.now in
+    omega (arith, c.requires.room, c.requires.size, length-shaped s q)
+
+pub append_without-requires : goal.append_without-requires
+append_without-requires g c =
+    let s = shown_shaping c.args.shaping.now in
+    let q = c.args.request.now in
+    let header = rw (c.code.ensures, c.id.ensures, c.authenticator.ensures) at c.append_header.ensures.items in
+    omega (
+      arith,
+      c.requires.room,
+      c.requires.size,
+      length-shaped s q,
+      c.requires.packet.authenticator,
+      ap length header,
+      length-append c.args.out.now.items _,
+      c.append_header.ensures.capacity,
+    )
+
+pub append_added-requires-clause-room : goal.append_added-requires-clause-room
+append_added-requires-clause-room g c =
+    let s = shown_shaping c.args.shaping.now in
+    let q = c.args.request.now in
+    let header = rw (c.code.ensures, c.id.ensures, c.authenticator.ensures) at c.append_header.ensures.items in
+    omega (
+      arith,
+      c.requires.room,
+      c.requires.size,
+      length-shaped s q,
+      c.requires.packet.authenticator,
+      ap length header,
+      length-append c.args.out.now.items _,
+      c.append_header.ensures.capacity,
+      ap length c.append_without.ensures.items,
+      length-append c.append_header.new.out.items (attributes_text (without s.removed q.attributes)),
+      c.append_without.ensures.capacity,
+      ap (λ (l : List Attribute). length (attributes_text l)) c.added_to.ensures.all,
+    )
+
+-- one stands behind another
+pub returns-clause-items : goal.returns-clause-items
+returns-clause-items g c =
+    let s = shown_shaping c.args.shaping.now in
+    let q = c.args.request.now in
+    let header = rw (c.code.ensures, c.id.ensures, c.authenticator.ensures) at c.append_header.ensures.items in
+    let passing : List ℕ = attributes_text (without s.removed q.attributes) in
+    c.append_added.ensures.items
+    ∙ ap (λ (t : List ℕ). t ++ attributes_text (shown_added c.added_to.result)) (c.append_without.ensures.items
+    ∙ ap (λ (t : List ℕ). t ++ passing) header)
+    ∙ shaped-text c.args.out.now.items s q c.args.size (shown_added c.added_to.result) c.requires.size
+    c.added_to.ensures.all

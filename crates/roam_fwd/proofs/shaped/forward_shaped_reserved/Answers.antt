@@ -1,0 +1,84 @@
+use Rattle.std.proofs.Common.{◌≡◌, ℕ, ◌+◌, ◌-◌, ◌≤◌, List, ◌++◌, length, take, replicate, sym, ap, ◌∙◌, arith, length-append}
+use Rattle.roam_wire.specs.Packet.{IsPacket, Packet, packet_length, packet_text}
+use Rattle.roam_wire.specs.Reading.{packet_of}
+use Rattle.roam_wire.proofs.LawLemmas.{length-packet_text}
+use Rattle.roam_fwd.specs.Forwarded.{Forwarding, forwarded, forwarded_length}
+use Rattle.roam_fwd.specs.Rewriting.{shown}
+use Rattle.roam_fwd.specs.Shaped.{shaped, shown_shaping}
+use Rattle.roam_fwd.proofs.AddedLemmas.{held-padded}
+use Rattle.roam_fwd.proofs.BufferLemmas.{HoldsRequest, can_be_rewritten, from_start, from_start-is, packet_of-there, written_back}
+use Rattle.roam_fwd.proofs.ShapedLemmas.{CanBeForwarded-shaped, IsPacket-shaped}
+use Rattle.roam_fwd.proofs.shaped.forward_shaped_reserved.Goals as goal
+
+-- the shaped request is short enough for a packet
+pub append_shaped-requires-clause-short : goal.append_shaped-requires-clause-short
+append_shaped-requires-clause-short g c =
+    let limit = c.requires.can_be_shaped.size in
+    omega (arith, limit, c.growth-more.ensures.size, c.shaped_len-len.ensures.size)
+
+pub append_shaped-requires-clause-room : goal.append_shaped-requires-clause-room
+append_shaped-requires-clause-room g c =
+    omega (arith, c.requires.room, c.growth-more.ensures.size, c.shaped_len-len.ensures.size)
+
+-- behind the buffer's own octets stand those of a packet that can be forwarded, with room for what is added
+pub rewrite-requires-clause-rewritable : goal.rewrite-requires-clause-rewritable
+rewrite-requires-clause-rewritable g c =
+    let s = shown_shaping c.args.shaping.now in
+    let q = c.args.request.now in
+    let p : Packet = shaped s q in
+    let limit = c.requires.can_be_shaped.size in
+    let grown = c.growth-more.ensures.size in
+    let short : packet_length p ≤ 4096 = omega (arith, limit, grown) in
+    let packet : IsPacket p =
+    IsPacket-shaped s q c.requires.name c.shaped_len-len.ensures.octets c.shaped_len-len.ensures.packet short in
+    let old : List ℕ = c.args.out.now.items in
+    let all : List ℕ = c.as_mut_slice.result.now in
+    let start : ℕ = c.len-start.result in
+    let held : HoldsRequest p start (forwarded_length p) old (packet_text p) all =
+    held-padded p start c.growth-more.result old c.append_shaped.new.out.items c.append_zeros.new.out.items all packet
+    (c.len-start.ensures ∙ c.args.out.now.ok.0) grown c.growth-more.ensures.least c.append_shaped.ensures.items
+    c.append_zeros.ensures.items c.as_mut_slice.ensures.value in
+    let as_long : c.shaped_len-len.result ≡ length (packet_text p) =
+    c.shaped_len-len.ensures.size ∙ sym (length-packet_text p packet) in
+    rw as_long
+    (can_be_rewritten p start (forwarded_length p) old (packet_text p) all held
+    (CanBeForwarded-shaped s q c.requires.can_be_shaped))
+
+-- the forwarded packet then stands there
+pub returns-clause-octets : goal.returns-clause-octets
+returns-clause-octets g c =
+    let s = shown_shaping c.args.shaping.now in
+    let q = c.args.request.now in
+    let p : Packet = shaped s q in
+    let limit = c.requires.can_be_shaped.size in
+    let grown = c.growth-more.ensures.size in
+    let short : packet_length p ≤ 4096 = omega (arith, limit, grown) in
+    let packet : IsPacket p =
+    IsPacket-shaped s q c.requires.name c.shaped_len-len.ensures.octets c.shaped_len-len.ensures.packet short in
+    let old : List ℕ = c.args.out.now.items in
+    let all : List ℕ = c.as_mut_slice.result.now in
+    let start : ℕ = c.len-start.result in
+    let held : HoldsRequest p start (forwarded_length p) old (packet_text p) all =
+    held-padded p start c.growth-more.result old c.append_shaped.new.out.items c.append_zeros.new.out.items all packet
+    (c.len-start.ensures ∙ c.args.out.now.ok.0) grown c.growth-more.ensures.least c.append_shaped.ensures.items
+    c.append_zeros.ensures.items c.as_mut_slice.ensures.value in
+    let as_long : c.shaped_len-len.result ≡ length (packet_text p) =
+    c.shaped_len-len.ensures.size ∙ sym (length-packet_text p packet) in
+    let f : Forwarding = shown c.args.forwarding.now in
+    let text : List ℕ = packet_text p in
+    let padded : List ℕ = text ++ replicate (forwarded_length p - length text) 0 in
+    let written : List ℕ = c.rewrite.new.octets in
+    let as_many : length written ≡ length padded =
+    omega (
+      arith,
+      c.rewrite.auto.octets,
+      ap length (from_start-is start all old padded held.all-is held.start-is),
+    ) in
+    let whole : c.append_zeros.new.out.len ≡ length all =
+    c.append_zeros.new.out.ok.0 ∙ ap length (sym c.as_mut_slice.ensures.value) in
+    written_back start c.append_zeros.new.out.len all old padded written c.append_zeros.new.out.items
+    held.all-is held.start-is as_many whole
+    ∙ ap (λ (t : List ℕ). old ++ t) (c.rewrite.ensures
+    ∙ ap (λ (p : Packet). packet_text (forwarded f p))
+    (ap (λ (n : ℕ). packet_of (take n (from_start start all))) as_long
+    ∙ packet_of-there p start (forwarded_length p) old text all held))

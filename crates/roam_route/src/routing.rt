@@ -1,0 +1,202 @@
+//! Where a request goes that passed the checks of its signature and seal.
+
+ghost use Rattle.std.specs.Prelude.{◌≡◌, is_some};
+ghost use Rattle.roam_auth.specs.MessageAuthenticator.{HasAtMostOneMessageAuthenticator};
+ghost use Rattle.roam_wire.specs.Secret.{IsSecret};
+ghost use Rattle.roam_conf.specs.Shown.{shown};
+ghost use Rattle.roam_route.specs.Admission.{accounted, answered_by, for_named_realm, forwarded_for, job_of, rejected_for};
+ghost use Rattle.roam_route.specs.Admission.{route_request};
+ghost use Rattle.roam_route.specs.LocalAnswer.{accounting_answer};
+ghost use Rattle.roam_route.specs.LocalReject.{is_rejected, taking};
+ghost use Rattle.roam_route.specs.UserName.{realm_of};
+ghost use Rattle.roam_route.specs.Shown.{Prepares, shown_arrival};
+
+use crate::answering::{accounting_answer, reject};
+use crate::checks::{has_bad_password, has_too_many_hops, is_unnamed};
+use crate::datagram::{Datagram, Out};
+use crate::job::{Job, Prepared, Side};
+use crate::source::{accounting_of, takes_of};
+use crate::user_name::realm_of;
+use roam_conf::{Accounting, Config, Place};
+use roam_fwd::forwarded_len;
+use roam_wire::{MAX_PACKET_LENGTH, Octets, Refusal, View};
+use std::alloc::Allocator;
+
+/// A packet whose sender is known, in the datagram that brought it.
+#[derive(Drop)]
+pub(crate) struct SentPacket<'a, A: Allocator> {
+    pub(crate) alloc: A,
+    pub(crate) datagram: &'a Datagram<A>,
+    pub(crate) side: Side,
+    pub(crate) view: View<'a>,
+}
+
+/// A packet that passed, as the event of a realm, with the realm that it names: its octets are copied,
+/// without padding.
+pub(crate) fn job_of<A: Allocator + Copy>(
+    packet: &SentPacket<'_, A>,
+    realm: u16,
+    names: Option<u16>,
+) -> Result<Prepared<A>, Refusal>
+    ensures { Prepares result (job_of (shown_arrival packet.now.datagram.now) packet.now.side
+        packet.now.view realm names) }
+{
+    let octets = Octets::copy_of(packet.alloc, packet.view.octets())?;
+    Ok(Prepared::Job(Job {
+        realm,
+        place: packet.datagram.at,
+        from: packet.datagram.from,
+        side: packet.side,
+        octets,
+        named: names,
+    }))
+}
+
+/// A request of a realm, where its forwarded packet has at most 4096 octets.
+fn forwarded_for<A: Allocator + Copy>(
+    packet: &SentPacket<'_, A>,
+    realm: u16,
+    names: Option<u16>,
+) -> Result<Prepared<A>, Refusal>
+    ensures { Prepares result (forwarded_for (shown_arrival packet.now.datagram.now)
+        packet.now.side packet.now.view realm names) }
+{
+    if forwarded_len(&packet.view) > MAX_PACKET_LENGTH {
+        return Err(Refusal::TooLong);
+    }
+    job_of(packet, realm, names)
+}
+
+/// A request of the realm that it names, if it names one.
+fn for_named_realm<A: Allocator + Copy>(
+    packet: &SentPacket<'_, A>,
+    realm: Option<u16>,
+) -> Result<Prepared<A>, Refusal>
+    ensures { Prepares result (for_named_realm (shown_arrival packet.now.datagram.now) packet.now.side
+        packet.now.view realm) }
+{
+    match realm {
+        None => Err(Refusal::NoRealm),
+        Some(index) => forwarded_for(packet, index, realm),
+    }
+}
+
+/// The local reject of an Access-Request, where it has at most 4096 octets.
+fn rejected_for<A: Allocator + Copy>(
+    packet: &SentPacket<'_, A>,
+    secret: &[u8],
+) -> Result<Prepared<A>, Refusal>
+    requires secret { IsSecret secret.now }
+    ensures { Prepares result (rejected_for secret.now (shown_arrival packet.now.datagram.now)
+        packet.now.view) }
+{
+    let bytes = reject(packet.alloc, &packet.view, secret)?;
+    Ok(Prepared::Reject(Out {
+        realm: None,
+        from: packet.datagram.at,
+        to: packet.datagram.from,
+        bytes,
+    }))
+}
+
+/// Whether an Access-Request is answered by a local reject: the realm that it names, if it names one, doesn't take
+/// the sender's requests, its passwords can't be carried, or it has too many hops.
+fn is_rejected<A: Allocator>(
+    config: &Config,
+    packet: &SentPacket<'_, A>,
+    realm: Option<u16>,
+) -> bool
+    requires { realm ≡ realm_of (shown config.now) packet.now.view.attributes }
+    ensures { result ≡ is_rejected (shown config.now) packet.now.side packet.now.view }
+{
+    !is_asked(config, packet.side, realm)
+        || has_bad_password(&packet.view)
+        || has_too_many_hops(&packet.view, config.max_hops)
+}
+
+/// Whether a realm is named that takes the requests of a sender.
+fn is_asked(config: &Config, side: Side, realm: Option<u16>) -> bool
+    ensures { result ≡ is_some (taking (shown config.now) side realm) }
+{
+    match realm {
+        Some(realm) => takes_of(config, realm, side),
+        None => false,
+    }
+}
+
+/// The broker's own answer to an Accounting-Request.
+fn accounting_answered<A: Allocator + Copy>(
+    packet: &SentPacket<'_, A>,
+    secret: &[u8],
+) -> Result<Prepared<A>, Refusal>
+    requires secret { IsSecret secret.now }
+    requires sealed { HasAtMostOneMessageAuthenticator packet.now.view }
+    ensures { Prepares result (answered_by (shown_arrival packet.now.datagram.now)
+        (accounting_answer secret.now packet.now.view)) }
+{
+    let bytes = accounting_answer(packet.alloc, &packet.view, secret)?;
+    Ok(Prepared::Reject(Out {
+        realm: None,
+        from: packet.datagram.at,
+        to: packet.datagram.from,
+        bytes,
+    }))
+}
+
+/// What an Accounting-Request gives that names its realm, or none.
+fn accounted<A: Allocator + Copy>(
+    config: &Config,
+    packet: &SentPacket<'_, A>,
+    secret: &[u8],
+    realm: Option<u16>,
+) -> Result<Prepared<A>, Refusal>
+    requires secret { IsSecret secret.now }
+    requires sealed { HasAtMostOneMessageAuthenticator packet.now.view }
+    ensures { Prepares result (accounted (shown config.now) secret.now
+        (shown_arrival packet.now.datagram.now) packet.now.side packet.now.view realm) }
+{
+    let Some(index) = realm else {
+        return Err(Refusal::NoRealm);
+    };
+    if !takes_of(config, index, packet.side) {
+        return Err(Refusal::NotForPeer);
+    }
+    match accounting_of(config, index) {
+        Accounting::Forwarded => forwarded_for(packet, index, realm),
+        Accounting::Answered => accounting_answered(packet, secret),
+        Accounting::Dropped => Err(Refusal::AccountingDropped),
+    }
+}
+
+/// What a request gives that is rightly signed and sealed: it goes to the realm of its place where
+/// it came from a home server, else to the one that it names. An Access-Request that names none that takes its
+/// peer's requests, whose passwords can't be carried, or that has too many hops is answered by a local reject; an
+/// Accounting-Request may be answered by the broker itself.
+pub(crate) fn route_request<A: Allocator + Copy>(
+    config: &Config,
+    packet: &SentPacket<'_, A>,
+    secret: &[u8],
+) -> Result<Prepared<A>, Refusal>
+    requires secret { IsSecret secret.now }
+    requires sealed { HasAtMostOneMessageAuthenticator packet.now.view }
+    ensures { Prepares result (route_request (shown config.now) secret.now
+        (shown_arrival packet.now.datagram.now) packet.now.side packet.now.view
+        packet.now.datagram.now.at) }
+{
+    let view = &packet.view;
+    let realm = realm_of(config, view);
+    if let Place::Reverse(own) = packet.datagram.at {
+        return forwarded_for(packet, own, realm);
+    }
+    if packet.datagram.at == Place::Auth {
+        return if is_rejected(config, packet, realm) {
+            rejected_for(packet, secret)
+        } else {
+            for_named_realm(packet, realm)
+        };
+    }
+    if config.answer_unnamed && is_unnamed(view) {
+        return accounting_answered(packet, secret);
+    }
+    accounted(config, packet, secret, realm)
+}
