@@ -53,6 +53,7 @@ scripts:
 
 trials: scripts
 	packaging/tests/try-diagnoses.py $(ROAM)
+	packaging/tests/try-statements.py $(ROAM)
 	packaging/tests/try-control.py $(ROAM)
 	packaging/tests/try-reload.py $(ROAM)
 	packaging/tests/try-exchanges.py $(ROAM)

@@ -38,7 +38,7 @@ REASONS = {
     "dynamiclookupcommand": "home servers aren't discovered", "blockingstartup": "home servers aren't discovered",
     "replymessage": "an Access-Reject of the broker has no Reply-Message",
     "accountingresponse": "accounting is answered by a home server or not at all",
-    "requiremessageauthenticatorproxy": "require_seal counts for each Access-Request",
+    "requiremessageauthenticatorproxy": "require_seal = true is stricter, and wants one in each Access-Request: set it if you can",
 }
 
 
@@ -337,6 +337,7 @@ class Conversion:
         fallen = self.fallen(items)
         if fallen:
             self.out.lose(f"realm {block.name}: it has no server, so radsecproxy rejects its names{fallen}")
+            self.lost_tables.append(f"realm {block.name}")
         else:
             self.out.change(f"realm {block.name}: it has no server. An unknown realm gets an Access-Reject,"
                             " without a Reply-Message")

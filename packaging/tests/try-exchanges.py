@@ -58,6 +58,7 @@ hold = 5000
 max_pending = 4096
 max_sessions = 100
 rest = {4}
+rest_after = 1
 '''
 SERVER = '''
 [[realm.server]]
@@ -357,7 +358,7 @@ def try_silent(program, work, homes):
     found = server.metrics()
     rests = server.total(found, 'roam_server_rests', '28120', 'auth')
     homes[0].silent = False
-    time.sleep(2.2)
+    time.sleep(3.2)
     access.sockets[0].send(access_request(2, b's2@a.example'))
     time.sleep(1.6)
     log = server.said()

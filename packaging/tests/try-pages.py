@@ -25,7 +25,7 @@ DOCS = os.path.join(ROOT, "docs")
 PAGES = ["QUICKSTART", "OPERATING", "MIGRATING"]
 # A file of the repository, or a page beside this one; and whether the page says that it isn't installed.
 NAMES = r"`((?:docs|packaging|load|oracle|crates|examples|samples)/[\w./-]*|[A-Z]+\.md)`( of the source)?"
-SOURCES = ["packaging", "docs", "examples", "oracle", "CHANGELOG.md", "README.md", "LICENSE-MIT", "LICENSE-APACHE"]
+SOURCES = ["packaging", "docs", "examples", "oracle", "CHANGELOG.md", "README.md", "SECURITY.md", "LICENSE-MIT", "LICENSE-APACHE"]
 # The broker of the samples, which the commands ask.
 BROKER = "203.0.113.10"
 # With what a command in the middle of a sentence begins.
@@ -102,7 +102,7 @@ def reason_against(command, shell, booted):
 
 
 def stays_in_foreground(command):
-    return re.search(r"roam serve \S+$", command) is not None
+    return re.search(r"roam(?: serve|-run) \S+$", command) is not None
 
 
 def serve(shell, command, booted):

@@ -381,7 +381,7 @@ def try_changes(server):
 def faults(server):
     """Texts that may not follow, each with a word of what is said of it."""
     good = server.text()
-    return [(good.replace('shards', 'shard', 1), 'Missing'),
+    return [(good.replace('auth =', 'auht =', 1), 'Missing'),
             (good + 'this is no toml', 'roam.conf'),
             (good + str(Realm(9, out=PORT + 500)), 'cannot bind'),
             (good + str(Realm(9, out=PORT + 200)), 'Duplicate'),

@@ -11,7 +11,7 @@ if [ $# -ne 1 ] || [ ! -x "$1" ]; then
     echo "usage: try-signals.sh PROGRAM" >&2
     exit 2
 fi
-here=$(dirname "$(realpath "$0")")
+installed=$(realpath "$(dirname "$(realpath "$0")")/../installed")
 ROAM=$(realpath "$1")
 export ROAM
 work=$(mktemp -d)
@@ -99,7 +99,7 @@ wait_for() {
 }
 begin() {
     # A session of its own, with signals as they are by default: a shell lets what runs in the background ignore SIGINT.
-    setsid env --default-signal=INT,TERM,HUP "$here/roam-run" "$@" 2> "$work/log" &
+    setsid env --default-signal=INT,TERM,HUP "$installed/roam-run" "$@" 2> "$work/log" &
     runner=$!
     wait_for 1 serving
 }
@@ -173,13 +173,13 @@ echo "ok   a second signal ends it at once, status 137"
 
 # What doesn't serve.
 status=0
-"$here/roam-run" "$work/roam.conf" 2> "$work/log" || status=$?
+"$installed/roam-run" "$work/roam.conf" 2> "$work/log" || status=$?
 [ "$status" = 1 ] || fail "a refused file: status $status"
 grep -v '^control' "$work/roam.conf" > "$work/none.conf"
 status=0
-"$here/roam-run" "$work/none.conf" 2> "$work/log" || status=$?
+"$installed/roam-run" "$work/none.conf" 2> "$work/log" || status=$?
 { [ "$status" = 1 ] && grep -q 'no control' "$work/log"; } || fail "no control: status $status"
 status=0
-"$here/roam-run" 2> "$work/log" || status=$?
+"$installed/roam-run" 2> "$work/log" || status=$?
 [ "$status" = 2 ] || fail "no words: status $status"
 echo "ok   what doesn't serve says so"

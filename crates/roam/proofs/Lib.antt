@@ -1,3 +1,6 @@
 pub mod AnswerLemmas
 pub mod CompareLemmas
 pub mod OutcomeLemmas
+pub mod PreventLemmas
+pub mod StateLemmas
+pub mod UnreadLemmas

@@ -17,7 +17,7 @@ use Rattle.roam.specs.declared.report.Fault.TheVariants as fault
 use Rattle.roam_sockets.specs.declared.fault.ServeFault.{ServeFault}
 use Rattle.roam_sockets.specs.declared.fault.ServeFault.TheVariants as serve
 use Rattle.roam_sockets.specs.Faults.{IsFaultOf}
-use Rattle.roam.specs.Outcomes.{summary_of, text_in, Checks, CheckFails, RunFails, ServeFails, AreRead}
+use Rattle.roam.specs.CommandFaults.{summary_of, text_in, Checks, CheckFails, RunFails, ServeFails, AreRead}
 use Rattle.roam.specs.Report.{fault_of}
 
 -- the summary was printed of the configuration that the file states

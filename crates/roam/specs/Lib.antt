@@ -1,3 +1,4 @@
+pub mod CommandFaults
 pub mod CommandLine
 pub mod Heads
 pub mod Outcomes

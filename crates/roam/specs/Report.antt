@@ -18,13 +18,14 @@ use Rattle.roam.specs.declared.report.Fault.TheVariants as fault
 -- the usage: a line for each command
 abbrev pub usage_text : List ℕ
 usage_text =
-    codes "usage: roam check CONF\n       roam check OLD NEW\n       roam sim CONF SCRIPT\n       roam serve [--seed-of-file] CONF [MS]\n       roam ctl PATH status [--json|--watch]\n       roam ctl PATH metrics|stop|reload|trace N\n       roam help\n       roam version\n"
+    codes "usage: roam check CONF\n       roam check OLD NEW\n       roam check --all CONF (prints the secrets too)\n       roam sim CONF SCRIPT\n       roam serve [--seed-of-file] CONF [MS]\n       roam ctl PATH status [--json|--watch]\n       roam ctl PATH metrics|stop|reload|trace N\n       roam help\n       roam version\n"
 
 -- which program this is, and the line of the toolchain that proved it
 abbrev pub version_text : List ℕ
 version_text = codes "roam 1.0.0\nrattle-kit-13f logic dac8208d650f15bf\n"
 
--- what the system says of the errors that bind, socket, listen, epoll and eventfd give, by their numbers (Linux)
+-- what the system says of the errors that open, read, bind, socket, listen, epoll and eventfd give, by their numbers
+-- (Linux)
 abbrev pub words_of : ℕ → Option (List ℕ)
 words_of number =
     if number == 1 then Some (codes "Operation not permitted")
@@ -33,6 +34,7 @@ words_of number =
     else (if number == 12 then Some (codes "Cannot allocate memory")
     else (if number == 13 then Some (codes "Permission denied")
     else (if number == 20 then Some (codes "Not a directory")
+    else (if number == 21 then Some (codes "Is a directory")
     else (if number == 23 then Some (codes "Too many open files in system")
     else (if number == 24 then Some (codes "Too many open files")
     else (if number == 28 then Some (codes "No space left on device")
@@ -41,7 +43,7 @@ words_of number =
     else (if number == 98 then Some (codes "Address already in use")
     else (if number == 99 then Some (codes "Cannot assign requested address")
     else (if number == 105 then Some (codes "No buffer space available")
-    else None)))))))))))))
+    else None))))))))))))))
 
 -- these words, or the number of the error
 abbrev pub words_or_number : Option (List ℕ) → ℕ → List ℕ
@@ -60,14 +62,22 @@ unbound_text endpoint = codes "roam: cannot bind " ++ endpoint_text endpoint
 abbrev pub unheard_text : SocketPath → List ℕ
 unheard_text path = codes "roam: cannot listen at " ++ path_octets path
 
+-- what is printed where the system doesn't let the file of a path be read
+abbrev pub unread_text : List ℕ → List ℕ
+unread_text path = codes "roam: " ++ path
+
+-- what is printed of a first word with which no command begins
+abbrev pub unknown_text : List ℕ → List ℕ
+unknown_text word = codes "roam: " ++ word ++ codes ": no such command\n"
+
 -- the system's reason after it, with the line feed
 abbrev pub why_text : ℕ → List ℕ
 why_text number = codes ": " ++ reason_text number ++ codes "\n"
 
 -- ## Text of a fault, status
 -- What is printed of each fault, with its line feed, and the status with which the program ends: 2 for the
--- usage, 3 for lack of memory, of something to wait with and of a thread, 4 for a failed audit, else 1. What
--- ends a server is one of these faults. The usage and the version are texts too.
+-- usage, also behind a word that is no command, 3 for lack of memory, of something to wait with and of a thread, 4
+-- for a failed audit, else 1. What ends a server is one of these faults. The usage and the version are texts too.
 -- Source: ours
 -- Rules out: a fault of one file reported of another
 -- Stands in: `roam` `Report.antt`: `text_of`, `status_of`, `fault_of`, `usage_text`, `version_text`;
@@ -76,7 +86,12 @@ why_text number = codes ": " ++ reason_text number ++ codes "\n"
 -- what is printed of a fault, with its line feed
 abbrev pub text_of : Fault → List ℕ
 text_of fault.Usage = usage_text
-text_of (fault.Unreadable path) = codes "roam: " ++ path.now ++ codes ": unreadable\n"
+text_of (fault.NoCommand word) = unknown_text word.now ++ usage_text
+text_of (fault.Unreadable path reason) = unread_text path.now ++ why_text reason
+text_of (fault.NotText path line) =
+    codes "roam: " ++ path.now ++ codes ":" ++ decimal line ++ codes ": isn't UTF-8\n"
+text_of (fault.MayNotFollow path) = codes "roam: " ++ path.now ++ codes ": may not follow\n"
+text_of (fault.Misstated path) = codes "roam: " ++ path.now ++ codes ": misstated\n"
 text_of (fault.Unanswered path) = codes "roam: " ++ path.now ++ codes ": no answer\n"
 text_of (fault.Cut path) = codes "roam: " ++ path.now ++ codes ": answer cut\n"
 text_of (fault.Declined path) = codes "roam: " ++ path.now ++ codes ": declined\n"
@@ -99,7 +114,11 @@ text_of fault.Audit = codes "roam: audit failed\n"
 -- the status after a fault
 abbrev pub status_of : Fault → ℕ
 status_of fault.Usage = 2
-status_of (fault.Unreadable path) = 1
+status_of (fault.NoCommand word) = 2
+status_of (fault.Unreadable path reason) = 1
+status_of (fault.NotText path line) = 1
+status_of (fault.MayNotFollow path) = 1
+status_of (fault.Misstated path) = 1
 status_of (fault.Unanswered path) = 1
 status_of (fault.Cut path) = 1
 status_of (fault.Declined path) = 1

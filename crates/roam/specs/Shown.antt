@@ -1,10 +1,11 @@
 -- Commands as the definitions see them.
-use Rattle.roam.specs.CommandLine.{Asked, to_check, to_compare, to_simulate, to_serve, to_serve_with_its_seed, to_control, to_help, to_tell_version}
+use Rattle.roam.specs.CommandLine.{Asked, to_check, to_check_all, to_compare, to_simulate, to_serve, to_serve_with_its_seed, to_control, to_help, to_tell_version}
 use Rattle.roam.specs.declared.command_line.Command.{Command}
 use Rattle.roam.specs.declared.command_line.Command.TheVariants as command
 
 abbrev pub shown : Command → Asked
 shown (command.Check configuration) = to_check configuration.now
+shown (command.CheckAll configuration) = to_check_all configuration.now
 shown (command.Compare configuration next) = to_compare configuration.now next.now
 shown (command.Sim configuration script) = to_simulate configuration.now script.now
 shown (command.Serve configuration milliseconds) = to_serve configuration.now milliseconds

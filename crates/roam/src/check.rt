@@ -1,9 +1,11 @@
 //! Checking a configuration.
 
-ghost use Rattle.std.specs.Prelude.{◌≡◌, OnOk, IfErr};
+ghost use Rattle.std.specs.Prelude.{◌≡◌, ℕ, List, OnOk, IfErr};
 ghost use Rattle.std.specs.Io.KnownBytes.{Appends};
 ghost use Rattle.roam_conf.specs.Shown.{shown};
-ghost use Rattle.roam.specs.Outcomes.{summary_of, text_in, Checks, CheckFails};
+ghost use Rattle.roam.specs.CommandLine.{Asks, to_check};
+ghost use Rattle.roam.specs.CommandFaults.{summary_of, text_in, Checks, CheckFails};
+ghost use Rattle.roam.specs.Outcomes.{IsDone, Prevents};
 
 use crate::output::finish;
 use crate::report::Fault;
@@ -13,6 +15,7 @@ use roam_conf_reader::read_config;
 use roam_diagnosis::{Lines, advise, diagnose};
 use std::alloc::Global;
 use std::io::Write;
+use std::rt::Files;
 
 /// Prints how much there is in a configuration: `ok realms R peers P shards S`.
 ///
@@ -37,7 +40,7 @@ fn print_summary<W: Write>(writer: &mut W, config: &Config) -> Result<(), Fault<
 /// # Errors
 ///
 /// `Refused`, and nothing is printed; `Write`; `Memory`, and nothing is printed.
-pub fn check<'a, W: Write>(
+fn check<'a, W: Write>(
     alloc: Global,
     configuration: &TextFile<'a>,
     writer: &mut W,
@@ -62,5 +65,24 @@ pub fn check<'a, W: Write>(
             );
             Err(Fault::of_configuration(configuration.path, fault))
         }
+    }
+}
+
+/// Checks the configuration of a path. `lines` are then what is said of it.
+pub fn check_file<'a, R: Files + AllocGlobal, W: Write>(
+    rt: &R,
+    configuration: &'a str,
+    out: &mut W,
+    lines: &mut Lines,
+) -> Result<(), Fault<'a>>
+    ensures ok { OnOk result (IsDone (to_check configuration.now)
+        (W.contents out.old) (W.contents out.new)) }
+    ensures err { IfErr result (λ fault. (words : List (List ℕ))
+        → Asks words (to_check configuration.now)
+        → Prevents words (W.contents out.old) (W.contents out.new) fault) }
+{
+    match TextFile::read(rt, configuration) {
+        Err(fault) => Err(fault),
+        Ok(file) => check(rt.alloc(), &file, out, lines),
     }
 }

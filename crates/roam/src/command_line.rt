@@ -37,6 +37,11 @@ pub enum Command<'a> {
         /// The path of the file with the configuration.
         configuration: &'a str,
     },
+    /// To state a configuration with all its defaults: `check --all CONF`.
+    CheckAll {
+        /// The path of the file with the configuration.
+        configuration: &'a str,
+    },
     /// To say what becomes of each realm when a configuration follows another: `check OLD NEW`.
     Compare {
         /// The path of the file with the configuration that serves.
@@ -90,6 +95,17 @@ fn of_one_word<'a>(word: &str) -> Option<Command<'a>>
     }
 }
 
+/// What `check` and one word ask for.
+fn of_check<'a>(configuration: &'a str) -> Option<Command<'a>>
+    ensures { MatchOption result (AsksNothing (codes "check" ∷ configuration.now ∷ []))
+        (λ c. Asks (codes "check" ∷ configuration.now ∷ []) (shown c)) }
+{
+    match configuration {
+        "--all" => None,
+        _ => Some(Command::Check { configuration }),
+    }
+}
+
 /// What `serve` and one word ask for.
 fn of_serve<'a>(configuration: &'a str) -> Option<Command<'a>>
     ensures { MatchOption result (AsksNothing (codes "serve" ∷ configuration.now ∷ []))
@@ -110,9 +126,24 @@ fn of_two_words<'a>(word: &str, configuration: &'a str) -> Option<Command<'a>>
         (λ c. Asks (word.now ∷ configuration.now ∷ []) (shown c)) }
 {
     match word {
-        "check" => Some(Command::Check { configuration }),
+        "check" => of_check(configuration),
         "serve" => of_serve(configuration),
         _ => None,
+    }
+}
+
+/// What `check` and two words ask for.
+fn of_check_of_two<'a>(first: &'a str, last: &'a str) -> Command<'a>
+    ensures { Asks (codes "check" ∷ first.now ∷ last.now ∷ []) (shown result) }
+{
+    match first {
+        "--all" => Command::CheckAll {
+            configuration: last,
+        },
+        _ => Command::Compare {
+            configuration: first,
+            next: last,
+        },
     }
 }
 
@@ -157,10 +188,7 @@ fn of_three_words<'a>(word: &str, configuration: &'a str, last: &'a str) -> Opti
         (λ c. Asks (word.now ∷ configuration.now ∷ last.now ∷ []) (shown c)) }
 {
     match word {
-        "check" => Some(Command::Compare {
-            configuration,
-            next: last,
-        }),
+        "check" => Some(of_check_of_two(configuration, last)),
         "sim" => Some(Command::Sim {
             configuration,
             script: last,
@@ -258,9 +286,7 @@ impl<'a> Command<'a> {
         match words {
             [word] => of_one_word(word.as_str()),
             [word, configuration] => of_two_words(word.as_str(), configuration.as_str()),
-            [word, configuration, last] => {
-                of_three_words(word.as_str(), configuration.as_str(), last.as_str())
-            }
+            [word, first, last] => of_three_words(word.as_str(), first.as_str(), last.as_str()),
             [word, option, configuration, last] => of_four_words(
                 word.as_str(),
                 option.as_str(),

@@ -1,9 +1,13 @@
 //! What becomes of each realm when a configuration follows another.
 
-ghost use Rattle.std.specs.Prelude.{◌≡◌, List, ℕ, Option, IfErr, IfOk, OnOk};
-ghost use Rattle.roam_sim.specs.Simulation.{IsAccepted};
+ghost use Rattle.std.specs.Prelude.{◌≡◌, List, ℕ, Option, IfErr, IfOk, MatchResult, OnOk};
+ghost use Rattle.roam_conf.specs.Shown.{shown};
+ghost use Rattle.roam_reload.specs.Reload.{MayFollow};
+ghost use Rattle.roam_sim.specs.Simulation.{IsConfiguration};
 ghost use Rattle.roam.specs.CommandLine.{Asks, to_compare};
-ghost use Rattle.roam.specs.Outcomes.{text_in, CheckFails, CompareFails, IsDone, IsPrinted, Prevents};
+ghost use Rattle.roam.specs.declared.text_file.TextFile.{TextFile};
+ghost use Rattle.roam.specs.CommandFaults.{text_in, with_seed_of, CheckFails, CompareFails, Follows, IsPrinted};
+ghost use Rattle.roam.specs.Outcomes.{IsDone, Prevents};
 
 use crate::report::Fault;
 use crate::text_file::TextFile;
@@ -103,33 +107,78 @@ pub fn print_fates<W: Write>(writer: &mut W, old: &Config, new: &Config) -> io::
     Ok(())
 }
 
-/// Prints whether the new configuration may follow the old one, and what becomes of each realm.
-fn print_all<W: Write>(writer: &mut W, old: &Config, new: &Config) -> io::Result<()>
+/// Prints that a configuration may follow another one, and what becomes of each realm.
+fn print_fates_of<W: Write>(writer: &mut W, old: &Config, new: &Config) -> io::Result<()>
     ensures { OnOk result (IsPrinted (W.contents writer.old) (W.contents writer.new)) }
 {
-    print_hindrance(writer, hindrance_of(old, new))?;
+    print_hindrance(writer, None)?;
     print_fates(writer, old, new)?;
     writer.flush()
 }
 
-/// Prints whether the new configuration may follow the old one, with its seed, and what becomes of each realm.
+/// The same, with the program's fault.
 ///
 /// # Errors
 ///
 /// `Write`.
-fn print_comparison<W: Write>(
+fn print_following<W: Write>(
     writer: &mut W,
     old: &Config,
-    new: Config,
+    new: &Config,
 ) -> Result<(), Fault<'static>>
     ensures ok { OnOk result (IsPrinted (W.contents writer.old) (W.contents writer.new)) }
     ensures err { IfErr result (λ fault. fault ≡ Fault.Write) }
 {
-    let mut new = new;
-    new.seed = old.seed;
-    match print_all(writer, old, &new) {
+    match print_fates_of(writer, old, new) {
         Ok(()) => Ok(()),
         Err(_) => Err(Fault::Write),
+    }
+}
+
+/// Prints why a configuration may not follow another one.
+fn print_why_not<W: Write>(writer: &mut W, hindrance: Hindrance) -> io::Result<()>
+    ensures { OnOk result (IsPrinted (W.contents writer.old) (W.contents writer.new)) }
+{
+    print_hindrance(writer, Some(hindrance))?;
+    writer.flush()
+}
+
+/// What the program ends with where one may not follow, once that could be printed.
+fn not_following<'a>(path: &'a str, printed: io::Result<()>) -> Fault<'a>
+    ensures { MatchResult printed (λ done. result ≡ Fault.MayNotFollow path.entry) (λ why. result ≡ Fault.Write) }
+{
+    match printed {
+        Ok(()) => Fault::MayNotFollow { path },
+        Err(_) => Fault::Write,
+    }
+}
+
+/// Prints whether the configuration of the next file may follow the old one, with its seed, and what becomes of each
+/// realm then.
+///
+/// # Errors
+///
+/// `MayNotFollow`, and why is printed; `Write`.
+fn print_comparison<'a, W: Write>(
+    writer: &mut W,
+    next: &TextFile<'a>,
+    old: &Config,
+    new: Config,
+) -> Result<(), Fault<'a>>
+    ensures may { OnOk result (MayFollow (shown old.now) (with_seed_of (shown old.now) (shown new))) }
+    ensures printed { OnOk result (IsPrinted (W.contents writer.old) (W.contents writer.new)) }
+    ensures err { (first : TextFile) → IsConfiguration (text_in first) (shown old.now)
+        → IsConfiguration (text_in next.now) (shown new)
+        → IfErr result (CompareFails first next.now (W.contents writer.old) (W.contents writer.new)) }
+{
+    let mut new = new;
+    new.seed = old.seed;
+    match hindrance_of(old, &new) {
+        None => print_following(writer, old, &new),
+        Some(hindrance) => {
+            let printed = print_why_not(writer, hindrance);
+            Err(not_following(next.path, printed))
+        }
     }
 }
 
@@ -138,12 +187,12 @@ fn print_comparison<W: Write>(
 /// # Errors
 ///
 /// `Refused`; `Memory`.
-fn configuration_in<'a>(
+pub fn configuration_in<'a>(
     alloc: Global,
     file: &TextFile<'a>,
     lines: &mut Lines,
 ) -> Result<Config, Fault<'a>>
-    ensures ok { IfOk result (λ config. IsAccepted (text_in file.now)) }
+    ensures ok { IfOk result (λ config. IsConfiguration (text_in file.now) (shown config)) }
     ensures err { (out : Option (List ℕ)) → IfErr result (CheckFails file.now out out) }
 {
     match read_config(alloc, file.text.as_str()) {
@@ -161,7 +210,7 @@ fn configuration_in<'a>(
 ///
 /// # Errors
 ///
-/// `Refused`, and nothing is printed; `Write`; `Memory`, and nothing is printed.
+/// `Refused`, and nothing is printed; `MayNotFollow`, and why is printed; `Write`; `Memory`, and nothing is printed.
 fn compare<'a, W: Write>(
     alloc: Global,
     configuration: &TextFile<'a>,
@@ -169,8 +218,7 @@ fn compare<'a, W: Write>(
     writer: &mut W,
     lines: &mut Lines,
 ) -> Result<(), Fault<'a>>
-    ensures first { IfOk result (λ done. IsAccepted (text_in configuration.now)) }
-    ensures second { IfOk result (λ done. IsAccepted (text_in next.now)) }
+    ensures may { OnOk result (Follows (text_in configuration.now) (text_in next.now)) }
     ensures printed { OnOk result (IsPrinted (W.contents writer.old) (W.contents writer.new)) }
     ensures err { IfErr result (CompareFails configuration.now next.now
         (W.contents writer.old) (W.contents writer.new)) }
@@ -179,7 +227,7 @@ fn compare<'a, W: Write>(
         Err(fault) => Err(fault),
         Ok(old) => match configuration_in(alloc, next, lines) {
             Err(fault) => Err(fault),
-            Ok(new) => print_comparison(writer, &old, new),
+            Ok(new) => print_comparison(writer, next, &old, new),
         },
     }
 }

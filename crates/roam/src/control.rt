@@ -1,7 +1,7 @@
 //! Asking a server something through its control socket.
 
 ghost use Rattle.std.specs.Prelude.{◌≡◌, OnOk, IfErr};
-ghost use Rattle.roam.specs.Outcomes.{AskFails, IsPrinted};
+ghost use Rattle.roam.specs.CommandFaults.{AskFails, IsPrinted};
 
 use crate::command_line::ControlOrder;
 use crate::output::finish;

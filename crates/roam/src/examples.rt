@@ -1,6 +1,6 @@
 //! All examples, in one test: a test costs the proof more than an example.
 
-use crate::{answer_tests, tests};
+use crate::{answer_tests, statement_tests, tests, word_tests};
 use std::process;
 use std::test::Fail;
 
@@ -11,10 +11,11 @@ fn all_examples(rt: HostRuntime) -> Result<(), Fail> {
     answer_tests::an_answer_is_whole_or_cut(&rt);
     answer_tests::a_log_writes_each_line_once_where_writes_fail(&rt)?;
     answer_tests::a_control_socket_that_cannot_be_had_is_told(&rt);
-    tests::other_words_give_the_usage(&rt);
-    tests::usage_and_version_are_printed(&rt);
+    word_tests::other_words_give_the_usage(&rt)?;
+    word_tests::usage_and_version_are_printed(&rt);
     tests::where_nobody_listens_there_is_no_answer(&rt, process)?;
     tests::two_configurations_are_compared(&rt, process)?;
+    statement_tests::a_configuration_is_stated_with_its_defaults(&rt, process)?;
     tests::a_configuration_is_counted(&rt, process)?;
     tests::a_configuration_is_refused_by_name(&rt, process)?;
     tests::what_is_no_text_is_unreadable(&rt, process)?;

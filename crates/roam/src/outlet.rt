@@ -48,7 +48,7 @@ struct Waiting {
 }
 
 /// How many lines end in a text.
-fn lines_in(text: &[u8]) -> u64 {
+pub fn lines_in(text: &[u8]) -> u64 {
     let mut count = 0u64;
     for octet in text {
         if *octet == b'\n' {

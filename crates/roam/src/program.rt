@@ -6,14 +6,16 @@ ghost use Rattle.roam.specs.CommandLine.{Asks, AsksNothing, AsksToCheck, to_simu
 ghost use Rattle.roam.specs.Outcomes.{IsAnswered, IsDone, IsPrevented, IsToldFault, Prevents};
 ghost use Rattle.roam.specs.Report.{Says};
 
-use crate::check::check;
+use crate::check::check_file;
 use crate::command_line::Command;
 use crate::compare::compare_files;
 use crate::report::{Fault, ProgramEnd};
+use crate::restating::state_file;
 use crate::serving::serve_file;
 use crate::simulation::simulate;
 use crate::telling::{tell_advice, tell_usage, tell_version};
 use crate::text_file::TextFile;
+use crate::unknown::unknown_word;
 use crate::watch::ask;
 use log::Log;
 use roam_diagnosis::Lines;
@@ -58,11 +60,12 @@ fn run<
         (Prevents (map S.text words.now) (W.contents out.old) (W.contents out.new)) }
 {
     match Command::from_words(words) {
-        None => Err(Fault::Usage),
-        Some(Command::Check { configuration }) => {
-            let configuration = TextFile::read(rt, configuration)?;
-            check(rt.alloc(), &configuration, out, lines)
-        }
+        None => match unknown_word(words) {
+            Some(word) => Err(Fault::NoCommand { word }),
+            None => Err(Fault::Usage),
+        },
+        Some(Command::Check { configuration }) => check_file(rt, configuration, out, lines),
+        Some(Command::CheckAll { configuration }) => state_file(rt, configuration, out, lines),
         Some(
             Command::Compare {
                 configuration,
@@ -80,19 +83,13 @@ fn run<
                 configuration,
                 milliseconds,
             },
-        ) => {
-            let configuration = TextFile::read(rt, configuration)?;
-            serve_file(rt, &configuration, false, milliseconds, lines)
-        }
+        ) => serve_file(rt, configuration, false, milliseconds, lines),
         Some(
             Command::ServeWithItsSeed {
                 configuration,
                 milliseconds,
             },
-        ) => {
-            let configuration = TextFile::read(rt, configuration)?;
-            serve_file(rt, &configuration, true, milliseconds, lines)
-        }
+        ) => serve_file(rt, configuration, true, milliseconds, lines),
         Some(Command::Control { path, order }) => ask(rt, path, order, out),
         Some(Command::Help) => tell_usage(out),
         Some(Command::Version) => tell_version(out),

@@ -3,7 +3,7 @@
 ghost use Rattle.std.specs.Prelude.{◌≡◌, IfOk, OnOk};
 ghost use Rattle.roam_conf.specs.Shown.{shown};
 ghost use Rattle.roam_reload.specs.Reload.{MayFollow};
-ghost use Rattle.roam.specs.Outcomes.{IsPrinted};
+ghost use Rattle.roam.specs.CommandFaults.{IsPrinted};
 
 use crate::compare::{print_fates, print_hindrance};
 use crate::report::Fault;

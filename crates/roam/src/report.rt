@@ -1,9 +1,11 @@
 //! Why the program doesn't do what it is asked for: the text of each fault, and the status with which it ends.
 
-ghost use Rattle.std.specs.Prelude.{◌≡◌, ◌⊎◌, Some, None, MatchOption, OnOk};
+ghost use Rattle.std.specs.Prelude.{◌≡◌, ◌⊎◌, OnOk};
 ghost use Rattle.std.specs.Io.KnownBytes.{Appends};
 ghost use Rattle.roam.specs.Report as spec;
 
+use crate::reasons::{print_unread, print_why, words_of};
+use crate::usage::print_usage;
 use roam_conf::Endpoint;
 use roam_conf_reader::ConfFault;
 use roam_diagnosis::Lines;
@@ -16,9 +18,33 @@ use std::io::{ErrorKind, Write};
 pub enum Fault<'a> {
     /// The words ask for nothing that it does.
     Usage,
-    /// A file can't be read as text.
+    /// The words ask for nothing that it does, and no command begins with the first of them.
+    NoCommand {
+        /// The first word.
+        word: &'a str,
+    },
+    /// The system doesn't let a file be read.
     Unreadable {
         /// The path of the file.
+        path: &'a str,
+        /// The number of the system's error, or 0.
+        reason: u32,
+    },
+    /// A file isn't UTF-8.
+    NotText {
+        /// The path of the file.
+        path: &'a str,
+        /// The number of the first line that isn't, from 1.
+        line: u64,
+    },
+    /// A configuration may not follow another one. Why is printed.
+    MayNotFollow {
+        /// The path of its file.
+        path: &'a str,
+    },
+    /// What was to be printed of a configuration with its defaults doesn't state that configuration.
+    Misstated {
+        /// The path of its file.
         path: &'a str,
     },
     /// No answer comes of a server through its control socket.
@@ -99,53 +125,21 @@ pub struct ProgramEnd {
     pub told: io::Result<()>,
 }
 
-/// What the system says of the error of a number, if this is known here.
-fn words_of(reason: u32) -> Option<&'static str>
-    ensures { MatchOption result (spec.words_of reason ≡ None) (λ words. spec.words_of reason ≡ Some words.now) }
+/// Prints that no command begins with a word.
+fn print_unknown<W: Write>(writer: &mut W, word: &str) -> io::Result<()>
+    ensures { OnOk result
+        (Appends (W.contents writer.old) (W.contents writer.new) (spec.unknown_text word.now)) }
 {
-    match reason {
-        1 => Some("Operation not permitted"),
-        2 => Some("No such file or directory"),
-        11 => Some("Resource temporarily unavailable"),
-        12 => Some("Cannot allocate memory"),
-        13 => Some("Permission denied"),
-        20 => Some("Not a directory"),
-        23 => Some("Too many open files in system"),
-        24 => Some("Too many open files"),
-        28 => Some("No space left on device"),
-        30 => Some("Read-only file system"),
-        97 => Some("Address family not supported by protocol"),
-        98 => Some("Address already in use"),
-        99 => Some("Cannot assign requested address"),
-        105 => Some("No buffer space available"),
-        _ => None,
-    }
+    writeln!(writer, "roam: {word}: no such command")
 }
 
-/// Prints the usage: a line for each command.
-///
-/// # Errors
-///
-/// The writer's.
-pub fn print_usage<W: Write>(writer: &mut W) -> io::Result<()>
+/// Prints that no command begins with a word, and the usage.
+fn print_no_command<W: Write>(writer: &mut W, word: &str) -> io::Result<()>
     ensures { OnOk result
-        (Appends (W.contents writer.old) (W.contents writer.new) spec.usage_text) }
+        (Appends (W.contents writer.old) (W.contents writer.new) (spec.text_of (Fault.NoCommand word.entry))) }
 {
-    writer.write_all(
-        b"usage: roam check CONF\n       roam check OLD NEW\n       roam sim CONF SCRIPT\n       roam serve [--seed-of-file] CONF [MS]\n       roam ctl PATH status [--json|--watch]\n       roam ctl PATH metrics|stop|reload|trace N\n       roam help\n       roam version\n",
-    )
-}
-
-/// Prints which program this is, and the line of the toolchain that proved it.
-///
-/// # Errors
-///
-/// The writer's.
-pub fn print_version<W: Write>(writer: &mut W) -> io::Result<()>
-    ensures { OnOk result
-        (Appends (W.contents writer.old) (W.contents writer.new) spec.version_text) }
-{
-    writer.write_all(b"roam 1.0.0\nrattle-kit-13f logic dac8208d650f15bf\n")
+    print_unknown(writer, word)?;
+    print_usage(writer)
 }
 
 /// Prints to which endpoint a socket can't be bound.
@@ -154,17 +148,6 @@ fn print_unbound<W: Write>(writer: &mut W, endpoint: Endpoint) -> io::Result<()>
         (Appends (W.contents writer.old) (W.contents writer.new) (spec.unbound_text endpoint)) }
 {
     write!(writer, "roam: cannot bind {endpoint}")
-}
-
-/// Prints the system's reason, and ends the line.
-fn print_why<W: Write>(writer: &mut W, reason: u32) -> io::Result<()>
-    ensures { OnOk result
-        (Appends (W.contents writer.old) (W.contents writer.new) (spec.why_text reason)) }
-{
-    match words_of(reason) {
-        Some(words) => writeln!(writer, ": {words}"),
-        None => writeln!(writer, ": error {reason}"),
-    }
 }
 
 /// Prints that a socket can't be bound to an endpoint, and why.
@@ -203,6 +186,23 @@ fn print_wait<W: Write>(writer: &mut W, reason: u32) -> io::Result<()>
         Some(words) => writeln!(writer, "roam: cannot wait for sockets: {words}"),
         None => writeln!(writer, "roam: cannot wait for sockets: error {reason}"),
     }
+}
+
+/// Prints that a file can't be read, and why.
+fn print_unreadable<W: Write>(writer: &mut W, path: &str, reason: u32) -> io::Result<()>
+    ensures { OnOk result
+        (Appends (W.contents writer.old) (W.contents writer.new) (spec.text_of (Fault.Unreadable path.entry reason))) }
+{
+    print_unread(writer, path)?;
+    print_why(writer, reason)
+}
+
+/// Prints which line of a file isn't UTF-8.
+fn print_not_text<W: Write>(writer: &mut W, path: &str, line: u64) -> io::Result<()>
+    ensures { OnOk result
+        (Appends (W.contents writer.old) (W.contents writer.new) (spec.text_of (Fault.NotText path.entry line))) }
+{
+    writeln!(writer, "roam: {path}:{line}: isn't UTF-8")
 }
 
 /// Prints that a configuration is refused, and by what name.
@@ -275,7 +275,7 @@ impl<'a> Fault<'a> {
         ensures { result ≡ spec.status_of self.entry }
     {
         match self {
-            Fault::Usage => 2,
+            Fault::Usage | Fault::NoCommand { .. } => 2,
             Fault::Memory | Fault::Wait { .. } | Fault::Thread => 3,
             Fault::Audit => 4,
             _ => 1,
@@ -293,7 +293,11 @@ impl<'a> Fault<'a> {
     {
         match self {
             Fault::Usage => print_usage(writer),
-            Fault::Unreadable { path } => writeln!(writer, "roam: {path}: unreadable"),
+            Fault::NoCommand { word } => print_no_command(writer, word),
+            Fault::Unreadable { path, reason } => print_unreadable(writer, path, reason),
+            Fault::NotText { path, line } => print_not_text(writer, path, line),
+            Fault::MayNotFollow { path } => writeln!(writer, "roam: {path}: may not follow"),
+            Fault::Misstated { path } => writeln!(writer, "roam: {path}: misstated"),
             Fault::Unanswered { path } => writeln!(writer, "roam: {path}: no answer"),
             Fault::Cut { path } => writeln!(writer, "roam: {path}: answer cut"),
             Fault::Declined { path } => writeln!(writer, "roam: {path}: declined"),

@@ -1,10 +1,12 @@
 //! Serving a configuration.
 
-ghost use Rattle.std.specs.Prelude.{OnOk, IfErr};
+ghost use Rattle.std.specs.Prelude.{ℕ, List, Option, OnOk, IfErr};
 ghost use Rattle.roam_conf.specs.Shown.{shown};
 ghost use Rattle.roam_sockets.specs.Faults.{IsFaultOf};
 ghost use Rattle.roam_sim.specs.Simulation.{IsAccepted};
-ghost use Rattle.roam.specs.Outcomes.{text_in, ServeFails};
+ghost use Rattle.roam.specs.CommandLine.{AsksToServeIt};
+ghost use Rattle.roam.specs.CommandFaults.{text_in, ServeFails};
+ghost use Rattle.roam.specs.Outcomes.{Prevents};
 
 use crate::reload::Reread;
 use crate::report::Fault;
@@ -127,7 +129,7 @@ fn serve_stated<R: Files + AllocGlobal + Threads + Wait + Clock + Net + RandomSo
 ///
 /// `Refused`; `Memory`; `Clock`, `Seed`, `Bind`, `Control`, `Descriptors`, `Wait`, `Thread`, `Receive` and `Audit`, and the
 /// configuration is accepted then, and the endpoint one of its own.
-pub fn serve_file<
+fn serve_text<
     'a,
     R: Files + AllocGlobal + Threads + Wait + Clock + Net + RandomSource + Log + Sync,
 >(
@@ -156,5 +158,26 @@ pub fn serve_file<
             *lines = diagnose(rt.alloc(), configuration.path, text, fault);
             Err(Fault::of_configuration(configuration.path, fault))
         }
+    }
+}
+
+/// Serves the configuration of a path. `lines` are then what is said of one that is refused.
+pub fn serve_file<
+    'a,
+    R: Files + AllocGlobal + Threads + Wait + Clock + Net + RandomSource + Log + Sync,
+>(
+    rt: &R,
+    configuration: &'a str,
+    has_seed_of_file: bool,
+    milliseconds: Option<u64>,
+    lines: &mut Lines,
+) -> Result<(), Fault<'a>>
+    ensures ok { OnOk result ((text : List ℕ) × IsAccepted text) }
+    ensures err { IfErr result (λ fault. (words : List (List ℕ)) → (out : Option (List ℕ))
+        → AsksToServeIt words configuration.now milliseconds → Prevents words out out fault) }
+{
+    match TextFile::read(rt, configuration) {
+        Err(fault) => Err(fault),
+        Ok(file) => serve_text(rt, &file, has_seed_of_file, milliseconds, lines),
     }
 }

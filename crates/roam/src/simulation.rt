@@ -2,7 +2,7 @@
 
 ghost use Rattle.std.specs.Prelude.{OnOk, IfErr};
 ghost use Rattle.roam_sim.specs.Simulation.{Simulates};
-ghost use Rattle.roam.specs.Outcomes.{text_in, RunFails};
+ghost use Rattle.roam.specs.CommandFaults.{text_in, RunFails};
 
 use crate::output::finish;
 use crate::report::Fault;

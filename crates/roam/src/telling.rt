@@ -7,7 +7,8 @@ ghost use Rattle.roam.specs.Report.{Says, usage_text, version_text};
 
 use crate::command_line::Command;
 use crate::output::finish;
-use crate::report::{Fault, ProgramEnd, print_usage, print_version};
+use crate::report::{Fault, ProgramEnd};
+use crate::usage::{print_usage, print_version};
 use roam_diagnosis::Lines;
 use std::convert::AsStr;
 use std::io::Write;

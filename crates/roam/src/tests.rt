@@ -2,6 +2,7 @@
 
 use crate::program::command;
 use crate::report::Fault;
+use crate::statement_tests::STATED;
 use log::Log;
 use roam_conf::Endpoint;
 use roam_serve::{Reason, ServeFault};
@@ -16,21 +17,7 @@ use std::thread::Threads;
 use std::time::Clock;
 use std::{env, fs, io};
 
-const USAGE: &str = "usage: roam check CONF
-       roam check OLD NEW
-       roam sim CONF SCRIPT
-       roam serve [--seed-of-file] CONF [MS]
-       roam ctl PATH status [--json|--watch]
-       roam ctl PATH metrics|stop|reload|trace N
-       roam help
-       roam version
-";
-
-const VERSION: &str = "roam 1.0.0
-rattle-kit-13f logic dac8208d650f15bf
-";
-
-const CONFIGURATION: &str = "shards = 1
+pub(crate) const CONFIGURATION: &str = "shards = 1
 seed = \"0000000000000000000000000000000000000000000000000000000000000001\"
 auth = \"127.0.0.1:1812\"
 acct = \"127.0.0.1:1813\"
@@ -202,7 +189,7 @@ impl Write for Stuck {
 }
 
 /// Writes a file for this test alone, and answers its path.
-fn file<R: Files + Env + AllocGlobal>(
+pub(crate) fn file<R: Files + Env + AllocGlobal>(
     rt: &R,
     process: u32,
     name: &str,
@@ -216,7 +203,7 @@ fn file<R: Files + Env + AllocGlobal>(
 }
 
 /// The program ends so: with this status, after it printed this, and this fault.
-fn expect<
+pub(crate) fn expect<
     R: Files + AllocGlobal + Threads + Wait + Clock + Net + RandomSource + Log + Sync + Abort,
 >(rt: &R, words: &[&str], status: u8, printed: &str, told: &str) {
     let mut out = Vec::new(rt.alloc());
@@ -231,77 +218,6 @@ fn expect<
         "{words:?} tells {err:?}"
     );
     assert!(rt; ended == status, "{words:?} ends with {ended}");
-}
-
-/// Words that ask for nothing.
-const NO_COMMANDS: &[&[&str]] = &[
-    &[],
-    &[""],
-    &["check"],
-    &["check", "a", "b", "c"],
-    &["Check", "a"],
-    &["check ", "a"],
-    &["sim"],
-    &["sim", "a"],
-    &["sim", "a", "b", "c"],
-    &["serve"],
-    &["Serve", "a"],
-    &["serve", "a", ""],
-    &["serve", "a", "0"],
-    &["serve", "a", "00"],
-    &["serve", "a", "01"],
-    &["serve", "a", "86400001"],
-    &["serve", "a", "18446744073709551617"],
-    &["serve", "a", "+5"],
-    &["serve", "a", "-5"],
-    &["serve", "a", "5 "],
-    &["serve", "a", "5ms"],
-    &["serve", "a", "5", "5"],
-    &["serve", "--seed-of-file"],
-    &["serve", "a", "--seed-of-file"],
-    &["serve", "--seed-of-file", "a", "0"],
-    &["serve", "--seed-of-file", "a", "5", "5"],
-    &["serve", "--seed-of-files", "a"],
-    &["check", "--seed-of-file", "a", "b"],
-    &["sim", "--seed-of-file", "a", "b"],
-    &["ctl", "a"],
-    &["ctl", "a", "status", "json"],
-    &["ctl", "a", "status", "--json", "--watch"],
-    &["ctl", "a", "metrics", "--json"],
-    &["ctl", "a", "trace"],
-    &["ctl", "a", "trace", "x"],
-    &["ctl", "a", "trace", "65536"],
-    &["ctl", "status", "a"],
-    &["ctl", "a", "stop", "0"],
-    &["ctl", "a", "reload", "0"],
-    &["ctl", "reload", "a"],
-    &["Ctl", "a", "stop"],
-    &["help", "a"],
-    &["Help"],
-    &["-H"],
-    &["--version", "a"],
-    &["-v"],
-    &["a", "b"],
-    &["a", "b", "c"],
-];
-
-pub(crate) fn other_words_give_the_usage<
-    R: Files + Env + AllocGlobal + Threads + Wait + Clock + Net + RandomSource + Log + Sync + Abort,
->(rt: &R) {
-    for words in NO_COMMANDS {
-        expect(rt, words, 2, "", USAGE);
-    }
-}
-
-pub(crate) fn usage_and_version_are_printed<
-    R: Files + Env + AllocGlobal + Threads + Wait + Clock + Net + RandomSource + Log + Sync + Abort,
->(rt: &R) {
-    for word in ["help", "--help", "-h"] {
-        expect(rt, &[word], 0, USAGE, "");
-    }
-    for word in ["version", "--version", "-V"] {
-        expect(rt, &[word], 0, VERSION, "");
-    }
 }
 
 pub(crate) fn where_nobody_listens_there_is_no_answer<
@@ -335,12 +251,17 @@ server = [{ auth = \"198.51.100.1:1812\", acct = \"198.51.100.1:1813\", secret =
 /// What a comparison of two texts prints.
 fn expect_comparison<
     R: Files + Env + AllocGlobal + Threads + Wait + Clock + Net + RandomSource + Log + Sync + Abort,
->(rt: &R, process: u32, old: &str, new: &str, printed: &str) -> Result<(), Fail> {
+>(rt: &R, process: u32, old: &str, new: &str, status: u8, printed: &str) -> Result<(), Fail> {
     let old = file(rt, process, "old.conf", old.as_bytes())?;
     let new = file(rt, process, "new.conf", new.as_bytes())?;
-    expect(rt, &["check", old.as_str(), new.as_str()], 0, printed, "");
-    fs::remove_file(rt, old.as_str())?;
-    fs::remove_file(rt, new.as_str())?;
+    let (old, new) = (old.as_str(), new.as_str());
+    let told = match status {
+        0 => String::new(rt.alloc()),
+        _ => format!(in rt.alloc(); "roam: {new}: may not follow\n")?,
+    };
+    expect(rt, &["check", old, new], status, printed, told.as_str());
+    fs::remove_file(rt, old)?;
+    fs::remove_file(rt, new)?;
     Ok(())
 }
 
@@ -351,11 +272,9 @@ pub(crate) fn two_configurations_are_compared<
         "realm a.example: carried over\nrealm b.example: carried over\nrealm c.example: carried over\n";
     let more = format!(in rt.alloc(); "{LARGER}{FOURTH}")?;
     let added = format!(in rt.alloc(); "may follow\n{all}realm d.example: added\n")?;
-    expect_comparison(rt, process, LARGER, more.as_str(), added.as_str())?;
-    let removed = format!(in rt.alloc();
-        "may not follow: fewer realms\n{all}realm d.example: removed\n"
-    )?;
-    expect_comparison(rt, process, more.as_str(), LARGER, removed.as_str())?;
+    expect_comparison(rt, process, LARGER, more.as_str(), 0, added.as_str())?;
+    let removed = "may not follow: fewer realms\n";
+    expect_comparison(rt, process, more.as_str(), LARGER, 1, removed)?;
     Ok(())
 }
 
@@ -448,6 +367,7 @@ pub(crate) fn a_configuration_is_refused_by_name<
         let path = path.as_str();
         let told = format!(in rt.alloc(); "roam: {path}: {name}\n{path}{place}\n")?;
         expect(rt, &["check", path], 1, "", told.as_str());
+        expect(rt, &["check", "--all", path], 1, "", told.as_str());
         // Its own text is no script, and that isn't looked at.
         expect(rt, &["sim", path, path], 1, "", told.as_str());
         expect(rt, &["serve", path], 1, "", told.as_str());
@@ -457,12 +377,15 @@ pub(crate) fn a_configuration_is_refused_by_name<
     Ok(())
 }
 
-/// A file can't be read, wherever its path stands. The script is read before the configuration is judged.
+/// A file can't be read, wherever its path stands. All files are read before a configuration is judged.
 fn expect_unreadable<
     R: Files + AllocGlobal + Threads + Wait + Clock + Net + RandomSource + Log + Sync + Abort,
->(rt: &R, accepted: &str, refused: &str, path: &str) -> Result<(), Fail> {
-    let told = format!(in rt.alloc(); "roam: {path}: unreadable\n")?;
+>(rt: &R, accepted: &str, refused: &str, path: &str, why: &str) -> Result<(), Fail> {
+    let told = format!(in rt.alloc(); "roam: {path}{why}\n")?;
     expect(rt, &["check", path], 1, "", told.as_str());
+    expect(rt, &["check", "--all", path], 1, "", told.as_str());
+    expect(rt, &["check", path, "/nowhere"], 1, "", told.as_str());
+    expect(rt, &["check", refused, path], 1, "", told.as_str());
     expect(rt, &["serve", path], 1, "", told.as_str());
     expect(rt, &["serve", path, "1"], 1, "", told.as_str());
     expect(rt, &["sim", path, "/nowhere"], 1, "", told.as_str());
@@ -476,12 +399,17 @@ pub(crate) fn what_is_no_text_is_unreadable<
 >(rt: &R, process: u32) -> Result<(), Fail> {
     let accepted = file(rt, process, "good.conf", CONFIGURATION.as_bytes())?;
     let refused = file(rt, process, "bad.conf", b"shards = \n")?;
-    let binary = file(rt, process, "binary", &[b'#', 0xff, b'\n'])?;
+    let binary = file(rt, process, "binary", b"#\n\n#\xff\n\xff")?;
     let folder = env::temp_dir(rt)?;
-    expect_unreadable(rt, accepted.as_str(), refused.as_str(), binary.as_str())?;
-    expect_unreadable(rt, accepted.as_str(), refused.as_str(), folder.as_str())?;
-    expect_unreadable(rt, accepted.as_str(), refused.as_str(), "/nowhere/at/all")?;
-    expect_unreadable(rt, accepted.as_str(), refused.as_str(), "")?;
+    for (path, why) in [
+        (binary.as_str(), ":3: isn't UTF-8"),
+        (folder.as_str(), ": Is a directory"),
+        ("/nowhere/at/all", ": No such file or directory"),
+        ("/dev/null/file", ": Not a directory"),
+        ("", ": No such file or directory"),
+    ] {
+        expect_unreadable(rt, accepted.as_str(), refused.as_str(), path, why)?;
+    }
     fs::remove_file(rt, accepted.as_str())?;
     fs::remove_file(rt, refused.as_str())?;
     fs::remove_file(rt, binary.as_str())?;
@@ -600,6 +528,7 @@ pub(crate) fn a_refused_write_is_told<
     let (path, script_path) = (configuration.as_str(), script.as_str());
     let advice = lines_of(rt, path, LEAST_ADVICE)?;
     expect_refused(rt, &["check", path], 29, advice.as_str());
+    expect_refused(rt, &["check", "--all", path], STATED.len(), "");
     expect_refused(rt, &["sim", path, script_path], EXCHANGED.len(), "");
     fs::remove_file(rt, configuration.as_str())?;
     fs::remove_file(rt, script.as_str())?;
@@ -620,6 +549,7 @@ pub(crate) fn a_fault_that_cannot_be_told_keeps_its_status<
     R: Files + Env + AllocGlobal + Threads + Wait + Clock + Net + RandomSource + Log + Sync + Abort,
 >(rt: &R) {
     assert!(rt; status_untold(rt, &[]) == 2);
+    assert!(rt; status_untold(rt, &["chek"]) == 2);
     assert!(rt; status_untold(rt, &["check", "/nowhere"]) == 1);
     assert!(rt; Fault::Memory.tell(&mut Stuck).status == 3);
     let mut err = Vec::new(rt.alloc());

@@ -1,7 +1,7 @@
 //! Asking a server something, and how it stands again and again.
 
 ghost use Rattle.std.specs.Prelude.{◌≡◌, OnOk, IfErr};
-ghost use Rattle.roam.specs.Outcomes.{AskFails, IsPrinted};
+ghost use Rattle.roam.specs.CommandFaults.{AskFails, IsPrinted};
 
 use crate::command_line::ControlOrder;
 use crate::control::{answer, ask_once, body_of, is_done, print};

@@ -1,4 +1,5 @@
-use Rattle.roam.proofs.AnswerLemmas.{compare-prevents-all, unread-next-prevents, unread-old-prevents}
+use Rattle.roam.proofs.PreventLemmas.{compare-prevents-all}
+use Rattle.roam.proofs.UnreadLemmas.{unread-next-prevents, unread-old-prevents}
 use Rattle.roam.proofs.CompareLemmas.{compared}
 use Rattle.roam.proofs.compare.compare_files.Goals as goal
 
@@ -18,7 +19,7 @@ returns-in_err-next-clause-err g c =
 pub returns-clause-ok : goal.returns-clause-ok
 returns-clause-ok g c =
     compared c.in_ok-configuration.configuration c.in_ok-next.next c.args.configuration.now c.args.next.now _ _ c.compare.result
-    c.compare.ensures.first c.compare.ensures.second c.compare.ensures.printed
+    c.compare.ensures.may c.compare.ensures.printed
 
 -- Both are read, and the comparison has a fault.
 pub returns-clause-err : goal.returns-clause-err

@@ -1,12 +1,12 @@
 use Rattle.roam_conf.specs.Shown.{shown}
-use Rattle.roam.proofs.CompareLemmas.{accepted}
-use Rattle.roam.proofs.OutcomeLemmas.{unread-fails}
+use Rattle.roam.proofs.OutcomeLemmas.{accepted-text, unread-fails}
 use Rattle.roam.proofs.compare.configuration_in.Goals as goal
 
 -- the file states the configuration that was read
 pub returns-in-Ok-clause-ok : goal.returns-in-Ok-clause-ok
 returns-in-Ok-clause-ok c =
-    accepted c.args.file.now c.as_str.result.now (shown c.in-Ok.config) c.as_str.ensures.value c.in-Ok.ensures.ok c.in-Ok.ensures.faultless
+    accepted-text c.args.file.now c.as_str.result.now (shown c.in-Ok.config) c.as_str.ensures.value
+    c.in-Ok.ensures.ok c.in-Ok.ensures.faultless
 
 -- or it is refused
 pub returns-in-Err-clause-err : goal.returns-in-Err-clause-err

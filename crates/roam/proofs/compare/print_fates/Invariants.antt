@@ -1,4 +1,4 @@
-use Rattle.roam.specs.Outcomes.{IsPrinted}
+use Rattle.roam.specs.CommandFaults.{IsPrinted}
 use Rattle.roam.proofs.compare.print_fates.Given as goal
 
 abbrev pub invariant-loop-realm : goal.invariant-loop-realm

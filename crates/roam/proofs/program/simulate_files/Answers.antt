@@ -1,4 +1,5 @@
-use Rattle.roam.proofs.AnswerLemmas.{run-prevents-all, unread-configuration-prevents, unread-script-prevents}
+use Rattle.roam.proofs.PreventLemmas.{run-prevents-all}
+use Rattle.roam.proofs.UnreadLemmas.{unread-configuration-prevents, unread-script-prevents}
 use Rattle.roam.proofs.program.simulate_files.Goals as goal
 
 -- The configuration isn't read.

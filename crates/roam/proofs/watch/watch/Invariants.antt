@@ -1,4 +1,4 @@
-use Rattle.roam.specs.Outcomes.{IsPrinted}
+use Rattle.roam.specs.CommandFaults.{IsPrinted}
 use Rattle.roam.proofs.watch.watch.Given as goal
 
 -- something was printed so far

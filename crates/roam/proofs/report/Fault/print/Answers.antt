@@ -1,6 +1,15 @@
 -- The text is that of this fault.
 use Rattle.roam.proofs.report.Fault.print.Goals as goal
 
+pub returns-in-NoCommand : goal.returns-in-NoCommand
+returns-in-NoCommand g c = rw c.in-NoCommand.is c.print_no_command.ensures
+
+pub returns-in-Unreadable : goal.returns-in-Unreadable
+returns-in-Unreadable g c = rw c.in-Unreadable.is c.print_unreadable.ensures
+
+pub returns-in-NotText : goal.returns-in-NotText
+returns-in-NotText g c = rw c.in-NotText.is c.print_not_text.ensures
+
 pub returns-in-Refused : goal.returns-in-Refused
 returns-in-Refused g c = rw c.in-Refused.is c.print_refused.ensures
 

@@ -1,5 +1,5 @@
 use Rattle.roam.proofs.CompareLemmas.{kept_then, printed_more}
-use Rattle.roam.proofs.compare.print_all.Goals as goal
+use Rattle.roam.proofs.compare.print_fates_of.Goals as goal
 
 -- both were printed, and handed on
 pub returns : goal.returns

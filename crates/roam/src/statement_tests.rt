@@ -1,0 +1,118 @@
+//! What is printed of configurations with all their defaults.
+
+use crate::tests::{CONFIGURATION, expect, file};
+use log::Log;
+use std::fs;
+use std::net::Net;
+use std::process::Abort;
+use std::random::RandomSource;
+use std::rt::{Env, Files};
+use std::sync::Wait;
+use std::test::Fail;
+use std::thread::Threads;
+use std::time::Clock;
+
+/// What is printed of the first one with all its defaults.
+pub(crate) const STATED: &str = "shards = 1
+seed = \"0000000000000000000000000000000000000000000000000000000000000001\"
+auth = \"127.0.0.1:1812\"
+acct = \"127.0.0.1:1813\"
+trace_limit = 1000
+trace_octets = 67108864
+status_server = false
+spread = false
+log_exchanges = \"all\"
+
+[[peer]]
+name = \"nas1\"
+ip = \"192.0.2.1\"
+secret = \"xyzzy5461\"
+coa = \"192.0.2.1:3799\"
+nas_ip = \"192.0.2.1\"
+nas_id = \"nas1\"
+require_seal = true
+
+[[realm]]
+name = \"a.example\"
+also = []
+out = \"127.0.0.1:2000\"
+reverse = \"127.0.0.1:3000\"
+tries = 2
+wait = 1000
+rest = 30000
+rest_after = 3
+hold = 5000
+max_pending = 300
+max_sessions = 100
+
+[[realm.server]]
+auth = \"198.51.100.1:1812\"
+acct = \"198.51.100.1:1813\"
+secret = \"h1\"
+require_seal = true
+";
+
+/// A configuration without defaults, as it is printed with all of them.
+const FULL: &str = "shards = 64
+seed = \"00a1b2c3d4e5f60718293a4b5c6d7e8f00a1b2c3d4e5f60718293a4b5c6d7e8f\"
+auth = \"0.0.0.0:1812\"
+acct = \"0.0.0.0:1813\"
+trace_limit = 1000000
+trace_octets = 1
+max_hops = 100
+status_server = true
+spread = true
+metrics = \"127.0.0.1:9812\"
+control = \"/run/a \\\"b\\\\c\"
+log_exchanges = \"final\"
+
+[[peer]]
+name = \"nas-1_a.b\"
+ip = \"255.255.255.255\"
+secret = \"\\u0000\\u0009\\u000a\\u001f\\u007f\\u0080\\u009f\u{a0}\u{e9}\u{20ac} # '\\\"\\\\u\"
+require_seal = false
+
+[[peer]]
+name = \"nas2\"
+ip = \"192.0.2.2\"
+secret = \"'''\"
+coa = \"192.0.2.2:65535\"
+nas_ip = \"192.0.2.2\"
+nas_id = \"\\u001b[31m\"
+require_seal = true
+
+[[realm]]
+name = \"a.example\"
+also = [\"*\", \"*.Example\", \"b.example\"]
+out = \"127.0.0.1:2000\"
+tries = 10
+wait = 60000
+rest = 0
+rest_after = 256
+hold = 0
+max_pending = 1
+max_sessions = 0
+
+[[realm.server]]
+auth = \"198.51.100.1:1\"
+acct = \"198.51.100.1:2\"
+secret = \"h1\"
+require_seal = false
+
+[[realm.server]]
+auth = \"198.51.100.2:1\"
+acct = \"198.51.100.2:2\"
+secret = \"h2\"
+require_seal = true
+";
+
+pub(crate) fn a_configuration_is_stated_with_its_defaults<
+    R: Files + Env + AllocGlobal + Threads + Wait + Clock + Net + RandomSource + Log + Sync + Abort,
+>(rt: &R, process: u32) -> Result<(), Fail> {
+    for (text, stated) in [(CONFIGURATION, STATED), (STATED, STATED), (FULL, FULL)] {
+        let path = file(rt, process, "stated.conf", text.as_bytes())?;
+        expect(rt, &["check", "--all", path.as_str()], 0, stated, "");
+        fs::remove_file(rt, path.as_str())?;
+    }
+    Ok(())
+}

@@ -1,0 +1,137 @@
+#!/usr/bin/env python3
+"""try-statements.py PROGRAM
+
+Runs `PROGRAM check --all` on each configuration of packaging/samples and examples. What it prints must state the same:
+`check` must accept it with the same summary, `check --all` of it must print the same text, Python's own reader of TOML
+must find in it each value of the file, and it must have each key of docs/FILES.md but those that have no default. And it
+tries what the program says of words and files that it can't take.
+"""
+
+import os
+import re
+import shutil
+import subprocess
+import sys
+import tempfile
+import tomllib
+
+sys.dont_write_bytecode = True
+ROOT = os.path.dirname(os.path.dirname(os.path.dirname(os.path.abspath(__file__))))
+FOLDERS = ("packaging/samples", "examples")
+# What counts where one of these is absent can't be written.
+WITHOUT_DEFAULT = {"max_hops", "metrics", "control", "coa", "nas_ip", "nas_id", "reverse"}
+USAGE = "usage: roam check CONF\n"
+
+
+def run(program, *words, user=None):
+    ran = subprocess.run([program, *words], stdout=subprocess.PIPE, stderr=subprocess.PIPE, timeout=60, check=False, user=user)
+    return ran.returncode, ran.stdout.decode(), ran.stderr.decode()
+
+
+def want(holds, what):
+    if not holds:
+        sys.exit(f"try-statements: {what}")
+
+
+def keys_of_page():
+    """The keys of each table, in the order of the page."""
+    keys = {"top": [], "peer": [], "realm": [], "server": []}
+    with open(os.path.join(ROOT, "docs", "FILES.md"), encoding="utf-8") as page:
+        for line in page:
+            row = re.match(r"\| (top|peer|realm|server) \| ([^|]*) \|", line)
+            if row:
+                keys[row[1]] += re.findall(r"`(\w+)`", row[2])
+    return keys
+
+
+def look_at_table(given, stated, kind, keys, where):
+    """All keys stand there in their order, and those of the file with its values."""
+    wanted = [key for key in keys[kind] if key not in WITHOUT_DEFAULT or key in given]
+    want(list(stated) == wanted, f"{where}: has {list(stated)}, not {wanted}")
+    for key, value in given.items():
+        if isinstance(value, list) and value and isinstance(value[0], dict):
+            want(len(stated[key]) == len(value), f"{where}: {key} has {len(stated[key])} tables, not {len(value)}")
+            for count, (one, other) in enumerate(zip(value, stated[key])):
+                look_at_table(one, other, key, keys, f"{where}: {key} {count}")
+        elif key == "log_exchanges" and isinstance(value, bool):
+            want(stated[key] == ("all" if value else "none"), f"{where}: {key} is {stated[key]}")
+        else:
+            want(stated[key] == value, f"{where}: {key} is {stated[key]!r}, not {value!r}")
+
+
+def look_at_file(program, path, keys, folder):
+    status, summary, _ = run(program, "check", path)
+    want(status == 0, f"{path} is refused")
+    status, stated, said = run(program, "check", "--all", path)
+    want((status, said) == (0, ""), f"{path}: check --all ends with {status}: {said}")
+    with open(path, "rb") as file:
+        look_at_table(tomllib.load(file), tomllib.loads(stated), "top", keys, path)
+    again = os.path.join(folder, "stated.conf")
+    with open(again, "w", encoding="utf-8") as file:
+        file.write(stated)
+    want(run(program, "check", again)[:2] == (0, summary), f"{path}: what is printed is judged otherwise")
+    want(run(program, "check", "--all", again) == (0, stated, ""), f"{path}: what is printed is printed otherwise")
+    # Each realm goes on as it stands.
+    status, fates, said = run(program, "check", path, again)
+    want((status, said) == (0, "") and fates.startswith("may follow\n"), f"{path}: what is printed may not follow")
+    for line in fates.splitlines()[1:]:
+        want(line.endswith(": carried over"), f"{path}: {line}")
+
+
+def look_at_faults(program, folder):
+    def write(name, octets):
+        path = os.path.join(folder, name)
+        with open(path, "wb") as file:
+            file.write(octets)
+        return path
+
+    absent = os.path.join(folder, "absent.conf")
+    told = {
+        absent: ": No such file or directory",
+        folder: ": Is a directory",
+        write("latin1.conf", b"# a\n# \xe9\n"): ":2: isn't UTF-8",
+    }
+    closed = write("closed.conf", b"")
+    os.chmod(closed, 0)
+    # Root may read it: then nobody looks, by a copy of the program that everybody may run.
+    user = 65534 if os.geteuid() == 0 else None
+    os.chmod(folder, 0o755)
+    copied = shutil.copy(program, folder)
+    denied = (1, "", f"roam: {closed}: Permission denied\n")
+    want(run(copied, "check", closed, user=user) == denied, f"{closed}: {run(copied, 'check', closed, user=user)}")
+    for path, why in told.items():
+        for words in (("check", path), ("check", "--all", path), ("check", path, absent), ("serve", path, "1")):
+            want(run(program, *words) == (1, "", f"roam: {path}{why}\n"), f"{words}: {run(program, *words)}")
+    for words in (("chek", "a"), ("--all", "a"), ("",)):
+        status, printed, said = run(program, *words)
+        want((status, printed) == (2, ""), f"{words} end with {status}")
+        want(said.startswith(f"roam: {words[0]}: no such command\n{USAGE}"), f"{words}: {said}")
+    for words in ((), ("check",), ("check", "--all"), ("ctl", "a", "b"), ("help", "a")):
+        status, printed, said = run(program, *words)
+        want((status, printed) == (2, "") and said.startswith(USAGE), f"{words}: {status} {said}")
+    samples = os.path.join(ROOT, "packaging", "samples")
+    old = os.path.join(samples, "visited-network.conf")
+    with open(old, "rb") as file:
+        fewer = write("fewer.conf", re.sub(rb"\n\[\[realm\]\].*?(?=\n\[\[realm\]\])", b"", file.read(), count=1, flags=re.S))
+    wanted = (1, "may not follow: fewer realms\n", f"roam: {fewer}: may not follow\n")
+    want(run(program, "check", old, fewer) == wanted, f"fewer realms: {run(program, 'check', old, fewer)}")
+
+
+def main():
+    if len(sys.argv) != 2:
+        sys.exit(__doc__)
+    program = os.path.abspath(sys.argv[1])
+    keys = keys_of_page()
+    count = 0
+    with tempfile.TemporaryDirectory() as folder:
+        for part in FOLDERS:
+            for name in sorted(os.listdir(os.path.join(ROOT, part))):
+                if name.endswith(".conf"):
+                    look_at_file(program, os.path.join(ROOT, part, name), keys, folder)
+                    count += 1
+        look_at_faults(program, folder)
+    print(f"{count} configurations are stated with all their defaults, and mean the same; faults are told")
+
+
+if __name__ == "__main__":
+    main()
