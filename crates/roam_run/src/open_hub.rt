@@ -163,11 +163,16 @@ fn run_to_end<
         outboxes,
     } = room;
     let RunResult { ends, end } = run(parts, configured, hub, seat, results, means);
-    let ended = gather(ends, seats, outboxes)?;
-    if ended.has_given_up {
-        return Err(ServeFault::Receive);
+    match gather(ends, seats, outboxes) {
+        Ok(ended) => {
+            if ended.has_given_up {
+                Err(ServeFault::Receive)
+            } else {
+                Ok(RunEnd { end, ended })
+            }
+        }
+        Err(fault) => Err(fault),
     }
-    Ok(RunEnd { end, ended })
 }
 
 /// A hub that is open, until it is closed and audited.

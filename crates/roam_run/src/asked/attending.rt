@@ -252,13 +252,19 @@ impl<R: Wait + Clock + Net + Log, G, N: Opened> Attendant<'_, '_, R, G, N> {
         self.attend_to(desk, order, source)
     }
 
+    /// Answers who asks for the counts. No configuration comes by that.
+    fn attend_metrics<S: Source>(&mut self, source: &mut S) {
+        let office = self.shared.office;
+        let _never = self.attend_at(&office.metrics, source);
+    }
+
     /// Answers who asks at either desk, unless a configuration comes by it that is to follow.
     fn attend_both<S: Source>(&mut self, source: &mut S) -> Option<Next>
         ensures { IfSome result (λ next.
             MayFollow N.opening.config (shown next.configured.config)) }
     {
+        self.attend_metrics(source);
         let office = self.shared.office;
-        let _never = self.attend_at(&office.metrics, source);
         self.attend_at(&office.control, source)
     }
 
