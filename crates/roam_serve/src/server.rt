@@ -181,29 +181,6 @@ fn first_means<R: Net>(
     })
 }
 
-/// What outlasts each configuration, and takes memory.
-#[derive(Drop)]
-struct Lasting {
-    old_history: OldHistory,
-    office: Office,
-}
-
-/// Makes it.
-fn make_lasting<R: Clock>(
-    rt: &R,
-    alloc: Global,
-    start: Instant,
-    shards: u16,
-    build: Build,
-) -> Result<Lasting, ServeFault>
-    ensures err { IfErr result IsAfterBinding }
-{
-    Ok(Lasting {
-        old_history: OldHistory::new(alloc, shards)?,
-        office: Office::new(rt, alloc, start, shards, build)?,
-    })
-}
-
 /// Serves a configuration, and each one that follows by `source`. The log of `rt` isn't to wait for whoever reads it: a
 /// change and the end wait for the logger. What the log says that it has no room for is dropped, and counted.
 ///
@@ -236,14 +213,12 @@ pub fn serve<
     };
     let sockets = bind_all(rt, alloc, &config)?;
     widen_all(rt, &config, sockets.as_slice());
-    let means = first_means(rt, alloc, &config, sockets.as_slice(), told_exchanges)?;
-    let Lasting {
-        old_history,
-        office,
-    } = make_lasting(rt, alloc, start, config.shards, build_of(watch))?;
     let listener = listener(rt, &config, watch);
     let losses = SharedLosses::new();
+    let old_history = OldHistory::new(alloc, config.shards)?;
+    let office = Office::new(rt, alloc, start, config.shards, build_of(watch))?;
     let stopping = Stopping::new();
+    let means = first_means(rt, alloc, &config, sockets.as_slice(), told_exchanges)?;
     let configured = Configured {
         config,
         sockets,
