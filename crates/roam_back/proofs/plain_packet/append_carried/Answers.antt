@@ -23,4 +23,4 @@ loop-next-preserved g c =
 -- where none is left, all was appended
 pub returns-clause-items : goal.returns-clause-items
 returns-clause-items g c =
-    IsReturning-end _ _ _ _ _ _ _ _ c.in-None.ensures.steps c.loop-next.invariant.returning
+    IsReturning-end _ _ _ _ _ _ _ _ c.in-None.ensures.steps.0 c.loop-next.invariant.returning

@@ -24,4 +24,4 @@ loop-attribute-preserved g c =
 -- where none is left, all was appended
 pub returns-clause-items : goal.returns-clause-items
 returns-clause-items g c =
-    IsPassing-end _ _ _ _ _ _ _ c.in-None.ensures.steps c.loop-attribute.invariant.passing
+    IsPassing-end _ _ _ _ _ _ _ c.in-None.ensures.steps.0 c.loop-attribute.invariant.passing

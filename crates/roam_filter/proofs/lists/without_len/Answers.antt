@@ -23,7 +23,7 @@ loop-attribute-preserved c =
 
 -- where none is left, all is counted
 pub returns-clause-all : goal.returns-clause-all
-returns-clause-all c = IsCounted-end _ _ _ _ c.in-None.ensures.steps c.loop-attribute.invariant
+returns-clause-all c = IsCounted-end _ _ _ _ c.in-None.ensures.steps.0 c.loop-attribute.invariant
 
 pub returns-clause-few : goal.returns-clause-few
 returns-clause-few c =
