@@ -5,7 +5,7 @@ ghost use Rattle.roam_counters.specs.Datagrams as spec;
 ghost use Rattle.roam_counters.specs.Datagrams.{IsBalanced};
 
 /// What becomes of a datagram.
-#[derive(Clone, Copy, Debug, PartialEq, Eq)]
+#[derive(Clone, Copy, PartialEq, Eq)]
 pub enum Handling {
     /// A realm's rules took it: it is a step of a history.
     Taken,
@@ -20,7 +20,7 @@ pub enum Handling {
 }
 
 /// How many datagrams were received, and what became of them. A count stays at 2^64 - 1.
-#[derive(Clone, Copy, Debug, PartialEq, Eq)]
+#[derive(Clone, Copy, PartialEq, Eq)]
 pub struct DatagramCounts {
     pub received: u64,
     pub taken: u64,
@@ -64,7 +64,7 @@ impl DatagramCounts {
 
 /// The account of the datagrams that were received: each was taken, answered, refused or dropped, or it failed, while
 /// fewer than 2^64 - 1 were received.
-#[derive(Clone, Copy, Debug, PartialEq, Eq)]
+#[derive(Clone, Copy, PartialEq, Eq)]
 pub struct Datagrams {
     pub counts: DatagramCounts,
     ghost balanced: { IsBalanced counts },
