@@ -127,7 +127,7 @@ fn are_octets(name: &[u8])
 
 /// So are those of an Operator-Name, if there is one.
 pub(crate) fn are_octets_of(name: Option<&[u8]>)
-    ensures { ForSome (option_map (λ name. name.now) name) AreOctets }
+    ensures { ForSome (option_map (λ name. name.now) name.entry) AreOctets }
 {
     if let Some(name) = name {
         are_octets(name);
@@ -156,7 +156,7 @@ fn name_size(name: &[u8]) -> usize
 /// How many octets an Operator-Name takes, if there is one.
 fn name_len(name: Option<&[u8]>) -> usize
     requires { ForSome (option_map (λ name. name.now) name) (λ name. length name ≤ 252) }
-    ensures all { result ≡ length (attributes_text (name_of (option_map (λ name. name.now) name))) }
+    ensures all { result ≡ length (attributes_text (name_of (option_map (λ name. name.now) name.entry))) }
     ensures few { result ≤ 255 }
 {
     match name {
@@ -216,7 +216,7 @@ fn append_name<A: Allocator>(out: &mut Vec<u8, A>, name: Option<&[u8]>)
     requires room { vec_len out.old + length (attributes_text (name_of (option_map (λ name. name.now) name)))
         ≤ vec_capacity out.old }
     ensures items { out.new.items
-        ≡ out.old.items ++ attributes_text (name_of (option_map (λ name. name.now) name)) }
+        ≡ out.old.items ++ attributes_text (name_of (option_map (λ name. name.now) name.entry)) }
     ensures capacity { vec_capacity out.new ≡ vec_capacity out.old }
 {
     if let Some(name) = name {

@@ -14,6 +14,3 @@ returns-in-Some-clause-items g c =
     (c.append_attribute.ensures.items
     ∙ ap (λ (t : List ℕ). c.args.out.now.items ++ t)
     (sym (text-one (record { kind = CHAP_CHALLENGE; value = c.in-Some.value }))))
-
-pub returns-in-None-clause-items : goal.returns-in-None-clause-items
-returns-in-None-clause-items g c = rw c.in-None.is (sym (append-nil c.args.out.now.items))

@@ -15,6 +15,3 @@ returns-in-Some-clause-items g c =
     rw c.in-Some.is
     (c.append_operator_name.ensures.items
     ∙ ap (λ (t : List ℕ). c.args.out.now.items ++ t) (sym (text-name c.in-Some.name.now)))
-
-pub returns-in-None-clause-items : goal.returns-in-None-clause-items
-returns-in-None-clause-items g c = rw c.in-None.is (sym (append-nil c.args.out.now.items))

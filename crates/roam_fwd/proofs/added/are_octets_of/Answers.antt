@@ -7,8 +7,3 @@ returns-in-Some c = λ octets is.
     let some : Some c.in-Some.name.now ≡ Some octets = rw c.in-Some.is at is in
     let same : c.in-Some.name.now ≡ octets = cc some in
     subst AreOctets same c.are_octets.ensures
-
-pub returns-in-None : goal.returns-in-None
-returns-in-None c = λ octets is.
-    let some : None ≡ Some octets = rw c.in-None.is at is in
-    absurd (cc some)
