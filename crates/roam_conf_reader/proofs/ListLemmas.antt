@@ -10,6 +10,7 @@ use Rattle.std.specs.Str.{bytes_eq}
 use Rattle.std.specs.declared.vec.Vec.{Vec}
 use Rattle.toml.specs.Data.{Data, string, array, Items, no_items, item, Members, get_member}
 use Rattle.roam_wire.specs.declared.removed_attribute.RemovedAttribute.{RemovedAttribute}
+use Rattle.roam_wire.specs.RemovedAttributes.{is_removal, is_removal_in_requests, is_removal_in_replies}
 use Rattle.roam_conf.specs.declared.accounting.Accounting.{Accounting}
 use Rattle.roam_conf.specs.declared.server.Server.{Server}
 use Rattle.roam_conf.specs.Config.{ServerView, PatternView, whole, suffix, any, RealmView}
@@ -19,6 +20,9 @@ use Rattle.roam_conf.specs.Texts.{removed_in}
 use Rattle.roam_conf_reader.specs.declared.values.Letters.TheVariants.{Any}
 use Rattle.roam_conf_reader.specs.Document.{StatesEach, StatesTables, StatesServer, StatesRealm, are_accounted}
 use Rattle.roam_conf_reader.specs.Values.{accounting, array_of, value_at, pattern_in, pattern, each_of, cons_if_both, list_of, passing, rejects, removed, peer_names, text, letters_of, if_there, item_count}
+use Rattle.roam_conf_reader.specs.declared.removed.Removals.{Removals}
+use Rattle.roam_conf_reader.specs.declared.removed.Removals.TheVariants.{OfRequests, OfReplies}
+use Rattle.roam_conf_reader.specs.Removals.{kept_of, may_name}
 use Rattle.roam_conf_reader.proofs.UniqueLemmas.{each_unique, server_unique}
 
 -- a text that says a pattern says one with a realm's name
@@ -44,6 +48,25 @@ pub stated_pattern : (found : Data) (p : PatternView) → pattern found ≡ Some
 unfolding pattern
 stated_pattern (string octets) p is = said_pattern octets p is
 stated_pattern found p is = cc
+
+-- what a list may name, by what stays
+pub may_name_is : (r : Removals) (x : RemovedAttribute) → may_name r x ≡ is_removal (kept_of r) x
+unfolding is_removal_in_requests is_removal_in_replies
+may_name_is OfRequests x = refl
+may_name_is OfReplies x = refl
+
+-- a value that passes a test, and one that doesn't
+pub passed : {V : Type 0} (test : V → Bool) (o : Option V) (v : V) → Some v ≡ o → test v ≡ true → Some v ≡ passing test o
+passed test None v there holds = cc
+passed test (Some w) v there holds =
+    let same : v ≡ w = same_Some v w there in
+    rw (← same, holds) refl
+
+pub not_passed : {V : Type 0} (test : V → Bool) (o : Option V) (v : V) → Some v ≡ o → test v ≡ false → None ≡ passing test o
+not_passed test None v there fails = refl
+not_passed test (Some w) v there fails =
+    let same : v ≡ w = same_Some v w there in
+    rw (← same, fails) refl
 
 -- an attribute that a list may name
 pub stated_removed : (may_name : RemovedAttribute → Bool) (found : Data) (r : RemovedAttribute) →
@@ -162,11 +185,11 @@ accounted_shown [] = refl
 accounted_shown (s ∷ ss) = ap (λ b. is_some s.acct && b) (accounted_shown ss)
 
 -- a table in which some server takes no accounting that is forwarded states no realm
-pub not_accounted : (members : Members) (items : Items) (r : RealmView) (a : Accounting) (servers : List ServerView)
-    → value_at (array_of 8) (codes "server") members ≡ Some items →
-    accounting (get_member (codes "accounting") members) ≡ Some a → StatesEach StatesServer items servers →
-    are_accounted a servers ≡ false → StatesRealm members r → ⊥
-not_accounted members items r a servers there said each none stated =
+pub not_accounted : (table : Members) (items : Items) (r : RealmView) (a : Accounting) (servers : List ServerView)
+    → value_at (array_of 8) (codes "server") table ≡ Some items →
+    accounting (get_member (codes "accounting") table) ≡ Some a → StatesEach StatesServer items servers →
+    are_accounted a servers ≡ false → StatesRealm table r → ⊥
+not_accounted table items r a servers there said each none stated =
     let same : r.accounting ≡ a = same_Some r.accounting a (sym stated.accounting ∙ said) in
     let ours : StatesEach StatesServer items r.servers =
     subst (λ (o : Option Items). StatesTables StatesServer o r.servers) there stated.servers in

@@ -8,6 +8,7 @@ ghost use Rattle.roam_wire.specs.RemovedAttributes.{is_removal, is_removal_in_re
 ghost use Rattle.roam_wire.specs.RemovedAttributes.{is_one_of};
 ghost use Rattle.roam_conf_reader.specs.Reading.{IsValueFault};
 ghost use Rattle.roam_conf_reader.specs.Removals.{kept_of, may_name};
+ghost use Rattle.roam_conf.specs.Texts.{removed_in};
 ghost use Rattle.roam_conf_reader.specs.Values as spec;
 
 use crate::ConfFault;
@@ -48,16 +49,30 @@ impl Removals {
     }
 }
 
+/// The attribute that a text names, where the list may name it.
+fn from_text(text: &str, removals: Removals) -> Option<RemovedAttribute>
+    ensures { result ≡ spec.passing (may_name removals) (removed_in text.now) }
+{
+    match removed_attribute(text) {
+        Some(removed) => {
+            if removals.may_name(removed) {
+                Some(removed)
+            } else {
+                None
+            }
+        }
+        None => None,
+    }
+}
+
 /// The attribute that a value names, where the list may name it.
 #[tactic(auto, unfolding(crate::specs::Values::removed))]
 fn from_value(value: &Value, removals: Removals) -> Option<RemovedAttribute>
     ensures { result ≡ spec.removed (may_name removals) (view value.now) }
 {
-    let removed = removed_attribute(value.as_str()?)?;
-    if removals.may_name(removed) {
-        Some(removed)
-    } else {
-        None
+    match value.as_str() {
+        Some(text) => from_text(text, removals),
+        None => None,
     }
 }
 

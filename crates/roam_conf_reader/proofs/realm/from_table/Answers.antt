@@ -1,6 +1,6 @@
 use Rattle.toml.specs.Data.{get_member}
 use Rattle.toml.specs.View.{table_view, array_view}
-use Rattle.std.proofs.Common.{◌≡◌, ◌≤◌, ◌∙◌, true, Option, Some, None, List, codes, is_some, map, option_map, sym, arith}
+use Rattle.std.proofs.Common.{◌≡◌, ◌≤◌, ◌∙◌, true, false, Option, Some, None, List, codes, is_some, map, option_map, sym, arith}
 use Rattle.std.proofs.lemmas.List.{length-map}
 use Rattle.std.specs.List.{list_all}
 use Rattle.roam_wire.specs.RemovedAttributes.{is_removal_in_requests, is_removal_in_replies}
