@@ -1,5 +1,6 @@
 -- What becomes of a realm.
-use Rattle.std.proofs.Common.{◌≡◌, ◌≢◌, ℕ, ◌<◌, [], Some, None, option_map, length, slice_get, ap, sym, ◌∙◌}
+use Rattle.std.proofs.Common.{◌≡◌, ◌≢◌, ℕ, false, ◌<◌, [], Some, None, option_map, length, slice_get, ap, sym, ◌∙◌}
+use Rattle.roam_conf.specs.declared.accounting.Accounting.TheVariants.{Forwarded}
 use Rattle.roam_conf.specs.Config.{ConfigView, RealmView}
 use Rattle.roam_reload.specs.Differences.{RealmsDiffer}
 use Rattle.roam_reload.specs.Reload.{IsCarried, KeepsPeers, realm_part}
@@ -21,6 +22,12 @@ no_realm = record {
   rest = 0;
   rest_after = 0;
   servers = [];
+  peers = None;
+  loop_prevention = false;
+  accounting = Forwarded;
+  request_without = [];
+  reply_without = [];
+  share = None;
 }
 
 -- realms that differ in a key have other parts

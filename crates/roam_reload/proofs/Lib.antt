@@ -1,3 +1,4 @@
 pub mod PeerLemmas
 pub mod KindLemmas
+pub mod DifferenceLemmas
 pub mod FateLemmas
