@@ -8,7 +8,7 @@
 //! # Proved
 //!
 //! - first in, first out: what was taken, and then what lies in the ring, is what was put, for a thread that
-//!   holds both ends, as each thread of the server does | `Intake::count_beside`: `fifo`; `Outlet::put`,
+//!   holds both ends; no thread of the server uses a ring | `Intake::count_beside`: `fifo`; `Outlet::put`,
 //!   `Intake::take`
 //! - what finds the ring full comes back, and nothing was put; where room is known, a packet is put |
 //!   `Outlet::put`: `back`, `err`, `full`, `succeeds`
