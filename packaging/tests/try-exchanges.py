@@ -151,6 +151,13 @@ class Server:
         with open(self.log) as file:
             return file.read()
 
+    def tells(self, line, seconds=5):
+        """Whether this is told, at the latest after so long: which servers keep silent is looked at about each second."""
+        ends = time.monotonic() + seconds
+        while line not in self.said() and time.monotonic() < ends:
+            time.sleep(.05)
+        return line in self.said()
+
     def ctl(self, *order):
         return subprocess.run([self.program, 'ctl', self.path, *order], capture_output=True, text=True)
 
@@ -354,16 +361,13 @@ def try_silent(program, work, homes):
     found = server.metrics()
     waiting = [server.total(found, *it) for it in [('roam_realm_waiting_requests',), ('roam_server_identifiers_in_use', '28120', 'auth')]]
     want(waiting == [1, 1], 'a request that waits is told of its realm, and of the endpoint at which it does')
-    time.sleep(1.5)
-    found = server.metrics()
-    rests = server.total(found, 'roam_server_rests', '28120', 'auth')
+    is_told = server.tells('home server 127.0.0.1:28120 of a.example keeps silent: it rests')
+    rests = server.total(server.metrics(), 'roam_server_rests', '28120', 'auth')
+    want(is_told and rests == 1, 'a line and a gauge for a home server that keeps silent')
     homes[0].silent = False
     time.sleep(3.2)
     access.sockets[0].send(access_request(2, b's2@a.example'))
-    time.sleep(1.6)
-    log = server.said()
-    want('home server 127.0.0.1:28120 of a.example keeps silent: it rests' in log and rests == 1, 'a line and a gauge for a home server that keeps silent')
-    want('home server 127.0.0.1:28120 of a.example answers again' in log, 'and a line when it answers again')
+    want(server.tells('home server 127.0.0.1:28120 of a.example answers again'), 'and a line when it answers again')
     name = b'l\n[INFO] exchange result=accept \x1b[2J"\\x22 \xff@a.example'
     access.sockets[0].send(access_request(3, name, b'a"b\nc'))
     time.sleep(1)

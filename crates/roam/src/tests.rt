@@ -254,14 +254,19 @@ fn expect_comparison<
 >(rt: &R, process: u32, old: &str, new: &str, status: u8, printed: &str) -> Result<(), Fail> {
     let old = file(rt, process, "old.conf", old.as_bytes())?;
     let new = file(rt, process, "new.conf", new.as_bytes())?;
-    let (old, new) = (old.as_str(), new.as_str());
     let told = match status {
         0 => String::new(rt.alloc()),
-        _ => format!(in rt.alloc(); "roam: {new}: may not follow\n")?,
+        _ => format!(in rt.alloc(); "roam: {}: may not follow\n", new.as_str())?,
     };
-    expect(rt, &["check", old, new], status, printed, told.as_str());
-    fs::remove_file(rt, old)?;
-    fs::remove_file(rt, new)?;
+    expect(
+        rt,
+        &["check", old.as_str(), new.as_str()],
+        status,
+        printed,
+        told.as_str(),
+    );
+    fs::remove_file(rt, old.as_str())?;
+    fs::remove_file(rt, new.as_str())?;
     Ok(())
 }
 
