@@ -20,7 +20,7 @@ import minutes
 
 ROOT = pathlib.Path(__file__).resolve().parent.parent
 # Crates whose check is worth several jobs, and how many.
-JOBS = {"roam_workers": 2, "roam_run": 2, "roam_succession": 2, "roam_serve": 2, "roam_book": 2, "roam_core": 2, "roam_tables": 2, "roam_shard": 2, "roam_hub": 2, "roam": 2}
+JOBS = {"roam_workers": 2, "roam_run": 2, "roam_succession": 2, "roam_serve": 2, "roam_book": 2, "roam_core": 2, "roam_tables": 2, "roam_shard": 2, "roam_hub": 2, "roam_commands": 2}
 # Processor minutes from nothing, as they were read last: what stands longest above a crate goes first.
 MINUTES = {crate: sum(of.values()) for crate, of in minutes.read(minutes.KEPT.read_text(encoding="utf-8")).items()}
 

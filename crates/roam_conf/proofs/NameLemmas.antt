@@ -1,11 +1,10 @@
 -- What the index of names finds is what the look-up says; and the laws of the look-up.
-use Rattle.std.proofs.Common.{◌≡◌, ◌≢◌, ℕ, zero, suc, ◌+◌, ◌<◌, ◌≤◌, ◌==◌, Bool, true, false, cond, ◌&&◌, ◌||◌, not, List, [], ◌∷◌, ◌++◌, length, map, get_or, drop-cons, Option, Some, None, is_some, refl, sym, ap, ◌∙◌, inl, inr, append_assoc, arith}
+use Rattle.std.proofs.Common.{◌≡◌, ◌≢◌, ℕ, suc, ◌+◌, ◌<◌, ◌≤◌, Bool, true, false, cond, ◌&&◌, ◌||◌, not, List, [], ◌∷◌, ◌++◌, length, map, get_or, drop-cons, Option, Some, None, refl, sym, ap, ◌∙◌, inl, inr, append_assoc, arith}
 use Rattle.std.proofs.lemmas.Bool.{cases_Bool, false≢true, or_parts, and_parts}
 use Rattle.std.proofs.lemmas.List.{append-nil, length-map}
 use Rattle.std.proofs.lemmas.Option.{same_Some}
 use Rattle.std.proofs.lemmas.Slice.Eq.{bytes_eq-Decides}
 use Rattle.std.specs.List.{list_any, list_all, position_from, flat_map}
-use Rattle.std.specs.Map.{lookup}
 use Rattle.std.specs.Option.{option_or, IfSome}
 use Rattle.std.specs.Prelude.{is_none, take, drop, slice_set, nat_le, string_bytes}
 use Rattle.std.specs.Char.{to_ascii_lowercase}
@@ -15,7 +14,7 @@ use Rattle.roam_conf.specs.declared.realm.Realm.{Realm}
 use Rattle.roam_conf.specs.Config.{PatternView, whole, suffix, any, RealmView}
 use Rattle.roam_conf.specs.Duplicates.{has_pair, has_duplicate_realm}
 use Rattle.roam_conf.specs.Index.{owner_of, all_new, pattern_key, of_realm, all_patterns}
-use Rattle.roam_conf.specs.Lookup.{first_place, realm_with, realm_named, further_patterns, first_answer, after_dots}
+use Rattle.roam_conf.specs.Lookup.{realm_with, realm_named, further_patterns, first_answer, after_dots}
 use Rattle.roam_conf.specs.Parts.{shown_realm}
 use Rattle.roam_conf.specs.Letters.{is_realm_letter}
 use Rattle.roam_conf.proofs.IndexLemmas.{or_none, same_both_ways}

@@ -25,11 +25,6 @@ use Rattle.roam_route.specs.declared.job.Side.{Side}
 use Rattle.roam_route.specs.declared.job.Side.TheVariants as side
 use Rattle.roam_route.specs.OwnPart.{own, HaveSamePart, OwnPartDecides}
 
--- what is checked gives the same where what follows does, and nothing where that gives nothing
-own-checked : (realm : ℕ) (b : Bool) (why : Refusal) (x y : Admission) → own realm x ≡ own realm y → own realm (checked b why x) ≡ own realm (checked b why y)
-own-checked realm true why x y same = same
-own-checked realm false why x y same = refl
-
 none-checked : (realm : ℕ) (b : Bool) (why : Refusal) (x : Admission) → own realm x ≡ None → own realm (checked b why x) ≡ None
 none-checked realm true why x none = none
 none-checked realm false why x none = refl

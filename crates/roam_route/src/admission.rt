@@ -1,6 +1,6 @@
 //! What an arrival gives: a refusal, a local answer, or the event of a realm.
 
-ghost use Rattle.std.specs.Prelude.{◌≡◌, ℕ, ◌<◌, Some, None, true, vec_len, IfOk, IsErrOf};
+ghost use Rattle.std.specs.Prelude.{◌≡◌, ℕ, ◌<◌, Some, None, vec_len, IfOk, IsErrOf};
 ghost use Rattle.roam_wire.specs.Secret.{IsSecret};
 ghost use Rattle.roam_conf.specs.Shown.{shown};
 ghost use Rattle.roam_route.specs.Admission.{admission, forwarded_for, job_of, is_taken, for_named_realm};

@@ -1,9 +1,0 @@
-use Rattle.roam.proofs.CompareLemmas.{printed_then}
-use Rattle.roam.proofs.reload.print_report.Goals as goal
-
--- what becomes of the realms, and what stays
-pub returns : goal.returns
-returns g c =
-    let contents = g.W.Write.contents in
-    printed_then (contents c.args.writer.now) (contents c.print_fates.new.writer) (contents c.print_kept.new.writer) c.print_kept.result
-    c.in_ok-print_fates.ensures c.print_kept.ensures

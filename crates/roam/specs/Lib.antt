@@ -1,6 +1,0 @@
-pub mod CommandFaults
-pub mod CommandLine
-pub mod Heads
-pub mod Outcomes
-pub mod Report
-pub mod Shown

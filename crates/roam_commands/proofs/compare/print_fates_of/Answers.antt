@@ -1,0 +1,12 @@
+use Rattle.roam_commands.proofs.CompareLemmas.{kept_then, printed_more}
+use Rattle.roam_commands.proofs.compare.print_fates_of.Goals as goal
+
+-- both were printed, and handed on
+pub returns : goal.returns
+returns g c =
+    let contents = g.W.Write.contents in
+    let first = contents c.print_hindrance.new.writer in
+    let both = contents c.print_fates.new.writer in
+    kept_then (contents c.args.writer.now) both (contents c.flush.new.self) c.flush.result
+    (printed_more (contents c.args.writer.now) first both c.in_ok-print_hindrance.ensures c.in_ok-print_fates.ensures)
+    c.flush.ensures.bytes

@@ -1,0 +1,182 @@
+//! Serving a configuration.
+
+ghost use Rattle.std.specs.Prelude.{ℕ, List, Option, OnOk, IfErr};
+ghost use Rattle.roam_conf.specs.Shown.{shown};
+ghost use Rattle.roam_sockets.specs.Faults.{IsFaultOf};
+ghost use Rattle.roam_sim.specs.Simulation.{IsAccepted};
+ghost use Rattle.roam_words.specs.CommandLine.{AsksToServeIt};
+ghost use Rattle.roam_commands.specs.CommandFaults.{text_in, ServeFails};
+ghost use Rattle.roam_commands.specs.Outcomes.{Prevents};
+
+use crate::reload::Reread;
+use log::Log;
+use roam_conf::Config;
+use roam_conf_reader::{Settings, read_config, read_settings};
+use roam_diagnosis::{Lines, diagnose};
+use roam_hub::Open;
+use roam_serve::{
+    Build, ControlSocket, Counters, ServeFault, ServeOptions, SocketPath, Watch,
+    descriptors_wanted, reason_of, serve, with_drawn_seed,
+};
+use roam_words::{Fault, TextFile};
+use std::net::Net;
+use std::random::RandomSource;
+use std::rt::Files;
+use std::sync::Wait;
+use std::thread::Threads;
+use std::time::Clock;
+
+/// The control socket, where one is wanted.
+fn control_socket<R: Files + Net + Clock>(
+    rt: &R,
+    config: &Config,
+    settings: &Settings,
+) -> Result<Option<ControlSocket>, ServeFault>
+    ensures { IfErr result (IsFaultOf (shown config.now)) }
+{
+    let Some(path) = &settings.control else {
+        return Ok(None);
+    };
+    match ControlSocket::bind(rt, path.as_str()) {
+        Ok(socket) => Ok(Some(socket)),
+        Err(error) if reason_of(&error).is_want_of_descriptors() => {
+            Err(ServeFault::Descriptors(descriptors_wanted(config, config)))
+        }
+        Err(error) => {
+            let path = SocketPath::new(path.as_str());
+            Err(ServeFault::Control(path, reason_of(&error)))
+        }
+    }
+}
+
+/// Takes the control socket away that the server made.
+fn remove<R: Files>(rt: &R, socket: &Option<ControlSocket>, settings: &Settings) {
+    if let (Some(socket), Some(path)) = (socket, &settings.control) {
+        socket.remove(rt, path.as_str());
+    }
+}
+
+/// How a configuration is served.
+fn options<'s>(
+    watch: Option<Watch<'s>>,
+    settings: &Settings,
+    milliseconds: Option<u64>,
+) -> ServeOptions<'s, Open> {
+    ServeOptions {
+        watch,
+        told_exchanges: settings.log_exchanges,
+        milliseconds,
+        gate: &Open,
+    }
+}
+
+/// Serves a configuration. What the server does is counted where somebody may ask for the counts.
+fn serve_watched<R: Files + AllocGlobal + Threads + Wait + Clock + Net + RandomSource + Log + Sync>(
+    rt: &R,
+    path: &str,
+    config: Config,
+    settings: &Settings,
+    milliseconds: Option<u64>,
+) -> Result<(), ServeFault>
+    ensures { IfErr result (IsFaultOf (shown config)) }
+{
+    let mut source = Reread { rt, path, settings };
+    if settings.metrics.is_none() && settings.control.is_none() {
+        let options = options(None, settings, milliseconds);
+        return serve(rt, rt.alloc(), config, options, &mut source);
+    }
+    let counters = Counters::new(rt.alloc(), &config)?;
+    let socket = control_socket(rt, &config, settings)?;
+    let watch = Watch {
+        counters: &counters,
+        metrics: settings.metrics,
+        control: socket.as_ref(),
+        build: Build::Roam,
+    };
+    let options = options(Some(watch), settings, milliseconds);
+    let ended = serve(rt, rt.alloc(), config, options, &mut source);
+    remove(rt, &socket, settings);
+    ended
+}
+
+/// Serves a configuration as its text states that it is served, with its own seed or with one that is drawn.
+fn serve_stated<R: Files + AllocGlobal + Threads + Wait + Clock + Net + RandomSource + Log + Sync>(
+    rt: &R,
+    file: &TextFile<'_>,
+    config: Config,
+    has_seed_of_file: bool,
+    milliseconds: Option<u64>,
+) -> Result<(), ServeFault>
+    ensures { IfErr result (IsFaultOf (shown config)) }
+{
+    // Where there is a configuration there are settings too, unless memory is wanting.
+    let Ok(settings) = read_settings(rt.alloc(), file.text.as_str()) else {
+        return Err(ServeFault::Memory);
+    };
+    let config = if has_seed_of_file {
+        config
+    } else {
+        with_drawn_seed(rt, config)?
+    };
+    serve_watched(rt, file.path, config, &settings, milliseconds)
+}
+
+/// Reads a configuration, and serves it for so many milliseconds, or without end. Where it is refused, `lines` are
+/// where its fault stands.
+///
+/// # Errors
+///
+/// `Refused`; `Memory`; `Clock`, `Seed`, `Bind`, `Control`, `Descriptors`, `Wait`, `Thread`, `Receive` and `Audit`, and
+/// the configuration is accepted then, and the endpoint one of its own.
+fn serve_text<
+    'a,
+    R: Files + AllocGlobal + Threads + Wait + Clock + Net + RandomSource + Log + Sync,
+>(
+    rt: &R,
+    configuration: &TextFile<'a>,
+    has_seed_of_file: bool,
+    milliseconds: Option<u64>,
+    lines: &mut Lines,
+) -> Result<(), Fault<'a>>
+    ensures ok { OnOk result (IsAccepted (text_in configuration.now)) }
+    ensures err { IfErr result (ServeFails configuration.now) }
+{
+    let text = configuration.text.as_str();
+    match read_config(rt.alloc(), text) {
+        Ok(config) => match serve_stated(
+            rt,
+            configuration,
+            config,
+            has_seed_of_file,
+            milliseconds,
+        ) {
+            Ok(()) => Ok(()),
+            Err(fault) => Err(Fault::of_server(fault)),
+        },
+        Err(fault) => {
+            *lines = diagnose(rt.alloc(), configuration.path, text, fault);
+            Err(Fault::of_configuration(configuration.path, fault))
+        }
+    }
+}
+
+/// Serves the configuration of a path. `lines` are then what is said of one that is refused.
+pub fn serve_file<
+    'a,
+    R: Files + AllocGlobal + Threads + Wait + Clock + Net + RandomSource + Log + Sync,
+>(
+    rt: &R,
+    configuration: &'a str,
+    has_seed_of_file: bool,
+    milliseconds: Option<u64>,
+    lines: &mut Lines,
+) -> Result<(), Fault<'a>>
+    ensures ok { OnOk result ((text : List ℕ) × IsAccepted text) }
+    ensures err { IfErr result (λ fault. (words : List (List ℕ)) → (out : Option (List ℕ))
+        → AsksToServeIt words configuration.now milliseconds → Prevents words out out fault) }
+{
+    match TextFile::read(rt, configuration) {
+        Err(fault) => Err(fault),
+        Ok(file) => serve_text(rt, &file, has_seed_of_file, milliseconds, lines),
+    }
+}

@@ -1,0 +1,4 @@
+pub mod CommandLine
+pub mod Report
+pub mod Shown
+pub mod Unread

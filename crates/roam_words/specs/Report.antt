@@ -1,0 +1,170 @@
+-- Why the program doesn't do what it is asked for: the text of each fault, and the status with which the program
+-- ends. Ours.
+use Rattle.std.specs.Prelude.{◌≡◌, ℕ, ◌==◌, if◌then◌else◌, List, [], ◌++◌, Option, Some, None, codes}
+use Rattle.std.specs.Fmt.{decimal}
+use Rattle.std.specs.Io.KnownBytes.{Appends}
+use Rattle.roam_diagnosis.specs.Lines.{IsDiagnosis, printed}
+use Rattle.roam_conf.specs.declared.endpoint.Endpoint.{Endpoint}
+use Rattle.roam_conf.specs.Texts.{endpoint_text}
+use Rattle.roam_conf_reader.specs.FaultNames.{name_of}
+use Rattle.roam_sockets.specs.declared.fault.SocketPath.{SocketPath}
+use Rattle.roam_sockets.specs.declared.fault.ServeFault.{ServeFault}
+use Rattle.roam_sockets.specs.declared.fault.ServeFault.TheVariants as serve
+use Rattle.roam_sockets.specs.Faults.{path_octets}
+use Rattle.roam_words.specs.declared.report.Fault.{Fault}
+use Rattle.roam_words.specs.declared.report.Fault.TheVariants as fault
+
+-- the usage: a line for each command
+abbrev pub usage_text : List ℕ
+usage_text =
+    codes "usage: roam check CONF\n       roam check OLD NEW\n       roam check --all CONF (prints the secrets too)\n       roam sim CONF SCRIPT\n       roam serve [--seed-of-file] CONF [MS]\n       roam ctl PATH status [--json|--watch]\n       roam ctl PATH metrics|stop|reload|trace N\n       roam help\n       roam version\n"
+
+-- which program this is, and the line of the toolchain that proved it
+abbrev pub version_text : List ℕ
+version_text = codes "roam 1.0.0\nrattle-kit-13f logic dac8208d650f15bf\n"
+
+-- what the system says of the errors that open, read, bind, socket, listen, epoll and eventfd give, by their numbers
+-- (Linux)
+abbrev pub words_of : ℕ → Option (List ℕ)
+words_of number =
+    if number == 1 then Some (codes "Operation not permitted")
+    else (if number == 2 then Some (codes "No such file or directory")
+    else (if number == 11 then Some (codes "Resource temporarily unavailable")
+    else (if number == 12 then Some (codes "Cannot allocate memory")
+    else (if number == 13 then Some (codes "Permission denied")
+    else (if number == 20 then Some (codes "Not a directory")
+    else (if number == 21 then Some (codes "Is a directory")
+    else (if number == 23 then Some (codes "Too many open files in system")
+    else (if number == 24 then Some (codes "Too many open files")
+    else (if number == 28 then Some (codes "No space left on device")
+    else (if number == 30 then Some (codes "Read-only file system")
+    else (if number == 97 then Some (codes "Address family not supported by protocol")
+    else (if number == 98 then Some (codes "Address already in use")
+    else (if number == 99 then Some (codes "Cannot assign requested address")
+    else (if number == 105 then Some (codes "No buffer space available")
+    else None))))))))))))))
+
+-- these words, or the number of the error
+abbrev pub words_or_number : Option (List ℕ) → ℕ → List ℕ
+words_or_number (Some words) number = words
+words_or_number None number = codes "error " ++ decimal number
+
+-- the system's reason
+abbrev pub reason_text : ℕ → List ℕ
+reason_text number = words_or_number (words_of number) number
+
+-- what is printed where a socket can't be bound to an endpoint
+abbrev pub unbound_text : Endpoint → List ℕ
+unbound_text endpoint = codes "roam: cannot bind " ++ endpoint_text endpoint
+
+-- what is printed where a server can't listen at the path of its control socket
+abbrev pub unheard_text : SocketPath → List ℕ
+unheard_text path = codes "roam: cannot listen at " ++ path_octets path
+
+-- what is printed where the system doesn't let the file of a path be read
+abbrev pub unread_text : List ℕ → List ℕ
+unread_text path = codes "roam: " ++ path
+
+-- which line of that file isn't UTF-8, behind its path
+abbrev pub not_text_text : ℕ → List ℕ
+not_text_text line = codes ":" ++ decimal line ++ codes ": isn't UTF-8\n"
+
+-- what is printed of a first word with which no command begins
+abbrev pub unknown_text : List ℕ → List ℕ
+unknown_text word = codes "roam: " ++ word ++ codes ": no such command\n"
+
+-- the system's reason after it, with the line feed
+abbrev pub why_text : ℕ → List ℕ
+why_text number = codes ": " ++ reason_text number ++ codes "\n"
+
+-- ## Text of a fault, status
+-- What is printed of each fault, with its line feed, and the status with which the program ends: 2 for the
+-- usage, also behind a word that is no command, 3 for lack of memory, of something to wait with and of a thread, 4
+-- for a failed audit, else 1. What ends a server is one of these faults. The usage and the version are texts too.
+-- Source: ours
+-- Rules out: a fault of one file reported of another
+-- Stands in: `roam_words` `Report.antt`: `text_of`, `status_of`, `fault_of`, `usage_text`, `version_text`;
+-- `Fault::print`, `Fault::status`, `Fault::of_server`
+--
+-- what is printed of a fault, with its line feed
+abbrev pub text_of : Fault → List ℕ
+text_of fault.Usage = usage_text
+text_of (fault.NoCommand word) = unknown_text word.now ++ usage_text
+text_of (fault.Unreadable path reason) = unread_text path.now ++ why_text reason
+text_of (fault.NotText path line) = unread_text path.now ++ not_text_text line
+text_of (fault.MayNotFollow path) = codes "roam: " ++ path.now ++ codes ": may not follow\n"
+text_of (fault.Misstated path) = codes "roam: " ++ path.now ++ codes ": misstated\n"
+text_of (fault.Unanswered path) = codes "roam: " ++ path.now ++ codes ": no answer\n"
+text_of (fault.Cut path) = codes "roam: " ++ path.now ++ codes ": answer cut\n"
+text_of (fault.Declined path) = codes "roam: " ++ path.now ++ codes ": declined\n"
+text_of (fault.Refused path why) = codes "roam: " ++ path.now ++ codes ": " ++ name_of why ++ codes "\n"
+text_of (fault.FaultyLine path number) =
+    codes "roam: " ++ path.now ++ codes ": line " ++ decimal number ++ codes "\n"
+text_of fault.Write = codes "roam: write failed\n"
+text_of fault.Memory = codes "roam: out of memory\n"
+text_of fault.Clock = codes "roam: no clock\n"
+text_of fault.Seed = codes "roam: no random seed\n"
+text_of (fault.Bind endpoint reason) = unbound_text endpoint ++ why_text reason
+text_of (fault.Control path reason) = unheard_text path ++ why_text reason
+text_of (fault.Descriptors wanted) =
+    codes "roam: too few file descriptors: " ++ decimal wanted ++ codes " wanted\n"
+text_of (fault.Wait reason) = codes "roam: cannot wait for sockets: " ++ reason_text reason ++ codes "\n"
+text_of fault.Thread = codes "roam: cannot start a thread\n"
+text_of fault.Receive = codes "roam: receive failed\n"
+text_of fault.Audit = codes "roam: audit failed\n"
+
+-- the status after a fault
+abbrev pub status_of : Fault → ℕ
+status_of fault.Usage = 2
+status_of (fault.NoCommand word) = 2
+status_of (fault.Unreadable path reason) = 1
+status_of (fault.NotText path line) = 1
+status_of (fault.MayNotFollow path) = 1
+status_of (fault.Misstated path) = 1
+status_of (fault.Unanswered path) = 1
+status_of (fault.Cut path) = 1
+status_of (fault.Declined path) = 1
+status_of (fault.Refused path why) = 1
+status_of (fault.FaultyLine path number) = 1
+status_of fault.Write = 1
+status_of fault.Memory = 3
+status_of fault.Clock = 1
+status_of fault.Seed = 1
+status_of (fault.Bind endpoint reason) = 1
+status_of (fault.Control path reason) = 1
+status_of (fault.Descriptors wanted) = 1
+status_of (fault.Wait reason) = 3
+status_of fault.Thread = 3
+status_of fault.Receive = 1
+status_of fault.Audit = 4
+
+-- what ends a server, as a fault of the program
+abbrev pub fault_of : ServeFault → Fault
+fault_of serve.Clock = fault.Clock
+fault_of serve.Seed = fault.Seed
+fault_of (serve.Bind endpoint reason) = fault.Bind endpoint reason.0
+fault_of (serve.Control path reason) = fault.Control path reason.0
+fault_of (serve.Descriptors wanted) = fault.Descriptors wanted
+fault_of (serve.Wait reason) = fault.Wait reason.0
+fault_of serve.Thread = fault.Thread
+fault_of serve.Receive = fault.Receive
+fault_of serve.Audit = fault.Audit
+fault_of serve.Memory = fault.Memory
+
+-- it is that a configuration is refused
+abbrev pub IsRefusal : Fault → Type 0
+IsRefusal (fault.Refused path why) = Unit {0}
+IsRefusal _ = ⊥
+
+-- the lines of a diagnosis are said, ten at most
+pub record Says (old new : Option (List ℕ)) : Type 0 where
+  pub lines : List (List ℕ)
+  pub form : IsDiagnosis lines
+  pub said : Appends old new (printed lines)
+
+-- a fault's text is told, and behind a refused configuration's the lines of a diagnosis
+pub record Tells (f : Fault) (old new : Option (List ℕ)) : Type 0 where
+  pub lines : List (List ℕ)
+  pub form : IsDiagnosis lines
+  pub none : ¬ (IsRefusal f) → lines ≡ []
+  pub told : Appends old new (text_of f ++ printed lines)

@@ -1,0 +1,59 @@
+//! The system's reasons, in its words.
+
+ghost use Rattle.std.specs.Prelude.{◌≡◌, Some, None, MatchOption, OnOk};
+ghost use Rattle.std.specs.Io.KnownBytes.{Appends};
+ghost use Rattle.roam_words.specs.Report as spec;
+
+use std::io;
+use std::io::Write;
+
+/// What the system says of the error of a number, if this is known here.
+pub fn words_of(reason: u32) -> Option<&'static str>
+    ensures { MatchOption result (spec.words_of reason ≡ None) (λ words. spec.words_of reason ≡ Some words.now) }
+{
+    match reason {
+        1 => Some("Operation not permitted"),
+        2 => Some("No such file or directory"),
+        11 => Some("Resource temporarily unavailable"),
+        12 => Some("Cannot allocate memory"),
+        13 => Some("Permission denied"),
+        20 => Some("Not a directory"),
+        21 => Some("Is a directory"),
+        23 => Some("Too many open files in system"),
+        24 => Some("Too many open files"),
+        28 => Some("No space left on device"),
+        30 => Some("Read-only file system"),
+        97 => Some("Address family not supported by protocol"),
+        98 => Some("Address already in use"),
+        99 => Some("Cannot assign requested address"),
+        105 => Some("No buffer space available"),
+        _ => None,
+    }
+}
+
+/// Prints the system's reason, and ends the line.
+pub fn print_why<W: Write>(writer: &mut W, reason: u32) -> io::Result<()>
+    ensures { OnOk result
+        (Appends (W.contents writer.old) (W.contents writer.new) (spec.why_text reason)) }
+{
+    match words_of(reason) {
+        Some(words) => writeln!(writer, ": {words}"),
+        None => writeln!(writer, ": error {reason}"),
+    }
+}
+
+/// Prints that a file can't be read.
+pub fn print_unread<W: Write>(writer: &mut W, path: &str) -> io::Result<()>
+    ensures { OnOk result
+        (Appends (W.contents writer.old) (W.contents writer.new) (spec.unread_text path.now)) }
+{
+    write!(writer, "roam: {path}")
+}
+
+/// Prints which line of that file isn't UTF-8, and ends the line.
+pub fn print_no_text<W: Write>(writer: &mut W, line: u64) -> io::Result<()>
+    ensures { OnOk result
+        (Appends (W.contents writer.old) (W.contents writer.new) (spec.not_text_text line)) }
+{
+    writeln!(writer, ":{line}: isn't UTF-8")
+}
