@@ -1,6 +1,6 @@
 -- A book's realm and state, where its entries are those of one realm.
 use Rattle.std.proofs.Common.{◌≡◌, ℕ, ◌<◌, ◌≤◌, ◌^◌, Bool, true, List, [], length, refl, sym, ap, ◌∙◌, subst, eqb, eqb-true}
-use Rattle.std.specs.Prelude.{Result, Ok, Err, IsOk, vec_len}
+use Rattle.std.specs.Prelude.{Result, IsOk, vec_len}
 use Rattle.roam_wire.specs.declared.refusal.NoMemory.{NoMemory}
 use Rattle.roam_conf.specs.Config.{ConfigView}
 use Rattle.roam_conf.specs.Shown.{shown}

@@ -3,14 +3,12 @@ use Rattle.std.proofs.Common.{◌≡◌, ◌⊎◌, ℕ, zero, suc, ◌+◌, ◌
 use Rattle.std.specs.Prelude.{IfSome, slice_get, slice_index_or}
 use Rattle.std.specs.List.{position_from}
 use Rattle.roam_wire.specs.Packet.{AreOctets}
-use Rattle.roam_wire.specs.Attributes.{first_value}
 use Rattle.roam_wire.specs.Reading.{IsPacketText, packet_of}
 use Rattle.roam_wire.specs.Packet.{Attribute}
 use Rattle.roam_conf.specs.Config.{ConfigView, PeerView, RealmView, ServerView}
 use Rattle.roam_conf.specs.Lookup.{servers_of}
-use Rattle.roam_fwd.specs.Forwarded.{CanBeForwarded}
 use Rattle.roam_route.specs.Admission.{PlainJob}
-use Rattle.roam_route.specs.Events.{IsConfigured, IsEvent, IsForwardable, IsSoundEvent}
+use Rattle.roam_route.specs.Events.{IsConfigured, IsEvent, IsForwardable}
 use Rattle.roam_route.specs.declared.job.Side.{Side}
 use Rattle.roam_route.specs.declared.job.Side.TheVariants as side
 use Rattle.roam_route.proofs.EventLemmas.{event_sound}

@@ -313,21 +313,6 @@ chosen-open c now rests lanes freed links l at =
     (find-passes ready links l found))
     (λ found. find-passes open_here links l found) at
 
-twice-or : (o : Option Link) → o ≡ option_or o o
-twice-or None = refl
-twice-or (Some l) = refl
-
--- where one link alone is to be chosen from, it is where it is open
-pub one-chosen :
-    (c : RealmConfig) (now : ℕ) (rests : List Rest) (lanes : List LaneState) (freed : Option Link)
-    (l : Link) (b : Bool) → is_open c lanes freed l ≡ b
-    → cond b (Some l) None ≡ chosen_link c now rests lanes freed (l ∷ [])
-one-chosen c now rests lanes freed l b is =
-    elim (cases_Bool (stands_back c now rests l)) [
-      | inl y ↦ rw (y, is) refl
-      | inr n ↦ rw (n, is) (twice-or (cond b (Some l) None))
-    ]
-
 -- The links of the realm
 
 server-link :

@@ -1,5 +1,5 @@
 -- Ticks at which only done entries are due: they go one after the other, and nothing is sent.
-use Rattle.std.proofs.Common.{◌≡◌, ℕ, ◌<◌, ◌≤◌, ◌^◌, ◌&&◌, Bool, true, false, List, [], ◌∷◌, ◌++◌, Option, Some, None, refl, ap, sym, ◌∙◌, subst, arith, inl, inr, length, append_assoc, ltb}
+use Rattle.std.proofs.Common.{◌≡◌, ℕ, ◌<◌, ◌≤◌, ◌^◌, ◌&&◌, Bool, true, false, List, [], ◌∷◌, ◌++◌, Option, Some, None, refl, ap, sym, ◌∙◌, arith, inl, inr, length, append_assoc, ltb}
 use Rattle.std.specs.Prelude.{slice_get}
 use Rattle.std.specs.List.{filter, find, last_or, list_all}
 use Rattle.std.proofs.lemmas.Bool.{cases_Bool, cases_eq}
@@ -7,8 +7,8 @@ use Rattle.std.proofs.lemmas.Bool.Decides.{nat_tests}
 use Rattle.std.proofs.lemmas.List.{append-nil}
 use Rattle.std.proofs.lemmas.List.Folds.{list_all-append}
 use Rattle.roam_pending.specs.declared.due.Due.{Due}
-use Rattle.roam_pending.specs.PlainEntry.{PlainEntry, PlainStanding, waiting, done, is_done, stands_done}
-use Rattle.roam_pending.specs.EntryList.{IsInOrder, IsEntryList, find_ticket, without}
+use Rattle.roam_pending.specs.PlainEntry.{PlainEntry, PlainStanding, waiting, done, stands_done}
+use Rattle.roam_pending.specs.EntryList.{IsInOrder, find_ticket, without}
 use Rattle.roam_pending.specs.DueOrder.{is_before, is_after, due_list, due_after}
 use Rattle.roam_pending.proofs.ChangeLemmas.{find-without, find-without_other, found-ticket}
 use Rattle.roam_pending.proofs.DueListLemmas.{due-next, due-taken}
@@ -16,7 +16,7 @@ use Rattle.roam_pending.proofs.OrderLemmas.{without-absent}
 use Rattle.roam_book.specs.RealmConfig.{RealmConfig}
 use Rattle.roam_book.specs.RealmState.{RealmState, with_entries}
 use Rattle.roam_book.specs.Turn.{sends}
-use Rattle.roam_book.specs.OnTick.{Progress, silent, as_turn, without_entry, due_standing, due_entry, due_one, due_each, on_tick}
+use Rattle.roam_book.specs.OnTick.{silent, without_entry, due_standing, due_entry, due_one, due_each, on_tick}
 use Rattle.roam_book.specs.Rooms.{done_or_gone, is_done_at, only_done_due}
 use Rattle.roam_book.specs.Sound.{IsSound}
 use Rattle.roam_book.specs.declared.state.realm_numbers.RealmNumbers.{RealmNumbers}

@@ -15,7 +15,7 @@ use Rattle.roam_ids.proofs.NextIdentifierLemmas.{next_identifier-is_next, below_
 use Rattle.roam_book.specs.declared.state.service.Service.{Service}
 use Rattle.roam_book.specs.declared.state.service.Service.TheVariants as service
 use Rattle.roam_book.specs.RealmConfig.{RealmConfig, IsLink, link_place, server_link, server_links}
-use Rattle.roam_book.specs.Sound.{is_freed, is_open, has_free, cursors_of, lane_of, no_lane, Mark, mark_of, marks_of, AreOwnLanes}
+use Rattle.roam_book.specs.Sound.{has_free, cursors_of, lane_of, no_lane, Mark, mark_of, marks_of, AreOwnLanes}
 use Rattle.std.proofs.lemmas.Bool.{cases_Bool, cases_eq}
 use Rattle.roam_conf.specs.declared.place.Link.TheVariants as link
 use Rattle.roam_pending.specs.PlainEntry.{PlainEntry, same_link}
@@ -79,21 +79,6 @@ link-skip p s servers place l answer lt at is inv =
 or_true : (b : Bool) → (b || true) ≡ true
 or_true true = refl
 or_true false = refl
-
-pub open-by_freed :
-    (c : RealmConfig) (lanes : List LaneState) (freed : Option Link) (l : Link)
-    → is_freed freed l ≡ true → is_open c lanes freed l ≡ true
-open-by_freed c lanes freed l h = rw h refl
-
-pub open-by_lane :
-    (c : RealmConfig) (lanes : List LaneState) (freed : Option Link) (l : Link)
-    → has_free (lane_of c lanes l) ≡ true → is_open c lanes freed l ≡ true
-open-by_lane c lanes freed l h = ap (λ (b : Bool). is_freed freed l || b) h ∙ or_true (is_freed freed l)
-
-pub open-not :
-    (c : RealmConfig) (lanes : List LaneState) (freed : Option Link) (l : Link)
-    → is_freed freed l ≡ false → has_free (lane_of c lanes l) ≡ false → is_open c lanes freed l ≡ false
-open-not c lanes freed l f h = ap (λ (b : Bool). b || has_free (lane_of c lanes l)) f ∙ h
 
 -- The places of links
 

@@ -1,5 +1,5 @@
 -- How many Identifiers of a lane are in use.
-use Rattle.std.proofs.Common.{arith, ◌≡◌, ◌∙◌, ℕ, zero, suc, ◌+◌, Bool, false, refl, ap, sym}
+use Rattle.std.proofs.Common.{arith, ◌≡◌, ◌∙◌, ℕ, zero, suc, ◌+◌, Bool, false, refl, ap}
 use Rattle.std.specs.Prelude.{is_some, if◌then◌else◌, None}
 use Rattle.roam_ids.specs.LaneState.{LaneState, ticket_at}
 use Rattle.roam_book.specs.Private.Looking.{used_below}

@@ -8,7 +8,6 @@ use Rattle.roam_wire.specs.Packet.{Packet, packet_length, packet_text}
 use Rattle.roam_wire.specs.Reading.{packet_of}
 use Rattle.roam_wire.specs.declared.code.TheConstants.{ACCESS_REQUEST}
 use Rattle.roam_wire.proofs.PacketLemmas.{length-packet_text}
-use Rattle.roam_fwd.specs.Forwarded.{forwarded_length}
 use Rattle.roam_fwd.proofs.ForwardedLemmas.{forwarded_length-is}
 use Rattle.roam_back.specs.Nak.{nak, nak_length}
 use Rattle.roam_back.specs.NakLaws.{CanBeRefused}
@@ -21,14 +20,13 @@ use Rattle.roam_pending.proofs.ChangeLemmas.{put-without}
 use Rattle.roam_reverse.specs.declared.error_cause.TheConstants.{OTHER_PROXY_PROCESSING_ERROR}
 use Rattle.roam_route.specs.Admission.{PlainOut}
 use Rattle.roam_route.specs.Shown.{shown_out}
-use Rattle.roam_book.specs.declared.rules.due_action.DueAction.{DueAction}
 use Rattle.roam_book.specs.declared.rules.due_action.DueAction.TheVariants as fate
 use Rattle.roam_book.specs.declared.packets.forwarding.PacketCopies.{PacketCopies}
 use Rattle.roam_book.specs.RealmConfig.{RealmConfig, requester_secret}
 use Rattle.roam_book.specs.RealmState.{RealmState, with_entries}
 use Rattle.roam_book.specs.OnRequest.{is_reverse, nak_octets, packet_to_requester}
-use Rattle.roam_book.specs.OnTick.{given_up, once_refused}
-use Rattle.roam_book.specs.Private.Fates.{GivesUp, fate_entries, held_for, once_held}
+use Rattle.roam_book.specs.OnTick.{once_refused}
+use Rattle.roam_book.specs.Private.Fates.{GivesUp, held_for, once_held}
 use Rattle.roam_book.specs.Private.Memory.{HasRoom}
 use Rattle.roam_book.specs.Sound.{IsRequest}
 

@@ -8,20 +8,18 @@ use Rattle.roam_wire.specs.declared.refusal.Refusal.TheVariants as refusal
 use Rattle.roam_back.specs.Returned.{returned_length}
 use Rattle.roam_conf.specs.declared.place.Link.{Link}
 use Rattle.roam_pending.specs.PlainEntry.{PlainRequest, PlainStanding, PlainEntry, waiting, done, same_link, stands_at, waits_at}
-use Rattle.roam_pending.specs.EntryList.{IsEntryList, find_link, find_ticket, put, without}
+use Rattle.roam_pending.specs.EntryList.{IsEntryList, find_ticket, put, without}
 use Rattle.roam_pending.specs.Realms.{with_standing}
-use Rattle.roam_pending.proofs.ChangeLemmas.{find-passes, found-is}
 use Rattle.roam_pending.proofs.OrderLemmas.{list-changed}
 use Rattle.roam_book.specs.RealmConfig.{RealmConfig, IsLink}
 use Rattle.roam_book.specs.RealmState.{RealmState}
-use Rattle.roam_book.specs.Turn.{Turn, Answers, refuses}
+use Rattle.roam_book.specs.Turn.{Turn, refuses}
 use Rattle.roam_book.specs.OnReply.{counted_peer, return_reply, returned_octets, returning}
 use Rattle.roam_book.specs.Sound.{AreOwnLanes, IsEntry, IsSound, LanesTell, StandsWell, marks_of}
 use Rattle.roam_book.specs.Private.Judged.{Judges, returns_octets}
 use Rattle.roam_book.specs.Private.ReplyPlans.{IsReplyPlan}
 use Rattle.roam_book.specs.declared.rules.replies.Settled.{Settled}
 use Rattle.roam_book.specs.declared.rules.reply_outcome.ReplyOutcome.{ReplyOutcome}
-use Rattle.roam_book.specs.declared.packets.answer.Answer.{Answer}
 use Rattle.roam_book.specs.declared.state.realm_numbers.RealmNumbers.{RealmNumbers}
 use Rattle.roam_book.proofs.LaneLemmas.{tells-done}
 use Rattle.roam_book.proofs.SoundLemmas.{kept-put, kept-ticket, same_link-equal}
@@ -63,15 +61,6 @@ long-turn c now s e l forwarded reply lt =
     let yes : ltb 4096 size ≡ true = grind (arith, nat_tests, lt) in
     rw yes refl
 
--- an answer to one turn is an answer to the same turn, from the same state to the same state
-pub same-turn : {A : Type 0} (a : Answer A) (old after new : RealmState) (turn other : Turn)
-    → Answers a old after turn → new ≡ after → turn ≡ other → Answers a old new other
-same-turn a old after new turn other h at is = record {
-  packets = rw (← is) h.packets;
-  refusal = rw (← is) h.refusal;
-  state = rw (at, ← is) h.state;
-}
-
 -- a verdict is one for the same turn
 pub same-verdict : {A : Type 0} (c : RealmConfig) (v : ReplyOutcome A) (e : PlainEntry) (l : Link)
     (s : RealmState) (turn other : Turn) → Judges c v e l s turn → turn ≡ other
@@ -99,14 +88,6 @@ pub link-of : (c : RealmConfig) (l : Link) (i : ℕ) (q : PlainRequest) (s : Pla
 link-of c l i q (waiting link id forwarded sends_left deadline) h well =
     subst (IsLink c) (same_link-equal link l (and_left (same_link link l) (eqb id i) h)) well.link
 link-of c l i q (done reply deadline) h well = absurd (let k : false ≡ true = h in cc)
-
--- what is found on a link is the entry of its ticket, and waits there
-pub waits-found : (l : Link) (i : ℕ) (e : PlainEntry) (es : List PlainEntry) → IsEntryList es
-    → find_link l i es ≡ Some e
-    → IsSomeAnd (find_ticket e.ticket es) (λ x. waits_at l i x ≡ true)
-waits-found l i e es list at =
-    let here = found-is (waits_at l i) es e list.in_order at in
-    rw here (find-passes (waits_at l i) es e at)
 
 -- the entry that a fact of the found one speaks of
 pub found-with : {X : Type 0} (o : Option X) (P : X → Type 0) → IsSomeAnd o P

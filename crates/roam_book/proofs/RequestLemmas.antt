@@ -1,5 +1,5 @@
 -- Which case of a request's definition comes to pass.
-use Rattle.std.proofs.Common.{◌≡◌, ◌≢◌, ℕ, ◌^◌, Bool, true, false, List, [], ◌∷◌, ◌<◌, length, inl, inr, Option, Some, None, refl, ap, sym, ◌∙◌, subst, cond, eqb, is_some}
+use Rattle.std.proofs.Common.{◌≡◌, ◌≢◌, ℕ, ◌^◌, Bool, true, false, List, [], ◌<◌, length, inl, inr, Option, Some, None, refl, ap, sym, ◌∙◌, subst, cond, eqb, is_some}
 use Rattle.std.specs.Prelude.{IfSome, nat_eq, option_map, unwrap_or}
 use Rattle.std.proofs.lemmas.Bool.{cases_Bool}
 use Rattle.std.specs.Cmp.Lexicographic.{pointwise}
@@ -14,7 +14,7 @@ use Rattle.roam_pending.proofs.TestLemmas.{differs}
 use Rattle.roam_pending.proofs.ChangeLemmas.{find-passes, found-is}
 use Rattle.roam_pending.proofs.ClientLemmas.{client-without, key-equal, without_client-found}
 use Rattle.roam_book.specs.Private.NewEntry.{HasNext, freed_link, target_at}
-use Rattle.roam_book.specs.OnRequest.{at_target, coa_links, first_seen, held_reply, is_reverse, nak_octets, nak_or_new, new_request, of_key, packet_to_requester, reverse_cause, targets}
+use Rattle.roam_book.specs.OnRequest.{at_target, coa_links, held_reply, is_reverse, new_request, of_key, targets}
 use Rattle.roam_book.specs.RealmConfig.{RealmConfig, IsLink, service_of}
 use Rattle.roam_book.specs.RealmState.{RealmState, Target, chosen_target, next_toward}
 use Rattle.roam_book.specs.declared.state.rest.Rest.{Rest}
@@ -170,37 +170,6 @@ pub key-free :
 key-free k e es t list at ticket =
     subst (λ (xs : List PlainEntry). find_client k xs ≡ None) (rest-of k e es t list at ticket)
     (client-without k es)
-
--- a request by its key: there is no entry, one with other octets, or one with its octets
-pub of-key-none :
-    (c : RealmConfig) (now : ℕ) (s : RealmState) (named : Option ℕ) (q : PlainRequest)
-    → find_client q.key s.entries ≡ None
-    → of_key c now s named q (find_client q.key s.entries) ≡ first_seen c now s named q
-of-key-none c now s named q at = ap (of_key c now s named q) at
-
-pub of-key-new :
-    (c : RealmConfig) (now : ℕ) (s : RealmState) (named : Option ℕ) (q : PlainRequest)
-    (e : PlainEntry)
-    → find_client q.key s.entries ≡ Some e → pointwise nat_eq e.request.octets q.octets ≡ false
-    → of_key c now s named q (find_client q.key s.entries) ≡ first_seen c now s named q
-of-key-new c now s named q e at differs =
-    ap (of_key c now s named q) at
-    ∙ in-else (pointwise nat_eq e.request.octets q.octets) _ _ differs
-
--- one that is no duplicate is new where there is no cause for a NAK, and else it gets one
-pub seen-new :
-    (c : RealmConfig) (now : ℕ) (s : RealmState) (es : List PlainEntry) (named : Option ℕ)
-    (q : PlainRequest)
-    → es ≡ without_client q.key s.entries → None ≡ reverse_cause c s named q
-    → first_seen c now s named q ≡ new_request c now s es q
-seen-new c now s es named q rest none =
-    ap (nak_or_new c now s q) (sym none) ∙ ap (λ (xs : List PlainEntry). new_request c now s xs q) (sym rest)
-
-pub seen-refused :
-    (c : RealmConfig) (now : ℕ) (s : RealmState) (named : Option ℕ) (q : PlainRequest) (why : ℕ)
-    → Some why ≡ reverse_cause c s named q
-    → first_seen c now s named q ≡ sends (packet_to_requester c q.key (nak_octets c q why) ∷ []) s
-seen-refused c now s named q why some = ap (nak_or_new c now s q) (sym some)
 
 pub of-key-same :
     (c : RealmConfig) (now : ℕ) (s : RealmState) (named : Option ℕ) (q : PlainRequest)

@@ -5,9 +5,8 @@ use Rattle.std.specs.List.{AllByRecursion}
 use Rattle.std.proofs.lemmas.Bool.Decides.{nat_tests}
 use Rattle.roam_conf.specs.declared.place.Link.{Link}
 use Rattle.roam_conf.specs.declared.place.Link.TheVariants as link
-use Rattle.roam_pending.specs.declared.key.Key.{Key}
-use Rattle.roam_pending.specs.PlainEntry.{PlainEntry, has_key, has_ticket, same_link, waits_at}
-use Rattle.roam_pending.specs.EntryList.{find_client, find_link, find_ticket, put, without}
+use Rattle.roam_pending.specs.PlainEntry.{PlainEntry, has_ticket, same_link, waits_at}
+use Rattle.roam_pending.specs.EntryList.{find_link, find_ticket, put, without}
 use Rattle.roam_pending.proofs.TestLemmas.{differs, all-filter, all-find, all-weaker}
 use Rattle.roam_pending.proofs.OrderLemmas.{all-put}
 use Rattle.roam_book.specs.RealmConfig.{RealmConfig}
@@ -29,11 +28,6 @@ pub kept-ticket :
     (c : RealmConfig) (n t : ℕ) (e : PlainEntry) (es : List PlainEntry) → find_ticket t es ≡ Some e
     → AllByRecursion (IsEntry c n) es → IsEntry c n e
 kept-ticket c n t e es at h = all-find (IsEntry c n) (has_ticket t) es e at h
-
-pub kept-client :
-    (c : RealmConfig) (n : ℕ) (k : Key) (e : PlainEntry) (es : List PlainEntry)
-    → find_client k es ≡ Some e → AllByRecursion (IsEntry c n) es → IsEntry c n e
-kept-client c n k e es at h = all-find (IsEntry c n) (has_key k) es e at h
 
 pub kept-link :
     (c : RealmConfig) (n : ℕ) (l : Link) (i : ℕ) (e : PlainEntry) (es : List PlainEntry)

@@ -1,5 +1,5 @@
 -- The way that is chosen for a new request, and the plan that it makes.
-use Rattle.std.proofs.Common.{◌≡◌, ◌≢◌, ℕ, ◌<◌, ◌≤◌, ◌^◌, true, false, List, [], Option, Some, None, Result, Ok, Err, refl, ap, ◌∙◌, arith, eqb, ltb, length}
+use Rattle.std.proofs.Common.{◌≡◌, ◌≢◌, ℕ, ◌≤◌, ◌^◌, false, List, [], Option, Some, None, Result, Ok, Err, refl, ap, ◌∙◌, arith, ltb, length}
 use Rattle.std.proofs.lemmas.Bool.Decides.{nat_tests}
 use Rattle.roam_wire.specs.declared.refusal.Refusal.{Refusal}
 use Rattle.roam_wire.specs.declared.refusal.Refusal.TheVariants as refusal
@@ -7,31 +7,18 @@ use Rattle.roam_conf.specs.declared.place.Link.{Link}
 use Rattle.roam_route.specs.Admission.{PlainOut}
 use Rattle.roam_pending.specs.PlainEntry.{PlainEntry, PlainRequest}
 use Rattle.roam_pending.specs.EntryList.{find_client, first_done}
-use Rattle.roam_pending.proofs.TestLemmas.{same}
-use Rattle.roam_book.specs.Private.NewEntry.{Chooses, HasNext, IsChosen, IsRequestPlan, IsWay, once_gone, straight_after, target_at}
-use Rattle.roam_book.specs.OnRequest.{at_target, make_way, new_request}
+use Rattle.roam_book.specs.Private.NewEntry.{Chooses, HasNext, IsChosen, IsWay, once_gone, straight_after, target_at}
+use Rattle.roam_book.specs.OnRequest.{at_target, make_way}
 use Rattle.roam_book.specs.RealmConfig.{RealmConfig, IsLink}
 use Rattle.roam_book.specs.RealmState.{RealmState, Target}
 use Rattle.roam_book.specs.Sound.{CountsAsGone, IsRequest}
 use Rattle.roam_book.specs.Turn.{Turn, Answers, refuses, sends, shown_outs}
 use Rattle.roam_book.specs.declared.packets.answer.Answer.{Answer}
 use Rattle.roam_book.specs.declared.rules.replaced.Replaced.{Replaced}
-use Rattle.roam_book.specs.declared.rules.requests.RequestPlan.{RequestPlan}
-use Rattle.roam_book.specs.declared.rules.requests.RequestPlan.TheVariants as plan
 use Rattle.roam_book.specs.declared.rules.admit_plan.AdmitPlan.{AdmitPlan}
-use Rattle.roam_book.proofs.RequestLemmas.{in-else, in-then}
+use Rattle.roam_book.proofs.RequestLemmas.{in-else}
 
 -- The way of a new request
-
--- there is a place
-pub place-free :
-    (c : RealmConfig) (now : ℕ) (s : RealmState) (q : PlainRequest) (gone : Option Replaced) (l : Link)
-    → length (once_gone gone s.entries) < c.realm.max_pending → IsWay c s q (straight_after gone l)
-    → IsChosen c now s q (straight_after gone l) (at_target c now s (once_gone gone s.entries) q
-    (Some (target_at c s.cursors (once_gone gone s.entries) l)))
-place-free c now s q gone l room way =
-    let yes : ltb (length (once_gone gone s.entries)) c.realm.max_pending ≡ true = grind (arith, nat_tests, room) in
-    record { way = way; does = in-then _ _ _ yes }
 
 -- there is none, and no done entry makes way
 pub no-place :
@@ -68,13 +55,6 @@ place-made c now s q gone l t full some way =
       does = in-else _ _ _ no ∙ ap (make_way c now s es q target) some;
     }
 
--- no ticket is left
-pub exhausted :
-    (c : RealmConfig) (now : ℕ) (s : RealmState) (q : PlainRequest) (es : List PlainEntry)
-    → s.ticket ≡ 2 ^ 63 → new_request c now s es q ≡ refuses refusal.Exhausted
-exhausted c now s q es at =
-    in-then (eqb s.ticket (2 ^ 63)) _ _ (same s.ticket (2 ^ 63) at)
-
 -- what is chosen for a turn is chosen for the same turn
 pub chosen-same :
     (c : RealmConfig) (now : ℕ) (s : RealmState) (q : PlainRequest) (r : Result AdmitPlan Refusal)
@@ -104,15 +84,6 @@ pub refusal-plan :
     → shown_outs a.outs.items ≡ [] → a.refusal ≡ Some why → turn ≡ refuses why → Answers a s s turn
 refusal-plan a s why turn outs refusal is =
     rw is (record { packets = outs; refusal = refusal; state = refl })
-
--- a plan for a turn is one for the same turn
-pub plan-same :
-    {A : Type 0} (c : RealmConfig) (now : ℕ) (s : RealmState) (q : PlainRequest) (p : RequestPlan A)
-    (turn other : Turn) → other ≡ turn → IsRequestPlan c now s q p turn
-    → IsRequestPlan c now s q p other
-plan-same c now s q (plan.Answered a) turn other is h = rw is h
-plan-same c now s q (plan.Admitted way) turn other is h =
-    record { way = h.way; does = is ∙ h.does }
 
 -- an answer of packets, while the state stays as it is
 pub held-plan :

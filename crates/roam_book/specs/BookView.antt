@@ -1,5 +1,5 @@
 -- What a contract sees of a book, and which events its realm takes (ours).
-use Rattle.std.specs.Prelude.{◌≡◌, ℕ, ◌<◌, Bool, true, false, List, slice_index, vec_len}
+use Rattle.std.specs.Prelude.{◌≡◌, ℕ, ◌<◌, Bool, true, false, vec_len}
 use Rattle.roam_wire.specs.Packet.{AreOctets}
 use Rattle.roam_wire.specs.Reading.{IsPacketText}
 use Rattle.roam_conf.specs.Config.{ConfigView}

@@ -1,10 +1,10 @@
 -- What is proved of rests (ours): what `src/laws.rt` says.
-use Rattle.std.specs.Prelude.{◌≡◌, ℕ, Bool, false, List}
+use Rattle.std.specs.Prelude.{◌≡◌, ℕ, false, List}
 use Rattle.roam_conf.specs.declared.place.Link.{Link}
 use Rattle.roam_conf.specs.declared.place.Link.TheVariants as link
 use Rattle.roam_pending.specs.PlainEntry.{PlainEntry}
 use Rattle.roam_book.specs.RealmConfig.{RealmConfig}
-use Rattle.roam_book.specs.RealmState.{RealmState, opening, chosen_target, first_target}
+use Rattle.roam_book.specs.RealmState.{opening, chosen_target, first_target}
 use Rattle.roam_book.specs.Rests.{all_awake, stands_back}
 use Rattle.roam_book.specs.OneRealm.{RealmEvent, one_realm_run}
 use Rattle.roam_book.specs.declared.state.start.Start.{Start}

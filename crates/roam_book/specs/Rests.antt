@@ -1,7 +1,7 @@
 -- How the links to home servers rest that keep silent (ours). Each link, `auth` and `acct` of each server,
 -- has a moment until which it rests, or none, and a count: of the requests that were given up there since
 -- a reply from it was last taken. A peer's `coa` has neither: it never rests.
-use Rattle.std.specs.Prelude.{ℕ, ◌+◌, Bool, false, nat_lt, nat_le, List, Option, Some, None, option_map, replicate, slice_index_or, slice_set, if◌then◌else◌}
+use Rattle.std.specs.Prelude.{ℕ, ◌+◌, Bool, false, nat_lt, nat_le, List, Some, None, option_map, replicate, slice_index_or, slice_set, if◌then◌else◌}
 use Rattle.std.specs.Option.{option_map_or}
 use Rattle.roam_conf.specs.declared.place.Link.{Link}
 use Rattle.roam_book.specs.RealmConfig.{RealmConfig, link_place, server_link_count}

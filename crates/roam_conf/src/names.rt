@@ -1,7 +1,7 @@
 //! The index of the names and patterns of all realms.
 
 ghost use Rattle.std.specs.Prelude.{◌≡◌, ◌≤◌, ◌+◌, ◌^◌, ◌∷◌, ◌++◌, IfOk, length, map};
-ghost use Rattle.std.specs.Prelude.{ℕ, take, drop, true};
+ghost use Rattle.std.specs.Prelude.{ℕ, take, true};
 ghost use Rattle.std.specs.Str.{str_to_ascii_lowercase};
 ghost use Rattle.roam_conf.specs.Index.{owners, owner_of, all_new, pattern_key, of_owner, all_patterns, pattern_seen};
 ghost use Rattle.roam_conf.specs.Index.{is_marked, HasMark, AreMarked};

@@ -1,5 +1,5 @@
 -- A list of tables, read one after the other.
-use Rattle.std.proofs.Common.{◌≡◌, ℕ, ◌+◌, ◌<◌, ◌≤◌, List, [], ◌∷◌, ◌++◌, length, get_or, drop, Some, None, sym, ap, ◌∙◌, subst, append_assoc}
+use Rattle.std.proofs.Common.{◌≡◌, ℕ, ◌+◌, ◌<◌, ◌≤◌, List, [], ◌∷◌, ◌++◌, length, get_or, drop, Some, sym, ap, ◌∙◌, subst, append_assoc}
 use Rattle.std.proofs.lemmas.List.{append-nil}
 use Rattle.std.proofs.Math.ListN.{drop_of_length-le}
 use Rattle.toml.specs.Data.{Data, table, Items, no_items, item, Members, as_table}
@@ -27,14 +27,6 @@ each_more States (table ms) members' items value more is here rest =
     (subst (λ m. States m value) same here, rest)
 each_more States found members' items value more is here rest = cc
 
--- an item of another type states nothing
-each_not : {V : Type 0} (States : Members → V → Type 0) (found : Data) (items : Items) (values : List V) → as_table found ≡ None → StatesEach States (item found items) values → ⊥
-each_not States (table ms) items values is all = cc
-each_not States found items values is all = absurd all
-
-pub pushed_none : {V : Type 0} (States : Members → V → Type 0) (all : Items) → Pushed States all all []
-pushed_none States all = record { joins = λ more stated. stated; splits = λ values stated. (values, stated) }
-
 pub pushed_more : {V : Type 0} (States : Members → V → Type 0) (all items : Items) (found : Data) (members : Members) (done : List V) (value : V) → Pushed States all (item found items) done → as_table found ≡ Some members → States members value → Pushed States all items (done ++ value ∷ [])
 pushed_more States all items found members done value pushed is here = record {
   joins = λ more stated. rw append_assoc (pushed.joins (value ∷ more) (each_more States found members items value more is here stated));
@@ -46,11 +38,6 @@ pushed_more States all items found members done value pushed is here = record {
 
 pub pushed_all : {V : Type 0} (States : Members → V → Type 0) (all : Items) (done : List V) → Pushed States all no_items done → StatesEach States all done
 pushed_all States all done pushed = rw append-nil at (pushed.joins [] tt)
-
--- an item that is no table, or whose table states nothing, leaves the whole without values
-pub pushed_not : {V : Type 0} (States : Members → V → Type 0) (all items : Items) (found : Data) (done values : List V) → Pushed States all (item found items) done → as_table found ≡ None → StatesEach States all values → ⊥
-pushed_not States all items found done values pushed is stated =
-    let left = pushed.splits values stated in each_not States found items left.0 is left.1
 
 pub pushed_bad : {V : Type 0} (States : Members → V → Type 0) (all items : Items) (found : Data) (members : Members) (done values : List V) → Pushed States all (item found items) done → as_table found ≡ Some members → ((value : V) → States members value → ⊥) → StatesEach States all values → ⊥
 pushed_bad States all items found members done values pushed is bad stated =

@@ -1,14 +1,13 @@
 //! What a single value of the document states, and what a key of a table does.
 
-ghost use Rattle.std.specs.Prelude.{◌≡◌, ◌≤◌, ◌⊎◌, ℕ, Some, None, Ok, Err, IfOk, IfErr, IfSome, IsTrue, MatchResult};
-ghost use Rattle.std.specs.Prelude.{MatchOption, option_map, string_bytes, length, vec_len, true};
-ghost use Rattle.std.specs.Bool.{OnTrue};
+ghost use Rattle.std.specs.Prelude.{◌≡◌, ◌≤◌, Some, None, IfSome};
+ghost use Rattle.std.specs.Prelude.{option_map, true};
 ghost use Rattle.std.specs.List.{list_all};
 ghost use Rattle.std.specs.Option.{option_copied};
 ghost use Rattle.toml.specs.Data.{get_member};
 ghost use Rattle.toml.specs.View.{view, table_view, array_view};
 ghost use Rattle.roam_conf_reader.specs.Values as spec;
-ghost use Rattle.roam_conf_reader.specs.Values.{letters_of, text_fits, value_at, optional_at};
+ghost use Rattle.roam_conf_reader.specs.Values.{letters_of, text_fits};
 
 use hex::FromHex;
 use roam_conf::{Accounting, Endpoint, ExchangeLines, address};

@@ -1,6 +1,6 @@
 //! Lines that are said.
 
-ghost use Rattle.std.specs.Prelude.{◌≡◌, List, ℕ, IsTrue, IfOk, string_bytes};
+ghost use Rattle.std.specs.Prelude.{◌≡◌, List, ℕ, IsTrue, string_bytes};
 ghost use Rattle.roam_diagnosis.specs.Line.{is_line, is_printable};
 
 use std::alloc::{AllocError, Global};

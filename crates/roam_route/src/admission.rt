@@ -1,6 +1,6 @@
 //! What an arrival gives: a refusal, a local answer, or the event of a realm.
 
-ghost use Rattle.std.specs.Prelude.{◌≡◌, ℕ, ◌<◌, Some, None, true, vec_len, IfOk, IsErrOf};
+ghost use Rattle.std.specs.Prelude.{◌≡◌, ℕ, ◌<◌, Some, None, vec_len, IfOk, IsErrOf};
 ghost use Rattle.roam_wire.specs.Secret.{IsSecret};
 ghost use Rattle.roam_conf.specs.Shown.{shown};
 ghost use Rattle.roam_route.specs.Admission.{admission, is_taken, packet_admission, request_admission, sent_admission};

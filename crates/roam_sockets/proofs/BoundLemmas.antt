@@ -1,11 +1,10 @@
 -- Sockets come in behind others, and each place has one of its own.
-use Rattle.std.proofs.Common.{◌≡◌, ◌≢◌, ◌⊎◌, inl, inr, ℕ, zero, suc, ◌+◌, ◌*◌, ◌<◌, ◌≤◌, List, [], ◌∷◌, ◌++◌, length}
+use Rattle.std.proofs.Common.{◌≡◌, inl, inr, ℕ, zero, suc, ◌+◌, ◌*◌, ◌<◌, List, [], ◌∷◌, ◌++◌, length}
 use Rattle.std.proofs.Common.{◌↔◌, Bool, true, IsTrue}
-use Rattle.std.proofs.Common.{Contains, Option, Some, None, option_map, option_and_then, slice_get, refl, ap, sym, subst, ◌∙◌, append_assoc, append-nil, arith}
+use Rattle.std.proofs.Common.{Contains, Some, None, option_map, option_and_then, slice_get, refl, ap, sym, subst, ◌∙◌, append_assoc, append-nil, arith}
 use Rattle.std.proofs.lemmas.Bool.{cases_lt}
 use Rattle.std.proofs.lemmas.List.{length-append}
 use Rattle.std.proofs.lemmas.List.Elements.{Contains-append_cases, Contains-append_left, Contains-append_right, Contains-push_cases}
-use Rattle.std.proofs.lemmas.Option.{slice_get_within}
 use Rattle.roam_conf.specs.Config.{ConfigView, RealmView}
 use Rattle.roam_conf.specs.declared.endpoint.Endpoint.{Endpoint}
 use Rattle.roam_conf.specs.Duplicates.{same_endpoint}
@@ -74,19 +73,6 @@ taken_as_before at e old mid new was now before same as_was =
     subst (λ (l : List BoundSocket). AreTaken at e old l now) (sym same)
     (subst (AreTaken at e old mid) (sym as_was) before)
 
-pub gains_on : (at : Place) (e : Endpoint) (a b c : List BoundSocket) (n m : ℕ) → Gains at e a b n → Gains at e b c m
-    → Gains at e a c (n + m)
-gains_on at e a b c n m g h = record {
-  more = g.more ++ h.more;
-  behind = h.behind ∙ (ap (λ (l : List BoundSocket). l ++ h.more) g.behind ∙ append_assoc a g.more h.more);
-  each = λ x is. (elim (Contains-append_cases g.more h.more x is) [
-    | inl first ↦ g.each x first
-    | inr second ↦ h.each x second
-  ]);
-  as_many = (let long = length-append g.more h.more in let one = g.as_many in let two = h.as_many in
-      omega (arith, long, one, two));
-}
-
 -- a number is one place's
 pub same_place : (a b : Place) → socket_number a ≡ socket_number b → a ≡ b
 same_place place.Auth place.Auth is = refl
@@ -127,12 +113,6 @@ numbered config place.Auth e is = omega arith
 numbered config place.Acct e is = omega arith
 numbered config (place.Out r) e is = let lt = realm_within config.realms r (λ x. x.out) e is in omega (arith, lt)
 numbered config (place.Reverse r) e is = let lt = reverse_within config.realms r e is in omega (arith, lt)
-
-pub bound_none : (config : ConfigView) → AreBoundUpTo config 0 []
-bound_none config = record {
-  each = λ b h. none_in b h;
-  all = λ at e is lt. absurd (omega (arith, lt));
-}
 
 first_in : (xs : List BoundSocket) → 0 < length xs → (b : BoundSocket) × Contains xs b
 first_in [] some = absurd (omega (arith, some))
@@ -197,18 +177,4 @@ pub bound_all : (config : ConfigView) (k : ℕ) (xs : List BoundSocket) → k �
 bound_all config k xs is up = record {
   each = up.each;
   all = λ at e there. up.all at e there (let lt = numbered config at e there in omega (arith, lt, is));
-}
-
--- what is open is all, or what is bound stands behind
-pub some_gained : (at : Place) (e : Endpoint) (old new : List BoundSocket) (any : Bool) → AreTaken at e old new any →
-    any ≡ true
-    → GainsSome at e old new
-some_gained at e old new any taken is = record { count = taken.0; gains = taken.1; some = taken.2.0 is }
-
-pub some_behind : (at : Place) (e : Endpoint) (old mid new : List BoundSocket) (any : Bool) → AreTaken at e old mid any
-    → GainsSome at e mid new → GainsSome at e old new
-some_behind at e old mid new any taken more = record {
-  count = taken.0 + more.count;
-  gains = gains_on at e old mid new taken.0 more.count taken.1 more.gains;
-  some = (let lt = more.some in omega (arith, lt));
 }

@@ -1,17 +1,14 @@
 -- The sockets of a thread, one after the other.
-use Rattle.std.proofs.Common.{◌≡◌, ◌≢◌, ◌⊎◌, inl, inr, ℕ, zero, suc, ◌+◌, ◌<◌, ◌==◌, Bool, true, false, List, [], ◌∷◌, ◌++◌, length}
+use Rattle.std.proofs.Common.{◌≡◌, ◌≢◌, ◌⊎◌, inl, inr, ℕ, zero, suc, ◌+◌, ◌<◌, List, [], ◌∷◌, ◌++◌, length}
 use Rattle.std.proofs.Common.{◌≤◌, get_or, drop, drop-cons}
 use Rattle.std.proofs.lemmas.List.{drop_all}
 use Rattle.std.proofs.lemmas.List.Elements.{Contains-get_or}
-use Rattle.std.proofs.Common.{Contains, Option, Some, None, slice_get, refl, ap, sym, subst, ◌∙◌, append_assoc, append-nil, arith}
+use Rattle.std.proofs.Common.{Contains, refl, ap, sym, subst, ◌∙◌, append-nil, arith}
 use Rattle.std.proofs.lemmas.Bool.{cases_eq}
-use Rattle.std.proofs.lemmas.List.Elements.{Contains-append_cases}
 use Rattle.std.proofs.Math.ListN.{set, length-set}
-use Rattle.std.proofs.lemmas.List.{get_or-set_same}
-use Rattle.std.proofs.lemmas.Option.{slice_get-get_or}
 use Rattle.roam_port.specs.Sockets.{socket_number}
 use Rattle.roam_port.proofs.ListedLemmas.{get-set_other, get-set_same}
-use Rattle.roam_sockets.specs.Bound.{AreOwnPorts, AreReceiversOf, HasOwnAt, IsOwn, IsReceiverOf, heard_by}
+use Rattle.roam_sockets.specs.Bound.{AreOwnPorts, AreReceiversOf, HasOwnAt, IsOwn, heard_by}
 use Rattle.roam_sockets.specs.declared.bind.BoundSocket.{BoundSocket}
 use Rattle.roam_sockets.specs.declared.receiver.Receiver.{Receiver}
 use Rattle.roam_sockets.specs.declared.socket.Socket.{Socket}

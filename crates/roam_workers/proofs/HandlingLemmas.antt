@@ -4,9 +4,9 @@ use Rattle.std.specs.declared.alloc.Global.{Global}
 use Rattle.roam_wire.specs.declared.refusal.Refusal.{Refusal}
 use Rattle.roam_wire.specs.declared.refusal.Refusal.TheVariants as refusal
 use Rattle.roam_conf.specs.Config.{ConfigView}
-use Rattle.roam_route.specs.Admission.{Admission, Arrival, PlainJob, PlainOut, admission, admitted, refused, rejected}
+use Rattle.roam_route.specs.Admission.{Arrival, PlainJob, admission, admitted, refused, rejected}
 use Rattle.roam_route.specs.Events.{arrival_of}
-use Rattle.roam_route.specs.Shown.{IsAdmission, WantsMemory, shown, shown_job, shown_out}
+use Rattle.roam_route.specs.Shown.{IsAdmission, WantsMemory, shown_job, shown_out}
 use Rattle.roam_route.specs.declared.datagram.Out.{Out}
 use Rattle.roam_route.specs.declared.job.Job.{Job}
 use Rattle.roam_route.specs.declared.job.Prepared.{Prepared}
@@ -16,7 +16,6 @@ use Rattle.roam_history.specs.HubOpening.{HubOpening}
 use Rattle.roam_audit.specs.Seats.{SeatView}
 use Rattle.roam_hub.specs.Calls.{IsCall, answered_step}
 use Rattle.roam_hub.specs.declared.answered.Answered.{Answered}
-use Rattle.roam_counters.specs.declared.datagrams.Handling.{Handling}
 use Rattle.roam_counters.specs.declared.datagrams.Handling.TheVariants as handling
 use Rattle.roam_workers.specs.Handlings.{IsAnswered, IsHandled, refused_as}
 

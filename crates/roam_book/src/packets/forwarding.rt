@@ -1,12 +1,11 @@
 //! A request as it is forwarded (RFC 2865, section 2.3).
 
-ghost use Rattle.std.specs.Prelude.{◌≡◌, ℕ, ◌<◌, ◌≤◌, ◌==◌, ◌+◌, ◌%◌, ◌^◌, ◌++◌};
-ghost use Rattle.std.specs.Prelude.{List, [], ◌∷◌, Some, None, true, IfSome, is_some, length, slice_set, vec_len};
-ghost use Rattle.std.specs.Prelude.{vec_capacity};
+ghost use Rattle.std.specs.Prelude.{◌≡◌, ◌<◌, ◌≤◌, ◌==◌, ◌+◌, ◌%◌, ◌^◌};
+ghost use Rattle.std.specs.Prelude.{List, [], Some, None, true, IfSome, is_some, length, slice_set};
 ghost use Rattle.roam_wire.specs.Reading.{IsPacketText, packet_of};
 ghost use Rattle.roam_wire.specs.declared.code.TheConstants.{ACCESS_REQUEST};
 ghost use Rattle.roam_fwd.specs.Forwarded.{forwarded_length};
-ghost use Rattle.roam_pending.specs.PlainEntry.{PlainEntry, PlainRequest};
+ghost use Rattle.roam_pending.specs.PlainEntry.{PlainEntry};
 ghost use Rattle.roam_pending.specs.EntryList.{IsEntryList, find_ticket, put};
 ghost use Rattle.roam_pending.specs.Shown.{shown_standing};
 ghost use Rattle.roam_pending.specs.declared.entry.Standing.TheVariants as standing;

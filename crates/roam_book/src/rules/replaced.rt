@@ -1,8 +1,7 @@
 //! The entry that a new request of its key takes the place of.
 
-ghost use Rattle.std.specs.Prelude.{◌≡◌, Some, option_map};
-ghost use Rattle.roam_pending.specs.PlainEntry.{PlainEntry};
-ghost use Rattle.roam_pending.specs.Shown.{shown, shown_standing};
+ghost use Rattle.std.specs.Prelude.{◌≡◌, Some};
+ghost use Rattle.roam_pending.specs.Shown.{shown_standing};
 ghost use Rattle.roam_book.specs.Sound.{standing_place};
 
 use roam_conf::Link;

@@ -3,11 +3,11 @@
 //! First it is decided whether it is a duplicate, answered by a NAK, refused or admitted, and which
 //! entries make way; that changes nothing. Then a new request is admitted.
 
-ghost use Rattle.std.specs.Prelude.{◌≡◌, ◌≢◌, ℕ, ◌<◌, ◌≤◌, ◌^◌, ◌∷◌, [], true, None};
+ghost use Rattle.std.specs.Prelude.{◌≡◌, ℕ, ◌<◌, ◌∷◌, [], true, None};
 ghost use Rattle.std.specs.Prelude.{Some, IfErr, IfOk, IfSome, IsOk, length};
 ghost use Rattle.std.specs.Result.{result_err};
 ghost use Rattle.roam_wire.specs.Reading.{IsPacketText};
-ghost use Rattle.roam_pending.specs.EntryList.{besides, find_client, without_client};
+ghost use Rattle.roam_pending.specs.EntryList.{find_client, without_client};
 ghost use Rattle.roam_pending.specs.PlainEntry.{PlainRequest};
 ghost use Rattle.roam_pending.specs.Shown.{shown_standing};
 ghost use Rattle.roam_book.specs.Private.NewEntry.{AreConfigured, Chooses, IsNew, IsRequestPlan, IsWay, freed_link};

@@ -5,7 +5,6 @@ ghost use Rattle.std.specs.Prelude.{IfSome, is_some, length};
 ghost use Rattle.roam_pending.specs.EntryList.{find_ticket};
 ghost use Rattle.roam_pending.specs.Realms.{RealmBecomes};
 ghost use Rattle.roam_route.specs.Admission.{PlainOut};
-ghost use Rattle.roam_book.specs.Turn.{Answers};
 ghost use Rattle.roam_book.specs.OnTick.{on_tick, due_one};
 ghost use Rattle.roam_book.specs.Private.Memory.{HasBuffers, HasPlace, IsOuts, Tells};
 ghost use Rattle.roam_book.specs.RealmTurn.{IsRealm, Keeps, KeepsLoans, Turns, TurnsTwice, entries, state};

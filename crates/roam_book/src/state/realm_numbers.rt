@@ -15,7 +15,7 @@ ghost use Rattle.roam_book.specs.RealmConfig.{IsLink, link_place, link_count, se
 ghost use Rattle.roam_book.specs.RealmState.{next_toward};
 ghost use Rattle.roam_book.specs.Rests.{after_choice, after_reply, after_silence, all_awake, rest_of, with_rest};
 ghost use Rattle.roam_book.specs.Stays.{IsStarted, RestsBecome, KeepsButLanes, KeepsButSessions};
-ghost use Rattle.roam_book.specs.Sound.{AreOwnLanes, LanesTell, lane_of, cursors_of, has_free, is_freed, is_open};
+ghost use Rattle.roam_book.specs.Sound.{AreOwnLanes, LanesTell, lane_of, cursors_of, has_free, is_freed};
 ghost use Rattle.roam_book.specs.Sound.{marks_of, WaitsJustAt, chosen_link, is_ready, stands_back_at};
 
 use crate::state::realm_settings::RealmSettings;

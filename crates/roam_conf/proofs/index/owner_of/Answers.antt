@@ -1,4 +1,4 @@
-use Rattle.std.proofs.Common.{◌∙◌, rules}
+use Rattle.std.proofs.Common.{◌∙◌}
 use Rattle.roam_conf.proofs.IndexLemmas.{shown_lookup}
 use Rattle.roam_conf.proofs.index.owner_of.Goals as goal
 

@@ -1,4 +1,4 @@
-use Rattle.std.proofs.Common.{◌≡◌, ◌∷◌, ◌++◌, map, drop}
+use Rattle.std.proofs.Common.{◌≡◌, ◌∷◌, ◌++◌, drop}
 use Rattle.std.specs.Str.{str_to_ascii_lowercase}
 use Rattle.roam_conf.proofs.names.key_of.Given as goal
 

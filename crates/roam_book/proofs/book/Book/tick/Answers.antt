@@ -1,4 +1,4 @@
-use Rattle.std.proofs.Common.{◌≡◌, ◌∙◌, true, false, refl, sym}
+use Rattle.std.proofs.Common.{refl}
 use Rattle.roam_book.proofs.book.Book.tick.Goals as goal
 
 -- the done ones go

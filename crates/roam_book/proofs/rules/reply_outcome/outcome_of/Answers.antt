@@ -1,4 +1,4 @@
-use Rattle.std.proofs.Common.{◌≡◌, Some, ap, refl}
+use Rattle.std.proofs.Common.{◌≡◌, Some, ap}
 use Rattle.roam_wire.specs.Reading.{packet_of}
 use Rattle.roam_pending.specs.PlainEntry.{PlainEntry}
 use Rattle.roam_pending.specs.Shown.{shown}

@@ -1,9 +1,8 @@
-use Rattle.std.proofs.Common.{ap, refl, sym}
+use Rattle.std.proofs.Common.{ap, sym}
 use Rattle.std.proofs.lemmas.Result.{IfOk-weaker}
 use Rattle.roam_pending.specs.PlainEntry.{PlainEntry, PlainStanding}
 use Rattle.roam_pending.specs.Shown.{shown, shown_standing}
 use Rattle.roam_book.specs.OnReply.{to_standing}
-use Rattle.roam_book.specs.Private.Judged.{IsVerdict}
 use Rattle.roam_book.proofs.ReplyLemmas.{link-stands, same-verdict, verdict-from}
 use Rattle.roam_book.proofs.rules.reply_outcome.to_standing.Goals as goal
 

@@ -1,4 +1,4 @@
-use Rattle.std.proofs.Common.{arith, ◌≡◌, ◌∙◌, ◌≤◌, ◌+◌, ℕ, Option, ap, sym}
+use Rattle.std.proofs.Common.{arith, ◌∙◌, ℕ, Option, ap, sym}
 use Rattle.std.specs.Prelude.{is_some}
 use Rattle.roam_book.proofs.LookingLemmas.{none-below, none-used, one-more}
 use Rattle.roam_book.proofs.state.gauges.in_use.Goals as goal

@@ -1,4 +1,4 @@
-use Rattle.std.proofs.Common.{◌≡◌, ◌∙◌, ◌≤◌, length, sym, ap, arith}
+use Rattle.std.proofs.Common.{◌∙◌, ◌≤◌, length, sym, ap, arith}
 use Rattle.std.proofs.lemmas.Bool.Decides.{nat_tests}
 use Rattle.roam_conf.specs.Config.{suffix}
 use Rattle.roam_conf.specs.Lookup.{owner_with, first_answer, after_dots}

@@ -1,5 +1,5 @@
 -- One more was taken, or all is as it was.
-use Rattle.std.proofs.Common.{refl, ap, sym, ◌∙◌}
+use Rattle.std.proofs.Common.{refl, ap, ◌∙◌}
 use Rattle.roam_sockets.specs.declared.bind.Sockets.{Sockets}
 use Rattle.roam_sockets.proofs.BoundLemmas.{AreTaken, taken_as_before, taken_one}
 use Rattle.roam_sockets.proofs.bind.Sockets.take_open.Goals.{then-is_same_endpoint+in-Ok+in_ok-push-in-Ok, else-is_same_endpoint}

@@ -1,6 +1,4 @@
 -- The call that was recorded is of the job that was handed in.
-use Rattle.std.proofs.Common.{sym}
-use Rattle.roam_route.specs.Shown.{shown_job}
 use Rattle.roam_workers.proofs.HandlingLemmas.{answered_so}
 use Rattle.roam_workers.proofs.arrivals.WorkerContext.answer.Goals as goal
 

@@ -1,4 +1,4 @@
-use Rattle.std.proofs.Common.{◌≡◌, ◌<◌, List, ap, length, subst, sym}
+use Rattle.std.proofs.Common.{◌<◌, List, ap, length, subst, sym}
 use Rattle.roam_pending.specs.DueOrder.{due_list}
 use Rattle.roam_pending.specs.PlainEntry.{PlainEntry}
 use Rattle.roam_book.specs.RealmState.{RealmState}

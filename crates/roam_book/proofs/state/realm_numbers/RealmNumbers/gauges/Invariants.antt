@@ -1,4 +1,4 @@
-use Rattle.std.proofs.Common.{◌≡◌, length}
+use Rattle.std.proofs.Common.{◌≡◌}
 use Rattle.roam_book.proofs.state.realm_numbers.RealmNumbers.gauges.Given as goal
 
 -- what was counted before stays
