@@ -1,5 +1,5 @@
 -- Which of a reply's attributes are returned.
-use Rattle.std.proofs.Common.{◌≡◌, ℕ, Bool, true, false, List, [], ◌∷◌, ◌++◌, subst, refl, sym, ap, ◌∙◌}
+use Rattle.std.proofs.Common.{◌≡◌, Bool, true, List, [], subst, refl, ap, ◌∙◌}
 use Rattle.std.specs.Prelude.{if◌then◌else◌}
 use Rattle.std.specs.List.{AllZip}
 use Rattle.std.proofs.lemmas.Bool.{eq-eqb}
@@ -13,7 +13,7 @@ use Rattle.roam_filter.specs.Without.{without}
 use Rattle.roam_filter.proofs.WithoutLemmas.{without_kind-without}
 use Rattle.roam_back.specs.CarriedLaws.{IsCarriedBack, own_attributes}
 use Rattle.roam_back.specs.PassingLaws.{AcceptCarriesWhatPasses, AccessPasses, NothingNamed, OthersPassWhole}
-use Rattle.roam_back.specs.Returned.{Returning, passing, passing_reply, proxy_states, returned}
+use Rattle.roam_back.specs.Returned.{passing, passing_reply}
 use Rattle.roam_back.proofs.CarriedLemmas.{accept_carries}
 use Rattle.roam_back.proofs.PassingLemmas.{passing-none, passing_reply-none}
 use Rattle.roam_back.proofs.PlainLemmas.{accept_is_access, from_key, to_key}

@@ -1,5 +1,5 @@
 -- What the derived `==` of what the configuration's parts hold says: that what is shown is equal.
-use Rattle.std.proofs.Common.{◌≡◌, ℕ, Bool, true, false, eqb, ◌&&◌, List, [], ◌∷◌, map, Option, Some, None, option_map, String, Global, string_bytes, Decides, refl, ap}
+use Rattle.std.proofs.Common.{◌≡◌, ℕ, Bool, eqb, ◌&&◌, List, [], ◌∷◌, map, Option, Some, None, option_map, String, Global, string_bytes, Decides, refl, ap}
 use Rattle.std.proofs.lemmas.Bool.{false≢true, and_parts}
 use Rattle.std.proofs.lemmas.Bool.Decides.{Decides-and, Decides-like, Decides-eqb}
 use Rattle.std.proofs.lemmas.Slice.Eq.{bytes_eq-Decides}

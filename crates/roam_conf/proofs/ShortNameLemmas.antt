@@ -15,7 +15,7 @@ use Rattle.roam_conf.specs.Index.{pattern_key}
 use Rattle.roam_conf.specs.Letters.{is_realm_letter}
 use Rattle.roam_conf.specs.Lookup.{owner_with, pattern_lists}
 use Rattle.roam_conf.specs.Parts.{shown_realm}
-use Rattle.roam_conf.specs.Patterns.{is_realm_name, is_pattern, is_reject, shown_pattern, same_pattern, patterns_of}
+use Rattle.roam_conf.specs.Patterns.{is_realm_name, is_pattern, is_reject, shown_pattern, same_pattern}
 use Rattle.roam_conf.specs.Shown.{shown}
 use Rattle.roam_conf.proofs.NameLemmas.{same_key}
 

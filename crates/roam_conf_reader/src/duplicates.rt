@@ -4,7 +4,7 @@
 //! pairs: of at most 1024 peers, 2050 sockets of the broker, 16 endpoints of one realm's servers, and of
 //! 1024 endpoints of peers with 16384 of servers.
 
-ghost use Rattle.std.specs.Prelude.{◌≡◌, ◌≤◌, ◌+◌, ◌||◌, ◌⊎◌, Some, None, IfOk, IfErr, MatchResult, false, length, map, drop};
+ghost use Rattle.std.specs.Prelude.{◌≡◌, ◌≤◌, ◌+◌, ◌||◌, Some, None, IfOk, false, length, map, drop};
 ghost use Rattle.std.specs.List.{list_any};
 ghost use Rattle.std.specs.Option.{option_map_or};
 ghost use Rattle.roam_conf.specs.Duplicates.{has_pair, same_endpoint, is_among, same_if_there, same_name_if_there};

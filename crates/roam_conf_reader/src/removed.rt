@@ -1,7 +1,6 @@
 //! The lists of attributes to remove that tables state.
 
-ghost use Rattle.std.specs.Prelude.{◌≡◌, codes, Err, IfOk, None, Some, map};
-ghost use Rattle.std.specs.List.{list_any};
+ghost use Rattle.std.specs.Prelude.{◌≡◌, codes, Err, IfOk, None, Some};
 ghost use Rattle.toml.specs.Data.{get_member};
 ghost use Rattle.toml.specs.View.{array_view, table_view, view};
 ghost use Rattle.roam_wire.specs.RemovedAttributes.{is_removal, is_removal_in_requests, is_removal_in_replies};

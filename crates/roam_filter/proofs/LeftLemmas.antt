@@ -1,10 +1,8 @@
 -- What passes of an attribute, and the octets that it takes.
-use Rattle.std.proofs.Common.{◌≡◌, ◌≢◌, ℕ, ◌+◌, ◌≤◌, Bool, true, false, List, [], ◌∷◌, ◌++◌, length, take, drop, filter, Option, Some, None, subst, refl, sym, ap, ◌∙◌, arith, append-nil, length-append}
+use Rattle.std.proofs.Common.{◌≡◌, ℕ, ◌+◌, ◌≤◌, Bool, true, false, List, [], ◌∷◌, ◌++◌, length, Option, Some, subst, refl, sym, ap, ◌∙◌, arith, append-nil}
 use Rattle.std.specs.Prelude.{unwrap_or, if◌then◌else◌}
 use Rattle.std.specs.List.{AllByRecursion, list_any}
-use Rattle.std.proofs.lemmas.Bool.{cases_Bool, eqb-true}
 use Rattle.std.proofs.lemmas.Bool.Decides.{nat_tests}
-use Rattle.std.proofs.lemmas.List.{length-take-le}
 use Rattle.roam_wire.specs.Packet.{AreOctets, Attribute, IsAttribute, attribute_text, attributes_text}
 use Rattle.roam_wire.specs.Reading.{attributes_of}
 use Rattle.roam_wire.specs.declared.attribute_type.TheConstants.{VENDOR_SPECIFIC}
@@ -14,7 +12,7 @@ use Rattle.roam_wire.proofs.KeptLemmas.{IsAppending, IsCount, kept_text, length-
 use Rattle.roam_filter.specs.declared.passing.Passing.{Passing}
 use Rattle.roam_filter.specs.declared.passing.Passing.TheVariants.{Nothing, Whole, Parts}
 use Rattle.roam_filter.specs.Removal.{is_kind}
-use Rattle.roam_filter.specs.Without.{has_vendor, vendor_of, passing_of_vendor, how_passed, is_left, left_text, with_subs, with_left, parts_of, passed, passed_as}
+use Rattle.roam_filter.specs.Without.{has_vendor, vendor_of, passing_of_vendor, how_passed, is_left, left_text, passed, passed_as}
 
 -- ---- how an attribute passes
 
@@ -57,17 +55,6 @@ pub spelt_subs : (octets : List ℕ) (subs : List Attribute) → AreOctets octet
     Spell octets subs
 spelt_subs octets subs fits read = read_spells (length octets) octets subs (omega arith) fits read
 
--- what is left takes no more octets than all
-pub length-left_text : (removed : List RemovedAttribute) (vendor : ℕ) (octets : List ℕ) → AreOctets octets →
-    (o : Option (List Attribute)) → attributes_of octets ≡ o → length (left_text removed vendor o) ≤ length octets
-length-left_text removed vendor octets fits None read = omega arith
-length-left_text removed vendor octets fits (Some subs) read =
-    omega (
-      arith,
-      length-kept_text (is_left removed vendor) subs,
-      ap length (spelt_subs octets subs fits read).spelt,
-    )
-
 -- those that octets are
 subs-are : (octets : List ℕ) (subs : List Attribute) → attributes_of octets ≡ Some subs → subs_of octets ≡ subs
 subs-are octets subs read = ap (λ (o : Option (List Attribute)). unwrap_or o []) read
@@ -106,47 +93,3 @@ appending-start removed vendor octets before subs all size capacity fits read al
     }
 
 -- ---- a Vendor-Specific in parts
-
--- where nothing is left, nothing passes; else the vendor and what is left
-subs-text : (vendor : List ℕ) (subs : List Attribute) → length vendor ≡ 4 → length (attributes_text subs) ≢ 0 →
-    attributes_text (with_subs vendor subs)
-    ≡ VENDOR_SPECIFIC ∷ (length (attributes_text subs) + 6) ∷ (vendor ++ attributes_text subs)
-subs-text vendor [] four some = absurd (some refl)
-subs-text vendor (sub ∷ subs) four some =
-    let text : List ℕ = attributes_text (sub ∷ subs) in
-    let size : length (vendor ++ text) + 2 ≡ length text + 6 = omega (arith, length-append vendor text) in
-    ap (λ (t : List ℕ). VENDOR_SPECIFIC ∷ (length (vendor ++ text) + 2) ∷ t) (append-nil (vendor ++ text))
-    ∙ ap (λ (n : ℕ). VENDOR_SPECIFIC ∷ n ∷ (vendor ++ text)) size
-
-no-subs : (vendor : List ℕ) (subs : List Attribute) → length (attributes_text subs) ≡ 0 →
-    with_subs vendor subs ≡ []
-no-subs vendor [] none = refl
-no-subs vendor (sub ∷ subs) none =
-    absurd (omega (arith, none))
-
-no-parts-of : (removed : List RemovedAttribute) (number : ℕ) (vendor : List ℕ) (o : Option (List Attribute)) →
-    length (left_text removed number o) ≡ 0 → with_left removed number vendor o ≡ []
-no-parts-of removed number vendor None none = refl
-no-parts-of removed number vendor (Some subs) none = no-subs vendor (filter (is_left removed number) subs) none
-
-pub no-parts : (removed : List RemovedAttribute) (value : List ℕ) →
-    length (left_text removed (vendor_of value) (attributes_of (drop 4 value))) ≡ 0 → parts_of removed value ≡ []
-no-parts removed value none =
-    no-parts-of removed (vendor_of value) (take 4 value) (attributes_of (drop 4 value)) none
-
-parts-text-of : (removed : List RemovedAttribute) (number : ℕ) (vendor : List ℕ) (o : Option (List Attribute)) →
-    length vendor ≡ 4 → length (left_text removed number o) ≢ 0 →
-    attributes_text (with_left removed number vendor o)
-    ≡ VENDOR_SPECIFIC ∷ (length (left_text removed number o) + 6) ∷ (vendor ++ left_text removed number o)
-parts-text-of removed number vendor None four some = absurd (some refl)
-parts-text-of removed number vendor (Some subs) four some =
-    subs-text vendor (filter (is_left removed number) subs) four some
-
-pub parts-text : (removed : List RemovedAttribute) (value : List ℕ) → 4 ≤ length value →
-    length (left_text removed (vendor_of value) (attributes_of (drop 4 value))) ≢ 0 →
-    attributes_text (parts_of removed value)
-    ≡ VENDOR_SPECIFIC ∷ (length (left_text removed (vendor_of value) (attributes_of (drop 4 value))) + 6)
-    ∷ (take 4 value ++ left_text removed (vendor_of value) (attributes_of (drop 4 value)))
-parts-text removed value four some =
-    parts-text-of removed (vendor_of value) (take 4 value) (attributes_of (drop 4 value))
-    (length-take-le 4 value four) some

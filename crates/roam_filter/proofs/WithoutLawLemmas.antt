@@ -1,7 +1,6 @@
 -- What follows from the definition of what passes.
-use Rattle.std.proofs.Common.{◌≡◌, true, false, Option, Some, None, List, take, refl, ap, ◌∙◌}
+use Rattle.std.proofs.Common.{take, refl, ap, ◌∙◌}
 use Rattle.std.proofs.lemmas.List.Concat.{flat_map-append}
-use Rattle.roam_wire.specs.Packet.{Attribute}
 use Rattle.roam_filter.specs.declared.passing.Passing.TheVariants.{Nothing, Whole, Parts}
 use Rattle.roam_filter.specs.Without.{passed, vendor_of, with_left, without}
 use Rattle.roam_filter.specs.WithoutLaws.{MalformedGo, NamedGo, OthersStay, PartsPass, PassesInOrder, ShortStay, VendorsGo, VendorsStay}

@@ -366,11 +366,6 @@ pub IsCounted-within : (removed : List RemovedAttribute) (all left : List Attrib
     size ≤ 4076
 IsCounted-within removed all left size h are limit = omega (arith, h.total, length-without removed all are)
 
--- the first that is left has at most 253 octets
-pub first-short : (left rest : List Attribute) (a : Attribute) → left ≡ a ∷ rest → AllByRecursion IsAttribute left →
-    length a.value ≤ 253
-first-short left rest a split h = (subst (AllByRecursion IsAttribute) split h).0.size
-
 -- where none is left, all is counted
 pub IsCounted-end : (removed : List RemovedAttribute) (all left : List Attribute) (size : ℕ) → left ≡ [] →
     IsCounted removed all left size → size ≡ length (attributes_text (without removed all))

@@ -1,8 +1,8 @@
 -- A list of attributes without those that don't pass (RFC 2865, sections 5 and 5.26; which don't is ours).
-use Rattle.std.specs.Prelude.{ℕ, ◌==◌, ◌&&◌, not, nat_le, Bool, true, false, List, [], ◌∷◌, ◌++◌, length, take, drop, filter, if◌then◌else◌, Option, Some, None}
+use Rattle.std.specs.Prelude.{ℕ, ◌==◌, ◌&&◌, not, nat_le, Bool, List, [], ◌∷◌, ◌++◌, length, take, drop, filter, if◌then◌else◌, Option, Some, None}
 use Rattle.std.specs.Int.{w32, from_be_bytes}
 use Rattle.std.specs.List.{flat_map, list_any}
-use Rattle.roam_wire.specs.Packet.{Attribute, Packet, attributes_text}
+use Rattle.roam_wire.specs.Packet.{Attribute, attributes_text}
 use Rattle.roam_wire.specs.Reading.{attributes_of}
 use Rattle.roam_wire.specs.declared.attribute_type.TheConstants.{VENDOR_SPECIFIC}
 use Rattle.roam_wire.specs.declared.removed_attribute.RemovedAttribute.{RemovedAttribute}

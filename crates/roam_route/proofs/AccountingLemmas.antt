@@ -5,12 +5,12 @@ use Rattle.std.proofs.lemmas.Bool.Decides.{nat_tests}
 use Rattle.std.proofs.lemmas.List.{take_at}
 use Rattle.roam_wire.specs.Packet.{Attribute, Packet, IsPacket, attributes_text, packet_length, packet_text}
 use Rattle.roam_wire.specs.Attributes.{count_of, has_kind, only_kind}
-use Rattle.roam_wire.specs.Reading.{ReadsAs, packet_of}
+use Rattle.roam_wire.specs.Reading.{packet_of}
 use Rattle.roam_wire.specs.declared.attribute_type.TheConstants.{MESSAGE_AUTHENTICATOR, PROXY_STATE}
 use Rattle.roam_wire.proofs.KeptLemmas.{length-kept_text}
 use Rattle.roam_wire.proofs.PacketLemmas.{ReadsAs-packet_text, length-packet_text, packet_of-packet_text}
-use Rattle.roam_auth.specs.Authenticators.{IsSignedReply, response_authenticator, signed_reply}
-use Rattle.roam_auth.specs.MessageAuthenticator.{HasAtMostOneMessageAuthenticator, IsWellSealed, attributes_with_value, empty_message_authenticator, message_authenticator, with_message_authenticator}
+use Rattle.roam_auth.specs.Authenticators.{response_authenticator, signed_reply}
+use Rattle.roam_auth.specs.MessageAuthenticator.{HasAtMostOneMessageAuthenticator, attributes_with_value, empty_message_authenticator, message_authenticator, with_message_authenticator}
 use Rattle.roam_auth.proofs.DigestLemmas.{IsPacket-signed_reply, length-message_authenticator}
 use Rattle.roam_auth.proofs.SealingLemmas.{length-attributes_text-append}
 use Rattle.roam_auth.proofs.SealLemmas.{IsWellSealed-sealed, IsWellSealed-with_authenticator}

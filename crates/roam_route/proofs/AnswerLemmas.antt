@@ -1,10 +1,10 @@
 -- The local answers: how they are filled, sealed and signed.
-use Rattle.std.proofs.Common.{◌≡◌, ◌⊎◌, ◌↔◌, ℕ, ◌+◌, ◌≤◌, ◌<◌, true, false, inl, inr, List, [], ◌∷◌, ◌++◌, length, take, drop, refl, sym, ap, subst, ◌∙◌, arith, length-append, append_assoc, lit<, lit≤}
+use Rattle.std.proofs.Common.{◌≡◌, ◌⊎◌, ◌↔◌, ℕ, ◌+◌, ◌≤◌, ◌<◌, true, false, inl, inr, List, [], ◌∷◌, ◌++◌, length, take, drop, refl, sym, ap, ◌∙◌, arith, length-append, lit<, lit≤}
 use Rattle.std.specs.List.{AllByRecursion}
 use Rattle.std.proofs.lemmas.Bool.{cases_Bool, eqb-true}
 use Rattle.std.specs.Prelude.{if◌then◌else◌, Result, Ok, Err, IfErr, IsErrOf}
 use Rattle.std.proofs.lemmas.Bool.Decides.{nat_tests}
-use Rattle.std.proofs.lemmas.List.{append-nil, take_at}
+use Rattle.std.proofs.lemmas.List.{take_at}
 use Rattle.std.proofs.lemmas.List.Sums.{sum_by-cons}
 use Rattle.roam_wire.specs.Packet.{Attribute, IsAttribute, Packet, IsPacket, attribute_text, attributes_text, packet_length, packet_text}
 use Rattle.roam_wire.specs.Reading.{ReadsAs, packet_of}
@@ -37,10 +37,6 @@ first_kept : (a : Attribute) (rest : List Attribute) → has_kind PROXY_STATE a 
     only_kind PROXY_STATE (a ∷ rest) ≡ a ∷ only_kind PROXY_STATE rest
 first_kept a rest passes = rw passes refl
 
-first_left : (a : Attribute) (rest : List Attribute) → has_kind PROXY_STATE a ≡ false →
-    only_kind PROXY_STATE (a ∷ rest) ≡ only_kind PROXY_STATE rest
-first_left a rest fails = rw fails refl
-
 -- the size of the whole
 pub answer_length-is : (code : ℕ) (request : Packet) →
     packet_length (unsealed_answer code request) ≡ answer_length request
@@ -56,46 +52,6 @@ extended more p = record p { attributes = p.attributes ++ more }
 pub record IsFilling (code : ℕ) (request : Packet) (left : List Attribute) (packet : Packet) : Type 0 where
   pub whole : extended (only_kind PROXY_STATE left) packet ≡ unsealed_answer code request
   pub short : AllByRecursion IsAttribute left
-
--- one more Proxy-State
-pub IsFilling-kept : (code : ℕ) (request packet : Packet) (left rest : List Attribute) (a : Attribute) →
-    left ≡ a ∷ rest → has_kind PROXY_STATE a ≡ true → IsFilling code request left packet →
-    IsFilling code request rest (extended (record { kind = PROXY_STATE; value = a.value } ∷ []) packet)
-IsFilling-kept code request packet left rest a split passes h =
-    let kind : a.kind ≡ PROXY_STATE = eqb-true a.kind PROXY_STATE passes in
-    let same : a ≡ record { kind = PROXY_STATE; value = a.value } = λ i. record { kind = kind i; value = a.value } in
-    let here : only_kind PROXY_STATE left
-    ≡ record { kind = PROXY_STATE; value = a.value } ∷ only_kind PROXY_STATE rest =
-    ap (only_kind PROXY_STATE) split ∙ first_kept a rest passes ∙ ap (λ x. x ∷ only_kind PROXY_STATE rest) same in
-    let more : extended (only_kind PROXY_STATE rest)
-    (extended (record { kind = PROXY_STATE; value = a.value } ∷ []) packet)
-    ≡ extended (only_kind PROXY_STATE left) packet =
-    ap (λ x. record packet { attributes = x })
-    (append_assoc packet.attributes (record { kind = PROXY_STATE; value = a.value } ∷ [])
-    (only_kind PROXY_STATE rest) ∙ ap (λ x. packet.attributes ++ x) (sym here)) in
-    let all : AllByRecursion IsAttribute (a ∷ rest) = subst (AllByRecursion IsAttribute) split h.short in
-    record { whole = more ∙ h.whole; short = all.1 }
-
-pub IsFilling-left : (code : ℕ) (request packet : Packet) (left rest : List Attribute) (a : Attribute) →
-    left ≡ a ∷ rest → has_kind PROXY_STATE a ≡ false → IsFilling code request left packet →
-    IsFilling code request rest packet
-IsFilling-left code request packet left rest a split fails h =
-    let here : only_kind PROXY_STATE left ≡ only_kind PROXY_STATE rest = ap (only_kind PROXY_STATE) split
-    ∙ first_left a rest fails in
-    let all : AllByRecursion IsAttribute (a ∷ rest) = subst (AllByRecursion IsAttribute) split h.short in
-    record { whole = ap (λ x. extended x packet) (sym here) ∙ h.whole; short = all.1 }
-
-pub IsFilling-end : (code : ℕ) (request packet : Packet) → IsFilling code request [] packet →
-    packet ≡ unsealed_answer code request
-IsFilling-end code request packet h =
-    ap (λ x. record packet { attributes = x }) (sym (append-nil packet.attributes)) ∙ h.whole
-
--- a Value has 253 octets at most
-pub IsFilling-value : (code : ℕ) (request packet : Packet) (left rest : List Attribute) (a : Attribute) →
-    left ≡ a ∷ rest → IsFilling code request left packet → length a.value ≤ 253
-IsFilling-value code request packet left rest a split h =
-    let all : AllByRecursion IsAttribute (a ∷ rest) = subst (AllByRecursion IsAttribute) split h.short in
-    all.0.size
 
 -- the packet with one Proxy-State more is no longer than the whole
 pub IsFilling-within : (code : ℕ) (request packet : Packet) (left rest : List Attribute) (a : Attribute) →

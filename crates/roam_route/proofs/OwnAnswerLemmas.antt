@@ -1,5 +1,5 @@
 -- What the broker answers itself, in two configurations that agree on what such answers are made by.
-use Rattle.std.proofs.Common.{◌≡◌, ℕ, Bool, true, false, List, [], ◌∷◌, Option, Some, None, option_map, refl, sym, ap, ap₂, ◌∙◌}
+use Rattle.std.proofs.Common.{◌≡◌, ℕ, Bool, true, false, List, Option, Some, None, option_map, refl, sym, ap, ap₂, ◌∙◌}
 use Rattle.std.specs.Prelude.{◌==◌, ◌&&◌, nat_le, Result, Ok, Err, if◌then◌else◌}
 use Rattle.roam_wire.specs.Packet.{Packet}
 use Rattle.roam_wire.specs.Reading.{reading}
@@ -19,7 +19,7 @@ use Rattle.roam_fwd.specs.Forwarded.{forwarded_length}
 use Rattle.roam_route.specs.UserName.{realm_of}
 use Rattle.roam_route.specs.LocalAnswer.{accounting_answer}
 use Rattle.roam_route.specs.LocalReject.{takes_of, taking}
-use Rattle.roam_route.specs.Admission.{Arrival, Admission, PlainOut, sender, checked, accounted, answered_by, by_accounting, is_unnamed, route_request, job_of, forwarded_for, request_admission, sent_admission, status_admission, status_from, read_admission, admission, is_taken, peer_secret, home_secret, is_rightly_signed, is_rightly_sealed, has_needed_seal, has_few_hops, seal_required}
+use Rattle.roam_route.specs.Admission.{Arrival, Admission, sender, checked, accounted, answered_by, by_accounting, is_unnamed, route_request, job_of, forwarded_for, request_admission, sent_admission, status_admission, status_from, read_admission, admission, is_taken, peer_secret, home_secret, is_rightly_signed, is_rightly_sealed, has_needed_seal, has_few_hops, seal_required}
 use Rattle.roam_route.specs.declared.job.Side.{Side}
 use Rattle.roam_route.specs.declared.job.Side.TheVariants as side
 use Rattle.roam_route.specs.OwnPart.{AnswerAlike, OwnAnswersDecided, answered}

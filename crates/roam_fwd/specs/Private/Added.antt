@@ -1,5 +1,5 @@
 -- What is added to a request, as the code has it (ours).
-use Rattle.std.specs.Prelude.{◌==◌, ◌||◌, ℕ, Bool, List, [], ◌∷◌, ◌++◌, Option, Some, None, option_map, if◌then◌else◌}
+use Rattle.std.specs.Prelude.{ℕ, Bool, List, [], ◌∷◌, ◌++◌, Option, Some, None, option_map, if◌then◌else◌}
 use Rattle.roam_wire.specs.Packet.{Attribute}
 use Rattle.roam_wire.specs.declared.attribute_type.TheConstants.{CHARGEABLE_USER_IDENTITY}
 use Rattle.roam_fwd.specs.Shaped.{operator_name_of}

@@ -1,4 +1,4 @@
-use Rattle.std.proofs.Common.{◌≡◌, List, ℕ, ◌++◌, length, sym, ap, ◌∙◌, arith, append-nil}
+use Rattle.std.proofs.Common.{List, ℕ, ◌++◌, length, sym, ap, ◌∙◌, arith, append-nil}
 use Rattle.roam_wire.specs.Packet.{Attribute, attributes_text}
 use Rattle.roam_wire.specs.Shown.{shown}
 use Rattle.roam_filter.specs.Removal.{removed_by}

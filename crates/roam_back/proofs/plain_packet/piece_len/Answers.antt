@@ -1,4 +1,4 @@
-use Rattle.std.proofs.Common.{◌≡◌, List, length, sym, ap, ◌∙◌}
+use Rattle.std.proofs.Common.{List, length, sym, ap, ◌∙◌}
 use Rattle.roam_wire.specs.Packet.{Attribute, attributes_text}
 use Rattle.roam_wire.specs.Shown.{shown}
 use Rattle.roam_filter.specs.Removal.{removed_by}

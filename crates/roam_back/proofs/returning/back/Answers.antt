@@ -1,5 +1,4 @@
-use Rattle.std.proofs.Common.{◌≡◌, List, ℕ, refl}
-use Rattle.roam_wire.specs.Packet.{Packet}
+use Rattle.std.proofs.Common.{◌≡◌}
 use Rattle.roam_filter.specs.Removal.{removed_by}
 use Rattle.roam_back.specs.Returned.{passing_reply}
 use Rattle.roam_back.proofs.PassingLemmas.{passing_reply-none}

@@ -1,8 +1,8 @@
-use Rattle.std.proofs.Common.{◌≡◌, ◌++◌, ◌∙◌, List, ℕ, length, ap, subst, sym, arith}
+use Rattle.std.proofs.Common.{◌≡◌, ◌++◌, ◌∙◌, List, ℕ, length, ap, arith}
 use Rattle.roam_wire.specs.Packet.{Packet, packet_text}
 use Rattle.roam_wire.specs.declared.removed_attribute.RemovedAttribute.{RemovedAttribute}
 use Rattle.roam_filter.specs.Removal.{removed_by}
-use Rattle.roam_back.specs.Returned.{Returning, passing, passing_reply, removed_of, returning, returned}
+use Rattle.roam_back.specs.Returned.{Returning, passing, removed_of, returning, returned}
 use Rattle.roam_back.proofs.PassingLemmas.{AtMostOne-passing, IsPacket-passing}
 use Rattle.roam_back.proofs.PlainLemmas.{behind_plain}
 use Rattle.roam_back.proofs.returning.back_passing.Goals as goal

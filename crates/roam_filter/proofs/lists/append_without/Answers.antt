@@ -1,6 +1,5 @@
 use Rattle.std.proofs.Common.{◌≡◌, ◌∙◌, length, vec_len, arith}
 use Rattle.roam_wire.specs.Shown.{shown}
-use Rattle.roam_filter.specs.Removal.{removed_by}
 use Rattle.roam_filter.proofs.WithoutLemmas.{IsPassing-end, IsPassing-more, IsPassing-room}
 use Rattle.roam_filter.proofs.lists.append_without.Goals as goal
 

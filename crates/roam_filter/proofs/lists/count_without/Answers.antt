@@ -1,4 +1,4 @@
-use Rattle.std.proofs.Common.{◌≡◌, sym, ◌∙◌}
+use Rattle.std.proofs.Common.{sym, ◌∙◌}
 use Rattle.roam_filter.specs.Removal.{removed_by}
 use Rattle.roam_filter.proofs.WithoutLemmas.{count-kept, count-named}
 use Rattle.roam_filter.proofs.lists.count_without.Goals as goal

@@ -1,4 +1,4 @@
-use Rattle.std.proofs.Common.{◌≡◌, List, sym, ◌∙◌}
+use Rattle.std.proofs.Common.{sym, ◌∙◌}
 use Rattle.std.specs.List.{list_any}
 use Rattle.roam_filter.specs.Removal.{is_kind_of}
 use Rattle.roam_filter.proofs.RemovalLemmas.{or_first, or_second, kind_of_removed}

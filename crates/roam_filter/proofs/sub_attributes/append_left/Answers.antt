@@ -1,4 +1,4 @@
-use Rattle.std.proofs.Common.{◌≡◌, vec_len, vec_capacity, refl, sym, ◌∙◌, arith}
+use Rattle.std.proofs.Common.{vec_len, vec_capacity, refl, sym, ◌∙◌, arith}
 use Rattle.roam_filter.specs.Removal.{removed_by}
 use Rattle.roam_filter.proofs.LeftLemmas.{appending-start}
 use Rattle.roam_filter.proofs.sub_attributes.append_left.Goals as goal

@@ -1,4 +1,4 @@
-use Rattle.std.proofs.Common.{◌≡◌, ◌+◌, ◌≤◌, length, sym, ◌∙◌, arith}
+use Rattle.std.proofs.Common.{◌+◌, ◌≤◌, length, sym, ◌∙◌, arith}
 use Rattle.roam_wire.specs.Shown.{shown}
 use Rattle.roam_wire.proofs.KeptLemmas.{IsCount-kept}
 use Rattle.roam_filter.specs.Removal.{removed_by}

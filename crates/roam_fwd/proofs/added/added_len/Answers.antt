@@ -1,4 +1,4 @@
-use Rattle.std.proofs.Common.{◌≡◌, ◌+◌, arith}
+use Rattle.std.proofs.Common.{arith}
 use Rattle.std.specs.Prelude.{option_map}
 use Rattle.roam_fwd.specs.Private.Added.{cui_of, name_of}
 use Rattle.roam_fwd.specs.Private.Arranged.{challenge_of}

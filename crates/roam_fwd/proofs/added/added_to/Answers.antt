@@ -1,4 +1,4 @@
-use Rattle.std.proofs.Common.{◌≡◌, List, ◌++◌, ap, ap₂, ◌∙◌}
+use Rattle.std.proofs.Common.{List, ◌++◌, ap, ap₂, ◌∙◌}
 use Rattle.std.specs.Prelude.{◌==◌, ◌&&◌}
 use Rattle.roam_wire.specs.Attributes.{count_of}
 use Rattle.roam_wire.specs.Packet.{Attribute}

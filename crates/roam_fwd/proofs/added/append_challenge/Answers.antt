@@ -1,4 +1,4 @@
-use Rattle.std.proofs.Common.{◌≡◌, ◌++◌, List, ℕ, [], ap, sym, ◌∙◌, arith, append-nil, length-append}
+use Rattle.std.proofs.Common.{◌++◌, List, ℕ, [], ap, sym, ◌∙◌, arith, length-append}
 use Rattle.roam_wire.specs.declared.attribute_type.TheConstants.{CHAP_CHALLENGE}
 use Rattle.roam_filter.proofs.LeftLemmas.{text-one}
 use Rattle.roam_fwd.proofs.added.append_challenge.Goals as goal

@@ -1,4 +1,4 @@
-use Rattle.std.proofs.Common.{◌≡◌, ◌++◌, List, ℕ, ap, refl, sym, ◌∙◌, arith, append-nil}
+use Rattle.std.proofs.Common.{◌++◌, List, ℕ, ap, refl, sym, ◌∙◌, arith}
 use Rattle.roam_fwd.proofs.AddedLemmas.{length-name, text-name}
 use Rattle.roam_fwd.proofs.added.append_name.Goals as goal
 

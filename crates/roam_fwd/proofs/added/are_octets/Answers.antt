@@ -1,4 +1,4 @@
-use Rattle.std.proofs.Common.{◌<◌, arith}
+use Rattle.std.proofs.Common.{arith}
 use Rattle.roam_fwd.proofs.added.are_octets.Goals as goal
 
 pub returns : goal.returns

@@ -1,4 +1,4 @@
-use Rattle.std.proofs.Common.{◌≡◌, Option, Some, None, List, ℕ, subst}
+use Rattle.std.proofs.Common.{◌≡◌, Some, subst}
 use Rattle.roam_wire.specs.Packet.{AreOctets}
 use Rattle.roam_fwd.proofs.added.are_octets_of.Goals as goal
 

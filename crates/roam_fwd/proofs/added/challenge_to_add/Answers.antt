@@ -1,4 +1,4 @@
-use Rattle.std.proofs.Common.{◌≡◌, [], ◌∷◌, sym, ◌∙◌}
+use Rattle.std.proofs.Common.{[], ◌∷◌, sym, ◌∙◌}
 use Rattle.std.specs.Prelude.{◌==◌}
 use Rattle.roam_wire.specs.declared.attribute_type.TheConstants.{CHAP_CHALLENGE}
 use Rattle.roam_wire.specs.declared.code.TheConstants.{ACCESS_REQUEST}

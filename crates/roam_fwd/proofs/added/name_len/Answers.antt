@@ -1,4 +1,4 @@
-use Rattle.std.proofs.Common.{◌≡◌, ◌≤◌, length, refl, sym, ◌∙◌}
+use Rattle.std.proofs.Common.{refl, sym, ◌∙◌}
 use Rattle.roam_fwd.proofs.AddedLemmas.{length-name}
 use Rattle.roam_fwd.proofs.added.name_len.Goals as goal
 

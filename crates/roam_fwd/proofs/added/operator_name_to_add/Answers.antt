@@ -1,4 +1,4 @@
-use Rattle.std.proofs.Common.{◌≡◌, sym, ◌∙◌}
+use Rattle.std.proofs.Common.{sym, ◌∙◌}
 use Rattle.roam_filter.specs.Removal.{removed_by}
 use Rattle.roam_filter.specs.Without.{without}
 use Rattle.roam_fwd.specs.Shaped.{shown_shaping, takes_operator_name}

@@ -1,8 +1,8 @@
-use Rattle.std.proofs.Common.{◌≡◌, ◌+◌, ◌++◌, List, ℕ, length, ap, ◌∙◌, arith, length-append}
+use Rattle.std.proofs.Common.{◌+◌, ◌++◌, List, ℕ, length, ap, ◌∙◌, arith, length-append}
 use Rattle.roam_wire.specs.Packet.{Attribute, attributes_text}
 use Rattle.roam_filter.specs.Without.{without}
 use Rattle.roam_fwd.specs.Private.Added.{shown_added}
-use Rattle.roam_fwd.specs.Shaped.{all_added, shown_shaping}
+use Rattle.roam_fwd.specs.Shaped.{shown_shaping}
 use Rattle.roam_fwd.proofs.AddedLemmas.{shaped-text}
 use Rattle.roam_fwd.proofs.ShapedLemmas.{length-shaped}
 use Rattle.roam_fwd.proofs.shaped.append_shaped.Goals as goal

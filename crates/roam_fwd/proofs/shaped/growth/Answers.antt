@@ -1,4 +1,4 @@
-use Rattle.std.proofs.Common.{◌≡◌, sym, ◌∙◌}
+use Rattle.std.proofs.Common.{sym, ◌∙◌}
 use Rattle.roam_fwd.specs.Shaped.{shown_shaping}
 use Rattle.roam_fwd.proofs.AddedLemmas.{growth-other, growth-sealed}
 use Rattle.roam_fwd.proofs.shaped.growth.Goals as goal

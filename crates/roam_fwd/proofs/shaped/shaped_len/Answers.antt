@@ -1,4 +1,4 @@
-use Rattle.std.proofs.Common.{◌≡◌, ◌+◌, List, length, ap, arith}
+use Rattle.std.proofs.Common.{List, length, ap, arith}
 use Rattle.roam_wire.specs.Packet.{Attribute, attributes_text}
 use Rattle.roam_fwd.specs.Shaped.{shown_shaping}
 use Rattle.roam_fwd.proofs.ShapedLemmas.{length-shaped}

@@ -1,4 +1,3 @@
-use Rattle.std.proofs.Common.{◌≡◌}
 use Rattle.roam_reverse.specs.Causes.{cause}
 use Rattle.roam_reverse.specs.Target.{target, target_in}
 use Rattle.roam_reverse.proofs.CauseLemmas.{among-found, forwarded-at-target, realm-at-target}
