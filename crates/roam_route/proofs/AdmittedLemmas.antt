@@ -166,7 +166,7 @@ access_admitted config secret a s p job =
 -- by what becomes of the realm's accounting
 by_admitted : (way : Accounting) (size : ℕ) (secret : List ℕ) (a : Arrival) (s : Side) (p : Packet) (realm : ℕ)
     (job : PlainJob)
-    → (by_accounting way size secret a s p realm ≡ admitted job)
+    → (by_accounting size secret a s p realm way ≡ admitted job)
     ↔ ((way ≡ Forwarded) × (Fits size × ((job.realm ≡ realm) × IsJob a s p (Some realm) job)))
 by_admitted Forwarded size secret a s p realm job =
     let goes = forwarded_admitted size a s p realm (Some realm) job in
@@ -191,7 +191,7 @@ accounted_admitted config secret a s p (Some realm) job =
     let itself : Takes realm ↔ Takes realm = (λ h. h, λ h. h) in
     let size : ℕ = sent_length config s p realm in
     let further = through (takes_of config realm s) refusal.NotForPeer
-    (by_accounting (accounting_in config realm) size secret a s p realm) job itself
+    (by_accounting size secret a s p realm (accounting_in config realm)) job itself
     (by_admitted (accounting_in config realm) size secret a s p realm job) in (
       λ h. (
           let all = further.0 h in

@@ -169,7 +169,7 @@ answer_admits config secret a p =
 accounting_admits : (config : ConfigView) (secret : List ℕ) (a : Arrival) (i : ℕ) (p : Packet) (realm : ℕ)
     (way : Accounting) → IsFor config a (side.Peer i) p realm → IsSealable p
     → IsNamed config (side.Peer i) p (Some realm)
-    → Admits config a p (by_accounting way (sent_length config (side.Peer i) p realm) secret a (side.Peer i) p realm)
+    → Admits config a p (by_accounting (sent_length config (side.Peer i) p realm) secret a (side.Peer i) p realm way)
 accounting_admits config secret a i p realm Forwarded h sealable named_so =
     forwarded_admits config a (side.Peer i) p realm (Some realm) h sealable named_so
 accounting_admits config secret a i p realm Answered h sealable named_so = answer_admits config secret a p
@@ -184,7 +184,7 @@ accounted_admits config secret a i p None is h sealable = refused_admits config 
 accounted_admits config secret a i p (Some realm) is h sealable =
     let way : Accounting = accounting_in config realm in
     checked_admits config a p (takes_of config realm (side.Peer i)) refusal.NotForPeer
-    (by_accounting way (sent_length config (side.Peer i) p realm) secret a (side.Peer i) p realm)
+    (by_accounting (sent_length config (side.Peer i) p realm) secret a (side.Peer i) p realm way)
     (λ _. accounting_admits config secret a i p realm way (h realm refl) sealable is)
 
 -- what is well sealed has at most one Message-Authenticator

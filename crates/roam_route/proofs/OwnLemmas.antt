@@ -104,7 +104,7 @@ none-rejected realm secret a p =
 
 -- nor is an Accounting-Request of another realm
 none-by : (realm k size : ℕ) (way : Accounting) (secret : List ℕ) (a : Arrival) (s : Side) (p : Packet)
-    → (k == realm) ≡ false → own realm (by_accounting way size secret a s p k) ≡ None
+    → (k == realm) ≡ false → own realm (by_accounting size secret a s p k way) ≡ None
 none-by realm k size Forwarded secret a s p differs = none-forwarded realm k size a s p (Some k) differs
 none-by realm k size Answered secret a s p differs = refl
 none-by realm k size Dropped secret a s p differs = refl
@@ -114,7 +114,7 @@ none-accounted : (realm k : ℕ) (config : ConfigView) (secret : List ℕ) (a : 
 none-accounted realm k config secret a s p differs =
     let size : ℕ = sent_length config s p k in
     none-checked realm (takes_of config k s) refusal.NotForPeer
-    (by_accounting (accounting_in config k) size secret a s p k)
+    (by_accounting size secret a s p k (accounting_in config k))
     (none-by realm k size (accounting_in config k) secret a s p differs)
 
 -- an Access-Request, by the realm that it asks and the one that it names
@@ -235,10 +235,10 @@ module _ (one other : ConfigView) (realm : ℕ) (same : HaveSamePart one other r
             subst (λ (j : ℕ). own realm (accounted one secret a s p (Some j))
             ≡ own realm (accounted other secret a s p (Some j))) (sym here)
             (ap₂ (λ (b : Bool) (way : Accounting). own realm
-            (checked b refusal.NotForPeer (by_accounting way (sent_length one s p realm) secret a s p realm)))
+            (checked b refusal.NotForPeer (by_accounting (sent_length one s p realm) secret a s p realm way)))
             (takes-same s) accounting-same
             ∙ ap (λ (n : ℕ). own realm (checked (takes_of other realm s) refusal.NotForPeer
-            (by_accounting (accounting_in other realm) n secret a s p realm))) (sent-same s p)))
+            (by_accounting n secret a s p realm (accounting_in other realm)))) (sent-same s p)))
         | inr no' ↦ none-accounted realm k one secret a s p no' ∙ sym (none-accounted realm k other secret a s p no')
       ]
 

@@ -36,7 +36,7 @@ size_fails size a s p realm named why =
 
 -- what becomes of the realm's accounting
 accounting_fails : (way : Accounting) (size : ℕ) (secret : List ℕ) (a : Arrival) (s : Side) (p : Packet) (realm : ℕ)
-    (why : Refusal) → (by_accounting way size secret a s p realm ≡ refused why) ↔ FailsToAccount way size why
+    (why : Refusal) → (by_accounting size secret a s p realm way ≡ refused why) ↔ FailsToAccount way size why
 accounting_fails Forwarded size secret a s p realm why = size_fails size a s p realm (Some realm) why
 accounting_fails Answered size secret a s p realm why = (λ h. absurd (cc h), λ h. absurd h)
 accounting_fails Dropped size secret a s p realm why = (
@@ -56,7 +56,7 @@ accounted_fails config secret a s p (Some realm) why =
     let itself : IsTrue (takes_of config realm s) ↔ IsTrue (takes_of config realm s) = (λ h. h, λ h. h) in
     let size : ℕ = sent_length config s p realm in
     fails (FailsToAccount way size) (takes_of config realm s) refusal.NotForPeer
-    (by_accounting way size secret a s p realm) why itself (accounting_fails way size secret a s p realm why)
+    (by_accounting size secret a s p realm way) why itself (accounting_fails way size secret a s p realm why)
 
 -- an Accounting-Request that is answered since it has no name isn't refused
 acct_fails : (config : ConfigView) (secret : List ℕ) (a : Arrival) (s : Side) (p : Packet) (why : Refusal)
