@@ -126,7 +126,8 @@ module _ (one other : ConfigView) (same : AnswerAlike one other) where
       let m : ℕ = sent_length one s p realm in
       let n : ℕ = sent_length other s p realm in
       let way : Accounting = accounting_in other realm in
-      ap₂ (λ (b : Bool) (w : Accounting). answered (checked b refusal.NotForPeer (by_accounting m secret a s p realm w)))
+      ap₂ (λ (b : Bool) (w : Accounting).
+      answered (checked b refusal.NotForPeer (by_accounting m secret a s p realm w)))
       (takes-all realm s) (same.accounting realm)
       ∙ answered-checked (takes_of other realm s) refusal.NotForPeer (by_accounting m secret a s p realm way)
       (by_accounting n secret a s p realm way) (by-same way m n secret a s p realm)

@@ -187,8 +187,8 @@ module _ (one other : ConfigView) (realm : ℕ) (same : HaveSamePart one other r
   -- and is sent as many octets
   sent-same : (s : Side) (p : Packet) → sent_length one s p realm ≡ sent_length other s p realm
   sent-same (side.Peer i) p =
-      ap₂ (λ (ps : List PeerView) (r : Option RealmView). forwarded_length (shaped (shaping_between (slice_get ps i) r) p))
-      same.peers same.entry
+      ap₂ (λ (ps : List PeerView) (r : Option RealmView).
+      forwarded_length (shaped (shaping_between (slice_get ps i) r) p)) same.peers same.entry
   sent-same (side.Link l) p = refl
   sent-same (side.Home i) p = refl
 
