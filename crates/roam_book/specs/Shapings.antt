@@ -1,40 +1,28 @@
 -- How a realm has a peer's requests forwarded, and replies returned to it (ours).
-use Rattle.std.specs.Prelude.{ℕ, ◌==◌, List, [], ◌++◌, slice_get, if◌then◌else◌}
+use Rattle.std.specs.Prelude.{ℕ, ◌==◌, List, [], ◌++◌, Some, slice_get, if◌then◌else◌}
 use Rattle.std.specs.Option.{option_map_or}
 use Rattle.roam_wire.specs.Reading.{packet_of}
 use Rattle.roam_wire.specs.declared.code.TheConstants.{COA_REQUEST}
 use Rattle.roam_wire.specs.declared.removed_attribute.RemovedAttribute.{RemovedAttribute}
-use Rattle.roam_conf.specs.Config.{PeerView}
 use Rattle.roam_conf.specs.declared.place.Link.{Link}
 use Rattle.roam_conf.specs.declared.place.Link.TheVariants as link
 use Rattle.roam_filter.specs.Removal.{without_sessions}
 use Rattle.roam_fwd.specs.Forwarded.{forwarded_length}
 use Rattle.roam_fwd.specs.Shaped.{Shaping, no_shaping, shaped}
+use Rattle.roam_route.specs.Shapings.{shaping_between}
 use Rattle.roam_pending.specs.declared.key.Requester.{Requester}
 use Rattle.roam_pending.specs.declared.key.Requester.TheVariants as requester
 use Rattle.roam_pending.specs.PlainEntry.{PlainRequest}
 use Rattle.roam_book.specs.RealmConfig.{RealmConfig}
 
--- what a peer's list and the realm's name together: of requests, and of replies
-abbrev pub request_removed : RealmConfig → ℕ → List RemovedAttribute
-request_removed c peer =
-    option_map_or (λ p. p.request_without) (slice_get c.peers peer) [] ++ c.realm.request_without
-
+-- what a peer's list and the realm's name together, of replies
 abbrev pub reply_removed : RealmConfig → ℕ → List RemovedAttribute
 reply_removed c peer =
     option_map_or (λ p. p.reply_without) (slice_get c.peers peer) [] ++ c.realm.reply_without
 
--- a peer that is configured
-abbrev pub shaping_by : RealmConfig → ℕ → PeerView → Shaping
-shaping_by c peer p = record {
-  removed = request_removed c peer;
-  operator_name = p.operator_name;
-  ask_cui = p.ask_cui;
-}
-
 -- how a peer's requests are forwarded
 abbrev pub shaping_from : RealmConfig → ℕ → Shaping
-shaping_from c peer = option_map_or (shaping_by c peer) (slice_get c.peers peer) no_shaping
+shaping_from c peer = shaping_between (slice_get c.peers peer) (Some c.realm)
 
 -- how a home server's CoA-Request is forwarded to a peer: without what the home server may not set by an Access-Accept
 -- for it, but for what names the session (RFC 5176, section 3). A Disconnect-Request is forwarded whole

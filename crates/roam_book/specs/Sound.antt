@@ -25,20 +25,25 @@ use Rattle.roam_book.specs.declared.packets.forwarding.RequestRef.{RequestRef}
 use Rattle.roam_book.specs.declared.state.realm_numbers.RealmNumbers.{RealmNumbers}
 use Rattle.roam_book.specs.declared.state.rest.Rest.{Rest}
 
--- a peer's request, which is no reverse one and can be forwarded as it is shaped
+-- a peer's request isn't a reverse one, and can be forwarded as it is shaped
 pub record IsOfPeer (c : RealmConfig) (peer : ℕ) (p : Packet) : Type 0 where
   pub code : is_reverse_request p.code ≡ false
-  pub shaped : CanBeShaped (shaping_from c peer) p
+  pub can_be_shaped : CanBeShaped (shaping_from c peer) p
 
--- a request can be forwarded: a peer's as it is shaped, a home server's as it came, and so without some of it too
+-- a home server's is one, and can be forwarded as it came, and so without some of it too
+pub record IsOfHome (p : Packet) : Type 0 where
+  pub code : is_reverse_request p.code ≡ true
+  pub can_be_forwarded : CanBeForwarded p
+
+-- a request can be forwarded
 abbrev pub CanGo : RealmConfig → Requester → Packet → Type 0
 CanGo c (requester.Peer peer) p = IsOfPeer c peer p
-CanGo c (requester.Home server) p = CanBeForwarded p
+CanGo c (requester.Home server) p = IsOfHome p
 
 -- a request of the realm
 pub record IsRequest (c : RealmConfig) (q : PlainRequest) : Type 0 where
   pub packet : IsPacketText q.octets
-  pub can_be_forwarded : CanGo c q.requester (packet_of q.octets)
+  pub can_go : CanGo c q.requester (packet_of q.octets)
   pub requester : IsRequester c q.requester
 
 -- a request waits on a link of the realm, with the packet that was forwarded for it

@@ -146,6 +146,16 @@ fn position_after(asked: RequestRef<'_>, position: u128) -> u128
     }
 }
 
+/// What is forwarded for a request has at most 304 octets more than it. It does nothing when it runs.
+pub(crate) fn gains_few(settings: &RealmSettings<'_>, asked: RequestRef<'_>, link: Link)
+    requires request { IsRequest settings.now (shown_request asked) }
+    requires link { IsLink settings.now link }
+    ensures { forwarded_size settings.now (shown_request asked.entry) link ≤ length asked.entry.octets.now + 304 }
+{
+    let code = View::of_packet(asked.octets).code();
+    let _shaping = settings.shaping_of(asked.requester, code, link);
+}
+
 /// Writes the forwarded packet of a request, as it is shaped, into an empty buffer that has room for it, with
 /// what is drawn from this position on.
 fn forward_into<A: Allocator>(

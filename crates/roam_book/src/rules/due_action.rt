@@ -17,7 +17,7 @@ ghost use Rattle.roam_book.specs.Private.Memory.{HasBuffers, IsCopied};
 
 use crate::packets::buffers::{Buffers, copied_into};
 use crate::packets::forwarding::{
-    Hop, PacketCopies, RequestRef, packet_to_link, packet_to_requester, send_new,
+    Hop, PacketCopies, RequestRef, gains_few, packet_to_link, packet_to_requester, send_new,
 };
 use crate::state::realm_numbers::RealmNumbers;
 use crate::state::realm_settings::RealmSettings;
@@ -212,6 +212,7 @@ fn fail_over<A: Allocator + Copy>(
         ticket: entry.ticket,
         link: target,
     };
+    gains_few(settings, asked, target);
     let (sent, waiting) = send_new(settings, numbers, now, hop, buffers);
     DueAction::Forwarded(sent, waiting)
 }

@@ -3,16 +3,14 @@
 //! What waits for a service is looked up by the Identifiers in use toward its servers, 256 for each, so that a look
 //! costs no more because replies are held or other requests are pending.
 
-ghost use Rattle.std.specs.Prelude.{◌≡◌, ◌+◌, ◌<◌, ◌≤◌, length, option_map};
-ghost use Rattle.std.specs.List.{count_by};
-ghost use Rattle.roam_wire.specs.Reading.{IsPacketText, packet_of};
-ghost use Rattle.roam_pending.specs.PlainEntry.{waits_at};
+ghost use Rattle.std.specs.Prelude.{◌≡◌, ◌≤◌, length, option_map, if◌then◌else◌};
+ghost use Rattle.roam_wire.specs.Reading.{IsPacketText};
 ghost use Rattle.roam_book.specs.Private.NewEntry.{once_gone};
 ghost use Rattle.roam_book.specs.Private.Sharing.{has_part, has_part_below, sum_below};
-ghost use Rattle.roam_book.specs.RealmConfig.{IsLink, server_link};
+ghost use Rattle.roam_book.specs.RealmConfig.{server_link};
 ghost use Rattle.roam_book.specs.RealmTurn.{IsRealm, entries};
-ghost use Rattle.roam_book.specs.Shares.{name_part, same_part, share_taken, shares, waits_for};
-ghost use Rattle.roam_book.specs.Sound.{CountsAsGone, IsRequest, gone_ticket, shown_request};
+ghost use Rattle.roam_book.specs.Shares.{name_part, same_part, share_taken};
+ghost use Rattle.roam_book.specs.Sound.{CountsAsGone, IsRequest, shown_request};
 
 use crate::packets::forwarding::RequestRef;
 use crate::rules::replaced::Replaced;
@@ -46,6 +44,14 @@ fn is_same_part(part: Option<&[u8]>, other: Option<&[u8]>) -> bool
     }
 }
 
+/// One, where that is so.
+fn one_if(is_so: bool) -> usize
+    ensures value { result ≡ if is_so then 1 else 0 }
+    ensures small { result ≤ 1 }
+{
+    if is_so { 1 } else { 0 }
+}
+
 impl<A: Allocator + Copy, E: Entries<A>> RealmBroker<'_, '_, '_, '_, A, E> {
     /// Whether a request of this name part waits on a link with an Identifier, besides the one that counts as gone.
     fn holds_part(&self, link: Link, id: u8, part: Option<&[u8]>, gone: Option<u64>) -> bool
@@ -71,9 +77,7 @@ impl<A: Allocator + Copy, E: Entries<A>> RealmBroker<'_, '_, '_, '_, A, E> {
     {
         let mut count = 0;
         for id in 0..256u16 {
-            if self.holds_part(link, id as u8, part, gone) {
-                count += 1;
-            }
+            count += one_if(self.holds_part(link, id as u8, part, gone));
         }
         count
     }

@@ -1,6 +1,8 @@
 //! How a realm has requests forwarded and replies returned, as its configuration says.
 
-ghost use Rattle.std.specs.Prelude.{◌≡◌, ◌<◌, length, option_map, string_bytes, if◌then◌else◌};
+ghost use Rattle.std.specs.Prelude.{◌≡◌, ◌<◌, length, option_map, if◌then◌else◌};
+ghost use Rattle.std.specs.Option.{ForSome};
+ghost use Rattle.roam_wire.specs.Packet.{AreOctets};
 ghost use Rattle.roam_filter.specs.Removal.{removed_by, without_sessions};
 ghost use Rattle.roam_fwd.specs.Shaped.{HasShortName, no_shaping, shown_shaping};
 ghost use Rattle.roam_book.specs.RealmConfig.{IsLink, IsRequester};
@@ -11,15 +13,20 @@ use roam_conf::Link;
 use roam_filter::{Removal, nothing_removed};
 use roam_fwd::Shaping;
 use roam_pending::Requester;
+use roam_route::request_shaping;
 use roam_wire::code::COA_REQUEST;
 
-/// The octets of a text, if there is one.
-fn octets_of(text: &Option<String>) -> Option<&[u8]>
-    ensures { option_map (λ octets. octets.now) result ≡ option_map string_bytes text.now }
+/// A name's octets are octets. It does nothing when it runs.
+fn are_octets(name: &[u8])
+    ensures { AreOctets name.now }
+{}
+
+/// So are those of a name, if there is one.
+fn are_octets_of(name: Option<&[u8]>)
+    ensures { ForSome (option_map (λ name. name.now) name.entry) AreOctets }
 {
-    match text {
-        Some(text) => Some(text.as_bytes()),
-        None => None,
+    if let Some(name) = name {
+        are_octets(name);
     }
 }
 
@@ -66,17 +73,7 @@ impl<'c> RealmSettings<'c> {
         ensures shaping { shown_shaping result ≡ shaping_from self.now peer }
         ensures name { HasShortName (shown_shaping result) }
     {
-        let its = self.peer(peer);
-        let removal = Removal {
-            peer: its.request_without.as_slice(),
-            realm: self.realm().request_without.as_slice(),
-            keeps_session: false,
-        };
-        Shaping {
-            removal,
-            operator_name: octets_of(&its.operator_name),
-            ask_cui: its.ask_cui,
-        }
+        request_shaping(self.peer(peer), self.realm())
     }
 
     /// How a home server's request of this code is forwarded to a link.
@@ -97,10 +94,13 @@ impl<'c> RealmSettings<'c> {
         requires link { IsLink self.now link }
         ensures shaping { shown_shaping result ≡ shaping_of self.now requester code link }
         ensures name { HasShortName (shown_shaping result) }
+        ensures octets { ForSome (shown_shaping result).operator_name AreOctets }
     {
-        match requester {
+        let shaping = match requester {
             Requester::Peer(peer) => self.shaping_from(peer),
             Requester::Home(_) => self.shaping_to(code, link),
-        }
+        };
+        are_octets_of(shaping.operator_name);
+        shaping
     }
 }
