@@ -1,9 +1,13 @@
 -- A realm that is carried over is sound under its new settings.
-use Rattle.std.proofs.Common.{◌≡◌, inl, inr, ◌⊎◌, ℕ, zero, suc, ◌+◌, ◌-◌, ◌*◌, ◌<◌, ◌≤◌, ◌==◌, ◌&&◌, Bool, true, false, List, [], ◌∷◌, ◌++◌, Option, option_map, unwrap_or, slice_get, refl, ap, sym, subst, ◌∙◌, arith, get_or, length, map, replicate, add-one, append_assoc}
+use Rattle.std.proofs.Common.{◌≡◌, inl, inr, ◌⊎◌, ℕ, zero, suc, ◌+◌, ◌-◌, ◌*◌, ◌<◌, ◌≤◌, ◌==◌, ◌&&◌, Bool, true, false, List, [], ◌∷◌, ◌++◌, Option, Some, None, option_map, unwrap_or, slice_get, refl, ap, sym, subst, ◌∙◌, arith, get_or, length, map, replicate, add-one, append_assoc}
 use Rattle.std.specs.List.{AllByRecursion}
 use Rattle.std.proofs.lemmas.Bool.{cases_Bool, cases_lt}
 use Rattle.std.proofs.lemmas.List.{length-map, length-append, length_push, get_or-take, get_or-map, get_or_append_left, get_or_past, get_or_push, map_push, replicate_more, take-append-le}
-use Rattle.roam_conf.specs.Config.{ConfigView, RealmView}
+use Rattle.roam_conf.specs.Config.{ConfigView, PeerView, RealmView}
+use Rattle.roam_wire.specs.Packet.{Packet}
+use Rattle.roam_wire.specs.Reading.{packet_of}
+use Rattle.roam_fwd.specs.Shaped.{CanBeShaped, Shaping}
+use Rattle.roam_route.specs.Shapings.{shaping_between}
 use Rattle.roam_conf.specs.declared.place.Link.{Link}
 use Rattle.roam_conf.specs.declared.place.Link.TheVariants as link
 use Rattle.roam_ids.specs.LaneState.{LaneState, place_at}
@@ -15,7 +19,8 @@ use Rattle.roam_reload.specs.Reload.{IsCarried, peer_part, realm_part}
 use Rattle.roam_book.specs.RealmConfig.{RealmConfig, IsLink, IsRequester, link_count, link_place, no_realm, realm_config}
 use Rattle.roam_book.specs.Private.MoreLanes.{AreMoreLanes}
 use Rattle.roam_book.specs.Reload.{Carries}
-use Rattle.roam_book.specs.Sound.{AreOwnLanes, IsEntry, IsSound, LanesTell, Mark, StandsWell, TellsAt, cursors_of, lane_of, mark_of, marks_of, no_lane, own_tags, waits_there}
+use Rattle.roam_book.specs.Shapings.{shaping_from}
+use Rattle.roam_book.specs.Sound.{AreOwnLanes, CanGo, IsEntry, IsSound, LanesTell, Mark, StandsWell, TellsAt, cursors_of, lane_of, mark_of, marks_of, no_lane, own_tags, waits_there}
 use Rattle.roam_book.specs.declared.state.realm_numbers.RealmNumbers.{RealmNumbers}
 use Rattle.roam_book.proofs.SoundLemmas.{same_link-equal}
 
@@ -68,12 +73,49 @@ standing_stays b c k q (waiting l id forwarded sends_left deadline) w =
     record { link = link_stays b c k l w.link; id = w.id; packet = w.packet; size = w.size }
 standing_stays b c k q (done reply deadline) w = tt
 
+-- a peer that stays has its requests forwarded as before
+part_of : (peers : List PeerView) (i : ℕ) → slice_get (map peer_part peers) i ≡ option_map peer_part (slice_get peers i)
+part_of [] i = refl
+part_of (p ∷ ps) zero = refl
+part_of (p ∷ ps) (suc i) = part_of ps i
+
+first_of : (peers more : List PeerView) (i : ℕ) → i < length peers → slice_get (peers ++ more) i ≡ slice_get peers i
+first_of [] more i there = absurd (omega (arith, there))
+first_of (p ∷ ps) more zero there = refl
+first_of (p ∷ ps) more (suc i) there = first_of ps more i (omega (arith, there))
+
+by_parts : (peer : Option PeerView) (realm : RealmView)
+    → shaping_between (option_map peer_part peer) (Some (realm_part realm)) ≡ shaping_between peer (Some realm)
+by_parts None realm = refl
+by_parts (Some peer) realm = refl
+
+shaping_stays : (b c : RealmConfig) → Carries b c → (i : ℕ) → i < length b.peers → shaping_from c i ≡ shaping_from b i
+shaping_stays b c k i there =
+    let within : i < length (map peer_part b.peers) = omega (arith, there, length-map b.peers peer_part) in
+    let part : slice_get (map peer_part c.peers) i ≡ slice_get (map peer_part b.peers) i =
+    ap (λ (ps : List PeerView). slice_get ps i) k.peers.same
+    ∙ first_of (map peer_part b.peers) k.peers.more i within in
+    let both : option_map peer_part (slice_get c.peers i) ≡ option_map peer_part (slice_get b.peers i) =
+    sym (part_of c.peers i) ∙ part ∙ part_of b.peers i in
+    sym (by_parts (slice_get c.peers i) c.realm)
+    ∙ ap (λ (r : RealmView). shaping_between (option_map peer_part (slice_get c.peers i)) (Some r)) k.table
+    ∙ ap (λ (o : Option PeerView). shaping_between o (Some (realm_part b.realm))) both
+    ∙ by_parts (slice_get b.peers i) b.realm
+
+can_go_stays : (b c : RealmConfig) → Carries b c → (r : Requester) (p : Packet) → IsRequester b r → CanGo b r p
+    → CanGo c r p
+can_go_stays b c k (requester.Peer i) p there h = record {
+  code = h.code;
+  can_be_shaped = subst (λ (s : Shaping). CanBeShaped s p) (sym (shaping_stays b c k i there)) h.can_be_shaped;
+}
+can_go_stays b c k (requester.Home s) p there h = h
+
 entry_stays : (b c : RealmConfig) → Carries b c → (n : ℕ) (e : PlainEntry) → IsEntry b n e → IsEntry c n e
 entry_stays b c k n e is = record {
   ticket = is.ticket;
   request = record {
     packet = is.request.packet;
-    can_be_forwarded = is.request.can_be_forwarded;
+    can_go = can_go_stays b c k e.request.requester (packet_of e.request.octets) is.request.requester is.request.can_go;
     requester = requester_stays b c k e.request.requester is.request.requester;
   };
   standing = standing_stays b c k e.request e.standing is.standing;

@@ -1,24 +1,27 @@
--- What names a realm and its peers, and whether a peer's Access-Requests need a Message-Authenticator, a realm's
--- written broker doesn't look at.
+-- What names a realm, and whether a peer's Access-Requests need a Message-Authenticator, a realm's written broker
+-- doesn't look at.
 use Rattle.std.proofs.Common.{◌≡◌, ℕ, zero, suc, ◌+◌, ◌-◌, ◌%◌, ◌^◌, ◌==◌, nat_lt, nat_eq, Bool, not, List, [], ◌∷◌, ◌++◌, length, map, Option, Some, None, unwrap_or, slice_get, slice_index, slice_index_or, slice_set, if◌then◌else◌, refl, ap, sym, ◌∙◌, arith, append-nil, append_assoc}
 use Rattle.std.proofs.lemmas.List.{length-append, length-map, nil_from_length}
 use Rattle.std.specs.Cmp.Lexicographic.{pointwise}
 use Rattle.std.specs.List.{filter, position_from}
-use Rattle.std.specs.Option.{option_or, option_and_then}
+use Rattle.std.specs.Option.{option_map_or, option_or, option_and_then}
 use Rattle.roam_wire.specs.Packet.{Attribute, Packet, packet_text}
 use Rattle.roam_wire.specs.Reading.{packet_of}
+use Rattle.roam_wire.specs.declared.code.TheConstants.{COA_REQUEST}
 use Rattle.roam_wire.specs.declared.packet_size.TheConstants.{MAX_PACKET_LENGTH}
 use Rattle.roam_wire.specs.declared.refusal.Refusal.{Refusal}
 use Rattle.roam_wire.specs.declared.refusal.Refusal.TheVariants as refusal
 use Rattle.roam_back.specs.Nak.{nak}
 use Rattle.roam_back.specs.ReplyCheck.{reply_fault}
-use Rattle.roam_back.specs.Returned.{returned, returned_length}
-use Rattle.roam_conf.specs.Config.{PeerView}
+use Rattle.roam_back.specs.Returned.{passing_reply, returned, returned_length}
+use Rattle.roam_conf.specs.Config.{PeerView, RealmView}
 use Rattle.roam_conf.specs.Secrets as secrets
 use Rattle.roam_conf.specs.declared.place.Link.{Link}
 use Rattle.roam_conf.specs.declared.place.Link.TheVariants as link
 use Rattle.roam_conf.specs.declared.place.Place.TheVariants as place
+use Rattle.roam_filter.specs.Removal.{without_sessions}
 use Rattle.roam_fwd.specs.Forwarded.{Forwarding, forwarded}
+use Rattle.roam_fwd.specs.Shaped.{no_shaping, shaped}
 use Rattle.roam_ids.specs.NextIdentifier.{next_identifier}
 use Rattle.roam_pending.specs.declared.due.Due.{Due}
 use Rattle.roam_pending.specs.declared.key.Requester.{Requester}
@@ -33,7 +36,10 @@ use Rattle.roam_reverse.specs.Sessions.{Session}
 use Rattle.roam_reverse.specs.Target as reverse
 use Rattle.roam_reverse.specs.declared.error_cause.TheConstants.{OTHER_PROXY_PROCESSING_ERROR}
 use Rattle.roam_route.specs.Admission.{PlainOut}
+use Rattle.roam_route.specs.Shapings.{shaping_between}
 use Rattle.roam_route.specs.UserName.{nas_of}
+use Rattle.roam_book.specs.Shapings.{removed_for, shaping_of, shaping_to}
+use Rattle.roam_book.specs.Shares.{share_taken}
 use Rattle.roam_book.specs.OneRealm.{RealmEvent, request_came, reply_came, tick_came, on_event, one_realm_run}
 use Rattle.roam_book.specs.OnReply.{counted, counted_peer, judge, on_reply, once_returned, return_reply, returned_octets, returning, to_entry, to_standing}
 use Rattle.roam_book.specs.OnRequest.{admit, at_target, coa_links, first_seen, forwarded_entry, forwarded_octets, is_reverse, make_way, nak_octets, nak_or_new, new_request, of_key, on_request, once_forwarded, packet_to_link, position_after, drawn_at, packet_to_requester, held_reply, reverse_cause, targets}
@@ -69,9 +75,32 @@ target_same : (peers : List PeerView) (attributes : List Attribute) → reverse.
 unfolding reverse.target
 target_same peers attributes = place_same (reverse.is_target (nas_of attributes)) 0 peers (λ x. refl)
 
-cause_same : (peers : List PeerView) (r : ℕ) (named : Option ℕ) (attributes : List Attribute) (sessions : List Session) → cause (map peer_part peers) r named attributes sessions ≡ cause peers r named attributes sessions
+-- whether a peer is among the realm's
+is_among_same : (realm : RealmView) (peers : List PeerView) (p : ℕ) → reverse.is_among (Some (realm_part realm)) (map peer_part peers) p ≡ reverse.is_among (Some realm) peers p
+is_among_same realm [] p = refl
+is_among_same realm (x ∷ xs) zero = refl
+is_among_same realm (x ∷ xs) (suc p) = is_among_same realm xs p
+
+among_same : (realm : RealmView) (peers : List PeerView) (o : Option ℕ) → reverse.among (Some (realm_part realm)) (map peer_part peers) o ≡ reverse.among (Some realm) peers o
+among_same realm peers None = refl
+among_same realm peers (Some p) = λ i. if is_among_same realm peers p i then Some p else None
+
+cause_same : (realm : RealmView) (peers : List PeerView) (r : ℕ) (named : Option ℕ) (attributes : List Attribute) (sessions : List Session) → cause (Some (realm_part realm)) (map peer_part peers) r named attributes sessions ≡ cause (Some realm) peers r named attributes sessions
 unfolding cause
-cause_same peers r named attributes sessions = λ i. cause_at_target r named attributes sessions (target_same peers attributes i)
+cause_same realm peers r named attributes sessions =
+    ap (λ (o : Option ℕ). cause_at_target r named attributes sessions (reverse.among (Some (realm_part realm)) (map peer_part peers) o)) (target_same peers attributes)
+    ∙ ap (cause_at_target r named attributes sessions) (among_same realm peers (reverse.target peers attributes))
+
+-- how a peer's requests are forwarded, and replies returned to it
+between_same : (realm : RealmView) (peers : List PeerView) (p : ℕ) → shaping_between (slice_get (map peer_part peers) p) (Some (realm_part realm)) ≡ shaping_between (slice_get peers p) (Some realm)
+between_same realm [] p = refl
+between_same realm (x ∷ xs) zero = refl
+between_same realm (x ∷ xs) (suc p) = between_same realm xs p
+
+list_same : (peers : List PeerView) (p : ℕ) → option_map_or (λ (x : PeerView). x.reply_without) (slice_get (map peer_part peers) p) [] ≡ option_map_or (λ (x : PeerView). x.reply_without) (slice_get peers p) []
+list_same [] p = refl
+list_same (x ∷ xs) zero = refl
+list_same (x ∷ xs) (suc p) = list_same xs p
 
 module _ (c : RealmConfig) where
   -- links
@@ -103,6 +132,23 @@ module _ (c : RealmConfig) where
   later_same (link.Auth s) = refl
   later_same (link.Acct s) = refl
   later_same (link.Coa p) = refl
+
+  -- shapings
+  removed_same : (r : Requester) → removed_for (bare c) r ≡ removed_for c r
+  removed_same (requester.Peer p) = λ i. list_same c.peers p i ++ c.realm.reply_without
+  removed_same (requester.Home s) = refl
+
+  shaping_to_same : (code : ℕ) (l : Link) → shaping_to (bare c) code l ≡ shaping_to c code l
+  shaping_to_same code (link.Auth s) = refl
+  shaping_to_same code (link.Acct s) = refl
+  shaping_to_same code (link.Coa p) = λ i.
+      if code == COA_REQUEST
+      then record no_shaping { removed = without_sessions (list_same c.peers p i ++ c.realm.reply_without) }
+      else no_shaping
+
+  shaping_same : (r : Requester) (code : ℕ) (l : Link) → shaping_of (bare c) r code l ≡ shaping_of c r code l
+  shaping_same (requester.Peer p) code l = between_same c.realm c.peers p
+  shaping_same (requester.Home s) code l = shaping_to_same code l
 
   -- rests
   rest_same : (rests : List Rest) (l : Link) → rest_of (bare c) rests l ≡ rest_of c rests l
@@ -151,7 +197,7 @@ module _ (c : RealmConfig) where
         authenticator = drawn_at c q position;
         ticket = ticket;
       } in
-      packet_text (forwarded f (packet_of q.octets))
+      packet_text (forwarded f (shaped (shaping_same q.requester (packet_of q.octets).code target.link i) (packet_of q.octets)))
 
   entry_same : (now : ℕ) (q : PlainRequest) (position ticket : ℕ) (target : Target) → forwarded_entry (bare c) now q position ticket target ≡ forwarded_entry c now q position ticket target
   entry_same now q position ticket target = λ i. record {
@@ -198,14 +244,18 @@ module _ (c : RealmConfig) where
       let there : at_target (bare c) now s entries q (chosen_target (bare c) now s.rests s.cursors entries (targets (bare c) q))
       ≡ at_target c now s entries q (chosen_target c now s.rests s.cursors entries (targets c q)) =
       ap (at_target (bare c) now s entries q) chosen ∙ at_target_same now s entries q (chosen_target c now s.rests s.cursors entries (targets c q)) in
-      λ i. if s.ticket == 2 ^ 63 then refuses refusal.Exhausted else there i
+      λ i. if s.ticket == 2 ^ 63
+      then refuses refusal.Exhausted
+      else if share_taken c entries q
+      then refuses refusal.ShareTaken
+      else there i
 
   nak_same : (q : PlainRequest) (why : ℕ) → nak_octets (bare c) q why ≡ nak_octets c q why
   nak_same q why = λ i. packet_text (nak (secret_with q.requester i) why (packet_of q.octets))
 
   cause_of_same : (s : RealmState) (named : Option ℕ) (q : PlainRequest) → reverse_cause (bare c) s named q ≡ reverse_cause c s named q
   cause_of_same s named q = λ i.
-      if is_reverse q then cause_same c.peers c.index named (packet_of q.octets).attributes s.sessions i else None
+      if is_reverse q then cause_same c.realm c.peers c.index named (packet_of q.octets).attributes s.sessions i else None
 
   nak_or_new_same : (now : ℕ) (s : RealmState) (q : PlainRequest) (why : Option ℕ) → nak_or_new (bare c) now s q why ≡ nak_or_new c now s q why
   nak_or_new_same now s q (Some why) = λ i. sends (packet_to_requester c q.key (nak_same q why i) ∷ []) s
@@ -238,7 +288,8 @@ module _ (c : RealmConfig) where
   }
 
   returned_same : (q : PlainRequest) (l : Link) (p reply : Packet) → returned_octets (bare c) q l p reply ≡ returned_octets c q l p reply
-  returned_same q l p reply = λ i. packet_text (returned (returning_same q l p i) reply (packet_of q.octets))
+  returned_same q l p reply = λ i.
+      packet_text (returned (returning_same q l p i) (passing_reply (removed_same q.requester i) reply) (packet_of q.octets))
 
   counted_same : (q : PlainRequest) (peer : Option ℕ) (sessions : List Session) → counted (bare c) q peer sessions ≡ counted c q peer sessions
   counted_same q None sessions = refl
@@ -255,7 +306,8 @@ module _ (c : RealmConfig) where
   return_same now s e l p reply =
       let state : once_returned (bare c) now s e l reply (returned_octets (bare c) e.request l p reply) ≡ once_returned c now s e l reply (returned_octets c e.request l p reply) =
       ap (once_returned (bare c) now s e l reply) (returned_same e.request l p reply) ∙ once_returned_same now s e l reply (returned_octets c e.request l p reply) in
-      λ i. if nat_lt MAX_PACKET_LENGTH (returned_length (returning_same e.request l p i) reply (packet_of e.request.octets))
+      λ i. if nat_lt MAX_PACKET_LENGTH
+      (returned_length (returning_same e.request l p i) (passing_reply (removed_same e.request.requester i) reply) (packet_of e.request.octets))
       then refuses refusal.ReplyTooLong
       else sends (packet_to_requester c e.request.key (returned_same e.request l p reply i) ∷ []) (state i)
 
