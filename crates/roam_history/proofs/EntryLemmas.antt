@@ -18,7 +18,7 @@ steps-few (Some None ∷ es) = (let few = steps-few es in omega (arith, few))
 steps-few (None ∷ es) = (let few = steps-few es in omega (arith, few))
 
 pub times-append : (xs ys : List HistoryEntry) → times_let_go (xs ++ ys) ≡ times_let_go xs + times_let_go ys
-times-append [] ys = refl
+times-append [] ys = omega arith
 times-append (Some (Some s) ∷ xs) ys = times-append xs ys
 times-append (Some None ∷ xs) ys = (let more = times-append xs ys in omega (arith, more))
 times-append (None ∷ xs) ys = times-append xs ys
