@@ -39,9 +39,7 @@ fn expect_names(
 ) -> Result<(), Fail> {
     for &(digits, realm, ip_address, identifier) in rows {
         let packet = octets(rt, alloc, digits);
-        let Ok(view) = View::read(&packet) else {
-            panic!(rt; "{digits} reads as no packet");
-        };
+        let view = View::read(&packet)?;
         let expected = NasName {
             ip_address,
             identifier,
