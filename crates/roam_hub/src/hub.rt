@@ -152,8 +152,8 @@ impl<'c, A: Allocator + Copy, N: Opened> Hub<'c, A, N> {
     /// due: nothing is stored then, and no memory is wanted.
     ///
     /// Where many entries are due, the tick's moment is an earlier one, at which few were, or the first at which any
-    /// was; only what has been due for long is worked off at once. The caller asks again until no more is due: between two
-    /// calls others have the lock.
+    /// was; only what has been due for long is worked off at once. The caller asks again until no more is due: between
+    /// two calls others have the lock.
     ///
     /// # Errors
     ///
