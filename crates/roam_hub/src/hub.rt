@@ -89,6 +89,7 @@ impl<'c, A: Allocator + Copy, N: Opened> Hub<'c, A, N> {
         ensures shard { IfOk result (λ r. r.shard ≡ job.now.realm % N.opening.config.shards) }
         ensures front { IfOk result (λ r. r.front.entries ≡ front_of seat.new r.shard) }
         ensures seen { Sees (job.now.realm % N.opening.config.shards) seat.old seat.new }
+        ensures times { seat.new.times ≡ seat.old.times }
         ensures err { OnErr result (seat.new.tallies ≡ seat.old.tallies) }
         ensures full { IsErrOf result HubFault.TraceFull
             → IsFull N.opening (job.now.realm % N.opening.config.shards) seat.new }
@@ -128,6 +129,7 @@ impl<'c, A: Allocator + Copy, N: Opened> Hub<'c, A, N> {
         ensures shard { IfOk result (λ r. r.shard ≡ shard) }
         ensures front { IfOk result (λ r. r.front.entries ≡ front_of seat.new shard) }
         ensures seen { Sees shard seat.old seat.new }
+        ensures times { seat.new.times ≡ seat.old.times }
         ensures err { OnErr result (seat.new.tallies ≡ seat.old.tallies) }
         ensures full { IsErrOf result HubFault.TraceFull → IsFull N.opening shard seat.new }
         ensures no_shard { IsErrOf result HubFault.NoShard ↔ N.opening.config.shards ≤ shard }
@@ -186,6 +188,7 @@ impl<'c, A: Allocator + Copy, N: Opened> Hub<'c, A, N> {
     ) -> Result<bool, HubFault>
         ensures look { IfOk result (IsLook N.opening shard now seat.old seat.new) }
         ensures seen { Sees shard seat.old seat.new }
+        ensures times { seat.new.times ≡ seat.old.times }
         ensures err { OnErr result (seat.new ≡ seat.old) }
         ensures causes { IfErr result (λ f. f ≢ HubFault.TraceFull) }
         ensures no_shard { IsErrOf result HubFault.NoShard ↔ N.opening.config.shards ≤ shard }
@@ -197,8 +200,8 @@ impl<'c, A: Allocator + Copy, N: Opened> Hub<'c, A, N> {
     }
 
     /// Lets go of the stored steps of a shard, for whose lock it waits: takes them out, and gives them
-    /// back. All else of the shard stays as it is, and the history goes on. Takes no memory, and a time
-    /// that doesn't grow with the steps.
+    /// back. All else of the shard stays as it is, and the history goes on. The seat counts it. Takes no memory, and a
+    /// time that doesn't grow with the steps.
     ///
     /// # Errors
     ///

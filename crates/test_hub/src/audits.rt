@@ -35,7 +35,9 @@ fn equal<N: Opened>(
             datagram: Datagram {
                 at: datagram.at,
                 from: datagram.from,
-                octets: Octets::copy_of(alloc, datagram.octets.as_slice()).expect(rt, "memory"),
+                octets: Octets::copy_of(alloc, datagram.octets.as_slice())
+                    .ok()
+                    .expect(rt, "memory"),
             },
         },
         answer: Answer {
@@ -47,7 +49,7 @@ fn equal<N: Opened>(
 }
 
 /// The seat, and another one that counted these calls: shard and number.
-fn counting<N: Opened>(
+pub(crate) fn counting<N: Opened>(
     rt: &impl Abort,
     seat: Seat<Global, N>,
     calls: &[(u16, u64)],
@@ -64,7 +66,7 @@ fn counting<N: Opened>(
 }
 
 /// What an audit finds.
-fn found<N: Opened>(
+pub(crate) fn found<N: Opened>(
     report: &Report<Global, N>,
     seats: &[Seat<Global, N>],
     receipts: &[Receipt<Global, N>],

@@ -210,9 +210,11 @@ pub(crate) fn paused<A: Allocator + Copy, N: Opened + Send + Sync, R: Abort + Wa
     requires starts { AreStarts (shown config.now) starts.now }
     ensures { ArePaused (shown config.now) result.items }
 {
-    let (hub, mut seat) = Hub::<A, N>::open(alloc, config, starts, blanks).expect(rt, "a hub");
+    let (hub, mut seat) = Hub::<A, N>::open(alloc, config, starts, blanks)
+        .ok()
+        .expect(rt, "a hub");
     assert!(rt; are_answered(rt, alloc, config, &hub, &mut seat, &BEFORE));
-    let room = hub.pause_room().expect(rt, "memory");
+    let room = hub.pause_room().ok().expect(rt, "memory");
     let PausedHub { shards, .. } = hub.pause(rt, room).expect(rt, "shards");
     shards
 }
@@ -257,11 +259,13 @@ fn are_answered_after<R: Abort + Wait>(
 ) -> bool
     requires { MayFollow (shown old.now) (shown new.now) }
 {
-    let starts = first_starts(alloc, old).expect(rt, "memory");
-    let blanks = Blanks::new(alloc, old.shards).expect(rt, "memory");
+    let starts = first_starts(alloc, old).ok().expect(rt, "memory");
+    let blanks = Blanks::new(alloc, old.shards).ok().expect(rt, "memory");
     let mut shards = paused::<_, Brand, R>(rt, alloc, old, &starts, blanks);
-    follow(alloc, old, new, &mut shards).expect(rt, "memory");
-    let blanks = Blanks::new(alloc, new.shards).expect(rt, "memory");
+    follow(alloc, old, new, &mut shards)
+        .ok()
+        .expect(rt, "memory");
+    let blanks = Blanks::new(alloc, new.shards).ok().expect(rt, "memory");
     goes_on::<_, Brand, R>(rt, alloc, new, shards, blanks, exchanges)
 }
 

@@ -30,7 +30,7 @@ pub struct Attendant<'s, 'c, R, G, N: Opened> {
     pub rt: &'s R,
     pub shared: &'s Shared<'s, 'c, G, N>,
     pub sockets: &'s [BoundSocket],
-    /// Through which the stored steps of a shard are let go of.
+    /// Through which the stored steps of a shard are let go of. The audit counts that.
     pub seat: Seat<Global, N>,
     /// In milliseconds since the server's start.
     pub now: u64,
