@@ -48,7 +48,8 @@ pub returned-turn : (c : RealmConfig) (now : ℕ) (s : RealmState) (e : PlainEnt
     → returns_octets c now e.request.key peer octets e l s ≡ return_reply c now s e l forwarded reply
 returned-turn c now s e l forwarded reply peer octets short is counts =
     let size = returned_length (returning c e.request l forwarded) reply (packet_of e.request.octets) in
-    let no : ltb 4096 size ≡ false = is_false (ltb 4096 size) (λ t. short (let lt : 4096 < size = grind (arith, nat_tests, t) in lt)) in
+    let no : ltb 4096 size ≡ false =
+    is_false (ltb 4096 size) (λ t. short (let lt : 4096 < size = grind (arith, nat_tests, t) in lt)) in
     rw (no, is, counts) refl
 
 -- the returned packet is too long
@@ -114,7 +115,8 @@ done-sound c t e es fs reply deadline old new sound at is tells count ticket pos
       stream_position = rw position sound.stream_position;
       lane_count = count ∙ sound.lane_count;
       lanes = subst (AreOwnLanes c) (sym marks) sound.lanes;
-      lanes_tell = subst (λ (l : List PlainEntry). LanesTell c l new.lanes.items) (sym is) (tells-done c es new.lanes.items x refl tells);
+      lanes_tell = subst (λ (l : List PlainEntry). LanesTell c l new.lanes.items) (sym is)
+          (tells-done c es new.lanes.items x refl tells);
       ledger = limit ∙ sound.ledger;
     }
 

@@ -363,7 +363,10 @@ module _ (c : RealmConfig) (l : Link) where
               | inl going ↦ (
                   let first = silent.0 in
                   let rest = going.0 in
-                  inl (omega (arith, first, rest), more c (n + count + others) (n + (count + others)) left (omega arith) going.1)
+                  inl (
+                    omega (arith, first, rest),
+                    more c (n + count + others) (n + (count + others)) left (omega arith) going.1,
+                  )
                   )
               | inr since ↦ inr (later s e es since)
             ]
@@ -400,7 +403,8 @@ rests-only_when_silent c s l events now wakes stands =
         since = silent.since;
         all = silent.all;
         no_reply = silent.no_reply;
-        given_up = enough c (given_up_over c (one_realm_run c s silent.before).state l silent.since) now left silent.tells stands;
+        given_up = enough c (given_up_over c (one_realm_run c s silent.before).state l silent.since) now left
+            silent.tells stands;
       }
     ]
 

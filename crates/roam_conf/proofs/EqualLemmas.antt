@@ -22,7 +22,9 @@ use Rattle.roam_conf.specs.Patterns.{shown_pattern}
 use Rattle.roam_conf.specs.Shown.{shown}
 
 -- lists whose elements are compared one by one
-pub list_decides : {X V : Type 0} (same : X → X → Bool) (view : X → V) → ((a b : X) → Decides (same a b) (view a ≡ view b)) → (xs ys : List X) → Decides (pointwise same xs ys) (map view xs ≡ map view ys)
+pub list_decides : {X V : Type 0} (same : X → X → Bool) (view : X → V) →
+    ((a b : X) → Decides (same a b) (view a ≡ view b)) → (xs ys : List X) →
+    Decides (pointwise same xs ys) (map view xs ≡ map view ys)
 list_decides same view each [] [] = (λ _. refl, λ _. refl)
 list_decides same view each [] (y ∷ ys) = (λ h. absurd (false≢true h), λ h. cc)
 list_decides same view each (x ∷ xs) [] = (λ h. absurd (false≢true h), λ h. cc)
@@ -39,14 +41,17 @@ list_decides same view each (x ∷ xs) (y ∷ ys) =
           rw ((each x y).1 here, rest.1 more),
     )
 
-option_decides : {X V : Type 0} (same : X → X → Bool) (view : X → V) → ((a b : X) → Decides (same a b) (view a ≡ view b)) → (o p : Option X) → Decides (option_eq same o p) (option_map view o ≡ option_map view p)
+option_decides : {X V : Type 0} (same : X → X → Bool) (view : X → V) →
+    ((a b : X) → Decides (same a b) (view a ≡ view b)) → (o p : Option X) →
+    Decides (option_eq same o p) (option_map view o ≡ option_map view p)
 option_decides same view each None None = (λ _. refl, λ _. refl)
 option_decides same view each None (Some y) = (λ h. absurd (false≢true h), λ h. cc)
 option_decides same view each (Some x) None = (λ h. absurd (false≢true h), λ h. cc)
 option_decides same view each (Some x) (Some y) =
     (λ h. ap (λ v. Some v) ((each x y).0 h), λ h. let here : view x ≡ view y = cc in (each x y).1 here)
 
-whole_option_decides : {X : Type 0} (same : X → X → Bool) → ((a b : X) → Decides (same a b) (a ≡ b)) → (o p : Option X) → Decides (option_eq same o p) (o ≡ p)
+whole_option_decides : {X : Type 0} (same : X → X → Bool) → ((a b : X) → Decides (same a b) (a ≡ b)) →
+    (o p : Option X) → Decides (option_eq same o p) (o ≡ p)
 whole_option_decides same each None None = (λ _. refl, λ _. refl)
 whole_option_decides same each None (Some y) = (λ h. absurd (false≢true h), λ h. cc)
 whole_option_decides same each (Some x) None = (λ h. absurd (false≢true h), λ h. cc)
@@ -62,7 +67,8 @@ endpoint_eq a b = pointwise eqb a.ip b.ip && eqb a.port b.port
 
 abbrev pub server_eq : Server → Server → Bool
 server_eq a b =
-    endpoint_eq a.auth b.auth && (endpoint_eq a.acct b.acct && (string_eq a.secret b.secret && beq a.require_seal b.require_seal))
+    endpoint_eq a.auth b.auth && (endpoint_eq a.acct b.acct &&
+    (string_eq a.secret b.secret && beq a.require_seal b.require_seal))
 
 abbrev pub peer_eq : Peer → Peer → Bool
 peer_eq a b =
@@ -87,7 +93,8 @@ config_eq a b =
     eqb a.shards b.shards && (pointwise eqb a.seed b.seed && (endpoint_eq a.auth b.auth
     && (endpoint_eq a.acct b.acct && (eqb a.trace_limit b.trace_limit && (eqb a.trace_octets b.trace_octets
     && (option_eq eqb a.max_hops b.max_hops && (beq a.status_server b.status_server && (beq a.spread b.spread
-    && (pointwise peer_eq a.peers.items b.peers.items && (pointwise realm_eq a.realms.items b.realms.items && true))))))))))
+    && (pointwise peer_eq a.peers.items b.peers.items &&
+    (pointwise realm_eq a.realms.items b.realms.items && true))))))))))
 
 pub endpoint_decides : (a b : Endpoint) → Decides (endpoint_eq a b) (a ≡ b)
 endpoint_decides a b = Decides-like {P = (a.ip ≡ b.ip) × (a.port ≡ b.port)} _
@@ -99,7 +106,8 @@ pub server_decides : (a b : Server) → Decides (server_eq a b) (shown_server a 
 server_decides a b =
     let v = shown_server a in
     let w = shown_server b in
-    Decides-like {P = (v.auth ≡ w.auth) × ((v.acct ≡ w.acct) × ((v.secret ≡ w.secret) × (v.require_seal ≡ w.require_seal)))} _
+    Decides-like {P = (v.auth ≡ w.auth)
+    × ((v.acct ≡ w.acct) × ((v.secret ≡ w.secret) × (v.require_seal ≡ w.require_seal)))} _
     (λ p. λ i. record {
       auth = p.0 i;
       acct = p.1.0 i;
@@ -125,7 +133,9 @@ pub peer_decides : (a b : Peer) → Decides (peer_eq a b) (shown_peer a ≡ show
 peer_decides a b =
     let v = shown_peer a in
     let w = shown_peer b in
-    Decides-like {P = (v.name ≡ w.name) × ((v.ip ≡ w.ip) × ((v.secret ≡ w.secret) × ((v.coa ≡ w.coa) × ((v.nas_ip ≡ w.nas_ip) × ((v.nas_id ≡ w.nas_id) × (v.require_seal ≡ w.require_seal))))))} _
+    Decides-like {P = (v.name ≡ w.name)
+    × ((v.ip ≡ w.ip) × ((v.secret ≡ w.secret)
+    × ((v.coa ≡ w.coa) × ((v.nas_ip ≡ w.nas_ip) × ((v.nas_id ≡ w.nas_id) × (v.require_seal ≡ w.require_seal))))))} _
     (λ p. λ i. record {
       name = p.0 i;
       ip = p.1.0 i;
@@ -185,7 +195,13 @@ pub realm_decides : (a b : Realm) → Decides (realm_eq a b) (shown_realm a ≡ 
 realm_decides a b =
     let v = shown_realm a in
     let w = shown_realm b in
-    Decides-like {P = (v.name ≡ w.name) × ((v.also ≡ w.also) × ((v.out ≡ w.out) × ((v.reverse ≡ w.reverse) × ((v.tries ≡ w.tries) × ((v.wait ≡ w.wait) × ((v.hold ≡ w.hold) × ((v.max_pending ≡ w.max_pending) × ((v.max_sessions ≡ w.max_sessions) × ((v.rest ≡ w.rest) × ((v.rest_after ≡ w.rest_after) × (v.servers ≡ w.servers)))))))))))} _
+    Decides-like {P = (v.name ≡ w.name)
+    × ((v.also ≡ w.also) × ((v.out ≡ w.out)
+    × ((v.reverse ≡ w.reverse) × ((v.tries ≡ w.tries)
+    × ((v.wait ≡ w.wait) × ((v.hold ≡ w.hold)
+    × ((v.max_pending ≡ w.max_pending)
+    × ((v.max_sessions ≡ w.max_sessions)
+    × ((v.rest ≡ w.rest) × ((v.rest_after ≡ w.rest_after) × (v.servers ≡ w.servers)))))))))))} _
     (λ p. λ i. record {
       name = p.0 i;
       also = p.1.0 i;
@@ -257,7 +273,12 @@ pub config_decides : (a b : Config) → Decides (config_eq a b) (shown a ≡ sho
 config_decides a b =
     let v = shown a in
     let w = shown b in
-    Decides-like {P = (v.shards ≡ w.shards) × ((v.seed ≡ w.seed) × ((v.auth ≡ w.auth) × ((v.acct ≡ w.acct) × ((v.trace_limit ≡ w.trace_limit) × ((v.trace_octets ≡ w.trace_octets) × ((v.max_hops ≡ w.max_hops) × ((v.status_server ≡ w.status_server) × ((v.spread ≡ w.spread) × ((v.peers ≡ w.peers) × (v.realms ≡ w.realms))))))))))} _
+    Decides-like {P = (v.shards ≡ w.shards)
+    × ((v.seed ≡ w.seed) × ((v.auth ≡ w.auth)
+    × ((v.acct ≡ w.acct) × ((v.trace_limit ≡ w.trace_limit)
+    × ((v.trace_octets ≡ w.trace_octets)
+    × ((v.max_hops ≡ w.max_hops) × ((v.status_server ≡ w.status_server)
+    × ((v.spread ≡ w.spread) × ((v.peers ≡ w.peers) × (v.realms ≡ w.realms))))))))))} _
     (λ p. λ i. record {
       shards = p.0 i;
       seed = p.1.0 i;

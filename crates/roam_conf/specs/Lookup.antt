@@ -108,7 +108,8 @@ abbrev pub home_in : ConfigView → ℕ → List ℕ → Option ℕ
 home_in config realm ip = option_and_then (λ r. reverse_home r ip) (slice_get config.realms realm)
 
 abbrev pub endpoint_in_realm : ConfigView → ℕ → Link → Option Endpoint
-endpoint_in_realm config realm link = option_and_then (λ r. endpoint_of config.peers r link) (slice_get config.realms realm)
+endpoint_in_realm config realm link =
+    option_and_then (λ r. endpoint_of config.peers r link) (slice_get config.realms realm)
 
 -- the servers of a realm, where there is one
 abbrev pub servers_of : Option RealmView → List ServerView

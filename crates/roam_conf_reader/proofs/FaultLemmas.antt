@@ -18,20 +18,24 @@ pub record Reads (text : List ℕ) (members : Members) (config : ConfigView) : T
   pub complete : document_misses members ≡ false
   pub stated : StatesConfig members config
 
-pub not_syntax : (text : List ℕ) (members : Members) → parse_document text ≡ Some members → parse_document text ≡ None → ⊥
+pub not_syntax : (text : List ℕ) (members : Members) → parse_document text ≡ Some members →
+    parse_document text ≡ None → ⊥
 not_syntax text ms parsed unparsed = cc
 
-pub not_missed : (text : List ℕ) (members : Members) → parse_document text ≡ Some members → document_misses members ≡ false → Misses text → ⊥
+pub not_missed : (text : List ℕ) (members : Members) → parse_document text ≡ Some members →
+    document_misses members ≡ false → Misses text → ⊥
 not_missed text ms parsed complete misses =
     let same : ms ≡ misses.members = same_Some ms misses.members (sym parsed ∙ misses.parsed) in
     cc
 
-pub not_none : (text : List ℕ) (members : Members) (config : ConfigView) → parse_document text ≡ Some members → StatesConfig members config → StatesNone text → ⊥
+pub not_none : (text : List ℕ) (members : Members) (config : ConfigView) → parse_document text ≡ Some members →
+    StatesConfig members config → StatesNone text → ⊥
 not_none text ms config parsed stated none =
     let same : ms ≡ none.members = same_Some ms none.members (sym parsed ∙ none.parsed) in
     none.unstated config (subst (λ m. StatesConfig m config) same stated)
 
-not_twice : (text : List ℕ) (members : Members) (config : ConfigView) (fault : ConfFault) → Reads text members config → has_duplicate fault config ≡ false → StatesDuplicate text fault → ⊥
+not_twice : (text : List ℕ) (members : Members) (config : ConfigView) (fault : ConfFault) → Reads text members config
+    → has_duplicate fault config ≡ false → StatesDuplicate text fault → ⊥
 not_twice text ms config fault reads once twice =
     let same : twice.stated.members ≡ ms = same_Some twice.stated.members ms (sym twice.stated.parsed ∙ reads.parsed) in
     let stated : StatesConfig ms twice.config = subst (λ m. StatesConfig m twice.config) same twice.stated.stated in
@@ -47,11 +51,16 @@ first_of false false false true e = Some DuplicateServer
 first_of false false false false true = Some DuplicateLink
 first_of false false false false false = None
 
-first_of_config : (config : ConfigView) → first_duplicate config ≡ first_of (has_duplicate DuplicateRealm config) (has_duplicate DuplicatePeer config) (has_duplicate DuplicateEndpoint config) (has_duplicate DuplicateServer config) (has_duplicate DuplicateLink config)
+first_of_config : (config : ConfigView) →
+    first_duplicate config ≡ first_of (has_duplicate DuplicateRealm config) (has_duplicate DuplicatePeer config)
+    (has_duplicate DuplicateEndpoint config) (has_duplicate DuplicateServer config) (has_duplicate DuplicateLink config)
 unfolding first_duplicate
 first_of_config config = by_cases _ _ _ _ _
   where
-    by_cases : (a b c d e : Bool) → cond a (Some DuplicateRealm) (cond b (Some DuplicatePeer) (cond c (Some DuplicateEndpoint) (cond d (Some DuplicateServer) (cond e (Some DuplicateLink) None)))) ≡ first_of a b c d e
+    by_cases : (a b c d e : Bool) →
+        cond a (Some DuplicateRealm) (cond b (Some DuplicatePeer)
+        (cond c (Some DuplicateEndpoint) (cond d (Some DuplicateServer) (cond e (Some DuplicateLink) None))))
+        ≡ first_of a b c d e
     by_cases true b c d e = refl
     by_cases false true c d e = refl
     by_cases false false true d e = refl
@@ -68,14 +77,17 @@ record Tests (config : ConfigView) (a b c d e : Bool) : Type 0 where
   link : has_duplicate DuplicateLink config ≡ e
 
 -- a fault that is there, after those that aren't
-found : (text : List ℕ) (members : Members) (config : ConfigView) (fault : ConfFault) → Reads text members config → has_duplicate fault config ≡ true → StatesDuplicate text fault
+found : (text : List ℕ) (members : Members) (config : ConfigView) (fault : ConfFault) → Reads text members config →
+    has_duplicate fault config ≡ true → StatesDuplicate text fault
 found text ms config fault reads twice = record {
   config = config;
   stated = record { members = ms; parsed = reads.parsed; stated = reads.stated };
   twice = twice;
 }
 
-first_fault_at : (text : List ℕ) (members : Members) (config : ConfigView) (fault : ConfFault) → Reads text members config → (a b c d e : Bool) → Tests config a b c d e → first_of a b c d e ≡ Some fault → IsFirstFault text fault
+first_fault_at : (text : List ℕ) (members : Members) (config : ConfigView) (fault : ConfFault) →
+    Reads text members config → (a b c d e : Bool) → Tests config a b c d e → first_of a b c d e ≡ Some fault →
+    IsFirstFault text fault
 first_fault_at text ms config fault reads true b c d e tests is =
     let n1 = not_syntax text ms reads.parsed in
     let n2 = not_missed text ms reads.parsed reads.complete in
@@ -129,11 +141,15 @@ first_fault_at text ms config fault reads false false false false true tests is 
 first_fault_at text ms config fault reads false false false false false tests is = cc
 
 -- a text with duplicates has the first of them as its first fault
-pub first_fault : (text : List ℕ) (members : Members) (config : ConfigView) (fault : ConfFault) → Reads text members config → first_duplicate config ≡ Some fault → IsFirstFault text fault
+pub first_fault : (text : List ℕ) (members : Members) (config : ConfigView) (fault : ConfFault) →
+    Reads text members config → first_duplicate config ≡ Some fault → IsFirstFault text fault
 first_fault text ms config fault reads is =
-    first_fault_at text ms config fault reads _ _ _ _ _ (record { realm = refl; peer = refl; endpoint = refl; server = refl; link = refl }) (sym (first_of_config config) ∙ is)
+    first_fault_at text ms config fault reads _ _ _ _ _
+    (record { realm = refl; peer = refl; endpoint = refl; server = refl; link = refl })
+    (sym (first_of_config config) ∙ is)
 
-none_of : (a b c d e : Bool) → first_of a b c d e ≡ None → (a ≡ false) × ((b ≡ false) × ((c ≡ false) × ((d ≡ false) × (e ≡ false))))
+none_of : (a b c d e : Bool) → first_of a b c d e ≡ None → (a ≡ false)
+    × ((b ≡ false) × ((c ≡ false) × ((d ≡ false) × (e ≡ false))))
 none_of true b c d e is = cc
 none_of false true c d e is = cc
 none_of false false true d e is = cc
@@ -148,7 +164,8 @@ all_distinct config is =
     record { realms = none.0; peers = none.1.0; endpoints = none.1.1.0; servers = none.1.1.1.0; links = none.1.1.1.1 }
 
 -- no fault holds in a text whose configuration has no duplicates
-pub none_holds : (text : List ℕ) (members : Members) (config : ConfigView) → Reads text members config → IsDistinct config → NoneHolds text every_fault
+pub none_holds : (text : List ℕ) (members : Members) (config : ConfigView) → Reads text members config →
+    IsDistinct config → NoneHolds text every_fault
 none_holds text ms config reads distinct = (
   not_syntax text ms reads.parsed,
   (

@@ -19,7 +19,8 @@ said_pattern octets p is =
       | inl yes' ↦ (let same : Some any ≡ Some p = rw yes' at is in rw (← same_Some any p same) refl)
       | inr no' ↦ elim (cases_Bool (bytes_eq (take 2 octets) (42 ∷ 46 ∷ []))) [
         | inl front ↦ (
-            let tail : cond (is_realm_name (drop 2 octets)) (Some (suffix (drop 2 octets))) None ≡ Some p = rw (no', front) at is in
+            let tail : cond (is_realm_name (drop 2 octets)) (Some (suffix (drop 2 octets))) None ≡ Some p =
+            rw (no', front) at is in
             let both = cond_some (is_realm_name (drop 2 octets)) (suffix (drop 2 octets)) p tail in
             rw (← both.1) both.0)
         | inr other ↦ (
@@ -39,7 +40,10 @@ record ArePatterns (n : ℕ) (ps : List PatternView) : Type 0 where
   count : length ps ≡ n
   names : list_all is_pattern ps ≡ true
 
-more_patterns : (found : Data) (items : Items) (o : Option PatternView) (rest : Option (List PatternView)) (ps : List PatternView) → pattern found ≡ o → ((qs : List PatternView) → rest ≡ Some qs → ArePatterns (item_count items) qs) → cons_if_both o rest ≡ Some ps → ArePatterns (suc (item_count items)) ps
+more_patterns : (found : Data) (items : Items) (o : Option PatternView) (rest : Option (List PatternView))
+    (ps : List PatternView) → pattern found ≡ o →
+    ((qs : List PatternView) → rest ≡ Some qs → ArePatterns (item_count items) qs) → cons_if_both o rest ≡ Some ps →
+    ArePatterns (suc (item_count items)) ps
 more_patterns found items None rest ps here more is = cc
 more_patterns found items (Some p) None ps here more is = cc
 more_patterns found items (Some p) (Some qs) ps here more is =
@@ -50,7 +54,8 @@ more_patterns found items (Some p) (Some qs) ps here more is =
       names = and_from (is_pattern p) (list_all is_pattern qs) (stated_pattern found p here) all.names;
     })
 
-are_patterns : (items : Items) (ps : List PatternView) → each_pattern items ≡ Some ps → ArePatterns (item_count items) ps
+are_patterns : (items : Items) (ps : List PatternView) → each_pattern items ≡ Some ps →
+    ArePatterns (item_count items) ps
 are_patterns no_items ps is = rw (← same_Some [] ps is) (record { count = refl; names = refl })
 are_patterns (item found items) ps is =
     more_patterns found items (pattern found) (each_pattern items) ps refl (are_patterns items) is

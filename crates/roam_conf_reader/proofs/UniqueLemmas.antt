@@ -11,7 +11,9 @@ use Rattle.roam_conf_reader.specs.Values.{number_or}
 same_value : {V : Type 0} (o : Option V) (a b : V) → o ≡ Some a → o ≡ Some b → a ≡ b
 same_value o a b p q = same_Some a b (sym p ∙ q)
 
-pub each_unique : {V : Type 0} (States : Members → V → Type 0) → ((members : Members) (a b : V) → States members a → States members b → a ≡ b) → (items : Items) (xs ys : List V) → StatesEach States items xs → StatesEach States items ys → xs ≡ ys
+pub each_unique : {V : Type 0} (States : Members → V → Type 0) →
+    ((members : Members) (a b : V) → States members a → States members b → a ≡ b) → (items : Items) (xs ys : List V)
+    → StatesEach States items xs → StatesEach States items ys → xs ≡ ys
 each_unique States unique no_items [] [] p q = refl
 each_unique States unique no_items [] (y ∷ ys) p q = absurd q
 each_unique States unique no_items (x ∷ xs) ys p q = absurd p
@@ -23,7 +25,9 @@ each_unique States unique (item (table ms) items) (x ∷ xs) (y ∷ ys) p q =
     cc
 each_unique States unique (item found items) xs ys p q = absurd p
 
-tables_unique : {V : Type 0} (States : Members → V → Type 0) → ((members : Members) (a b : V) → States members a → States members b → a ≡ b) → (items : Option Items) (xs ys : List V) → StatesTables States items xs → StatesTables States items ys → xs ≡ ys
+tables_unique : {V : Type 0} (States : Members → V → Type 0) →
+    ((members : Members) (a b : V) → States members a → States members b → a ≡ b) →
+    (items : Option Items) (xs ys : List V) → StatesTables States items xs → StatesTables States items ys → xs ≡ ys
 tables_unique States unique None xs ys p q = absurd p
 tables_unique States unique (Some items) xs ys p q = each_unique States unique items xs ys p q
 
@@ -64,7 +68,8 @@ realm_unique ms a b p q =
     let wait = same_value _ a.wait b.wait p.wait q.wait in
     let hold = same_value _ a.hold b.hold p.hold q.hold in
     let max_pending = same_value _ a.max_pending b.max_pending p.max_pending q.max_pending in
-    let alike = subst (λ (r : Option Endpoint). number_or (sessions_unless_said r) 0 65536 (get_member (codes "max_sessions") ms) ≡ Some b.max_sessions) (sym reverse) q.max_sessions in
+    let alike = subst (λ (r : Option Endpoint). number_or (sessions_unless_said r) 0 65536
+    (get_member (codes "max_sessions") ms) ≡ Some b.max_sessions) (sym reverse) q.max_sessions in
     let max_sessions = same_value _ a.max_sessions b.max_sessions p.max_sessions alike in
     let rest = same_value _ a.rest b.rest p.rest q.rest in
     let rest_after = same_value _ a.rest_after b.rest_after p.rest_after q.rest_after in

@@ -37,7 +37,8 @@ realm_optional =
 
 abbrev pub top_optional : List (List ℕ)
 top_optional =
-    codes "shards" ∷ codes "seed" ∷ codes "trace_limit" ∷ codes "max_hops" ∷ codes "status_server" ∷ codes "trace_octets" ∷ codes "spread" ∷ codes "metrics"
+    codes "shards" ∷ codes "seed" ∷ codes "trace_limit" ∷ codes "max_hops" ∷ codes "status_server" ∷ codes
+    "trace_octets" ∷ codes "spread" ∷ codes "metrics"
     ∷ codes "control" ∷ codes "log_exchanges" ∷ []
 
 -- the key is one of these

@@ -44,8 +44,8 @@ impl<N: Opened> Model for Front<N> {
 }
 
 /// Adds an entry to all that was seen of a history, which isn't closed there, where no more was ever added: what is
-/// seen then. None where more was: nothing is added then. The one step of all this that threads share: a word is compared
-/// and exchanged.
+/// seen then. None where more was: nothing is added then. The one step of all this that threads share: a word is
+/// compared and exchanged.
 fn added<N: Opened, X, M: Plain<X, HistoryEntry, u64>>(
     head: &Head<N>,
     seen: &Seen<HistoryEntry, u64, OneHistory>,

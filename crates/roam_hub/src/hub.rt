@@ -153,9 +153,9 @@ impl<'c, A: Allocator + Copy, N: Opened> Hub<'c, A, N> {
     /// A tick of a shard where something is due in it at the call's moment, and no receipt. None where nothing is
     /// due: nothing is stored then, and no memory is wanted.
     ///
-    /// Where many entries are due, the tick's moment is an earlier one, at which few were, or the first at which any was;
-    /// only what has been due for long is worked off at once. The caller asks again until no more is due: between two
-    /// calls others have the lock.
+    /// Where many entries are due, the tick's moment is an earlier one, at which few were, or the first at which any
+    /// was; only what has been due for long is worked off at once. The caller asks again until no more is due: between
+    /// two calls others have the lock.
     ///
     /// # Errors
     ///

@@ -429,7 +429,8 @@ status_never config a (side.Peer i) p job h =
           let k : rest ≡ admitted job = rw is at h in
           elim (cases_Bool (has_seal p)) [
             | inl has ↦ absurd (let j : answer ≡ admitted job = rw has at k in cc j)
-            | inr hasnt ↦ absurd (let j : refused refusal.MissingMessageAuthenticator ≡ admitted job = rw hasnt at k in cc j)
+            | inr hasnt ↦ absurd (let j : refused refusal.MissingMessageAuthenticator ≡ admitted job =
+                rw hasnt at k in cc j)
           ]
       | inr isnt ↦ absurd (let k : refused refusal.BadMessageAuthenticator ≡ admitted job = rw isnt at h in cc k)
     ]
@@ -440,7 +441,8 @@ packet_given : (config : ConfigView) (a : Arrival) (s : Side) (p : Packet) (job 
     → (is_taken a.at s p.code ≡ true) × (packet_admission config a s p a.at ≡ admitted job)
 packet_given config a s p job h =
     elim (cases_Bool (is_status_request config a.at s p.code)) [
-      | inl is ↦ absurd (let k : status_from config a s p ≡ admitted job = rw is at h in status_never config a s p job k)
+      | inl is ↦ absurd (let k : status_from config a s p ≡ admitted job = rw is at h in
+          status_never config a s p job k)
       | inr isnt ↦ elim (cases_Bool (is_taken a.at s p.code)) [
         | inl is ↦ (let k : packet_admission config a s p a.at ≡ admitted job = rw (isnt, is) at h in (is, k))
         | inr wrong ↦ absurd (let k : refused refusal.WrongCode ≡ admitted job = rw (isnt, wrong) at h in cc k)

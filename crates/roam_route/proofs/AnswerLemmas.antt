@@ -33,11 +33,13 @@ use Rattle.roam_route.specs.RejectLaws.{RejectReads, RejectHasLength, RejectIsSi
 
 -- ---- the size of the Proxy-States
 
-first_kept : (a : Attribute) (rest : List Attribute) → has_kind PROXY_STATE a ≡ true → only_kind PROXY_STATE (a ∷ rest) ≡ a ∷ only_kind PROXY_STATE rest
+first_kept : (a : Attribute) (rest : List Attribute) → has_kind PROXY_STATE a ≡ true →
+    only_kind PROXY_STATE (a ∷ rest) ≡ a ∷ only_kind PROXY_STATE rest
 first_kept a rest passes = rw passes refl
 
 -- the size of the whole
-pub answer_length-is : (code : ℕ) (request : Packet) → packet_length (unsealed_answer code request) ≡ answer_length request
+pub answer_length-is : (code : ℕ) (request : Packet) →
+    packet_length (unsealed_answer code request) ≡ answer_length request
 answer_length-is code request = omega arith
 
 -- ---- the packet as it is filled
@@ -52,10 +54,14 @@ pub record IsFilling (code : ℕ) (request : Packet) (left : List Attribute) (pa
   pub short : AllByRecursion IsAttribute left
 
 -- the packet with one Proxy-State more is no longer than the whole
-pub IsFilling-within : (code : ℕ) (request packet : Packet) (left rest : List Attribute) (a : Attribute) → left ≡ a ∷ rest → has_kind PROXY_STATE a ≡ true → IsFilling code request left packet → packet_length packet + 2 + length a.value ≤ answer_length request
+pub IsFilling-within : (code : ℕ) (request packet : Packet) (left rest : List Attribute) (a : Attribute) →
+    left ≡ a ∷ rest → has_kind PROXY_STATE a ≡ true → IsFilling code request left packet →
+    packet_length packet + 2 + length a.value ≤ answer_length request
 IsFilling-within code request packet left rest a split passes h =
-    let here : only_kind PROXY_STATE left ≡ a ∷ only_kind PROXY_STATE rest = ap (only_kind PROXY_STATE) split ∙ first_kept a rest passes in
-    let whole : packet_length (extended (only_kind PROXY_STATE left) packet) ≡ answer_length request = ap packet_length h.whole ∙ answer_length-is code request in
+    let here : only_kind PROXY_STATE left ≡ a ∷ only_kind PROXY_STATE rest = ap (only_kind PROXY_STATE) split
+    ∙ first_kept a rest passes in
+    let whole : packet_length (extended (only_kind PROXY_STATE left) packet) ≡ answer_length request =
+    ap packet_length h.whole ∙ answer_length-is code request in
     let parts = length-attributes_text-append packet.attributes (only_kind PROXY_STATE left) in
     let first = length-append (attribute_text a) (attributes_text (only_kind PROXY_STATE rest)) in
     omega (arith, whole, parts, first, ap (λ x. length (attributes_text x)) here)
@@ -74,25 +80,31 @@ no_seal_kept [] = refl
 no_seal_kept (a ∷ all) =
     let rest = no_seal_kept all in
     elim (cases_Bool (has_kind PROXY_STATE a)) [
-      | inl found ↦ rw found (count_of-no MESSAGE_AUTHENTICATOR a (only_kind PROXY_STATE all) (is_no_seal a found) ∙ rest)
+      | inl found ↦ rw found (count_of-no MESSAGE_AUTHENTICATOR a (only_kind PROXY_STATE all) (is_no_seal a found)
+          ∙ rest)
       | inr further ↦ rw further rest
     ]
 
 pub one_seal : (code : ℕ) (request : Packet) → HasOneMessageAuthenticator (unsealed_answer code request)
 one_seal code request = record {
-  one = sum_by-cons (λ (x : Attribute). if has_kind MESSAGE_AUTHENTICATOR x then 1 else 0) empty_message_authenticator (only_kind PROXY_STATE request.attributes) ∙ ap (λ n. 1 + n) (no_seal_kept request.attributes);
+  one = sum_by-cons (λ (x : Attribute). if has_kind MESSAGE_AUTHENTICATOR x then 1 else 0)
+      empty_message_authenticator (only_kind PROXY_STATE request.attributes)
+      ∙ ap (λ n. 1 + n) (no_seal_kept request.attributes);
   size = refl;
 }
 
 -- ---- laws, of each local answer
 
-pub answer_is_packet : (code : ℕ) (secret : List ℕ) (request : Packet) → IsPacket (unsealed_answer code request) → IsPacket (local_answer code secret request)
+pub answer_is_packet : (code : ℕ) (secret : List ℕ) (request : Packet) → IsPacket (unsealed_answer code request) →
+    IsPacket (local_answer code secret request)
 unfolding local_answer
 answer_is_packet code secret request packet =
-    IsPacket-signed_reply secret request.authenticator (with_message_authenticator secret request.authenticator (unsealed_answer code request))
+    IsPacket-signed_reply secret request.authenticator
+    (with_message_authenticator secret request.authenticator (unsealed_answer code request))
     (IsPacket-sealed secret request.authenticator (unsealed_answer code request) (inr (one_seal code request)) packet)
 
-states_are_attributes : (all : List Attribute) → AllByRecursion IsAttribute all → AllByRecursion IsAttribute (only_kind PROXY_STATE all)
+states_are_attributes : (all : List Attribute) → AllByRecursion IsAttribute all →
+    AllByRecursion IsAttribute (only_kind PROXY_STATE all)
 states_are_attributes [] h = tt
 states_are_attributes (a ∷ all) h =
     elim (cases_Bool (has_kind PROXY_STATE a)) [
@@ -103,7 +115,8 @@ states_are_attributes (a ∷ all) h =
 IsAttribute-empty : IsAttribute empty_message_authenticator
 IsAttribute-empty = record { kind = lit< tt; octets = AreOctets-zeros 16; size = lit≤ tt }
 
-unsealed_is_packet : (code : ℕ) (request : Packet) → code < 256 → IsPacket request → answer_length request ≤ 4096 → IsPacket (unsealed_answer code request)
+unsealed_is_packet : (code : ℕ) (request : Packet) → code < 256 → IsPacket request → answer_length request ≤ 4096 →
+    IsPacket (unsealed_answer code request)
 unsealed_is_packet code request octet packet short = record {
   code = octet;
   id = packet.id;
@@ -113,40 +126,51 @@ unsealed_is_packet code request octet packet short = record {
   size = omega (arith, short, answer_length-is code request);
 }
 
-answer_reads : (code : ℕ) (secret : List ℕ) (request : Packet) → code < 256 → IsPacket request → answer_length request ≤ 4096 → ReadsAs (packet_text (local_answer code secret request)) (local_answer code secret request)
+answer_reads : (code : ℕ) (secret : List ℕ) (request : Packet) → code < 256 → IsPacket request →
+    answer_length request ≤ 4096 → ReadsAs (packet_text (local_answer code secret request))
+    (local_answer code secret request)
 answer_reads code secret request octet packet short =
-    ReadsAs-packet_text (local_answer code secret request) (answer_is_packet code secret request (unsealed_is_packet code request octet packet short))
+    ReadsAs-packet_text (local_answer code secret request)
+    (answer_is_packet code secret request (unsealed_is_packet code request octet packet short))
 
-pub answer_has_length : (code : ℕ) (secret : List ℕ) (request : Packet) → packet_length (local_answer code secret request) ≡ answer_length request
+pub answer_has_length : (code : ℕ) (secret : List ℕ) (request : Packet) →
+    packet_length (local_answer code secret request) ≡ answer_length request
 unfolding local_answer
 answer_has_length code secret request =
-    packet_length-with_value (message_authenticator secret request.authenticator (unsealed_answer code request)) (unsealed_answer code request)
-    (length-message_authenticator secret request.authenticator (unsealed_answer code request)) (inr (one_seal code request))
+    packet_length-with_value (message_authenticator secret request.authenticator (unsealed_answer code request))
+    (unsealed_answer code request)
+    (length-message_authenticator secret request.authenticator (unsealed_answer code request))
+    (inr (one_seal code request))
     ∙ answer_length-is code request
 
-answer_is_signed : (code : ℕ) (secret : List ℕ) (request : Packet) → IsSignedReply secret request.authenticator (local_answer code secret request)
+answer_is_signed : (code : ℕ) (secret : List ℕ) (request : Packet) →
+    IsSignedReply secret request.authenticator (local_answer code secret request)
 unfolding local_answer response_authenticator
 answer_is_signed code secret request = refl
 
-answer_is_well_sealed : (code : ℕ) (secret : List ℕ) (request : Packet) → IsWellSealed secret (request.authenticator ∷ []) (local_answer code secret request)
+answer_is_well_sealed : (code : ℕ) (secret : List ℕ) (request : Packet) →
+    IsWellSealed secret (request.authenticator ∷ []) (local_answer code secret request)
 unfolding local_answer
 answer_is_well_sealed code secret request =
     let p : Packet = unsealed_answer code request in
     let sealed : Packet = with_message_authenticator secret request.authenticator p in
-    IsWellSealed-with_authenticator secret (request.authenticator ∷ []) (response_authenticator secret request.authenticator sealed) sealed
+    IsWellSealed-with_authenticator secret (request.authenticator ∷ [])
+    (response_authenticator secret request.authenticator sealed) sealed
     (IsWellSealed-sealed secret request.authenticator p (inr (one_seal code request)))
 
 answer_has_seal_first : (code : ℕ) (secret : List ℕ) (request : Packet) → StandsFirst (local_answer code secret request)
 unfolding local_answer
 answer_has_seal_first code secret request = (
   message_authenticator secret request.authenticator (unsealed_answer code request),
-  attributes_with_value (message_authenticator secret request.authenticator (unsealed_answer code request)) (only_kind PROXY_STATE request.attributes),
+  attributes_with_value (message_authenticator secret request.authenticator (unsealed_answer code request))
+      (only_kind PROXY_STATE request.attributes),
   refl,
 )
 
 -- Proxy-States stay as they are where another Value is put into Message-Authenticators, and they alone are kept of
 -- them
-kept_of_states : (value : List ℕ) (all : List Attribute) → only_kind PROXY_STATE (attributes_with_value value (only_kind PROXY_STATE all)) ≡ only_kind PROXY_STATE all
+kept_of_states : (value : List ℕ) (all : List Attribute) →
+    only_kind PROXY_STATE (attributes_with_value value (only_kind PROXY_STATE all)) ≡ only_kind PROXY_STATE all
 kept_of_states value [] = refl
 kept_of_states value (a ∷ all) =
     let rest = kept_of_states value all in
@@ -155,10 +179,12 @@ kept_of_states value (a ∷ all) =
       | inr further ↦ rw further rest
     ]
 
-answer_carries_proxy_states : (code : ℕ) (secret : List ℕ) (request : Packet) → only_kind PROXY_STATE (local_answer code secret request).attributes ≡ only_kind PROXY_STATE request.attributes
+answer_carries_proxy_states : (code : ℕ) (secret : List ℕ) (request : Packet) →
+    only_kind PROXY_STATE (local_answer code secret request).attributes ≡ only_kind PROXY_STATE request.attributes
 unfolding local_answer
 answer_carries_proxy_states code secret request =
-    kept_of_states (message_authenticator secret request.authenticator (unsealed_answer code request)) request.attributes
+    kept_of_states (message_authenticator secret request.authenticator (unsealed_answer code request))
+    request.attributes
 
 -- ---- of the local reject
 
@@ -201,7 +227,8 @@ status_code_is_octet (place.Out realm) = lit< tt
 status_code_is_octet (place.Reverse realm) = lit< tt
 
 -- a Message-Authenticator of 16 octets and the Proxy-States are no longer than all attributes
-room_for_seal : (all : List Attribute) → AllByRecursion IsSized all → 0 < count_of MESSAGE_AUTHENTICATOR all → 18 + length (attributes_text (only_kind PROXY_STATE all)) ≤ length (attributes_text all)
+room_for_seal : (all : List Attribute) → AllByRecursion IsSized all → 0 < count_of MESSAGE_AUTHENTICATOR all →
+    18 + length (attributes_text (only_kind PROXY_STATE all)) ≤ length (attributes_text all)
 room_for_seal [] sized some = absurd (omega (arith, some))
 room_for_seal (a ∷ all) sized some =
     let whole = length-append (attribute_text a) (attributes_text all) in
@@ -212,7 +239,8 @@ room_for_seal (a ∷ all) sized some =
           let fewer = length-kept_text (has_kind PROXY_STATE) all in
           rw (no_state a seal) (omega (arith, whole, size, fewer))
       | inr other ↦
-          let later : 0 < count_of MESSAGE_AUTHENTICATOR all = rw (count_of-no MESSAGE_AUTHENTICATOR a all other) at some in
+          let later : 0 < count_of MESSAGE_AUTHENTICATOR all =
+          rw (count_of-no MESSAGE_AUTHENTICATOR a all other) at some in
           let rest = room_for_seal all sized.1 later in
           elim (cases_Bool (has_kind PROXY_STATE a)) [
             | inl state ↦ rw state (omega (arith, whole, kept, rest))
@@ -220,7 +248,8 @@ room_for_seal (a ∷ all) sized some =
           ]
     ]
 
-pub answer_no_longer : (request : Packet) → HasOneMessageAuthenticator request → answer_length request ≤ packet_length request
+pub answer_no_longer : (request : Packet) → HasOneMessageAuthenticator request →
+    answer_length request ≤ packet_length request
 answer_no_longer request one =
     let room = room_for_seal request.attributes (all_sized request (inr one)) (omega (arith, one.one)) in
     omega (arith, room)
@@ -252,7 +281,8 @@ status_carries_proxy_states at secret request = answer_carries_proxy_states (sta
 -- ---- what the call gives
 
 -- a packet that is well sealed and has a Message-Authenticator has just one
-pub sealed_one : (secret authenticator : List ℕ) (p : Packet) → is_well_sealed secret (authenticator ∷ []) p ≡ true → has_seal p ≡ true → HasOneMessageAuthenticator p
+pub sealed_one : (secret authenticator : List ℕ) (p : Packet) → is_well_sealed secret (authenticator ∷ []) p ≡ true →
+    has_seal p ≡ true → HasOneMessageAuthenticator p
 sealed_one secret authenticator p well has =
     elim ((well_sealed_decided secret (authenticator ∷ []) p).0 well) [
       | inl none ↦ absurd (grind (arith, nat_tests, none, has))
@@ -260,28 +290,43 @@ sealed_one secret authenticator p well has =
     ]
 
 -- where an answer isn't too long, it fails for want of memory alone
-pub only_memory : {X : Type 0} (r : Result X Refusal) (size : ℕ) → IfErr r (λ e. (e ≡ refusal.TooLong) ⊎ (e ≡ refusal.NoMemory)) → (IsErrOf r refusal.TooLong ↔ (4096 < size)) → size ≤ 4096 → IfErr r (λ e. e ≡ refusal.NoMemory)
+pub only_memory : {X : Type 0} (r : Result X Refusal) (size : ℕ) →
+    IfErr r (λ e. (e ≡ refusal.TooLong) ⊎ (e ≡ refusal.NoMemory)) → (IsErrOf r refusal.TooLong ↔ (4096 < size)) →
+    size ≤ 4096 → IfErr r (λ e. e ≡ refusal.NoMemory)
 only_memory (Ok x) size causes long short = tt
 only_memory (Err why) size causes long short =
     elim causes [
-      | inl is ↦ (let over : 4096 < size = long.0 (ap (λ (e : Refusal). Err e) is) in absurd (omega (arith, over, short)))
+      | inl is ↦ (let over : 4096 < size = long.0 (ap (λ (e : Refusal). Err e) is) in
+          absurd (omega (arith, over, short)))
       | inr memory ↦ memory
     ]
 
 -- the octets that were sealed and signed are the answer's
-pub answered_text : (code : ℕ) (secret authenticator slice octets : List ℕ) (request : Packet) → IsPacket (unsealed_answer code request) → authenticator ≡ request.authenticator → slice ≡ packet_text (unsealed_answer code request) → octets ≡ packet_text (signed_reply secret authenticator (with_message_authenticator secret authenticator (packet_of slice))) → octets ≡ packet_text (local_answer code secret request)
+pub answered_text : (code : ℕ) (secret authenticator slice octets : List ℕ) (request : Packet) →
+    IsPacket (unsealed_answer code request) → authenticator ≡ request.authenticator →
+    slice ≡ packet_text (unsealed_answer code request) →
+    octets ≡ packet_text (signed_reply secret authenticator
+    (with_message_authenticator secret authenticator (packet_of slice))) →
+    octets ≡ packet_text (local_answer code secret request)
 unfolding local_answer
 answered_text code secret authenticator slice octets request packet same text sealed =
-    let p : packet_of slice ≡ unsealed_answer code request = ap packet_of text ∙ packet_of-packet_text (unsealed_answer code request) packet in
+    let p : packet_of slice ≡ unsealed_answer code request = ap packet_of text
+    ∙ packet_of-packet_text (unsealed_answer code request) packet in
     sealed
-    ∙ ap (λ (q : Packet). packet_text (signed_reply secret authenticator (with_message_authenticator secret authenticator q))) p
-    ∙ ap (λ (a : List ℕ). packet_text (signed_reply secret a (with_message_authenticator secret a (unsealed_answer code request)))) same
+    ∙ ap (λ (q : Packet). packet_text
+    (signed_reply secret authenticator (with_message_authenticator secret authenticator q))) p
+    ∙ ap (λ (a : List ℕ). packet_text
+    (signed_reply secret a (with_message_authenticator secret a (unsealed_answer code request)))) same
 
 -- and they take the whole list
-pub answered_octets : (code : ℕ) (secret given items octets : List ℕ) (size : ℕ) (request : Packet) → IsPacket (unsealed_answer code request) → size ≡ length items → items ≡ packet_text (unsealed_answer code request) → octets ≡ packet_text (local_answer code secret request) → given ≡ take size (octets ++ drop (length octets) items) → given ≡ packet_text (local_answer code secret request)
+pub answered_octets : (code : ℕ) (secret given items octets : List ℕ) (size : ℕ) (request : Packet) →
+    IsPacket (unsealed_answer code request) → size ≡ length items →
+    items ≡ packet_text (unsealed_answer code request) → octets ≡ packet_text (local_answer code secret request) →
+    given ≡ take size (octets ++ drop (length octets) items) → given ≡ packet_text (local_answer code secret request)
 answered_octets code secret given items octets size request packet count text is taken =
     let after = length-packet_text (local_answer code secret request) (answer_is_packet code secret request packet) in
     let before = length-packet_text (unsealed_answer code request) packet in
-    let same : packet_length (local_answer code secret request) ≡ packet_length (unsealed_answer code request) = answer_has_length code secret request ∙ sym (answer_length-is code request) in
+    let same : packet_length (local_answer code secret request) ≡ packet_length (unsealed_answer code request) =
+    answer_has_length code secret request ∙ sym (answer_length-is code request) in
     let whole : length octets ≡ size = ap length is ∙ after ∙ same ∙ sym before ∙ sym (ap length text) ∙ sym count in
     taken ∙ take_at octets (drop (length octets) items) size whole ∙ is

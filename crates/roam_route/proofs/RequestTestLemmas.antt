@@ -155,5 +155,8 @@ passed_decided config p =
         passwords = (passwords_decided p).0 (all.0 h).1.0;
         hops = (hops_decided config.max_hops p).0 (all.0 h).1.1;
       },
-      λ h. all.1 ((some_by named).1 h.names, ((passwords_decided p).1 h.passwords, (hops_decided config.max_hops p).1 h.hops)),
+      λ h. all.1 (
+        (some_by named).1 h.names,
+        ((passwords_decided p).1 h.passwords, (hops_decided config.max_hops p).1 h.hops),
+      ),
     )

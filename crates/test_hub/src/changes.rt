@@ -42,7 +42,8 @@ const SERVER_IN_REVERSE: Endpoint = Endpoint {
     port: 40000,
 };
 
-/// A Start of `u@a.example`, and as it leaves; the server's reply, and as the access server gets it. By the RFCs' formulas.
+/// A Start of `u@a.example`, and as it leaves; the server's reply, and as the access server gets it. By the RFCs'
+/// formulas.
 const START: &str =
     "0405002b40d7b5a889c55fa9032ba5d6be378f2e010d7540612e6578616d706c652806000000012c043031";
 
@@ -147,7 +148,8 @@ pub(crate) const GOES_ON: [Exchange; 3] = [
     },
 ];
 
-/// After the change: the second realm's request isn't known any more, and is sent as a new one; the third realm is there.
+/// After the change: the second realm's request isn't known any more, and is sent as a new one; the third realm is
+/// there.
 const BEGIN: [Exchange; 2] = [
     Exchange {
         at: Place::Auth,

@@ -117,7 +117,8 @@ fn close_is_refused<'r, R: Abort + Wait>(
     true
 }
 
-/// Whether that holds of histories, of a hub's opening over one realm, and of its end. (Its calls are played with rows.)
+/// Whether that holds of histories, of a hub's opening over one realm, and of its end. (Its calls are played with
+/// rows.)
 pub(crate) fn are_refused<R: Abort + Wait>(rt: &R, alloc: Global) -> bool {
     let config = config_of(rt, alloc, 1, 1000, &[]);
     let starts = first_starts(alloc, &config).ok().expect(rt, "memory");

@@ -59,8 +59,8 @@ fn follow_is_refused<'r, R: Abort + Wait>(
     false
 }
 
-/// Opens a hub over shards, while a growth is refused: whether that is told, and the first realm goes on over the shards that
-/// come back.
+/// Opens a hub over shards, while a growth is refused: whether that is told, and the first realm goes on over the
+/// shards that come back.
 fn opens<'r, N: Opened + Send + Sync, R: Abort + Wait>(
     rt: &R,
     over: Over<'r>,

@@ -104,8 +104,8 @@ fn ends<N: Opened>(
     is_missed && stored == Some(1) && all == Some(2) && report.audited(seats).is_ok()
 }
 
-/// A hub that stores one step is given two requests: for the second one its step is let go of, and then it is sent as the
-/// second of its realm.
+/// A hub that stores one step is given two requests: for the second one its step is let go of, and then it is sent as
+/// the second of its realm.
 pub(crate) fn full<N: Opened + Send + Sync, R: Abort + Wait>(
     rt: &R,
     alloc: Global,
@@ -149,8 +149,8 @@ fn held<N: Opened, R: Abort + Wait>(
     held
 }
 
-/// Steps of a hub that stores one are let go of again and again, while a session lasts: its start is answered, a duplicate
-/// of it from the held reply each time, and at last it ends by its id alone.
+/// Steps of a hub that stores one are let go of again and again, while a session lasts: its start is answered, a
+/// duplicate of it from the held reply each time, and at last it ends by its id alone.
 pub(crate) fn session<N: Opened + Send + Sync, R: Abort + Wait>(
     rt: &R,
     alloc: Global,

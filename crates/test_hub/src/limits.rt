@@ -36,8 +36,8 @@ fn goes_on<N: Opened + Send + Sync, R: Abort + Wait>(
     sends(rt, alloc, &receipt.answer, SECOND)
 }
 
-/// A hub that stores one step is called twice: the second call isn't recorded, since the trace is full; and another hub goes
-/// on from the end of this one.
+/// A hub that stores one step is called twice: the second call isn't recorded, since the trace is full; and another
+/// hub goes on from the end of this one.
 pub(crate) fn full_and_goes_on<N: Opened + Send + Sync, R: Abort + Wait>(
     rt: &R,
     alloc: Global,

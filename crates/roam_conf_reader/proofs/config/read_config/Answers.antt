@@ -9,7 +9,13 @@ use Rattle.roam_conf_reader.proofs.config.read_config.Goals as goal
 pub returns-in-Some-clause-err : goal.returns-in-Some-clause-err
 returns-in-Some-clause-err c =
     let config = shown_parts c.in_ok-parts.parts in
-    let reads : Reads c.args.text.now (table_view c.in_ok-table.table) config = record { parsed = c.in_ok-table.ensures.ok; complete = sym c.if-document_misses.ensures; stated = c.in_ok-parts.ensures.ok } in
+    let reads : Reads c.args.text.now (table_view c.in_ok-table.table) config =
+    record {
+      parsed = c.in_ok-table.ensures.ok;
+      complete = sym c.if-document_misses.ensures;
+      stated =
+          c.in_ok-parts.ensures.ok;
+    } in
     let is : first_duplicate config ≡ Some c.in-Some.fault = sym c.in_ok-fault.ensures.ok ∙ c.in-Some.is in
     inr (first_fault c.args.text.now (table_view c.in_ok-table.table) config c.in-Some.fault reads is)
 
@@ -17,7 +23,13 @@ returns-in-Some-clause-err c =
 pub returns-clause-faultless : goal.returns-clause-faultless
 returns-clause-faultless c =
     let config = shown_parts c.in_ok-parts.parts in
-    let reads : Reads c.args.text.now (table_view c.in_ok-table.table) config = record { parsed = c.in_ok-table.ensures.ok; complete = sym c.if-document_misses.ensures; stated = c.in_ok-parts.ensures.ok } in
+    let reads : Reads c.args.text.now (table_view c.in_ok-table.table) config =
+    record {
+      parsed = c.in_ok-table.ensures.ok;
+      complete = sym c.if-document_misses.ensures;
+      stated =
+          c.in_ok-parts.ensures.ok;
+    } in
     let is : first_duplicate config ≡ None = sym c.in_ok-fault.ensures.ok ∙ c.in-None.is in
     none_holds c.args.text.now (table_view c.in_ok-table.table) config reads (all_distinct config is)
 

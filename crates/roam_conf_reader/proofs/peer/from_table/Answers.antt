@@ -13,6 +13,7 @@ invariant_of-result c =
       name_length = rw c.in_ok-from_str.ensures.ok name.size;
       name_letters = rw c.in_ok-from_str.ensures.ok name.letters_only;
       secret_length = rw c.in_ok-from_str-2.ensures.ok (text_at 64 _ (codes "secret") members _ stated.secret).size;
-      nas_id_length = optional_text_at 253 _ (codes "nas_id") members _ c.in_ok-copied.field-0 stated.nas_id c.in_ok-copied.ensures.ok;
+      nas_id_length = optional_text_at 253 _ (codes "nas_id") members _ c.in_ok-copied.field-0 stated.nas_id
+          c.in_ok-copied.ensures.ok;
       coa_port = optional_port_at (codes "coa") members c.in-Some.text.coa stated.coa;
     }

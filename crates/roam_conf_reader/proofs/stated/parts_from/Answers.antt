@@ -11,14 +11,19 @@ invariant_of-result c =
     let members = table_view c.args.table.now in
     let peers = c.in_ok-all_from.field-0 in
     let realms = c.in_ok-all_from-2.field-0 in
-    let stated = c.in-Some.ensures.0 (map shown_peer peers.items) (map shown_realm realms.items) c.in_ok-all_from.ensures.ok c.in_ok-all_from-2.ensures.ok in
-    let of_peers = each_range StatesPeer shown_peer 1024 (codes "peer") members (array_view c.in-Some.text.peers.now) peers.items c.in-Some.ensures.1 c.in_ok-all_from.ensures.ok in
-    let of_realms = each_range StatesRealm shown_realm 1024 (codes "realm") members (array_view c.in-Some.text.realms.now) realms.items c.in-Some.ensures.2 c.in_ok-all_from-2.ensures.ok in
+    let stated = c.in-Some.ensures.0 (map shown_peer peers.items) (map shown_realm realms.items)
+    c.in_ok-all_from.ensures.ok c.in_ok-all_from-2.ensures.ok in
+    let of_peers = each_range StatesPeer shown_peer 1024 (codes "peer") members (array_view c.in-Some.text.peers.now)
+    peers.items c.in-Some.ensures.1 c.in_ok-all_from.ensures.ok in
+    let of_realms = each_range StatesRealm shown_realm 1024 (codes "realm") members
+    (array_view c.in-Some.text.realms.now) realms.items c.in-Some.ensures.2 c.in_ok-all_from-2.ensures.ok in
     record {
       shards_range = number_or_at 1 1 64 (codes "shards") members _ (omega arith) (omega arith) stated.shards;
       ports = (port_at (codes "auth") members _ stated.auth, port_at (codes "acct") members _ stated.acct);
-      trace_limit_range = number_or_at 100000 1 1000000 (codes "trace_limit") members _ (omega arith) (omega arith) stated.trace_limit;
-      trace_octets_range = number_or_at 67108864 1 1073741824 (codes "trace_octets") members _ (omega arith) (omega arith) stated.trace_octets;
+      trace_limit_range = number_or_at 100000 1 1000000 (codes "trace_limit") members _ (omega arith) (omega arith)
+          stated.trace_limit;
+      trace_octets_range = number_or_at 67108864 1 1073741824 (codes "trace_octets") members _ (omega arith)
+          (omega arith) stated.trace_octets;
       max_hops_range = optional_number_at 1 100 (codes "max_hops") members _ stated.max_hops;
       peer_count = (omega (arith, of_peers, peers.ok), omega (arith, of_peers, peers.ok));
       realm_count = (omega (arith, of_realms, realms.ok), omega (arith, of_realms, realms.ok));
@@ -26,4 +31,5 @@ invariant_of-result c =
 
 pub returns-clause-ok : goal.returns-clause-ok
 returns-clause-ok c =
-    c.in-Some.ensures.0 (map shown_peer c.in_ok-all_from.field-0.items) (map shown_realm c.in_ok-all_from-2.field-0.items) c.in_ok-all_from.ensures.ok c.in_ok-all_from-2.ensures.ok
+    c.in-Some.ensures.0 (map shown_peer c.in_ok-all_from.field-0.items)
+    (map shown_realm c.in_ok-all_from-2.field-0.items) c.in_ok-all_from.ensures.ok c.in_ok-all_from-2.ensures.ok

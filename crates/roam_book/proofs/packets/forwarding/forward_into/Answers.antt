@@ -23,12 +23,15 @@ returns-clause-waiting g c =
     let read : c.of_packet-request.result ≡ packet_of q.octets = c.of_packet-request.ensures in
     let written : c.forward_reserved.new.out.items
     ≡ forwarded_octets config q c.args.position c.args.hop.ticket target =
-    octets-written config q c.args.position c.args.hop.ticket target c.drawn_at-authenticator.result c.args.out.now.items
+    octets-written config q c.args.position c.args.hop.ticket target c.drawn_at-authenticator.result
+    c.args.out.now.items
     c.forward_reserved.new.out.items c.secret_of_requester-from_secret.result.now
     c.secret_of_link-to_secret.result.now c.of_packet-request.result
     (record { octets = c.forward_reserved.ensures.octets }) c.requires.room.empty
-    c.drawn_at-authenticator.ensures c.secret_of_requester-from_secret.ensures.text c.secret_of_link-to_secret.ensures.text read in
-    let waits = IsWaiting-forwarded config q c.args.position c.args.hop.ticket target c.requires.request c.requires.link in
+    c.drawn_at-authenticator.ensures c.secret_of_requester-from_secret.ensures.text
+    c.secret_of_link-to_secret.ensures.text read in
+    let waits = IsWaiting-forwarded config q c.args.position c.args.hop.ticket target c.requires.request
+    c.requires.link in
     subst (IsWaiting config q c.args.hop.link c.args.id) (sym written) (waits (omega arith))
 
 -- and it has the forwarded packet's length
@@ -40,10 +43,12 @@ returns-clause-size g c =
     let read : c.of_packet-request.result ≡ packet_of q.octets = c.of_packet-request.ensures in
     let written : c.forward_reserved.new.out.items
     ≡ forwarded_octets config q c.args.position c.args.hop.ticket target =
-    octets-written config q c.args.position c.args.hop.ticket target c.drawn_at-authenticator.result c.args.out.now.items
+    octets-written config q c.args.position c.args.hop.ticket target c.drawn_at-authenticator.result
+    c.args.out.now.items
     c.forward_reserved.new.out.items c.secret_of_requester-from_secret.result.now
     c.secret_of_link-to_secret.result.now c.of_packet-request.result
     (record { octets = c.forward_reserved.ensures.octets }) c.requires.room.empty
-    c.drawn_at-authenticator.ensures c.secret_of_requester-from_secret.ensures.text c.secret_of_link-to_secret.ensures.text read in
+    c.drawn_at-authenticator.ensures c.secret_of_requester-from_secret.ensures.text
+    c.secret_of_link-to_secret.ensures.text read in
     let foretold = length-forwarded_octets config q c.args.position c.args.hop.ticket target c.requires.request in
     ap length written ∙ foretold (omega arith)

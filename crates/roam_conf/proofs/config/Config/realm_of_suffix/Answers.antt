@@ -5,4 +5,5 @@ use Rattle.roam_conf.proofs.config.Config.realm_of_suffix.Goals as goal
 
 pub returns : goal.returns
 returns c = λ name is.
-    c.owner_of.ensures ∙ found_in c.args.self.now.realms.items (suffix name) c.args.key.now _ c.args.self.now.names_noted is
+    c.owner_of.ensures ∙ found_in c.args.self.now.realms.items (suffix name) c.args.key.now _
+    c.args.self.now.names_noted is

@@ -9,4 +9,5 @@ returns-then-name-gt253 c =
 
 pub returns : goal.returns
 returns c =
-    c.realm_of.ensures ∙ found_in c.args.self.now.realms.items (pattern_seen c.args.pattern) _ _ c.args.self.now.names_noted c.kind_and_name-kind.ensures
+    c.realm_of.ensures ∙ found_in c.args.self.now.realms.items (pattern_seen c.args.pattern) _ _
+    c.args.self.now.names_noted c.kind_and_name-kind.ensures

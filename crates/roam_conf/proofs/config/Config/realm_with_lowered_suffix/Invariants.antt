@@ -7,4 +7,5 @@ use Rattle.roam_conf.proofs.config.Config.realm_with_lowered_suffix.Given as goa
 -- the answer is that of the dots that are left
 abbrev pub invariant-loop-i : goal.invariant-loop-i
 invariant-loop-i l =
-    first_answer (λ name. realm_with (shown l.self).realms (suffix name)) (after_dots (drop l.i l.text)) ≡ first_answer (λ name. realm_with (shown l.fn.self).realms (suffix name)) (after_dots l.fn.text)
+    first_answer (λ name. realm_with (shown l.self).realms (suffix name)) (after_dots (drop l.i l.text))
+    ≡ first_answer (λ name. realm_with (shown l.fn.self).realms (suffix name)) (after_dots l.fn.text)

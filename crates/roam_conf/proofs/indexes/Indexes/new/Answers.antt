@@ -9,5 +9,7 @@ pub returns-clause-names : goal.returns-clause-names
 returns-clause-names c =
     let realms = map shown_realm c.args.realms.now in
     let empty = ap (map entry_shown) c.new-names.ensures.empty in
-    let is_new : c.in_ok-note_realms.field-0 ≡ true = first_noted realms _ c.in_ok-note_realms.field-0 empty c.in_ok-note_realms.ensures.new ∙ ap not c.requires.distinct in
+    let is_new : c.in_ok-note_realms.field-0 ≡ true =
+    first_noted realms _ c.in_ok-note_realms.field-0 empty c.in_ok-note_realms.ensures.new
+    ∙ ap not c.requires.distinct in
     c.in_ok-note_realms.ensures.noted is_new ∙ ap (λ l. l ++ all_patterns 0 realms) empty
