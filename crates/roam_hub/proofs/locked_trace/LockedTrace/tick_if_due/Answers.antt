@@ -75,7 +75,7 @@ returns-in_ok-answered-in-Some-clause-tick g c =
             ↔ NothingDue now t) end c.has_due-is_more.ensures;
       };
       seen = c.in_ok-answered-in-Some.ensures.seen;
-      times = c.tick.ensures.times;
+      times = c.in_ok-answered-in-Some.ensures.times;
       err = tt;
       full = λ is. absurd (let bad : Ok _ ≡ Err _ = is in cc);
     }
