@@ -94,20 +94,26 @@ fn tell_start<R: Wait + Clock + Log, G, N: Opened>(
     shared: &Shared<'_, '_, G, N>,
     handover: Handover,
 ) {
-    let Handover { reply, before } = handover;
+    let Handover {
+        reply,
+        before,
+        is_awaited,
+    } = handover;
     tell_or_drop(rt, shared.config, serving(shared.config));
     drop(before);
     if let Some(reply) = reply {
         let office = shared.office;
         tell_reload(rt, reload_end(reply.course), reply.body.as_slice());
         office.count_reload(reply.course, now(rt, office.start, 0));
-        office.control.answer(rt, reply);
+        if is_awaited {
+            office.control.answer(rt, reply);
+        }
     }
 }
 
 /// Where all threads have started, tells that the configuration is served, and answers who asks for something until
 /// they end or another one is to follow.
-fn attend<R: Wait + Clock + Net + Log, G, N: Opened, S: Source>(
+fn attend<R: Threads + Wait + Clock + Net + Log + Sync, G, N: Opened, S: Source>(
     have_started: bool,
     attendant: &mut Attendant<'_, '_, R, G, N>,
     handover: Handover,
