@@ -97,7 +97,8 @@ module _ (c : RealmConfig) (K : List Rest → Type 0)
   judge-keeps now s e l forwarded reply (Some why) k = k
   judge-keeps now s e l forwarded reply None k =
       either (After K s)
-      (ltb 4096 (returned_length (returning c e.request l forwarded) (passing_to c e.request reply) (packet_of e.request.octets)))
+      (ltb 4096 (returned_length (returning c e.request l forwarded) (passing_to c e.request reply)
+      (packet_of e.request.octets)))
       _ _ k (answered s.rests l k)
 
   to_standing-keeps : (now : ℕ) (s : RealmState) (e : PlainEntry) (reply : Packet) (p : PlainStanding)

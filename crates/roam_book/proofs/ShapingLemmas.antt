@@ -116,7 +116,8 @@ home-without removed p packet h =
     CanBeShaped-shorter (record no_shaping { removed = removed }) p refl (reverse-is_no_access p.code h.code) packet
     h.can_be_forwarded
 
-home-shaped : (c : RealmConfig) (p : Packet) (l : Link) → IsPacket p → IsOfHome p → CanBeShaped (shaping_to c p.code l) p
+home-shaped : (c : RealmConfig) (p : Packet) (l : Link) → IsPacket p → IsOfHome p →
+    CanBeShaped (shaping_to c p.code l) p
 home-shaped c p (link.Auth server) packet h = home-without [] p packet h
 home-shaped c p (link.Acct server) packet h = home-without [] p packet h
 home-shaped c p (link.Coa peer) packet h =

@@ -86,7 +86,8 @@ one-alone (suc m) b q within =
           )
       | inr other ↦
           let here : one_if (b == m && q) ≡ 0 = rw other refl in
-          let below : b < m = let ne : b ≢ m = (λ is. absurd (true≢false (sym (same b m is) ∙ other))) in omega (arith, within, ne) in
+          let below : b < m = let ne : b ≢ m = (λ is. absurd (true≢false (sym (same b m is) ∙ other))) in
+          omega (arith, within, ne) in
           omega (arith, sum-suc m (λ j. one_if (b == j && q)), here, one-alone m b q below)
     ]
 

@@ -250,7 +250,8 @@ module _ (c : RealmConfig) (l : Link) where
   judge-wakes now s e k forwarded reply (Some why) is = refuses-wakes s why
   judge-wakes now s e k forwarded reply None is =
       either (Wakes s)
-      (ltb 4096 (returned_length (returning c e.request k forwarded) (passing_to c e.request reply) (packet_of e.request.octets)))
+      (ltb 4096 (returned_length (returning c e.request k forwarded) (passing_to c e.request reply)
+      (packet_of e.request.octets)))
       _ _ (refuses-wakes s refusal.ReplyTooLong) (λ taken. woken-at s.rests k is)
 
   standing-wakes : (now : ℕ) (s : RealmState) (e : PlainEntry) (from : Link) (id : ℕ) (reply : Packet)
@@ -363,7 +364,10 @@ module _ (c : RealmConfig) (l : Link) where
               | inl going ↦ (
                   let first = silent.0 in
                   let rest = going.0 in
-                  inl (omega (arith, first, rest), more c (n + count + others) (n + (count + others)) left (omega arith) going.1)
+                  inl (
+                    omega (arith, first, rest),
+                    more c (n + count + others) (n + (count + others)) left (omega arith) going.1,
+                  )
                   )
               | inr since ↦ inr (later s e es since)
             ]
@@ -400,7 +404,8 @@ rests-only_when_silent c s l events now wakes stands =
         since = silent.since;
         all = silent.all;
         no_reply = silent.no_reply;
-        given_up = enough c (given_up_over c (one_realm_run c s silent.before).state l silent.since) now left silent.tells stands;
+        given_up = enough c (given_up_over c (one_realm_run c s silent.before).state l silent.since) now left
+            silent.tells stands;
       }
     ]
 

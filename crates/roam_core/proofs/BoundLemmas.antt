@@ -155,7 +155,8 @@ judge-few : (c : RealmConfig) (now : ℕ) (s : RealmState) (e : PlainEntry) (l :
     (why : Option Refusal) → Few (judge c now s e l forwarded reply why)
 judge-few c now s e l forwarded reply (Some why) = omega arith
 judge-few c now s e l forwarded reply None =
-    either Few (ltb 4096 (returned_length (returning c e.request l forwarded) (passing_to c e.request reply) (packet_of e.request.octets))) _ _
+    either Few (ltb 4096 (returned_length (returning c e.request l forwarded) (passing_to c e.request reply)
+    (packet_of e.request.octets))) _ _
     (omega arith) (omega arith)
 
 to_standing-few : (c : RealmConfig) (now : ℕ) (s : RealmState) (e : PlainEntry) (reply : Packet)

@@ -115,7 +115,8 @@ module _ (c : RealmConfig) (Kept : List PlainEntry → Type 0) (Good : PlainEntr
   judge-keeps now s e l forwarded reply None old done_good =
       let octets = returned_octets c e.request l forwarded reply in
       either (Keeps s)
-      (ltb 4096 (returned_length (returning c e.request l forwarded) (passing_to c e.request reply) (packet_of e.request.octets))) _ _
+      (ltb 4096 (returned_length (returning c e.request l forwarded) (passing_to c e.request reply)
+      (packet_of e.request.octets))) _ _
       old (more (with_standing (done octets (now + c.realm.hold)) e) s.entries (done_good e octets) old)
 
   to_standing-keeps :

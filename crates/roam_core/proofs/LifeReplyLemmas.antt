@@ -102,7 +102,8 @@ module _ (b : Stage) (before : List Happening) (at : Stage) (is_at : stage_then 
       let happened = reply_came now from reply in
       let octets = returned_octets at.config e.request from (packet_of forwarded) (packet_of reply) in
       let how = returning at.config e.request from (packet_of forwarded) in
-      let length = returned_length how (passing_to at.config e.request (packet_of reply)) (packet_of e.request.octets) in
+      let length = returned_length how (passing_to at.config e.request (packet_of reply))
+      (packet_of e.request.octets) in
       let settled = with_standing (done octets (now + at.config.realm.hold)) e in
       elim (cases_Bool (ltb 4096 length)) [
         | inl y ↦ rw y (record { packets = tt; entries = still })

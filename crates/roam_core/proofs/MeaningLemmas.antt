@@ -146,12 +146,14 @@ module _ (realm now : ℕ) where
 
   accounted-given : (config : ConfigView) (secret : List ℕ) (a : Arrival) (s : Side) (p : Packet) (named : Option ℕ) →
       gives (accounted config secret a s p named)
-      ≡ where_accounted (takes_of config realm s) (accounting_in config realm) (sent_length config s p realm) secret a s p
+      ≡ where_accounted (takes_of config realm s) (accounting_in config realm) (sent_length config s p realm) secret
+      a s p
       (is_realm realm named)
   accounted-given config secret a s p None = refl
   accounted-given config secret a s p (Some k) =
       let at_realm : Bool → List RealmEvent =
-      where_accounted (takes_of config realm s) (accounting_in config realm) (sent_length config s p realm) secret a s p in
+      where_accounted (takes_of config realm s) (accounting_in config realm) (sent_length config s p realm) secret a
+      s p in
       elim (cases_Bool (k == realm)) [
         | inl yes' ↦ (
             let here : k ≡ realm = (Decides-eqb k realm).0 yes' in
@@ -174,11 +176,13 @@ module _ (realm now : ℕ) where
   acct-given : (config : ConfigView) (secret : List ℕ) (a : Arrival) (s : Side) (p : Packet) →
       gives (if is_answered_unnamed config p then answered_by a (accounting_answer secret p)
       else accounted config secret a s p (realm_of config p.attributes))
-      ≡ where_accounted (takes_of config realm s) (accounting_in config realm) (sent_length config s p realm) secret a s p
+      ≡ where_accounted (takes_of config realm s) (accounting_in config realm) (sent_length config s p realm) secret
+      a s p
       (is_realm realm (realm_of config p.attributes))
   acct-given config secret a s p =
       let at_realm : Bool → List RealmEvent =
-      where_accounted (takes_of config realm s) (accounting_in config realm) (sent_length config s p realm) secret a s p in
+      where_accounted (takes_of config realm s) (accounting_in config realm) (sent_length config s p realm) secret a
+      s p in
       elim (cases_Bool (is_answered_unnamed config p)) [
         | inl yes' ↦ (
             let unnamed = second-true config.answer_unnamed (is_unnamed p.attributes) yes' in

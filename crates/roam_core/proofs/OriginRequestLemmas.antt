@@ -162,7 +162,8 @@ module _ (c : RealmConfig) (start : Start) (before : List RealmEvent) (now : ℕ
       elim (cases_Bool (eqb s.ticket (2 ^ 63))) [
         | inl y ↦ rw y (record { packets = tt; entries = kept })
         | inr n ↦ (
-            let past : turn ≡ (if share_taken c es q then refuses refusal.ShareTaken else at_target c now s es q target) =
+            let past : turn ≡ (if share_taken c es q then refuses refusal.ShareTaken else at_target c now s es q
+            target) =
             rw n at is in
             elim (cases_Bool (share_taken c es q)) [
               | inl taken ↦ rw (n, taken) (record { packets = tt; entries = kept })

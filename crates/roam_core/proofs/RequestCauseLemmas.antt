@@ -164,7 +164,8 @@ module _ (c : RealmConfig) (ends : Ends) (looked : ℕ → Bool) (tries : 1 ≤ 
       let sent = ap (guard b) (back_of c ends looked tries e.request.key back_octets) in
       let enough = more b (counted_back ends e.request.key) might (omega (arith, old)) in
       either (Answers s (Some e))
-      (ltb 4096 (returned_length (returning c e.request l forwarded) (passing_to c e.request reply) (packet_of e.request.octets))) _ _
+      (ltb 4096 (returned_length (returning c e.request l forwarded) (passing_to c e.request reply)
+      (packet_of e.request.octets))) _ _
       (refuses-answers s (Some e) refusal.ReplyTooLong) (omega (arith, replaced, sent, enough, nothing b))
 
   judge-answers :
