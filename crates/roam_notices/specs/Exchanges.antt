@@ -1,8 +1,6 @@
 -- The line of an exchange that ended. Ours.
-use Rattle.std.specs.Prelude.{ℕ, ◌+◌, ◌==◌, ◌&&◌, ◌/◌, ◌%◌, Bool, true, false, not, nat_le, nat_lt, min, take, List, [], ◌∷◌, ◌++◌, Option, Some, None, option_map, if◌then◌else◌, codes, slice_get, slice_index}
-use Rattle.std.specs.Borrow.{Bor}
+use Rattle.std.specs.Prelude.{ℕ, ◌==◌, Bool, true, false, List, [], ◌++◌, Option, Some, None, option_map, if◌then◌else◌, codes, slice_get, slice_index}
 use Rattle.std.specs.Fmt.{decimal}
-use Rattle.std.specs.List.{flat_map}
 use Rattle.roam_conf.specs.Config.{ConfigView, PeerView, RealmView}
 use Rattle.roam_conf.specs.declared.endpoint.Endpoint.{Endpoint}
 use Rattle.roam_conf.specs.declared.exchange_lines.ExchangeLines.{ExchangeLines}
@@ -14,13 +12,14 @@ use Rattle.roam_notices.specs.declared.exchange.ExchangeEnd.{ExchangeEnd}
 use Rattle.roam_notices.specs.declared.exchange.ExchangeEnd.TheVariants as outcome
 use Rattle.roam_notices.specs.declared.exchange.RejectCause.{RejectCause}
 use Rattle.roam_notices.specs.declared.exchange.RejectCause.TheVariants as cause
-use Rattle.roam_notices.specs.declared.exchange.Value.{Value}
+use Rattle.roam_notices.specs.Details.{details_text}
+use Rattle.roam_notices.specs.Values.{octets_if, value_text}
 
 -- ## Line of an exchange
 -- How it ended, by the code of what was returned; what was asked; the realm's and the peer's name, User-Name
 -- and Calling-Station-Id between quotation marks, each octet that isn't printable in ASCII, a quotation mark or
--- a reverse solidus written by two hexadecimal digits; the home server; milliseconds; tries. What is written of
--- a value is printable, and reads back as that value.
+-- a reverse solidus written by two hexadecimal digits; the home server; milliseconds; tries; and its details. What is
+-- written of a value is printable, and reads back as that value.
 -- Source: ours; RFC 20 (printable)
 -- Rules out: a User-Name that forges a line or ends its value
 -- Stands in: `roam_notices` `Exchanges.antt`: `outcome_of`, `asked_of`, `exchange_text`; `Printable.antt`:
@@ -67,41 +66,6 @@ asked_of code =
     else if code == 40 then asked.Disconnect
     else if code == 43 then asked.Coa
     else asked.Other
-
--- the octets of a value
-abbrev pub octets_of : Value → List ℕ
-octets_of value = take (min value.len 253) value.octets
-
-abbrev pub octets_if : Option Value → Option (List ℕ)
-octets_if value = option_map octets_of value
-
-abbrev pub shown_octets : Bor (List ℕ) → List ℕ
-shown_octets octets = octets.now
-
-abbrev pub shown_value : Option (Bor (List ℕ)) → Option (List ℕ)
-shown_value value = option_map shown_octets value
-
--- a hexadecimal digit, in lower case: 48 is `0`, and 97 is `a`
-abbrev pub digit : ℕ → ℕ
-digit number = if nat_lt number 10 then 48 + number else 87 + number
-
--- printable in ASCII, but neither the quotation mark (34) nor the reverse solidus (92)
-abbrev pub is_plain : ℕ → Bool
-is_plain octet = nat_le 32 octet && nat_le octet 126 && not (octet == 34) && not (octet == 92)
-
--- an octet of a value: any other is a reverse solidus, an `x` (120) and two digits
-abbrev pub quoted_octet : ℕ → List ℕ
-quoted_octet octet =
-    if is_plain octet then octet ∷ []
-    else 92 ∷ 120 ∷ digit (octet / 16) ∷ digit (octet % 16) ∷ []
-
-abbrev pub quoted_octets : List ℕ → List ℕ
-quoted_octets value = flat_map quoted_octet value
-
--- a key, and a value between quotation marks, or a hyphen
-abbrev pub value_text : List ℕ → Option (List ℕ) → List ℕ
-value_text key None = key ++ codes "-"
-value_text key (Some value) = key ++ codes "\"" ++ quoted_octets value ++ codes "\""
 
 abbrev pub address_text : List ℕ → List ℕ
 address_text ip =
@@ -163,10 +127,11 @@ abbrev pub why_text : Option RejectCause → List ℕ
 why_text None = []
 why_text (Some cause) = codes " why=" ++ cause_word cause
 
-abbrev pub like_text : Exchange → List ℕ
-like_text exchange = why_text exchange.why ++ times_text exchange.times
+abbrev pub more_text : Exchange → List ℕ
+more_text exchange = why_text exchange.why ++ times_text exchange.times ++ details_text exchange.details
 
--- for whom it was, where it went, how long it took, and, where that is said, why it was rejected and how many were so
+-- for whom it was, where it went, how long it took; and each where it is said why it was rejected, how many were so, and
+-- its details
 abbrev pub rest_text : Exchange → List ℕ
 rest_text exchange =
     value_text (codes " user=") (octets_if exchange.user) ++
@@ -174,7 +139,7 @@ rest_text exchange =
     server_text exchange.server ++
     codes " ms=" ++ decimal exchange.milliseconds ++
     codes " tries=" ++ decimal exchange.tries ++
-    like_text exchange
+    more_text exchange
 
 -- the line
 abbrev pub exchange_text : ConfigView → Exchange → List ℕ
