@@ -1,4 +1,4 @@
--- What else a line of an exchange tells: where the request comes from, of which session it is, and who is charged. Ours.
+-- What else a line of an exchange tells: where the request comes from, its session, and who is charged. Ours.
 use Rattle.std.specs.Prelude.{◌≡◌, ℕ, ◌==◌, List, [], ◌++◌, Option, Some, None, option_map, if◌then◌else◌, codes}
 use Rattle.std.specs.Borrow.{Bor}
 use Rattle.std.specs.Fmt.{decimal}

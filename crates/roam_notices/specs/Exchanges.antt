@@ -127,11 +127,11 @@ abbrev pub why_text : Option RejectCause → List ℕ
 why_text None = []
 why_text (Some cause) = codes " why=" ++ cause_word cause
 
+-- where that is said, why it was rejected, how many were so, and its details
 abbrev pub more_text : Exchange → List ℕ
 more_text exchange = why_text exchange.why ++ times_text exchange.times ++ details_text exchange.details
 
--- for whom it was, where it went, how long it took; and each where it is said why it was rejected, how many were so, and
--- its details
+-- for whom it was, where it went, how long it took, and what else is said
 abbrev pub rest_text : Exchange → List ℕ
 rest_text exchange =
     value_text (codes " user=") (octets_if exchange.user) ++

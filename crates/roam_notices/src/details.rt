@@ -1,7 +1,6 @@
 //! What else a line of an exchange tells: where the request comes from, of which session it is, and who is charged.
 
 ghost use Rattle.std.specs.Prelude.{◌≡◌, ◌↔◌, ◌++◌, None, IsTrue, OnOk};
-ghost use Rattle.std.specs.Fmt.{decimal};
 ghost use Rattle.roam_notices.specs.Details as spec;
 ghost use Rattle.roam_notices.specs.Values.{octets_if};
 

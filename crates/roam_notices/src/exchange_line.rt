@@ -4,7 +4,7 @@ ghost use Rattle.std.specs.Prelude.{◌≡◌, ◌++◌, ◌<◌, OnOk};
 ghost use Rattle.std.specs.Fmt.{decimal};
 ghost use Rattle.roam_conf.specs.Shown.{shown};
 ghost use Rattle.roam_notices.specs.Exchanges as spec;
-ghost use Rattle.roam_notices.specs.Values as values;
+ghost use Rattle.roam_notices.specs.Values.{digit, is_plain, octets_if, quoted_octet, quoted_octets, shown_value, value_text};
 
 use crate::details::push_details;
 use crate::exchange::{Exchange, ExchangeEnd, RejectCause, RequestWord, Value};
@@ -22,7 +22,7 @@ pub(crate) fn push(line: &mut Vec<u8>, octets: &[u8]) -> Result<(), AllocError>
 /// A hexadecimal digit, in lower case.
 fn digit(number: u8) -> u8
     requires { number < 16 }
-    ensures { result ≡ values.digit number }
+    ensures { result ≡ digit number }
 {
     if number < 10 {
         b'0' + number
@@ -34,14 +34,14 @@ fn digit(number: u8) -> u8
 /// Whether an octet stands as itself between quotation marks: it is printable in ASCII, and neither a quotation mark
 /// nor a reverse solidus.
 fn is_plain(octet: u8) -> bool
-    ensures { result ≡ values.is_plain octet }
+    ensures { result ≡ is_plain octet }
 {
     octet >= 32 && octet <= 126 && octet != b'"' && octet != b'\\'
 }
 
 /// Adds an octet of a value.
 fn push_octet(line: &mut Vec<u8>, octet: u8) -> Result<(), AllocError>
-    ensures { OnOk result (line.new.items ≡ line.old.items ++ values.quoted_octet octet) }
+    ensures { OnOk result (line.new.items ≡ line.old.items ++ quoted_octet octet) }
 {
     if is_plain(octet) {
         push(line, &[octet])
@@ -52,7 +52,7 @@ fn push_octet(line: &mut Vec<u8>, octet: u8) -> Result<(), AllocError>
 
 /// Adds a value's octets.
 fn push_octets(line: &mut Vec<u8>, value: &[u8]) -> Result<(), AllocError>
-    ensures { OnOk result (line.new.items ≡ line.old.items ++ values.quoted_octets value.now) }
+    ensures { OnOk result (line.new.items ≡ line.old.items ++ quoted_octets value.now) }
 {
     for octet in value {
         push_octet(line, *octet)?;
@@ -66,7 +66,7 @@ pub(crate) fn push_value(
     key: &str,
     value: Option<&[u8]>,
 ) -> Result<(), AllocError>
-    ensures { OnOk result (line.new.items ≡ line.old.items ++ values.value_text key.now (values.shown_value value.entry)) }
+    ensures { OnOk result (line.new.items ≡ line.old.items ++ value_text key.now (shown_value value.entry)) }
 {
     push(line, key.as_bytes())?;
     let Some(value) = value else {
@@ -141,7 +141,7 @@ fn asked_word(asked: RequestWord) -> &'static str
 
 /// The name of the realm of this index; none where there is none.
 fn realm_name(config: &Config, realm: Option<u16>) -> Option<&[u8]>
-    ensures { values.shown_value result ≡ spec.realm_name (shown config.now).realms realm }
+    ensures { shown_value result ≡ spec.realm_name (shown config.now).realms realm }
 {
     match config.realms.get(usize::from(realm?)) {
         Some(realm) => Some(realm.name.as_str().as_bytes()),
@@ -151,7 +151,7 @@ fn realm_name(config: &Config, realm: Option<u16>) -> Option<&[u8]>
 
 /// The name of the peer of this index; none where there is none.
 fn peer_name(config: &Config, peer: Option<u16>) -> Option<&[u8]>
-    ensures { values.shown_value result ≡ spec.peer_name (shown config.now).peers peer }
+    ensures { shown_value result ≡ spec.peer_name (shown config.now).peers peer }
 {
     match config.peers.get(usize::from(peer?)) {
         Some(peer) => Some(peer.name.as_str().as_bytes()),
@@ -161,7 +161,7 @@ fn peer_name(config: &Config, peer: Option<u16>) -> Option<&[u8]>
 
 /// The octets of a value, if there is one.
 pub(crate) fn octets_of(value: &Option<Value>) -> Option<&[u8]>
-    ensures { values.shown_value result ≡ values.octets_if value.now }
+    ensures { shown_value result ≡ octets_if value.now }
 {
     match value {
         Some(value) => Some(value.octets()),

@@ -88,7 +88,7 @@ impl<G: Gate, N: Opened> WorkerContext<'_, '_, G, N> {
         }
     }
 
-    /// Tells a request that was noted, and that ended with this reply or with none, where lines tell of those that end so.
+    /// Tells a request that was noted, and that ended with this reply or none, where lines tell of those that end so.
     fn tell_past(&mut self, past: Past, outcome: ExchangeEnd, reply: &[u8])
         ensures kept { (self.new.seat ≡ self.old.seat) × (self.new.datagrams ≡ self.old.datagrams)
             × (self.new.now ≡ self.old.now) }
