@@ -43,7 +43,7 @@ pub(crate) const REALM_OPTIONAL_KEYS: [&str; 9] = [
 pub(crate) const TOP_KEYS: [&str; 4] = ["auth", "acct", "peer", "realm"];
 
 /// The keys that the document itself may have besides.
-pub(crate) const TOP_OPTIONAL_KEYS: [&str; 10] = [
+pub(crate) const TOP_OPTIONAL_KEYS: [&str; 11] = [
     "shards",
     "seed",
     "trace_limit",
@@ -54,6 +54,7 @@ pub(crate) const TOP_OPTIONAL_KEYS: [&str; 10] = [
     "metrics",
     "control",
     "log_exchanges",
+    "log_station",
 ];
 
 fn is_one_of(keys: &[&str], key: &str) -> bool

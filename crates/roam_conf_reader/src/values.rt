@@ -9,6 +9,7 @@ ghost use Rattle.toml.specs.View.{view, table_view, array_view};
 ghost use Rattle.roam_conf_reader.specs.Values as spec;
 ghost use Rattle.roam_conf_reader.specs.Values.{letters_of, text_fits};
 
+use crate::station_word::StationWord;
 use hex::FromHex;
 use roam_conf::{Endpoint, ExchangeLines, address};
 use toml::value::Array;
@@ -132,6 +133,31 @@ pub(crate) fn exchange_lines_of(value: &Value) -> Option<ExchangeLines>
         Value::Boolean(true) => Some(ExchangeLines::OfAll),
         Value::Boolean(false) => Some(ExchangeLines::OfNone),
         Value::String(text) => exchange_lines_in(text.as_str()),
+        _ => None,
+    }
+}
+
+/// How lines have a station, by a text.
+#[tactic(auto, unfolding(crate::specs::Values::station_word_in))]
+fn station_word_in(text: &str) -> Option<StationWord>
+    ensures { result ≡ spec.station_word_in text.now }
+{
+    if text == "clear" {
+        return Some(StationWord::Clear);
+    }
+    if text == "hmac" {
+        return Some(StationWord::Hmac);
+    }
+    None
+}
+
+/// How lines have a station: one of two texts.
+#[tactic(auto, unfolding(crate::specs::Values::station_word))]
+pub(crate) fn station_word_of(value: &Value) -> Option<StationWord>
+    ensures { result ≡ spec.station_word (Some (view value.now)) }
+{
+    match value {
+        Value::String(text) => station_word_in(text.as_str()),
         _ => None,
     }
 }

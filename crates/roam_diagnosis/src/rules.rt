@@ -7,7 +7,7 @@ use crate::place::TableKind;
 #[derive(Clone, Copy)]
 pub(crate) struct Rule(pub &'static str, pub bool, pub ValueForm);
 
-const TOP: [Rule; 14] = [
+const TOP: [Rule; 15] = [
     Rule("shards", false, ValueForm::Number(1, 64)),
     Rule("seed", false, ValueForm::Seed),
     Rule("auth", true, ValueForm::Endpoint),
@@ -20,6 +20,7 @@ const TOP: [Rule; 14] = [
     Rule("metrics", false, ValueForm::Endpoint),
     Rule("control", false, ValueForm::SocketPath),
     Rule("log_exchanges", false, ValueForm::ExchangeLines),
+    Rule("log_station", false, ValueForm::StationWord),
     Rule("peer", true, ValueForm::Tables(1024)),
     Rule("realm", true, ValueForm::Tables(1024)),
 ];

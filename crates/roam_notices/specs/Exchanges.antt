@@ -13,15 +13,18 @@ use Rattle.roam_notices.specs.declared.exchange.ExchangeEnd.TheVariants as outco
 use Rattle.roam_notices.specs.declared.exchange.RejectCause.{RejectCause}
 use Rattle.roam_notices.specs.declared.exchange.RejectCause.TheVariants as cause
 use Rattle.roam_notices.specs.Details.{details_text}
-use Rattle.roam_notices.specs.Values.{octets_if, value_text}
+use Rattle.roam_notices.specs.Values.{digits_text, octets_if, value_text}
+use Rattle.roam_stations.specs.Hashes.{hash_of}
+use Rattle.roam_stations.specs.declared.form.StationForm.{StationForm}
+use Rattle.roam_stations.specs.declared.form.StationForm.TheVariants as form
 
 -- ## Line of an exchange
 -- How it ended, by the code of what was returned; what was asked; the realm's and the peer's name, User-Name
 -- and Calling-Station-Id between quotation marks, each octet that isn't printable in ASCII, a quotation mark or
 -- a reverse solidus written by two hexadecimal digits; the home server; milliseconds; tries; and its details. What is
--- written of a value is printable, and reads back as that value.
+-- written of a value is printable, and reads back as that value. In place of a station its hash may stand, in 16 digits.
 -- Source: ours; RFC 20 (printable)
--- Rules out: a User-Name that forges a line or ends its value
+-- Rules out: a User-Name that forges a line or ends its value; a station in clear where its hash is wanted
 -- Stands in: `roam_notices` `Exchanges.antt`: `outcome_of`, `asked_of`, `exchange_text`; `Printable.antt`:
 -- `ValuesArePrintable`; `Quoted.antt`: `Reads`, `ReadsBack`; `push_exchange`, the laws `values_are_printable`,
 -- `values_read_back`
@@ -66,6 +69,13 @@ asked_of code =
     else if code == 40 then asked.Disconnect
     else if code == 43 then asked.Coa
     else asked.Other
+
+-- the station as it stands, or its hash, or that it isn't told: these have no quotation marks, so that no station looks
+-- like one
+abbrev pub station_text : StationForm → Option (List ℕ) → List ℕ
+station_text (form.Hashed key) (Some station) = codes " station=hmac:" ++ digits_text (hash_of key.block station)
+station_text form.Hidden (Some station) = codes " station=hidden"
+station_text _ station = value_text (codes " station=") station
 
 abbrev pub address_text : List ℕ → List ℕ
 address_text ip =
@@ -132,15 +142,15 @@ abbrev pub more_text : Exchange → List ℕ
 more_text exchange = why_text exchange.why ++ times_text exchange.times ++ details_text exchange.details
 
 -- for whom it was, where it went, how long it took, and what else is said
-abbrev pub rest_text : Exchange → List ℕ
-rest_text exchange =
+abbrev pub rest_text : StationForm → Exchange → List ℕ
+rest_text form exchange =
     value_text (codes " user=") (octets_if exchange.user) ++
-    value_text (codes " station=") (octets_if exchange.station) ++
+    station_text form (octets_if exchange.station) ++
     server_text exchange.server ++
     codes " ms=" ++ decimal exchange.milliseconds ++
     codes " tries=" ++ decimal exchange.tries ++
     more_text exchange
 
 -- the line
-abbrev pub exchange_text : ConfigView → Exchange → List ℕ
-exchange_text config exchange = who_text config exchange ++ rest_text exchange
+abbrev pub exchange_text : ConfigView → StationForm → Exchange → List ℕ
+exchange_text config form exchange = who_text config exchange ++ rest_text form exchange

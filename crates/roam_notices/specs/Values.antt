@@ -31,6 +31,13 @@ quoted_octet octet =
     if is_plain octet then octet ∷ []
     else 92 ∷ 120 ∷ digit (octet / 16) ∷ digit (octet % 16) ∷ []
 
+-- octets by two digits each
+abbrev pub digits_of_octet : ℕ → List ℕ
+digits_of_octet octet = digit (octet / 16) ∷ digit (octet % 16) ∷ []
+
+abbrev pub digits_text : List ℕ → List ℕ
+digits_text octets = flat_map digits_of_octet octets
+
 abbrev pub quoted_octets : List ℕ → List ℕ
 quoted_octets value = flat_map quoted_octet value
 

@@ -8,8 +8,10 @@ ghost use Rattle.roam_notices.specs.Values.{digit, is_plain, octets_if, quoted_o
 
 use crate::details::push_details;
 use crate::exchange::{Exchange, ExchangeEnd, RejectCause, RequestWord, Value};
+use crate::station_text::push_station;
 use itoa::Buffer;
 use roam_conf::{Config, Endpoint};
+use roam_stations::StationForm;
 use std::alloc::AllocError;
 
 /// Adds octets to a line.
@@ -20,7 +22,7 @@ pub(crate) fn push(line: &mut Vec<u8>, octets: &[u8]) -> Result<(), AllocError>
 }
 
 /// A hexadecimal digit, in lower case.
-fn digit(number: u8) -> u8
+pub(crate) fn digit(number: u8) -> u8
     requires { number < 16 }
     ensures { result ≡ digit number }
 {
@@ -226,19 +228,24 @@ fn push_more(line: &mut Vec<u8>, exchange: &Exchange) -> Result<(), AllocError>
 }
 
 /// Adds for whom it was, where it went, how long it took, and what `push_more` adds.
-fn push_rest(line: &mut Vec<u8>, exchange: &Exchange) -> Result<(), AllocError>
-    ensures { OnOk result (line.new.items ≡ line.old.items ++ spec.rest_text exchange.now) }
+fn push_rest(
+    line: &mut Vec<u8>,
+    stations: &StationForm,
+    exchange: &Exchange,
+) -> Result<(), AllocError>
+    ensures { OnOk result (line.new.items
+        ≡ line.old.items ++ spec.rest_text stations.now exchange.now) }
 {
     push_value(line, " user=", octets_of(&exchange.user))?;
-    push_value(line, " station=", octets_of(&exchange.station))?;
+    push_station(line, stations, &exchange.station)?;
     push_server(line, exchange.server)?;
     push_number(line, " ms=", exchange.milliseconds)?;
     push_number(line, " tries=", u64::from(exchange.tries))?;
     push_more(line, exchange)
 }
 
-/// Adds the line of an exchange: no octet stands in it that isn't printable in ASCII, and each value that isn't the
-/// configuration's reads back.
+/// Adds the line of an exchange, with its station in this form: no octet stands in it that isn't printable in ASCII, and
+/// each value that isn't the configuration's reads back.
 ///
 /// # Errors
 ///
@@ -246,11 +253,12 @@ fn push_rest(line: &mut Vec<u8>, exchange: &Exchange) -> Result<(), AllocError>
 pub fn push_exchange(
     line: &mut Vec<u8>,
     config: &Config,
+    stations: &StationForm,
     exchange: &Exchange,
 ) -> Result<(), AllocError>
     ensures { OnOk result (line.new.items
-        ≡ line.old.items ++ spec.exchange_text (shown config.now) exchange.now) }
+        ≡ line.old.items ++ spec.exchange_text (shown config.now) stations.now exchange.now) }
 {
     push_who(line, config, exchange)?;
-    push_rest(line, exchange)
+    push_rest(line, stations, exchange)
 }

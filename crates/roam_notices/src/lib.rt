@@ -27,6 +27,7 @@ mod reload_text;
 mod repeats;
 mod row;
 mod sender;
+mod station_text;
 mod tally;
 mod text;
 
