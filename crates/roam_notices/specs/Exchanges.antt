@@ -22,7 +22,7 @@ use Rattle.roam_stations.specs.declared.form.StationForm.TheVariants as form
 -- How it ended, by the code of what was returned; what was asked; the realm's and the peer's name, User-Name
 -- and Calling-Station-Id between quotation marks, each octet that isn't printable in ASCII, a quotation mark or
 -- a reverse solidus written by two hexadecimal digits; the home server; milliseconds; tries; and its details. What is
--- written of a value is printable, and reads back as that value. In place of a station its hash may stand, in 16 digits.
+-- written of a value is printable, and reads back as that value. For a station its hash may stand, in 16 digits.
 -- Source: ours; RFC 20 (printable)
 -- Rules out: a User-Name that forges a line or ends its value; a station in clear where its hash is wanted
 -- Stands in: `roam_notices` `Exchanges.antt`: `outcome_of`, `asked_of`, `exchange_text`; `Printable.antt`:

@@ -244,8 +244,8 @@ fn push_rest(
     push_more(line, exchange)
 }
 
-/// Adds the line of an exchange, with its station in this form: no octet stands in it that isn't printable in ASCII, and
-/// each value that isn't the configuration's reads back.
+/// Adds the line of an exchange, with its station in this form: no octet stands in it that isn't printable in ASCII,
+/// and each value that isn't the configuration's reads back.
 ///
 /// # Errors
 ///

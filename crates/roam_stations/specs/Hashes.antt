@@ -7,7 +7,7 @@ use Rattle.sha2.specs.Sha256.{sha256}
 abbrev pub padded_with : ℕ → List ℕ → List ℕ
 padded_with pad block = map (λ octet. bit_xor octet pad) block
 
--- HMAC of a message with SHA-256; the key has zeros behind it to 64 octets; ipad is the octet 0x36, opad 0x5c (section 2)
+-- HMAC of a message with SHA-256; the key has zeros behind it to 64 octets; ipad is 0x36, opad 0x5c (section 2)
 unfoldable pub hmac_sha256 : List ℕ → List ℕ → List ℕ
 hmac_sha256 block message = sha256 (padded_with 0x5c block ++ sha256 (padded_with 0x36 block ++ message))
 
@@ -33,7 +33,8 @@ abbrev pub hashed_octets : List ℕ → List ℕ
 hashed_octets station = if is_mac (bare station) then bare station else station
 
 -- ## Hash of a station
--- The first eight octets of HMAC-SHA-256 with the site's key, of a MAC address in 12 small digits, of anything else as it is.
+-- The first eight octets of HMAC-SHA-256 with the site's key, of a MAC address in 12 small digits, of anything else as
+-- it is.
 -- Source: RFC 2104 section 2; ours
 -- Rules out: one device that has two hashes, since two access servers write it otherwise
 -- Stands in: `roam_stations` `Hashes.antt`: `hmac_sha256`, `hash_of`; `StationKey::new`, `hash_of`

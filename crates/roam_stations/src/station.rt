@@ -2,7 +2,7 @@
 
 ghost use Rattle.std.specs.Prelude.{◌≡◌, ◌++◌, IfOk, OnOk, take};
 ghost use Rattle.std.specs.List.{list_all};
-ghost use Rattle.roam_stations.specs.Hashes.{bare, bare_octet, hash_of, hashed_octets, hmac_sha256, is_digit, is_mac};
+ghost use Rattle.roam_stations.specs.Hashes.{bare, bare_octet, hash_of, is_digit, is_mac};
 
 use crate::hmac::StationKey;
 use std::alloc::{AllocError, Global};

@@ -92,7 +92,7 @@ fn expect_station<R: AllocGlobal + Abort>(
     }
 }
 
-/// The lines of exchanges. The hashes are those of radsecproxy 1.9.2 (`FullyKeyHashed`), and that of the number of openssl.
+/// The lines of exchanges. The hashes are radsecproxy 1.9.2's (`FullyKeyHashed`), and that of the number openssl's.
 pub(crate) fn exchanges<R: AllocGlobal + Abort>(rt: &R) {
     let (Ok(config), Some(key)) = (read_config(rt.alloc(), CONFIGURATION), StationKey::new(KEY))
     else {
@@ -123,7 +123,8 @@ pub(crate) fn exchanges<R: AllocGlobal + Abort>(rt: &R) {
         &config,
         hashed,
         &accepted(None, all_details()),
-        " station=- server=198.51.100.1:1812 ms=12 tries=1 operator=\"1north.example\" nas_id=\"wlc 1\\x22 cui=\\x22x\" \
-            called=\"00-00-5E-00-53-01:eduroam\" status=interim session=\"5F3A\\x5c\\x0a\" cui=\"\\x00\\xff\"",
+        " station=- server=198.51.100.1:1812 ms=12 tries=1 operator=\"1north.example\" \
+            nas_id=\"wlc 1\\x22 cui=\\x22x\" called=\"00-00-5E-00-53-01:eduroam\" status=interim \
+            session=\"5F3A\\x5c\\x0a\" cui=\"\\x00\\xff\"",
     );
 }

@@ -1,4 +1,4 @@
-use Rattle.std.proofs.Common.{◌≡◌, length, arith}
+use Rattle.std.proofs.Common.{arith}
 use Rattle.std.specs.Prelude.{bit_xor}
 use Rattle.roam_auth.proofs.PieceLemmas.{map_one_more}
 use Rattle.roam_stations.proofs.hmac.padded_with.Goals as goal
