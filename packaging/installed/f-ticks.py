@@ -19,6 +19,8 @@ are hashed, in small letters, whatever stands between and behind them; of anythi
     Static            `undisclosed`
     Original          the value as it is
 
+Of a station that the log has by its hash (`log_station`) it is that hash, but for Static; of a hidden one there is no CSI.
+
 The key should have 32 octets or more, and be changed from time to time: who has it finds the stations again.
 
 With `--cursor FILE` it has `journalctl` read the journal of the unit `roam` (`--unit`, `--namespace`, `--directory` are
@@ -55,13 +57,16 @@ def octets(text):
 
 
 def pairs(text):
-    """The keys of a line and their values: octets, or None where there is a hyphen. None where it isn't such a line."""
+    """The keys of a line and their values: octets, or None where there is a hyphen. None where it isn't such a line. A station by
+    its hash has a key of its own, and a hidden one isn't there: neither stands between quotation marks."""
     found, place = {}, 0
     while place < len(text):
         pair = PAIR.match(text, place)
         if not pair:
             return None
         key, quoted, bare = pair.groups()
+        if key == 'station' and bare:
+            key, bare = 'hash', bare[5:] if bare.startswith('hmac:') else '-'
         found[key] = octets(quoted) if bare is None else None if bare == '-' else bare.encode()
         place = pair.end()
     return found
@@ -89,6 +94,11 @@ def station(value, form, key):
     return digits
 
 
+def csi(said, form, key):
+    """What a line says of its station, in this form; its hash as it is."""
+    return plain(said['hash']) if said.get('hash') and form != 'Static' else station(said.get('station'), form, key)
+
+
 def plain(value):
     """Text that no octet of a value can break: neither a number sign nor an equals sign stands in it."""
     return re.sub(r'[^A-Za-z0-9.:@_-]', '_', value.decode('ascii', 'replace'))
@@ -105,8 +115,8 @@ def tick(line, options, key):
     if options.institution:
         visited = plain(options.institution.encode()) + '-' + visited
     fields = ['REALM=' + plain(realm).lower(), 'VISCOUNTRY=' + plain(options.country.encode()), 'VISINST=' + visited]
-    if said.get('station'):
-        fields.append('CSI=' + station(said['station'], options.station, key))
+    if said.get('station') or said.get('hash'):
+        fields.append('CSI=' + csi(said, options.station, key))
     fields.append('RESULT=' + ('OK' if found[1] == 'accept' else 'FAIL'))
     return f'F-TICKS/{plain(options.federation.encode())}/1.0#' + '#'.join(fields) + '#'
 

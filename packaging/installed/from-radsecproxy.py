@@ -25,7 +25,7 @@ FTICKS = "f-ticks.py makes F-Ticks lines of the log"
 REASONS = {
     "pidfile": "it stays in the foreground", "loglevel": "notices go to standard error",
     "logdestination": "notices go to standard error", "logthreadid": "notices go to standard error",
-    "logkey": "f-ticks.py has a key of its own",
+    "logkey": "station.key beside the configuration has it",
     "fticksreporting": FTICKS, "fticksmac": f"{FTICKS}: its --station", "ftickskey": f"{FTICKS}: in the file of its --key",
     "ftickssyslogfacility": FTICKS,
     "fticksprefix": FTICKS, "fticksviscountry": FTICKS, "fticksvisinst": FTICKS,
@@ -197,10 +197,14 @@ class Conversion:
         out, top = self.out, self.top
         hides_users = (top.get("logfullusername") or "on").lower() == "off"
         hides_stations = (top.get("logmac") or "original").lower() != "original"
-        if hides_users or hides_stations:
-            out.put("# No line tells of an exchange, for it would have the user and the station.", "log_exchanges = \"none\"")
+        if hides_users:
+            out.put("# No line tells of an exchange, for it would have the user.", "log_exchanges = \"none\"")
             if (top.get("fticksreporting") or "none").lower() != "none":
                 out.change('F-Ticks are made of the lines of exchanges, and those are off: `log_exchanges = "final"` has them')
+        elif hides_stations:
+            out.put("# Stations are logged by their hash alone, with the key in station.key beside this file.", 'log_station = "hmac"')
+            out.change('each exchange that ends is logged with its user, and with the hash of its station: its key (LogKey) belongs into'
+                       ' station.key beside the configuration, 16 octets or more; without it no station is told')
         else:
             out.change('each exchange that ends is logged with its user and station: `log_exchanges = "none"` ends that')
 

@@ -285,7 +285,7 @@ def is_endpoint(text):
 
 def keeps_the_rules(conf):
     assert set(conf) <= {"shards", "seed", "auth", "acct", "trace_limit", "trace_octets", "max_hops", "status_server",
-                         "spread", "control", "log_exchanges", "peer", "realm"}
+                         "spread", "control", "log_exchanges", "log_station", "peer", "realm"}
     assert 1 <= len(conf["peer"]) <= 1024 and 1 <= len(conf["realm"]) <= 1024
     for peer in conf["peer"]:
         assert set(peer) <= {"name", "ip", "secret", "require_seal"}
@@ -426,6 +426,8 @@ def main():
     look_over("five-hundred.conf", five_hundred(), 100, 500, [], [], roam)
     private = look_over("private.conf", "LogFullUsername off\n" + five_hundred(), 100, 500, [], [], roam)
     assert private["log_exchanges"] == "none"
+    hashed = look_over("hashed.conf", "LogMAC VendorKeyHashed\n" + five_hundred(), 100, 500, [], [], roam)
+    assert "log_exchanges" not in hashed and hashed["log_station"] == "hmac"
     named = five_hundred().replace("host 192.0.2.100", "host localhost")
     look_over("named.conf", named, 99, 500, [("Not carried over", "localhost is a name")], ["client nas100"], roam)
 

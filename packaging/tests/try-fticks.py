@@ -55,9 +55,13 @@ def must(what, holds):
         failed.append(what)
 
 
-def exchange(outcome, user, realm='"b.example"', station=DASHES):
+def quoted(value):
+    return f'"{value}"'
+
+
+def exchange(outcome, user, realm='"b.example"', station=DASHES, bare=None):
     return (f'{INFO}exchange result={outcome} request=access realm={realm} peer="north" user="{user}"'
-            f' station="{station}" server=198.51.100.1:1812 ms=12 tries=1')
+            f' station={bare or quoted(station)} server=198.51.100.1:1812 ms=12 tries=1')
 
 
 def refused(number, count):
@@ -75,7 +79,7 @@ def program(key, *more):
 
 
 def station_of(made):
-    return [re.search('#CSI=([^#]*)#', tick)[1] for tick in made]
+    return re.findall('#CSI=([^#]*)#', '\n'.join(made))
 
 
 def try_records(key):
@@ -111,6 +115,13 @@ def try_stations(key):
         made = station_of(ran(program(key, '--station', form), numbers))
         must(f'{form} of a number is its hash, and another one of each', len(set(made)) == 3 and
              all(re.fullmatch('[0-9a-f]{64}', one) for one in made))
+    for form, wanted in [('FullyKeyHashed', 'b6053d7c607796b1'), ('VendorKeyHashed', 'b6053d7c607796b1'), ('Static', 'undisclosed')]:
+        made = ran(program(key, '--station', form), [exchange('accept', 'u', bare='hmac:b6053d7c607796b1')])
+        must(f'{form} of a hash that the log has', station_of(made) == [wanted])
+    for station in ['-', 'hidden']:
+        must(f'no CSI of {station}', station_of(ran(program(key), [exchange('accept', 'u', bare=station)])) == [])
+    looks_hashed = exchange('accept', 'u', station='hmac:b6053d7c607796b1')
+    must('what looks like a hash is hashed', station_of(ran(program(key), [looks_hashed])) != ['b6053d7c607796b1'])
     must('no octet of a station breaks a line', station_of(ran(program(key, '--station', 'Original'), [
         exchange('accept', 'u', station='a#RESULT=FAIL#')])) == ['a_RESULT_FAIL_'])
 

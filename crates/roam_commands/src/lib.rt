@@ -27,6 +27,7 @@ mod restating;
 mod serving;
 mod simulation;
 mod statement;
+mod station_key;
 mod watch;
 
 pub use control::body_of;

@@ -6,11 +6,12 @@ ghost use Rattle.roam_reload.specs.Reload.{MayFollow};
 ghost use Rattle.roam_commands.specs.CommandFaults.{IsPrinted};
 
 use crate::compare::{print_fates, print_hindrance};
+use crate::station_key::stations_of;
 use roam_conf::Config;
 use roam_conf_reader::{Settings, read_config, read_settings};
 use roam_diagnosis::{Lines, diagnose};
 use roam_reload::hindrance_of;
-use roam_serve::{Following, ServeFault, Source};
+use roam_serve::{Following, ServeFault, Source, StationForm};
 use roam_words::{Fault, TextFile};
 use std::alloc::Global;
 use std::io;
@@ -69,6 +70,18 @@ fn print_report<W: Write>(
     print_kept(writer, before, after)
 }
 
+/// Prints that no station is told, where a hash of it is wanted and no key can be read.
+fn print_hidden<W: Write>(writer: &mut W, stations: StationForm) -> io::Result<()>
+    ensures { OnOk result (IsPrinted (W.contents writer.old) (W.contents writer.new)) }
+{
+    let is_hidden = matches!(stations, StationForm::Hidden);
+    print_if(
+        writer,
+        is_hidden,
+        b"log_station: no key of 16 to 64 octets in station.key: no station is told\n",
+    )
+}
+
 /// What is said of a fault.
 fn text_of(alloc: Global, fault: Fault<'_>, lines: &Lines) -> Vec<u8> {
     let mut text = Vec::new(alloc);
@@ -94,14 +107,15 @@ fn read(alloc: Global, file: &TextFile<'_>, old: &Config) -> Result<(Config, Set
 }
 
 /// The configuration of a file that is to follow another one, or what is said of why it may not.
-fn following(
-    alloc: Global,
+fn following<R: Files + AllocGlobal>(
+    rt: &R,
     file: &TextFile<'_>,
     old: &Config,
     before: &Settings,
 ) -> Result<Following, Vec<u8>>
     ensures { IfOk result (λ following. MayFollow (shown old.now) (shown following.config)) }
 {
+    let alloc = rt.alloc();
     let (config, settings) = read(alloc, file, old)?;
     let mut report = Vec::new(alloc);
     let hindrance = hindrance_of(old, &config);
@@ -109,12 +123,16 @@ fn following(
         let _is_said = print_hindrance(&mut report, hindrance).is_ok();
         return Err(report);
     }
-    if print_report(&mut report, old, &config, before, &settings).is_err() {
+    let stations = stations_of(rt, file.path, &settings);
+    if print_report(&mut report, old, &config, before, &settings).is_err()
+        || print_hidden(&mut report, stations).is_err()
+    {
         return Err(text_of(alloc, Fault::Memory, &Lines::new(alloc)));
     }
     Ok(Following {
         config,
         told_exchanges: settings.log_exchanges,
+        stations,
         report,
     })
 }
@@ -123,7 +141,7 @@ impl<R: Files + AllocGlobal> Source for Reread<'_, R> {
     fn following(&mut self, old: &Config) -> Result<Following, Vec<u8>> {
         let alloc = self.rt.alloc();
         match TextFile::read(self.rt, self.path) {
-            Ok(file) => following(alloc, &file, old, self.settings),
+            Ok(file) => following(self.rt, &file, old, self.settings),
             Err(fault) => Err(text_of(alloc, fault, &Lines::new(alloc))),
         }
     }

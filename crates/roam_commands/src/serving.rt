@@ -9,13 +9,14 @@ ghost use Rattle.roam_commands.specs.CommandFaults.{text_in, ServeFails};
 ghost use Rattle.roam_commands.specs.Outcomes.{Prevents};
 
 use crate::reload::Reread;
+use crate::station_key::told_stations;
 use log::Log;
 use roam_conf::Config;
 use roam_conf_reader::{Settings, read_config, read_settings};
 use roam_diagnosis::{Lines, diagnose};
 use roam_hub::Open;
 use roam_serve::{
-    Build, ControlSocket, Counters, ServeFault, ServeOptions, SocketPath, Watch,
+    Build, ControlSocket, Counters, ServeFault, ServeOptions, SocketPath, StationForm, Watch,
     descriptors_wanted, reason_of, serve, with_drawn_seed,
 };
 use roam_words::{Fault, TextFile};
@@ -60,11 +61,13 @@ fn remove<R: Files>(rt: &R, socket: &Option<ControlSocket>, settings: &Settings)
 fn options<'s>(
     watch: Option<Watch<'s>>,
     settings: &Settings,
+    stations: StationForm,
     milliseconds: Option<u64>,
 ) -> ServeOptions<'s, Open> {
     ServeOptions {
         watch,
         told_exchanges: settings.log_exchanges,
+        stations,
         milliseconds,
         gate: &Open,
     }
@@ -80,9 +83,10 @@ fn serve_watched<R: Files + AllocGlobal + Threads + Wait + Clock + Net + RandomS
 ) -> Result<(), ServeFault>
     ensures { IfErr result (IsFaultOf (shown config)) }
 {
+    let stations = told_stations(rt, path, settings);
     let mut source = Reread { rt, path, settings };
     if settings.metrics.is_none() && settings.control.is_none() {
-        let options = options(None, settings, milliseconds);
+        let options = options(None, settings, stations, milliseconds);
         return serve(rt, rt.alloc(), config, options, &mut source);
     }
     let counters = Counters::new(rt.alloc(), &config)?;
@@ -93,7 +97,7 @@ fn serve_watched<R: Files + AllocGlobal + Threads + Wait + Clock + Net + RandomS
         control: socket.as_ref(),
         build: Build::Roam,
     };
-    let options = options(Some(watch), settings, milliseconds);
+    let options = options(Some(watch), settings, stations, milliseconds);
     let ended = serve(rt, rt.alloc(), config, options, &mut source);
     remove(rt, &socket, settings);
     ended

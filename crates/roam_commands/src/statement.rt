@@ -2,7 +2,7 @@
 
 use crate::basic_string::BasicString;
 use roam_conf::{Config, Endpoint, ExchangeLines, Peer, Realm, RealmPattern, Server};
-use roam_conf_reader::Settings;
+use roam_conf_reader::{Settings, StationWord};
 use std::alloc::{AllocError, Global};
 use std::fmt;
 use std::fmt::{Display, Formatter, Write};
@@ -73,6 +73,10 @@ fn state_settings(text: &mut String, settings: &Settings) -> Result<(), AllocErr
         ExchangeLines::OfAll => "log_exchanges = \"all\"\n",
         ExchangeLines::OfFinal => "log_exchanges = \"final\"\n",
         ExchangeLines::OfNone => "log_exchanges = \"none\"\n",
+    })?;
+    text.push_str(match settings.log_station {
+        StationWord::Clear => "log_station = \"clear\"\n",
+        StationWord::Hmac => "log_station = \"hmac\"\n",
     })
 }
 

@@ -9,7 +9,7 @@ use Rattle.roam_conf.specs.declared.accounting.Accounting.{Accounting}
 use Rattle.roam_conf.specs.declared.accounting.Accounting.TheVariants as kinds
 use Rattle.roam_conf.specs.declared.endpoint.Endpoint.{Endpoint}
 use Rattle.roam_conf.specs.Config.{ServerView, PeerView, RealmView, ConfigView}
-use Rattle.roam_conf_reader.specs.Values.{number, letters_of, text, address, endpoint, seed_or_zeros, flag, exchange_lines, number_or, pattern, list_of, rejects, removed, peer_names, accounting, array_of, value_at, optional_at, socket_path}
+use Rattle.roam_conf_reader.specs.Values.{number, letters_of, text, address, endpoint, seed_or_zeros, flag, exchange_lines, station_word, number_or, pattern, list_of, rejects, removed, peer_names, accounting, array_of, value_at, optional_at, socket_path}
 
 -- the required keys of the four tables
 abbrev pub server_required : List (List ℕ)
@@ -49,7 +49,8 @@ abbrev pub top_optional : List (List ℕ)
 top_optional =
     codes "shards" ∷ codes "seed" ∷ codes "trace_limit" ∷ codes "max_hops" ∷ codes "status_server" ∷ codes
     "trace_octets" ∷ codes "spread" ∷ codes "metrics"
-    ∷ codes "control" ∷ codes "log_exchanges" ∷ codes "reject" ∷ codes "well_formed" ∷ codes "answer_unnamed" ∷ []
+    ∷ codes "control" ∷ codes "log_exchanges" ∷ codes "log_station" ∷ codes "reject" ∷ codes "well_formed"
+    ∷ codes "answer_unnamed" ∷ []
 
 -- the key is one of these
 abbrev pub is_one_of : List (List ℕ) → List ℕ → Bool
@@ -172,6 +173,7 @@ pub record StatesConfig (members : Members) (config : ConfigView) : Type 0 where
   pub metrics : is_some (optional_at endpoint (codes "metrics") members) ≡ true
   pub control : is_some (optional_at socket_path (codes "control") members) ≡ true
   pub log_exchanges : is_some (exchange_lines (get_member (codes "log_exchanges") members)) ≡ true
+  pub log_station : is_some (station_word (get_member (codes "log_station") members)) ≡ true
   pub no_other_key : has_only top_required top_optional members ≡ true
 
 -- each of the keys stands in the table

@@ -11,6 +11,8 @@ use Rattle.roam_conf.specs.declared.accounting.Accounting.TheVariants as kinds
 use Rattle.roam_conf.specs.declared.endpoint.Endpoint.{Endpoint}
 use Rattle.roam_conf.specs.declared.exchange_lines.ExchangeLines.{ExchangeLines}
 use Rattle.roam_conf.specs.declared.exchange_lines.ExchangeLines.TheVariants as lines
+use Rattle.roam_conf_reader.specs.declared.station_word.StationWord.{StationWord}
+use Rattle.roam_conf_reader.specs.declared.station_word.StationWord.TheVariants as station
 use Rattle.roam_conf_reader.specs.declared.values.Letters.{Letters}
 use Rattle.roam_conf_reader.specs.declared.values.Letters.TheVariants.{Any, NoZero, PeerName, RealmName}
 use Rattle.roam_conf.specs.Config.{PatternView, whole, suffix, any}
@@ -83,6 +85,17 @@ exchange_lines (Some (boolean true)) = Some lines.OfAll
 exchange_lines (Some (boolean false)) = Some lines.OfNone
 exchange_lines (Some (string octets)) = exchange_lines_in octets
 exchange_lines (Some _) = None
+
+-- how lines have a station: `clear`, also where the key is absent, or `hmac`
+unfoldable pub station_word_in : List ℕ → Option StationWord
+station_word_in octets =
+    if bytes_eq octets (codes "clear") then Some station.Clear
+    else if bytes_eq octets (codes "hmac") then Some station.Hmac else None
+
+unfoldable pub station_word : Option Data → Option StationWord
+station_word None = Some station.Clear
+station_word (Some (string octets)) = station_word_in octets
+station_word (Some _) = None
 
 -- an integer from `least` to `most`, and this one where it is absent
 unfoldable pub number_or : ℕ → ℕ → ℕ → Option Data → Option ℕ

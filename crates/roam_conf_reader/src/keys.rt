@@ -7,6 +7,7 @@ ghost use Rattle.toml.specs.View.{table_view, array_view};
 ghost use Rattle.roam_conf_reader.specs.Values as spec;
 ghost use Rattle.roam_conf_reader.specs.Values.{letters_of, value_at, optional_at};
 
+use crate::station_word::StationWord;
 use crate::values::{self, Letters, value};
 use roam_conf::{Accounting, Endpoint, ExchangeLines};
 use toml::value::Array;
@@ -158,6 +159,17 @@ pub(crate) fn accounting(table: &Table, key: &str) -> Option<Accounting>
         Some(Value::String(text)) => values::accounting_in(text.as_str()),
         Some(_) => None,
         None => Some(Accounting::Forwarded),
+    }
+}
+
+/// How lines have a station: as it stands where the key is absent.
+#[tactic(auto, unfolding(crate::specs::Values::station_word))]
+pub(crate) fn station_word(table: &Table, key: &str) -> Option<StationWord>
+    ensures { result ≡ spec.station_word (get_member key.now (table_view table.now)) }
+{
+    match value(table, key) {
+        Some(value) => values::station_word_of(value),
+        None => Some(StationWord::Clear),
     }
 }
 

@@ -24,9 +24,11 @@ mod removed;
 mod server;
 mod settings;
 mod stated;
+mod station_word;
 mod tables;
 mod values;
 
 pub use config::read_config;
 pub use fault::ConfFault;
 pub use settings::{Settings, read_settings};
+pub use station_word::StationWord;

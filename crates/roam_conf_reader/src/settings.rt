@@ -5,6 +5,7 @@ ghost use Rattle.roam_conf_reader.specs.Settings.{IsNoSettings, StatesSettings};
 
 use crate::document::document;
 use crate::peer::copied;
+use crate::station_word::StationWord;
 use crate::{ConfFault, keys};
 use roam_conf::{Endpoint, ExchangeLines};
 use std::alloc::Global;
@@ -19,6 +20,8 @@ pub struct Settings {
     pub control: Option<String>,
     /// Of which exchanges that end a line tells: of all where the key `log_exchanges` is absent.
     pub log_exchanges: ExchangeLines,
+    /// How these lines have a station: as it stands where the key `log_station` is absent.
+    pub log_station: StationWord,
 }
 
 /// Reads the settings of a configuration from its text.
@@ -41,9 +44,13 @@ pub fn read_settings(alloc: Global, text: &str) -> Result<Settings, ConfFault>
     let Some(log_exchanges) = keys::exchange_lines(&table, "log_exchanges") else {
         return Err(ConfFault::BadValue);
     };
+    let Some(log_station) = keys::station_word(&table, "log_station") else {
+        return Err(ConfFault::BadValue);
+    };
     Ok(Settings {
         metrics,
         control: copied(alloc, control)?,
         log_exchanges,
+        log_station,
     })
 }

@@ -49,6 +49,7 @@ fn top_text(table: &Table) -> Option<TopText<'_>>
     let _metrics = keys::optional_endpoint(table, "metrics")?;
     let _control = keys::optional_socket_path(table, "control")?;
     let _log_exchanges = keys::exchange_lines(table, "log_exchanges")?;
+    let _log_station = keys::station_word(table, "log_station")?;
     Some(TopText {
         shards: keys::number_or(table, "shards", 1, 1, 64)? as u16,
         seed: keys::seed_or_zeros(table, "seed")?,

@@ -62,7 +62,7 @@ pub(crate) const REALM_OPTIONAL_KEYS: [&str; 15] = [
 pub(crate) const TOP_KEYS: [&str; 4] = ["auth", "acct", "peer", "realm"];
 
 /// The keys that the document itself may have besides.
-pub(crate) const TOP_OPTIONAL_KEYS: [&str; 13] = [
+pub(crate) const TOP_OPTIONAL_KEYS: [&str; 14] = [
     "shards",
     "seed",
     "trace_limit",
@@ -73,6 +73,7 @@ pub(crate) const TOP_OPTIONAL_KEYS: [&str; 13] = [
     "metrics",
     "control",
     "log_exchanges",
+    "log_station",
     "reject",
     "well_formed",
     "answer_unnamed",

@@ -9,6 +9,7 @@ ghost use Rattle.toml.specs.View.{view, table_view, array_view};
 ghost use Rattle.roam_conf_reader.specs.Values as spec;
 ghost use Rattle.roam_conf_reader.specs.Values.{letters_of, text_fits};
 
+use crate::station_word::StationWord;
 use hex::FromHex;
 use roam_conf::{Accounting, Endpoint, ExchangeLines, address};
 use toml::value::Array;
@@ -151,6 +152,31 @@ pub(crate) fn accounting_in(text: &str) -> Option<Accounting>
         return Some(Accounting::Dropped);
     }
     None
+}
+
+/// How lines have a station, by a text.
+#[tactic(auto, unfolding(crate::specs::Values::station_word_in))]
+fn station_word_in(text: &str) -> Option<StationWord>
+    ensures { result ≡ spec.station_word_in text.now }
+{
+    if text == "clear" {
+        return Some(StationWord::Clear);
+    }
+    if text == "hmac" {
+        return Some(StationWord::Hmac);
+    }
+    None
+}
+
+/// How lines have a station: one of two texts.
+#[tactic(auto, unfolding(crate::specs::Values::station_word))]
+pub(crate) fn station_word_of(value: &Value) -> Option<StationWord>
+    ensures { result ≡ spec.station_word (Some (view value.now)) }
+{
+    match value {
+        Value::String(text) => station_word_in(text.as_str()),
+        _ => None,
+    }
 }
 
 #[tactic(auto, unfolding(crate::specs::Values::seed))]

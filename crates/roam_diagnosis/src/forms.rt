@@ -13,6 +13,8 @@ pub(crate) enum ValueForm {
     Flag,
     /// A boolean, or one of three texts: of which exchanges lines tell.
     ExchangeLines,
+    /// One of two texts: how lines have a station.
+    StationWord,
     /// 64 hexadecimal digits.
     Seed,
     /// An IPv4 address.
@@ -116,6 +118,7 @@ fn text_fits(form: ValueForm, text: &str) -> bool {
         ValueForm::ReplyRemovals => is_removal(text, &[24, 33, 79, 80]),
         ValueForm::Accounting => text == "forward" || text == "answer" || text == "drop",
         ValueForm::ExchangeLines => text == "all" || text == "final" || text == "none",
+        ValueForm::StationWord => text == "clear" || text == "hmac",
         _ => false,
     }
 }
@@ -211,6 +214,7 @@ impl fmt::Display for ValueForm {
                     "is none of \"all\", \"final\" and \"none\", and neither true nor false",
                 )
             }
+            ValueForm::StationWord => f.write_str("is neither \"clear\" nor \"hmac\""),
             ValueForm::Seed => f.write_str("is not a text of 64 hexadecimal digits"),
             ValueForm::Address => f.write_str("is no IPv4 address in decimal, as \"192.0.2.1\""),
             ValueForm::Endpoint => {

@@ -7,7 +7,7 @@ use crate::place::TableKind;
 #[derive(Clone, Copy)]
 pub(crate) struct Rule(pub &'static str, pub bool, pub ValueForm);
 
-const TOP: [Rule; 17] = [
+const TOP: [Rule; 18] = [
     Rule("shards", false, ValueForm::Number(1, 64)),
     Rule("seed", false, ValueForm::Seed),
     Rule("auth", true, ValueForm::Endpoint),
@@ -20,6 +20,7 @@ const TOP: [Rule; 17] = [
     Rule("metrics", false, ValueForm::Endpoint),
     Rule("control", false, ValueForm::SocketPath),
     Rule("log_exchanges", false, ValueForm::ExchangeLines),
+    Rule("log_station", false, ValueForm::StationWord),
     Rule("reject", false, ValueForm::Rejects),
     Rule("well_formed", false, ValueForm::Flag),
     Rule("answer_unnamed", false, ValueForm::Flag),

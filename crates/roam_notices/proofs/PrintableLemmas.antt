@@ -3,7 +3,7 @@ use Rattle.std.proofs.Common.{arith, ◌≡◌, ℕ, ◌+◌, ◌<◌, ◌/◌, 
 use Rattle.std.specs.Prelude.{nat_lt}
 use Rattle.std.proofs.lemmas.Bool.{cases_lt}
 use Rattle.std.proofs.lemmas.Bool.Decides.{nat_tests}
-use Rattle.roam_notices.specs.Exchanges.{digit, is_plain, quoted_octet, quoted_octets}
+use Rattle.roam_notices.specs.Values.{digit, is_plain, quoted_octet, quoted_octets}
 use Rattle.roam_notices.specs.Printable.{ArePrintable, IsPrintable, ValuesArePrintable}
 
 both : (a b : List ℕ) → ArePrintable a → ArePrintable b → ArePrintable (a ++ b)

@@ -1,6 +1,6 @@
 -- Values are read back.
 use Rattle.std.proofs.Common.{◌≡◌, ℕ, ◌<◌, Bool, true, false, List, [], ◌∷◌, ◌++◌, append_assoc, refl, subst, sym}
-use Rattle.roam_notices.specs.Exchanges.{is_plain, quoted_octet, quoted_octets}
+use Rattle.roam_notices.specs.Values.{is_plain, quoted_octet, quoted_octets}
 use Rattle.roam_notices.specs.Quoted.{Reads, closes, plain, digits, ReadsBack}
 
 -- an octet, and what is read behind it

@@ -1,8 +1,6 @@
 -- The line of an exchange that ended. Ours.
-use Rattle.std.specs.Prelude.{ℕ, ◌+◌, ◌==◌, ◌&&◌, ◌/◌, ◌%◌, Bool, true, false, not, nat_le, nat_lt, min, take, List, [], ◌∷◌, ◌++◌, Option, Some, None, option_map, if◌then◌else◌, codes, slice_get, slice_index}
-use Rattle.std.specs.Borrow.{Bor}
+use Rattle.std.specs.Prelude.{ℕ, ◌==◌, Bool, true, false, List, [], ◌++◌, Option, Some, None, option_map, if◌then◌else◌, codes, slice_get, slice_index}
 use Rattle.std.specs.Fmt.{decimal}
-use Rattle.std.specs.List.{flat_map}
 use Rattle.roam_conf.specs.Config.{ConfigView, PeerView, RealmView}
 use Rattle.roam_conf.specs.declared.endpoint.Endpoint.{Endpoint}
 use Rattle.roam_conf.specs.declared.exchange_lines.ExchangeLines.{ExchangeLines}
@@ -14,15 +12,19 @@ use Rattle.roam_notices.specs.declared.exchange.ExchangeEnd.{ExchangeEnd}
 use Rattle.roam_notices.specs.declared.exchange.ExchangeEnd.TheVariants as outcome
 use Rattle.roam_notices.specs.declared.exchange.RejectCause.{RejectCause}
 use Rattle.roam_notices.specs.declared.exchange.RejectCause.TheVariants as cause
-use Rattle.roam_notices.specs.declared.exchange.Value.{Value}
+use Rattle.roam_notices.specs.Details.{details_text}
+use Rattle.roam_notices.specs.Values.{digits_text, octets_if, value_text}
+use Rattle.roam_stations.specs.Hashes.{hash_of}
+use Rattle.roam_stations.specs.declared.form.StationForm.{StationForm}
+use Rattle.roam_stations.specs.declared.form.StationForm.TheVariants as form
 
 -- ## Line of an exchange
 -- How it ended, by the code of what was returned; what was asked; the realm's and the peer's name, User-Name
 -- and Calling-Station-Id between quotation marks, each octet that isn't printable in ASCII, a quotation mark or
--- a reverse solidus written by two hexadecimal digits; the home server; milliseconds; tries. What is written of
--- a value is printable, and reads back as that value.
+-- a reverse solidus written by two hexadecimal digits; the home server; milliseconds; tries; and its details. What is
+-- written of a value is printable, and reads back as that value. For a station its hash may stand, in 16 digits.
 -- Source: ours; RFC 20 (printable)
--- Rules out: a User-Name that forges a line or ends its value
+-- Rules out: a User-Name that forges a line or ends its value; a station in clear where its hash is wanted
 -- Stands in: `roam_notices` `Exchanges.antt`: `outcome_of`, `asked_of`, `exchange_text`; `Printable.antt`:
 -- `ValuesArePrintable`; `Quoted.antt`: `Reads`, `ReadsBack`; `push_exchange`, the laws `values_are_printable`,
 -- `values_read_back`
@@ -68,40 +70,12 @@ asked_of code =
     else if code == 43 then asked.Coa
     else asked.Other
 
--- the octets of a value
-abbrev pub octets_of : Value → List ℕ
-octets_of value = take (min value.len 253) value.octets
-
-abbrev pub octets_if : Option Value → Option (List ℕ)
-octets_if value = option_map octets_of value
-
-abbrev pub shown_octets : Bor (List ℕ) → List ℕ
-shown_octets octets = octets.now
-
-abbrev pub shown_value : Option (Bor (List ℕ)) → Option (List ℕ)
-shown_value value = option_map shown_octets value
-
--- a hexadecimal digit, in lower case: 48 is `0`, and 97 is `a`
-abbrev pub digit : ℕ → ℕ
-digit number = if nat_lt number 10 then 48 + number else 87 + number
-
--- printable in ASCII, but neither the quotation mark (34) nor the reverse solidus (92)
-abbrev pub is_plain : ℕ → Bool
-is_plain octet = nat_le 32 octet && nat_le octet 126 && not (octet == 34) && not (octet == 92)
-
--- an octet of a value: any other is a reverse solidus, an `x` (120) and two digits
-abbrev pub quoted_octet : ℕ → List ℕ
-quoted_octet octet =
-    if is_plain octet then octet ∷ []
-    else 92 ∷ 120 ∷ digit (octet / 16) ∷ digit (octet % 16) ∷ []
-
-abbrev pub quoted_octets : List ℕ → List ℕ
-quoted_octets value = flat_map quoted_octet value
-
--- a key, and a value between quotation marks, or a hyphen
-abbrev pub value_text : List ℕ → Option (List ℕ) → List ℕ
-value_text key None = key ++ codes "-"
-value_text key (Some value) = key ++ codes "\"" ++ quoted_octets value ++ codes "\""
+-- the station as it stands, or its hash, or that it isn't told: these have no quotation marks, so that no station looks
+-- like one
+abbrev pub station_text : StationForm → Option (List ℕ) → List ℕ
+station_text (form.Hashed key) (Some station) = codes " station=hmac:" ++ digits_text (hash_of key.block station)
+station_text form.Hidden (Some station) = codes " station=hidden"
+station_text _ station = value_text (codes " station=") station
 
 abbrev pub address_text : List ℕ → List ℕ
 address_text ip =
@@ -164,19 +138,20 @@ abbrev pub why_text : Option RejectCause → List ℕ
 why_text None = []
 why_text (Some cause) = codes " why=" ++ cause_word cause
 
-abbrev pub like_text : Exchange → List ℕ
-like_text exchange = why_text exchange.why ++ times_text exchange.times
+-- where that is said, why it was rejected, how many were so, and its details
+abbrev pub more_text : Exchange → List ℕ
+more_text exchange = why_text exchange.why ++ times_text exchange.times ++ details_text exchange.details
 
--- for whom it was, where it went, how long it took, and, where that is said, why it was rejected and how many were so
-abbrev pub rest_text : Exchange → List ℕ
-rest_text exchange =
+-- for whom it was, where it went, how long it took, and what else is said
+abbrev pub rest_text : StationForm → Exchange → List ℕ
+rest_text form exchange =
     value_text (codes " user=") (octets_if exchange.user) ++
-    value_text (codes " station=") (octets_if exchange.station) ++
+    station_text form (octets_if exchange.station) ++
     server_text exchange.server ++
     codes " ms=" ++ decimal exchange.milliseconds ++
     codes " tries=" ++ decimal exchange.tries ++
-    like_text exchange
+    more_text exchange
 
 -- the line
-abbrev pub exchange_text : ConfigView → Exchange → List ℕ
-exchange_text config exchange = who_text config exchange ++ rest_text exchange
+abbrev pub exchange_text : ConfigView → StationForm → Exchange → List ℕ
+exchange_text config form exchange = who_text config exchange ++ rest_text form exchange

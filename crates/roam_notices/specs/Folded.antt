@@ -1,7 +1,8 @@
 -- Ends of exchanges that are told together: those that are alike, within a second, are one line with their number.
 -- Ours.
 use Rattle.std.specs.Prelude.{◌≡◌, ◌⊎◌, ℕ, ◌+◌, ◌-◌, ◌^◌, ◌<◌, ◌≤◌, ◌==◌, min, List, [], ◌∷◌, ◌++◌, length, slice_index_or, slice_set, All, None, if◌then◌else◌}
-use Rattle.roam_notices.specs.Exchanges.{octets_if}
+use Rattle.roam_notices.specs.Details.{AreSame, no_details}
+use Rattle.roam_notices.specs.Values.{octets_if}
 use Rattle.roam_notices.specs.declared.exchange.Exchange.{Exchange}
 use Rattle.roam_notices.specs.declared.exchange.ExchangeEnd.{ExchangeEnd}
 use Rattle.roam_notices.specs.declared.exchange.ExchangeEnd.TheVariants as outcome
@@ -14,11 +15,12 @@ pub record EndAlike (a b : Exchange) : Type 0 where
   pub realm : a.realm ≡ b.realm
   pub peer : a.peer ≡ b.peer
 
--- that, with the same User-Name and the same Calling-Station-Id
+-- that, with the same User-Name, the same Calling-Station-Id and the same details
 pub record IsAlike (a b : Exchange) : Type 0 where
   pub end : EndAlike a b
   pub user : octets_if a.user ≡ octets_if b.user
   pub station : octets_if a.station ≡ octets_if b.station
+  pub details : AreSame a.details b.details
 
 -- one more of them, up to 2^64 - 1
 abbrev pub once_more : Exchange → Exchange
@@ -38,6 +40,7 @@ unsaid end = record {
   milliseconds = 0;
   tries = 0;
   times = 1;
+  details = no_details;
 }
 
 -- the line of a place
@@ -69,9 +72,9 @@ pub record IsBeyond (e : Exchange) (old new : List Exchange) : Type 0 where
       else slice_set old 8 (once_more (line_at old 8)))
 
 -- ## Ends that are told together
--- Local rejects within a second, and replaced requests: those that ended alike, of one peer with one User-Name and
--- one Calling-Station-Id, are one line with their number; at most eight such lines of either, and all others in a
--- ninth.
+-- Local rejects within a second, and replaced requests: those that ended alike, of one peer with one User-Name, one
+-- Calling-Station-Id and the same details, are one line with their number; at most eight such lines of either, and all
+-- others in a ninth.
 -- Source: ours
 -- Rules out: a flood of requests of no realm that pushes other lines out of the journal; two stations told as one
 -- Stands in: `roam_notices` `Folded.antt`: `IsAlike`, `IsCounted`; `FoldedLines::count`, `take_first`;

@@ -1,3 +1,4 @@
+pub mod Details
 pub mod Dropped
 pub mod Exchanges
 pub mod Folded
@@ -10,3 +11,4 @@ pub mod Reloads
 pub mod Repeats
 pub mod Senders
 pub mod Tallies
+pub mod Values

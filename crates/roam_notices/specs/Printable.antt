@@ -1,7 +1,7 @@
 -- Octets that are printable in ASCII (RFC 20): from 32 to 126.
 use Rattle.std.specs.Prelude.{ℕ, ◌<◌, ◌≤◌, List}
 use Rattle.std.specs.List.{AllByRecursion}
-use Rattle.roam_notices.specs.Exchanges.{quoted_octets}
+use Rattle.roam_notices.specs.Values.{quoted_octets}
 
 pub record IsPrintable (octet : ℕ) : Type 0 where
   pub least : 32 ≤ octet

@@ -1,7 +1,7 @@
 -- How a value is read: up to the first quotation mark before which no reverse solidus stands. Ours.
 use Rattle.std.specs.Prelude.{◌≡◌, ℕ, ◌<◌, true, List, [], ◌∷◌, ◌++◌, ◌/◌, ◌%◌}
 use Rattle.std.specs.List.{AllByRecursion}
-use Rattle.roam_notices.specs.Exchanges.{digit, is_plain, quoted_octets}
+use Rattle.roam_notices.specs.Values.{digit, is_plain, quoted_octets}
 
 -- a text reads as a value, and something is left behind it
 pub data Reads : List ℕ → List ℕ → List ℕ → Type 0 where

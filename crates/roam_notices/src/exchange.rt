@@ -3,7 +3,9 @@
 ghost use Rattle.std.specs.Prelude.{◌≡◌, take};
 ghost use Rattle.roam_notices.specs.Exchanges as spec;
 ghost use Rattle.roam_notices.specs.Folded.{once_more};
+ghost use Rattle.roam_notices.specs.Values.{octets_of};
 
+use crate::details::Details;
 use roam_conf::{Endpoint, ExchangeLines};
 use roam_wire::code;
 
@@ -84,6 +86,7 @@ pub struct Exchange {
     pub tries: u8,
     /// How many were like it within a second: local rejects, or replaced requests, that are alike are one line.
     pub times: u64,
+    pub details: Details,
 }
 
 impl ExchangeEnd {
@@ -158,7 +161,7 @@ impl Exchange {
 impl Value {
     /// These octets; of more than 253 the first ones.
     pub fn new(octets: &[u8]) -> Value
-        ensures { spec.octets_of result ≡ take 253 octets.now }
+        ensures { octets_of result ≡ take 253 octets.now }
     {
         let len = octets.len().min(MOST);
         let mut kept = [0; MOST];
@@ -171,7 +174,7 @@ impl Value {
 
     /// The octets.
     pub fn octets(&self) -> &[u8]
-        ensures { result.now ≡ spec.octets_of self.now }
+        ensures { result.now ≡ octets_of self.now }
     {
         let len = usize::from(self.len).min(MOST);
         &self.octets[..len]

@@ -4,23 +4,27 @@ ghost use Rattle.std.specs.Prelude.{◌≡◌, ◌++◌, ◌<◌, OnOk};
 ghost use Rattle.std.specs.Fmt.{decimal};
 ghost use Rattle.roam_conf.specs.Shown.{shown};
 ghost use Rattle.roam_notices.specs.Exchanges as spec;
+ghost use Rattle.roam_notices.specs.Values.{digit, is_plain, octets_if, quoted_octet, quoted_octets, shown_value, value_text};
 
+use crate::details::push_details;
 use crate::exchange::{Exchange, ExchangeEnd, RejectCause, RequestWord, Value};
+use crate::station_text::push_station;
 use itoa::Buffer;
 use roam_conf::{Config, Endpoint};
+use roam_stations::StationForm;
 use std::alloc::AllocError;
 
 /// Adds octets to a line.
-fn push(line: &mut Vec<u8>, octets: &[u8]) -> Result<(), AllocError>
+pub(crate) fn push(line: &mut Vec<u8>, octets: &[u8]) -> Result<(), AllocError>
     ensures { OnOk result (line.new.items ≡ line.old.items ++ octets.now) }
 {
     line.extend_from_slice(octets)
 }
 
 /// A hexadecimal digit, in lower case.
-fn digit(number: u8) -> u8
+pub(crate) fn digit(number: u8) -> u8
     requires { number < 16 }
-    ensures { result ≡ spec.digit number }
+    ensures { result ≡ digit number }
 {
     if number < 10 {
         b'0' + number
@@ -32,14 +36,14 @@ fn digit(number: u8) -> u8
 /// Whether an octet stands as itself between quotation marks: it is printable in ASCII, and neither a quotation mark
 /// nor a reverse solidus.
 fn is_plain(octet: u8) -> bool
-    ensures { result ≡ spec.is_plain octet }
+    ensures { result ≡ is_plain octet }
 {
     octet >= 32 && octet <= 126 && octet != b'"' && octet != b'\\'
 }
 
 /// Adds an octet of a value.
 fn push_octet(line: &mut Vec<u8>, octet: u8) -> Result<(), AllocError>
-    ensures { OnOk result (line.new.items ≡ line.old.items ++ spec.quoted_octet octet) }
+    ensures { OnOk result (line.new.items ≡ line.old.items ++ quoted_octet octet) }
 {
     if is_plain(octet) {
         push(line, &[octet])
@@ -50,7 +54,7 @@ fn push_octet(line: &mut Vec<u8>, octet: u8) -> Result<(), AllocError>
 
 /// Adds a value's octets.
 fn push_octets(line: &mut Vec<u8>, value: &[u8]) -> Result<(), AllocError>
-    ensures { OnOk result (line.new.items ≡ line.old.items ++ spec.quoted_octets value.now) }
+    ensures { OnOk result (line.new.items ≡ line.old.items ++ quoted_octets value.now) }
 {
     for octet in value {
         push_octet(line, *octet)?;
@@ -59,8 +63,12 @@ fn push_octets(line: &mut Vec<u8>, value: &[u8]) -> Result<(), AllocError>
 }
 
 /// Adds a key, and a value between quotation marks, or a hyphen where there is none.
-fn push_value(line: &mut Vec<u8>, key: &str, value: Option<&[u8]>) -> Result<(), AllocError>
-    ensures { OnOk result (line.new.items ≡ line.old.items ++ spec.value_text key.now (spec.shown_value value.entry)) }
+pub(crate) fn push_value(
+    line: &mut Vec<u8>,
+    key: &str,
+    value: Option<&[u8]>,
+) -> Result<(), AllocError>
+    ensures { OnOk result (line.new.items ≡ line.old.items ++ value_text key.now (shown_value value.entry)) }
 {
     push(line, key.as_bytes())?;
     let Some(value) = value else {
@@ -72,7 +80,7 @@ fn push_value(line: &mut Vec<u8>, key: &str, value: Option<&[u8]>) -> Result<(),
 }
 
 /// Adds a key and a number.
-fn push_number(line: &mut Vec<u8>, key: &str, number: u64) -> Result<(), AllocError>
+pub(crate) fn push_number(line: &mut Vec<u8>, key: &str, number: u64) -> Result<(), AllocError>
     ensures { OnOk result (line.new.items ≡ line.old.items ++ key.now ++ decimal number) }
 {
     push(line, key.as_bytes())?;
@@ -135,7 +143,7 @@ fn asked_word(asked: RequestWord) -> &'static str
 
 /// The name of the realm of this index; none where there is none.
 fn realm_name(config: &Config, realm: Option<u16>) -> Option<&[u8]>
-    ensures { spec.shown_value result ≡ spec.realm_name (shown config.now).realms realm }
+    ensures { shown_value result ≡ spec.realm_name (shown config.now).realms realm }
 {
     match config.realms.get(usize::from(realm?)) {
         Some(realm) => Some(realm.name.as_str().as_bytes()),
@@ -145,7 +153,7 @@ fn realm_name(config: &Config, realm: Option<u16>) -> Option<&[u8]>
 
 /// The name of the peer of this index; none where there is none.
 fn peer_name(config: &Config, peer: Option<u16>) -> Option<&[u8]>
-    ensures { spec.shown_value result ≡ spec.peer_name (shown config.now).peers peer }
+    ensures { shown_value result ≡ spec.peer_name (shown config.now).peers peer }
 {
     match config.peers.get(usize::from(peer?)) {
         Some(peer) => Some(peer.name.as_str().as_bytes()),
@@ -154,8 +162,8 @@ fn peer_name(config: &Config, peer: Option<u16>) -> Option<&[u8]>
 }
 
 /// The octets of a value, if there is one.
-fn octets_of(value: &Option<Value>) -> Option<&[u8]>
-    ensures { spec.shown_value result ≡ spec.octets_if value.now }
+pub(crate) fn octets_of(value: &Option<Value>) -> Option<&[u8]>
+    ensures { shown_value result ≡ octets_if value.now }
 {
     match value {
         Some(value) => Some(value.octets()),
@@ -211,28 +219,34 @@ fn push_times(line: &mut Vec<u8>, times: u64) -> Result<(), AllocError>
     push_number(line, " times=", times)
 }
 
-/// Adds why it was rejected here, and how many were so.
-fn push_like(line: &mut Vec<u8>, exchange: &Exchange) -> Result<(), AllocError>
-    ensures { OnOk result (line.new.items ≡ line.old.items ++ spec.like_text exchange.now) }
+/// Adds why it was rejected here, how many were so, and its details.
+fn push_more(line: &mut Vec<u8>, exchange: &Exchange) -> Result<(), AllocError>
+    ensures { OnOk result (line.new.items ≡ line.old.items ++ spec.more_text exchange.now) }
 {
     push_why(line, exchange.why)?;
-    push_times(line, exchange.times)
+    push_times(line, exchange.times)?;
+    push_details(line, &exchange.details)
 }
 
-/// Adds for whom it was, where it went, how long it took, and what `push_like` adds.
-fn push_rest(line: &mut Vec<u8>, exchange: &Exchange) -> Result<(), AllocError>
-    ensures { OnOk result (line.new.items ≡ line.old.items ++ spec.rest_text exchange.now) }
+/// Adds for whom it was, where it went, how long it took, and what `push_more` adds.
+fn push_rest(
+    line: &mut Vec<u8>,
+    stations: &StationForm,
+    exchange: &Exchange,
+) -> Result<(), AllocError>
+    ensures { OnOk result (line.new.items
+        ≡ line.old.items ++ spec.rest_text stations.now exchange.now) }
 {
     push_value(line, " user=", octets_of(&exchange.user))?;
-    push_value(line, " station=", octets_of(&exchange.station))?;
+    push_station(line, stations, &exchange.station)?;
     push_server(line, exchange.server)?;
     push_number(line, " ms=", exchange.milliseconds)?;
     push_number(line, " tries=", u64::from(exchange.tries))?;
-    push_like(line, exchange)
+    push_more(line, exchange)
 }
 
-/// Adds the line of an exchange: no octet stands in it that isn't printable in ASCII, and each value that isn't the
-/// configuration's reads back.
+/// Adds the line of an exchange, with its station in this form: no octet stands in it that isn't printable in ASCII,
+/// and each value that isn't the configuration's reads back.
 ///
 /// # Errors
 ///
@@ -240,11 +254,12 @@ fn push_rest(line: &mut Vec<u8>, exchange: &Exchange) -> Result<(), AllocError>
 pub fn push_exchange(
     line: &mut Vec<u8>,
     config: &Config,
+    stations: &StationForm,
     exchange: &Exchange,
 ) -> Result<(), AllocError>
     ensures { OnOk result (line.new.items
-        ≡ line.old.items ++ spec.exchange_text (shown config.now) exchange.now) }
+        ≡ line.old.items ++ spec.exchange_text (shown config.now) stations.now exchange.now) }
 {
     push_who(line, config, exchange)?;
-    push_rest(line, exchange)
+    push_rest(line, stations, exchange)
 }

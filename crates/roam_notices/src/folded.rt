@@ -2,10 +2,10 @@
 
 ghost use Rattle.std.specs.Prelude.{◌≡◌, ◌<◌, ◌↔◌, ◌∷◌, [], IsTrue, IfOk, IfSome, IfNone, All, MatchOption, length};
 ghost use Rattle.std.specs.Prelude.{slice_set};
-ghost use Rattle.roam_notices.specs.Exchanges.{octets_if};
 ghost use Rattle.roam_notices.specs.Folded.{EndAlike, IsAlike, IsCounted, line_at, once_more, unsaid};
 
-use crate::exchange::{Exchange, ExchangeEnd, RequestWord, Value};
+use crate::details::{Details, is_same};
+use crate::exchange::{Exchange, ExchangeEnd, RequestWord};
 use std::alloc::{AllocError, Global};
 use std::marker::Model;
 
@@ -28,17 +28,7 @@ fn unsaid(outcome: ExchangeEnd) -> Exchange
         milliseconds: 0,
         tries: 0,
         times: 1,
-    }
-}
-
-/// Whether two values have the same octets, or both aren't there.
-fn is_same(a: &Option<Value>, b: &Option<Value>) -> bool
-    ensures { IsTrue result ↔ (octets_if a.now ≡ octets_if b.now) }
-{
-    match (a, b) {
-        (Some(a), Some(b)) => a.octets() == b.octets(),
-        (None, None) => true,
-        _ => false,
+        details: Details::none(),
     }
 }
 
@@ -49,11 +39,14 @@ fn end_alike(a: &Exchange, b: &Exchange) -> bool
     a.outcome == b.outcome && a.why == b.why && a.realm == b.realm && a.peer == b.peer
 }
 
-/// Whether they did, and have the same User-Name and the same Calling-Station-Id.
+/// Whether they did, and have the same User-Name, the same Calling-Station-Id and the same details.
 fn is_alike(a: &Exchange, b: &Exchange) -> bool
     ensures { IsTrue result ↔ IsAlike a.now b.now }
 {
-    end_alike(a, b) && is_same(&a.user, &b.user) && is_same(&a.station, &b.station)
+    end_alike(a, b)
+        && is_same(&a.user, &b.user)
+        && is_same(&a.station, &b.station)
+        && a.details.are_same(&b.details)
 }
 
 /// Ends of exchanges, of one kind, that are told together. A contract sees their lines, in the order in which they

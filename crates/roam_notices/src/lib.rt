@@ -16,6 +16,7 @@
 //!   `push_exchange`; laws `values_are_printable`, `values_read_back`
 #![tactic(auto)]
 
+mod details;
 mod dropped_text;
 mod exchange;
 mod exchange_line;
@@ -26,9 +27,11 @@ mod reload_text;
 mod repeats;
 mod row;
 mod sender;
+mod station_text;
 mod tally;
 mod text;
 
+pub use details::Details;
 pub use dropped_text::{DropCause, DroppedText};
 pub use exchange::{Exchange, ExchangeEnd, RejectCause, RequestWord, Value};
 pub use exchange_line::push_exchange;

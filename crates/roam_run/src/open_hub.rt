@@ -114,6 +114,7 @@ fn run<
         losses: parts.losses,
         counters: configured.counters(counters_of(parts.watch)),
         told_exchanges: configured.told_exchanges,
+        stations: configured.stations,
         office: parts.office,
         stopping: parts.stopping,
         old_history: parts.old_history,

@@ -20,5 +20,6 @@ pub use roam_run::{Following, NoSource, Source, Watch};
 pub use roam_sockets::{
     ControlSocket, Reason, ServeFault, SocketPath, descriptors_wanted, reason_of, with_drawn_seed,
 };
+pub use roam_stations::{StationForm, StationKey};
 pub use roam_telling::Counters;
 pub use server::{ServeOptions, serve};

@@ -12,6 +12,7 @@ use roam_hub::Gate;
 use roam_port::socket_numbers;
 use roam_run::{Configured, Handover, Means, ServerParts, Source, Watch, widen_all};
 use roam_sockets::{BoundSocket, ServeFault, bind_all, descriptors_wanted, listen_at, reason_of};
+use roam_stations::StationForm;
 use roam_succession::serve_all;
 use roam_telling::Notice;
 use roam_threads::{Behind, make_kits, make_outboxes, start_behind};
@@ -31,6 +32,8 @@ pub struct ServeOptions<'s, G> {
     pub watch: Option<Watch<'s>>,
     /// Of which exchanges that end a line tells.
     pub told_exchanges: ExchangeLines,
+    /// How these lines have a station.
+    pub stations: StationForm,
     /// For how long it serves; none where that has no end.
     pub milliseconds: Option<u64>,
     /// Called while a lock is held.
@@ -206,6 +209,7 @@ pub fn serve<
     let ServeOptions {
         watch,
         told_exchanges,
+        stations,
         milliseconds,
         gate,
     } = options;
@@ -224,6 +228,7 @@ pub fn serve<
         config,
         sockets,
         told_exchanges,
+        stations,
         counters: None,
     };
     let mut parts = ServerParts {

@@ -1,3 +1,4 @@
 pub mod Causes
 pub mod Notices
 pub mod Packets
+pub mod Said

@@ -1,25 +1,24 @@
 //! What is told of an exchange that ends, and by what it ends.
 
-ghost use Rattle.std.specs.Prelude.{◌≡◌};
+ghost use Rattle.std.specs.Prelude.{◌≡◌, IfSome};
 ghost use Rattle.roam_conf.specs.Shown.{shown};
-ghost use Rattle.roam_notices.specs.Exchanges.{shown_value};
+ghost use Rattle.roam_notices.specs.Values.{octets_if, shown_value};
 ghost use Rattle.roam_route.specs.LocalReject.{has_too_many_hops};
 ghost use Rattle.roam_telling.specs.Causes as causes;
+ghost use Rattle.roam_telling.specs.Said as said;
 ghost use Rattle.roam_wire.specs.Reading.{reading};
 
 use crate::notice::server_endpoint;
+use crate::said::{charged_by, said_by};
 use roam_book::Answer;
 use roam_conf::{Config, Endpoint, Link, Place};
 use roam_counters::NakCause;
 use roam_hub::{Notes, Past, Requester, Stood};
-use roam_notices::{Exchange, ExchangeEnd, Origin, RejectCause, RequestWord, Value};
+use roam_notices::{Exchange, ExchangeEnd, Origin, RejectCause};
 use roam_route::{Datagram, Side, realm_of, realm_part};
 use roam_wire::attribute_type::{ERROR_CAUSE, MESSAGE_AUTHENTICATOR, PROXY_STATE, USER_NAME};
 use roam_wire::{Refusal, View};
 use std::alloc::Global;
-
-/// The station that asks for access (RFC 2865, section 5.31).
-const CALLING_STATION_ID: u8 = 31;
 
 /// What ends by an arrival that is taken.
 #[derive(Clone, Copy)]
@@ -66,37 +65,6 @@ pub fn end_of(side: Side, past: Option<Past>, answer: &Answer<Global>) -> End {
     }
 }
 
-/// A value, where there is one.
-fn value_of(octets: Option<&[u8]>) -> Option<Value> {
-    match octets {
-        Some(octets) => Some(Value::new(octets)),
-        None => None,
-    }
-}
-
-/// What of an exchange a request says: nothing of who it is for and how it ended.
-fn said_by(octets: &[u8], outcome: ExchangeEnd) -> Exchange {
-    let mut exchange = Exchange {
-        outcome,
-        why: None,
-        asked: RequestWord::Other,
-        realm: None,
-        peer: None,
-        server: None,
-        user: None,
-        station: None,
-        milliseconds: 0,
-        tries: 0,
-        times: 1,
-    };
-    if let Ok(view) = View::read(octets) {
-        exchange.asked = RequestWord::of(view.code());
-        exchange.user = value_of(view.first(USER_NAME));
-        exchange.station = value_of(view.first(CALLING_STATION_ID));
-    }
-    exchange
-}
-
 /// The endpoint of a home server's link; none where the link is a peer's.
 fn server_at(config: &Config, realm: u16, link: Link) -> Option<Endpoint> {
     server_endpoint(config.realms.get(usize::from(realm))?, link)
@@ -110,15 +78,20 @@ fn tries_of(config: &Config, realm: u16, sends_left: u8) -> u8 {
     }
 }
 
-/// What is told of a request that was noted, and whose exchange ended so at this moment; nothing where its octets found
-/// no room, or where it didn't wait.
+/// What is told of a request that was noted, and whose exchange ended so at this moment, with this reply, or with none,
+/// which has no octets; nothing where its octets found no room, or where it didn't wait.
 pub fn exchange_of(
     config: &Config,
     notes: &Notes<Global>,
     past: Past,
     outcome: ExchangeEnd,
+    reply: &[u8],
     now: u64,
-) -> Option<Exchange> {
+) -> Option<Exchange>
+    ensures outcome { IfSome result (λ exchange. exchange.outcome ≡ outcome) }
+    ensures charged { IfSome result (λ exchange.
+        octets_if exchange.details.charged ≡ said.charged_by (reading reply.now)) }
+{
     let Stood::Waiting {
         link,
         sends_left,
@@ -132,6 +105,7 @@ pub fn exchange_of(
     exchange.milliseconds = now.saturating_sub(past.came);
     exchange.tries = tries_of(config, past.realm, sends_left);
     exchange.server = server_at(config, past.realm, link);
+    exchange.details.charged = charged_by(reply);
     match (past.requester, link) {
         (Requester::Peer(peer), _) => exchange.peer = Some(peer),
         (Requester::Home(_), Link::Coa(peer)) => {
@@ -144,7 +118,9 @@ pub fn exchange_of(
 }
 
 /// What is told of a reverse request that is answered by a NAK at once.
-pub fn nak_of(datagram: &Datagram<Global>, realm: u16) -> Exchange {
+pub fn nak_of(datagram: &Datagram<Global>, realm: u16) -> Exchange
+    ensures { said.IsSaidBy (reading datagram.now.octets) result }
+{
     let mut exchange = said_by(datagram.octets.as_slice(), ExchangeEnd::Nak);
     exchange.realm = Some(realm);
     exchange.server = Some(datagram.from);
@@ -214,7 +190,9 @@ fn reject_cause(config: &Config, peer: Option<u16>, request: &View<'_>) -> Rejec
 }
 
 /// What is told of a request that the broker rejects by itself.
-pub fn local_reject_of(config: &Config, datagram: &Datagram<Global>) -> Exchange {
+pub fn local_reject_of(config: &Config, datagram: &Datagram<Global>) -> Exchange
+    ensures { said.IsSaidBy (reading datagram.now.octets) result }
+{
     let octets = datagram.octets.as_slice();
     let mut exchange = said_by(octets, ExchangeEnd::LocalReject);
     exchange.peer = config.peer_by_ip(datagram.from.ip);

@@ -21,6 +21,7 @@ mod exchanges;
 mod notice;
 mod notices;
 mod reload_lines;
+mod said;
 
 pub use counted::turn_of;
 pub use counters::{Counters, ThreadCounts};

@@ -80,6 +80,7 @@ impl<'s, 'c, G, N: Opened> Builder<'s, 'c, G, N> {
                 notices: Vec::new(alloc),
                 lines: ExchangeQueues {
                     queues: Vec::new(alloc),
+                    stations: shared.stations,
                     counts: match shared.counters {
                         Some(counters) => counters.of_thread(usize::from(shared.config.shards)),
                         None => None,

@@ -82,14 +82,14 @@ impl<G: Gate, N: Opened> WorkerContext<'_, '_, G, N> {
         }
         let config = self.shared.config;
         let notes = &self.exchanges.notes;
-        match exchange_of(config, notes, past, ExchangeEnd::Replaced, self.now) {
+        match exchange_of(config, notes, past, ExchangeEnd::Replaced, &[], self.now) {
             Some(exchange) => self.exchanges.replace(&exchange, self.now),
             None => self.counting.process(Process::LineDropped),
         }
     }
 
-    /// Tells a request that was noted, where lines tell of those that end so.
-    fn tell_past(&mut self, past: Past, outcome: ExchangeEnd)
+    /// Tells a request that was noted, and that ended with this reply or none, where lines tell of those that end so.
+    fn tell_past(&mut self, past: Past, outcome: ExchangeEnd, reply: &[u8])
         ensures kept { (self.new.seat ≡ self.old.seat) × (self.new.datagrams ≡ self.old.datagrams)
             × (self.new.now ≡ self.old.now) }
     {
@@ -97,7 +97,8 @@ impl<G: Gate, N: Opened> WorkerContext<'_, '_, G, N> {
             return;
         }
         let config = self.shared.config;
-        let exchange = exchange_of(config, &self.exchanges.notes, past, outcome, self.now);
+        let notes = &self.exchanges.notes;
+        let exchange = exchange_of(config, notes, past, outcome, reply, self.now);
         self.tell(exchange);
     }
 
@@ -107,13 +108,13 @@ impl<G: Gate, N: Opened> WorkerContext<'_, '_, G, N> {
             × (self.new.now ≡ self.old.now) }
     {
         self.counting.replied(past, self.now);
-        let code = match answer.outs.first() {
-            Some(out) => out.bytes.as_slice().first(),
-            None => None,
+        let Some(out) = answer.outs.first() else {
+            return;
         };
-        if let Some(code) = code {
+        let reply = out.bytes.as_slice();
+        if let Some(code) = reply.first() {
             if let Some(outcome) = ExchangeEnd::of(*code) {
-                self.tell_past(past, outcome);
+                self.tell_past(past, outcome, reply);
             }
         }
     }
@@ -141,7 +142,7 @@ impl<G: Gate, N: Opened> WorkerContext<'_, '_, G, N> {
             Stood::Held | Stood::Gone => {
                 self.counting.ended(past, CountedEvent::GivenUp);
                 self.counting.unanswered(past);
-                self.tell_past(past, ExchangeEnd::GivenUp);
+                self.tell_past(past, ExchangeEnd::GivenUp, &[]);
             }
         }
     }

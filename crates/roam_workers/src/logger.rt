@@ -5,6 +5,7 @@ use log::{Level, Log, info, log_enabled};
 use roam_conf::Config;
 use roam_counters::Process;
 use roam_notices::{Exchange, push_exchange};
+use roam_stations::StationForm;
 use roam_telling::{Notice, ThreadCounts, notices_in, tell};
 use rtrb::Consumer;
 use std::str;
@@ -42,11 +43,16 @@ fn empty<R: Wait + Log>(rt: &R, config: &Config, queue: &mut Consumer<Notice>) -
 
 /// Adds the line of an exchange, behind a line break where another one stands there: what is told stands before each
 /// line of it. Answers whether there was memory for it.
-fn push_line(text: &mut Vec<u8>, config: &Config, exchange: &Exchange) -> bool {
+fn push_line(
+    text: &mut Vec<u8>,
+    config: &Config,
+    stations: &StationForm,
+    exchange: &Exchange,
+) -> bool {
     if !text.is_empty() && text.push(b'\n').is_err() {
         return false;
     }
-    push_exchange(text, config, exchange).is_ok()
+    push_exchange(text, config, stations, exchange).is_ok()
 }
 
 /// Lines of exchanges that are told at once.
@@ -61,6 +67,7 @@ struct Batch {
 fn take_lines<R: Log>(
     rt: &R,
     config: &Config,
+    stations: &StationForm,
     text: &mut Vec<u8>,
     queue: &mut Consumer<Exchange>,
 ) -> Batch {
@@ -71,7 +78,7 @@ fn take_lines<R: Log>(
         let Ok(exchange) = queue.peek() else {
             return batch;
         };
-        let has_memory = push_line(text, config, exchange);
+        let has_memory = push_line(text, config, stations, exchange);
         if before > 0 && text.len() > OCTETS_AT_ONCE {
             text.truncate(before);
             return batch;
@@ -105,12 +112,13 @@ fn tell_lines<R: Log>(rt: &R, text: &[u8]) -> bool {
 fn empty_lines<R: Wait + Log>(
     rt: &R,
     config: &Config,
+    stations: &StationForm,
     text: &mut Vec<u8>,
     queue: &mut Consumer<Exchange>,
 ) -> u64 {
     let mut dropped = 0u64;
     for _ in rt.forever() {
-        let batch = take_lines(rt, config, text, queue);
+        let batch = take_lines(rt, config, stations, text, queue);
         dropped = dropped.saturating_add(batch.lost);
         if batch.lines == 0 && batch.lost == 0 {
             return dropped;
@@ -129,8 +137,9 @@ fn empty_all_lines<R: Wait + Log>(
     line: &mut Vec<u8>,
     lines: &mut ExchangeQueues<'_>,
 ) {
+    let stations = lines.stations;
     for queue in lines.queues.iter_mut() {
-        let dropped = empty_lines(rt, config, line, queue);
+        let dropped = empty_lines(rt, config, &stations, line, queue);
         lines.dropped = lines.dropped.saturating_add(dropped);
         if let Some(counts) = &lines.counts {
             counts.process(Process::LineDropped, dropped);
@@ -145,6 +154,8 @@ fn empty_all_lines<R: Wait + Log>(
 #[derive(Drop)]
 pub struct ExchangeQueues<'s> {
     pub queues: Vec<Consumer<Exchange>>,
+    /// How lines have a station.
+    pub stations: StationForm,
     /// Where it is counted what is dropped.
     pub counts: Option<ThreadCounts<'s>>,
     /// How many were dropped of which that isn't said yet.

@@ -10,6 +10,7 @@ use mio::Waker;
 use roam_conf::{Config, ExchangeLines};
 use roam_control::{Office, Stopping};
 use roam_hub::{Hub, Opened};
+use roam_stations::StationForm;
 use roam_telling::Counters;
 use std::alloc::Global;
 use std::sync::atomic::{AtomicBool, Ordering};
@@ -33,6 +34,8 @@ pub struct Shared<'s, 'c, G, N: Opened> {
     pub counters: Option<&'s Counters>,
     /// Of which exchanges that end a line tells.
     pub told_exchanges: ExchangeLines,
+    /// How these lines have a station.
+    pub stations: StationForm,
     /// Where the server's own thread is asked for something.
     pub office: &'s Office,
     pub stopping: &'s Stopping,

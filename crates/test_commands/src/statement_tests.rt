@@ -22,6 +22,7 @@ trace_octets = 67108864
 status_server = false
 spread = false
 log_exchanges = \"all\"
+log_station = \"clear\"
 
 [[peer]]
 name = \"nas1\"
@@ -65,6 +66,7 @@ spread = true
 metrics = \"127.0.0.1:9812\"
 control = \"/run/a \\\"b\\\\c\"
 log_exchanges = \"final\"
+log_station = \"hmac\"
 
 [[peer]]
 name = \"nas-1_a.b\"

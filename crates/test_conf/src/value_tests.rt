@@ -62,7 +62,7 @@ const OUTSIDE: [Change; 19] = [
 ];
 
 /// The ends of the ranges of keys that may be absent, and one past each.
-const OPTIONAL_NUMBERS: [Change; 24] = [
+const OPTIONAL_NUMBERS: [Change; 25] = [
     ("shards = 1", "shards = 1\nmax_hops = 1", None),
     ("shards = 1", "shards = 1\nmax_hops = 100", None),
     ("shards = 1", "shards = 1\nmax_hops = 0", BAD_VALUE),
@@ -86,6 +86,7 @@ const OPTIONAL_NUMBERS: [Change; 24] = [
     ("tries = 2", "tries = 2\nrest_after = 257", BAD_VALUE),
     ("shards = 1", "shards = 1\nstatus_server = true", None),
     ("shards = 1", "shards = 1\nspread = true", None),
+    ("shards = 1", "shards = 1\nlog_station = \"hmac\"", None),
     (
         "secret = \"h1\"",
         "secret = \"h1\"\nrequire_seal = true",
@@ -114,12 +115,14 @@ const OPTIONAL_NUMBERS: [Change; 24] = [
 ];
 
 /// Keys that may be absent, with a value of a wrong type, or in a table that doesn't have them.
-const BAD_OPTIONAL_VALUES: [Change; 24] = [
+const BAD_OPTIONAL_VALUES: [Change; 26] = [
     ("shards = 1", "shards = 1\nmax_hops = \"1\"", BAD_VALUE),
     ("shards = 1", "shards = 1\nmax_hops = true", BAD_VALUE),
     ("shards = 1", "shards = 1\ntrace_octets = 1.0", BAD_VALUE),
     ("shards = 1", "shards = 1\nstatus_server = 1", BAD_VALUE),
     ("shards = 1", "shards = 1\nspread = \"true\"", BAD_VALUE),
+    ("shards = 1", "shards = 1\nlog_station = \"md5\"", BAD_VALUE),
+    ("shards = 1", "shards = 1\nlog_station = true", BAD_VALUE),
     ("tries = 2", "tries = 2\nrest = \"0\"", BAD_VALUE),
     ("tries = 2", "tries = 2\nrest_after = [1]", BAD_VALUE),
     (

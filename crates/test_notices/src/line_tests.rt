@@ -1,5 +1,6 @@
 //! The lines of refusals.
 
+use crate::exchange_tests::exchanges;
 use roam_conf::{Endpoint, Place};
 use roam_notices::{Origin, RefusalCount, RefusedText, Sender};
 use roam_wire::Refusal;
@@ -38,6 +39,7 @@ fn expect<R: AllocGlobal + Abort>(
 
 #[test]
 fn lines(rt: HostRuntime) {
+    exchanges(&rt);
     expect(
         &rt,
         Refusal::BadReply,

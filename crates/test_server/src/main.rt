@@ -27,7 +27,7 @@ use crate::reload::Next;
 use crate::row::{ROWS, Row, TAKEN};
 use crate::stage::{Stage, Turnstile};
 use roam_conf::{Config, ExchangeLines};
-use roam_serve::{Build, ControlSocket, ServeFault, ServeOptions, Watch, serve};
+use roam_serve::{Build, ControlSocket, ServeFault, ServeOptions, StationForm, Watch, serve};
 use std::sync::atomic::AtomicU64;
 use std::{io, thread};
 
@@ -57,6 +57,7 @@ fn options<'s, 't, R>(
     ServeOptions {
         watch,
         told_exchanges: ExchangeLines::OfAll,
+        stations: StationForm::Clear,
         milliseconds: Some(row.milliseconds()),
         gate: &stage.turnstile,
     }

@@ -9,7 +9,7 @@ use crate::packets::{
 };
 use roam_conf::{Config, ExchangeLines};
 use roam_reload::hindrance_of;
-use roam_serve::{Following, ServeFault, Source};
+use roam_serve::{Following, ServeFault, Source, StationForm};
 use std::alloc::Global;
 use std::io::{Read, Write};
 use std::net::{Net, SocketAddr};
@@ -39,6 +39,7 @@ impl Source for Next {
             None => Ok(Following {
                 config,
                 told_exchanges: ExchangeLines::OfAll,
+                stations: StationForm::Clear,
                 report: Vec::new(self.alloc),
             }),
             Some(_) => Err(Vec::new(self.alloc)),

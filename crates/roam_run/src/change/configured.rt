@@ -3,6 +3,7 @@
 use roam_conf::{Config, ExchangeLines};
 use roam_control::Reply;
 use roam_sockets::BoundSocket;
+use roam_stations::StationForm;
 use roam_telling::Counters;
 
 /// A configuration that is served, with its sockets and its counts.
@@ -12,6 +13,8 @@ pub struct Configured {
     pub sockets: Vec<BoundSocket>,
     /// Of which exchanges that end a line tells.
     pub told_exchanges: ExchangeLines,
+    /// How these lines have a station.
+    pub stations: StationForm,
     /// What is counted; none where nothing is, or where the counts are those of whoever watches the server.
     pub counters: Option<Counters>,
 }

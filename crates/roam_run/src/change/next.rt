@@ -15,6 +15,7 @@ use roam_hub::{Blanks, Opened};
 use roam_sockets::{
     BoundSocket, RECEIVE_BUFFER, ServeFault, bind_following, descriptors_wanted, widen,
 };
+use roam_stations::StationForm;
 use roam_telling::{Counters, Notice};
 use roam_threads::{Kits, can_start};
 use roam_workers::{Rests, Shared, tell_or_drop};
@@ -115,6 +116,7 @@ fn bind_next<R: Net + Log, G, N: Opened>(
     sockets: &[BoundSocket],
     config: Config,
     told_exchanges: ExchangeLines,
+    stations: StationForm,
 ) -> Result<Configured, ServeFault>
     ensures { IfOk result (λ configured. configured.config ≡ config) }
 {
@@ -129,6 +131,7 @@ fn bind_next<R: Net + Log, G, N: Opened>(
         config,
         sockets,
         told_exchanges,
+        stations,
         counters,
     })
 }
@@ -145,10 +148,11 @@ fn make_next<R: Threads + Wait + Net + Log + Sync, G, N: Opened>(
     let Following {
         config,
         told_exchanges,
+        stations,
         report,
     } = following;
     let alloc = shared.alloc;
-    let configured = bind_next(rt, shared, sockets, config, told_exchanges)?;
+    let configured = bind_next(rt, shared, sockets, config, told_exchanges, stations)?;
     let wanted = descriptors_wanted(shared.config, &configured.config);
     let spare = room_for_threads(rt, alloc, &configured)?;
     let FreshMeans {

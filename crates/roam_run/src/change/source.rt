@@ -6,6 +6,7 @@ ghost use Rattle.roam_reload.specs.Reload.{MayFollow};
 
 use roam_conf::{Config, ExchangeLines};
 use roam_sockets::ServeFault;
+use roam_stations::StationForm;
 use std::alloc::Global;
 
 /// A configuration that is to follow the one that is served.
@@ -14,6 +15,8 @@ pub struct Following {
     pub config: Config,
     /// Of which exchanges that end a line tells.
     pub told_exchanges: ExchangeLines,
+    /// How these lines have a station.
+    pub stations: StationForm,
     /// What is answered to who asked for it, once it is served.
     pub report: Vec<u8>,
 }

@@ -1,5 +1,5 @@
 use Rattle.std.proofs.Common.{◌≡◌, ◌++◌, take}
-use Rattle.roam_notices.specs.Exchanges.{quoted_octets}
+use Rattle.roam_notices.specs.Values.{quoted_octets}
 use Rattle.roam_notices.proofs.exchange_line.push_octets.Given as goal
 
 -- the octets so far
