@@ -73,9 +73,10 @@ asked_of code =
 -- the station as it stands, or its hash, or that it isn't told: these have no quotation marks, so that no station looks
 -- like one
 abbrev pub station_text : StationForm → Option (List ℕ) → List ℕ
+station_text form.Clear (Some station) = value_text (codes " station=") (Some station)
 station_text (form.Hashed key) (Some station) = codes " station=hmac:" ++ digits_text (hash_of key.block station)
 station_text form.Hidden (Some station) = codes " station=hidden"
-station_text _ station = value_text (codes " station=") station
+station_text _ None = value_text (codes " station=") None
 
 abbrev pub address_text : List ℕ → List ℕ
 address_text ip =

@@ -5,7 +5,7 @@ ghost use Rattle.roam_notices.specs.Details as spec;
 ghost use Rattle.roam_notices.specs.Values.{octets_if};
 
 use crate::exchange::Value;
-use crate::exchange_line::{octets_of, push, push_number, push_value};
+use crate::exchange_line::{push, push_number, push_value};
 use std::alloc::AllocError;
 
 /// What a request says of where it comes from and of its session, and its Access-Accept of who is charged.
@@ -77,10 +77,10 @@ impl Details {
 fn push_if(line: &mut Vec<u8>, key: &str, value: &Option<Value>) -> Result<(), AllocError>
     ensures { OnOk result (line.new.items ≡ line.old.items ++ spec.text_if key.now (octets_if value.now)) }
 {
-    if value.is_none() {
-        return Ok(());
+    match value {
+        Some(value) => push_value(line, key, Some(value.octets())),
+        None => Ok(()),
     }
-    push_value(line, key, octets_of(value))
 }
 
 /// The word of an Acct-Status-Type, where it has one (RFC 2866, section 5.1).
@@ -97,6 +97,21 @@ fn status_word(status: u32) -> Option<&'static str>
     }
 }
 
+/// Adds a word, or else a number.
+fn push_word_or_number(
+    line: &mut Vec<u8>,
+    word: Option<&str>,
+    number: u32,
+) -> Result<(), AllocError>
+    ensures { OnOk result (line.new.items
+        ≡ line.old.items ++ spec.word_or_number (spec.shown_word word.entry) number) }
+{
+    match word {
+        Some(word) => push(line, word.as_bytes()),
+        None => push_number(line, "", u64::from(number)),
+    }
+}
+
 /// Adds the Acct-Status-Type, where there is one: its word, or else its number.
 fn push_status(line: &mut Vec<u8>, status: Option<u32>) -> Result<(), AllocError>
     ensures { OnOk result (line.new.items ≡ line.old.items ++ spec.status_text status) }
@@ -104,13 +119,8 @@ fn push_status(line: &mut Vec<u8>, status: Option<u32>) -> Result<(), AllocError
     let Some(status) = status else {
         return Ok(());
     };
-    match status_word(status) {
-        Some(word) => {
-            push(line, b" status=")?;
-            push(line, word.as_bytes())
-        }
-        None => push_number(line, " status=", u64::from(status)),
-    }
+    push(line, b" status=")?;
+    push_word_or_number(line, status_word(status), status)
 }
 
 /// Adds what is said, each where it is there.

@@ -162,7 +162,7 @@ fn peer_name(config: &Config, peer: Option<u16>) -> Option<&[u8]>
 }
 
 /// The octets of a value, if there is one.
-pub(crate) fn octets_of(value: &Option<Value>) -> Option<&[u8]>
+fn octets_of(value: &Option<Value>) -> Option<&[u8]>
     ensures { shown_value result ≡ octets_if value.now }
 {
     match value {

@@ -6,7 +6,7 @@ ghost use Rattle.roam_notices.specs.Values.{digits_of_octet, digits_text, octets
 ghost use Rattle.roam_stations.specs.Hashes.{hash_of};
 
 use crate::exchange::Value;
-use crate::exchange_line::{digit, octets_of, push, push_value};
+use crate::exchange_line::{digit, push, push_value};
 use roam_stations::{StationForm, StationKey, hash_of};
 use std::alloc::AllocError;
 
@@ -48,8 +48,13 @@ pub(crate) fn push_station(
         ≡ line.old.items ++ station_text form.now (octets_if station.now)) }
 {
     match (form, station) {
+        (StationForm::Clear, Some(station)) => push_value(
+            line,
+            " station=",
+            Some(station.octets()),
+        ),
         (StationForm::Hashed(key), Some(station)) => push_hash(line, key, station.octets()),
         (StationForm::Hidden, Some(_)) => push(line, b" station=hidden"),
-        _ => push_value(line, " station=", octets_of(station)),
+        (_, None) => push_value(line, " station=", None),
     }
 }

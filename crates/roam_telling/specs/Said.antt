@@ -1,13 +1,13 @@
 -- What a line of an exchange has of its request, and of its Access-Accept. Ours.
-use Rattle.std.specs.Prelude.{◌≡◌, ◌×◌, ℕ, ◌==◌, List, [], ◌∷◌, Option, Some, None, Result, Ok, Err, option_and_then, option_map, take, if◌then◌else◌}
+use Rattle.std.specs.Prelude.{◌≡◌, ℕ, ◌==◌, List, [], ◌∷◌, Option, Some, None, Result, Ok, Err, option_and_then, option_map, take, if◌then◌else◌}
 use Rattle.std.specs.Int.{w32, from_be_bytes}
-use Rattle.roam_notices.specs.Details.{no_details}
 use Rattle.roam_notices.specs.Exchanges.{asked_of}
 use Rattle.roam_notices.specs.Values.{octets_if}
 use Rattle.roam_notices.specs.declared.details.Details.{Details}
 use Rattle.roam_notices.specs.declared.exchange.Exchange.{Exchange}
-use Rattle.roam_notices.specs.declared.exchange.ExchangeEnd.{ExchangeEnd}
+use Rattle.roam_notices.specs.declared.exchange.RequestWord.{RequestWord}
 use Rattle.roam_notices.specs.declared.exchange.RequestWord.TheVariants as asked
+use Rattle.roam_notices.specs.declared.exchange.Value.{Value}
 use Rattle.roam_wire.specs.Attributes.{first_value}
 use Rattle.roam_wire.specs.Packet.{Packet}
 use Rattle.roam_wire.specs.declared.attribute_type.TheConstants.{ACCT_SESSION_ID, ACCT_STATUS_TYPE, NAS_IDENTIFIER, USER_NAME}
@@ -22,51 +22,49 @@ abbrev pub number_in : List ℕ → Option ℕ
 number_in (a ∷ b ∷ c ∷ d ∷ []) = Some (from_be_bytes w32 (a ∷ b ∷ c ∷ d ∷ []))
 number_in _ = None
 
+-- the same of a packet that may not be read: nothing then
+abbrev pub told_in : ℕ → Result Packet Refusal → Option (List ℕ)
+told_in kind (Ok packet) = told_value kind packet
+told_in kind (Err fault) = None
+
+abbrev pub asked_in : Result Packet Refusal → RequestWord
+asked_in (Ok request) = asked_of request.code
+asked_in (Err fault) = asked.Other
+
+-- the number of the first Acct-Status-Type
+abbrev pub status_in : Result Packet Refusal → Option ℕ
+status_in (Ok request) = option_and_then number_in (first_value ACCT_STATUS_TYPE request.attributes)
+status_in (Err fault) = None
+
 -- Operator-Name (RFC 5580, section 4.1), NAS-Identifier, Called-Station-Id (RFC 2865, sections 5.32, 5.30),
 -- Acct-Status-Type, Acct-Session-Id (RFC 2866, sections 5.1, 5.5)
-pub record AreDetailsIn (request : Packet) (details : Details) : Type 0 where
-  pub operator : octets_if details.operator ≡ told_value 126 request
-  pub nas_id : octets_if details.nas_id ≡ told_value NAS_IDENTIFIER request
-  pub called : octets_if details.called ≡ told_value 30 request
-  pub status : details.status ≡ option_and_then number_in (first_value ACCT_STATUS_TYPE request.attributes)
-  pub session : octets_if details.session ≡ told_value ACCT_SESSION_ID request
+pub record AreDetailsIn (request : Result Packet Refusal) (details : Details) : Type 0 where
+  pub operator : octets_if details.operator ≡ told_in 126 request
+  pub nas_id : octets_if details.nas_id ≡ told_in NAS_IDENTIFIER request
+  pub called : octets_if details.called ≡ told_in 30 request
+  pub status : details.status ≡ status_in request
+  pub session : octets_if details.session ≡ told_in ACCT_SESSION_ID request
   pub charged : details.charged ≡ None
 
 -- User-Name, Calling-Station-Id (RFC 2865, sections 5.1, 5.31) and the details
-pub record AreTold (request : Packet) (exchange : Exchange) : Type 0 where
-  pub asked : exchange.asked ≡ asked_of request.code
-  pub user : octets_if exchange.user ≡ told_value USER_NAME request
-  pub station : octets_if exchange.station ≡ told_value 31 request
-  pub details : AreDetailsIn request exchange.details
-
--- a line of a request that isn't read
-abbrev pub nothing_said : ExchangeEnd → Exchange
-nothing_said end = record {
-  outcome = end;
-  why = None;
-  asked = asked.Other;
-  realm = None;
-  peer = None;
-  server = None;
-  user = None;
-  station = None;
-  milliseconds = 0;
-  tries = 0;
-  times = 1;
-  details = no_details;
-}
+pub record AreTold (request : Result Packet Refusal) (word : RequestWord) (user station : Option Value)
+    (details : Details) : Type 0 where
+  pub asked : word ≡ asked_in request
+  pub user : octets_if user ≡ told_in USER_NAME request
+  pub station : octets_if station ≡ told_in 31 request
+  pub details : AreDetailsIn request details
 
 -- ## What a line has of a request
 -- By its code what was asked; of its attributes the first User-Name, Calling-Station-Id, Operator-Name, NAS-Identifier,
 -- Called-Station-Id, Acct-Status-Type and Acct-Session-Id; of an Access-Accept the first Chargeable-User-Identity.
 -- Source: RFC 2865 section 5, RFC 2866 section 5, RFC 5580 section 4.1, RFC 4372 section 2.2, ours
 -- Rules out: one attribute told as another; who is charged by any other reply
--- Stands in: `roam_telling` `Said.antt`: `AreTold`, `charged_by`; `nak_of`, `local_reject_of`, `exchange_of`
+-- Stands in: `roam_telling` `Said.antt`: `AreTold`, `IsSaidBy`, `charged_by`; `nak_of`, `local_reject_of`,
+-- `exchange_of`
 --
 -- each as it stands in a request; nothing of one that isn't read
 abbrev pub IsSaidBy : Result Packet Refusal → Exchange → Type 0
-IsSaidBy (Ok request) exchange = AreTold request exchange
-IsSaidBy (Err fault) exchange = (exchange.user ≡ None) × (exchange.station ≡ None) × (exchange.details ≡ no_details)
+IsSaidBy request exchange = AreTold request exchange.asked exchange.user exchange.station exchange.details
 
 -- who is charged (RFC 4372, section 2.2)
 abbrev pub charged_by : Result Packet Refusal → Option (List ℕ)

@@ -1,10 +1,11 @@
 //! What a line of an exchange has of its request, and of its Access-Accept.
 
-ghost use Rattle.std.specs.Prelude.{◌≡◌, option_and_then};
+ghost use Rattle.std.specs.Prelude.{◌≡◌, Ok, Err, option_and_then};
 ghost use Rattle.roam_notices.specs.Values.{octets_if};
 ghost use Rattle.roam_telling.specs.Said as spec;
 ghost use Rattle.roam_wire.specs.Attributes.{first_value};
 ghost use Rattle.roam_wire.specs.Reading.{reading};
+ghost use Rattle.roam_wire.specs.declared.refusal.Refusal.{Refusal};
 
 use roam_notices::{Details, Exchange, ExchangeEnd, RequestWord, Value};
 use roam_wire::View;
@@ -51,7 +52,7 @@ fn status_in(request: &View<'_>) -> Option<u32>
 
 /// What details a request says.
 fn details_in(request: &View<'_>) -> Details
-    ensures { spec.AreDetailsIn request.now result }
+    ensures { spec.AreDetailsIn (Ok request.now) result }
 {
     Details {
         operator: value_in(request, OPERATOR_NAME),
@@ -65,7 +66,8 @@ fn details_in(request: &View<'_>) -> Details
 
 /// An exchange that ended so, of which no more is said.
 fn nothing_said(outcome: ExchangeEnd) -> Exchange
-    ensures { result ≡ spec.nothing_said outcome }
+    ensures says { (fault : Refusal) → spec.IsSaidBy (Err fault) result }
+    ensures outcome { result.outcome ≡ outcome }
 {
     Exchange {
         outcome,
@@ -83,19 +85,28 @@ fn nothing_said(outcome: ExchangeEnd) -> Exchange
     }
 }
 
+/// What of an exchange a request says that is read.
+fn said_in(request: &View<'_>, outcome: ExchangeEnd) -> Exchange
+    ensures says { spec.IsSaidBy (Ok request.now) result }
+    ensures outcome { result.outcome ≡ outcome }
+{
+    let mut exchange = nothing_said(outcome);
+    exchange.asked = RequestWord::of(request.code());
+    exchange.user = value_in(request, USER_NAME);
+    exchange.station = value_in(request, CALLING_STATION_ID);
+    exchange.details = details_in(request);
+    exchange
+}
+
 /// What of an exchange a request says: nothing of who it is for and how it ended.
 pub(crate) fn said_by(octets: &[u8], outcome: ExchangeEnd) -> Exchange
     ensures says { spec.IsSaidBy (reading octets.now) result }
     ensures outcome { result.outcome ≡ outcome }
 {
-    let mut exchange = nothing_said(outcome);
-    if let Ok(view) = View::read(octets) {
-        exchange.asked = RequestWord::of(view.code());
-        exchange.user = value_in(&view, USER_NAME);
-        exchange.station = value_in(&view, CALLING_STATION_ID);
-        exchange.details = details_in(&view);
+    match View::read(octets) {
+        Ok(view) => said_in(&view, outcome),
+        Err(_) => nothing_said(outcome),
     }
-    exchange
 }
 
 /// Who is charged by a reply, where it is an Access-Accept that says so.
