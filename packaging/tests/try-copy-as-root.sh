@@ -49,7 +49,7 @@ def attempt(call, *words):
         call(*words)
     except OSError:
         pass
-places = [f'{run}/{folder}/roam.conf' for folder in ('roam', 'roam-conf')] + [f'{run}/roam-conf', f'{run}/roam']
+places = [f'{run}/{folder}/{file}' for folder in ('roam', 'roam-conf') for file in ('roam.conf', 'station.key')] + [f'{run}/roam-conf', f'{run}/roam']
 for aim in itertools.cycle(aims):
     for place in places:
         for _ in range(20):
@@ -67,6 +67,8 @@ copy=$(copy_of)
 must "there is one copy" is "$(wc -w <<< "$copy")" 1
 must "the service reads it" is "$(as $service cat "$copy")" "$(cat "$work/etc/roam/roam.conf")"
 must "others can't" fails as $stranger cat "$copy"
+must "without a key of stations there is no copy of one" is "$(find "$work/run" -name station.key)" ""
+(umask 077 && echo 0123456789abcdef > "$work/etc/roam/station.key")
 
 setpriv --reuid $service --regid $service --clear-groups -- /usr/bin/python3 "$work/racer.py" "$work/run" "$work/shadow" "$work/folder" &
 racer=$!
@@ -90,6 +92,10 @@ run ExecReload
 must "the service reads the new copy" eval "is \"\$(as $service cat '$copy')\" 'secret = \"another\"'"
 must "others can't" fails as $stranger cat "$copy"
 must "the service can't change it" fails as $service sh -c "echo x >> '$copy'"
+key=$(dirname "$copy")/station.key
+must "the service reads the copy of the key" is "$(as $service cat "$key")" "$(cat "$work/etc/roam/station.key")"
+must "others can't" fails as $stranger cat "$key"
+must "the service can't change it" fails as $service sh -c "echo x >> '$key'"
 must "nor its folder" fails as $service touch "$(dirname "$copy")/another"
 kill $racer
 wait $racer || true
