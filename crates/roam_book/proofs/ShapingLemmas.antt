@@ -1,5 +1,5 @@
 -- A request of the realm can be forwarded as it is shaped, and what is forwarded is little longer than it.
-use Rattle.std.proofs.Common.{◌≡◌, ◌≢◌, ℕ, ◌+◌, ◌≤◌, Bool, true, false, List, [], ◌∷◌, ◌++◌, length, Option, Some, None, refl, inl, inr, arith, length-append}
+use Rattle.std.proofs.Common.{◌≡◌, ◌≢◌, ℕ, ◌+◌, ◌≤◌, Bool, true, false, List, [], ◌∷◌, length, Option, Some, None, refl, inl, inr, arith, length-append}
 use Rattle.std.specs.Prelude.{◌==◌, ◌&&◌, if◌then◌else◌}
 use Rattle.std.specs.Option.{ForSome}
 use Rattle.std.proofs.lemmas.Bool.{cases_Bool}
@@ -14,7 +14,7 @@ use Rattle.roam_conf.specs.declared.place.Link.{Link}
 use Rattle.roam_conf.specs.declared.place.Link.TheVariants as link
 use Rattle.roam_filter.specs.Without.{without}
 use Rattle.roam_filter.proofs.WithoutLemmas.{length-without}
-use Rattle.roam_fwd.specs.Forwarded.{CanBeForwarded, challenge_is_authenticator, forwarded_length}
+use Rattle.roam_fwd.specs.Forwarded.{challenge_is_authenticator, forwarded_length}
 use Rattle.roam_fwd.specs.Shaped.{CanBeShaped, HasShortName, Shaping, added_cui, added_operator_name, all_added, challenge_first, no_shaping, passing, shaped, takes_operator_name}
 use Rattle.roam_fwd.proofs.AddedLemmas.{growth-other, growth-sealed, length-added, length-name}
 use Rattle.roam_fwd.proofs.ShapedLemmas.{IsPacket-shaped, length-shaped}

@@ -1,12 +1,11 @@
 use Rattle.std.proofs.Common.{◌≡◌, ◌∙◌, ap, length, subst, sym, arith}
 use Rattle.roam_wire.specs.Reading.{packet_of}
-use Rattle.roam_fwd.specs.Shaped.{CanBeShaped, HasShortName, Shaping, shaped, shown_shaping}
-use Rattle.roam_fwd.specs.Forwarded.{forwarded_length}
+use Rattle.roam_fwd.specs.Shaped.{shown_shaping}
 use Rattle.roam_pending.specs.PlainEntry.{PlainRequest}
 use Rattle.roam_book.specs.RealmConfig.{RealmConfig}
 use Rattle.roam_book.specs.RealmState.{Target}
 use Rattle.roam_book.specs.OnRequest.{forwarded_octets}
-use Rattle.roam_book.specs.Shapings.{forwarded_size, shaping}
+use Rattle.roam_book.specs.Shapings.{shaping}
 use Rattle.roam_book.specs.Sound.{shown_request, IsWaiting}
 use Rattle.roam_book.proofs.SendingLemmas.{IsSpelt, IsWaiting-forwarded, length-forwarded_octets, octets-written}
 use Rattle.roam_book.proofs.ShapingLemmas.{can-be-shaped}

@@ -1,5 +1,4 @@
-use Rattle.std.proofs.Common.{◌≡◌, sym, subst}
-use Rattle.roam_wire.specs.Reading.{packet_of}
+use Rattle.std.proofs.Common.{◌≡◌, subst}
 use Rattle.roam_fwd.specs.Shaped.{HasShortName, shown_shaping}
 use Rattle.roam_book.specs.Shapings.{shaping}
 use Rattle.roam_book.specs.Sound.{shown_request}
