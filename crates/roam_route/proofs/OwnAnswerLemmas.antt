@@ -10,6 +10,7 @@ use Rattle.roam_wire.specs.declared.refusal.Refusal.TheVariants as refusal
 use Rattle.roam_conf.specs.Config.{ConfigView, PeerView}
 use Rattle.roam_conf.specs.Secrets as secrets
 use Rattle.roam_conf.specs.declared.accounting.Accounting.{Accounting}
+use Rattle.roam_conf.specs.declared.accounting.Accounting.TheVariants.{Forwarded, Answered, Dropped}
 use Rattle.roam_conf.specs.declared.endpoint.Endpoint.{Endpoint}
 use Rattle.roam_conf.specs.declared.place.Link.{Link}
 use Rattle.roam_conf.specs.declared.place.Place.{Place}
@@ -23,7 +24,7 @@ use Rattle.roam_route.specs.Admission.{Arrival, Admission, sender, checked, acco
 use Rattle.roam_route.specs.declared.job.Side.{Side}
 use Rattle.roam_route.specs.declared.job.Side.TheVariants as side
 use Rattle.roam_route.specs.OwnPart.{AnswerAlike, OwnAnswersDecided, answered}
-use Rattle.roam_route.proofs.OwnLemmas.{LooksAlike, access_by, asked, peer-found, realm-same, seal-same, secret-same}
+use Rattle.roam_route.proofs.AlikeLemmas.{LooksAlike, access_by, asked, peer-found, realm-same, seal-same, secret-same}
 
 -- what is checked is answered nowhere, where what follows isn't
 none-checked : (b : Bool) (why : Refusal) (x : Admission) → answered x ≡ None → answered (checked b why x) ≡ None
@@ -66,7 +67,7 @@ not-answered size a s p realm names =
     none-checked (nat_le size MAX_PACKET_LENGTH) refusal.TooLong (job_of a s p realm names) refl
 
 by-same : (way : Accounting) (m n : ℕ) (secret : List ℕ) (a : Arrival) (s : Side) (p : Packet) (realm : ℕ)
-    → answered (by_accounting way m secret a s p realm) ≡ answered (by_accounting way n secret a s p realm)
+    → answered (by_accounting m secret a s p realm way) ≡ answered (by_accounting n secret a s p realm way)
 by-same Forwarded m n secret a s p realm =
     not-answered m a s p realm (Some realm) ∙ sym (not-answered n a s p realm (Some realm))
 by-same Answered m n secret a s p realm = refl
@@ -125,10 +126,11 @@ module _ (one other : ConfigView) (same : AnswerAlike one other) where
       let m : ℕ = sent_length one s p realm in
       let n : ℕ = sent_length other s p realm in
       let way : Accounting = accounting_in other realm in
-      ap₂ (λ (b : Bool) (w : Accounting). answered (checked b refusal.NotForPeer (by_accounting w m secret a s p realm)))
+      ap₂ (λ (b : Bool) (w : Accounting).
+      answered (checked b refusal.NotForPeer (by_accounting m secret a s p realm w)))
       (takes-all realm s) (same.accounting realm)
-      ∙ answered-checked (takes_of other realm s) refusal.NotForPeer (by_accounting way m secret a s p realm)
-      (by_accounting way n secret a s p realm) (by-same way m n secret a s p realm)
+      ∙ answered-checked (takes_of other realm s) refusal.NotForPeer (by_accounting m secret a s p realm way)
+      (by_accounting n secret a s p realm way) (by-same way m n secret a s p realm)
 
   access-same : (secret : List ℕ) (a : Arrival) (s : Side) (p : Packet)
       → answered (route_request one secret a s p place.Auth) ≡ answered (route_request other secret a s p place.Auth)

@@ -23,7 +23,9 @@ use Rattle.roam_route.specs.AdmittedRequests.{IsRequestAt, IsRightlySigned, seal
 use Rattle.roam_route.specs.declared.job.Side.{Side}
 use Rattle.roam_route.specs.declared.job.Side.TheVariants as side
 use Rattle.roam_route.proofs.RequestTestLemmas.{signed_decided, sealed_decided, needed_decided, size_by, passed_decided}
-use Rattle.roam_route.proofs.AdmittedLemmas.{asked_named, fails, Fits, other_hops, access_hops, front_checked, reverse_other, judged_is, as_sent}
+use Rattle.roam_route.proofs.RoutedLemmas.{asked_named, fails, Fits}
+use Rattle.roam_route.proofs.RightLemmas.{other_hops, access_hops, front_checked, reverse_other}
+use Rattle.roam_route.proofs.AdmittedLemmas.{judged_is, as_sent}
 
 -- ---- what is refused
 
@@ -36,7 +38,7 @@ size_fails size a s p realm named why =
 
 -- what becomes of the realm's accounting
 accounting_fails : (way : Accounting) (size : ℕ) (secret : List ℕ) (a : Arrival) (s : Side) (p : Packet) (realm : ℕ)
-    (why : Refusal) → (by_accounting way size secret a s p realm ≡ refused why) ↔ FailsToAccount way size why
+    (why : Refusal) → (by_accounting size secret a s p realm way ≡ refused why) ↔ FailsToAccount way size why
 accounting_fails Forwarded size secret a s p realm why = size_fails size a s p realm (Some realm) why
 accounting_fails Answered size secret a s p realm why = (λ h. absurd (cc h), λ h. absurd h)
 accounting_fails Dropped size secret a s p realm why = (
@@ -56,7 +58,7 @@ accounted_fails config secret a s p (Some realm) why =
     let itself : IsTrue (takes_of config realm s) ↔ IsTrue (takes_of config realm s) = (λ h. h, λ h. h) in
     let size : ℕ = sent_length config s p realm in
     fails (FailsToAccount way size) (takes_of config realm s) refusal.NotForPeer
-    (by_accounting way size secret a s p realm) why itself (accounting_fails way size secret a s p realm why)
+    (by_accounting size secret a s p realm way) why itself (accounting_fails way size secret a s p realm why)
 
 -- an Accounting-Request that is answered since it has no name isn't refused
 acct_fails : (config : ConfigView) (secret : List ℕ) (a : Arrival) (s : Side) (p : Packet) (why : Refusal)

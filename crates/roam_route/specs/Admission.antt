@@ -193,17 +193,17 @@ abbrev pub accounting_in : ConfigView → ℕ → Accounting
 accounting_in config realm = option_map_or (λ r. r.accounting) (slice_get config.realms realm) Forwarded
 
 -- an Accounting-Request of a realm, by what becomes of that, and by the size of what is forwarded
-abbrev pub by_accounting : Accounting → ℕ → List ℕ → Arrival → Side → Packet → ℕ → Admission
-by_accounting Forwarded size secret a s p realm = forwarded_for size a s p realm (Some realm)
-by_accounting Answered size secret a s p realm = answered_by a (accounting_answer secret p)
-by_accounting Dropped size secret a s p realm = refused refusal.AccountingDropped
+abbrev pub by_accounting : ℕ → List ℕ → Arrival → Side → Packet → ℕ → Accounting → Admission
+by_accounting size secret a s p realm Forwarded = forwarded_for size a s p realm (Some realm)
+by_accounting size secret a s p realm Answered = answered_by a (accounting_answer secret p)
+by_accounting size secret a s p realm Dropped = refused refusal.AccountingDropped
 
 -- an Accounting-Request that names its realm, or none: the realm has to take the sender's requests
 abbrev pub accounted : ConfigView → List ℕ → Arrival → Side → Packet → Option ℕ → Admission
 accounted config secret a s p None = refused refusal.NoRealm
 accounted config secret a s p (Some realm) =
     checked (takes_of config realm s) refusal.NotForPeer
-    (by_accounting (accounting_in config realm) (sent_length config s p realm) secret a s p realm)
+    (by_accounting (sent_length config s p realm) secret a s p realm (accounting_in config realm))
 
 -- whether a request has no User-Name
 abbrev pub is_unnamed : List Attribute → Bool

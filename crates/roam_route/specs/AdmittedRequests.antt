@@ -101,11 +101,12 @@ IsForwarded config realm = accounting_in config realm ≡ Forwarded
 -- and none beside a CHAP-Password. It is for a realm: a home server's for the realm of its place, a peer's for
 -- the one that its User-Name names, which takes that peer's requests and, of an Accounting-Request, has its accounting
 -- forwarded. The packet that is forwarded for it has at most 4096 octets: of a peer's request as the peer and the
--- realm have it shaped, of a home server's as it came. An arrival gives a realm a request just where it is one; what isn't is refused for the first of these parts that fails, in this order:
--- code, signature, Message-Authenticator, that there is one where it must be, hops, realm, that it may be asked, its
--- accounting, size. (An Access-Request that fails in its realm, passwords or hops is answered by a local reject, whose
--- size is then the last part; an Accounting-Request without a name, or for a realm that has these answered, may be
--- answered by the broker, and isn't refused then.)
+-- realm have it shaped, of a home server's as it came. An arrival gives a realm a request just where it is one; what
+-- isn't is refused for the first of these parts that fails, in this order: code, signature, Message-Authenticator,
+-- that there is one where it must be, hops, realm, that it may be asked, its accounting, size. (An Access-Request
+-- that fails in its realm, passwords or hops is answered by a local reject, whose size is then the last part; an
+-- Accounting-Request without a name, or for a realm that has these answered, may be answered by the broker, and isn't
+-- refused then.)
 -- Source: RFC 2865 sections 3, 4.1, 5.2 and 5.33, RFC 2866 sections 3 and 4.1, RFC 3579 sections 3.1 and 3.2,
 -- RFC 5176 sections 2.3 and 3.4; the order, the limit of hops, the seal that is required and that a seal over
 -- zeros is wanted in accounting: ours

@@ -1,5 +1,5 @@
 -- How a realm has the requests of its peers forwarded (ours).
-use Rattle.std.specs.Prelude.{ℕ, List, ◌++◌, Option, Some, None, slice_get}
+use Rattle.std.specs.Prelude.{ℕ, ◌++◌, Option, Some, None, slice_get}
 use Rattle.roam_wire.specs.Packet.{Packet}
 use Rattle.roam_conf.specs.Config.{ConfigView, PeerView, RealmView}
 use Rattle.roam_fwd.specs.Forwarded.{forwarded_length}
