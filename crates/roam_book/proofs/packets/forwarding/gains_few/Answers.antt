@@ -13,8 +13,8 @@ returns c =
     let q = shown_request c.args.asked in
     let code : c.code-code.result ≡ (packet_of q.octets).code =
     c.code-code.ensures ∙ ap (λ (x : Packet). x.code) c.of_packet.ensures in
-    let shape : shown_shaping c.shaping_of-_shaping.result ≡ shaping c.args.settings.now q c.args.link =
-    c.shaping_of-_shaping.ensures.shaping
+    let shape : shown_shaping c.shaping_of-shaping.result ≡ shaping c.args.settings.now q c.args.link =
+    c.shaping_of-shaping.ensures.shaping
     ∙ ap (λ (k : ℕ). shaping_of c.args.settings.now q.requester k c.args.link) code in
     forwarded_size-request c.args.settings.now q c.args.link c.requires.request
-    (subst HasShortName shape c.shaping_of-_shaping.ensures.name)
+    (subst HasShortName shape c.shaping_of-shaping.ensures.name)
