@@ -83,9 +83,9 @@ given_admits config a s p realm names h forwardable named_so = record {
 }
 
 -- a request that can be sealed and whose passwords can be hidden anew
-record IsSealable (p : Packet) : Type 0 where
-  seal : HasAtMostOneMessageAuthenticator p
-  passwords : p.code ≡ ACCESS_REQUEST → AllByRecursion HasPasswordBlocks p.attributes
+pub record IsSealable (p : Packet) : Type 0 where
+  pub seal : HasAtMostOneMessageAuthenticator p
+  pub passwords : p.code ≡ ACCESS_REQUEST → AllByRecursion HasPasswordBlocks p.attributes
 
 forwardable_from : (config : ConfigView) (realm : ℕ) (s : Side) (p : Packet) → IsSealable p
     → sent_length config s p realm ≤ 4096 → IsForwardable config realm s p
