@@ -34,6 +34,7 @@ pages:
 	python3 tools/theorem.py
 	python3 tools/definitions.py
 	python3 tools/claims.py
+	tools/metrics.py
 	python3 tools/pictures.py
 	tools/names.py
 	tools/counts.py

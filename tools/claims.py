@@ -8,8 +8,9 @@ In the head of a crate's lib.rt (main.rt, of a program) stands, behind "//! # Pr
 
     //! - the claim, in words | `function`: `clause`, `clause`; the law `name`
 
-Wrong is a page that isn't this, a crate with such a list that docs/claims.txt doesn't name, and a name behind the bar that is no
-function, type, clause, field or definition of the product.
+A name behind the bar is a function, type, clause, field or definition of the claim's own crate, or of one that the claim names there;
+or docs/claims.txt says which crate has it, and then the page does. Wrong is a name of which none of these is so, a page that isn't
+this, and a crate with such a list that docs/claims.txt doesn't name.
 """
 import pathlib
 import re
@@ -39,16 +40,24 @@ def head_of(crate: pathlib.Path) -> list[tuple[str, str]]:
     return [(claim, where) for claim, _, where in (row.partition(" | ") for row in rows)]
 
 
-def names_of_product() -> set[str]:
-    """Functions, types, clauses, fields and definitions of all crates."""
-    names: set[str] = set()
-    for path in ROOT.glob("crates/*/src/**/*.rt"):
+def names_of(crate: str) -> set[str]:
+    """Functions, types, clauses, fields and definitions of a crate, and its own name."""
+    names = {crate}
+    for path in ROOT.glob(f"crates/{crate}/src/**/*.rt"):
         text = path.read_text(encoding="utf-8")
         names |= set(re.findall(r"\b(?:fn|struct|enum|trait|type|const|ensures|requires|ghost|mod) ([A-Za-z_0-9]+)", text))
         names |= set(re.findall(r"^\s+(?:pub )?([A-Za-z_0-9]+)(?::|,$| \{)", text, re.M))
-    for path in ROOT.glob("crates/*/specs/**/*.antt"):
+    for path in ROOT.glob(f"crates/{crate}/specs/**/*.antt"):
         names |= set(re.findall(r"\bpub (?:record |data )?([A-Za-z_][A-Za-z0-9_'-]*)", path.read_text(encoding="utf-8")))
     return names
+
+
+def names_elsewhere() -> dict[str, dict[str, str]]:
+    """Of each crate the names behind its claims that another one has, and which: the lines of docs/claims.txt that begin with @."""
+    found: dict[str, dict[str, str]] = {}
+    for crate, other, names in re.findall(r"^@ (\w+): (\w+) has (.+)$", ORDER.read_text(encoding="utf-8"), re.M):
+        found.setdefault(crate, {}).update({it: other for it in names.split()})
+    return found
 
 
 def crates() -> list[pathlib.Path]:
@@ -57,34 +66,46 @@ def crates() -> list[pathlib.Path]:
 
 def written() -> str:
     """The page."""
-    page = [MARK]
+    page, elsewhere = [MARK], names_elsewhere()
     for line in ORDER.read_text(encoding="utf-8").split("\n"):
         if line.startswith(">"):
             page.append(line[1:].removeprefix(" "))
         elif line.startswith("### "):
             page.append(f"\n{line}\n\n| crate | theorem | where |\n|---|---|---|")
-        elif line and not line.startswith("#"):
+        elif line and not line.startswith(("#", "@")):
             for name in line.split():
                 for place, (claim, where) in enumerate(head_of(ROOT / "crates" / name)):
+                    for other, crate in elsewhere.get(name, {}).items():
+                        where = where.replace(f"`{other}`", f"`{crate}::{other}`")
                     page.append(f"| {f'`{name}`' if place == 0 else ''} | {claim} | {where} |".replace("|  |", "| |"))
     return re.sub(r"\n{3,}", "\n\n", "\n".join(page)).rstrip("\n") + "\n"
 
 
+def lost_names(crate: str, elsewhere: dict[str, str]) -> list[str]:
+    """What is wrong with the names behind a crate's claims."""
+    said, own, unused = [], names_of(crate) | {"Display"}, set(elsewhere)
+    for claim, where in head_of(ROOT / "crates" / crate):
+        if not where:
+            said.append(f"{crate}: without a place: {claim}")
+        quoted = re.findall(r"`([^`]+)`", where)
+        named = {part for it in quoted for part in it.split("::") if (ROOT / "crates" / part).is_dir()}
+        known = own.union(*(names_of(it) for it in named))
+        for it in quoted:
+            has = names_of(elsewhere[it]) if it in elsewhere else known
+            unused.discard(it)
+            if re.fullmatch(r"[A-Za-z_:]+", it) and not set(it.split("::")) <= has:
+                said.append(f"{crate}: {elsewhere.get(it, 'it')} has no {it}: {claim[:60]}")
+    return said + [f"docs/claims.txt: no claim of {crate} names {it}" for it in sorted(unused)]
+
+
 def faults() -> list[str]:
     """What is wrong with the heads."""
-    said = []
-    named = set(re.findall(r"\w+", "\n".join(it for it in ORDER.read_text(encoding="utf-8").split("\n") if not it.startswith((">", "#")))))
-    names = names_of_product() | {it.name for it in ROOT.glob("crates/*")} | {"Display"}
+    said, elsewhere = [], names_elsewhere()
+    named = set(re.findall(r"\w+", "\n".join(it for it in ORDER.read_text(encoding="utf-8").split("\n") if not it.startswith((">", "#", "@")))))
     for crate in crates():
-        rows = head_of(crate)
-        if bool(rows) != (crate.name in named):
+        if bool(head_of(crate)) != (crate.name in named):
             said.append(f"docs/claims.txt and the head of {crate.name} don't agree whether it has claims")
-        for claim, where in rows:
-            if not where:
-                said.append(f"{crate.name}: without a place: {claim}")
-            for quoted in re.findall(r"`([^`]+)`", where):
-                if re.fullmatch(r"[A-Za-z_:]+", quoted) and not set(quoted.split("::")) <= names:
-                    said.append(f"{crate.name}: {quoted} isn't there: {claim[:60]}")
+        said += lost_names(crate.name, elsewhere.get(crate.name, {}))
     return said
 
 

@@ -21,6 +21,12 @@ def made(path: pathlib.Path) -> bool:
     return path.name == "THEOREM.md" or path.read_text(encoding="utf-8").startswith("<!-- Made by")
 
 
+def by_hand_in(path: pathlib.Path) -> int:
+    """How many words of a page are written by hand: not a page that a tool makes, nor what it makes between two marks."""
+    text = re.sub(r"<!-- (\w+): made by .*?<!-- \1: end -->", "", path.read_text(encoding="utf-8"), flags=re.S)
+    return 0 if made(path) else len(text.split())
+
+
 def measures(root: pathlib.Path) -> list[tuple[str, str]]:
     rows = []
     bodies, files, clauses, body_lines, arguments = [], [], 0, 0, 0
@@ -56,7 +62,7 @@ def measures(root: pathlib.Path) -> list[tuple[str, str]]:
         rows.append((f"{kind}: files, longest, lines, over 120 columns (no imports)",
                      f"{len(texts)}, {max(it.count(chr(10)) for it in texts)}, {len(lines)}, {sum(len(it) > 120 and not re.match(r'.*use ', it) for it in lines)}; imports {imports}"))
     pages = sorted((root / "docs").glob("*.md"))
-    by_hand = sum(len(it.read_text(encoding="utf-8").split()) for it in pages if not made(it))
+    by_hand = sum(by_hand_in(it) for it in pages)
     made_of = sum(len(it.read_text(encoding="utf-8").split()) for it in (root / "docs").glob("*.txt") if it.name != "minutes.txt")
     rows.append(("pages: words by hand (and in what pages are made of), generated",
                  f"{by_hand} ({made_of}), {sum(len(it.read_text(encoding='utf-8').split()) for it in pages if made(it))}"))

@@ -4,7 +4,8 @@
     tools/names.py          prints each of them with its page and line; ends with 1 where there is one
 
 It looks at README.md and docs/*.md: at paths in backticks and in links, at `Type::function` and `crate::function` in
-backticks, at names whose link leads to a file of code, which has to have them, and at names behind "the law" or "the laws".
+backticks, which one crate has to have, and that one where it is named; at names whose link leads to a file of code, which has to
+have them; and at names behind "the law" or "the laws".
 """
 import pathlib
 import re
@@ -16,17 +17,24 @@ KNOWN_TYPES = {"Option", "Result", "Vec", "String", "Hash", "UdpSocket", "Scope"
 OWN_FOLDERS = ("crates", "docs", "oracle", "load", "packaging", "mistakes", "tools", "examples")
 
 
-def names_of_code() -> tuple[set[str], set[str], set[str]]:
-    """The functions, the types, traits and enum's cases, and the modules and crates of the repository."""
-    functions, types, modules = set(), set(), set()
+def names_of_code() -> dict[str, tuple[set[str], set[str]]]:
+    """Of each crate the functions, and the types, traits, enum's cases and modules, itself among them."""
+    found: dict[str, tuple[set[str], set[str]]] = {}
     for path in ROOT.glob("crates/*/src/**/*.rt"):
+        crate = path.relative_to(ROOT / "crates").parts[0]
+        functions, others = found.setdefault(crate, (set(), {crate}))
         text = path.read_text(encoding="utf-8")
-        functions |= set(re.findall(r"\bfn ([a-z_0-9]+)", text))
-        types |= set(re.findall(r"\b(?:struct|enum|trait|type) ([A-Za-z0-9]+)", text))
-        types |= set(re.findall(r"^\s+([A-Z][A-Za-z0-9]*)\b", text, re.M))
+        functions |= set(re.findall(r"\b(?:fn|ghost) ([a-z_0-9]+)", text))
         functions |= set(re.findall(r"\bconst ([A-Z_0-9]+)", text)) | set(re.findall(r"^\s+(?:pub )?([a-z_0-9]+):", text, re.M))
-        modules |= {path.stem, path.relative_to(ROOT / "crates").parts[0]}
-    return functions, types, modules
+        others |= set(re.findall(r"\b(?:struct|enum|trait|type) ([A-Za-z0-9]+)", text))
+        others |= set(re.findall(r"^\s+([A-Z][A-Za-z0-9]*)\b", text, re.M)) | {path.stem}
+    return found
+
+
+def is_there(code: dict[str, tuple[set[str], set[str]]], crate: str, first: str, second: str) -> bool:
+    """Whether a crate, the named one where one is, has the first name, and the second one as a function, a type or a module."""
+    return any(first in others and (second in functions or second in others)
+               for name, (functions, others) in code.items() if crate in ("", name))
 
 
 def spec_names() -> set[str]:
@@ -50,7 +58,7 @@ def missing_file(name: str, page: pathlib.Path) -> bool:
 
 def faults_of(page: pathlib.Path, code, specs: set[str]) -> list[str]:
     """What a page names that isn't there."""
-    functions, types, modules = code
+    functions = set().union(*(it for it, _ in code.values()))
     faults, is_code = [], False
     for number, line in enumerate(page.read_text(encoding="utf-8").split("\n"), 1):
         if line.startswith("```"):
@@ -68,12 +76,10 @@ def faults_of(page: pathlib.Path, code, specs: set[str]) -> list[str]:
         for quoted in re.findall(r"`([^`]+)`", line):
             if "/" in quoted and missing_file(quoted.split(" ")[0], page):
                 said.append(quoted)
-            found = re.fullmatch(r"(?:roam_[a-z_]+::)?([A-Za-z_]+)::([a-z_]+)(?:\(\))?", quoted)
-            if found and found.group(1) not in KNOWN_TYPES:
-                first, second = found.groups()
-                if (first not in types and first not in modules) or (second not in functions and second not in modules):
-                    said.append(quoted)
-        for law in re.findall(r"\blaws? `([a-z_]+)`", line):
+            found = re.fullmatch(r"(?:(roam_[a-z_]+)::)?([A-Za-z_]+)::([A-Za-z_]+)(?:\(\))?", quoted)
+            if found and found.group(2) not in KNOWN_TYPES and not is_there(code, found.group(1) or "", *found.groups()[1:]):
+                said.append(quoted)
+        for law in re.findall(r"\blaws? `(?:roam_[a-z_]+::)?([a-z_]+)`", line):
             if law not in functions and law not in specs:
                 said.append("law " + law)
         faults += [f"{page.relative_to(ROOT)}:{number}: {it} isn't there" for it in said]

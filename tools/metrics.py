@@ -1,0 +1,110 @@
+#!/usr/bin/env python3
+"""Writes docs/METRICS.md from what roam_metrics gives to Prometheus: names, labels, their values, and what each means (its HELP).
+
+    tools/metrics.py            writes the page
+    tools/metrics.py --check    says what is wrong, or that the page is what the sources give; ends with 1 where something is
+
+Wrong is a page that isn't this, and a name in the sources of which nothing is told.
+"""
+import pathlib
+import re
+import sys
+
+ROOT = pathlib.Path(__file__).resolve().parent.parent
+SOURCES = ROOT / "crates" / "roam_metrics" / "src"
+PAGE = ROOT / "docs" / "METRICS.md"
+TEXT = r'"([^"]*)"'
+HEAD = """<!-- Made by tools/metrics.py from crates/roam_metrics/src: change that. -->
+
+# The metrics of `roam serve`
+
+What `GET /metrics` and `roam ctl PATH metrics` answer, in Prometheus' text format. `docs/OPERATING.md`, "Counts, for Prometheus", says
+how one comes to them, and what is seen by them.
+"""
+
+ABOUT_WHO = """
+Those that aren't 0, each with the label `realm`, or `realm` and `server` (the home server's `auth`), or `peer`.
+"""
+
+
+def source(name: str) -> str:
+    return (SOURCES / f"{name}.rt").read_text(encoding="utf-8")
+
+
+def row(name: str, label: str, values: list[str], told: str) -> str:
+    """A row of a table. Of a few values each stands there, of codes and numbers none."""
+    said = f"`{label}`" + (": " + ", ".join(f"`{it}`" for it in values) if 0 < len(values) < 6 else "") if label else ""
+    return f"| `{name}` | {said} | {told} |".replace("|  |", "| |")
+
+
+def of_server() -> list[str]:
+    found = re.findall(rf"OfServer \{{\s*name: {TEXT},\s*help: {TEXT},\s*label: {TEXT},\s*samples: &\[(.*?)\],\n    \}}", source("of_server"), re.S)
+    rows = [row(name, label, re.findall(rf"\(\s*{TEXT}", samples), told) for name, told, label, samples in found]
+    rows += [row(name, "number", [], told) for name, told in re.findall(rf'let name = {TEXT};\s*push_header\(\s*page,\s*name,\s*{TEXT},\s*MetricKind::Counter', source("pages"))]
+    rows += [row(name, "", [], told) for name, told in re.findall(rf'let name = {TEXT};\s*push_header\(\s*page,\s*name,\s*{TEXT},\s*MetricKind::Gauge', source("pages"))]
+    for part in re.split(r"\nfn ", source("about_page")):
+        for name, told in re.findall(rf"let name = {TEXT};\s*let help = {TEXT};", part):
+            label = "version`, `toolchain" if "about.toolchain" in part else "outcome" if "served" in part else ""
+            rows.append(row(name, label, ["served", "declined"] if label == "outcome" else [], told))
+    return rows
+
+
+def families() -> list[str]:
+    rows = []
+    for file in ("request_families", "reply_families"):
+        for block in re.findall(r": Family = Family \{(.*?)\n\};", source(file), re.S):
+            names, told = re.findall(rf"(?:realm|server|peer): {TEXT},", block), re.search(rf"help: {TEXT}", block).group(1)
+            label = re.search(rf"label: Some\({TEXT}\)", block)
+            values = re.findall(rf"\(\s*{TEXT}", block.split("samples:")[1])
+            every = {re.sub("^roam_(realm|server|peer)_", "roam_WHO_", it) for it in names}
+            rows += [row(it, label.group(1) if label else "", values if label else [], told) for it in sorted(every)]
+    return rows
+
+
+def standing() -> list[str]:
+    rows = []
+    for file, kind in (("about_page", "Limit"), ("gauges", "OfGauges")):
+        text = source(file)
+        names = dict(re.findall(rf"{kind}::(\w+) => {TEXT}", text.split("fn name(self)")[1].split("fn help(self)")[0]))
+        told = dict(re.findall(rf"{kind}::(\w+) =>\s*\{{?\s*{TEXT}", text.split("fn help(self)")[1].split("fn of")[0]))
+        rows += [row(name, "realm" if name.startswith("roam_realm_") else "realm`, `server`, `service", [], told[it]) for it, name in names.items()]
+    rows += [row(name, "realm`, `server`, `le", [], told) for name, told in re.findall(rf"push_header\(\s*page,\s*{TEXT},\s*{TEXT}", source("times"))]
+    return rows
+
+
+def written() -> str:
+    """The page."""
+    page = [HEAD]
+    for head, rows in (("Of the whole server", of_server()),
+                       ("WHO is `realm`, `server` or `peer`", families()),
+                       ("How they stand, each realm when it is looked at", standing())):
+        about = ABOUT_WHO if head.startswith("WHO") else ""
+        page += [f"\n## {head}\n{about}\n| metric | labels | |\n|---|---|---|", *rows]
+    return "\n".join(page).replace("\n\n\n", "\n\n") + "\n"
+
+
+def faults() -> list[str]:
+    """What is wrong."""
+    page = written()
+    told = {it.replace("_WHO_", who) for it in re.findall(r"`(\w+)`", page) for who in ("_realm_", "_server_", "_peer_")}
+    names = {it for path in SOURCES.glob("*.rt") for it in re.findall(r'"((?:roam|process)_\w+)"', path.read_text(encoding="utf-8"))}
+    said = [f"nothing is told of {it}" for it in sorted(names) if re.sub("_(sum|count|bucket)$", "", it) not in told]
+    if not PAGE.exists() or PAGE.read_text(encoding="utf-8") != page:
+        said.append("docs/METRICS.md isn't what the sources give: run tools/metrics.py")
+    return said
+
+
+def main() -> int:
+    if sys.argv[1:] == ["--check"]:
+        said = faults()
+        print("\n".join(said) or "the metrics' page is what the sources give")
+        return int(bool(said))
+    if sys.argv[1:]:
+        print(__doc__, file=sys.stderr)
+        return 2
+    PAGE.write_text(written(), encoding="utf-8")
+    return 0
+
+
+if __name__ == "__main__":
+    sys.exit(main())
