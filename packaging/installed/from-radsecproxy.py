@@ -429,6 +429,8 @@ class Conversion:
         also = [item for item in items if item != name]
         is_forwarded = any(partner for _, partner in pairs)
         out.lose_options(block, {"server", "accountingserver", "accountingresponse"})
+        if "*" in items:
+            out.change(f"realm {block.name}: radsecproxy takes names without an `@` here; roam rejects them")
         if not whole:
             out.put("# `name` is required, and this realm has patterns alone: this name is nobody's.")
         retries, interval = (first.get("retrycount", "2"), first.get("retryinterval", "5"))
