@@ -181,6 +181,18 @@ class Played:
         return None if returned == accept[1] else f"returned {returned}"
 
 
+def share(played):
+    """What is wrong of a realm's share: of one name, dead at home, no more wait than the sample has; another name goes on."""
+    peer = next(it for it in played.config.peers if it["name"] == "university")
+    played.now += 100000
+    numbers = []
+    for number in range(66):
+        user = "u@alive.org" if number == 65 else "u@dead.org"
+        octets = request(ACCESS, number, user, peer["secret"].encode(), None)
+        numbers.append(played.event(f"A {played.now} auth {peer['ip']}:40001 {octets.hex()}")[1])
+    return [] if numbers == [None] * 64 + [27, None] else [f"federation: of one name {numbers.count(None)} wait, {numbers[-2:]}"]
+
+
 def run(program, *words):
     ran = subprocess.run([program, *words], capture_output=True, text=True, timeout=60, check=False)
     return ran.returncode, ran.stdout, ran.stderr
@@ -212,6 +224,7 @@ def main():
         wrong = played[sample].play(number, *case)
         if wrong:
             faults.append(f"{sample}: {case[:3]}: {wrong}")
+    faults += share(played["federation"])
     faults += [f"{name}: no case is of it" for name in names if name not in {it[0] for it in CASES}]
     for name in names if len(sys.argv) == 2 else []:
         faults += by_program(os.path.abspath(sys.argv[1]), name, played[name])
