@@ -18,6 +18,7 @@ import tomllib
 
 sys.dont_write_bytecode = True
 HERE = os.path.dirname(os.path.abspath(__file__))
+ROOT = os.path.dirname(os.path.dirname(HERE))
 INSTALLED = os.path.join(os.path.dirname(HERE), "installed")
 sys.path.insert(0, INSTALLED)
 import radsecproxy_conf  # noqa: E402
@@ -580,6 +581,20 @@ def read_expressions():
     print(f"{len(EXPRESSIONS)} expressions")
 
 
+def network():
+    """The network of docs/MIGRATING.md: what the page has of it is what the converter writes, but for what is new there."""
+    with open(os.path.join(ROOT, "docs", "MIGRATING.md"), encoding="utf-8") as file:
+        page = tomllib.loads(file.read().split("```toml\n")[1].split("```")[0])
+    written, counted = converted(os.path.join(ROOT, "examples", "migrating", "radsecproxy.conf"), [])
+    made, usual = tomllib.loads(written), {"tries": 3, "wait": 2000, "rest": 30000, "rest_after": 3, "hold": 10000}
+    for here, there in ((page, made), (page["peer"][0], made["peer"][0]), (page["realm"][0], made["realm"][0])):
+        for key, value in there.items():
+            assert key in ("peer", "realm", "control") or here.get(key, usual.get(key)) == value, (key, value)
+        new = {key for key in here if key not in there and usual.get(key) != here[key]}
+        assert new <= {"require_seal", "coa", "nas_id", "reverse"}, new
+    print(f"examples/migrating: {counted.strip()}; as docs/MIGRATING.md has it")
+
+
 def decided(conf):
     """What became of each option of DECIDED."""
     one, two, upper, elsewhere = conf["peer"]
@@ -598,6 +613,7 @@ def decided(conf):
 def main():
     roam = sys.argv[1] if len(sys.argv) > 1 else None
     read_expressions()
+    network()
     conf = look_over("eduroam.conf", EDUROAM, 9, 4, TOLD, LOST, roam)
     assert "log_exchanges" not in conf and conf["control"] == "/run/roam/control" and conf["answer_unnamed"]
     assert conf["reject"] == ["myabc.com", "*.myabc.com", "*.3gppnetwork.org", "suspended.example"]
