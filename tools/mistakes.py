@@ -3,9 +3,9 @@
 
     tools/mistakes.py
 
-The mistakes are the edits of crates/NAME/must-fail, in bold type on the page, and of mistakes/NAME. The status is 1 where
-one is missing, is there twice, isn't kept any more, is in the wrong type or under a heading with another count, or where
-the text that it changes isn't in its file once.
+The mistakes are the edits of crates/NAME/must-fail and of mistakes/NAME; in bold type on the page are those that the gate tries:
+the former, and of the latter those with a line `only: FUNCTION`. The status is 1 where one is missing, is there twice, isn't kept
+any more, is in the wrong type or under a heading with another count, or where the text that it changes isn't in its file once.
 """
 import collections
 import pathlib
@@ -23,7 +23,8 @@ def kept() -> dict[tuple[str, str, str], tuple[bool, pathlib.Path]]:
         for path in sorted(ROOT.glob(place)):
             crate = path.parts[-3] if in_gate else path.parts[-2]
             function, words = path.stem.split("-", 1)
-            found[crate, function, words.replace("_", " ")] = (in_gate, path)
+            is_tried = in_gate or bool(re.search(r"^only: ", path.read_text(encoding="utf-8"), re.M))
+            found[crate, function, words.replace("_", " ")] = (is_tried, path)
     return found
 
 

@@ -1,5 +1,5 @@
 #!/usr/bin/env python3
-"""The quick pass over crates: layout, syntax, names, types and borrows, and no proof.
+"""The quick pass over crates and their tests: layout, syntax, names, types and borrows, and no proof.
 
     tools/quick.py CRATE ..     (or: all)
 
@@ -23,7 +23,7 @@ def passes(crate) -> bool:
     if rtlib.fmt(crate.folder, "--check", sys.stdout):
         print(f"{crate.name}: run rt fmt in its folder", flush=True)
         return False
-    words = crate.words(["--jobs", "1", "--only", ""], as_source=True)
+    words = crate.words(["--jobs", "1", "--only", ""], tests=crate.has_tests(), as_source=True)
     ran = subprocess.run([rtlib.RATTLE, "check", *words], cwd=crate.folder, stdout=subprocess.PIPE,
                          stderr=subprocess.STDOUT, errors="replace", check=False)
     fine = re.search(r"^only=.*\n\Z", ran.stdout, re.M) and not re.search(r"error[\[:]", ran.stdout)

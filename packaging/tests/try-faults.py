@@ -8,6 +8,7 @@ else's, a process without a descriptor or a thread left, an answer of `roam ctl`
 prints the cases.
 """
 import contextlib
+import ctypes
 import hashlib
 import os
 import pty
@@ -402,29 +403,85 @@ def limit_threads(pid, count, user):
     subprocess.run(['prlimit', f'--pid={pid}', f'--nproc={count}:'], check=True, **who)
 
 
+def thread_user(work):
+    """Who runs a server whose threads are limited: the limit doesn't hold for root."""
+    if os.geteuid():
+        return None
+    os.chown(work, 65534, 65534)
+    return 65534
+
+
+def lift_limit(pid, user):
+    most = resource.getrlimit(resource.RLIMIT_NPROC)[1]
+    limit_threads(pid, 'unlimited' if most == resource.RLIM_INFINITY else most, user)
+
+
 def threads_none(program, work):
-    """no thread can be started at a reload: it keeps what it has, tries again, and serves on"""
-    # The limit doesn't hold for root.
-    user = 65534 if os.geteuid() == 0 else None
-    if user:
-        os.chown(work, user, user)
+    """no thread can be started at a reload: it is declined, and all goes on"""
+    user = thread_user(work)
     with Server(program, work, user=user) as server:
         want(server.waits(), 'it serves')
         want(answered(50) == 50, '50 exchanges are answered')
-        most = resource.getrlimit(resource.RLIMIT_NPROC)[1]
         limit_threads(server.process.pid, 1, user)
-        reload = subprocess.Popen([program, 'ctl', server.path, 'reload'], stdout=subprocess.PIPE, stderr=subprocess.STDOUT)
-        end = time.monotonic() + 8
-        while 'tried again' not in server.said() and time.monotonic() < end:
-            time.sleep(.1)
-        want(server.process.poll() is None and 'tried again' in server.said(), f'it says that it tries again: {server.said().splitlines()[-1:]}')
-        limit_threads(server.process.pid, 'unlimited' if most == resource.RLIM_INFINITY else most, user)
+        reload = server.ctl('reload')
+        want(reload.returncode == 1 and reload.stdout == b'roam: cannot start a thread\n', f'the reload ends with {reload.returncode}: {reload.stdout}')
         more = answered(50, name=b'v%d')
-        want(more == 50, f'{more} of 50 more are answered once it can')
-        said = reload.communicate(timeout=20)[0]
-        want(reload.returncode == 0, f'the reload ends with {reload.returncode}: {said[-60:]}')
+        want(more == 50, f'{more} of 50 more are answered under the limit')
+        want(server.ctl('status').returncode == 0, 'it is asked how it stands')
+        lift_limit(server.process.pid, user)
+        reload = server.ctl('reload')
+        want(reload.returncode == 0, f'a reload without the limit ends with {reload.returncode}: {reload.stdout[-60:]}')
         steps = server.count('roam_history_steps_total{outcome="stored",}')
         want(steps >= 200, f'what it counted goes on: {steps} steps')
+        limit_threads(server.process.pid, 1, user)
+        want(server.ctl('stop', seconds=50).returncode == 0 and server.ends(5) == 0, 'it stops under the limit')
+
+
+def ptrace(request, thread):
+    """ptrace(2), of a thread."""
+    system = ctypes.CDLL(None, use_errno=True)
+    if system.ptrace(ctypes.c_long(request), ctypes.c_long(thread), None, None) < 0:
+        raise OSError(ctypes.get_errno(), f'ptrace {request:#x}')
+
+
+def reload_without_threads(server, user):
+    """Begins a reload that finds no room for a thread when the old ones have ended: the last one is held until then."""
+    seize, interrupt, detach, every_thread = 0x4206, 0x4207, 17, 0x40000000
+    before = [int(thread) for thread in os.listdir(f'/proc/{server.process.pid}/task')]
+    timer = max(before)
+    ptrace(seize, timer)
+    ptrace(interrupt, timer)
+    os.waitpid(timer, every_thread)
+    reload = subprocess.Popen([server.program, 'ctl', server.path, 'reload'], stdout=subprocess.PIPE, stderr=subprocess.STDOUT)
+    end = time.monotonic() + 8
+    while len(os.listdir(f'/proc/{server.process.pid}/task')) >= len(before) and time.monotonic() < end:
+        time.sleep(.02)
+    limit_threads(server.process.pid, 1, user)
+    ptrace(detach, timer)
+    return reload
+
+
+def threads_gone(program, work):
+    """no thread can be started when the old ones have ended: it keeps what it has, says why, is asked and stopped, and serves on"""
+    user = thread_user(work)
+    with Server(program, work, user=user) as server:
+        want(server.waits(), 'it serves')
+        want(answered(50) == 50, '50 exchanges are answered')
+        reload = reload_without_threads(server, user)
+        said = reload.communicate(timeout=20)[0]
+        want(reload.returncode == 1 and said.startswith(b'roam: cannot start a thread\n') and b'tried again' in said,
+             f'the reload ends with {reload.returncode}: {said}')
+        status = server.ctl('status')
+        want(status.returncode == 1 and status.stdout.startswith(b'roam: cannot start a thread\n'), f'`status` says so: {status.stdout}')
+        want('tried again' in server.said(), f'the log too: {server.said().splitlines()[-1:]}')
+        lift_limit(server.process.pid, user)
+        more = answered(50, name=b'v%d')
+        want(more == 50, f'{more} of 50 more are answered once it can')
+        want('reload: the file is served' in server.said(), 'it says that the file is served')
+        steps = server.count('roam_history_steps_total{outcome="stored",}')
+        want(steps >= 200, f'what it counted goes on: {steps} steps')
+        reload_without_threads(server, user).communicate(timeout=20)
+        want(server.ctl('stop', seconds=50).returncode == 0 and server.ends(5) == 0, 'it stops where none can be started')
 
 
 def steps_of(text):
@@ -589,7 +646,7 @@ def scrape_whole(program, work):
 
 
 CASES = [log_terminal, log_pipe, log_full, log_dead, log_again, control_file, control_foreign, control_left, control_two,
-         descriptors_none, descriptors_count, threads_none, trace_slow, trace_killed, answer_cut, answer_foreign, scrape_whole]
+         descriptors_none, descriptors_count, threads_none, threads_gone, trace_slow, trace_killed, answer_cut, answer_foreign, scrape_whole]
 
 
 def main():

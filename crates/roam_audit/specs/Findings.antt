@@ -10,17 +10,17 @@ use Rattle.roam_audit.specs.Receipts.{PlainReceipt}
 use Rattle.roam_audit.specs.Audit.{AllAgree, Stands, are_of_one_call, AreRight, IsInOrder, IsFirstUneven, IsFirstFault, IsFirstWrong, IsPassed, AreOfFirstWrong}
 
 -- what is found of the seats
-abbrev pub FindsUneven : List (List PlainStep) → List SeatView → Result (Unit {0}) AuditFault
-    → Type 0
-FindsUneven steps seats (Ok _) = AllAgree steps seats
-FindsUneven steps seats (Err (fault.Seats shard)) = IsFirstUneven steps seats shard
-FindsUneven steps seats (Err (fault.Receipt shard number)) = ⊥
+abbrev pub FindsUneven : List (List PlainStep) → (ℕ → List HistoryEntry) → List SeatView
+    → Result (Unit {0}) AuditFault → Type 0
+FindsUneven steps whole seats (Ok _) = AllAgree steps whole seats
+FindsUneven steps whole seats (Err (fault.Seats shard)) = IsFirstUneven steps whole seats shard
+FindsUneven steps whole seats (Err (fault.Receipt shard number)) = ⊥
 
 -- what is found of the seats, all of which have seen beginnings of the histories
 abbrev pub FindsPassed : List (List PlainStep) → ℕ → (ℕ → List HistoryEntry) → List SeatView
     → Result (Unit {0}) AuditFault → Type 0
 FindsPassed steps shards whole seats (Ok _) = IsPassed steps shards whole seats
-FindsPassed steps shards whole seats (Err what) = IsFirstFault steps seats what
+FindsPassed steps shards whole seats (Err what) = IsFirstFault steps whole seats what
 
 -- the first receipt that isn't right has this shard and number
 pub record IsWrongAt (steps : List (List PlainStep)) (receipts : List PlainReceipt)
@@ -45,9 +45,9 @@ pub record IsRightAfter (steps : List (List PlainStep)) (before : List PlainRece
   pub alone : All (λ earlier. are_of_one_call earlier receipt ≡ false) before
 
 -- what the whole audit answers
-abbrev pub Audits : List (List PlainStep) → List SeatView → List PlainReceipt
+abbrev pub Audits : List (List PlainStep) → (ℕ → List HistoryEntry) → List SeatView → List PlainReceipt
     → Result (Unit {0}) AuditFault → Type 0
-Audits steps seats receipts (Ok _) = IsInOrder steps seats receipts
-Audits steps seats receipts (Err (fault.Seats shard)) = IsFirstUneven steps seats shard
-Audits steps seats receipts (Err (fault.Receipt shard number)) =
-    AreOfFirstWrong steps seats receipts shard number
+Audits steps whole seats receipts (Ok _) = IsInOrder steps whole seats receipts
+Audits steps whole seats receipts (Err (fault.Seats shard)) = IsFirstUneven steps whole seats shard
+Audits steps whole seats receipts (Err (fault.Receipt shard number)) =
+    AreOfFirstWrong steps whole seats receipts shard number

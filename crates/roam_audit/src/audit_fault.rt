@@ -9,7 +9,8 @@ use std::fmt;
 /// What an audit finds at fault. A fault of seats comes before any of a receipt.
 #[derive(Clone, Copy, Debug, PartialEq, Eq)]
 pub enum AuditFault {
-    /// The least shard whose steps aren't as many as the seats counted, or where a seat is marked.
+    /// The least shard whose steps aren't as many as the seats counted, or whose stored steps were let go of more often
+    /// or less than they say, or where a seat is marked.
     Seats { shard: u16 },
     /// The first receipt that isn't in the report, or is there a second time: its shard and number.
     Receipt { shard: u16, number: u64 },

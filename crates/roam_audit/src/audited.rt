@@ -14,14 +14,14 @@ use crate::seat::Seat;
 use roam_history::Opened;
 use std::alloc::Allocator;
 
-/// Audited: a report that passed its audit, and the seats by which it did. Who has one knows that the seats
-/// counted just the steps that were recorded, and that all that each of them had seen of a shard's history
-/// begins the report's.
+/// Audited: a report that passed its audit, and the seats by which it did. Who has one knows that the seats counted
+/// just the steps that were recorded, and each letting go of them, and that all that each of them had seen of a
+/// shard's history begins the report's.
 #[derive(Drop)]
 pub struct Audited<A: Allocator, N: Opened> {
     report: Report<A, N>,
     seats: Vec<Seat<A, N>, A>,
-    ghost agree: { AllAgree (recorded report) seats.items },
+    ghost agree: { AllAgree (recorded report) (whole_of report) seats.items },
     ghost begun: { All (HasSeen N.opening.config.shards (whole_of report)) seats.items },
 }
 
@@ -79,7 +79,7 @@ impl<A: Allocator, N: Opened> Report<A, N> {
     pub fn audited(self, seats: Vec<Seat<A, N>, A>) -> Result<Audited<A, N>, AuditFault>
         ensures ok { IsOk result
             ↔ IsPassed (recorded self) N.opening.config.shards (whole_of self) seats.items }
-        ensures fault { IfErr result (IsFirstFault (recorded self) seats.items) }
+        ensures fault { IfErr result (IsFirstFault (recorded self) (whole_of self) seats.items) }
         ensures report { IfOk result (λ a. a.report ≡ self) }
         ensures seats { IfOk result (λ a. a.seats ≡ seats) }
     {

@@ -41,21 +41,21 @@ fn count_in<N: Opened>(fronts: &[Front<N>]) -> u64
 
 impl<A: Allocator, N: Opened> Report<A, N> {
     ghost use Rattle.std.specs.Prelude.{◌≡◌, ◌↔◌, ◌-◌, ◌^◌, ℕ, Err, IsOk, min};
-    ghost use Rattle.roam_audit.specs.Shown.{recorded, shown_receipts};
+    ghost use Rattle.roam_audit.specs.Shown.{recorded, shown_receipts, whole_of};
     ghost use Rattle.roam_audit.specs.Audit.{IsInOrder, IsFirstUneven, AreOfFirstWrong};
 
     /// Compares what was recorded with what the callers have. Takes no memory.
     ///
-    /// Each shard is looked at before any receipt. All steps count, those that were let go of too. A
-    /// receipt costs a comparison of its number and a look at the receipts before it.
+    /// Each shard is looked at before any receipt. All steps count, those that were let go of too, and how often that
+    /// was. A receipt costs a comparison of its number and a look at the receipts before it.
     pub fn audit(&self, seats: &[Seat<A, N>], receipts: &[Receipt<A, N>]) -> Result<(), AuditFault>
         ensures ok { IsOk result
-            ↔ IsInOrder (recorded self.now) seats.now (shown_receipts receipts.now) }
+            ↔ IsInOrder (recorded self.now) (whole_of self.now) seats.now (shown_receipts receipts.now) }
         ensures seats { (shard : ℕ) → (result ≡ Err (AuditFault.Seats shard))
-            ↔ IsFirstUneven (recorded self.now) seats.now shard }
+            ↔ IsFirstUneven (recorded self.now) (whole_of self.now) seats.now shard }
         ensures receipt { (shard number : ℕ) → (result ≡ Err (AuditFault.Receipt shard number))
-            ↔ AreOfFirstWrong (recorded self.now) seats.now (shown_receipts receipts.now)
-            shard number }
+            ↔ AreOfFirstWrong (recorded self.now) (whole_of self.now) seats.now
+            (shown_receipts receipts.now) shard number }
     {
         match self.check_seats(seats) {
             Ok(()) => self.check_receipts(receipts),

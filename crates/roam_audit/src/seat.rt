@@ -2,7 +2,8 @@
 
 ghost use Rattle.std.specs.Prelude.{◌≡◌, ◌<◌, ◌-◌, ◌^◌, [], length, vec_len, IfOk, IfErr};
 ghost use Rattle.roam_history.specs.Fronts.{AreOfShards, entries_of};
-ghost use Rattle.roam_audit.specs.Seats.{after_call, front_of, having_seen, no_tallies, noted, tally_of};
+ghost use Rattle.roam_audit.specs.Seats.{after_call, after_letting_go, front_of, having_seen, no_tallies, no_times, noted, once_more};
+ghost use Rattle.roam_audit.specs.Seats.{tally_of, times_of};
 
 use crate::tally::Tally;
 use roam_history::{Front, Opened};
@@ -10,11 +11,13 @@ use roam_wire::NoMemory;
 use std::alloc::Allocator;
 use std::marker::Model;
 
-/// Seat: what one caller counts of its recorded calls, for each shard, and what it has seen of that
-/// shard's one history. Contracts see the list of its tallies and the entries that it has seen, by shard.
+/// Seat: what one caller counts of its recorded calls, for each shard, how often it let go of the stored steps, and
+/// what it has seen of that shard's one history. Contracts see these and the entries that it has seen, by shard.
 #[derive(Drop)]
 pub struct Seat<A: Allocator, N: Opened> {
     tallies: Vec<Tally, A>,
+    /// How often it let go of the stored steps, by shard.
+    times: Vec<u64, A>,
     fronts: Vec<Front<N>, A>,
 }
 
@@ -25,9 +28,11 @@ impl<A: Allocator, N: Opened> Model for Seat<A, N> {
 
     ghost Value = { SeatView };
 
-    ghost view = { λ s. record { tallies = s.tallies.items; fronts = entries_of s.fronts.items } };
+    ghost view = { λ s.
+        record { tallies = s.tallies.items; times = s.times.items; fronts = entries_of s.fronts.items } };
 
     ghost invariant = { λ s. (length s.tallies.items ≡ N.opening.config.shards)
+        × (length s.times.items ≡ N.opening.config.shards)
         × (length s.fronts.items ≡ N.opening.config.shards)
         × AreOfShards s.fronts.items };
 }
@@ -59,6 +64,14 @@ impl<A: Allocator, N: Opened> Seat<A, N> {
         self.tallies[shard].calls
     }
 
+    /// How often it let go of a shard's stored steps.
+    pub(crate) fn times(&self, shard: usize) -> u64
+        requires { shard < N.opening.config.shards }
+        ensures { result ≡ times_of self.now.times shard }
+    {
+        self.times[shard]
+    }
+
     /// Whether it is marked at a shard.
     pub(crate) fn is_marked(&self, shard: usize) -> bool
         requires { shard < N.opening.config.shards }
@@ -86,6 +99,15 @@ impl<A: Allocator, N: Opened> Seat<A, N> {
         count(&mut self.tallies, front.shard(), number);
         self.learn(front);
     }
+
+    /// Counts that it let go of a shard's stored steps, and has then seen this front of its history. Takes no memory.
+    pub fn note_let_go(&mut self, front: Front<N>)
+        requires { front.shard < N.opening.config.shards }
+        ensures { self.new ≡ after_letting_go self.old front.shard front.entries }
+    {
+        count_time(&mut self.times, front.shard());
+        self.learn(front);
+    }
 }
 
 /// Counts a call that was recorded under this number of a shard.
@@ -101,6 +123,16 @@ fn count<A: Allocator>(tallies: &mut Vec<Tally, A>, shard: u16, number: u64)
     tally.next = number + 1;
 }
 
+/// Counts that a shard's stored steps were let go of once more.
+fn count_time<A: Allocator>(times: &mut Vec<u64, A>, shard: u16)
+    requires { shard < length times.old.items }
+    ensures items { times.new.items ≡ once_more times.old.items shard }
+    ensures len { vec_len times.new ≡ vec_len times.old }
+{
+    let time = &mut times[usize::from(shard)];
+    *time = time.saturating_add(1);
+}
+
 /// Tallies that count no call, for so many shards.
 pub fn no_tallies<A: Allocator>(alloc: A, shards: usize) -> Result<Vec<Tally, A>, NoMemory>
     ensures { IfOk result (λ v. v.items ≡ no_tallies shards) }
@@ -112,6 +144,14 @@ pub fn no_tallies<A: Allocator>(alloc: A, shards: usize) -> Result<Vec<Tally, A>
     };
     let tallies = vec![in alloc; no_calls; shards]?;
     Ok(tallies)
+}
+
+/// Counts of no letting go, for so many shards.
+pub fn no_times<A: Allocator>(alloc: A, shards: usize) -> Result<Vec<u64, A>, NoMemory>
+    ensures { IfOk result (λ v. v.items ≡ no_times shards) }
+{
+    let times = vec![in alloc; 0u64; shards]?;
+    Ok(times)
 }
 
 /// Equal fronts.
@@ -128,41 +168,54 @@ fn copies<A: Allocator, N: Opened>(
     Ok(copies)
 }
 
-impl<A: Allocator, N: Opened> Seat<A, N> {
-    /// A seat that counted no call, and has seen these fronts, one for each shard.
+impl<A: Allocator + Copy, N: Opened> Seat<A, N> {
+    /// A seat that counted no call, let go of nothing, and has seen these fronts, one for each shard.
     pub fn new(alloc: A, fronts: Vec<Front<N>, A>) -> Result<Seat<A, N>, NoMemory>
         requires count { vec_len fronts ≡ N.opening.config.shards }
         requires shards { AreOfShards fronts.items }
         ensures { IfOk result (λ s. s ≡ record {
           tallies = no_tallies N.opening.config.shards;
+          times = no_times N.opening.config.shards;
           fronts = entries_of fronts.items;
         }) }
     {
         let tallies = no_tallies(alloc, fronts.len())?;
-        Ok(Seat { tallies, fronts })
+        let times = no_times(alloc, fronts.len())?;
+        Ok(Seat {
+            tallies,
+            times,
+            fronts,
+        })
     }
 
-    /// The same, over tallies that count no call. Takes no memory.
-    pub fn over(tallies: Vec<Tally, A>, fronts: Vec<Front<N>, A>) -> Seat<A, N>
+    /// The same, over counts of nothing. Takes no memory.
+    pub fn over(tallies: Vec<Tally, A>, times: Vec<u64, A>, fronts: Vec<Front<N>, A>) -> Seat<A, N>
         requires tallies { tallies.items ≡ no_tallies N.opening.config.shards }
+        requires times { times.items ≡ no_times N.opening.config.shards }
         requires count { vec_len fronts ≡ N.opening.config.shards }
         requires shards { AreOfShards fronts.items }
         ensures { result ≡ record {
           tallies = no_tallies N.opening.config.shards;
+          times = no_times N.opening.config.shards;
           fronts = entries_of fronts.items;
         } }
     {
-        Seat { tallies, fronts }
+        Seat {
+            tallies,
+            times,
+            fronts,
+        }
     }
 }
 
-/// The seat as it was, and another one that has seen as much, and counted no call. Where memory is wanted
-/// the seat comes back as it was.
+/// The seat as it was, and another one that has seen as much, counted no call and let go of nothing. Where memory is
+/// wanted the seat comes back as it was.
 pub fn split<A: Allocator + Copy, N: Opened>(
     seat: Seat<A, N>,
 ) -> Result<(Seat<A, N>, Seat<A, N>), (Seat<A, N>, NoMemory)>
     ensures same { IfOk result (λ seats. seats.0 ≡ seat) }
     ensures new { IfOk result (λ seats. seats.1.tallies ≡ no_tallies N.opening.config.shards) }
+    ensures times { IfOk result (λ seats. seats.1.times ≡ no_times N.opening.config.shards) }
     ensures seen { IfOk result (λ seats. seats.1.fronts ≡ seat.fronts) }
     ensures err { IfErr result (λ e. e.0 ≡ seat) }
 {

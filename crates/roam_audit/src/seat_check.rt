@@ -2,9 +2,10 @@
 
 ghost use Rattle.std.specs.Prelude.{◌≡◌, ◌↔◌, ◌<◌, length, vec_len, false, IsTrue};
 ghost use Rattle.std.specs.List.{All};
+ghost use Rattle.roam_history.specs.Entries.{times_let_go};
 ghost use Rattle.roam_audit.specs.Seats.{tally_of};
-ghost use Rattle.roam_audit.specs.Shown.{recorded};
-ghost use Rattle.roam_audit.specs.Audit.{steps_of, calls_of, Agrees};
+ghost use Rattle.roam_audit.specs.Shown.{recorded, whole_of};
+ghost use Rattle.roam_audit.specs.Audit.{steps_of, calls_of, times_of_all, Agrees};
 ghost use Rattle.roam_audit.specs.Findings.{FindsUneven};
 
 use crate::audit_fault::AuditFault;
@@ -25,6 +26,18 @@ fn calls_of<A: Allocator, N: Opened>(seats: &[Seat<A, N>], shard: usize) -> u128
     calls
 }
 
+/// How often the seats let go of a shard's stored steps together.
+fn times_of_all<A: Allocator, N: Opened>(seats: &[Seat<A, N>], shard: usize) -> u128
+    requires { shard < N.opening.config.shards }
+    ensures { result ≡ times_of_all seats.now shard }
+{
+    let mut times = 0;
+    for seat in seats {
+        times += u128::from(seat.times(shard));
+    }
+    times
+}
+
 /// Whether no seat is marked at a shard.
 fn are_unmarked<A: Allocator, N: Opened>(seats: &[Seat<A, N>], shard: usize) -> bool
     requires { shard < N.opening.config.shards }
@@ -42,17 +55,27 @@ impl<A: Allocator, N: Opened> Report<A, N> {
         self.fronts[shard].len()
     }
 
+    /// How often a shard's stored steps were let go of.
+    fn times_at(&self, shard: usize) -> u64
+        requires { shard < vec_len self.now.fronts }
+        ensures { result ≡ times_let_go (whole_of self.now shard) }
+    {
+        self.fronts[shard].times_let_go()
+    }
+
     /// Whether the seats agree with a shard.
     fn agrees(&self, seats: &[Seat<A, N>], shard: usize) -> bool
         requires { shard < vec_len self.now.fronts }
-        ensures { IsTrue result ↔ Agrees (recorded self.now) seats.now shard }
+        ensures { IsTrue result ↔ Agrees (recorded self.now) (whole_of self.now) seats.now shard }
     {
-        calls_of(seats, shard) == u128::from(self.steps_at(shard)) && are_unmarked(seats, shard)
+        calls_of(seats, shard) == u128::from(self.steps_at(shard))
+            && times_of_all(seats, shard) == u128::from(self.times_at(shard))
+            && are_unmarked(seats, shard)
     }
 
     /// Compares the seats with each shard in turn.
     pub(crate) fn check_seats(&self, seats: &[Seat<A, N>]) -> Result<(), AuditFault>
-        ensures { FindsUneven (recorded self.now) seats.now result }
+        ensures { FindsUneven (recorded self.now) (whole_of self.now) seats.now result }
     {
         for shard in 0..self.fronts.len() {
             if !self.agrees(seats, shard) {

@@ -50,7 +50,8 @@ pub kept-book : {A : Type 0} (config : Config) (realm : ℕ) (old new : Held) (m
 kept-book config realm old new m c configured own is keeps sound list =
     let now = own-realm old new realm own keeps in
     let of : RealmConfig = realm_config (shown config) realm in
-    let here : IsSound of (entries_in new realm) m = subst (λ (x : RealmConfig). IsSound x (entries_in new x.index) m) is sound in
+    let here : IsSound of (entries_in new realm) m =
+    subst (λ (x : RealmConfig). IsSound x (entries_in new x.index) m) is sound in
     record {
       configured = configured;
       own_entries = now;
@@ -71,9 +72,11 @@ own-becomes P view config realm old new n m c v is own now h =
     let here : P of (state_of (entries_in old realm) n) (state_of (entries_in new realm) m) =
     subst (λ (x : RealmConfig). P x (state_of (entries_in old x.index) n) (state_of (entries_in new x.index) m)) is h in
     let before : P of (state_of old.entries n) (state_of (entries_in new realm) m) =
-    subst (λ (es : List PlainEntry). P of (state_of es n) (state_of (entries_in new realm) m)) (own-entries old realm own) here in
+    subst (λ (es : List PlainEntry). P of (state_of es n) (state_of (entries_in new realm) m))
+    (own-entries old realm own) here in
     let after : P of (state_of old.entries n) (state_of new.entries m) =
-    subst (λ (es : List PlainEntry). P of (state_of old.entries n) (state_of es m)) (own-entries new realm now) before in
+    subst (λ (es : List PlainEntry). P of (state_of old.entries n) (state_of es m)) (own-entries new realm now)
+    before in
     subst (λ (b : BookView). P (settings_of b) b.state (state_of new.entries m)) (sym v) after
 
 pub realm-becomes : {A : Type 0} (P : RealmConfig → RealmState → RealmState → Type 0)
@@ -98,12 +101,16 @@ pub own-gives : {A : Type 0} (f : RealmConfig → RealmState → Turn)
     → Gives r view.state (state_of new.entries m) (f (settings_of view) view.state)
 own-gives f r view config realm old new n m c v is own now h =
     let of : RealmConfig = realm_config config realm in
-    let here : Gives r (state_of (entries_in old realm) n) (state_of (entries_in new realm) m) (f of (state_of (entries_in old realm) n)) =
-    subst (λ (x : RealmConfig). Gives r (state_of (entries_in old x.index) n) (state_of (entries_in new x.index) m) (f x (state_of (entries_in old x.index) n))) is h in
+    let here : Gives r (state_of (entries_in old realm) n) (state_of (entries_in new realm) m)
+    (f of (state_of (entries_in old realm) n)) =
+    subst (λ (x : RealmConfig). Gives r (state_of (entries_in old x.index) n) (state_of (entries_in new x.index) m)
+    (f x (state_of (entries_in old x.index) n))) is h in
     let before : Gives r (state_of old.entries n) (state_of (entries_in new realm) m) (f of (state_of old.entries n)) =
-    subst (λ (es : List PlainEntry). Gives r (state_of es n) (state_of (entries_in new realm) m) (f of (state_of es n))) (own-entries old realm own) here in
+    subst (λ (es : List PlainEntry). Gives r (state_of es n) (state_of (entries_in new realm) m)
+    (f of (state_of es n))) (own-entries old realm own) here in
     let after : Gives r (state_of old.entries n) (state_of new.entries m) (f of (state_of old.entries n)) =
-    subst (λ (es : List PlainEntry). Gives r (state_of old.entries n) (state_of es m) (f of (state_of old.entries n))) (own-entries new realm now) before in
+    subst (λ (es : List PlainEntry). Gives r (state_of old.entries n) (state_of es m)
+    (f of (state_of old.entries n))) (own-entries new realm now) before in
     subst (λ (b : BookView). Gives r b.state (state_of new.entries m) (f (settings_of b) b.state)) (sym v) after
 
 -- what the realm gives that a book lends for an event, under the settings that it has then
@@ -117,7 +124,8 @@ pub realm-gives : {A : Type 0} (f : RealmConfig → RealmState → Turn)
     → Gives r view.state (state_of new.entries m) (f (settings_of view) view.state)
 realm-gives f r view config realm old new n m c k at v is own keeps h =
     own-gives f r view config realm old new n m c v is own (own-realm old new realm own keeps)
-    (subst (λ (x : RealmConfig). Gives r (state_of (entries_in old c.index) n) (state_of (entries_in new x.index) m) (f c (state_of (entries_in old c.index) n))) at h)
+    (subst (λ (x : RealmConfig). Gives r (state_of (entries_in old c.index) n) (state_of (entries_in new x.index) m)
+    (f c (state_of (entries_in old c.index) n))) at h)
 
 -- and no memory is wanted where the realm's call wants none
 pub own-succeeds : {A R : Type 0} (f : RealmConfig → RealmState → Turn)
@@ -132,7 +140,8 @@ own-succeeds f r view config realm held n c v is own h =
     let here : packets_of (f of (state_of (entries_in held realm) n)) ≡ [] → IsOk r =
     subst (λ (x : RealmConfig). packets_of (f x (state_of (entries_in held x.index) n)) ≡ [] → IsOk r) is h in
     let listed : packets_of (f of (state_of held.entries n)) ≡ [] → IsOk r =
-    subst (λ (es : List PlainEntry). packets_of (f of (state_of es n)) ≡ [] → IsOk r) (own-entries held realm own) here in
+    subst (λ (es : List PlainEntry). packets_of (f of (state_of es n)) ≡ [] →
+    IsOk r) (own-entries held realm own) here in
     subst (λ (b : BookView). packets_of (f (settings_of b) b.state) ≡ [] → IsOk r) (sym v) listed
 
 -- a book that begins keeps it

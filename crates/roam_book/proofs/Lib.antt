@@ -21,6 +21,8 @@ pub mod RestLemmas
 pub mod RoomLemmas
 pub mod SameBrokerLemmas
 pub mod SendingLemmas
+pub mod ShapingLemmas
+pub mod SharingLemmas
 pub mod SilenceLemmas
 pub mod SoundLemmas
 pub mod TakenLaneLemmas

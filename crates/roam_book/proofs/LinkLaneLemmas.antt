@@ -189,7 +189,8 @@ made_there :
 made_there marks place k m d within made old =
     let is_made : Mark → Bool = λ x. x.made in
     elim (cases_eq k place) [
-      | inl same ↦ ap is_made (ap (λ (i : ℕ). get_or (set marks place m) i d) same ∙ get_or-set_same marks place m d within) ∙ made
+      | inl same ↦ ap is_made (ap (λ (i : ℕ). get_or (set marks place m) i d) same
+          ∙ get_or-set_same marks place m d within) ∙ made
       | inr other ↦ ap is_made (get_or-set_other marks place k m d other) ∙ old
     ]
 

@@ -1,18 +1,19 @@
 -- The NAK of a reverse request.
-use Rattle.std.proofs.Common.{◌≡◌, ◌≢◌, ℕ, ◌+◌, ◌≤◌, true, false, List, [], ◌∷◌, ◌++◌, length, Option, Some, None, refl, ap, sym, inl, inr, ltb, arith}
+use Rattle.std.proofs.Common.{◌≡◌, ◌≢◌, ℕ, ◌+◌, ◌≤◌, true, false, List, [], ◌∷◌, ◌++◌, length, Option, Some, None, refl, ap, sym, ◌∙◌, inl, inr, ltb, arith}
 use Rattle.std.specs.Prelude.{IfSome}
 use Rattle.std.specs.declared.vec.Vec.{Vec}
-use Rattle.std.proofs.lemmas.Bool.{cases_Bool}
-use Rattle.std.proofs.lemmas.Bool.Decides.{nat_tests}
+use Rattle.std.proofs.lemmas.Bool.{cases_Bool, true≢false}
 use Rattle.roam_wire.specs.Packet.{Packet, packet_length, packet_text}
 use Rattle.roam_wire.specs.Reading.{packet_of}
-use Rattle.roam_wire.specs.declared.code.TheConstants.{ACCESS_REQUEST}
+use Rattle.roam_wire.specs.Codes.{is_reverse_request}
 use Rattle.roam_wire.proofs.PacketLemmas.{length-packet_text}
 use Rattle.roam_fwd.proofs.ForwardedLemmas.{forwarded_length-is}
 use Rattle.roam_back.specs.Nak.{nak, nak_length}
 use Rattle.roam_back.specs.NakLaws.{CanBeRefused}
 use Rattle.roam_back.proofs.NakLemmas.{IsPacket-nak, nak_length-at_most, nak_length-is}
 use Rattle.roam_pending.specs.declared.entry.Done.{Done}
+use Rattle.roam_pending.specs.declared.key.Requester.{Requester}
+use Rattle.roam_pending.specs.declared.key.Requester.TheVariants as requester
 use Rattle.roam_pending.specs.PlainEntry.{PlainEntry, PlainRequest, done}
 use Rattle.roam_pending.specs.EntryList.{without}
 use Rattle.roam_pending.specs.Realms.{with_standing}
@@ -28,18 +29,21 @@ use Rattle.roam_book.specs.OnRequest.{is_reverse, nak_octets, packet_to_requeste
 use Rattle.roam_book.specs.OnTick.{once_refused}
 use Rattle.roam_book.specs.Private.Fates.{GivesUp, held_for, once_held}
 use Rattle.roam_book.specs.Private.Memory.{HasRoom}
-use Rattle.roam_book.specs.Sound.{IsRequest}
+use Rattle.roam_book.specs.Sound.{CanGo, IsRequest}
+use Rattle.roam_book.proofs.ShapingLemmas.{reverse-is_no_access}
 
 -- the forwarded packet of a reverse request is ten octets longer than it, and short enough
-reverse-code : (q : PlainRequest) → is_reverse q ≡ true → (packet_of q.octets).code ≢ ACCESS_REQUEST
-reverse-code q reverse = λ is. absurd (grind (arith, nat_tests, reverse, is))
+home-fits : (c : RealmConfig) (r : Requester) (p : Packet) → CanGo c r p → is_reverse_request p.code ≡ true
+    → packet_length p ≤ 4086
+home-fits c (requester.Peer peer) p h reverse = absurd (true≢false (sym reverse ∙ h.code))
+home-fits c (requester.Home server) p h reverse =
+    let grown = forwarded_length-is p (reverse-is_no_access p.code reverse) in
+    let size = h.can_be_forwarded.size in
+    omega (arith, grown, size)
 
 pub refused-fits : (c : RealmConfig) (q : PlainRequest) → IsRequest c q → is_reverse q ≡ true
     → packet_length (packet_of q.octets) ≤ 4086
-refused-fits c q h reverse =
-    let grown = forwarded_length-is (packet_of q.octets) (reverse-code q reverse) in
-    let size = h.can_be_forwarded.size in
-    omega (arith, grown, size)
+refused-fits c q h reverse = home-fits c q.requester (packet_of q.octets) h.can_go reverse
 
 -- so its NAK is a packet, and not much longer than it
 pub room-for-nak : (c : RealmConfig) (q : PlainRequest) → IsRequest c q
@@ -52,7 +56,7 @@ room-for-nak c q h =
     omega arith
 
 pub length-nak_octets : (c : RealmConfig) (q : PlainRequest) (why : ℕ) → IsRequest c q
-    → is_reverse q ≡ true → length (nak_octets c q why) ≤ length q.octets + 46
+    → is_reverse q ≡ true → length (nak_octets c q why) ≤ length q.octets + 304
 length-nak_octets c q why h reverse =
     let request : Packet = packet_of q.octets in
     let secret = requester_secret c q.requester in

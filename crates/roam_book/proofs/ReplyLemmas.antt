@@ -14,7 +14,7 @@ use Rattle.roam_pending.proofs.OrderLemmas.{list-changed}
 use Rattle.roam_book.specs.RealmConfig.{RealmConfig, IsLink}
 use Rattle.roam_book.specs.RealmState.{RealmState}
 use Rattle.roam_book.specs.Turn.{Turn, refuses}
-use Rattle.roam_book.specs.OnReply.{counted_peer, return_reply, returned_octets, returning}
+use Rattle.roam_book.specs.OnReply.{counted_peer, passing_to, return_reply, returned_octets, returning}
 use Rattle.roam_book.specs.Sound.{AreOwnLanes, IsEntry, IsSound, LanesTell, StandsWell, marks_of}
 use Rattle.roam_book.specs.Private.Judged.{Judges, returns_octets}
 use Rattle.roam_book.specs.Private.ReplyPlans.{IsReplyPlan}
@@ -42,22 +42,27 @@ and_right false b h = absurd (let k : false ≡ true = h in cc)
 -- the returned packet is short enough, and is sent and held
 pub returned-turn : (c : RealmConfig) (now : ℕ) (s : RealmState) (e : PlainEntry) (l : Link)
     (forwarded reply : Packet) (peer : Option ℕ) (octets : List ℕ)
-    → (4096 < returned_length (returning c e.request l forwarded) reply (packet_of e.request.octets) → ⊥)
+    → (4096 < returned_length (returning c e.request l forwarded) (passing_to c e.request reply)
+    (packet_of e.request.octets) → ⊥)
     → octets ≡ returned_octets c e.request l forwarded reply
     → peer ≡ counted_peer e.request.requester reply
     → returns_octets c now e.request.key peer octets e l s ≡ return_reply c now s e l forwarded reply
 returned-turn c now s e l forwarded reply peer octets short is counts =
-    let size = returned_length (returning c e.request l forwarded) reply (packet_of e.request.octets) in
-    let no : ltb 4096 size ≡ false = is_false (ltb 4096 size) (λ t. short (let lt : 4096 < size = grind (arith, nat_tests, t) in lt)) in
+    let size = returned_length (returning c e.request l forwarded) (passing_to c e.request reply)
+    (packet_of e.request.octets) in
+    let no : ltb 4096 size ≡ false =
+    is_false (ltb 4096 size) (λ t. short (let lt : 4096 < size = grind (arith, nat_tests, t) in lt)) in
     rw (no, is, counts) refl
 
 -- the returned packet is too long
 pub long-turn : (c : RealmConfig) (now : ℕ) (s : RealmState) (e : PlainEntry) (l : Link)
     (forwarded reply : Packet)
-    → 4096 < returned_length (returning c e.request l forwarded) reply (packet_of e.request.octets)
+    → 4096 < returned_length (returning c e.request l forwarded) (passing_to c e.request reply)
+    (packet_of e.request.octets)
     → refuses refusal.ReplyTooLong ≡ return_reply c now s e l forwarded reply
 long-turn c now s e l forwarded reply lt =
-    let size = returned_length (returning c e.request l forwarded) reply (packet_of e.request.octets) in
+    let size = returned_length (returning c e.request l forwarded) (passing_to c e.request reply)
+    (packet_of e.request.octets) in
     let yes : ltb 4096 size ≡ true = grind (arith, nat_tests, lt) in
     rw yes refl
 
@@ -114,7 +119,8 @@ done-sound c t e es fs reply deadline old new sound at is tells count ticket pos
       stream_position = rw position sound.stream_position;
       lane_count = count ∙ sound.lane_count;
       lanes = subst (AreOwnLanes c) (sym marks) sound.lanes;
-      lanes_tell = subst (λ (l : List PlainEntry). LanesTell c l new.lanes.items) (sym is) (tells-done c es new.lanes.items x refl tells);
+      lanes_tell = subst (λ (l : List PlainEntry). LanesTell c l new.lanes.items) (sym is)
+          (tells-done c es new.lanes.items x refl tells);
       ledger = limit ∙ sound.ledger;
     }
 

@@ -14,6 +14,7 @@ use Rattle.roam_pending.proofs.TestLemmas.{differs}
 use Rattle.roam_pending.proofs.ChangeLemmas.{find-passes, found-is}
 use Rattle.roam_pending.proofs.ClientLemmas.{client-without, key-equal, without_client-found}
 use Rattle.roam_book.specs.Private.NewEntry.{HasNext, freed_link, target_at}
+use Rattle.roam_book.specs.Shares.{share_taken}
 use Rattle.roam_book.specs.OnRequest.{at_target, coa_links, held_reply, is_reverse, new_request, of_key, targets}
 use Rattle.roam_book.specs.RealmConfig.{RealmConfig, IsLink, service_of}
 use Rattle.roam_book.specs.RealmState.{RealmState, Target, chosen_target, next_toward}
@@ -102,24 +103,35 @@ in-then b x y h = rw h refl
 
 new-request-is :
     (c : RealmConfig) (now : ℕ) (s : RealmState) (es : List PlainEntry) (q : PlainRequest)
-    (found : Option Target) → s.ticket ≢ 2 ^ 63
+    (found : Option Target) → s.ticket ≢ 2 ^ 63 → share_taken c es q ≡ false
     → chosen_target c now s.rests s.cursors es (targets c q) ≡ found
     → new_request c now s es q ≡ at_target c now s es q found
-new-request-is c now s es q found ne is =
+new-request-is c now s es q found ne share is =
     in-else (eqb s.ticket (2 ^ 63)) _ _ (differs s.ticket (2 ^ 63) ne)
+    ∙ in-else (share_taken c es q) _ _ share
     ∙ ap (at_target c now s es q) is
+
+-- one whose name's share is taken
+pub share-refused :
+    (c : RealmConfig) (now : ℕ) (s : RealmState) (es : List PlainEntry) (q : PlainRequest)
+    → s.ticket ≢ 2 ^ 63 → share_taken c es q ≡ true
+    → new_request c now s es q ≡ refuses refusal.ShareTaken
+share-refused c now s es q ne share =
+    in-else (eqb s.ticket (2 ^ 63)) _ _ (differs s.ticket (2 ^ 63) ne)
+    ∙ in-then (share_taken c es q) _ _ share
 
 -- a new request for which the code chose a link, or found none
 pub at-open :
     {A : Type 0} (c : RealmConfig) (now : ℕ) (es : List PlainEntry) (n : RealmNumbers A)
     (o : Option Replaced) (q : PlainRequest) (freed : Option Link) (l : Link) → IsSound c es n → IsEntryList es
-    → CountsAsGone o es → n.ticket ≢ 2 ^ 63 → freed ≡ freed_link o
+    → CountsAsGone o es → n.ticket ≢ 2 ^ 63 → share_taken c (besides (gone_ticket o) es) q ≡ false
+    → freed ≡ freed_link o
     → Some l ≡ chosen_link c now n.rests.items n.lanes.items freed (targets c q)
     → (new_request c now (state_of es n) (besides (gone_ticket o) es) q
     ≡ at_target c now (state_of es n) (besides (gone_ticket o) es) q
     (Some (target_at c (cursors_of n.lanes.items) (besides (gone_ticket o) es) l)))
     × HasNext c (cursors_of n.lanes.items) (besides (gone_ticket o) es) l
-at-open c now es n o q freed l sound list gone ne same_freed found =
+at-open c now es n o q freed l sound list gone ne share same_freed found =
     let mid = besides (gone_ticket o) es in
     let links = targets c q in
     let rests = n.rests.items in
@@ -128,16 +140,17 @@ at-open c now es n o q freed l sound list gone ne same_freed found =
     (sym found) in
     let at = targets-open c now es n o q sound list gone ∙ here in
     let target = target-is c now rests (cursors_of n.lanes.items) mid links l _ refl at in
-    (new-request-is c now (state_of es n) mid q _ ne target.0, target.1)
+    (new-request-is c now (state_of es n) mid q _ ne share target.0, target.1)
 
 pub at-none :
     {A : Type 0} (c : RealmConfig) (now : ℕ) (es : List PlainEntry) (n : RealmNumbers A)
     (o : Option Replaced) (q : PlainRequest) (freed : Option Link) → IsSound c es n → IsEntryList es
-    → CountsAsGone o es → n.ticket ≢ 2 ^ 63 → freed ≡ freed_link o
+    → CountsAsGone o es → n.ticket ≢ 2 ^ 63 → share_taken c (besides (gone_ticket o) es) q ≡ false
+    → freed ≡ freed_link o
     → None ≡ chosen_link c now n.rests.items n.lanes.items freed (targets c q)
     → new_request c now (state_of es n) (besides (gone_ticket o) es) q
     ≡ refuses refusal.NoIdentifier
-at-none c now es n o q freed sound list gone ne same_freed found =
+at-none c now es n o q freed sound list gone ne share same_freed found =
     let mid = besides (gone_ticket o) es in
     let links = targets c q in
     let rests = n.rests.items in
@@ -145,7 +158,7 @@ at-none c now es n o q freed sound list gone ne same_freed found =
     subst (λ (x : Option Link). chosen_link c now rests n.lanes.items x links ≡ None) same_freed
     (sym found) in
     let at = targets-open c now es n o q sound list gone ∙ here in
-    new-request-is c now (state_of es n) mid q None ne (no-target _ at)
+    new-request-is c now (state_of es n) mid q None ne share (no-target _ at)
 
 -- the entry of a request's key counts as gone, and the key is then free
 pub key-gone :

@@ -20,8 +20,9 @@ use Rattle.roam_book.specs.RealmState.{RealmState, Target, opening, chosen_targe
 use Rattle.roam_book.specs.Rests.{after_choice, after_reply, after_silence, all_awake, awake, is_resting, once_chosen, stands_back}
 use Rattle.roam_book.specs.RestLaws.{AccessServersNeverStandBack, AwakeTheFirstIsChosen, WithoutRestAllStayAwake}
 use Rattle.roam_book.specs.Turn.{Turn, state_after}
+use Rattle.roam_book.specs.Shares.{share_taken}
 use Rattle.roam_book.specs.OnRequest.{admit, at_target, is_reverse, make_way, nak_or_new, of_key, on_request, reverse_cause, targets}
-use Rattle.roam_book.specs.OnReply.{judge, on_reply, reply_fault, returning, to_entry, to_standing}
+use Rattle.roam_book.specs.OnReply.{judge, on_reply, passing_to, reply_fault, returning, to_entry, to_standing}
 use Rattle.roam_book.specs.OnTick.{Progress, due_each, due_entry, due_one, due_standing, fail_over, given_up_at, once_refused}
 use Rattle.roam_book.specs.OneRealm.{RealmEvent, on_event, one_realm_run, reply_came, request_came, tick_came}
 use Rattle.roam_book.specs.declared.state.rest.Rest.{Rest}
@@ -60,7 +61,8 @@ module _ (c : RealmConfig) (K : List Rest → Type 0)
   nak_or_new-keeps now s q None k =
       let es = without_client q.key s.entries in
       either (After K s) (s.ticket == 2 ^ 63) _ _ k
-      (at_target-keeps now s es q (chosen_target c now s.rests s.cursors es (targets c q)) k)
+      (either (After K s) (share_taken c es q) _ _ k
+      (at_target-keeps now s es q (chosen_target c now s.rests s.cursors es (targets c q)) k))
   nak_or_new-keeps now s q (Some why) k = k
 
   of_key-keeps : (now : ℕ) (s : RealmState) (named : Option ℕ) (q : PlainRequest)
@@ -95,7 +97,8 @@ module _ (c : RealmConfig) (K : List Rest → Type 0)
   judge-keeps now s e l forwarded reply (Some why) k = k
   judge-keeps now s e l forwarded reply None k =
       either (After K s)
-      (ltb 4096 (returned_length (returning c e.request l forwarded) reply (packet_of e.request.octets)))
+      (ltb 4096 (returned_length (returning c e.request l forwarded) (passing_to c e.request reply)
+      (packet_of e.request.octets)))
       _ _ k (answered s.rests l k)
 
   to_standing-keeps : (now : ℕ) (s : RealmState) (e : PlainEntry) (reply : Packet) (p : PlainStanding)

@@ -1,24 +1,27 @@
--- What names a realm and its peers, and whether a peer's Access-Requests need a Message-Authenticator, a realm's
--- written broker doesn't look at.
+-- What names a realm, and whether a peer's Access-Requests need a Message-Authenticator, a realm's written broker
+-- doesn't look at.
 use Rattle.std.proofs.Common.{◌≡◌, ℕ, zero, suc, ◌+◌, ◌-◌, ◌%◌, ◌^◌, ◌==◌, nat_lt, nat_eq, Bool, not, List, [], ◌∷◌, ◌++◌, length, map, Option, Some, None, unwrap_or, slice_get, slice_index, slice_index_or, slice_set, if◌then◌else◌, refl, ap, sym, ◌∙◌, arith, append-nil, append_assoc}
 use Rattle.std.proofs.lemmas.List.{length-append, length-map, nil_from_length}
 use Rattle.std.specs.Cmp.Lexicographic.{pointwise}
 use Rattle.std.specs.List.{filter, position_from}
-use Rattle.std.specs.Option.{option_or, option_and_then}
+use Rattle.std.specs.Option.{option_map_or, option_or, option_and_then}
 use Rattle.roam_wire.specs.Packet.{Attribute, Packet, packet_text}
 use Rattle.roam_wire.specs.Reading.{packet_of}
+use Rattle.roam_wire.specs.declared.code.TheConstants.{COA_REQUEST}
 use Rattle.roam_wire.specs.declared.packet_size.TheConstants.{MAX_PACKET_LENGTH}
 use Rattle.roam_wire.specs.declared.refusal.Refusal.{Refusal}
 use Rattle.roam_wire.specs.declared.refusal.Refusal.TheVariants as refusal
 use Rattle.roam_back.specs.Nak.{nak}
 use Rattle.roam_back.specs.ReplyCheck.{reply_fault}
-use Rattle.roam_back.specs.Returned.{returned, returned_length}
-use Rattle.roam_conf.specs.Config.{PeerView}
+use Rattle.roam_back.specs.Returned.{passing_reply, returned, returned_length}
+use Rattle.roam_conf.specs.Config.{PeerView, RealmView}
 use Rattle.roam_conf.specs.Secrets as secrets
 use Rattle.roam_conf.specs.declared.place.Link.{Link}
 use Rattle.roam_conf.specs.declared.place.Link.TheVariants as link
 use Rattle.roam_conf.specs.declared.place.Place.TheVariants as place
+use Rattle.roam_filter.specs.Removal.{without_sessions}
 use Rattle.roam_fwd.specs.Forwarded.{Forwarding, forwarded}
+use Rattle.roam_fwd.specs.Shaped.{no_shaping, shaped}
 use Rattle.roam_ids.specs.NextIdentifier.{next_identifier}
 use Rattle.roam_pending.specs.declared.due.Due.{Due}
 use Rattle.roam_pending.specs.declared.key.Requester.{Requester}
@@ -33,7 +36,10 @@ use Rattle.roam_reverse.specs.Sessions.{Session}
 use Rattle.roam_reverse.specs.Target as reverse
 use Rattle.roam_reverse.specs.declared.error_cause.TheConstants.{OTHER_PROXY_PROCESSING_ERROR}
 use Rattle.roam_route.specs.Admission.{PlainOut}
+use Rattle.roam_route.specs.Shapings.{shaping_between}
 use Rattle.roam_route.specs.UserName.{nas_of}
+use Rattle.roam_book.specs.Shapings.{removed_for, shaping_of, shaping_to}
+use Rattle.roam_book.specs.Shares.{share_taken}
 use Rattle.roam_book.specs.OneRealm.{RealmEvent, request_came, reply_came, tick_came, on_event, one_realm_run}
 use Rattle.roam_book.specs.OnReply.{counted, counted_peer, judge, on_reply, once_returned, return_reply, returned_octets, returning, to_entry, to_standing}
 use Rattle.roam_book.specs.OnRequest.{admit, at_target, coa_links, first_seen, forwarded_entry, forwarded_octets, is_reverse, make_way, nak_octets, nak_or_new, new_request, of_key, on_request, once_forwarded, packet_to_link, position_after, drawn_at, packet_to_requester, held_reply, reverse_cause, targets}
@@ -50,28 +56,66 @@ abbrev pub bare : RealmConfig → RealmConfig
 bare c = record { seed = c.seed; index = c.index; realm = realm_part c.realm; peers = map peer_part c.peers }
 
 -- peers by their index
-peer_secret_same : (peers : List PeerView) (p : ℕ) → secrets.peer_secret (map peer_part peers) p ≡ secrets.peer_secret peers p
+peer_secret_same : (peers : List PeerView) (p : ℕ) →
+    secrets.peer_secret (map peer_part peers) p ≡ secrets.peer_secret peers p
 peer_secret_same [] p = refl
 peer_secret_same (x ∷ xs) zero = refl
 peer_secret_same (x ∷ xs) (suc p) = peer_secret_same xs p
 
-coa_same : (peers : List PeerView) (p : ℕ) → option_and_then (λ (x : PeerView). x.coa) (slice_get (map peer_part peers) p) ≡ option_and_then (λ (x : PeerView). x.coa) (slice_get peers p)
+coa_same : (peers : List PeerView) (p : ℕ) →
+    option_and_then (λ (x : PeerView). x.coa) (slice_get (map peer_part peers) p)
+    ≡ option_and_then (λ (x : PeerView). x.coa) (slice_get peers p)
 coa_same [] p = refl
 coa_same (x ∷ xs) zero = refl
 coa_same (x ∷ xs) (suc p) = coa_same xs p
 
 -- the first peer that passes a test which doesn't look at it either
-place_same : (test : PeerView → Bool) (n : ℕ) (peers : List PeerView) → ((x : PeerView) → test (peer_part x) ≡ test x) → position_from test n (map peer_part peers) ≡ position_from test n peers
+place_same : (test : PeerView → Bool) (n : ℕ) (peers : List PeerView) →
+    ((x : PeerView) → test (peer_part x) ≡ test x) →
+    position_from test n (map peer_part peers) ≡ position_from test n peers
 place_same test n [] same = refl
 place_same test n (x ∷ xs) same = λ i. if same x i then Some n else place_same test (n + 1) xs same i
 
-target_same : (peers : List PeerView) (attributes : List Attribute) → reverse.target (map peer_part peers) attributes ≡ reverse.target peers attributes
+target_same : (peers : List PeerView) (attributes : List Attribute) →
+    reverse.target (map peer_part peers) attributes ≡ reverse.target peers attributes
 unfolding reverse.target
 target_same peers attributes = place_same (reverse.is_target (nas_of attributes)) 0 peers (λ x. refl)
 
-cause_same : (peers : List PeerView) (r : ℕ) (named : Option ℕ) (attributes : List Attribute) (sessions : List Session) → cause (map peer_part peers) r named attributes sessions ≡ cause peers r named attributes sessions
+-- whether a peer is among the realm's
+is_among_same : (realm : RealmView) (peers : List PeerView) (p : ℕ) →
+    reverse.is_among (Some (realm_part realm)) (map peer_part peers) p ≡ reverse.is_among (Some realm) peers p
+is_among_same realm [] p = refl
+is_among_same realm (x ∷ xs) zero = refl
+is_among_same realm (x ∷ xs) (suc p) = is_among_same realm xs p
+
+among_same : (realm : RealmView) (peers : List PeerView) (o : Option ℕ) →
+    reverse.among (Some (realm_part realm)) (map peer_part peers) o ≡ reverse.among (Some realm) peers o
+among_same realm peers None = refl
+among_same realm peers (Some p) = λ i. if is_among_same realm peers p i then Some p else None
+
+cause_same : (realm : RealmView) (peers : List PeerView) (r : ℕ) (named : Option ℕ) (attributes : List Attribute)
+    (sessions : List Session) → cause (Some (realm_part realm)) (map peer_part peers) r named attributes sessions
+    ≡ cause (Some realm) peers r named attributes sessions
 unfolding cause
-cause_same peers r named attributes sessions = λ i. cause_at_target r named attributes sessions (target_same peers attributes i)
+cause_same realm peers r named attributes sessions =
+    ap (λ (o : Option ℕ). cause_at_target r named attributes sessions
+    (reverse.among (Some (realm_part realm)) (map peer_part peers) o)) (target_same peers attributes)
+    ∙ ap (cause_at_target r named attributes sessions) (among_same realm peers (reverse.target peers attributes))
+
+-- how a peer's requests are forwarded, and replies returned to it
+between_same : (realm : RealmView) (peers : List PeerView) (p : ℕ) →
+    shaping_between (slice_get (map peer_part peers) p) (Some (realm_part realm))
+    ≡ shaping_between (slice_get peers p) (Some realm)
+between_same realm [] p = refl
+between_same realm (x ∷ xs) zero = refl
+between_same realm (x ∷ xs) (suc p) = between_same realm xs p
+
+list_same : (peers : List PeerView) (p : ℕ) →
+    option_map_or (λ (x : PeerView). x.reply_without) (slice_get (map peer_part peers) p) []
+    ≡ option_map_or (λ (x : PeerView). x.reply_without) (slice_get peers p) []
+list_same [] p = refl
+list_same (x ∷ xs) zero = refl
+list_same (x ∷ xs) (suc p) = list_same xs p
 
 module _ (c : RealmConfig) where
   -- links
@@ -104,6 +148,23 @@ module _ (c : RealmConfig) where
   later_same (link.Acct s) = refl
   later_same (link.Coa p) = refl
 
+  -- shapings
+  removed_same : (r : Requester) → removed_for (bare c) r ≡ removed_for c r
+  removed_same (requester.Peer p) = λ i. list_same c.peers p i ++ c.realm.reply_without
+  removed_same (requester.Home s) = refl
+
+  shaping_to_same : (code : ℕ) (l : Link) → shaping_to (bare c) code l ≡ shaping_to c code l
+  shaping_to_same code (link.Auth s) = refl
+  shaping_to_same code (link.Acct s) = refl
+  shaping_to_same code (link.Coa p) = λ i.
+      if code == COA_REQUEST
+      then record no_shaping { removed = without_sessions (list_same c.peers p i ++ c.realm.reply_without) }
+      else no_shaping
+
+  shaping_same : (r : Requester) (code : ℕ) (l : Link) → shaping_of (bare c) r code l ≡ shaping_of c r code l
+  shaping_same (requester.Peer p) code l = between_same c.realm c.peers p
+  shaping_same (requester.Home s) code l = shaping_to_same code l
+
   -- rests
   rest_same : (rests : List Rest) (l : Link) → rest_of (bare c) rests l ≡ rest_of c rests l
   rest_same rests l = λ i. slice_index_or rests (at l i) awake
@@ -114,35 +175,50 @@ module _ (c : RealmConfig) where
   back_same : (now : ℕ) (rests : List Rest) (l : Link) → stands_back (bare c) now rests l ≡ stands_back c now rests l
   back_same now rests l = λ i. is_resting now (rest_same rests l i)
 
-  choice_same : (now : ℕ) (rests : List Rest) (l : Link) → after_choice (bare c) now rests l ≡ after_choice c now rests l
+  choice_same : (now : ℕ) (rests : List Rest) (l : Link) →
+      after_choice (bare c) now rests l ≡ after_choice c now rests l
   choice_same now rests l = λ i. slice_set rests (at l i) (once_chosen c now (rest_same rests l i))
 
-  silence_same : (now : ℕ) (rests : List Rest) (l : Link) → after_silence (bare c) now rests l ≡ after_silence c now rests l
+  silence_same : (now : ℕ) (rests : List Rest) (l : Link) →
+      after_silence (bare c) now rests l ≡ after_silence c now rests l
   silence_same now rests l = λ i.
       if nat_lt 0 c.realm.rest then slice_set rests (at l i) (once_silent c now (rest_same rests l i)) else rests
 
   -- targets
-  next_same : (cursors : List ℕ) (entries : List PlainEntry) (l : Link) → next_toward (bare c) cursors entries l ≡ next_toward c cursors entries l
+  next_same : (cursors : List ℕ) (entries : List PlainEntry) (l : Link) →
+      next_toward (bare c) cursors entries l ≡ next_toward c cursors entries l
   next_same cursors entries l = λ i. next_identifier (is_used_on l entries) (slice_index cursors (at l i))
 
-  first_same : (cursors : List ℕ) (entries : List PlainEntry) (links : List Link) → first_target (bare c) cursors entries links ≡ first_target c cursors entries links
+  first_same : (cursors : List ℕ) (entries : List PlainEntry) (links : List Link) →
+      first_target (bare c) cursors entries links ≡ first_target c cursors entries links
   first_same cursors entries [] = refl
   first_same cursors entries (l ∷ ls) = λ i. this_or l (next_same cursors entries l i) (first_same cursors entries ls i)
 
-  ready_same : (now : ℕ) (rests : List Rest) (links : List Link) → ready_links (bare c) now rests links ≡ ready_links c now rests links
+  ready_same : (now : ℕ) (rests : List Rest) (links : List Link) →
+      ready_links (bare c) now rests links ≡ ready_links c now rests links
   ready_same now rests links = λ i. filter (λ l. not (back_same now rests l i)) links
 
-  chosen_same : (now : ℕ) (rests : List Rest) (cursors : List ℕ) (entries : List PlainEntry) (links : List Link) → chosen_target (bare c) now rests cursors entries links ≡ chosen_target c now rests cursors entries links
+  chosen_same : (now : ℕ) (rests : List Rest) (cursors : List ℕ) (entries : List PlainEntry) (links : List Link) →
+      chosen_target (bare c) now rests cursors entries links ≡ chosen_target c now rests cursors entries links
   chosen_same now rests cursors entries links =
-      let ready : first_target (bare c) cursors entries (ready_links (bare c) now rests links) ≡ first_target c cursors entries (ready_links c now rests links) =
-      ap (first_target (bare c) cursors entries) (ready_same now rests links) ∙ first_same cursors entries (ready_links c now rests links) in
+      let ready : first_target (bare c) cursors entries (ready_links (bare c) now rests links)
+      ≡ first_target c cursors entries (ready_links c now rests links) =
+      ap (first_target (bare c) cursors entries) (ready_same now rests links)
+      ∙ first_same cursors entries (ready_links c now rests links) in
       λ i. option_or (ready i) (first_same cursors entries links i)
 
   -- requests
   to_same : (l : Link) (octets : List ℕ) → packet_to_link (bare c) l octets ≡ packet_to_link c l octets
-  to_same l octets = λ i. record { realm = Some c.index; from = place.Out c.index; to = endpoint_same l i; bytes = octets }
+  to_same l octets = λ i. record {
+    realm = Some c.index;
+    from = place.Out c.index;
+    to = endpoint_same l i;
+    bytes =
+        octets;
+  }
 
-  octets_same : (q : PlainRequest) (position ticket : ℕ) (target : Target) → forwarded_octets (bare c) q position ticket target ≡ forwarded_octets c q position ticket target
+  octets_same : (q : PlainRequest) (position ticket : ℕ) (target : Target) →
+      forwarded_octets (bare c) q position ticket target ≡ forwarded_octets c q position ticket target
   octets_same q position ticket target = λ i.
       let f : Forwarding = record {
         from_secret = secret_with q.requester i;
@@ -151,16 +227,20 @@ module _ (c : RealmConfig) where
         authenticator = drawn_at c q position;
         ticket = ticket;
       } in
-      packet_text (forwarded f (packet_of q.octets))
+      packet_text (forwarded f (shaped (shaping_same q.requester (packet_of q.octets).code target.link i)
+      (packet_of q.octets)))
 
-  entry_same : (now : ℕ) (q : PlainRequest) (position ticket : ℕ) (target : Target) → forwarded_entry (bare c) now q position ticket target ≡ forwarded_entry c now q position ticket target
+  entry_same : (now : ℕ) (q : PlainRequest) (position ticket : ℕ) (target : Target) →
+      forwarded_entry (bare c) now q position ticket target ≡ forwarded_entry c now q position ticket target
   entry_same now q position ticket target = λ i. record {
     request = q;
     ticket = ticket;
-    standing = waiting target.link target.id (octets_same q position ticket target i) (c.realm.tries - 1) (now + c.realm.wait);
+    standing = waiting target.link target.id (octets_same q position ticket target i) (c.realm.tries - 1)
+        (now + c.realm.wait);
   }
 
-  once_same : (now : ℕ) (s : RealmState) (q : PlainRequest) (ticket : ℕ) (target : Target) → once_forwarded (bare c) now s q ticket target ≡ once_forwarded c now s q ticket target
+  once_same : (now : ℕ) (s : RealmState) (q : PlainRequest) (ticket : ℕ) (target : Target) →
+      once_forwarded (bare c) now s q ticket target ≡ once_forwarded c now s q ticket target
   once_same now s q ticket target = λ i. record s {
     entries = put (entry_same now q s.stream_position ticket target i) s.entries;
     cursors = slice_set s.cursors (at target.link i) ((target.id + 1) % 256);
@@ -168,17 +248,23 @@ module _ (c : RealmConfig) where
     rests = choice_same now s.rests target.link i;
   }
 
-  admit_same : (now : ℕ) (s : RealmState) (entries : List PlainEntry) (q : PlainRequest) (target : Target) → admit (bare c) now s entries q target ≡ admit c now s entries q target
+  admit_same : (now : ℕ) (s : RealmState) (entries : List PlainEntry) (q : PlainRequest) (target : Target) →
+      admit (bare c) now s entries q target ≡ admit c now s entries q target
   admit_same now s entries q target =
-      let octets : packet_to_link (bare c) target.link (forwarded_octets (bare c) q s.stream_position s.ticket target) ≡ packet_to_link c target.link (forwarded_octets c q s.stream_position s.ticket target) =
-      ap (packet_to_link (bare c) target.link) (octets_same q s.stream_position s.ticket target) ∙ to_same target.link (forwarded_octets c q s.stream_position s.ticket target) in
+      let octets : packet_to_link (bare c) target.link
+      (forwarded_octets (bare c) q s.stream_position s.ticket target)
+      ≡ packet_to_link c target.link (forwarded_octets c q s.stream_position s.ticket target) =
+      ap (packet_to_link (bare c) target.link) (octets_same q s.stream_position s.ticket target)
+      ∙ to_same target.link (forwarded_octets c q s.stream_position s.ticket target) in
       λ i. sends (octets i ∷ []) (with_next_ticket (once_same now (with_entries s entries) q s.ticket target i))
 
-  way_same : (now : ℕ) (s : RealmState) (entries : List PlainEntry) (q : PlainRequest) (target : Target) (t : Option ℕ) → make_way (bare c) now s entries q target t ≡ make_way c now s entries q target t
+  way_same : (now : ℕ) (s : RealmState) (entries : List PlainEntry) (q : PlainRequest) (target : Target)
+      (t : Option ℕ) → make_way (bare c) now s entries q target t ≡ make_way c now s entries q target t
   way_same now s entries q target None = refl
   way_same now s entries q target (Some t) = admit_same now s (without t entries) q target
 
-  at_target_same : (now : ℕ) (s : RealmState) (entries : List PlainEntry) (q : PlainRequest) (t : Option Target) → at_target (bare c) now s entries q t ≡ at_target c now s entries q t
+  at_target_same : (now : ℕ) (s : RealmState) (entries : List PlainEntry) (q : PlainRequest) (t : Option Target) →
+      at_target (bare c) now s entries q t ≡ at_target c now s entries q t
   at_target_same now s entries q None = refl
   at_target_same now s entries q (Some t) = λ i.
       if nat_lt (length entries) c.realm.max_pending
@@ -191,27 +277,40 @@ module _ (c : RealmConfig) where
       then coa_links (target_same c.peers (packet_of q.octets).attributes i)
       else links_from c (service_of (packet_of q.octets).code) 0
 
-  new_same : (now : ℕ) (s : RealmState) (entries : List PlainEntry) (q : PlainRequest) → new_request (bare c) now s entries q ≡ new_request c now s entries q
+  new_same : (now : ℕ) (s : RealmState) (entries : List PlainEntry) (q : PlainRequest) →
+      new_request (bare c) now s entries q ≡ new_request c now s entries q
   new_same now s entries q =
-      let chosen : chosen_target (bare c) now s.rests s.cursors entries (targets (bare c) q) ≡ chosen_target c now s.rests s.cursors entries (targets c q) =
-      ap (chosen_target (bare c) now s.rests s.cursors entries) (targets_same q) ∙ chosen_same now s.rests s.cursors entries (targets c q) in
-      let there : at_target (bare c) now s entries q (chosen_target (bare c) now s.rests s.cursors entries (targets (bare c) q))
+      let chosen : chosen_target (bare c) now s.rests s.cursors entries (targets (bare c) q)
+      ≡ chosen_target c now s.rests s.cursors entries (targets c q) =
+      ap (chosen_target (bare c) now s.rests s.cursors entries) (targets_same q)
+      ∙ chosen_same now s.rests s.cursors entries (targets c q) in
+      let there : at_target (bare c) now s entries q
+      (chosen_target (bare c) now s.rests s.cursors entries (targets (bare c) q))
       ≡ at_target c now s entries q (chosen_target c now s.rests s.cursors entries (targets c q)) =
-      ap (at_target (bare c) now s entries q) chosen ∙ at_target_same now s entries q (chosen_target c now s.rests s.cursors entries (targets c q)) in
-      λ i. if s.ticket == 2 ^ 63 then refuses refusal.Exhausted else there i
+      ap (at_target (bare c) now s entries q) chosen
+      ∙ at_target_same now s entries q (chosen_target c now s.rests s.cursors entries (targets c q)) in
+      λ i. if s.ticket == 2 ^ 63
+      then refuses refusal.Exhausted
+      else if share_taken c entries q
+      then refuses refusal.ShareTaken
+      else there i
 
   nak_same : (q : PlainRequest) (why : ℕ) → nak_octets (bare c) q why ≡ nak_octets c q why
   nak_same q why = λ i. packet_text (nak (secret_with q.requester i) why (packet_of q.octets))
 
-  cause_of_same : (s : RealmState) (named : Option ℕ) (q : PlainRequest) → reverse_cause (bare c) s named q ≡ reverse_cause c s named q
+  cause_of_same : (s : RealmState) (named : Option ℕ) (q : PlainRequest) →
+      reverse_cause (bare c) s named q ≡ reverse_cause c s named q
   cause_of_same s named q = λ i.
-      if is_reverse q then cause_same c.peers c.index named (packet_of q.octets).attributes s.sessions i else None
+      if is_reverse q then cause_same c.realm c.peers c.index named (packet_of q.octets).attributes s.sessions i else
+      None
 
-  nak_or_new_same : (now : ℕ) (s : RealmState) (q : PlainRequest) (why : Option ℕ) → nak_or_new (bare c) now s q why ≡ nak_or_new c now s q why
+  nak_or_new_same : (now : ℕ) (s : RealmState) (q : PlainRequest) (why : Option ℕ) →
+      nak_or_new (bare c) now s q why ≡ nak_or_new c now s q why
   nak_or_new_same now s q (Some why) = λ i. sends (packet_to_requester c q.key (nak_same q why i) ∷ []) s
   nak_or_new_same now s q None = new_same now s (without_client q.key s.entries) q
 
-  first_seen_same : (now : ℕ) (s : RealmState) (named : Option ℕ) (q : PlainRequest) → first_seen (bare c) now s named q ≡ first_seen c now s named q
+  first_seen_same : (now : ℕ) (s : RealmState) (named : Option ℕ) (q : PlainRequest) →
+      first_seen (bare c) now s named q ≡ first_seen c now s named q
   first_seen_same now s named q =
       ap (nak_or_new (bare c) now s q) (cause_of_same s named q) ∙ nak_or_new_same now s q (reverse_cause c s named q)
 
@@ -219,14 +318,16 @@ module _ (c : RealmConfig) where
   held_same q (waiting l id forwarded sends_left deadline) = refl
   held_same q (done reply deadline) = refl
 
-  of_key_same : (now : ℕ) (s : RealmState) (named : Option ℕ) (q : PlainRequest) (e : Option PlainEntry) → of_key (bare c) now s named q e ≡ of_key c now s named q e
+  of_key_same : (now : ℕ) (s : RealmState) (named : Option ℕ) (q : PlainRequest) (e : Option PlainEntry) →
+      of_key (bare c) now s named q e ≡ of_key c now s named q e
   of_key_same now s named q None = first_seen_same now s named q
   of_key_same now s named q (Some e) = λ i.
       if pointwise nat_eq e.request.octets q.octets
       then sends (held_same q e.standing i) s
       else first_seen_same now s named q i
 
-  request_same : (now : ℕ) (s : RealmState) (named : Option ℕ) (q : PlainRequest) → on_request (bare c) now s named q ≡ on_request c now s named q
+  request_same : (now : ℕ) (s : RealmState) (named : Option ℕ) (q : PlainRequest) →
+      on_request (bare c) now s named q ≡ on_request c now s named q
   request_same now s named q = λ i. in_time now (of_key_same now s named q (find_client q.key s.entries) i)
 
   -- replies
@@ -237,46 +338,63 @@ module _ (c : RealmConfig) where
     client_secret = secret_with q.requester i;
   }
 
-  returned_same : (q : PlainRequest) (l : Link) (p reply : Packet) → returned_octets (bare c) q l p reply ≡ returned_octets c q l p reply
-  returned_same q l p reply = λ i. packet_text (returned (returning_same q l p i) reply (packet_of q.octets))
+  returned_same : (q : PlainRequest) (l : Link) (p reply : Packet) →
+      returned_octets (bare c) q l p reply ≡ returned_octets c q l p reply
+  returned_same q l p reply = λ i.
+      packet_text (returned (returning_same q l p i) (passing_reply (removed_same q.requester i) reply)
+      (packet_of q.octets))
 
-  counted_same : (q : PlainRequest) (peer : Option ℕ) (sessions : List Session) → counted (bare c) q peer sessions ≡ counted c q peer sessions
+  counted_same : (q : PlainRequest) (peer : Option ℕ) (sessions : List Session) →
+      counted (bare c) q peer sessions ≡ counted c q peer sessions
   counted_same q None sessions = refl
   counted_same q (Some peer) sessions = refl
 
-  once_returned_same : (now : ℕ) (s : RealmState) (e : PlainEntry) (l : Link) (reply : Packet) (octets : List ℕ) → once_returned (bare c) now s e l reply octets ≡ once_returned c now s e l reply octets
+  once_returned_same : (now : ℕ) (s : RealmState) (e : PlainEntry) (l : Link) (reply : Packet) (octets : List ℕ) →
+      once_returned (bare c) now s e l reply octets ≡ once_returned c now s e l reply octets
   once_returned_same now s e l reply octets = λ i. record s {
     entries = put (with_standing (done octets (now + c.realm.hold)) e) s.entries;
     sessions = counted_same e.request (counted_peer e.request.requester reply) s.sessions i;
     rests = with_same s.rests l awake i;
   }
 
-  return_same : (now : ℕ) (s : RealmState) (e : PlainEntry) (l : Link) (p reply : Packet) → return_reply (bare c) now s e l p reply ≡ return_reply c now s e l p reply
+  return_same : (now : ℕ) (s : RealmState) (e : PlainEntry) (l : Link) (p reply : Packet) →
+      return_reply (bare c) now s e l p reply ≡ return_reply c now s e l p reply
   return_same now s e l p reply =
-      let state : once_returned (bare c) now s e l reply (returned_octets (bare c) e.request l p reply) ≡ once_returned c now s e l reply (returned_octets c e.request l p reply) =
-      ap (once_returned (bare c) now s e l reply) (returned_same e.request l p reply) ∙ once_returned_same now s e l reply (returned_octets c e.request l p reply) in
-      λ i. if nat_lt MAX_PACKET_LENGTH (returned_length (returning_same e.request l p i) reply (packet_of e.request.octets))
+      let state : once_returned (bare c) now s e l reply (returned_octets (bare c) e.request l p reply)
+      ≡ once_returned c now s e l reply (returned_octets c e.request l p reply) =
+      ap (once_returned (bare c) now s e l reply) (returned_same e.request l p reply)
+      ∙ once_returned_same now s e l reply (returned_octets c e.request l p reply) in
+      λ i. if nat_lt MAX_PACKET_LENGTH
+      (returned_length (returning_same e.request l p i) (passing_reply (removed_same e.request.requester i) reply)
+      (packet_of e.request.octets))
       then refuses refusal.ReplyTooLong
       else sends (packet_to_requester c e.request.key (returned_same e.request l p reply i) ∷ []) (state i)
 
-  judge_same : (now : ℕ) (s : RealmState) (e : PlainEntry) (l : Link) (p reply : Packet) (why : Option Refusal) → judge (bare c) now s e l p reply why ≡ judge c now s e l p reply why
+  judge_same : (now : ℕ) (s : RealmState) (e : PlainEntry) (l : Link) (p reply : Packet) (why : Option Refusal) →
+      judge (bare c) now s e l p reply why ≡ judge c now s e l p reply why
   judge_same now s e l p reply (Some why) = refl
   judge_same now s e l p reply None = return_same now s e l p reply
 
-  standing_same : (now : ℕ) (s : RealmState) (e : PlainEntry) (reply : Packet) (x : PlainStanding) → to_standing (bare c) now s e reply x ≡ to_standing c now s e reply x
+  standing_same : (now : ℕ) (s : RealmState) (e : PlainEntry) (reply : Packet) (x : PlainStanding) →
+      to_standing (bare c) now s e reply x ≡ to_standing c now s e reply x
   standing_same now s e reply (waiting l id octets sends_left deadline) =
-      let why : reply_fault (link_secret (bare c) l) (seal_required (bare c) l) reply (packet_of octets) ≡ reply_fault (link_secret c l) (seal_required c l) reply (packet_of octets) =
+      let why : reply_fault (link_secret (bare c) l) (seal_required (bare c) l) reply (packet_of octets)
+      ≡ reply_fault (link_secret c l) (seal_required c l) reply (packet_of octets) =
       λ i. reply_fault (secret_of l i) (seal_same l i) reply (packet_of octets) in
       ap (judge (bare c) now s e l (packet_of octets) reply) why
-      ∙ judge_same now s e l (packet_of octets) reply (reply_fault (link_secret c l) (seal_required c l) reply (packet_of octets))
+      ∙ judge_same now s e l (packet_of octets) reply
+      (reply_fault (link_secret c l) (seal_required c l) reply (packet_of octets))
   standing_same now s e reply (done old deadline) = refl
 
-  to_entry_same : (now : ℕ) (s : RealmState) (reply : Packet) (e : Option PlainEntry) → to_entry (bare c) now s reply e ≡ to_entry c now s reply e
+  to_entry_same : (now : ℕ) (s : RealmState) (reply : Packet) (e : Option PlainEntry) →
+      to_entry (bare c) now s reply e ≡ to_entry c now s reply e
   to_entry_same now s reply None = refl
   to_entry_same now s reply (Some e) = standing_same now s e reply e.standing
 
-  reply_same : (now : ℕ) (s : RealmState) (l : Link) (octets : List ℕ) → on_reply (bare c) now s l octets ≡ on_reply c now s l octets
-  reply_same now s l octets = λ i. in_time now (to_entry_same now s (packet_of octets) (find_link l (packet_of octets).id s.entries) i)
+  reply_same : (now : ℕ) (s : RealmState) (l : Link) (octets : List ℕ) →
+      on_reply (bare c) now s l octets ≡ on_reply c now s l octets
+  reply_same now s l octets = λ i. in_time now
+      (to_entry_same now s (packet_of octets) (find_link l (packet_of octets).id s.entries) i)
 
   -- ticks
   given_up_same : (now : ℕ) (s : RealmState) (e : PlainEntry) → given_up (bare c) now s e ≡ given_up c now s e
@@ -289,28 +407,37 @@ module _ (c : RealmConfig) where
       }
       else silent s
 
-  fail_over_same : (now : ℕ) (s : RealmState) (e : PlainEntry) (t : Option Target) → fail_over (bare c) now s e t ≡ fail_over c now s e t
+  fail_over_same : (now : ℕ) (s : RealmState) (e : PlainEntry) (t : Option Target) →
+      fail_over (bare c) now s e t ≡ fail_over c now s e t
   fail_over_same now s e None = given_up_same now s e
   fail_over_same now s e (Some t) =
-      let packet : packet_to_link (bare c) t.link (forwarded_octets (bare c) e.request s.stream_position e.ticket t) ≡ packet_to_link c t.link (forwarded_octets c e.request s.stream_position e.ticket t) =
-      ap (packet_to_link (bare c) t.link) (octets_same e.request s.stream_position e.ticket t) ∙ to_same t.link (forwarded_octets c e.request s.stream_position e.ticket t) in
+      let packet : packet_to_link (bare c) t.link (forwarded_octets (bare c) e.request s.stream_position e.ticket t)
+      ≡ packet_to_link c t.link (forwarded_octets c e.request s.stream_position e.ticket t) =
+      ap (packet_to_link (bare c) t.link) (octets_same e.request s.stream_position e.ticket t)
+      ∙ to_same t.link (forwarded_octets c e.request s.stream_position e.ticket t) in
       λ i. record { packets = packet i ∷ []; state = once_same now s e.request e.ticket t i }
 
-  given_up_at_same : (now : ℕ) (l : Link) (s : RealmState) (e : PlainEntry) → given_up_at (bare c) now l s e ≡ given_up_at c now l s e
+  given_up_at_same : (now : ℕ) (l : Link) (s : RealmState) (e : PlainEntry) →
+      given_up_at (bare c) now l s e ≡ given_up_at c now l s e
   given_up_at_same now l s e = λ i. record (without_entry s e) { rests = silence_same now s.rests l i }
 
-  due_standing_same : (now : ℕ) (s : RealmState) (e : PlainEntry) (x : PlainStanding) → due_standing (bare c) now s e x ≡ due_standing c now s e x
+  due_standing_same : (now : ℕ) (s : RealmState) (e : PlainEntry) (x : PlainStanding) →
+      due_standing (bare c) now s e x ≡ due_standing c now s e x
   due_standing_same now s e (done reply deadline) = refl
   due_standing_same now s e (waiting l id octets sends_left deadline) =
       let es = without e.ticket s.entries in
-      let chosen : chosen_target (bare c) now (after_silence (bare c) now s.rests l) s.cursors es (later_targets (bare c) l)
+      let chosen : chosen_target (bare c) now (after_silence (bare c) now s.rests l) s.cursors es
+      (later_targets (bare c) l)
       ≡ chosen_target c now (after_silence c now s.rests l) s.cursors es (later_targets c l) =
       (λ i. chosen_target (bare c) now (silence_same now s.rests l i) s.cursors es (later_same l i))
       ∙ chosen_same now (after_silence c now s.rests l) s.cursors es (later_targets c l) in
-      let over : fail_over (bare c) now (given_up_at (bare c) now l s e) e (chosen_target (bare c) now (after_silence (bare c) now s.rests l) s.cursors es (later_targets (bare c) l))
-      ≡ fail_over c now (given_up_at c now l s e) e (chosen_target c now (after_silence c now s.rests l) s.cursors es (later_targets c l)) =
+      let over : fail_over (bare c) now (given_up_at (bare c) now l s e) e
+      (chosen_target (bare c) now (after_silence (bare c) now s.rests l) s.cursors es (later_targets (bare c) l))
+      ≡ fail_over c now (given_up_at c now l s e) e
+      (chosen_target c now (after_silence c now s.rests l) s.cursors es (later_targets c l)) =
       (λ i. fail_over (bare c) now (given_up_at_same now l s e i) e (chosen i))
-      ∙ fail_over_same now (given_up_at c now l s e) e (chosen_target c now (after_silence c now s.rests l) s.cursors es (later_targets c l)) in
+      ∙ fail_over_same now (given_up_at c now l s e) e
+      (chosen_target c now (after_silence c now s.rests l) s.cursors es (later_targets c l)) in
       λ i. if nat_lt 0 sends_left
       then record {
         packets = to_same l octets i ∷ [];
@@ -363,19 +490,22 @@ bare_same b c k count = λ i. record {
     same =
         let both : length (map peer_part c.peers) ≡ length (map peer_part b.peers) + length k.peers.more =
         ap length k.peers.same ∙ length-append (map peer_part b.peers) k.peers.more in
-        let none : length k.peers.more ≡ 0 = omega (arith, both, count, length-map c.peers peer_part, length-map b.peers peer_part) in
+        let none : length k.peers.more ≡ 0 =
+        omega (arith, both, count, length-map c.peers peer_part, length-map b.peers peer_part) in
         k.peers.same
         ∙ ap (λ (xs : List PeerView). map peer_part b.peers ++ xs) (nil_from_length k.peers.more none)
         ∙ append-nil (map peer_part b.peers)
 
 -- then the written broker is the same
-pub stays_the_same : (b c : RealmConfig) → Carries b c → length c.peers ≡ length b.peers → (s : RealmState) (es : List RealmEvent) → one_realm_run c s es ≡ one_realm_run b s es
+pub stays_the_same : (b c : RealmConfig) → Carries b c → length c.peers ≡ length b.peers →
+    (s : RealmState) (es : List RealmEvent) → one_realm_run c s es ≡ one_realm_run b s es
 stays_the_same b c k count s es =
     sym (run_same c s es) ∙ ap (λ (x : RealmConfig). one_realm_run x s es) (bare_same b c k count) ∙ run_same b s es
 
 -- events in two parts
 run_parts : (c : RealmConfig) (s : RealmState) (es fs : List RealmEvent)
-    → (one_realm_run c s (es ++ fs)).packets ≡ (one_realm_run c s es).packets ++ (one_realm_run c (one_realm_run c s es).state fs).packets
+    → (one_realm_run c s (es ++ fs)).packets ≡ (one_realm_run c s es).packets
+    ++ (one_realm_run c (one_realm_run c s es).state fs).packets
 run_parts c s [] fs = refl
 run_parts c s (e ∷ es) fs =
     let turn = on_event c s e in
@@ -384,7 +514,8 @@ run_parts c s (e ∷ es) fs =
     ap (λ (ps : List PlainOut). packets_of turn ++ ps) (run_parts c next es fs)
     ∙ sym (append_assoc (packets_of turn) others.packets (one_realm_run c others.state fs).packets)
 
-pub as_if_nothing : (b c : RealmConfig) → Carries b c → length c.peers ≡ length b.peers → (s : RealmState) (before after : List RealmEvent)
+pub as_if_nothing : (b c : RealmConfig) → Carries b c → length c.peers ≡ length b.peers →
+    (s : RealmState) (before after : List RealmEvent)
     → (one_realm_run b s (before ++ after)).packets
     ≡ (one_realm_run b s before).packets ++ (one_realm_run c (one_realm_run b s before).state after).packets
 as_if_nothing b c k count s before after =

@@ -20,7 +20,7 @@ use Rattle.roam_book.specs.RealmConfig.{RealmConfig, link_place, link_secret, se
 use Rattle.roam_book.specs.RealmState.{RealmState, Target, first_target, next_toward, ready_links, this_or}
 use Rattle.roam_book.specs.Rests.{after_choice, after_reply, after_silence, awake, once_chosen, once_silent, one_more, rest_of, stands_back, with_rest}
 use Rattle.roam_book.specs.Turn.{Turn, latest_moment, refusal_of, refuses, state_after}
-use Rattle.roam_book.specs.OnReply.{judge, on_reply, reply_fault, returning, to_entry, to_standing}
+use Rattle.roam_book.specs.OnReply.{judge, on_reply, passing_to, reply_fault, returning, to_entry, to_standing}
 use Rattle.roam_book.specs.OnTick.{Progress, as_turn, due_each, due_entry, due_one, due_standing, given_up_at}
 use Rattle.roam_book.specs.OneRealm.{RealmEvent, one_realm_run, reply_came, request_came, tick_came}
 use Rattle.roam_book.specs.Silence.{ChoiceIsNeverWorse, LinksHaveOwnPlaces, RestsOnlyWhenSilent, ends_at, ends_there, given_up_by, given_up_in, given_up_over, is_link, once_came, taken_in, taken_over}
@@ -250,7 +250,8 @@ module _ (c : RealmConfig) (l : Link) where
   judge-wakes now s e k forwarded reply (Some why) is = refuses-wakes s why
   judge-wakes now s e k forwarded reply None is =
       either (Wakes s)
-      (ltb 4096 (returned_length (returning c e.request k forwarded) reply (packet_of e.request.octets)))
+      (ltb 4096 (returned_length (returning c e.request k forwarded) (passing_to c e.request reply)
+      (packet_of e.request.octets)))
       _ _ (refuses-wakes s refusal.ReplyTooLong) (λ taken. woken-at s.rests k is)
 
   standing-wakes : (now : ℕ) (s : RealmState) (e : PlainEntry) (from : Link) (id : ℕ) (reply : Packet)
@@ -363,7 +364,10 @@ module _ (c : RealmConfig) (l : Link) where
               | inl going ↦ (
                   let first = silent.0 in
                   let rest = going.0 in
-                  inl (omega (arith, first, rest), more c (n + count + others) (n + (count + others)) left (omega arith) going.1)
+                  inl (
+                    omega (arith, first, rest),
+                    more c (n + count + others) (n + (count + others)) left (omega arith) going.1,
+                  )
                   )
               | inr since ↦ inr (later s e es since)
             ]
@@ -400,7 +404,8 @@ rests-only_when_silent c s l events now wakes stands =
         since = silent.since;
         all = silent.all;
         no_reply = silent.no_reply;
-        given_up = enough c (given_up_over c (one_realm_run c s silent.before).state l silent.since) now left silent.tells stands;
+        given_up = enough c (given_up_over c (one_realm_run c s silent.before).state l silent.since) now left
+            silent.tells stands;
       }
     ]
 

@@ -1,8 +1,10 @@
 -- What the broker of one realm does, in the order in which it is read.
 pub mod RealmConfig
+pub mod Shapings
 pub mod Rests
 pub mod RealmState
 pub mod Turn
+pub mod Shares
 pub mod OnRequest
 pub mod OnReply
 pub mod OnTick

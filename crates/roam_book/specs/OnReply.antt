@@ -9,7 +9,7 @@ use Rattle.roam_wire.specs.declared.refusal.Refusal.TheVariants as refusal
 use Rattle.roam_wire.specs.declared.packet_size.TheConstants.{MAX_PACKET_LENGTH}
 use Rattle.roam_conf.specs.declared.place.Link.{Link}
 pub use Rattle.roam_back.specs.ReplyCheck.{reply_fault}
-use Rattle.roam_back.specs.Returned.{Returning, returned, returned_length}
+use Rattle.roam_back.specs.Returned.{Returning, passing_reply, returned, returned_length}
 use Rattle.roam_reverse.specs.Sessions.{Session, applied}
 use Rattle.roam_pending.specs.declared.key.Requester.{Requester}
 use Rattle.roam_pending.specs.declared.key.Requester.TheVariants as requester
@@ -18,6 +18,7 @@ use Rattle.roam_pending.specs.EntryList.{find_link, put}
 use Rattle.roam_pending.specs.Realms.{with_standing}
 use Rattle.roam_book.specs.RealmConfig.{RealmConfig, link_secret, requester_secret, seal_required}
 use Rattle.roam_book.specs.Rests.{after_reply}
+use Rattle.roam_book.specs.Shapings.{removed_for}
 use Rattle.roam_book.specs.RealmState.{RealmState}
 use Rattle.roam_book.specs.Turn.{Turn, refuses, sends, in_time}
 use Rattle.roam_book.specs.OnRequest.{packet_to_requester}
@@ -30,10 +31,14 @@ returning c q l forwarded = record {
   client_secret = requester_secret c q.requester;
 }
 
+-- what passes of a reply to the sender of a request
+abbrev pub passing_to : RealmConfig → PlainRequest → Packet → Packet
+passing_to c q reply = passing_reply (removed_for c q.requester) reply
+
 -- the returned packet (RFC 2865, section 2.3)
 abbrev pub returned_octets : RealmConfig → PlainRequest → Link → Packet → Packet → List ℕ
 returned_octets c q l forwarded reply =
-    packet_text (returned (returning c q l forwarded) reply (packet_of q.octets))
+    packet_text (returned (returning c q l forwarded) (passing_to c q reply) (packet_of q.octets))
 
 -- whose sessions change when a reply was returned: those of the peer that sent the Accounting-Request
 -- which an Accounting-Response answers (RFC 2866, section 2; that a ledger is kept is ours)
@@ -61,7 +66,8 @@ once_returned c now s e l reply octets = record s {
 -- a reply that is taken, for an entry: its packet is returned
 abbrev pub return_reply : RealmConfig → ℕ → RealmState → PlainEntry → Link → Packet → Packet → Turn
 return_reply c now s e l forwarded reply =
-    if nat_lt MAX_PACKET_LENGTH (returned_length (returning c e.request l forwarded) reply (packet_of e.request.octets))
+    if nat_lt MAX_PACKET_LENGTH
+    (returned_length (returning c e.request l forwarded) (passing_to c e.request reply) (packet_of e.request.octets))
     then refuses refusal.ReplyTooLong
     else sends (packet_to_requester c e.request.key (returned_octets c e.request l forwarded reply) ∷ [])
     (once_returned c now s e l reply (returned_octets c e.request l forwarded reply))

@@ -13,6 +13,7 @@ use Rattle.roam_conf.specs.declared.place.Link.{Link}
 use Rattle.roam_conf.specs.declared.place.Link.TheVariants as link
 use Rattle.roam_conf.specs.declared.place.Place.TheVariants as place
 use Rattle.roam_fwd.specs.Forwarded.{Forwarding, forwarded}
+use Rattle.roam_fwd.specs.Shaped.{shaped}
 use Rattle.roam_back.specs.Nak.{nak}
 use Rattle.roam_route.specs.Admission.{PlainOut}
 use Rattle.roam_reverse.specs.Causes.{cause}
@@ -24,6 +25,8 @@ use Rattle.roam_pending.specs.EntryList.{find_client, first_done, without, witho
 use Rattle.roam_book.specs.RealmConfig.{RealmConfig, link_secret, requester_secret, link_endpoint, link_place, links_from, service_of}
 use Rattle.roam_book.specs.RealmState.{RealmState, Target, with_entries, with_next_ticket, chosen_target}
 use Rattle.roam_book.specs.Rests.{after_choice}
+use Rattle.roam_book.specs.Shapings.{shaping}
+use Rattle.roam_book.specs.Shares.{share_taken}
 use Rattle.roam_book.specs.Turn.{Turn, refuses, sends, in_time}
 
 -- a packet of the realm toward a link, and one back to the sender of a request
@@ -72,10 +75,11 @@ forwarding c q position ticket target = record {
   ticket = ticket;
 }
 
--- the forwarded packet (RFC 2865, section 2.3), with what is drawn from this position on
+-- the forwarded packet (RFC 2865, section 2.3) of the request as it is shaped, with what is drawn from this position on
 abbrev pub forwarded_octets : RealmConfig → PlainRequest → ℕ → ℕ → Target → List ℕ
 forwarded_octets c q position ticket target =
-    packet_text (forwarded (forwarding c q position ticket target) (packet_of q.octets))
+    packet_text
+    (forwarded (forwarding c q position ticket target) (shaped (shaping c q target.link) (packet_of q.octets)))
 
 -- a request that was forwarded just now: it waits for its reply, and may be sent `tries - 1` times more
 abbrev pub forwarded_entry : RealmConfig → ℕ → PlainRequest → ℕ → ℕ → Target → PlainEntry
@@ -143,11 +147,14 @@ targets c q =
     then coa_links (reverse.target c.peers (packet_of q.octets).attributes)
     else links_from c (service_of (packet_of q.octets).code) 0
 
--- a new request beside these entries: there is a ticket, a target that is chosen, and a place
+-- a new request beside these entries: there is a ticket, its name's share isn't taken, a target is chosen, and there
+-- is a place
 abbrev pub new_request : RealmConfig → ℕ → RealmState → List PlainEntry → PlainRequest → Turn
 new_request c now s entries q =
     if s.ticket == 2 ^ 63
     then refuses refusal.Exhausted
+    else if share_taken c entries q
+    then refuses refusal.ShareTaken
     else at_target c now s entries q
     (chosen_target c now s.rests s.cursors entries (targets c q))
 
@@ -168,7 +175,7 @@ nak_octets c q why = packet_text (nak (requester_secret c q.requester) why (pack
 abbrev pub reverse_cause : RealmConfig → RealmState → Option ℕ → PlainRequest → Option ℕ
 reverse_cause c s named q =
     if is_reverse q
-    then cause c.peers c.index named (packet_of q.octets).attributes s.sessions
+    then cause (Some c.realm) c.peers c.index named (packet_of q.octets).attributes s.sessions
     else None
 
 -- a request that is no duplicate, with the cause for which it isn't forwarded, if there is one: then it
@@ -199,9 +206,10 @@ of_key c now s named q (Some e) =
 -- ## Answer to a request
 -- Above time 2^62: Moment. Same key and same octets: nothing while it waits, the held reply once it is done,
 -- and nothing changes. A reverse request that isn't forwarded: its NAK, and nothing changes. Else the entry of
--- that key counts as gone; Exhausted at ticket 2^63; the target is the chosen one of the request's links, else
--- NoIdentifier; with `max_pending` entries the done one of least ticket makes way, else Busy; then the new
--- entry stands last, its forwarded packet is sent, with `tries - 1` sends left and deadline `now + wait`.
+-- that key counts as gone; Exhausted at ticket 2^63; ShareTaken where its name's share is; the target is the chosen one
+-- of the request's links, else NoIdentifier; with `max_pending` entries the done one of least ticket makes way, else
+-- Busy; then the new entry stands last, its forwarded packet is sent, with `tries - 1` sends left and deadline
+-- `now + wait`.
 -- Source: RFC 2865 sections 2.3 and 2.5, RFC 5176; numbers ours
 -- Rules out: equal keys taken for duplicates whatever the octets; Busy while a done entry could make way
 -- Stands in: `roam_book` `OnRequest.antt`: `on_request`; `Book::request`

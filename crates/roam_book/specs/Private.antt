@@ -6,3 +6,4 @@ pub mod Memory
 pub mod MoreLanes
 pub mod NewEntry
 pub mod ReplyPlans
+pub mod Sharing

@@ -13,10 +13,11 @@ use Rattle.roam_book.specs.declared.packets.tick_memory.TickSlot.{TickSlot}
 abbrev pub dues_of : {A : Type 0} → List (TickSlot A) → List Due
 dues_of slots = map (λ slot. slot.due) slots
 
--- how many octets an entry's forwarded packet may have: its request's, and 46 more
+-- how many octets an entry's forwarded packet may have: its request's, and 304 more, of which 46 are what any
+-- forwarded packet may gain, 255 an Operator-Name and 3 a Chargeable-User-Identity
 abbrev pub size_of : Option PlainEntry → ℕ
 size_of None = 0
-size_of (Some e) = length e.request.octets + 46
+size_of (Some e) = length e.request.octets + 304
 
 -- each slot has buffers for its entry's packet, and for its copy where it is wanted twice
 abbrev pub EachHasBuffers : {A : Type 0} → Bool → List PlainEntry → List (TickSlot A) → Type 0

@@ -4,25 +4,46 @@
 use Rattle.std.specs.Prelude.{◌≡◌, ◌≢◌, ℕ, zero, suc, ◌+◌, ◌*◌, ◌++◌, ◌∷◌, ◌<◌, ◌≤◌, ◌^◌, ◌==◌, ◌&&◌, ◌||◌, Bool, true, false, not, List, [], length, map, Option, Some, None, option_map, is_some, slice_index_or}
 use Rattle.std.specs.List.{AllByRecursion, find}
 use Rattle.std.specs.Option.{option_map_or, option_or}
+use Rattle.roam_wire.specs.Codes.{is_reverse_request}
+use Rattle.roam_wire.specs.Packet.{Packet}
 use Rattle.roam_wire.specs.Reading.{IsPacketText, packet_of}
 use Rattle.roam_conf.specs.declared.place.Link.{Link}
 use Rattle.roam_fwd.specs.Forwarded.{CanBeForwarded}
+use Rattle.roam_fwd.specs.Shaped.{CanBeShaped}
 use Rattle.roam_ids.specs.LaneState.{LaneState, is_used, ticket_at}
 use Rattle.roam_ids.specs.NextIdentifier.{next_identifier}
+use Rattle.roam_pending.specs.declared.key.Requester.{Requester}
+use Rattle.roam_pending.specs.declared.key.Requester.TheVariants as requester
 use Rattle.roam_pending.specs.PlainEntry.{PlainRequest, PlainStanding, PlainEntry, waiting, done, waits_at, same_link}
 use Rattle.roam_pending.specs.EntryList.{find_ticket}
 use Rattle.roam_book.specs.RealmConfig.{RealmConfig, IsLink, IsRequester, link_place, link_count}
 use Rattle.roam_book.specs.RealmState.{RealmState}
 use Rattle.roam_book.specs.Rests.{stands_back}
+use Rattle.roam_book.specs.Shapings.{shaping_from}
 use Rattle.roam_book.specs.declared.rules.replaced.Replaced.{Replaced}
 use Rattle.roam_book.specs.declared.packets.forwarding.RequestRef.{RequestRef}
 use Rattle.roam_book.specs.declared.state.realm_numbers.RealmNumbers.{RealmNumbers}
 use Rattle.roam_book.specs.declared.state.rest.Rest.{Rest}
 
+-- a peer's request isn't a reverse one, and can be forwarded as it is shaped
+pub record IsOfPeer (c : RealmConfig) (peer : ℕ) (p : Packet) : Type 0 where
+  pub code : is_reverse_request p.code ≡ false
+  pub can_be_shaped : CanBeShaped (shaping_from c peer) p
+
+-- a home server's is one, and can be forwarded as it came, and so without some of it too
+pub record IsOfHome (p : Packet) : Type 0 where
+  pub code : is_reverse_request p.code ≡ true
+  pub can_be_forwarded : CanBeForwarded p
+
+-- a request can be forwarded
+abbrev pub CanGo : RealmConfig → Requester → Packet → Type 0
+CanGo c (requester.Peer peer) p = IsOfPeer c peer p
+CanGo c (requester.Home server) p = IsOfHome p
+
 -- a request of the realm
 pub record IsRequest (c : RealmConfig) (q : PlainRequest) : Type 0 where
   pub packet : IsPacketText q.octets
-  pub can_be_forwarded : CanBeForwarded (packet_of q.octets)
+  pub can_go : CanGo c q.requester (packet_of q.octets)
   pub requester : IsRequester c q.requester
 
 -- a request waits on a link of the realm, with the packet that was forwarded for it
@@ -30,7 +51,7 @@ pub record IsWaiting (c : RealmConfig) (q : PlainRequest) (l : Link) (i : ℕ) (
   pub link : IsLink c l
   pub id : i < 256
   pub packet : IsPacketText forwarded
-  pub size : length forwarded ≤ length q.octets + 46
+  pub size : length forwarded ≤ length q.octets + 304
 
 abbrev pub StandsWell : RealmConfig → PlainRequest → PlainStanding → Type 0
 StandsWell c q (waiting l id forwarded sends_left deadline) = IsWaiting c q l id forwarded

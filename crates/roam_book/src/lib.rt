@@ -11,6 +11,11 @@
 //! - requests, replies and ticks get the written answers, whatever their code: packets, refusal and new state,
 //!   in which are the position of the random words and the ledger of sessions | `Book::request`, `reply`,
 //!   `tick`
+//! - a peer's request is forwarded as the lists of the peer and of the realm, its Operator-Name and its question for
+//!   a Chargeable-User-Identity shape it; an Access reply is returned to it, and a CoA-Request forwarded to it, without
+//!   what these lists name, but that what names a session stays | the same: `turn`
+//! - a request whose name's share is taken is refused, after `Exhausted` and before `NoIdentifier`; the entry of its key
+//!   isn't counted | `Book::request`: `turn`
 //! - out of memory leaves the state unchanged, the ledger too; no memory is needed by a request or reply that
 //!   sends nothing, or by a tick at which each entry that is due was answered, so that they only go, or whose
 //!   time is refused | the same: `turn`, `succeeds`, `only_done`, `too_late`

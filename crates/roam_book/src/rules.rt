@@ -9,5 +9,6 @@ pub mod replaced;
 pub mod replies;
 pub mod reply_outcome;
 pub mod requests;
+pub mod share;
 pub mod targets;
 pub mod ticks;

@@ -6,4 +6,5 @@ pub mod realm_numbers;
 pub mod realm_settings;
 pub mod rest;
 pub mod service;
+pub mod shapings;
 pub mod start;

@@ -234,8 +234,8 @@ fn print_answer<'a, R: AllocGlobal + Net + Clock, W: Write>(
 /// # Errors
 ///
 /// `Unanswered`, where no answer comes, or none that tells success, or a server that is asked to stop doesn't end;
-/// `Cut`, where not all of it comes, and what came is printed; `Declined`, where the answer says why it was not done, and is
-/// printed; `Memory`; `Write`.
+/// `Cut`, where not all of it comes, and what came is printed; `Declined`, where the answer says why it was not done,
+/// and is printed; `Memory`; `Write`.
 pub fn ask_once<'a, R: AllocGlobal + Net + Clock, W: Write>(
     rt: &R,
     path: &'a str,

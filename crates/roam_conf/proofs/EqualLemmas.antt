@@ -20,32 +20,71 @@ use Rattle.roam_conf.proofs.EqualPartsLemmas.{list_decides, whole_list_decides, 
 -- the tests as the derives write them
 abbrev pub server_eq : Server → Server → Bool
 server_eq a b =
-    endpoint_eq a.auth b.auth && (option_eq endpoint_eq a.acct b.acct && (string_eq a.secret b.secret && (beq a.require_seal b.require_seal)))
+    endpoint_eq a.auth b.auth && (option_eq endpoint_eq a.acct b.acct &&
+    (string_eq a.secret b.secret && (beq a.require_seal b.require_seal)))
 
 abbrev pub peer_eq : Peer → Peer → Bool
 peer_eq a b =
-    string_eq a.name b.name && (pointwise eqb a.ip b.ip && (string_eq a.secret b.secret && (option_eq endpoint_eq a.coa b.coa && (option_eq (pointwise eqb) a.nas_ip b.nas_ip && (option_eq string_eq a.nas_id b.nas_id && (beq a.require_seal b.require_seal && (beq a.limit_proxy_state b.limit_proxy_state && (option_eq string_eq a.operator_name b.operator_name && (beq a.ask_cui b.ask_cui && (pointwise removed_eq a.request_without.items b.request_without.items && (pointwise removed_eq a.reply_without.items b.reply_without.items)))))))))))
+    string_eq a.name b.name && (pointwise eqb a.ip b.ip &&
+    (string_eq a.secret b.secret &&
+    (option_eq endpoint_eq a.coa b.coa &&
+    (option_eq (pointwise eqb) a.nas_ip b.nas_ip &&
+    (option_eq string_eq a.nas_id b.nas_id &&
+    (beq a.require_seal b.require_seal &&
+    (beq a.limit_proxy_state b.limit_proxy_state &&
+    (option_eq string_eq a.operator_name b.operator_name &&
+    (beq a.ask_cui b.ask_cui && (pointwise removed_eq a.request_without.items b.request_without.items &&
+    (pointwise removed_eq a.reply_without.items b.reply_without.items)))))))))))
 
 abbrev pub realm_eq : Realm → Realm → Bool
 realm_eq a b =
-    string_eq a.name b.name && (pointwise pattern_eq a.also.items b.also.items && (option_eq names_eq a.peers b.peers && (beq a.loop_prevention b.loop_prevention && (accounting_eq a.accounting b.accounting && (pointwise removed_eq a.request_without.items b.request_without.items && (pointwise removed_eq a.reply_without.items b.reply_without.items && (option_eq eqb a.share b.share && (endpoint_eq a.out b.out && (option_eq endpoint_eq a.reverse b.reverse && (eqb a.tries b.tries && (eqb a.wait b.wait && (eqb a.hold b.hold && (eqb a.max_pending b.max_pending && (eqb a.max_sessions b.max_sessions && (eqb a.rest b.rest && (eqb a.rest_after b.rest_after && (pointwise server_eq a.servers.items b.servers.items)))))))))))))))))
+    string_eq a.name b.name && (pointwise pattern_eq a.also.items b.also.items &&
+    (option_eq names_eq a.peers b.peers &&
+    (beq a.loop_prevention b.loop_prevention &&
+    (accounting_eq a.accounting b.accounting &&
+    (pointwise removed_eq a.request_without.items b.request_without.items &&
+    (pointwise removed_eq a.reply_without.items b.reply_without.items &&
+    (option_eq eqb a.share b.share &&
+    (endpoint_eq a.out b.out && (option_eq endpoint_eq a.reverse b.reverse &&
+    (eqb a.tries b.tries && (eqb a.wait b.wait &&
+    (eqb a.hold b.hold && (eqb a.max_pending b.max_pending &&
+    (eqb a.max_sessions b.max_sessions &&
+    (eqb a.rest b.rest && (eqb a.rest_after b.rest_after &&
+    (pointwise server_eq a.servers.items b.servers.items)))))))))))))))))
 
 abbrev pub config_eq : Config → Config → Bool
 config_eq a b =
-    eqb a.shards b.shards && (pointwise eqb a.seed b.seed && (endpoint_eq a.auth b.auth && (endpoint_eq a.acct b.acct && (eqb a.trace_limit b.trace_limit && (eqb a.trace_octets b.trace_octets && (option_eq eqb a.max_hops b.max_hops && (beq a.status_server b.status_server && (beq a.spread b.spread && (pointwise pattern_eq a.reject.items b.reject.items && (beq a.well_formed b.well_formed && (beq a.answer_unnamed b.answer_unnamed && (pointwise peer_eq a.peers.items b.peers.items && (pointwise realm_eq a.realms.items b.realms.items && (true))))))))))))))
+    eqb a.shards b.shards && (pointwise eqb a.seed b.seed &&
+    (endpoint_eq a.auth b.auth && (endpoint_eq a.acct b.acct &&
+    (eqb a.trace_limit b.trace_limit &&
+    (eqb a.trace_octets b.trace_octets &&
+    (option_eq eqb a.max_hops b.max_hops &&
+    (beq a.status_server b.status_server &&
+    (beq a.spread b.spread && (pointwise pattern_eq a.reject.items b.reject.items &&
+    (beq a.well_formed b.well_formed &&
+    (beq a.answer_unnamed b.answer_unnamed &&
+    (pointwise peer_eq a.peers.items b.peers.items &&
+    (pointwise realm_eq a.realms.items b.realms.items && (true))))))))))))))
 
 pub server_decides : (a b : Server) → Decides (server_eq a b) (shown_server a ≡ shown_server b)
 server_decides a b =
     let v = shown_server a in
     let w = shown_server b in
-    Decides-like {P = (v.auth ≡ w.auth) × ((v.acct ≡ w.acct) × ((v.secret ≡ w.secret) × ((v.require_seal ≡ w.require_seal))))} _
+    Decides-like {P = (v.auth ≡ w.auth)
+    × ((v.acct ≡ w.acct) × ((v.secret ≡ w.secret) × ((v.require_seal ≡ w.require_seal))))} _
     (λ p. λ i. record {
       auth = p.0 i;
       acct = p.1.0 i;
       secret = p.1.1.0 i;
       require_seal = p.1.1.1 i;
     })
-    (λ e. (ap (λ (x : ServerView). x.auth) e, (ap (λ (x : ServerView). x.acct) e, (ap (λ (x : ServerView). x.secret) e, ap (λ (x : ServerView). x.require_seal) e))))
+    (λ e. (
+      ap (λ (x : ServerView). x.auth) e,
+      (
+        ap (λ (x : ServerView). x.acct) e,
+        (ap (λ (x : ServerView). x.secret) e, ap (λ (x : ServerView). x.require_seal) e),
+      ),
+    ))
     (Decides-and _ _ (endpoint_decides a.auth b.auth)
     (Decides-and _ _ (whole_option_decides endpoint_eq endpoint_decides a.acct b.acct)
     (Decides-and _ _ (text_decides a.secret b.secret)
@@ -55,7 +94,14 @@ pub peer_decides : (a b : Peer) → Decides (peer_eq a b) (shown_peer a ≡ show
 peer_decides a b =
     let v = shown_peer a in
     let w = shown_peer b in
-    Decides-like {P = (v.name ≡ w.name) × ((v.ip ≡ w.ip) × ((v.secret ≡ w.secret) × ((v.coa ≡ w.coa) × ((v.nas_ip ≡ w.nas_ip) × ((v.nas_id ≡ w.nas_id) × ((v.require_seal ≡ w.require_seal) × ((v.limit_proxy_state ≡ w.limit_proxy_state) × ((v.operator_name ≡ w.operator_name) × ((v.ask_cui ≡ w.ask_cui) × ((v.request_without ≡ w.request_without) × ((v.reply_without ≡ w.reply_without))))))))))))} _
+    Decides-like {P = (v.name ≡ w.name)
+    × ((v.ip ≡ w.ip) × ((v.secret ≡ w.secret)
+    × ((v.coa ≡ w.coa) × ((v.nas_ip ≡ w.nas_ip)
+    × ((v.nas_id ≡ w.nas_id) × ((v.require_seal ≡ w.require_seal)
+    × ((v.limit_proxy_state ≡ w.limit_proxy_state)
+    × ((v.operator_name ≡ w.operator_name)
+    × ((v.ask_cui ≡ w.ask_cui) × ((v.request_without ≡ w.request_without)
+    × ((v.reply_without ≡ w.reply_without))))))))))))} _
     (λ p. λ i. record {
       name = p.0 i;
       ip = p.1.0 i;
@@ -70,7 +116,37 @@ peer_decides a b =
       request_without = p.1.1.1.1.1.1.1.1.1.1.0 i;
       reply_without = p.1.1.1.1.1.1.1.1.1.1.1 i;
     })
-    (λ e. (ap (λ (x : PeerView). x.name) e, (ap (λ (x : PeerView). x.ip) e, (ap (λ (x : PeerView). x.secret) e, (ap (λ (x : PeerView). x.coa) e, (ap (λ (x : PeerView). x.nas_ip) e, (ap (λ (x : PeerView). x.nas_id) e, (ap (λ (x : PeerView). x.require_seal) e, (ap (λ (x : PeerView). x.limit_proxy_state) e, (ap (λ (x : PeerView). x.operator_name) e, (ap (λ (x : PeerView). x.ask_cui) e, (ap (λ (x : PeerView). x.request_without) e, ap (λ (x : PeerView). x.reply_without) e))))))))))))
+    (λ e. (
+      ap (λ (x : PeerView). x.name) e,
+      (
+        ap (λ (x : PeerView). x.ip) e,
+        (
+          ap (λ (x : PeerView). x.secret) e,
+          (
+            ap (λ (x : PeerView). x.coa) e,
+            (
+              ap (λ (x : PeerView). x.nas_ip) e,
+              (
+                ap (λ (x : PeerView). x.nas_id) e,
+                (
+                  ap (λ (x : PeerView). x.require_seal) e,
+                  (
+                    ap (λ (x : PeerView). x.limit_proxy_state) e,
+                    (
+                      ap (λ (x : PeerView). x.operator_name) e,
+                      (
+                        ap (λ (x : PeerView). x.ask_cui) e,
+                        (ap (λ (x : PeerView). x.request_without) e, ap (λ (x : PeerView). x.reply_without) e),
+                      ),
+                    ),
+                  ),
+                ),
+              ),
+            ),
+          ),
+        ),
+      ),
+    ))
     (Decides-and _ _ (text_decides a.name b.name)
     (Decides-and _ _ (bytes_eq-Decides a.ip b.ip)
     (Decides-and _ _ (text_decides a.secret b.secret)
@@ -88,7 +164,18 @@ pub realm_decides : (a b : Realm) → Decides (realm_eq a b) (shown_realm a ≡ 
 realm_decides a b =
     let v = shown_realm a in
     let w = shown_realm b in
-    Decides-like {P = (v.name ≡ w.name) × ((v.also ≡ w.also) × ((v.peers ≡ w.peers) × ((v.loop_prevention ≡ w.loop_prevention) × ((v.accounting ≡ w.accounting) × ((v.request_without ≡ w.request_without) × ((v.reply_without ≡ w.reply_without) × ((v.share ≡ w.share) × ((v.out ≡ w.out) × ((v.reverse ≡ w.reverse) × ((v.tries ≡ w.tries) × ((v.wait ≡ w.wait) × ((v.hold ≡ w.hold) × ((v.max_pending ≡ w.max_pending) × ((v.max_sessions ≡ w.max_sessions) × ((v.rest ≡ w.rest) × ((v.rest_after ≡ w.rest_after) × ((v.servers ≡ w.servers))))))))))))))))))} _
+    Decides-like {P = (v.name ≡ w.name)
+    × ((v.also ≡ w.also) × ((v.peers ≡ w.peers)
+    × ((v.loop_prevention ≡ w.loop_prevention)
+    × ((v.accounting ≡ w.accounting)
+    × ((v.request_without ≡ w.request_without)
+    × ((v.reply_without ≡ w.reply_without)
+    × ((v.share ≡ w.share) × ((v.out ≡ w.out)
+    × ((v.reverse ≡ w.reverse) × ((v.tries ≡ w.tries)
+    × ((v.wait ≡ w.wait) × ((v.hold ≡ w.hold)
+    × ((v.max_pending ≡ w.max_pending)
+    × ((v.max_sessions ≡ w.max_sessions)
+    × ((v.rest ≡ w.rest) × ((v.rest_after ≡ w.rest_after) × ((v.servers ≡ w.servers))))))))))))))))))} _
     (λ p. λ i. record {
       name = p.0 i;
       also = p.1.0 i;
@@ -109,7 +196,55 @@ realm_decides a b =
       rest_after = p.1.1.1.1.1.1.1.1.1.1.1.1.1.1.1.1.0 i;
       servers = p.1.1.1.1.1.1.1.1.1.1.1.1.1.1.1.1.1 i;
     })
-    (λ e. (ap (λ (x : RealmView). x.name) e, (ap (λ (x : RealmView). x.also) e, (ap (λ (x : RealmView). x.peers) e, (ap (λ (x : RealmView). x.loop_prevention) e, (ap (λ (x : RealmView). x.accounting) e, (ap (λ (x : RealmView). x.request_without) e, (ap (λ (x : RealmView). x.reply_without) e, (ap (λ (x : RealmView). x.share) e, (ap (λ (x : RealmView). x.out) e, (ap (λ (x : RealmView). x.reverse) e, (ap (λ (x : RealmView). x.tries) e, (ap (λ (x : RealmView). x.wait) e, (ap (λ (x : RealmView). x.hold) e, (ap (λ (x : RealmView). x.max_pending) e, (ap (λ (x : RealmView). x.max_sessions) e, (ap (λ (x : RealmView). x.rest) e, (ap (λ (x : RealmView). x.rest_after) e, ap (λ (x : RealmView). x.servers) e))))))))))))))))))
+    (λ e. (
+      ap (λ (x : RealmView). x.name) e,
+      (
+        ap (λ (x : RealmView). x.also) e,
+        (
+          ap (λ (x : RealmView). x.peers) e,
+          (
+            ap (λ (x : RealmView). x.loop_prevention) e,
+            (
+              ap (λ (x : RealmView). x.accounting) e,
+              (
+                ap (λ (x : RealmView). x.request_without) e,
+                (
+                  ap (λ (x : RealmView). x.reply_without) e,
+                  (
+                    ap (λ (x : RealmView). x.share) e,
+                    (
+                      ap (λ (x : RealmView). x.out) e,
+                      (
+                        ap (λ (x : RealmView). x.reverse) e,
+                        (
+                          ap (λ (x : RealmView). x.tries) e,
+                          (
+                            ap (λ (x : RealmView). x.wait) e,
+                            (
+                              ap (λ (x : RealmView). x.hold) e,
+                              (
+                                ap (λ (x : RealmView). x.max_pending) e,
+                                (
+                                  ap (λ (x : RealmView). x.max_sessions) e,
+                                  (
+                                    ap (λ (x : RealmView). x.rest) e,
+                                    (ap (λ (x : RealmView). x.rest_after) e, ap (λ (x : RealmView). x.servers) e),
+                                  ),
+                                ),
+                              ),
+                            ),
+                          ),
+                        ),
+                      ),
+                    ),
+                  ),
+                ),
+              ),
+            ),
+          ),
+        ),
+      ),
+    ))
     (Decides-and _ _ (text_decides a.name b.name)
     (Decides-and _ _ (list_decides pattern_eq shown_pattern pattern_decides a.also.items b.also.items)
     (Decides-and _ _ (option_decides names_eq shown_names names_decides a.peers b.peers)
@@ -139,7 +274,14 @@ pub config_decides : (a b : Config) → Decides (config_eq a b) (shown a ≡ sho
 config_decides a b =
     let v = shown a in
     let w = shown b in
-    Decides-like {P = (v.shards ≡ w.shards) × ((v.seed ≡ w.seed) × ((v.auth ≡ w.auth) × ((v.acct ≡ w.acct) × ((v.trace_limit ≡ w.trace_limit) × ((v.trace_octets ≡ w.trace_octets) × ((v.max_hops ≡ w.max_hops) × ((v.status_server ≡ w.status_server) × ((v.spread ≡ w.spread) × ((v.reject ≡ w.reject) × ((v.well_formed ≡ w.well_formed) × ((v.answer_unnamed ≡ w.answer_unnamed) × ((v.peers ≡ w.peers) × ((v.realms ≡ w.realms))))))))))))))} _
+    Decides-like {P = (v.shards ≡ w.shards)
+    × ((v.seed ≡ w.seed) × ((v.auth ≡ w.auth)
+    × ((v.acct ≡ w.acct) × ((v.trace_limit ≡ w.trace_limit)
+    × ((v.trace_octets ≡ w.trace_octets)
+    × ((v.max_hops ≡ w.max_hops) × ((v.status_server ≡ w.status_server)
+    × ((v.spread ≡ w.spread) × ((v.reject ≡ w.reject)
+    × ((v.well_formed ≡ w.well_formed)
+    × ((v.answer_unnamed ≡ w.answer_unnamed) × ((v.peers ≡ w.peers) × ((v.realms ≡ w.realms))))))))))))))} _
     (λ p. λ i. record {
       shards = p.0 i;
       seed = p.1.0 i;
@@ -156,7 +298,43 @@ config_decides a b =
       peers = p.1.1.1.1.1.1.1.1.1.1.1.1.0 i;
       realms = p.1.1.1.1.1.1.1.1.1.1.1.1.1 i;
     })
-    (λ e. (ap (λ (x : ConfigView). x.shards) e, (ap (λ (x : ConfigView). x.seed) e, (ap (λ (x : ConfigView). x.auth) e, (ap (λ (x : ConfigView). x.acct) e, (ap (λ (x : ConfigView). x.trace_limit) e, (ap (λ (x : ConfigView). x.trace_octets) e, (ap (λ (x : ConfigView). x.max_hops) e, (ap (λ (x : ConfigView). x.status_server) e, (ap (λ (x : ConfigView). x.spread) e, (ap (λ (x : ConfigView). x.reject) e, (ap (λ (x : ConfigView). x.well_formed) e, (ap (λ (x : ConfigView). x.answer_unnamed) e, (ap (λ (x : ConfigView). x.peers) e, ap (λ (x : ConfigView). x.realms) e))))))))))))))
+    (λ e. (
+      ap (λ (x : ConfigView). x.shards) e,
+      (
+        ap (λ (x : ConfigView). x.seed) e,
+        (
+          ap (λ (x : ConfigView). x.auth) e,
+          (
+            ap (λ (x : ConfigView). x.acct) e,
+            (
+              ap (λ (x : ConfigView). x.trace_limit) e,
+              (
+                ap (λ (x : ConfigView). x.trace_octets) e,
+                (
+                  ap (λ (x : ConfigView). x.max_hops) e,
+                  (
+                    ap (λ (x : ConfigView). x.status_server) e,
+                    (
+                      ap (λ (x : ConfigView). x.spread) e,
+                      (
+                        ap (λ (x : ConfigView). x.reject) e,
+                        (
+                          ap (λ (x : ConfigView). x.well_formed) e,
+                          (
+                            ap (λ (x : ConfigView). x.answer_unnamed) e,
+                            (ap (λ (x : ConfigView). x.peers) e, ap (λ (x : ConfigView). x.realms) e),
+                          ),
+                        ),
+                      ),
+                    ),
+                  ),
+                ),
+              ),
+            ),
+          ),
+        ),
+      ),
+    ))
     (Decides-and _ _ (Decides-eqb a.shards b.shards)
     (Decides-and _ _ (bytes_eq-Decides a.seed b.seed)
     (Decides-and _ _ (endpoint_decides a.auth b.auth)

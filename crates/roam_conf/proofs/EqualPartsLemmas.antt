@@ -22,7 +22,9 @@ use Rattle.roam_conf.specs.Parts.{shown_names}
 use Rattle.roam_conf.specs.Patterns.{shown_pattern}
 
 -- lists whose elements are compared one by one
-pub list_decides : {X V : Type 0} (same : X → X → Bool) (view : X → V) → ((a b : X) → Decides (same a b) (view a ≡ view b)) → (xs ys : List X) → Decides (pointwise same xs ys) (map view xs ≡ map view ys)
+pub list_decides : {X V : Type 0} (same : X → X → Bool) (view : X → V) →
+    ((a b : X) → Decides (same a b) (view a ≡ view b)) → (xs ys : List X) →
+    Decides (pointwise same xs ys) (map view xs ≡ map view ys)
 list_decides same view each [] [] = (λ _. refl, λ _. refl)
 list_decides same view each [] (y ∷ ys) = (λ h. absurd (false≢true h), λ h. cc)
 list_decides same view each (x ∷ xs) [] = (λ h. absurd (false≢true h), λ h. cc)
@@ -39,7 +41,8 @@ list_decides same view each (x ∷ xs) (y ∷ ys) =
           rw ((each x y).1 here, rest.1 more),
     )
 
-pub whole_list_decides : {X : Type 0} (same : X → X → Bool) → ((a b : X) → Decides (same a b) (a ≡ b)) → (xs ys : List X) → Decides (pointwise same xs ys) (xs ≡ ys)
+pub whole_list_decides : {X : Type 0} (same : X → X → Bool) → ((a b : X) → Decides (same a b) (a ≡ b)) →
+    (xs ys : List X) → Decides (pointwise same xs ys) (xs ≡ ys)
 whole_list_decides same each [] [] = (λ _. refl, λ _. refl)
 whole_list_decides same each [] (y ∷ ys) = (λ h. absurd (false≢true h), λ h. cc)
 whole_list_decides same each (x ∷ xs) [] = (λ h. absurd (false≢true h), λ h. cc)
@@ -56,14 +59,17 @@ whole_list_decides same each (x ∷ xs) (y ∷ ys) =
           rw ((each x y).1 here, rest.1 more),
     )
 
-pub option_decides : {X V : Type 0} (same : X → X → Bool) (view : X → V) → ((a b : X) → Decides (same a b) (view a ≡ view b)) → (o p : Option X) → Decides (option_eq same o p) (option_map view o ≡ option_map view p)
+pub option_decides : {X V : Type 0} (same : X → X → Bool) (view : X → V) →
+    ((a b : X) → Decides (same a b) (view a ≡ view b)) → (o p : Option X) →
+    Decides (option_eq same o p) (option_map view o ≡ option_map view p)
 option_decides same view each None None = (λ _. refl, λ _. refl)
 option_decides same view each None (Some y) = (λ h. absurd (false≢true h), λ h. cc)
 option_decides same view each (Some x) None = (λ h. absurd (false≢true h), λ h. cc)
 option_decides same view each (Some x) (Some y) =
     (λ h. ap (λ v. Some v) ((each x y).0 h), λ h. let here : view x ≡ view y = cc in (each x y).1 here)
 
-pub whole_option_decides : {X : Type 0} (same : X → X → Bool) → ((a b : X) → Decides (same a b) (a ≡ b)) → (o p : Option X) → Decides (option_eq same o p) (o ≡ p)
+pub whole_option_decides : {X : Type 0} (same : X → X → Bool) → ((a b : X) → Decides (same a b) (a ≡ b)) →
+    (o p : Option X) → Decides (option_eq same o p) (o ≡ p)
 whole_option_decides same each None None = (λ _. refl, λ _. refl)
 whole_option_decides same each None (Some y) = (λ h. absurd (false≢true h), λ h. cc)
 whole_option_decides same each (Some x) None = (λ h. absurd (false≢true h), λ h. cc)
@@ -107,11 +113,13 @@ vendor_of (Vendor vendor) = vendor
 vendor_of (VendorKind vendor kind) = vendor
 
 pub removed_decides : (a b : RemovedAttribute) → Decides (removed_eq a b) (a ≡ b)
-removed_decides (Kind a) (Kind b) = (λ h. ap (λ n. Kind n) ((Decides-eqb a b).0 h), λ e. (Decides-eqb a b).1 (ap kind_of e))
+removed_decides (Kind a) (Kind b) =
+    (λ h. ap (λ n. Kind n) ((Decides-eqb a b).0 h), λ e. (Decides-eqb a b).1 (ap kind_of e))
 removed_decides (Kind a) (Vendor b) = (λ h. absurd (false≢true h), λ e. cc)
 removed_decides (Kind a) (VendorKind b c) = (λ h. absurd (false≢true h), λ e. cc)
 removed_decides (Vendor a) (Kind b) = (λ h. absurd (false≢true h), λ e. cc)
-removed_decides (Vendor a) (Vendor b) = (λ h. ap (λ n. Vendor n) ((Decides-eqb a b).0 h), λ e. (Decides-eqb a b).1 (ap vendor_of e))
+removed_decides (Vendor a) (Vendor b) =
+    (λ h. ap (λ n. Vendor n) ((Decides-eqb a b).0 h), λ e. (Decides-eqb a b).1 (ap vendor_of e))
 removed_decides (Vendor a) (VendorKind b c) = (λ h. absurd (false≢true h), λ e. cc)
 removed_decides (VendorKind a c) (Kind b) = (λ h. absurd (false≢true h), λ e. cc)
 removed_decides (VendorKind a c) (Vendor b) = (λ h. absurd (false≢true h), λ e. cc)

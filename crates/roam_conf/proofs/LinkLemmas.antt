@@ -18,7 +18,8 @@ record IsFound {X : Type 0} (test : X → Bool) (xs : List X) (i : ℕ) : Type 0
   there : slice_get xs i ≡ Some element
   passes : test element ≡ true
 
-later : {X : Type 0} (test : X → Bool) (x : X) (xs : List X) (n i : ℕ) → n + 1 ≤ i → IsFound test xs (i - (n + 1)) → IsFound test (x ∷ xs) (i - n)
+later : {X : Type 0} (test : X → Bool) (x : X) (xs : List X) (n i : ℕ) → n + 1 ≤ i → IsFound test xs (i - (n + 1)) →
+    IsFound test (x ∷ xs) (i - n)
 later test x xs n i above found =
     let next : i - n ≡ suc (i - (n + 1)) = omega arith in
     rw next (record { element = found.element; there = found.there; passes = found.passes })
@@ -28,10 +29,12 @@ place_above test n [] i is = cc
 place_above test n (x ∷ xs) i is =
     elim (cases_Bool (test x)) [
       | inl yes' ↦ (let same : Some n ≡ Some i = rw yes' at is in omega (arith, same_Some n i same))
-      | inr no' ↦ (let rest : position_from test (n + 1) xs ≡ Some i = rw no' at is in omega (arith, place_above test (n + 1) xs i rest))
+      | inr no' ↦ (let rest : position_from test (n + 1) xs ≡ Some i = rw no' at is in
+          omega (arith, place_above test (n + 1) xs i rest))
     ]
 
-place_found : {X : Type 0} (test : X → Bool) (n : ℕ) (xs : List X) (i : ℕ) → position_from test n xs ≡ Some i → IsFound test xs (i - n)
+place_found : {X : Type 0} (test : X → Bool) (n : ℕ) (xs : List X) (i : ℕ) → position_from test n xs ≡ Some i →
+    IsFound test xs (i - n)
 place_found test n [] i is = cc
 place_found test n (x ∷ xs) i is =
     elim (cases_Bool (test x)) [
@@ -52,7 +55,9 @@ first_found test xs i is =
 same_is : (a e : Endpoint) → same_endpoint a e ≡ true → a ≡ e
 same_is a e test = (endpoint_decides a e).0 test
 
-auth_found : (realm : RealmView) (peers : List PeerView) (e : Endpoint) (i : ℕ) → first_place (λ server. same_endpoint server.auth e) realm.servers ≡ Some i → endpoint_of peers realm (Auth i) ≡ Some e
+auth_found : (realm : RealmView) (peers : List PeerView) (e : Endpoint) (i : ℕ) →
+    first_place (λ server. same_endpoint server.auth e) realm.servers ≡ Some i →
+    endpoint_of peers realm (Auth i) ≡ Some e
 auth_found realm peers e i is =
     let found = first_found (λ (server : ServerView). same_endpoint server.auth e) realm.servers i is in
     rw found.there (ap (λ x. Some x) (same_is found.element.auth e found.passes))
@@ -61,30 +66,40 @@ there_is : (e : Endpoint) (coa : Option Endpoint) → is_there e coa ≡ true �
 there_is e None test = absurd (false≢true test)
 there_is e (Some other) test = ap (λ x. Some x) (same_is other e test)
 
-acct_found : (realm : RealmView) (peers : List PeerView) (e : Endpoint) (i : ℕ) → first_place (λ server. is_there e server.acct) realm.servers ≡ Some i → endpoint_of peers realm (Acct i) ≡ Some e
+acct_found : (realm : RealmView) (peers : List PeerView) (e : Endpoint) (i : ℕ) →
+    first_place (λ server. is_there e server.acct) realm.servers ≡ Some i → endpoint_of peers realm (Acct i) ≡ Some e
 acct_found realm peers e i is =
     let found = first_found (λ (server : ServerView). is_there e server.acct) realm.servers i is in
     rw found.there (there_is e found.element.acct found.passes)
 
-coa_found : (realm : RealmView) (peers : List PeerView) (e : Endpoint) (i : ℕ) → first_place (is_coa e) peers ≡ Some i → endpoint_of peers realm (Coa i) ≡ Some e
+coa_found : (realm : RealmView) (peers : List PeerView) (e : Endpoint) (i : ℕ) →
+    first_place (is_coa e) peers ≡ Some i → endpoint_of peers realm (Coa i) ≡ Some e
 coa_found realm peers e i is =
     let found = first_found (is_coa e) peers i is in
     rw found.there (there_is e found.element.coa found.passes)
 
-found_by : (realm : RealmView) (peers : List PeerView) (e : Endpoint) (a b c : Option ℕ) → first_place (λ server. same_endpoint server.auth e) realm.servers ≡ a → first_place (λ server. is_there e server.acct) realm.servers ≡ b → first_place (is_coa e) peers ≡ c → (link : Link) → option_or (option_map (λ i. Auth i) a) (option_or (option_map (λ i. Acct i) b) (option_map (λ i. Coa i) c)) ≡ Some link → endpoint_of peers realm link ≡ Some e
+found_by : (realm : RealmView) (peers : List PeerView) (e : Endpoint) (a b c : Option ℕ) →
+    first_place (λ server. same_endpoint server.auth e) realm.servers ≡ a →
+    first_place (λ server. is_there e server.acct) realm.servers ≡ b → first_place (is_coa e) peers ≡ c →
+    (link : Link) → option_or (option_map (λ i. Auth i) a)
+    (option_or (option_map (λ i. Acct i) b) (option_map (λ i. Coa i) c)) ≡ Some link →
+    endpoint_of peers realm link ≡ Some e
 found_by realm peers e (Some i) b c p q r link is = rw (← same_Some (Auth i) link is) (auth_found realm peers e i p)
 found_by realm peers e None (Some i) c p q r link is = rw (← same_Some (Acct i) link is) (acct_found realm peers e i q)
 found_by realm peers e None None (Some i) p q r link is = rw (← same_Some (Coa i) link is) (coa_found realm peers e i r)
 found_by realm peers e None None None p q r link is = cc
 
-pub link_found : (peers : List PeerView) (realm : RealmView) (e : Endpoint) (link : Link) → link_at peers realm e ≡ Some link → endpoint_of peers realm link ≡ Some e
+pub link_found : (peers : List PeerView) (realm : RealmView) (e : Endpoint) (link : Link) →
+    link_at peers realm e ≡ Some link → endpoint_of peers realm link ≡ Some e
 unfolding link_at
 link_found peers realm e link is = found_by realm peers e _ _ _ refl refl refl link is
 
 -- the same of a realm by its index
-pub link_in_found : (config : ConfigView) (realm : ℕ) (e : Endpoint) (link : Link) → link_in config realm e ≡ Some link → endpoint_in_realm config realm link ≡ Some e
+pub link_in_found : (config : ConfigView) (realm : ℕ) (e : Endpoint) (link : Link) →
+    link_in config realm e ≡ Some link → endpoint_in_realm config realm link ≡ Some e
 link_in_found config realm e link is = by_realm (slice_get config.realms realm) is
   where
-    by_realm : (found : Option RealmView) → option_and_then (λ r. link_at config.peers r e) found ≡ Some link → option_and_then (λ r. endpoint_of config.peers r link) found ≡ Some e
+    by_realm : (found : Option RealmView) → option_and_then (λ r. link_at config.peers r e) found ≡ Some link →
+        option_and_then (λ r. endpoint_of config.peers r link) found ≡ Some e
     by_realm None h = cc
     by_realm (Some r) h = link_found config.peers r e link h

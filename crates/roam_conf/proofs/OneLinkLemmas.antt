@@ -16,13 +16,15 @@ use Rattle.roam_conf.proofs.LinkLemmas.{link_found, link_in_found}
 use Rattle.roam_conf.proofs.OneServerLemmas.{same_itself, among_more, among_first, once_more, once_first, option_source, then_source, part_of, part_apart, auth_part, one_server}
 
 -- an element of a list of which none passes a test doesn't pass it
-none_passes : {X : Type 0} (test : X → Bool) (xs : List X) (i : ℕ) (x : X) → list_any test xs ≡ false → slice_get xs i ≡ Some x → test x ≡ false
+none_passes : {X : Type 0} (test : X → Bool) (xs : List X) (i : ℕ) (x : X) → list_any test xs ≡ false →
+    slice_get xs i ≡ Some x → test x ≡ false
 none_passes test [] i x none at = cc
 none_passes test (y ∷ ys) zero x none at = rw (← same_Some y x at) (or_parts (test y) (list_any test ys) none).0
 none_passes test (y ∷ ys) (suc i) x none at = none_passes test ys i x (or_parts (test y) (list_any test ys) none).1 at
 
 -- an element that passes is found, or one before it
-place_exists : {X : Type 0} (test : X → Bool) (n : ℕ) (xs : List X) (i : ℕ) (x : X) → slice_get xs i ≡ Some x → test x ≡ true → position_from test n xs ≡ None → ⊥
+place_exists : {X : Type 0} (test : X → Bool) (n : ℕ) (xs : List X) (i : ℕ) (x : X) → slice_get xs i ≡ Some x →
+    test x ≡ true → position_from test n xs ≡ None → ⊥
 place_exists test n [] i x at passes none = cc
 place_exists test n (y ∷ ys) zero x at passes none =
     let same : y ≡ x = same_Some y x at in
@@ -32,15 +34,19 @@ place_exists test n (y ∷ ys) zero x at passes none =
 place_exists test n (y ∷ ys) (suc i) x at passes none =
     elim (cases_Bool (test y)) [
       | inl yes' ↦ (let some : Some n ≡ None = rw yes' at none in cc)
-      | inr no' ↦ (let rest : position_from test (n + 1) ys ≡ None = rw no' at none in place_exists test (n + 1) ys i x at passes rest)
+      | inr no' ↦ (let rest : position_from test (n + 1) ys ≡ None = rw no' at none in
+          place_exists test (n + 1) ys i x at passes rest)
     ]
 
-coa_among : (peers : List PeerView) (i : ℕ) (e : Endpoint) → option_and_then (λ p. p.coa) (slice_get peers i) ≡ Some e → is_among (coa_endpoints peers) e ≡ true
+coa_among : (peers : List PeerView) (i : ℕ) (e : Endpoint) →
+    option_and_then (λ p. p.coa) (slice_get peers i) ≡ Some e → is_among (coa_endpoints peers) e ≡ true
 coa_among [] i e at = cc
 coa_among (p ∷ ps) zero e at = among_first e p.coa (coa_endpoints ps) at
 coa_among (p ∷ ps) (suc i) e at = among_more e p.coa (coa_endpoints ps) (coa_among ps i e at)
 
-one_coa : (peers : List PeerView) (i j : ℕ) (e : Endpoint) → has_pair same_endpoint (coa_endpoints peers) ≡ false → option_and_then (λ p. p.coa) (slice_get peers i) ≡ Some e → option_and_then (λ p. p.coa) (slice_get peers j) ≡ Some e → i ≡ j
+one_coa : (peers : List PeerView) (i j : ℕ) (e : Endpoint) → has_pair same_endpoint (coa_endpoints peers) ≡ false →
+    option_and_then (λ p. p.coa) (slice_get peers i) ≡ Some e →
+    option_and_then (λ p. p.coa) (slice_get peers j) ≡ Some e → i ≡ j
 one_coa [] i j e once p q = cc
 one_coa (x ∷ xs) zero zero e once p q = refl
 one_coa (x ∷ xs) zero (suc j) e once p q =
@@ -56,25 +62,33 @@ record StandsOnce (peers : List PeerView) (servers : List ServerView) : Type 0 w
   apart : some_server_at (coa_endpoints peers) servers ≡ false
 
 -- no server's endpoint is a peer's
-server_no_coa : (peers : List PeerView) (servers : List ServerView) (k : Bool) (i j : ℕ) (e : Endpoint) → StandsOnce peers servers → option_and_then (part_of k) (slice_get servers i) ≡ Some e → option_and_then (λ p. p.coa) (slice_get peers j) ≡ Some e → ⊥
+server_no_coa : (peers : List PeerView) (servers : List ServerView) (k : Bool) (i j : ℕ) (e : Endpoint) →
+    StandsOnce peers servers → option_and_then (part_of k) (slice_get servers i) ≡ Some e →
+    option_and_then (λ p. p.coa) (slice_get peers j) ≡ Some e → ⊥
 server_no_coa peers servers k i j e once p q =
     let source = then_source (part_of k) (slice_get servers i) e p in
-    let apart = none_passes (λ (server : ServerView). is_among (coa_endpoints peers) server.auth || option_map_or (is_among (coa_endpoints peers)) server.acct false) servers i source.0 once.apart source.1 in
+    let apart = none_passes (λ (server : ServerView). is_among (coa_endpoints peers) server.auth || option_map_or
+    (is_among (coa_endpoints peers)) server.acct false) servers i source.0 once.apart source.1 in
     false≢true (sym (part_apart (coa_endpoints peers) k source.0 e source.2 apart) ∙ coa_among peers j e q)
 
 -- two links of a realm with one endpoint are one link
-one_link : (peers : List PeerView) (realm : RealmView) (e : Endpoint) (a b : Link) → StandsOnce peers realm.servers → endpoint_of peers realm a ≡ Some e → endpoint_of peers realm b ≡ Some e → a ≡ b
+one_link : (peers : List PeerView) (realm : RealmView) (e : Endpoint) (a b : Link) → StandsOnce peers realm.servers →
+    endpoint_of peers realm a ≡ Some e → endpoint_of peers realm b ≡ Some e → a ≡ b
 one_link peers realm e (Auth i) (Auth j) once p q =
-    ap (λ n. Auth n) (one_server realm.servers true true i j e once.of_servers (auth_part realm.servers i e p) (auth_part realm.servers j e q)).0
+    ap (λ n. Auth n) (one_server realm.servers true true i j e once.of_servers (auth_part realm.servers i e p)
+    (auth_part realm.servers j e q)).0
 one_link peers realm e (Auth i) (Acct j) once p q =
-    absurd (false≢true (sym (one_server realm.servers true false i j e once.of_servers (auth_part realm.servers i e p) q).1))
-one_link peers realm e (Auth i) (Coa j) once p q = absurd (server_no_coa peers realm.servers true i j e once (auth_part realm.servers i e p) q)
+    absurd (false≢true (sym (one_server realm.servers true false i j e once.of_servers
+    (auth_part realm.servers i e p) q).1))
+one_link peers realm e (Auth i) (Coa j) once p q =
+    absurd (server_no_coa peers realm.servers true i j e once (auth_part realm.servers i e p) q)
 one_link peers realm e (Acct i) (Auth j) once p q =
     absurd (false≢true (one_server realm.servers false true i j e once.of_servers p (auth_part realm.servers j e q)).1)
 one_link peers realm e (Acct i) (Acct j) once p q =
     ap (λ n. Acct n) (one_server realm.servers false false i j e once.of_servers p q).0
 one_link peers realm e (Acct i) (Coa j) once p q = absurd (server_no_coa peers realm.servers false i j e once p q)
-one_link peers realm e (Coa i) (Auth j) once p q = absurd (server_no_coa peers realm.servers true j i e once (auth_part realm.servers j e q) p)
+one_link peers realm e (Coa i) (Auth j) once p q =
+    absurd (server_no_coa peers realm.servers true j i e once (auth_part realm.servers j e q) p)
 one_link peers realm e (Coa i) (Acct j) once p q = absurd (server_no_coa peers realm.servers false j i e once q p)
 one_link peers realm e (Coa i) (Coa j) once p q = ap (λ n. Coa n) (one_coa peers i j e once.of_peers p q)
 
@@ -83,62 +97,87 @@ coa_is : (e : Endpoint) (coa : Option Endpoint) → coa ≡ Some e → is_there 
 coa_is e None is = cc
 coa_is e (Some other) is = let same : other ≡ e = same_Some other e is in rw same (same_itself e)
 
-peer_at : (peers : List PeerView) (i : ℕ) (e : Endpoint) (found : Option PeerView) → slice_get peers i ≡ found → option_and_then (λ p. p.coa) found ≡ Some e → first_place (is_coa e) peers ≡ None → ⊥
+peer_at : (peers : List PeerView) (i : ℕ) (e : Endpoint) (found : Option PeerView) → slice_get peers i ≡ found →
+    option_and_then (λ p. p.coa) found ≡ Some e → first_place (is_coa e) peers ≡ None → ⊥
 peer_at peers i e None at is none = cc
 peer_at peers i e (Some p) at is none = place_exists (is_coa e) 0 peers i p at (coa_is e p.coa is) none
 
-none_at : (peers : List PeerView) (realm : RealmView) (e : Endpoint) (link : Link) → endpoint_of peers realm link ≡ Some e → first_place (λ server. same_endpoint server.auth e) realm.servers ≡ None → first_place (λ server. is_there e server.acct) realm.servers ≡ None → first_place (is_coa e) peers ≡ None → ⊥
+none_at : (peers : List PeerView) (realm : RealmView) (e : Endpoint) (link : Link) →
+    endpoint_of peers realm link ≡ Some e → first_place (λ server. same_endpoint server.auth e) realm.servers ≡ None
+    → first_place (λ server. is_there e server.acct) realm.servers ≡ None → first_place (is_coa e) peers ≡ None → ⊥
 none_at peers realm e (Auth i) is p q r =
     let source = option_source (λ (s : ServerView). s.auth) (slice_get realm.servers i) e is in
-    place_exists (λ (server : ServerView). same_endpoint server.auth e) 0 realm.servers i source.0 source.1 (rw source.2 (same_itself e)) p
+    place_exists (λ (server : ServerView). same_endpoint server.auth e) 0 realm.servers i source.0 source.1
+    (rw source.2 (same_itself e)) p
 none_at peers realm e (Acct i) is p q r =
     let source = then_source (λ (s : ServerView). s.acct) (slice_get realm.servers i) e is in
-    place_exists (λ (server : ServerView). is_there e server.acct) 0 realm.servers i source.0 source.1 (coa_is e source.0.acct source.2) q
+    place_exists (λ (server : ServerView). is_there e server.acct) 0 realm.servers i source.0 source.1
+    (coa_is e source.0.acct source.2) q
 none_at peers realm e (Coa i) is p q r = peer_at peers i e (slice_get peers i) refl is r
 
-some_link : (peers : List PeerView) (realm : RealmView) (e : Endpoint) (link : Link) → endpoint_of peers realm link ≡ Some e → (a b c : Option ℕ) → first_place (λ server. same_endpoint server.auth e) realm.servers ≡ a → first_place (λ server. is_there e server.acct) realm.servers ≡ b → first_place (is_coa e) peers ≡ c → (l : Link) × (option_or (option_map (λ i. Auth i) a) (option_or (option_map (λ i. Acct i) b) (option_map (λ i. Coa i) c)) ≡ Some l)
+some_link : (peers : List PeerView) (realm : RealmView) (e : Endpoint) (link : Link) →
+    endpoint_of peers realm link ≡ Some e → (a b c : Option ℕ) →
+    first_place (λ server. same_endpoint server.auth e) realm.servers ≡ a →
+    first_place (λ server. is_there e server.acct) realm.servers ≡ b → first_place (is_coa e) peers ≡ c → (l : Link)
+    × (option_or (option_map (λ i. Auth i) a) (option_or (option_map (λ i. Acct i) b) (option_map (λ i. Coa i) c))
+    ≡ Some l)
 some_link peers realm e link is (Some i) b c p q r = (Auth i, refl)
 some_link peers realm e link is None (Some i) c p q r = (Acct i, refl)
 some_link peers realm e link is None None (Some i) p q r = (Coa i, refl)
 some_link peers realm e link is None None None p q r = absurd (none_at peers realm e link is p q r)
 
-some_link_at : (peers : List PeerView) (realm : RealmView) (e : Endpoint) (link : Link) → endpoint_of peers realm link ≡ Some e → (l : Link) × (link_at peers realm e ≡ Some l)
+some_link_at : (peers : List PeerView) (realm : RealmView) (e : Endpoint) (link : Link) →
+    endpoint_of peers realm link ≡ Some e → (l : Link) × (link_at peers realm e ≡ Some l)
 unfolding link_at
 some_link_at peers realm e link is = some_link peers realm e link is _ _ _ refl refl refl
 
-link_is_found : (peers : List PeerView) (realm : RealmView) (e : Endpoint) (link : Link) → StandsOnce peers realm.servers → endpoint_of peers realm link ≡ Some e → link_at peers realm e ≡ Some link
+link_is_found : (peers : List PeerView) (realm : RealmView) (e : Endpoint) (link : Link) →
+    StandsOnce peers realm.servers → endpoint_of peers realm link ≡ Some e → link_at peers realm e ≡ Some link
 link_is_found peers realm e link once is =
     let found = some_link_at peers realm e link is in
     let one : found.0 ≡ link = one_link peers realm e found.0 link once (link_found peers realm e found.0 found.1) is in
     found.1 ∙ ap (λ l. Some l) one
 
 -- a realm of a configuration in which no server and no link stands twice
-once_in : (config : ConfigView) (realm : ℕ) (r : RealmView) → has_duplicate_server config.realms ≡ false → has_duplicate_link config.peers config.realms ≡ false → slice_get config.realms realm ≡ Some r → StandsOnce config.peers r.servers
+once_in : (config : ConfigView) (realm : ℕ) (r : RealmView) → has_duplicate_server config.realms ≡ false →
+    has_duplicate_link config.peers config.realms ≡ false → slice_get config.realms realm ≡ Some r →
+    StandsOnce config.peers r.servers
 unfolding has_duplicate_server has_duplicate_link
 once_in config realm r servers links at =
-    let parts = or_parts (has_pair same_endpoint (coa_endpoints config.peers)) (list_any (λ (x : RealmView). some_server_at (coa_endpoints config.peers) x.servers) config.realms) links in
+    let parts = or_parts (has_pair same_endpoint (coa_endpoints config.peers))
+    (list_any (λ (x : RealmView). some_server_at (coa_endpoints config.peers) x.servers) config.realms) links in
     record {
-      of_servers = none_passes (λ (x : RealmView). has_pair same_endpoint (server_endpoints x.servers)) config.realms realm r servers at;
+      of_servers = none_passes (λ (x : RealmView). has_pair same_endpoint (server_endpoints x.servers)) config.realms
+          realm r servers at;
       of_peers = parts.0;
-      apart = none_passes (λ (x : RealmView). some_server_at (coa_endpoints config.peers) x.servers) config.realms realm r parts.1 at;
+      apart = none_passes (λ (x : RealmView). some_server_at (coa_endpoints config.peers) x.servers) config.realms
+          realm r parts.1 at;
     }
 
-pub link_in_is_found : (config : ConfigView) (realm : ℕ) (e : Endpoint) (link : Link) → has_duplicate_server config.realms ≡ false → has_duplicate_link config.peers config.realms ≡ false → endpoint_in_realm config realm link ≡ Some e → link_in config realm e ≡ Some link
+pub link_in_is_found : (config : ConfigView) (realm : ℕ) (e : Endpoint) (link : Link) →
+    has_duplicate_server config.realms ≡ false → has_duplicate_link config.peers config.realms ≡ false →
+    endpoint_in_realm config realm link ≡ Some e → link_in config realm e ≡ Some link
 link_in_is_found config realm e link servers links is = by_realm (slice_get config.realms realm) refl is
   where
-    by_realm : (found : Option RealmView) → slice_get config.realms realm ≡ found → option_and_then (λ r. endpoint_of config.peers r link) found ≡ Some e → option_and_then (λ r. link_at config.peers r e) found ≡ Some link
+    by_realm : (found : Option RealmView) → slice_get config.realms realm ≡ found →
+        option_and_then (λ r. endpoint_of config.peers r link) found ≡ Some e →
+        option_and_then (λ r. link_at config.peers r e) found ≡ Some link
     by_realm None at is = cc
     by_realm (Some r) at is = link_is_found config.peers r e link (once_in config realm r servers links at) is
 
-peer_there : (peers : List PeerView) (i : ℕ) (e : Endpoint) (found : Option PeerView) → slice_get peers i ≡ found → option_and_then (λ p. p.coa) found ≡ Some e → i < length peers
+peer_there : (peers : List PeerView) (i : ℕ) (e : Endpoint) (found : Option PeerView) → slice_get peers i ≡ found →
+    option_and_then (λ p. p.coa) found ≡ Some e → i < length peers
 peer_there peers i e None at is = cc
 peer_there peers i e (Some p) at is = slice_get_within peers i p at
 
 -- what a link that is found names is there
-pub link_in_bound : (config : ConfigView) (realm : ℕ) (e : Endpoint) (link : Link) → link_in config realm e ≡ Some link → IsLinkIn config realm link
-link_in_bound config realm e link is = by_link (slice_get config.realms realm) refl link (link_in_found config realm e link is)
+pub link_in_bound : (config : ConfigView) (realm : ℕ) (e : Endpoint) (link : Link) →
+    link_in config realm e ≡ Some link → IsLinkIn config realm link
+link_in_bound config realm e link is =
+    by_link (slice_get config.realms realm) refl link (link_in_found config realm e link is)
   where
-    by_link : (found : Option RealmView) → slice_get config.realms realm ≡ found → (link : Link) → option_and_then (λ r. endpoint_of config.peers r link) found ≡ Some e → IsLinkIn config realm link
+    by_link : (found : Option RealmView) → slice_get config.realms realm ≡ found → (link : Link) →
+        option_and_then (λ r. endpoint_of config.peers r link) found ≡ Some e → IsLinkIn config realm link
     by_link None at link is = cc
     by_link (Some r) at (Auth i) is =
         let source = option_source (λ (s : ServerView). s.auth) (slice_get r.servers i) e is in
@@ -149,41 +188,51 @@ link_in_bound config realm e link is = by_link (slice_get config.realms realm) r
     by_link (Some r) at (Coa i) is = peer_there config.peers i e (slice_get config.peers i) refl is
 
 -- a place that is found lies within the list
-place_within : {X : Type 0} (test : X → Bool) (n : ℕ) (xs : List X) (i : ℕ) → position_from test n xs ≡ Some i → i < n + length xs
+place_within : {X : Type 0} (test : X → Bool) (n : ℕ) (xs : List X) (i : ℕ) → position_from test n xs ≡ Some i →
+    i < n + length xs
 place_within test n [] i is = cc
 place_within test n (x ∷ xs) i is =
     elim (cases_Bool (test x)) [
       | inl yes' ↦ (let same : Some n ≡ Some i = rw yes' at is in omega (arith, same_Some n i same))
-      | inr no' ↦ (let rest : position_from test (n + 1) xs ≡ Some i = rw no' at is in omega (arith, place_within test (n + 1) xs i rest))
+      | inr no' ↦ (let rest : position_from test (n + 1) xs ≡ Some i = rw no' at is in
+          omega (arith, place_within test (n + 1) xs i rest))
     ]
 
-pub home_in_bound : (config : ConfigView) (realm : ℕ) (ip : List ℕ) (i : ℕ) → home_in config realm ip ≡ Some i → i < length (servers_in config realm)
+pub home_in_bound : (config : ConfigView) (realm : ℕ) (ip : List ℕ) (i : ℕ) → home_in config realm ip ≡ Some i →
+    i < length (servers_in config realm)
 unfolding server_with_ip
 home_in_bound config realm ip i is = by_realm (slice_get config.realms realm) refl is
   where
-    by_reverse : (reverse : Option Endpoint) (servers : List ServerView) → option_and_then (λ own. server_with_ip servers ip) reverse ≡ Some i → i < length servers
+    by_reverse : (reverse : Option Endpoint) (servers : List ServerView) →
+        option_and_then (λ own. server_with_ip servers ip) reverse ≡ Some i → i < length servers
     by_reverse None servers is = cc
     by_reverse (Some own) servers is =
         let within = place_within _ 0 servers i is in
         omega arith
 
-    by_realm : (found : Option RealmView) → slice_get config.realms realm ≡ found → option_and_then (λ r. reverse_home r ip) found ≡ Some i → i < length (servers_in config realm)
+    by_realm : (found : Option RealmView) → slice_get config.realms realm ≡ found →
+        option_and_then (λ r. reverse_home r ip) found ≡ Some i → i < length (servers_in config realm)
     by_realm None at is = cc
     by_realm (Some r) at is = rw at (by_reverse r.reverse r.servers is)
 
 -- the same of what a look-up gave
-pub link_in_bounds : (config : ConfigView) (realm : ℕ) (e : Endpoint) (found : Option Link) → found ≡ link_in config realm e → IfSome found (IsLinkIn config realm)
+pub link_in_bounds : (config : ConfigView) (realm : ℕ) (e : Endpoint) (found : Option Link) →
+    found ≡ link_in config realm e → IfSome found (IsLinkIn config realm)
 link_in_bounds config realm e None is = tt
 link_in_bounds config realm e (Some link) is = link_in_bound config realm e link (sym is)
 
-pub home_in_bounds : (config : ConfigView) (realm : ℕ) (ip : List ℕ) (found : Option ℕ) → found ≡ home_in config realm ip → IfSome found (λ server. server < length (servers_in config realm))
+pub home_in_bounds : (config : ConfigView) (realm : ℕ) (ip : List ℕ) (found : Option ℕ) →
+    found ≡ home_in config realm ip → IfSome found (λ server. server < length (servers_in config realm))
 home_in_bounds config realm ip None is = tt
 home_in_bounds config realm ip (Some i) is = home_in_bound config realm ip i (sym is)
 
 -- a realm by its index, as it is shown
-pub realm_there : (realms : List Realm) (i : ℕ) (realm : Realm) → i < length realms → realm ≡ get_or realms i realm → slice_get (map shown_realm realms) i ≡ Some (shown_realm realm)
+pub realm_there : (realms : List Realm) (i : ℕ) (realm : Realm) → i < length realms → realm ≡ get_or realms i realm →
+    slice_get (map shown_realm realms) i ≡ Some (shown_realm realm)
 realm_there realms i realm within is =
-    slice_get-map shown_realm realms i ∙ ap (option_map shown_realm) (slice_get_read realms (length realms) i realm refl within is)
+    slice_get-map shown_realm realms i
+    ∙ ap (option_map shown_realm) (slice_get_read realms (length realms) i realm refl within is)
 
 pub realm_absent : (realms : List Realm) (i : ℕ) → length realms ≤ i → slice_get (map shown_realm realms) i ≡ None
-realm_absent realms i past = slice_get-map shown_realm realms i ∙ ap (option_map shown_realm) (slice_get_past realms i past)
+realm_absent realms i past = slice_get-map shown_realm realms i
+    ∙ ap (option_map shown_realm) (slice_get_past realms i past)

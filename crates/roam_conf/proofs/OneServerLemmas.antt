@@ -13,32 +13,38 @@ pub same_itself : (e : Endpoint) → same_endpoint e e ≡ true
 same_itself e = (endpoint_decides e e).1 refl
 
 -- an endpoint that may be there, among those in whose front it stands
-pub among_more : (e : Endpoint) (coa : Option Endpoint) (rest : List Endpoint) → is_among rest e ≡ true → is_among (cons_option coa rest) e ≡ true
+pub among_more : (e : Endpoint) (coa : Option Endpoint) (rest : List Endpoint) → is_among rest e ≡ true →
+    is_among (cons_option coa rest) e ≡ true
 among_more e None rest among = among
 among_more e (Some other) rest among = or_right (same_endpoint e other) (is_among rest e) among
 
-pub among_first : (e : Endpoint) (coa : Option Endpoint) (rest : List Endpoint) → coa ≡ Some e → is_among (cons_option coa rest) e ≡ true
+pub among_first : (e : Endpoint) (coa : Option Endpoint) (rest : List Endpoint) → coa ≡ Some e →
+    is_among (cons_option coa rest) e ≡ true
 among_first e None rest is = cc
 among_first e (Some other) rest is =
     let same : other ≡ e = same_Some other e is in
     or_left (same_endpoint e other) (is_among rest e) (rw same (same_itself e))
 
-pub once_more : (coa : Option Endpoint) (rest : List Endpoint) → has_pair same_endpoint (cons_option coa rest) ≡ false → has_pair same_endpoint rest ≡ false
+pub once_more : (coa : Option Endpoint) (rest : List Endpoint) →
+    has_pair same_endpoint (cons_option coa rest) ≡ false → has_pair same_endpoint rest ≡ false
 once_more None rest once = once
 once_more (Some e) rest once = (or_parts (list_any (same_endpoint e) rest) (has_pair same_endpoint rest) once).1
 
-pub once_first : (e : Endpoint) (coa : Option Endpoint) (rest : List Endpoint) → coa ≡ Some e → has_pair same_endpoint (cons_option coa rest) ≡ false → is_among rest e ≡ false
+pub once_first : (e : Endpoint) (coa : Option Endpoint) (rest : List Endpoint) → coa ≡ Some e →
+    has_pair same_endpoint (cons_option coa rest) ≡ false → is_among rest e ≡ false
 once_first e None rest is once = cc
 once_first e (Some other) rest is once =
     let same : other ≡ e = same_Some other e is in
     rw (← same) (or_parts (list_any (same_endpoint other) rest) (has_pair same_endpoint rest) once).0
 
 -- what an optional thing was taken of is there
-pub option_source : {X Y : Type 0} (f : X → Y) (o : Option X) (y : Y) → option_map f o ≡ Some y → (x : X) × (o ≡ Some x) × (f x ≡ y)
+pub option_source : {X Y : Type 0} (f : X → Y) (o : Option X) (y : Y) → option_map f o ≡ Some y → (x : X)
+    × (o ≡ Some x) × (f x ≡ y)
 option_source f None y is = absurd (cc is)
 option_source f (Some x) y is = (x, refl, same_Some (f x) y is)
 
-pub then_source : {X Y : Type 0} (f : X → Option Y) (o : Option X) (y : Y) → option_and_then f o ≡ Some y → (x : X) × (o ≡ Some x) × (f x ≡ Some y)
+pub then_source : {X Y : Type 0} (f : X → Option Y) (o : Option X) (y : Y) → option_and_then f o ≡ Some y → (x : X)
+    × (o ≡ Some x) × (f x ≡ Some y)
 then_source f None y is = absurd (cc is)
 then_source f (Some x) y is = (x, refl, is)
 
@@ -47,33 +53,43 @@ abbrev pub part_of : Bool → ServerView → Option Endpoint
 part_of true server = Some server.auth
 part_of false server = server.acct
 
-pub auth_part : (servers : List ServerView) (i : ℕ) (e : Endpoint) → option_map (λ s. s.auth) (slice_get servers i) ≡ Some e → option_and_then (part_of true) (slice_get servers i) ≡ Some e
+pub auth_part : (servers : List ServerView) (i : ℕ) (e : Endpoint) →
+    option_map (λ s. s.auth) (slice_get servers i) ≡ Some e →
+    option_and_then (part_of true) (slice_get servers i) ≡ Some e
 auth_part servers i e is =
     let source = option_source (λ (s : ServerView). s.auth) (slice_get servers i) e is in
     rw source.1 (ap (λ x. Some x) source.2)
 
 -- what isn't among some endpoints, of a server of which none is
-pub part_apart : (endpoints : List Endpoint) (k : Bool) (server : ServerView) (e : Endpoint) → part_of k server ≡ Some e → is_among endpoints server.auth || option_map_or (is_among endpoints) server.acct false ≡ false → is_among endpoints e ≡ false
+pub part_apart : (endpoints : List Endpoint) (k : Bool) (server : ServerView) (e : Endpoint) →
+    part_of k server ≡ Some e → is_among endpoints server.auth || option_map_or (is_among endpoints) server.acct
+    false ≡ false → is_among endpoints e ≡ false
 part_apart endpoints true server e is apart =
-    ap (is_among endpoints) (sym (same_Some server.auth e is)) ∙ (or_parts (is_among endpoints server.auth) (option_map_or (is_among endpoints) server.acct false) apart).0
+    ap (is_among endpoints) (sym (same_Some server.auth e is))
+    ∙ (or_parts (is_among endpoints server.auth) (option_map_or (is_among endpoints) server.acct false) apart).0
 part_apart endpoints false server e is apart =
-    ap (λ o. option_map_or (is_among endpoints) o false) (sym is) ∙ (or_parts (is_among endpoints server.auth) (option_map_or (is_among endpoints) server.acct false) apart).1
+    ap (λ o. option_map_or (is_among endpoints) o false) (sym is)
+    ∙ (or_parts (is_among endpoints server.auth) (option_map_or (is_among endpoints) server.acct false) apart).1
 
 module _ (server : ServerView) (rest : List Endpoint) (e : Endpoint) where
   -- a server's endpoint stands among its own
   part_among : (k : Bool) → part_of k server ≡ Some e → is_among (server.auth ∷ cons_option server.acct rest) e ≡ true
   part_among true is =
-      or_left (same_endpoint e server.auth) (is_among (cons_option server.acct rest) e) (ap (same_endpoint e) (same_Some server.auth e is) ∙ same_itself e)
+      or_left (same_endpoint e server.auth) (is_among (cons_option server.acct rest) e)
+      (ap (same_endpoint e) (same_Some server.auth e is) ∙ same_itself e)
   part_among false is =
-      or_right (same_endpoint e server.auth) (is_among (cons_option server.acct rest) e) (among_first e server.acct rest is)
+      or_right (same_endpoint e server.auth) (is_among (cons_option server.acct rest) e)
+      (among_first e server.acct rest is)
 
   none_more : (o : Option Endpoint) → is_among (cons_option o rest) e ≡ false → is_among rest e ≡ false
   none_more None none = none
   none_more (Some x) none = (or_parts (same_endpoint e x) (is_among rest e) none).1
 
   module _ (once : has_pair same_endpoint (server.auth ∷ cons_option server.acct rest) ≡ false) where
-    parts : (list_any (same_endpoint server.auth) (cons_option server.acct rest) ≡ false) × (has_pair same_endpoint (cons_option server.acct rest) ≡ false)
-    parts = or_parts (list_any (same_endpoint server.auth) (cons_option server.acct rest)) (has_pair same_endpoint (cons_option server.acct rest)) once
+    parts : (list_any (same_endpoint server.auth) (cons_option server.acct rest) ≡ false)
+        × (has_pair same_endpoint (cons_option server.acct rest) ≡ false)
+    parts = or_parts (list_any (same_endpoint server.auth) (cons_option server.acct rest))
+        (has_pair same_endpoint (cons_option server.acct rest)) once
 
     auth_alone : server.auth ≡ e → is_among (cons_option server.acct rest) e ≡ false
     auth_alone is = ap (is_among (cons_option server.acct rest)) (sym is) ∙ parts.0
@@ -92,14 +108,19 @@ module _ (server : ServerView) (rest : List Endpoint) (e : Endpoint) where
     one_part false true p q = absurd (apart q p)
     one_part false false p q = refl
 
-servers_among : (servers : List ServerView) (k : Bool) (i : ℕ) (e : Endpoint) → option_and_then (part_of k) (slice_get servers i) ≡ Some e → is_among (server_endpoints servers) e ≡ true
+servers_among : (servers : List ServerView) (k : Bool) (i : ℕ) (e : Endpoint) →
+    option_and_then (part_of k) (slice_get servers i) ≡ Some e → is_among (server_endpoints servers) e ≡ true
 servers_among [] k i e at = cc
 servers_among (s ∷ ss) k zero e at = part_among s (server_endpoints ss) e k at
 servers_among (s ∷ ss) k (suc i) e at =
-    or_right (same_endpoint e s.auth) (is_among (cons_option s.acct (server_endpoints ss)) e) (among_more e s.acct (server_endpoints ss) (servers_among ss k i e at))
+    or_right (same_endpoint e s.auth) (is_among (cons_option s.acct (server_endpoints ss)) e)
+    (among_more e s.acct (server_endpoints ss) (servers_among ss k i e at))
 
 -- two servers with one endpoint are one, and it is of one kind
-pub one_server : (servers : List ServerView) (k l : Bool) (i j : ℕ) (e : Endpoint) → has_pair same_endpoint (server_endpoints servers) ≡ false → option_and_then (part_of k) (slice_get servers i) ≡ Some e → option_and_then (part_of l) (slice_get servers j) ≡ Some e → (i ≡ j) × (k ≡ l)
+pub one_server : (servers : List ServerView) (k l : Bool) (i j : ℕ) (e : Endpoint) →
+    has_pair same_endpoint (server_endpoints servers) ≡ false →
+    option_and_then (part_of k) (slice_get servers i) ≡ Some e →
+    option_and_then (part_of l) (slice_get servers j) ≡ Some e → (i ≡ j) × (k ≡ l)
 one_server [] k l i j e once p q = cc
 one_server (s ∷ ss) k l zero zero e once p q = (refl, one_part s (server_endpoints ss) e once k l p q)
 one_server (s ∷ ss) k l zero (suc j) e once p q =

@@ -18,30 +18,38 @@ use Rattle.roam_conf.proofs.IndexLemmas.{or_none, same_both_ways}
 use Rattle.roam_conf.proofs.NameLemmas.{within}
 
 -- the first place from a peer on
-pub position_at : (test : PeerView → Bool) (peers : List Peer) (i : ℕ) (peer : Peer) → i < length peers → peer ≡ get_or peers i peer → cond (test (shown_peer peer)) (Some i) (position_from test (i + 1) (map shown_peer (drop (i + 1) peers))) ≡ position_from test i (map shown_peer (drop i peers))
+pub position_at : (test : PeerView → Bool) (peers : List Peer) (i : ℕ) (peer : Peer) → i < length peers →
+    peer ≡ get_or peers i peer → cond (test (shown_peer peer)) (Some i)
+    (position_from test (i + 1) (map shown_peer (drop (i + 1) peers)))
+    ≡ position_from test i (map shown_peer (drop i peers))
 position_at test peers i peer within is =
     let next : suc i ≡ i + 1 = omega arith in
-    let here : drop i peers ≡ peer ∷ drop (i + 1) peers = drop-cons peers i peer within ∙ ap (λ n. get_or peers i peer ∷ drop n peers) next ∙ ap (λ p. p ∷ drop (i + 1) peers) (sym is) in
+    let here : drop i peers ≡ peer ∷ drop (i + 1) peers = drop-cons peers i peer within
+    ∙ ap (λ n. get_or peers i peer ∷ drop n peers) next ∙ ap (λ p. p ∷ drop (i + 1) peers) (sym is) in
     sym (ap (λ ps. position_from test i (map shown_peer ps)) here)
 
 -- behind the last peer is none
-pub position_past : (test : PeerView → Bool) (peers : List Peer) (i : ℕ) (found : Option ℕ) → length peers ≤ i → found ≡ option_or found (position_from test i (map shown_peer (drop i peers)))
+pub position_past : (test : PeerView → Bool) (peers : List Peer) (i : ℕ) (found : Option ℕ) → length peers ≤ i →
+    found ≡ option_or found (position_from test i (map shown_peer (drop i peers)))
 position_past test peers i found past =
     let none : drop i peers ≡ [] = drop_of_length-le peers past in
     sym (or_none found) ∙ ap (λ ps. option_or found (position_from test i (map shown_peer ps))) (sym none)
 
-pub peer_with_ip_within : (peers : List PeerView) (ip : List ℕ) (i : ℕ) → peer_with_ip peers ip ≡ Some i → i < length peers
+pub peer_with_ip_within : (peers : List PeerView) (ip : List ℕ) (i : ℕ) → peer_with_ip peers ip ≡ Some i →
+    i < length peers
 unfolding peer_with_ip
 peer_with_ip_within peers ip i is = omega (arith, within _ 0 peers i is)
 
-pub peer_with_ip_bound : (peers : List Peer) (ip : List ℕ) (n : ℕ) (found : Option ℕ) → length peers ≡ n → found ≡ peer_with_ip (map shown_peer peers) ip → IfSome found (λ i. i < n)
+pub peer_with_ip_bound : (peers : List Peer) (ip : List ℕ) (n : ℕ) (found : Option ℕ) → length peers ≡ n →
+    found ≡ peer_with_ip (map shown_peer peers) ip → IfSome found (λ i. i < n)
 peer_with_ip_bound peers ip n None size is = tt
 peer_with_ip_bound peers ip n (Some i) size is =
     omega (arith, size, length-map peers shown_peer, peer_with_ip_within (map shown_peer peers) ip i (sym is))
 
 -- A name that isn't in the index is no peer's.
 
-none_found : (test : PeerView → Bool) (n : ℕ) (peers : List PeerView) → is_none (position_from test n peers) ≡ not (list_any test peers)
+none_found : (test : PeerView → Bool) (n : ℕ) (peers : List PeerView) →
+    is_none (position_from test n peers) ≡ not (list_any test peers)
 none_found test n [] = refl
 none_found test n (p ∷ ps) =
     elim (cases_Bool (test p)) [
@@ -49,31 +57,40 @@ none_found test n (p ∷ ps) =
       | inr no' ↦ rw no' (none_found test (n + 1) ps)
     ]
 
-other_way : (name : List ℕ) (peers : List PeerView) → list_any (λ peer. bytes_eq peer.name name) peers ≡ list_any (λ peer. bytes_eq name peer.name) peers
+other_way : (name : List ℕ) (peers : List PeerView) →
+    list_any (λ peer. bytes_eq peer.name name) peers ≡ list_any (λ peer. bytes_eq name peer.name) peers
 other_way name [] = refl
 other_way name (p ∷ ps) = rw (same_both_ways p.name name, other_way name ps) refl
 
-module _ (peers : List PeerView) (entries : List (List ℕ × ℕ)) (found : (name : List ℕ) → owner_of entries name ≡ first_place (λ peer. bytes_eq peer.name name) peers) where
+module _ (peers : List PeerView) (entries : List (List ℕ × ℕ)) (found : (name : List ℕ) →
+    owner_of entries name ≡ first_place (λ peer. bytes_eq peer.name name) peers) where
   unowned : (name : List ℕ) → is_unowned entries name ≡ is_no_peer peers name
-  unowned name = ap is_none (found name) ∙ none_found (λ peer. bytes_eq peer.name name) 0 peers ∙ ap not (other_way name peers)
+  unowned name = ap is_none (found name) ∙ none_found (λ peer. bytes_eq peer.name name) 0 peers
+      ∙ ap not (other_way name peers)
 
   some_unowned : (names : List (List ℕ)) → list_any (is_unowned entries) names ≡ list_any (is_no_peer peers) names
   some_unowned [] = refl
   some_unowned (n ∷ ns) = rw (unowned n, some_unowned ns) refl
 
-  of_names : (names : Option (List (List ℕ))) → option_map_or (list_any (is_unowned entries)) names false ≡ option_map_or (list_any (is_no_peer peers)) names false
+  of_names : (names : Option (List (List ℕ))) →
+      option_map_or (list_any (is_unowned entries)) names false
+      ≡ option_map_or (list_any (is_no_peer peers)) names false
   of_names None = refl
   of_names (Some names) = some_unowned names
 
-  pub unknown_by_index : (realms : List RealmView) → list_any (λ realm. option_map_or (list_any (is_unowned entries)) realm.peers false) realms ≡ has_unknown_peer peers realms
+  pub unknown_by_index : (realms : List RealmView) →
+      list_any (λ realm. option_map_or (list_any (is_unowned entries)) realm.peers false) realms
+      ≡ has_unknown_peer peers realms
   unfolding has_unknown_peer
   unknown_by_index [] = refl
   unknown_by_index (r ∷ rs) = rw (of_names r.peers, unknown_by_index rs) refl
 
 -- a peer by its index, as it is shown
-pub peer_shown : (peers : List Peer) (i : ℕ) (peer : Peer) → i < length peers → peer ≡ get_or peers i peer → slice_get (map shown_peer peers) i ≡ Some (shown_peer peer)
+pub peer_shown : (peers : List Peer) (i : ℕ) (peer : Peer) → i < length peers → peer ≡ get_or peers i peer →
+    slice_get (map shown_peer peers) i ≡ Some (shown_peer peer)
 peer_shown peers i peer within is =
-    slice_get-map shown_peer peers i ∙ ap (option_map shown_peer) (slice_get_read peers (length peers) i peer refl within is)
+    slice_get-map shown_peer peers i
+    ∙ ap (option_map shown_peer) (slice_get_read peers (length peers) i peer refl within is)
 
 pub peer_absent : (peers : List Peer) (i : ℕ) → length peers ≤ i → slice_get (map shown_peer peers) i ≡ None
 peer_absent peers i past = slice_get-map shown_peer peers i ∙ ap (option_map shown_peer) (slice_get_past peers i past)

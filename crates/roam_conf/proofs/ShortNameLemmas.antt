@@ -26,7 +26,8 @@ short_name name is =
     let inner = and_parts (nat_le 1 (length name)) (nat_le (length name) 253) outer.0 in
     grind (arith, nat_tests)
 
-pub is_name : (name : List ℕ) → (1 ≤ length name) × (length name ≤ 253) → list_all is_realm_letter name ≡ true → is_realm_name name ≡ true
+pub is_name : (name : List ℕ) → (1 ≤ length name) × (length name ≤ 253) → list_all is_realm_letter name ≡ true →
+    is_realm_name name ≡ true
 unfolding is_realm_name
 is_name name size letters =
     let least : nat_le 1 (length name) ≡ true = grind (arith, nat_tests) in
@@ -43,7 +44,8 @@ module _ (p : PatternView) (long : 254 < length (pattern_key p)) where
   long_apart q is =
       elim (cases_Bool (same_pattern p q)) [
         | inl yes' ↦ (
-            let keys : pattern_key p ≡ pattern_key q = (bytes_eq-Decides (pattern_key p) (pattern_key q)).0 (same_key p q ∙ yes') in
+            let keys : pattern_key p ≡ pattern_key q =
+            (bytes_eq-Decides (pattern_key p) (pattern_key q)).0 (same_key p q ∙ yes') in
             absurd (omega (arith, long, ap length keys, short_key q is)))
         | inr no' ↦ no'
       ]
@@ -54,7 +56,9 @@ module _ (p : PatternView) (long : 254 < length (pattern_key p)) where
       let parts = and_parts (is_pattern q) (list_all is_pattern qs) all in
       rw (long_apart q parts.0, none_long qs parts.1) refl
 
-  none_among : (i : ℕ) (lists : List (List PatternView)) → AllByRecursion (λ list. list_all is_pattern list ≡ true) lists → position_from (list_any (same_pattern p)) i lists ≡ None
+  none_among : (i : ℕ) (lists : List (List PatternView)) →
+      AllByRecursion (λ list. list_all is_pattern list ≡ true) lists →
+      position_from (list_any (same_pattern p)) i lists ≡ None
   none_among i [] all = refl
   none_among i (list ∷ lists) all = rw (none_long list all.0) (none_among (i + 1) lists all.1)
 
@@ -71,13 +75,16 @@ reject_patterns (p ∷ ps) all =
     one any is = refl
 
 -- all of a configuration's lists hold patterns
-are_patterns : (realms : List Realm) (reject : List PatternView) → list_all is_reject reject ≡ true → AllByRecursion (λ list. list_all is_pattern list ≡ true) (pattern_lists (map shown_realm realms) reject)
+are_patterns : (realms : List Realm) (reject : List PatternView) → list_all is_reject reject ≡ true →
+    AllByRecursion (λ list. list_all is_pattern list ≡ true) (pattern_lists (map shown_realm realms) reject)
 are_patterns [] reject all = (reject_patterns reject all, tt)
 are_patterns (r ∷ rs) reject all =
-    let name : is_pattern (whole (string_bytes r.name)) ≡ true = is_name (string_bytes r.name) r.name_length r.name_letters in
+    let name : is_pattern (whole (string_bytes r.name)) ≡ true =
+    is_name (string_bytes r.name) r.name_length r.name_letters in
     (rw name r.also_names, are_patterns rs reject all)
 
-pub not_found : (config : Config) (p : PatternView) (kind : ℕ) (name : List ℕ) → 253 < length name → kind ∷ str_to_ascii_lowercase name ≡ pattern_key p → None ≡ owner_with (shown config) p
+pub not_found : (config : Config) (p : PatternView) (kind : ℕ) (name : List ℕ) → 253 < length name →
+    kind ∷ str_to_ascii_lowercase name ≡ pattern_key p → None ≡ owner_with (shown config) p
 not_found config p kind name long is =
     let lists = are_patterns config.realms.items (map shown_pattern config.reject.items) config.reject_names in
     sym (none_among p (omega (arith, long, ap length is, length-map name to_ascii_lowercase)) 0 _ lists)

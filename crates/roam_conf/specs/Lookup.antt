@@ -92,7 +92,8 @@ peer_with_ip peers ip = first_place (λ peer. bytes_eq peer.ip ip) peers
 -- the first server, in the order of use, that has the address in its `auth` or its `acct` endpoint
 unfoldable pub server_with_ip : List ServerView → List ℕ → Option ℕ
 server_with_ip servers ip =
-    first_place (λ server. bytes_eq server.auth.ip ip || option_map_or (λ e. bytes_eq e.ip ip) server.acct false) servers
+    first_place (λ server. bytes_eq server.auth.ip ip || option_map_or (λ e. bytes_eq e.ip ip) server.acct false)
+    servers
 
 -- the server of a realm whose reverse requests come from the address; none where the realm takes no reverse requests
 abbrev pub reverse_home : RealmView → List ℕ → Option ℕ
@@ -136,7 +137,8 @@ abbrev pub home_in : ConfigView → ℕ → List ℕ → Option ℕ
 home_in config realm ip = option_and_then (λ r. reverse_home r ip) (slice_get config.realms realm)
 
 abbrev pub endpoint_in_realm : ConfigView → ℕ → Link → Option Endpoint
-endpoint_in_realm config realm link = option_and_then (λ r. endpoint_of config.peers r link) (slice_get config.realms realm)
+endpoint_in_realm config realm link =
+    option_and_then (λ r. endpoint_of config.peers r link) (slice_get config.realms realm)
 
 -- the servers of a realm, where there is one
 abbrev pub servers_of : Option RealmView → List ServerView

@@ -18,7 +18,9 @@ all_known required optional texts =
     list_all (λ text. is_one_of required (string_bytes text) || is_one_of optional (string_bytes text)) texts
 
 -- the keys of a map are those of its members
-pub all_known-keys : (required optional : List (List ℕ)) (entries : List (String Global × Value)) → all_known required optional (keys_of entries) ≡ has_only required optional (members_view entries)
+pub all_known-keys : (required optional : List (List ℕ)) (entries : List (String Global × Value)) →
+    all_known required optional (keys_of entries) ≡ has_only required optional (members_view entries)
 all_known-keys required optional [] = refl
 all_known-keys required optional (entry ∷ entries) =
-    ap (λ rest. (is_one_of required (string_bytes entry.0) || is_one_of optional (string_bytes entry.0)) && rest) (all_known-keys required optional entries)
+    ap (λ rest. (is_one_of required (string_bytes entry.0) || is_one_of optional (string_bytes entry.0)) && rest)
+    (all_known-keys required optional entries)

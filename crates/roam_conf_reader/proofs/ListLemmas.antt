@@ -56,13 +56,15 @@ may_name_is OfRequests x = refl
 may_name_is OfReplies x = refl
 
 -- a value that passes a test, and one that doesn't
-pub passed : {V : Type 0} (test : V → Bool) (o : Option V) (v : V) → Some v ≡ o → test v ≡ true → Some v ≡ passing test o
+pub passed : {V : Type 0} (test : V → Bool) (o : Option V) (v : V) → Some v ≡ o → test v ≡ true →
+    Some v ≡ passing test o
 passed test None v there holds = cc
 passed test (Some w) v there holds =
     let same : v ≡ w = same_Some v w there in
     rw (← same, holds) refl
 
-pub not_passed : {V : Type 0} (test : V → Bool) (o : Option V) (v : V) → Some v ≡ o → test v ≡ false → None ≡ passing test o
+pub not_passed : {V : Type 0} (test : V → Bool) (o : Option V) (v : V) → Some v ≡ o → test v ≡ false →
+    None ≡ passing test o
 not_passed test None v there fails = refl
 not_passed test (Some w) v there fails =
     let same : v ≡ w = same_Some v w there in

@@ -17,14 +17,16 @@ pub record IsInRange (most : ℕ) (letters : ℕ → Bool) (octets : List ℕ) :
   pub size : (1 ≤ length octets) × (length octets ≤ most)
   pub letters_only : list_all letters octets ≡ true
 
-fitting : (most : ℕ) (letters : ℕ → Bool) (octets : List ℕ) → text_fits most letters octets ≡ true → IsInRange most letters octets
+fitting : (most : ℕ) (letters : ℕ → Bool) (octets : List ℕ) → text_fits most letters octets ≡ true →
+    IsInRange most letters octets
 unfolding text_fits
 fitting most letters octets fits =
     let all = and_parts (nat_le 1 (length octets) && nat_le (length octets) most) (list_all letters octets) fits in
     let both = and_parts (nat_le 1 (length octets)) (nat_le (length octets) most) all.0 in
     record { size = (grind (arith, nat_tests), grind (arith, nat_tests)); letters_only = all.1 }
 
-text_range : (most : ℕ) (letters : ℕ → Bool) (value : Data) (octets : List ℕ) → text most letters value ≡ Some octets → IsInRange most letters octets
+text_range : (most : ℕ) (letters : ℕ → Bool) (value : Data) (octets : List ℕ) → text most letters value ≡ Some octets
+    → IsInRange most letters octets
 unfolding text
 text_range most letters (string found) octets is =
     let both = cond_some (text_fits most letters found) found octets is in
@@ -45,7 +47,8 @@ number_range least most (integer (pos m)) n is =
     (grind (arith, nat_tests), grind (arith, nat_tests))
 number_range least most value n is = cc
 
-array_range : (most : ℕ) (value : Data) (items : Items) → array_of most value ≡ Some items → (1 ≤ item_count items) × (item_count items ≤ most)
+array_range : (most : ℕ) (value : Data) (items : Items) → array_of most value ≡ Some items → (1 ≤ item_count items)
+    × (item_count items ≤ most)
 unfolding array_of
 array_range most (array found) items is =
     let both = cond_some (nat_le 1 (item_count found) && nat_le (item_count found) most) found items is in
@@ -55,7 +58,8 @@ array_range most (array found) items is =
 array_range most value items is = cc
 
 -- the same of what a key states
-pub text_at : (most : ℕ) (letters : ℕ → Bool) (key : List ℕ) (members : Members) (octets : List ℕ) → value_at (text most letters) key members ≡ Some octets → IsInRange most letters octets
+pub text_at : (most : ℕ) (letters : ℕ → Bool) (key : List ℕ) (members : Members) (octets : List ℕ) →
+    value_at (text most letters) key members ≡ Some octets → IsInRange most letters octets
 text_at most letters key members octets is =
     option_and_then_some (text most letters) (get_member key members) octets is
     (λ value there states. text_range most letters value octets states)
@@ -64,41 +68,54 @@ pub port_at : (key : List ℕ) (members : Members) (e : Endpoint) → value_at e
 port_at key members e is =
     option_and_then_some endpoint (get_member key members) e is (λ value there states. endpoint_range value e states)
 
-pub count_at : (most : ℕ) (key : List ℕ) (members : Members) (items : Items) → value_at (array_of most) key members ≡ Some items → (1 ≤ item_count items) × (item_count items ≤ most)
+pub count_at : (most : ℕ) (key : List ℕ) (members : Members) (items : Items) →
+    value_at (array_of most) key members ≡ Some items → (1 ≤ item_count items) × (item_count items ≤ most)
 count_at most key members items is =
     option_and_then_some (array_of most) (get_member key members) items is
     (λ value there states. array_range most value items states)
 
 -- what an optional key states, where it is there
-optional_read : {X : Type 0} (P : X → Type 0) (read o : Option X) → ((x : X) → read ≡ Some x → P x) → option_map (λ value. Some value) read ≡ Some o → (x : X) → o ≡ Some x → P x
+optional_read : {X : Type 0} (P : X → Type 0) (read o : Option X) → ((x : X) → read ≡ Some x → P x) →
+    option_map (λ value. Some value) read ≡ Some o → (x : X) → o ≡ Some x → P x
 optional_read P None o range is x there = cc
 optional_read P (Some y) o range is x there = range x (same_Some (Some y) o is ∙ there)
 
-optional_range : {X : Type 0} (reads : Data → Option X) (P : X → Type 0) → ((value : Data) (x : X) → reads value ≡ Some x → P x) → (found : Option Data) (o : Option X) → if_there reads found ≡ Some o → (x : X) → o ≡ Some x → P x
+optional_range : {X : Type 0} (reads : Data → Option X) (P : X → Type 0) →
+    ((value : Data) (x : X) → reads value ≡ Some x → P x) → (found : Option Data) (o : Option X) →
+    if_there reads found ≡ Some o → (x : X) → o ≡ Some x → P x
 optional_range reads P range None o is x there =
     let none : None ≡ o = same_Some None o is in
     absurd (cc)
 optional_range reads P range (Some value) o is x there = optional_read P (reads value) o (range value) is x there
 
-pub optional_port_at : (key : List ℕ) (members : Members) (o : Option Endpoint) → optional_at endpoint key members ≡ Some o → (e : Endpoint) → o ≡ Some e → 1 ≤ e.port
+pub optional_port_at : (key : List ℕ) (members : Members) (o : Option Endpoint) →
+    optional_at endpoint key members ≡ Some o → (e : Endpoint) → o ≡ Some e → 1 ≤ e.port
 optional_port_at key members o is e there =
     optional_range endpoint (λ x. 1 ≤ x.port) endpoint_range (get_member key members) o is e there
 
 -- the same of a text and its copy
-pub optional_text_at : (most : ℕ) (letters : ℕ → Bool) (key : List ℕ) (members : Members) (o : Option (List ℕ)) (copy : Option (String Global)) → optional_at (text most letters) key members ≡ Some o → option_map string_bytes copy ≡ o → (s : String Global) → copy ≡ Some s → (1 ≤ length (string_bytes s)) × (length (string_bytes s) ≤ most)
+pub optional_text_at : (most : ℕ) (letters : ℕ →
+    Bool) (key : List ℕ) (members : Members) (o : Option (List ℕ)) (copy : Option (String Global)) →
+    optional_at (text most letters) key members ≡ Some o → option_map string_bytes copy ≡ o → (s : String Global) →
+    copy ≡ Some s → (1 ≤ length (string_bytes s)) × (length (string_bytes s) ≤ most)
 optional_text_at most letters key members o copy is copied s there =
     let copy_is : o ≡ Some (string_bytes s) = sym copied ∙ ap (option_map string_bytes) there in
-    (optional_range (text most letters) (IsInRange most letters) (text_range most letters) (get_member key members) o is (string_bytes s) copy_is).size
+    (optional_range (text most letters) (IsInRange most letters) (text_range most letters) (get_member key members) o
+    is (string_bytes s) copy_is).size
 
 -- as many values as items
-each_count : {V : Type 0} (States : Members → V → Type 0) (items : Items) (values : List V) → StatesEach States items values → length values ≡ item_count items
+each_count : {V : Type 0} (States : Members → V → Type 0) (items : Items) (values : List V) →
+    StatesEach States items values → length values ≡ item_count items
 each_count States no_items [] stated = refl
 each_count States no_items (value ∷ values) stated = absurd stated
 each_count States (item (table ms) items) [] stated = absurd stated
 each_count States (item (table ms) items) (value ∷ values) stated = ap suc (each_count States items values stated.1)
 each_count States (item found items) values stated = absurd stated
 
-pub each_range : {X V : Type 0} (States : Members → V → Type 0) (shown : X → V) (most : ℕ) (key : List ℕ) (members : Members) (items : Items) (values : List X) → value_at (array_of most) key members ≡ Some items → StatesEach States items (map shown values) → (1 ≤ length values) × (length values ≤ most)
+pub each_range : {X V : Type 0} (States : Members → V → Type 0) (shown : X →
+    V) (most : ℕ) (key : List ℕ) (members : Members) (items : Items) (values : List X) →
+    value_at (array_of most) key members ≡ Some items → StatesEach States items (map shown values) →
+    (1 ≤ length values) × (length values ≤ most)
 each_range States shown most key members items values is stated =
     let count = count_at most key members items is in
     let same : length (map shown values) ≡ item_count items = each_count States items (map shown values) stated in
@@ -106,16 +123,21 @@ each_range States shown most key members items values is stated =
     (omega arith, omega arith)
 
 -- a number that may be absent
-number_or_range : (default least most : ℕ) (found : Option Data) (n : ℕ) → least ≤ default → default ≤ most → number_or default least most found ≡ Some n → (least ≤ n) × (n ≤ most)
+number_or_range : (default least most : ℕ) (found : Option Data) (n : ℕ) → least ≤ default → default ≤ most →
+    number_or default least most found ≡ Some n → (least ≤ n) × (n ≤ most)
 unfolding number_or
 number_or_range default least most None n low high is =
     let same : default ≡ n = same_Some default n is in
     (omega arith, omega arith)
 number_or_range default least most (Some value) n low high is = number_range least most value n is
 
-pub number_or_at : (default least most : ℕ) (key : List ℕ) (members : Members) (n : ℕ) → least ≤ default → default ≤ most → number_or default least most (get_member key members) ≡ Some n → (least ≤ n) × (n ≤ most)
-number_or_at default least most key members n low high is = number_or_range default least most (get_member key members) n low high is
+pub number_or_at : (default least most : ℕ) (key : List ℕ) (members : Members) (n : ℕ) → least ≤ default →
+    default ≤ most → number_or default least most (get_member key members) ≡ Some n → (least ≤ n) × (n ≤ most)
+number_or_at default least most key members n low high is =
+    number_or_range default least most (get_member key members) n low high is
 
-pub optional_number_at : (least most : ℕ) (key : List ℕ) (members : Members) (o : Option ℕ) → optional_at (number least most) key members ≡ Some o → (n : ℕ) → o ≡ Some n → (least ≤ n) × (n ≤ most)
+pub optional_number_at : (least most : ℕ) (key : List ℕ) (members : Members) (o : Option ℕ) →
+    optional_at (number least most) key members ≡ Some o → (n : ℕ) → o ≡ Some n → (least ≤ n) × (n ≤ most)
 optional_number_at least most key members o is n there =
-    optional_range (number least most) (λ x. (least ≤ x) × (x ≤ most)) (number_range least most) (get_member key members) o is n there
+    optional_range (number least most) (λ x. (least ≤ x)
+    × (x ≤ most)) (number_range least most) (get_member key members) o is n there

@@ -19,7 +19,8 @@ pub record StatesSettings (text : List ℕ) (settings : Settings) : Type 0 where
 pub record HasBadSettings (text : List ℕ) : Type 0 where
   pub members : Members
   pub parsed : parse_document text ≡ Some members
-  pub bad : (optional_at endpoint (codes "metrics") members ≡ None) ⊎ (optional_at socket_path (codes "control") members ≡ None)
+  pub bad : (optional_at endpoint (codes "metrics") members ≡ None)
+      ⊎ (optional_at socket_path (codes "control") members ≡ None)
       ⊎ (exchange_lines (get_member (codes "log_exchanges") members) ≡ None)
 
 -- the text states none, for this fault

@@ -207,8 +207,8 @@ fn wait<R: Clock, L: Listener>(
     }
 }
 
-/// Answers who asks, until the server ends. Where the system gives no further connection it takes none for a second, and
-/// says so once a minute.
+/// Answers who asks, until the server ends. Where the system gives no further connection it takes none for a second,
+/// and says so once a minute.
 pub fn answer_on<R: Wait + Clock + RandomSource + Log, L: Listener>(
     alloc: Global,
     asker: Asker<'_, R>,

@@ -3,14 +3,16 @@
 use std::alloc::{AllocError, Global};
 use std::sync::atomic::{AtomicU64, Ordering};
 
-/// Stored steps of a shard that an answer has, and those that are missing before them: so many. They are stored no more.
+/// Stored steps of a shard that an answer has, and those that are missing before them: so many. They are stored no
+/// more.
 #[derive(Clone, Copy)]
 pub struct Handed {
     pub shard: u16,
     pub steps: u64,
 }
 
-/// How many stored steps of each shard were let go of by answers that weren't taken whole, of which that isn't said yet.
+/// How many stored steps of each shard were let go of by answers that weren't taken whole, of which that isn't said
+/// yet.
 #[derive(Drop)]
 pub struct Missing {
     of_shards: Vec<AtomicU64>,

@@ -6,11 +6,15 @@ use Rattle.roam_wire.specs.Reading.{reading}
 use Rattle.roam_wire.specs.declared.refusal.Refusal.{Refusal}
 use Rattle.roam_wire.specs.declared.refusal.Refusal.TheVariants as refusal
 use Rattle.roam_conf.specs.Config.{ConfigView}
+use Rattle.roam_conf.specs.declared.accounting.Accounting.{Accounting}
+use Rattle.roam_conf.specs.declared.accounting.Accounting.TheVariants.{Forwarded, Answered, Dropped}
 use Rattle.roam_conf.specs.declared.place.Place.{Place}
 use Rattle.roam_conf.specs.declared.place.Place.TheVariants as place
 use Rattle.roam_route.specs.UserName.{realm_of}
-use Rattle.roam_route.specs.LocalReject.{is_rejected}
-use Rattle.roam_route.specs.Admission.{Arrival, PlainJob, PlainOut, Admission, refused, rejected, admitted, sender, checked, job_of, forwarded_for, rejected_for, for_named_realm, route_request, request_admission, packet_admission, sent_admission, read_admission, admission, is_taken, peer_secret, home_secret, is_rightly_signed, is_rightly_sealed, has_needed_seal, has_few_hops, seal_required, has_seal, is_status_request, status_admission, status_from}
+use Rattle.roam_route.specs.LocalAnswer.{accounting_answer}
+use Rattle.roam_route.specs.LocalReject.{is_rejected, takes_of}
+use Rattle.roam_route.specs.Shapings.{sent_length}
+use Rattle.roam_route.specs.Admission.{Arrival, PlainJob, PlainOut, Admission, refused, rejected, admitted, sender, checked, job_of, forwarded_for, rejected_for, for_named_realm, accounted, accounting_in, answered_by, by_accounting, is_answered_unnamed, route_request, request_admission, packet_admission, sent_admission, read_admission, admission, is_taken, peer_secret, home_secret, is_rightly_signed, is_rightly_sealed, has_needed_seal, has_few_hops, seal_required, has_seal, is_status_request, status_admission, status_from}
 use Rattle.roam_route.specs.declared.job.Side.{Side}
 use Rattle.roam_route.specs.declared.job.Side.TheVariants as side
 
@@ -37,13 +41,27 @@ checked_so : (holds : Bool) (why : Refusal) (further : Admission) → RejectsFor
 checked_so true why further h = h
 checked_so false why further h = refused_so why
 
-forwarded_so : (a : Arrival) (s : Side) (p : Packet) (realm : ℕ) (names : Option ℕ) →
-    RejectsForNone (forwarded_for a s p realm names)
-forwarded_so a s p realm names = checked_so _ refusal.TooLong (job_of a s p realm names) (admitted_so _)
+forwarded_so : (size : ℕ) (a : Arrival) (s : Side) (p : Packet) (realm : ℕ) (names : Option ℕ) →
+    RejectsForNone (forwarded_for size a s p realm names)
+forwarded_so size a s p realm names = checked_so _ refusal.TooLong (job_of a s p realm names) (admitted_so _)
 
-named_so : (a : Arrival) (s : Side) (p : Packet) (realm : Option ℕ) → RejectsForNone (for_named_realm a s p realm)
-named_so a s p None = refused_so refusal.NoRealm
-named_so a s p (Some realm) = forwarded_so a s p realm (Some realm)
+named_so : (config : ConfigView) (a : Arrival) (s : Side) (p : Packet) (realm : Option ℕ) →
+    RejectsForNone (for_named_realm config a s p realm)
+named_so config a s p None = refused_so refusal.NoRealm
+named_so config a s p (Some realm) = forwarded_so (sent_length config s p realm) a s p realm (Some realm)
+
+accounting_so : (how : Accounting) (size : ℕ) (secret : List ℕ) (a : Arrival) (s : Side) (p : Packet) (realm : ℕ) →
+    RejectsForNone (by_accounting how size secret a s p realm)
+accounting_so Forwarded size secret a s p realm = forwarded_so size a s p realm (Some realm)
+accounting_so Answered size secret a s p realm = rejected_so _ refl
+accounting_so Dropped size secret a s p realm = refused_so refusal.AccountingDropped
+
+accounted_so : (config : ConfigView) (secret : List ℕ) (a : Arrival) (s : Side) (p : Packet) (realm : Option ℕ) →
+    RejectsForNone (accounted config secret a s p realm)
+accounted_so config secret a s p None = refused_so refusal.NoRealm
+accounted_so config secret a s p (Some realm) =
+    checked_so (takes_of config realm s) refusal.NotForPeer _
+    (accounting_so (accounting_in config realm) (sent_length config s p realm) secret a s p realm)
 
 reject_so : (secret : List ℕ) (a : Arrival) (p : Packet) → RejectsForNone (rejected_for secret a p)
 reject_so secret a p = checked_so _ refusal.TooLong _ (rejected_so _ refl)
@@ -53,21 +71,32 @@ either_so : (test : Bool) (one other : Admission) → RejectsForNone one → Rej
 either_so true one other this that = this
 either_so false one other this that = that
 
+-- an Accounting-Request, which the broker may answer itself
+unnamed_so : (config : ConfigView) (secret : List ℕ) (a : Arrival) (s : Side) (p : Packet) →
+    RejectsForNone (if is_answered_unnamed config p then answered_by a (accounting_answer secret p)
+    else accounted config secret a s p (realm_of config p.attributes))
+unnamed_so config secret a s p =
+    either_so (is_answered_unnamed config p) (answered_by a (accounting_answer secret p))
+    (accounted config secret a s p (realm_of config p.attributes)) (rejected_so _ refl)
+    (accounted_so config secret a s p (realm_of config p.attributes))
+
 routed_so : (config : ConfigView) (secret : List ℕ) (a : Arrival) (s : Side) (p : Packet) (at : Place) →
     RejectsForNone (route_request config secret a s p at)
-routed_so config secret a s p (place.Reverse realm) = forwarded_so a s p realm (realm_of config p.attributes)
+routed_so config secret a s p (place.Reverse realm) =
+    forwarded_so (sent_length config s p realm) a s p realm (realm_of config p.attributes)
 routed_so config secret a s p place.Auth =
-    either_so (is_rejected config p) (rejected_for secret a p) (for_named_realm a s p (realm_of config p.attributes))
-    (reject_so secret a p) (named_so a s p (realm_of config p.attributes))
-routed_so config secret a s p place.Acct = named_so a s p (realm_of config p.attributes)
-routed_so config secret a s p (place.Out realm) = named_so a s p (realm_of config p.attributes)
+    either_so (is_rejected config s p) (rejected_for secret a p)
+    (for_named_realm config a s p (realm_of config p.attributes))
+    (reject_so secret a p) (named_so config a s p (realm_of config p.attributes))
+routed_so config secret a s p place.Acct = unnamed_so config secret a s p
+routed_so config secret a s p (place.Out realm) = unnamed_so config secret a s p
 
 request_so : (config : ConfigView) (secret : List ℕ) (a : Arrival) (s : Side) (p : Packet) →
     RejectsForNone (request_admission config secret a s p)
 request_so config secret a s p =
     checked_so (is_rightly_signed secret p) refusal.BadAuthenticator _
     (checked_so (is_rightly_sealed secret p) refusal.BadMessageAuthenticator _
-    (checked_so (has_needed_seal (seal_required config s) p) refusal.MissingMessageAuthenticator _
+    (checked_so (has_needed_seal (seal_required config s p) p) refusal.MissingMessageAuthenticator _
     (checked_so (has_few_hops config.max_hops p) refusal.TooManyHops (route_request config secret a s p a.at)
     (routed_so config secret a s p a.at))))
 

@@ -18,8 +18,9 @@ use Rattle.roam_book.specs.RealmConfig.{RealmConfig, later_targets, link_endpoin
 use Rattle.roam_book.specs.RealmState.{RealmState, Target, chosen_target, opening}
 use Rattle.roam_book.specs.Rests.{after_silence}
 use Rattle.roam_book.specs.Turn.{Turn, packets_of, state_after, in_time}
+use Rattle.roam_book.specs.Shares.{share_taken}
 use Rattle.roam_book.specs.OnRequest.{make_way, at_target, is_reverse, nak_or_new, of_key, held_reply, reverse_cause, targets}
-use Rattle.roam_book.specs.OnReply.{returning, judge, to_standing, to_entry}
+use Rattle.roam_book.specs.OnReply.{judge, passing_to, returning, to_entry, to_standing}
 use Rattle.roam_book.specs.OnTick.{Progress, fail_over, given_up_at, due_standing, due_entry, due_one, due_each}
 use Rattle.roam_book.specs.OneRealm.{RealmEvent, request_came, reply_came, tick_came, on_event, one_realm_run}
 use Rattle.roam_core.specs.Amplification.{Ends, NoAmplification, NoAmplificationFromStart, NoMoreAnswersThanRequests, OnePacketEach, caused_by, counted, counted_links, may_be_caused, may_still_follow, requests_from}
@@ -135,7 +136,8 @@ nak_or_new-few : (c : RealmConfig) (now : ℕ) (s : RealmState) (q : PlainReques
 nak_or_new-few c now s q None =
     let others = without_client q.key s.entries in
     either Few (eqb s.ticket (2 ^ 63)) _ _ (omega arith)
-    (at_target-few c now s others q (chosen_target c now s.rests s.cursors others (targets c q)))
+    (either Few (share_taken c others q) _ _ (omega arith)
+    (at_target-few c now s others q (chosen_target c now s.rests s.cursors others (targets c q))))
 nak_or_new-few c now s q (Some why) = omega arith
 
 held-few : (c : RealmConfig) (q : PlainRequest) (standing : PlainStanding) → length (held_reply c q.key standing) ≤ 1
@@ -153,7 +155,8 @@ judge-few : (c : RealmConfig) (now : ℕ) (s : RealmState) (e : PlainEntry) (l :
     (why : Option Refusal) → Few (judge c now s e l forwarded reply why)
 judge-few c now s e l forwarded reply (Some why) = omega arith
 judge-few c now s e l forwarded reply None =
-    either Few (ltb 4096 (returned_length (returning c e.request l forwarded) reply (packet_of e.request.octets))) _ _
+    either Few (ltb 4096 (returned_length (returning c e.request l forwarded) (passing_to c e.request reply)
+    (packet_of e.request.octets))) _ _
     (omega arith) (omega arith)
 
 to_standing-few : (c : RealmConfig) (now : ℕ) (s : RealmState) (e : PlainEntry) (reply : Packet)

@@ -21,8 +21,9 @@ use Rattle.roam_pending.specs.EntryList.{find_client, find_link, find_ticket, fi
 use Rattle.roam_book.specs.RealmConfig.{RealmConfig}
 use Rattle.roam_book.specs.RealmState.{RealmState, Target, opening}
 use Rattle.roam_book.specs.Turn.{Turn, state_after}
+use Rattle.roam_book.specs.Shares.{share_taken}
 use Rattle.roam_book.specs.OnRequest.{draws, make_way, at_target, is_reverse, nak_or_new, new_request, of_key, position_after, reverse_cause}
-use Rattle.roam_book.specs.OnReply.{returning, judge, to_standing, to_entry}
+use Rattle.roam_book.specs.OnReply.{judge, passing_to, returning, to_entry, to_standing}
 use Rattle.roam_book.specs.OnTick.{Progress, fail_over, once_refused, due_standing, due_entry, due_one, due_each}
 use Rattle.roam_book.specs.OneRealm.{RealmEvent, request_came, reply_came, tick_came, on_event, one_realm_run}
 use Rattle.roam_book.specs.declared.state.start.Start.{Start}
@@ -62,7 +63,8 @@ at_target-moves c now s es q (Some target) =
 new_request-moves : (c : RealmConfig) (now : ℕ) (s : RealmState) (es : List PlainEntry) (q : PlainRequest) →
     Moves s (new_request c now s es q)
 new_request-moves c now s es q =
-    either (Moves s) (eqb s.ticket (2 ^ 63)) _ _ (stays s) (at_target-moves c now s es q _)
+    either (Moves s) (eqb s.ticket (2 ^ 63)) _ _ (stays s)
+    (either (Moves s) (share_taken c es q) _ _ (stays s) (at_target-moves c now s es q _))
 
 nak_or_new-moves : (c : RealmConfig) (now : ℕ) (s : RealmState) (q : PlainRequest) (why : Option ℕ) →
     Moves s (nak_or_new c now s q why)
@@ -89,7 +91,7 @@ judge-rests : (c : RealmConfig) (now : ℕ) (s : RealmState) (e : PlainEntry) (l
     (why : Option Refusal) → Rests s (judge c now s e l forwarded reply why)
 judge-rests c now s e l forwarded reply (Some why) = refl
 judge-rests c now s e l forwarded reply None =
-    either (Rests s) (ltb 4096 (returned_length (returning c e.request l forwarded) reply
+    either (Rests s) (ltb 4096 (returned_length (returning c e.request l forwarded) (passing_to c e.request reply)
     (packet_of e.request.octets))) _ _
     refl refl
 

@@ -21,8 +21,9 @@ use Rattle.roam_book.specs.RealmConfig.{RealmConfig, later_targets, link_secret,
 use Rattle.roam_book.specs.RealmState.{RealmState, Target, chosen_target}
 use Rattle.roam_book.specs.Rests.{after_silence}
 use Rattle.roam_book.specs.Turn.{Turn, state_after}
+use Rattle.roam_book.specs.Shares.{share_taken}
 use Rattle.roam_book.specs.OnRequest.{forwarded_entry, make_way, at_target, is_reverse, nak_octets, nak_or_new, of_key, reverse_cause, targets}
-use Rattle.roam_book.specs.OnReply.{returned_octets, returning, judge, to_standing, to_entry}
+use Rattle.roam_book.specs.OnReply.{judge, passing_to, returned_octets, returning, to_entry, to_standing}
 use Rattle.roam_reverse.specs.declared.error_cause.TheConstants.{OTHER_PROXY_PROCESSING_ERROR}
 use Rattle.roam_book.specs.OnTick.{Progress, fail_over, given_up_at, once_refused, due_standing, due_entry, due_one, due_each}
 use Rattle.roam_book.specs.OneRealm.{request_came, reply_came, tick_came, on_event}
@@ -82,7 +83,8 @@ module _ (c : RealmConfig) (Kept : List PlainEntry → Type 0) (Good : PlainEntr
       λ t at. chosen-holds (IsOneOf c (targets c q)) c now s.rests s.cursors es (targets c q) t
       (targets-fit c all_ends q) at in
       either (Keeps s) (eqb s.ticket (2 ^ 63)) _ _ old
-      (at_target-keeps now s es q chosen old (less (λ e. not (has_key q.key e)) s.entries old) fits new)
+      (either (Keeps s) (share_taken c es q) _ _ old
+      (at_target-keeps now s es q chosen old (less (λ e. not (has_key q.key e)) s.entries old) fits new))
   nak_or_new-keeps now s q (Some why) old new = old
 
   of_key-keeps :
@@ -113,7 +115,8 @@ module _ (c : RealmConfig) (Kept : List PlainEntry → Type 0) (Good : PlainEntr
   judge-keeps now s e l forwarded reply None old done_good =
       let octets = returned_octets c e.request l forwarded reply in
       either (Keeps s)
-      (ltb 4096 (returned_length (returning c e.request l forwarded) reply (packet_of e.request.octets))) _ _
+      (ltb 4096 (returned_length (returning c e.request l forwarded) (passing_to c e.request reply)
+      (packet_of e.request.octets))) _ _
       old (more (with_standing (done octets (now + c.realm.hold)) e) s.entries (done_good e octets) old)
 
   to_standing-keeps :

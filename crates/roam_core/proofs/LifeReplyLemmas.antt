@@ -18,7 +18,7 @@ use Rattle.roam_book.specs.RealmConfig.{RealmConfig, link_secret, seal_required}
 use Rattle.roam_book.specs.Turn.{packets_of}
 use Rattle.roam_book.specs.OnRequest.{packet_to_requester}
 use Rattle.roam_back.specs.ReplyCheck.{reply_fault}
-use Rattle.roam_book.specs.OnReply.{returned_octets, returning, return_reply, judge, to_standing, to_entry, on_reply}
+use Rattle.roam_book.specs.OnReply.{judge, on_reply, passing_to, return_reply, returned_octets, returning, to_entry, to_standing}
 use Rattle.roam_book.specs.OneRealm.{reply_came}
 use Rattle.roam_core.specs.Lives.{Happening, Stage, event, stage_then}
 use Rattle.roam_core.specs.LifeOrigins.{ComesFromIn, IsReturnedIn, IsSentIn, StandsFromIn, WaitsForIn, back_to}
@@ -102,7 +102,8 @@ module _ (b : Stage) (before : List Happening) (at : Stage) (is_at : stage_then 
       let happened = reply_came now from reply in
       let octets = returned_octets at.config e.request from (packet_of forwarded) (packet_of reply) in
       let how = returning at.config e.request from (packet_of forwarded) in
-      let length = returned_length how (packet_of reply) (packet_of e.request.octets) in
+      let length = returned_length how (passing_to at.config e.request (packet_of reply))
+      (packet_of e.request.octets) in
       let settled = with_standing (done octets (now + at.config.realm.hold)) e in
       elim (cases_Bool (ltb 4096 length)) [
         | inl y ↦ rw y (record { packets = tt; entries = still })

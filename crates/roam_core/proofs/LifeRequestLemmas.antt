@@ -1,8 +1,9 @@
 -- A request in a realm's life keeps what is known: a new one is forwarded, and a duplicate gets the held reply.
 use Rattle.std.proofs.Common.{◌≡◌, ℕ, ◌^◌, Bool, false, List, [], ◌∷◌, ◌++◌, Option, Some, None, refl, sym, ap, subst, ◌∙◌, eqb, ltb, inl, inr, length}
-use Rattle.std.specs.Prelude.{nat_eq, not}
+use Rattle.std.specs.Prelude.{nat_eq, not, if◌then◌else◌}
 use Rattle.std.specs.Cmp.Lexicographic.{pointwise}
 use Rattle.std.proofs.lemmas.Bool.{cases_Bool}
+use Rattle.roam_wire.specs.declared.refusal.Refusal.TheVariants as refusal
 use Rattle.roam_pending.specs.ListLaws.{IsIn}
 use Rattle.roam_pending.specs.declared.key.Key.{Key}
 use Rattle.roam_pending.specs.PlainEntry.{PlainRequest, PlainStanding, PlainEntry, waiting, done, has_key, has_ticket}
@@ -13,7 +14,8 @@ use Rattle.roam_pending.proofs.ChangeLemmas.{find-passes}
 use Rattle.roam_pending.proofs.ClientLemmas.{key-equal}
 use Rattle.roam_book.specs.RealmConfig.{RealmConfig}
 use Rattle.roam_book.specs.RealmState.{RealmState, Target, chosen_target}
-use Rattle.roam_book.specs.Turn.{Turn, state_after}
+use Rattle.roam_book.specs.Turn.{Turn, refuses, state_after}
+use Rattle.roam_book.specs.Shares.{share_taken}
 use Rattle.roam_book.specs.OnRequest.{packet_to_requester, forwarded_entry, admit, make_way, at_target, new_request, held_reply, first_seen, nak_octets, nak_or_new, of_key, on_request, reverse_cause, targets}
 use Rattle.roam_book.specs.OneRealm.{request_came}
 use Rattle.roam_core.specs.Draws.{drawn_between}
@@ -162,7 +164,13 @@ module _ (b : Stage) (before : List Happening) (at : Stage) (now : ℕ)
       let target = chosen_target at.config now at.state.rests at.state.cursors es (targets at.config q) in
       elim (cases_Bool (eqb at.state.ticket (2 ^ 63))) [
         | inl y ↦ rw y (record { packets = tt; entries = kept })
-        | inr n ↦ rw n (at_target-keeps es target each (rw n at is))
+        | inr n ↦ (
+            let past : turn ≡ (if share_taken at.config es q then refuses refusal.ShareTaken
+            else at_target at.config now at.state es q target) = rw n at is in
+            elim (cases_Bool (share_taken at.config es q)) [
+              | inl taken ↦ rw (n, taken) (record { packets = tt; entries = kept })
+              | inr free ↦ rw (n, free) (at_target-keeps es target each (rw free at past))
+            ])
       ]
 
   -- a reverse request that isn't forwarded

@@ -1,9 +1,9 @@
 -- Two configurations in which the same names mean a realm: an arrival gives the same event to it, but for which
 -- other realm a request names.
 use Rattle.std.proofs.Common.{◌≡◌, ℕ, Bool, true, false, List, [], Option, Some, None, map, option_map, refl, sym, ap, subst, ◌∙◌, inl, inr, arith}
-use Rattle.std.specs.Prelude.{◌==◌, ◌||◌, not, is_some, nat_le, if◌then◌else◌, Result, Ok, Err}
+use Rattle.std.specs.Prelude.{◌==◌, ◌&&◌, ◌||◌, not, is_some, nat_le, if◌then◌else◌, Result, Ok, Err}
 use Rattle.std.specs.Option.{option_and_then}
-use Rattle.std.proofs.lemmas.Bool.{cases_Bool}
+use Rattle.std.proofs.lemmas.Bool.{cases_Bool, false≢true}
 use Rattle.std.proofs.lemmas.Bool.Decides.{Decides-eqb, nat_tests}
 use Rattle.roam_wire.specs.Packet.{Attribute, Packet}
 use Rattle.roam_wire.specs.Attributes.{first_value}
@@ -14,13 +14,16 @@ use Rattle.roam_wire.specs.declared.refusal.Refusal.TheVariants as refusal
 use Rattle.roam_conf.specs.Config.{ConfigView, PeerView, RealmView}
 use Rattle.roam_conf.specs.Lookup.{realm_named, peer_with_ip, link_in, home_in, servers_of}
 use Rattle.roam_conf.specs.Secrets as secrets
+use Rattle.roam_conf.specs.declared.accounting.Accounting.{Accounting}
+use Rattle.roam_conf.specs.declared.accounting.Accounting.TheVariants.{Forwarded, Answered, Dropped}
 use Rattle.roam_conf.specs.declared.endpoint.Endpoint.{Endpoint}
 use Rattle.roam_conf.specs.declared.place.Place.{Place}
 use Rattle.roam_conf.specs.declared.place.Place.TheVariants as place
 use Rattle.roam_route.specs.UserName.{realm_of, realm_part}
-use Rattle.roam_route.specs.LocalAnswer.{answer_length, local_reject, status_answer}
-use Rattle.roam_route.specs.LocalReject.{has_bad_password, has_too_many_hops}
-use Rattle.roam_route.specs.Admission.{Arrival, Admission, sender, checked, job_of, forwarded_for, answered_by, rejected_for, for_named_realm, route_request, request_admission, packet_admission, sent_admission, status_from, is_status_request, read_admission, admission, is_taken, peer_secret, home_secret, is_rightly_signed, is_rightly_sealed, has_needed_seal, has_few_hops, has_seal, seal_required}
+use Rattle.roam_route.specs.LocalAnswer.{accounting_answer, answer_length, local_reject, status_answer}
+use Rattle.roam_route.specs.LocalReject.{has_bad_password, has_too_many_hops, takes_of, taking}
+use Rattle.roam_route.specs.Shapings.{sent_length}
+use Rattle.roam_route.specs.Admission.{Arrival, Admission, sender, checked, job_of, forwarded_for, answered_by, rejected_for, for_named_realm, accounted, accounting_in, by_accounting, is_answered_unnamed, is_unnamed, route_request, request_admission, packet_admission, sent_admission, status_from, is_status_request, read_admission, admission, is_taken, peer_secret, home_secret, is_rightly_signed, is_rightly_sealed, has_needed_seal, has_few_hops, has_seal, seal_required}
 use Rattle.roam_route.specs.declared.job.Side.{Side}
 use Rattle.roam_route.specs.declared.job.Side.TheVariants as side
 use Rattle.roam_book.specs.OneRealm.{RealmEvent}
@@ -49,9 +52,9 @@ module _ (realm now : ℕ) where
       gives (job_of a s p k named) ≡ []
   none-given k a s p named differs = rw differs refl
 
-  none-forwarded : (k : ℕ) (a : Arrival) (s : Side) (p : Packet) (named : Option ℕ) → (k == realm) ≡ false →
-      gives (forwarded_for a s p k named) ≡ []
-  none-forwarded k a s p named differs =
+  none-forwarded : (size k : ℕ) (a : Arrival) (s : Side) (p : Packet) (named : Option ℕ) → (k == realm) ≡ false →
+      gives (forwarded_for size a s p k named) ≡ []
+  none-forwarded size k a s p named differs =
       none-checked _ refusal.TooLong (job_of a s p k named) (none-given k a s p named differs)
 
   -- and one of the realm, by what it names
@@ -64,45 +67,129 @@ module _ (realm now : ℕ) where
   own-given a (side.Home i) p m n same = rw (itself realm, only-same m n same) refl
   own-given a (side.Link l) p m n same = rw (itself realm) refl
 
-  own-forwarded : (a : Arrival) (s : Side) (p : Packet) (m n : Option ℕ) → is_realm realm m ≡ is_realm realm n →
-      gives (forwarded_for a s p realm m) ≡ gives (forwarded_for a s p realm n)
-  own-forwarded a s p m n same =
+  own-forwarded : (size : ℕ) (a : Arrival) (s : Side) (p : Packet) (m n : Option ℕ) →
+      is_realm realm m ≡ is_realm realm n →
+      gives (forwarded_for size a s p realm m) ≡ gives (forwarded_for size a s p realm n)
+  own-forwarded size a s p m n same =
       same-checked _ refusal.TooLong (job_of a s p realm m) (job_of a s p realm n)
       (own-given a s p m n same)
-
-  -- a request that goes where its name says: to the realm where it means the realm
-  abbrev where_named : Arrival → Side → Packet → Bool → List RealmEvent
-  where_named a s p means = if means then gives (forwarded_for a s p realm (Some realm)) else []
-
-  named-given : (a : Arrival) (s : Side) (p : Packet) (named : Option ℕ) →
-      gives (for_named_realm a s p named) ≡ where_named a s p (is_realm realm named)
-  named-given a s p None = refl
-  named-given a s p (Some k) =
-      elim (cases_Bool (k == realm)) [
-        | inl yes' ↦ (
-            let here : k ≡ realm = (Decides-eqb k realm).0 yes' in
-            ap (λ (j : ℕ). gives (forwarded_for a s p j (Some j))) here ∙ sym (ap (where_named a s p) yes'))
-        | inr no' ↦ none-forwarded k a s p (Some k) no' ∙ sym (ap (where_named a s p) no')
-      ]
 
   rejected-none : (secret : List ℕ) (a : Arrival) (p : Packet) → gives (rejected_for secret a p) ≡ []
   rejected-none secret a p =
       none-checked (nat_le (answer_length p) 4096) refusal.TooLong (answered_by a (local_reject secret p)) refl
 
-  -- an Access-Request, which may be answered by a local reject
-  abbrev route_auth : List ℕ → Arrival → Side → Packet → Bool → Bool → Option ℕ → Admission
-  route_auth secret a s p bad hops named =
-      if not (is_some named) || bad || hops then rejected_for secret a p else for_named_realm a s p named
+  either-none : (b : Bool) (x : List RealmEvent) → x ≡ [] → (if b then x else []) ≡ []
+  either-none true x none = none
+  either-none false x none = refl
 
-  auth-given : (secret : List ℕ) (a : Arrival) (s : Side) (p : Packet) (bad hops : Bool) (named : Option ℕ) →
-      gives (route_auth secret a s p bad hops named)
-      ≡ (if bad || hops then [] else where_named a s p (is_realm realm named))
-  auth-given secret a s p true hops None = rejected-none secret a p
-  auth-given secret a s p false true None = rejected-none secret a p
-  auth-given secret a s p false false None = rejected-none secret a p
-  auth-given secret a s p true hops (Some k) = rejected-none secret a p
-  auth-given secret a s p false true (Some k) = rejected-none secret a p
-  auth-given secret a s p false false (Some k) = named-given a s p (Some k)
+  -- an Access-Request that goes where its name says: to the realm where it means the realm, which takes its peer's
+  abbrev where_asked : Bool → ℕ → Arrival → Side → Packet → Bool → List RealmEvent
+  where_asked takes size a s p means =
+      if means && takes then gives (forwarded_for size a s p realm (Some realm)) else []
+
+  asked-given : (config : ConfigView) (a : Arrival) (s : Side) (p : Packet) (k : ℕ) →
+      (if takes_of config k s then gives (for_named_realm config a s p (Some k)) else [])
+      ≡ where_asked (takes_of config realm s) (sent_length config s p realm) a s p (k == realm)
+  asked-given config a s p k =
+      let takes : Bool = takes_of config realm s in
+      let size : ℕ = sent_length config s p realm in
+      elim (cases_Bool (k == realm)) [
+        | inl yes' ↦ (
+            let here : k ≡ realm = (Decides-eqb k realm).0 yes' in
+            ap (λ (j : ℕ). if takes_of config j s then gives (for_named_realm config a s p (Some j)) else []) here
+            ∙ sym (ap (where_asked takes size a s p) yes'))
+        | inr no' ↦ either-none (takes_of config k s) (gives (for_named_realm config a s p (Some k)))
+            (none-forwarded (sent_length config s p k) k a s p (Some k) no')
+            ∙ sym (ap (where_asked takes size a s p) no')
+      ]
+
+  -- it may be answered by a local reject
+  abbrev route_auth : ConfigView → List ℕ → Arrival → Side → Packet → Bool → Bool → Option ℕ → Admission
+  route_auth config secret a s p bad hops named =
+      if not (is_some (taking config s named)) || bad || hops then rejected_for secret a p
+      else for_named_realm config a s p named
+
+  auth-by : (config : ConfigView) (secret : List ℕ) (a : Arrival) (s : Side) (p : Packet) (takes bad hops : Bool)
+      (k : ℕ) → gives (if not (is_some (if takes then Some k else None)) || bad || hops then rejected_for secret a p
+      else for_named_realm config a s p (Some k))
+      ≡ (if bad || hops then [] else if takes then gives (for_named_realm config a s p (Some k)) else [])
+  auth-by config secret a s p false true hops k = rejected-none secret a p
+  auth-by config secret a s p false false true k = rejected-none secret a p
+  auth-by config secret a s p false false false k = rejected-none secret a p
+  auth-by config secret a s p true true hops k = rejected-none secret a p
+  auth-by config secret a s p true false true k = rejected-none secret a p
+  auth-by config secret a s p true false false k = refl
+
+  auth-given : (config : ConfigView) (secret : List ℕ) (a : Arrival) (s : Side) (p : Packet) (bad hops : Bool)
+      (named : Option ℕ) → gives (route_auth config secret a s p bad hops named)
+      ≡ (if bad || hops then [] else where_asked (takes_of config realm s) (sent_length config s p realm) a s p
+      (is_realm realm named))
+  auth-given config secret a s p true hops None = rejected-none secret a p
+  auth-given config secret a s p false true None = rejected-none secret a p
+  auth-given config secret a s p false false None = rejected-none secret a p
+  auth-given config secret a s p bad hops (Some k) =
+      auth-by config secret a s p (takes_of config k s) bad hops k
+      ∙ ap (λ (given : List RealmEvent). if bad || hops then [] else given) (asked-given config a s p k)
+
+  -- an Accounting-Request that goes where its name says, by whether the realm takes its peer's and what becomes of them
+  abbrev where_accounted : Bool → Accounting → ℕ → List ℕ → Arrival → Side → Packet → Bool → List RealmEvent
+  where_accounted takes how size secret a s p means =
+      if means
+      then gives (checked takes refusal.NotForPeer (by_accounting how size secret a s p realm))
+      else []
+
+  none-accounted : (how : Accounting) (size : ℕ) (secret : List ℕ) (a : Arrival) (s : Side) (p : Packet) (k : ℕ) →
+      (k == realm) ≡ false → gives (by_accounting how size secret a s p k) ≡ []
+  none-accounted Forwarded size secret a s p k differs = none-forwarded size k a s p (Some k) differs
+  none-accounted Answered size secret a s p k differs = refl
+  none-accounted Dropped size secret a s p k differs = refl
+
+  accounted-given : (config : ConfigView) (secret : List ℕ) (a : Arrival) (s : Side) (p : Packet) (named : Option ℕ) →
+      gives (accounted config secret a s p named)
+      ≡ where_accounted (takes_of config realm s) (accounting_in config realm) (sent_length config s p realm) secret
+      a s p
+      (is_realm realm named)
+  accounted-given config secret a s p None = refl
+  accounted-given config secret a s p (Some k) =
+      let at_realm : Bool → List RealmEvent =
+      where_accounted (takes_of config realm s) (accounting_in config realm) (sent_length config s p realm) secret a
+      s p in
+      elim (cases_Bool (k == realm)) [
+        | inl yes' ↦ (
+            let here : k ≡ realm = (Decides-eqb k realm).0 yes' in
+            ap (λ (j : ℕ). gives (accounted config secret a s p (Some j))) here ∙ sym (ap at_realm yes'))
+        | inr no' ↦ none-checked (takes_of config k s) refusal.NotForPeer _
+            (none-accounted (accounting_in config k) (sent_length config s p k) secret a s p k no')
+            ∙ sym (ap at_realm no')
+      ]
+
+  -- one without a name is no realm's, whether the broker answers it or not
+  unnamed-none : (config : ConfigView) (o : Option (List ℕ)) → not (is_some o) ≡ true →
+      is_realm realm (option_and_then (realm_named config) (option_and_then realm_part o)) ≡ false
+  unnamed-none config None unnamed = refl
+  unnamed-none config (Some name) unnamed = absurd (false≢true unnamed)
+
+  second-true : (a b : Bool) → (a && b) ≡ true → b ≡ true
+  second-true true b both = both
+  second-true false b both = absurd (false≢true both)
+
+  acct-given : (config : ConfigView) (secret : List ℕ) (a : Arrival) (s : Side) (p : Packet) →
+      gives (if is_answered_unnamed config p then answered_by a (accounting_answer secret p)
+      else accounted config secret a s p (realm_of config p.attributes))
+      ≡ where_accounted (takes_of config realm s) (accounting_in config realm) (sent_length config s p realm) secret
+      a s p
+      (is_realm realm (realm_of config p.attributes))
+  acct-given config secret a s p =
+      let at_realm : Bool → List RealmEvent =
+      where_accounted (takes_of config realm s) (accounting_in config realm) (sent_length config s p realm) secret a
+      s p in
+      elim (cases_Bool (is_answered_unnamed config p)) [
+        | inl yes' ↦ (
+            let unnamed = second-true config.answer_unnamed (is_unnamed p.attributes) yes' in
+            let none = unnamed-none config (first_value USER_NAME p.attributes) unnamed in
+            rw yes' (sym (ap at_realm none)))
+        | inr no' ↦ rw no' (accounted-given config secret a s p (realm_of config p.attributes))
+      ]
 
   -- a Status-Server is no realm's
   none-status : (config : ConfigView) (a : Arrival) (s : Side) (p : Packet) → gives (status_from config a s p) ≡ []
@@ -160,10 +247,11 @@ module _ (realm now : ℕ) where
       (request_admission config secret a (side.Home i) p)
       (none-checked (is_rightly_signed secret p) refusal.BadAuthenticator _
       (none-checked (is_rightly_sealed secret p) refusal.BadMessageAuthenticator _
-      (none-checked (has_needed_seal (seal_required config (side.Home i)) p) refusal.MissingMessageAuthenticator _
+      (none-checked (has_needed_seal (seal_required config (side.Home i) p) p) refusal.MissingMessageAuthenticator _
       (none-checked (has_few_hops config.max_hops p) refusal.TooManyHops
-      (forwarded_for a (side.Home i) p k (realm_of config p.attributes))
-      (none-forwarded k a (side.Home i) p (realm_of config p.attributes) differs)))))
+      (forwarded_for (sent_length config (side.Home i) p k) a (side.Home i) p k (realm_of config p.attributes))
+      (none-forwarded (sent_length config (side.Home i) p k) k a (side.Home i) p (realm_of config p.attributes)
+      differs)))))
 
 module _ (one other : ConfigView) (realm now : ℕ) (agree : AgreeFor one other realm) where
   named-alike : (o : Option (List ℕ)) →
@@ -176,36 +264,54 @@ module _ (one other : ConfigView) (realm now : ℕ) (agree : AgreeFor one other 
       is_realm realm (realm_of one attributes) ≡ is_realm realm (realm_of other attributes)
   realm-alike attributes = named-alike (option_and_then realm_part (first_value USER_NAME attributes))
 
+  -- what the realm's entry and the peers say
+  takes-same : (s : Side) → takes_of one realm s ≡ takes_of other realm s
+  takes-same (side.Peer i) = rw (agree.peers, agree.entry) refl
+  takes-same (side.Home i) = refl
+  takes-same (side.Link l) = refl
+
+  accounting-same : accounting_in one realm ≡ accounting_in other realm
+  accounting-same = rw agree.entry refl
+
+  size-same : (s : Side) (p : Packet) → sent_length one s p realm ≡ sent_length other s p realm
+  size-same (side.Peer i) p = rw (agree.peers, agree.entry) refl
+  size-same (side.Home i) p = refl
+  size-same (side.Link l) p = refl
+
   -- where a request goes that isn't at another realm's place
-  named-same : (a : Arrival) (s : Side) (p : Packet) →
-      gives realm now (for_named_realm a s p (realm_of one p.attributes))
-      ≡ gives realm now (for_named_realm a s p (realm_of other p.attributes))
-  named-same a s p =
-      named-given realm now a s p (realm_of one p.attributes)
-      ∙ ap (where_named realm now a s p) (realm-alike p.attributes)
-      ∙ sym (named-given realm now a s p (realm_of other p.attributes))
+  acct-same : (secret : List ℕ) (a : Arrival) (s : Side) (p : Packet) →
+      gives realm now (if is_answered_unnamed one p then answered_by a (accounting_answer secret p)
+      else accounted one secret a s p (realm_of one p.attributes))
+      ≡ gives realm now (if is_answered_unnamed other p then answered_by a (accounting_answer secret p)
+      else accounted other secret a s p (realm_of other p.attributes))
+  acct-same secret a s p =
+      acct-given realm now one secret a s p
+      ∙ (λ i. where_accounted realm now (takes-same s i) (accounting-same i) (size-same s p i) secret a s p
+      (realm-alike p.attributes i))
+      ∙ sym (acct-given realm now other secret a s p)
 
   route-same : (secret : List ℕ) (a : Arrival) (s : Side) (p : Packet) (at : Place) →
       ((k : ℕ) → at ≡ place.Reverse k → k ≡ realm) →
       gives realm now (route_request one secret a s p at) ≡ gives realm now (route_request other secret a s p at)
   route-same secret a s p (place.Reverse k) own_place =
-      rw (own_place k refl) (own-forwarded realm now a s p (realm_of one p.attributes) (realm_of other p.attributes)
-      (realm-alike p.attributes))
+      rw (own_place k refl)
+      (ap (λ (size : ℕ). gives realm now (forwarded_for size a s p realm (realm_of one p.attributes))) (size-same s p)
+      ∙ own-forwarded realm now (sent_length other s p realm) a s p (realm_of one p.attributes)
+      (realm_of other p.attributes) (realm-alike p.attributes))
   route-same secret a s p place.Auth own_place =
       let bad = has_bad_password p in
-      auth-given realm now secret a s p bad (has_too_many_hops one.max_hops p) (realm_of one p.attributes)
-      ∙ ap (λ (means : Bool). if bad || has_too_many_hops one.max_hops p then [] else where_named realm now a s p
-      means) (realm-alike p.attributes)
-      ∙ ap (λ (most : Option ℕ). if bad || has_too_many_hops most p then [] else where_named realm now a s p
-      (is_realm realm (realm_of other p.attributes))) agree.max_hops
-      ∙ sym (auth-given realm now secret a s p bad (has_too_many_hops other.max_hops p) (realm_of other p.attributes))
-  route-same secret a s p place.Acct own_place = named-same a s p
-  route-same secret a s p (place.Out k) own_place = named-same a s p
+      auth-given realm now one secret a s p bad (has_too_many_hops one.max_hops p) (realm_of one p.attributes)
+      ∙ (λ i. if bad || has_too_many_hops (agree.max_hops i) p then []
+      else where_asked realm now (takes-same s i) (size-same s p i) a s p (realm-alike p.attributes i))
+      ∙ sym (auth-given realm now other secret a s p bad (has_too_many_hops other.max_hops p)
+      (realm_of other p.attributes))
+  route-same secret a s p place.Acct own_place = acct-same secret a s p
+  route-same secret a s p (place.Out k) own_place = acct-same secret a s p
 
-  seal-same : (s : Side) → seal_required one s ≡ seal_required other s
-  seal-same (side.Peer i) = rw agree.peers refl
-  seal-same (side.Home i) = refl
-  seal-same (side.Link l) = refl
+  seal-same : (s : Side) (p : Packet) → seal_required one s p ≡ seal_required other s p
+  seal-same (side.Peer i) p = rw agree.peers refl
+  seal-same (side.Home i) p = refl
+  seal-same (side.Link l) p = refl
 
   -- what a request gives, by what it goes to
   abbrev asked : List ℕ → Packet → Bool → Option ℕ → Admission → Admission
@@ -229,9 +335,9 @@ module _ (one other : ConfigView) (realm now : ℕ) (agree : AgreeFor one other 
       gives realm now (request_admission one secret a s p) ≡ gives realm now (request_admission other secret a s p)
   request-same secret a s p own_place =
       let goes = route_request one secret a s p a.at in
-      ap (λ (required : Bool). gives realm now (asked secret p required one.max_hops goes)) (seal-same s)
-      ∙ ap (λ (most : Option ℕ). gives realm now (asked secret p (seal_required other s) most goes)) agree.max_hops
-      ∙ asked-same secret p (seal_required other s) other.max_hops goes (route_request other secret a s p a.at)
+      ap (λ (required : Bool). gives realm now (asked secret p required one.max_hops goes)) (seal-same s p)
+      ∙ ap (λ (most : Option ℕ). gives realm now (asked secret p (seal_required other s p) most goes)) agree.max_hops
+      ∙ asked-same secret p (seal_required other s p) other.max_hops goes (route_request other secret a s p a.at)
       (route-same secret a s p a.at own_place)
 
   -- a request of a peer, and of a home server of the realm

@@ -8,10 +8,10 @@ use Rattle.roam_wire.specs.Packet.{Attribute}
 use Rattle.roam_wire.specs.Attributes.{first_value}
 use Rattle.roam_wire.specs.Reading.{packet_of}
 use Rattle.roam_wire.specs.declared.attribute_type.TheConstants.{ACCT_SESSION_ID, USER_NAME}
-use Rattle.roam_conf.specs.Config.{PeerView}
+use Rattle.roam_conf.specs.Config.{PeerView, RealmView}
 use Rattle.roam_reverse.specs.Causes.{cause, cause_at_target, cause_by_name, cause_by_salt}
 use Rattle.roam_reverse.specs.Sessions.{Session}
-use Rattle.roam_reverse.specs.Target.{target}
+use Rattle.roam_reverse.specs.Target.{target_in}
 use Rattle.roam_pending.specs.PlainEntry.{PlainRequest, PlainEntry}
 use Rattle.roam_pending.specs.EntryList.{find_client}
 use Rattle.roam_book.specs.RealmConfig.{RealmConfig}
@@ -60,18 +60,18 @@ at_target realm m n attributes sessions (Some peer) same =
     ap (λ (o : Option ℕ). option_or o (cause_by_salt attributes))
     (by_name realm peer sessions m n (first_value USER_NAME attributes) (first_value ACCT_SESSION_ID attributes) same)
 
-cause-same : (peers : List PeerView) (realm : ℕ) (m n : Option ℕ) (attributes : List Attribute)
-    (sessions : List Session) → is_realm realm m ≡ is_realm realm n →
-    cause peers realm m attributes sessions ≡ cause peers realm n attributes sessions
+cause-same : (entry : Option RealmView) (peers : List PeerView) (realm : ℕ) (m n : Option ℕ)
+    (attributes : List Attribute) (sessions : List Session) → is_realm realm m ≡ is_realm realm n →
+    cause entry peers realm m attributes sessions ≡ cause entry peers realm n attributes sessions
 unfolding cause
-cause-same peers realm m n attributes sessions same =
-    at_target realm m n attributes sessions (target peers attributes) same
+cause-same entry peers realm m n attributes sessions same =
+    at_target realm m n attributes sessions (target_in entry peers attributes) same
 
 reverse-same : (c : RealmConfig) (s : RealmState) (m n : Option ℕ) (q : PlainRequest) →
     is_realm c.index m ≡ is_realm c.index n → reverse_cause c s m q ≡ reverse_cause c s n q
 reverse-same c s m n q same =
     ap (λ (o : Option ℕ). if is_reverse q then o else None)
-    (cause-same c.peers c.index m n (packet_of q.octets).attributes s.sessions same)
+    (cause-same (Some c.realm) c.peers c.index m n (packet_of q.octets).attributes s.sessions same)
 
 of_key-same : (c : RealmConfig) (now : ℕ) (s : RealmState) (m n : Option ℕ) (q : PlainRequest)
     (found : Option PlainEntry) → reverse_cause c s m q ≡ reverse_cause c s n q →

@@ -21,7 +21,7 @@ use Rattle.roam_book.specs.RealmState.{RealmState}
 use Rattle.roam_book.specs.Turn.{packets_of}
 use Rattle.roam_book.specs.OnRequest.{packet_to_requester}
 use Rattle.roam_back.specs.ReplyCheck.{reply_fault}
-use Rattle.roam_book.specs.OnReply.{returned_octets, returning, return_reply, judge, to_standing, to_entry, on_reply}
+use Rattle.roam_book.specs.OnReply.{judge, on_reply, passing_to, return_reply, returned_octets, returning, to_entry, to_standing}
 use Rattle.roam_book.specs.OneRealm.{RealmEvent, reply_came}
 use Rattle.roam_book.specs.declared.state.start.Start.{Start}
 use Rattle.roam_core.specs.Provenance.{IsSentBy, IsReturned, WaitsFor, StandsFrom, ComesFrom}
@@ -114,7 +114,7 @@ module _ (c : RealmConfig) (start : Start) (before : List RealmEvent) (now : ℕ
       let event = reply_came now from reply in
       let octets = returned_octets c e.request from (packet_of forwarded) (packet_of reply) in
       let how = returning c e.request from (packet_of forwarded) in
-      let length = returned_length how (packet_of reply) (packet_of e.request.octets) in
+      let length = returned_length how (passing_to c e.request (packet_of reply)) (packet_of e.request.octets) in
       let settled = with_standing (done octets (now + c.realm.hold)) e in
       elim (cases_Bool (ltb 4096 length)) [
         | inl y ↦ rw y (record { packets = tt; entries = still })

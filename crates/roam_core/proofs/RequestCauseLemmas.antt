@@ -16,8 +16,9 @@ use Rattle.roam_pending.specs.Realms.{with_standing}
 use Rattle.roam_book.specs.RealmConfig.{RealmConfig, link_secret, seal_required}
 use Rattle.roam_book.specs.RealmState.{RealmState, Target, chosen_target}
 use Rattle.roam_book.specs.Turn.{Turn, refuses, sends, packets_of, state_after, in_time}
+use Rattle.roam_book.specs.Shares.{share_taken}
 use Rattle.roam_book.specs.OnRequest.{packet_to_requester, forwarded_entry, admit, make_way, at_target, nak_octets, nak_or_new, new_request, of_key, held_reply, reverse_cause, targets}
-use Rattle.roam_book.specs.OnReply.{returned_octets, returning, return_reply, judge, to_standing, to_entry}
+use Rattle.roam_book.specs.OnReply.{judge, passing_to, return_reply, returned_octets, returning, to_entry, to_standing}
 use Rattle.roam_core.specs.Amplification.{Ends, counted, counted_back, counted_links, may_cause, may_follow}
 use Rattle.roam_core.proofs.SentLemmas.{either}
 use Rattle.roam_core.proofs.SumLemmas.{FitsIn, chosen-holds, found-in, sum-filter, sum-put, sum-replaced, targets-fit}
@@ -101,7 +102,8 @@ module _ (c : RealmConfig) (ends : Ends) (looked : ℕ → Bool) (tries : 1 ≤ 
       let fits : (t : Target) → chosen ≡ Some t → Fits q t =
       λ t at. chosen-holds (FitsIn c ends m) c now s.rests s.cursors es (targets c q) t (targets-fit c ends q) at in
       either (Pays s q) (eqb s.ticket (2 ^ 63)) _ _ (refuses-pays s q refusal.Exhausted)
-      (at_target-pays now s es q chosen fewer fits)
+      (either (Pays s q) (share_taken c es q) _ _ (refuses-pays s q refusal.ShareTaken)
+      (at_target-pays now s es q chosen fewer fits))
 
   nak_or_new-pays :
       (now : ℕ) (s : RealmState) (q : PlainRequest) (why : Option ℕ) → Pays s q (nak_or_new c now s q why)
@@ -162,7 +164,8 @@ module _ (c : RealmConfig) (ends : Ends) (looked : ℕ → Bool) (tries : 1 ≤ 
       let sent = ap (guard b) (back_of c ends looked tries e.request.key back_octets) in
       let enough = more b (counted_back ends e.request.key) might (omega (arith, old)) in
       either (Answers s (Some e))
-      (ltb 4096 (returned_length (returning c e.request l forwarded) reply (packet_of e.request.octets))) _ _
+      (ltb 4096 (returned_length (returning c e.request l forwarded) (passing_to c e.request reply)
+      (packet_of e.request.octets))) _ _
       (refuses-answers s (Some e) refusal.ReplyTooLong) (omega (arith, replaced, sent, enough, nothing b))
 
   judge-answers :

@@ -17,6 +17,7 @@ use Rattle.roam_book.specs.RealmConfig.{RealmConfig, later_targets, link_secret,
 use Rattle.roam_book.specs.Rests.{after_silence}
 use Rattle.roam_book.specs.RealmState.{RealmState, Target, chosen_target}
 use Rattle.roam_book.specs.Turn.{Turn, refuses, sends, packets_of, in_time}
+use Rattle.roam_book.specs.Shares.{share_taken}
 use Rattle.roam_book.specs.OnRequest.{packet_to_requester, admit, make_way, at_target, new_request, held_reply, first_seen, is_reverse, nak_octets, nak_or_new, of_key, on_request, reverse_cause, targets}
 use Rattle.roam_book.specs.OnReply.{return_reply, judge, to_standing, to_entry, reply_fault, on_reply}
 use Rattle.roam_book.specs.OnTick.{Progress, silent, fail_over, without_entry, due_standing, due_entry, due_one, due_each, as_turn, on_tick, given_up_at}
@@ -77,9 +78,14 @@ new_request_for : (c : RealmConfig) (now : ℕ) (s : RealmState) (entries : List
     SendsFor c.index (new_request c now s entries q)
 new_request_for c now s entries q =
     let target = chosen_target c now s.rests s.cursors entries (targets c q) in
+    let chosen : Turn =
+    if share_taken c entries q then refuses refusal.ShareTaken else at_target c now s entries q target in
     either (SendsFor c.index) (s.ticket == 2 ^ 63)
-    (refuses refusal.Exhausted) (at_target c now s entries q target)
-    (refuses_for c.index refusal.Exhausted) (at_target_for c now s entries q target)
+    (refuses refusal.Exhausted) chosen
+    (refuses_for c.index refusal.Exhausted)
+    (either (SendsFor c.index) (share_taken c entries q)
+    (refuses refusal.ShareTaken) (at_target c now s entries q target)
+    (refuses_for c.index refusal.ShareTaken) (at_target_for c now s entries q target))
 
 held_reply_for : (c : RealmConfig) (key : Key) (standing : PlainStanding) (s : RealmState) →
     SendsFor c.index (sends (held_reply c key standing) s)

@@ -16,9 +16,10 @@ use Rattle.roam_book.specs.RealmConfig.{RealmConfig, later_targets, link_secret,
 use Rattle.roam_book.specs.Rests.{after_silence}
 use Rattle.roam_book.specs.RealmState.{RealmState, Target, chosen_target}
 use Rattle.roam_book.specs.Turn.{Turn, state_after, in_time}
+use Rattle.roam_book.specs.Shares.{share_taken}
 use Rattle.roam_book.specs.OnRequest.{make_way, at_target, is_reverse, nak_or_new, new_request, of_key, reverse_cause, targets}
 use Rattle.roam_back.specs.ReplyCheck.{reply_fault}
-use Rattle.roam_book.specs.OnReply.{returning, judge, to_standing, to_entry}
+use Rattle.roam_book.specs.OnReply.{judge, passing_to, returning, to_entry, to_standing}
 use Rattle.roam_book.specs.OnTick.{Progress, fail_over, once_refused, due_standing, due_entry, due_one, due_each, as_turn, given_up_at}
 use Rattle.roam_book.specs.OneRealm.{RealmEvent, request_came, reply_came, tick_came, on_event}
 use Rattle.roam_book.specs.declared.state.start.Start.{Start}
@@ -51,7 +52,8 @@ new_request-rises : (c : RealmConfig) (now : ℕ) (s : RealmState) (es : List Pl
     Rises s (new_request c now s es q)
 new_request-rises c now s es q =
     either (Rises s) (eqb s.ticket (2 ^ 63)) _ _ (stays s)
-    (at_target-rises c now s es q (chosen_target c now s.rests s.cursors es (targets c q)))
+    (either (Rises s) (share_taken c es q) _ _ (stays s)
+    (at_target-rises c now s es q (chosen_target c now s.rests s.cursors es (targets c q))))
 
 nak_or_new-rises : (c : RealmConfig) (now : ℕ) (s : RealmState) (q : PlainRequest) (why : Option ℕ) →
     Rises s (nak_or_new c now s q why)
@@ -73,7 +75,7 @@ judge-rises : (c : RealmConfig) (now : ℕ) (s : RealmState) (e : PlainEntry) (l
     (why : Option Refusal) → Rises s (judge c now s e l forwarded reply why)
 judge-rises c now s e l forwarded reply (Some why) = stays s
 judge-rises c now s e l forwarded reply None =
-    either (Rises s) (ltb 4096 (returned_length (returning c e.request l forwarded) reply
+    either (Rises s) (ltb 4096 (returned_length (returning c e.request l forwarded) (passing_to c e.request reply)
     (packet_of e.request.octets))) _ _
     (stays s) (stays s)
 

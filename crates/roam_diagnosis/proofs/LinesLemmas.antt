@@ -9,11 +9,14 @@ use Rattle.roam_diagnosis.specs.Lines.{printed}
 printed-append : (xs ys : List (List ℕ)) → printed (xs ++ ys) ≡ printed xs ++ printed ys
 printed-append [] ys = refl
 printed-append (line ∷ rest) ys =
-    ap (λ text. line ++ 10 ∷ [] ++ text) (printed-append rest ys) ∙ sym (append_assoc (line ++ 10 ∷ []) (printed rest) (printed ys))
+    ap (λ text. line ++ 10 ∷ [] ++ text) (printed-append rest ys)
+    ∙ sym (append_assoc (line ++ 10 ∷ []) (printed rest) (printed ys))
 
 -- one more line was printed
-pub printed_next : (lines : List (List ℕ)) (line : List ℕ) (i : ℕ) (old now new : Option (List ℕ)) → i < length lines → line ≡ get_or lines i line
-    → Appends old now (printed (take i lines)) → Appends now new (printed (line ∷ [])) → Appends old new (printed (take (i + 1) lines))
+pub printed_next : (lines : List (List ℕ)) (line : List ℕ) (i : ℕ) (old now new : Option (List ℕ)) → i < length lines
+    → line ≡ get_or lines i line
+    → Appends old now (printed (take i lines)) → Appends now new (printed (line ∷ [])) →
+    Appends old new (printed (take (i + 1) lines))
 printed_next lines line i old now new within is before here =
     let more : take (i + 1) lines ≡ take i lines ++ line ∷ [] =
     take_more lines i line within ∙ ap (λ l. take i lines ++ l ∷ []) (sym is) in

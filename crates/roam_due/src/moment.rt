@@ -46,8 +46,8 @@ fn narrowed<A: Allocator + Copy>(
     (few, middle)
 }
 
-/// Between a moment at which few entries are due and a later one at which some are, the last moment at which few are: or
-/// the first at which any is, where those are many.
+/// Between a moment at which few entries are due and a later one at which some are, the last moment at which few are:
+/// or the first at which any is, where those are many.
 fn parted<A: Allocator + Copy>(shard: &Shard<'_, A>, quiet: u64, now: u64) -> u64
     requires quiet { NothingDue quiet shard.now.states }
     requires due { NothingDue now shard.now.states → ⊥ }
@@ -68,9 +68,9 @@ fn parted<A: Allocator + Copy>(shard: &Shard<'_, A>, quiet: u64, now: u64) -> u6
 }
 
 /// The moment of a tick of a shard in which something is due at `now`, in milliseconds: `now`, where few entries are
-/// due. Else the last moment at which few were, or the first at which any was. What has been due for long is worked off
-/// at `now`, however much it is: at the moments of long ago a request would be due again at once, and be sent twice in a
-/// row.
+/// due. Else the last moment at which few were, or the first at which any was. What has been due for long is worked
+/// off at `now`, however much it is: at the moments of long ago a request would be due again at once, and be sent
+/// twice in a row.
 pub fn moment_of_tick<A: Allocator + Copy>(shard: &Shard<'_, A>, now: u64) -> u64
     requires { NothingDue now shard.now.states → ⊥ }
     ensures { IsTickMoment now shard.now.states result }

@@ -116,6 +116,12 @@ growth-other s q h =
 
 -- ---- in the buffer
 
+-- a header has 20 octets
+pub length-header : (old once : List ℕ) (code id high low : ℕ) (authenticator : List ℕ) →
+    once ≡ old ++ (code ∷ id ∷ high ∷ low ∷ authenticator) → length authenticator ≡ 16 → length once ≡ length old + 20
+length-header old once code id high low authenticator is size =
+    omega (arith, size, ap length is, length-append old (code ∷ id ∷ high ∷ low ∷ authenticator))
+
 -- a shaped request behind a buffer's octets: its header, what passes, what is added
 pub shaped-text : (old : List ℕ) (s : Shaping) (q : Packet) (size : ℕ) (added : List Attribute) →
     size ≡ packet_length (shaped s q) → added ≡ all_added s q →

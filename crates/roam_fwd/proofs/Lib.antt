@@ -7,3 +7,4 @@ pub mod CarriedLemmas
 pub mod ShapedLemmas
 pub mod AddedLemmas
 pub mod ShapedLawLemmas
+pub mod ShorterLemmas

@@ -30,5 +30,5 @@ pub use laws::{
 };
 pub use length::{MAX_GROWTH, forwarded_len};
 pub use shaped::{forward_shaped_reserved, forwarded_shaped_len};
-pub use shaping::Shaping;
+pub use shaping::{Shaping, no_shaping};
 pub use terms::Forwarding;

@@ -1,6 +1,9 @@
 //! What a peer and a realm have done to a request.
 
-use roam_filter::Removal;
+ghost use Rattle.std.specs.Prelude.{◌≡◌};
+ghost use Rattle.roam_fwd.specs.Shaped.{no_shaping, shown_shaping};
+
+use roam_filter::{Removal, nothing_removed};
 
 /// What a peer and a realm have done to a request that is forwarded.
 #[derive(Clone, Copy)]
@@ -11,4 +14,15 @@ pub struct Shaping<'a> {
     pub operator_name: Option<&'a [u8]>,
     /// Whether a Chargeable-User-Identity is asked for (RFC 4372, section 2.1).
     pub ask_cui: bool,
+}
+
+/// Nothing is done to a request.
+pub fn no_shaping() -> Shaping<'static>
+    ensures { shown_shaping result ≡ no_shaping }
+{
+    Shaping {
+        removal: nothing_removed(),
+        operator_name: None,
+        ask_cui: false,
+    }
 }

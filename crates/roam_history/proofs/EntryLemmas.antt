@@ -3,7 +3,7 @@ use Rattle.std.proofs.Common.{◌≡◌, true, false, Some, None, ◌+◌, ◌�
 use Rattle.std.proofs.lemmas.List.{append-nil, length-append}
 use mathlib.Core.List.{IsPrefix}
 use Rattle.roam_trace.specs.Steps.{PlainStep}
-use Rattle.roam_history.specs.Entries.{ClosesLast, HistoryEntry, IsOpen, IsWhole, closed_entry, gone_after, gone_of, last_of, let_go_entry, step_entry, steps_in, stored_after, stored_of}
+use Rattle.roam_history.specs.Entries.{ClosesLast, HistoryEntry, IsOpen, IsWhole, closed_entry, gone_after, gone_of, last_of, let_go_entry, step_entry, steps_in, stored_after, stored_of, times_let_go}
 
 pub steps-append : (xs ys : List HistoryEntry) → steps_in (xs ++ ys) ≡ steps_in xs ++ steps_in ys
 steps-append [] ys = refl
@@ -16,6 +16,18 @@ steps-few [] = omega arith
 steps-few (Some (Some s) ∷ es) = (let few = steps-few es in omega (arith, few))
 steps-few (Some None ∷ es) = (let few = steps-few es in omega (arith, few))
 steps-few (None ∷ es) = (let few = steps-few es in omega (arith, few))
+
+pub times-append : (xs ys : List HistoryEntry) → times_let_go (xs ++ ys) ≡ times_let_go xs + times_let_go ys
+times-append [] ys = omega arith
+times-append (Some (Some s) ∷ xs) ys = times-append xs ys
+times-append (Some None ∷ xs) ys = (let more = times-append xs ys in omega (arith, more))
+times-append (None ∷ xs) ys = times-append xs ys
+
+pub times-few : (es : List HistoryEntry) → times_let_go es ≤ length es
+times-few [] = omega arith
+times-few (Some (Some s) ∷ es) = (let few = times-few es in omega (arith, few))
+times-few (Some None ∷ es) = (let few = times-few es in omega (arith, few))
+times-few (None ∷ es) = (let few = times-few es in omega (arith, few))
 
 pub stored-append : (st : List PlainStep) (xs ys : List HistoryEntry) →
     stored_after st (xs ++ ys) ≡ stored_after (stored_after st xs) ys
@@ -142,3 +154,20 @@ pub counts_step : (es : List HistoryEntry) (ss : List PlainStep) (s : PlainStep)
 counts_step es ss s is =
     ap (λ (e : HistoryEntry). length (steps_in (es ++ e ∷ []))) is
     ∙ (ap length (one-step es s) ∙ length-append (steps_in es) (s ∷ []))
+
+-- which says of no letting go
+pub keeps_times : (es : List HistoryEntry) (ss : List PlainStep) (s : PlainStep) → last_of ss ≡ step_entry s
+    → times_let_go (es ++ last_of ss ∷ []) ≡ times_let_go es
+keeps_times es ss s is =
+    let more : times_let_go (es ++ step_entry s ∷ []) ≡ times_let_go es + 0 = times-append es (step_entry s ∷ []) in
+    ap (λ (e : HistoryEntry). times_let_go (es ++ e ∷ [])) is ∙ omega (arith, more)
+
+-- nor does one that closes the history
+pub closed-times : (es : List HistoryEntry) → times_let_go (es ++ closed_entry ∷ []) ≡ times_let_go es
+closed-times es =
+    let more : times_let_go (es ++ closed_entry ∷ []) ≡ times_let_go es + 0 = times-append es (closed_entry ∷ []) in
+    omega (arith, more)
+
+-- one letting go more
+pub once_more : (es : List HistoryEntry) → times_let_go (es ++ let_go_entry ∷ []) ≡ times_let_go es + 1
+once_more es = times-append es (let_go_entry ∷ [])

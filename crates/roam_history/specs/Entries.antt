@@ -1,6 +1,6 @@
 -- What is written in the one history of a shard (ours): its steps, where the stored ones were let go of, and that it is
 -- closed.
-use Rattle.std.specs.Prelude.{◌≡◌, Bool, true, false, List, [], ◌∷◌, ◌++◌, Option, Some, None}
+use Rattle.std.specs.Prelude.{◌≡◌, ◌+◌, ℕ, Bool, true, false, List, [], ◌∷◌, ◌++◌, Option, Some, None}
 use Rattle.roam_trace.specs.Steps.{PlainStep}
 
 -- ## One history of a shard
@@ -10,9 +10,9 @@ use Rattle.roam_trace.specs.Steps.{PlainStep}
 -- ghost book it is follows from what the hub was opened with.
 -- Source: ours
 -- Rules out: a call that answers from a history of its own; steps that are invented at the end
--- Stands in: `roam_history` `Entries.antt`: `HistoryEntry`, `steps_in`, `stored_of`, `gone_of`; `Rules.antt`:
--- `IsKept`, `Adds`; `Fronts.antt`: `FrontView`, `AreOfShards`; `Books.antt`: `books_of`; `Front::with_step`,
--- `without_steps`, `begins`
+-- Stands in: `roam_history` `Entries.antt`: `HistoryEntry`, `steps_in`, `times_let_go`, `stored_of`, `gone_of`;
+-- `Rules.antt`: `IsKept`, `Adds`; `Fronts.antt`: `FrontView`, `AreOfShards`; `Books.antt`: `books_of`;
+-- `Front::with_step`, `without_steps`, `begins`
 --
 -- an entry: a step; or that the steps that were stored were let go of; or that the history is closed
 abbrev pub HistoryEntry : Type 0
@@ -33,6 +33,13 @@ steps_in [] = []
 steps_in (Some (Some s) ∷ es) = s ∷ steps_in es
 steps_in (Some None ∷ es) = steps_in es
 steps_in (None ∷ es) = steps_in es
+
+-- how often the stored ones were let go of
+abbrev pub times_let_go : List HistoryEntry → ℕ
+times_let_go [] = 0
+times_let_go (Some (Some s) ∷ es) = times_let_go es
+times_let_go (Some None ∷ es) = times_let_go es + 1
+times_let_go (None ∷ es) = times_let_go es
 
 -- the stored steps after some entries, where these ones were stored before
 abbrev pub stored_after : List PlainStep → List HistoryEntry → List PlainStep

@@ -2,7 +2,7 @@
 
 ghost use Rattle.std.specs.Prelude.{◌≡◌, ◌-◌, ◌<◌, ◌^◌, ◌++◌, ◌∷◌, ◌↔◌, [], None, false, length, true, IfSome};
 ghost use mathlib.Core.List.{IsPrefix};
-ghost use Rattle.roam_history.specs.Entries.{IsOpen, IsWhole, closed_entry, last_of, let_go_entry, step_entry, steps_in};
+ghost use Rattle.roam_history.specs.Entries.{IsOpen, IsWhole, closed_entry, last_of, let_go_entry, step_entry, steps_in, times_let_go};
 ghost use Rattle.roam_trace.specs.Steps.{PlainStep};
 
 use crate::head::Head;
@@ -14,7 +14,7 @@ use std::alloc::Allocator;
 use std::marker::{Model, PhantomData};
 
 /// Front: a beginning of a shard's one history that was seen. Contracts see of which shard, and the
-/// entries. At run time it is three numbers.
+/// entries. At run time it is four numbers.
 #[derive(Drop)]
 pub struct Front<N: Opened> {
     shard: u16,
@@ -22,13 +22,15 @@ pub struct Front<N: Opened> {
     entries: u64,
     /// How many of them are steps.
     steps: u64,
+    /// How many of them say that the stored steps were let go of.
+    times: u64,
     seen: Seen<HistoryEntry, u64, OneHistory>,
     hub: PhantomData<N>,
 }
 
 impl<N: Opened> Model for Front<N> {
     ghost use Rattle.std.specs.Prelude.{◌≡◌, length};
-    ghost use Rattle.roam_history.specs.Entries.{steps_in};
+    ghost use Rattle.roam_history.specs.Entries.{steps_in, times_let_go};
     ghost use Rattle.roam_history.specs.Fronts.{FrontView};
 
     ghost Value = { FrontView };
@@ -37,12 +39,13 @@ impl<N: Opened> Model for Front<N> {
 
     ghost invariant = { λ f. (f.entries ≡ length f.seen.log)
         × (f.steps ≡ length (steps_in f.seen.log))
-        × (f.seen.book ≡ N.books f.shard) };
+        × (f.seen.book ≡ N.books f.shard)
+        × (f.times ≡ times_let_go f.seen.log) };
 }
 
 /// Adds an entry to all that was seen of a history, which isn't closed there, where no more was ever added: what is
-/// seen then. None where more was: nothing is added then. The one step of all this that threads share: a word is compared
-/// and exchanged.
+/// seen then. None where more was: nothing is added then. The one step of all this that threads share: a word is
+/// compared and exchanged.
 fn added<N: Opened, X, M: Plain<X, HistoryEntry, u64>>(
     head: &Head<N>,
     seen: &Seen<HistoryEntry, u64, OneHistory>,
@@ -79,6 +82,7 @@ impl<N: Opened> Front<N> {
             shard,
             entries: 0,
             steps: 0,
+            times: 0,
             seen,
             hub: PhantomData,
         }
@@ -89,6 +93,13 @@ impl<N: Opened> Front<N> {
         ensures { result ≡ length (steps_in self.now.entries) }
     {
         self.steps
+    }
+
+    /// How often the stored steps were let go of. Takes no memory.
+    pub fn times_let_go(&self) -> u64
+        ensures { result ≡ times_let_go self.now.entries }
+    {
+        self.times
     }
 
     /// How many entries it has. Takes no memory.
@@ -113,6 +124,7 @@ impl<N: Opened> Front<N> {
             shard: self.shard,
             entries: self.entries,
             steps: self.steps,
+            times: self.times,
             seen: self.seen.again(),
             hub: PhantomData,
         }
@@ -164,6 +176,7 @@ impl<N: Opened> Front<N> {
             shard: self.shard,
             entries: self.entries + 1,
             steps: self.steps + 1,
+            times: self.times,
             seen,
             hub: PhantomData,
         })
@@ -184,6 +197,7 @@ impl<N: Opened> Front<N> {
             shard: self.shard,
             entries: self.entries + 1,
             steps: self.steps,
+            times: self.times + 1,
             seen,
             hub: PhantomData,
         })
@@ -203,6 +217,7 @@ impl<N: Opened> Front<N> {
             shard: self.shard,
             entries: self.entries + 1,
             steps: self.steps,
+            times: self.times,
             seen,
             hub: PhantomData,
         })

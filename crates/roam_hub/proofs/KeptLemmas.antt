@@ -14,7 +14,7 @@ use Rattle.roam_history.specs.Fronts.{FrontView}
 use Rattle.roam_history.specs.HubOpening.{HubOpening, opening_at}
 use Rattle.roam_history.proofs.EntryLemmas.{all-gone, all-steps, closed-steps, last-push, none-stored, one-step, one-stored, open-gone, open-step, same-gone, same-steps}
 use Rattle.roam_history.proofs.Prefixes.{prefix_length, prefix_trans}
-use Rattle.roam_audit.specs.Seats.{SeatView, after_call, front_of, having_seen}
+use Rattle.roam_audit.specs.Seats.{SeatView, after_call, after_letting_go, front_of, having_seen}
 use Rattle.roam_audit.proofs.PrefixLemmas.{steps_begin}
 use Rattle.roam_hub.specs.Calls.{AreGone, IsCall, IsDueCall, IsFull, IsLook, Sees}
 use Rattle.roam_hub.specs.Keeping.{IsKept, KeptView}
@@ -36,14 +36,13 @@ sees_set shard old new es is lt pre = record {
 }
 
 -- a seat that has then seen the whole history of a shard
-pub sees_whole : (shard : ℕ) (old new : SeatView) (es : List HistoryEntry) → new ≡ having_seen old shard es →
-    shard < length old.fronts → IsPrefix (front_of old shard) es
+pub sees_whole : (shard : ℕ) (old new : SeatView) (es : List HistoryEntry)
+    → new.fronts ≡ slice_set old.fronts shard es → shard < length old.fronts → IsPrefix (front_of old shard) es
     → (front_of new shard ≡ es) × Sees shard old new
-sees_whole shard old new es is lt pre =
-    let fronts = ap (λ (s : SeatView). s.fronts) is in (
-      ap (λ (fs : List (List HistoryEntry)). slice_index_or fs shard []) fronts ∙ front_same old.fronts shard es lt,
-      sees_set shard old new es fronts lt pre,
-    )
+sees_whole shard old new es fronts lt pre = (
+  ap (λ (fs : List (List HistoryEntry)). slice_index_or fs shard []) fronts ∙ front_same old.fronts shard es lt,
+  sees_set shard old new es fronts lt pre,
+)
 
 -- where its trace begins
 begins : (o : HubOpening) (k : KeptView) → IsKept o k →
@@ -234,12 +233,12 @@ recorded o k t f s shard number old new kept r =
 pub gone_of_shard : (o : HubOpening) (k : KeptView) (shard : ℕ) (old new : SeatView) (steps : List PlainStep) →
     IsKept o k
     → k.front.shard ≡ shard → shard < length old.fronts → IsPrefix (front_of old shard) k.front.entries
-    → steps ≡ k.trace.steps → new ≡ having_seen old shard (k.front.entries ++ let_go_entry ∷ [])
+    → steps ≡ k.trace.steps → new ≡ after_letting_go old shard (k.front.entries ++ let_go_entry ∷ [])
     → AreGone o shard old new steps × Sees shard old new
 gone_of_shard o k shard old new steps kept here there begins are seen =
     let es = k.front.entries in
     let whole = es ++ let_go_entry ∷ [] in
-    let both = sees_whole shard old new whole seen there
+    let both = sees_whole shard old new whole (ap (λ (x : SeatView). x.fronts) seen) there
     (prefix_trans (front_of old shard) es whole begins (let_go_entry ∷ [], refl)) in
     let history : IsHistory (opening_at o shard) (steps_in es) =
     subst (λ (n : ℕ). IsHistory (opening_at o n) (steps_in es)) here (whole_history o k kept) in (
@@ -250,6 +249,7 @@ gone_of_shard o k shard old new steps kept here there begins are seen =
         history = subst (λ (l : List PlainStep). IsHistory (opening_at o shard) l)
             (sym (ap (λ (l : List HistoryEntry). steps_in l) both.0 ∙ same-steps es)) history;
         tallies = ap (λ (x : SeatView). x.tallies) seen;
+        times = ap (λ (x : SeatView). x.times) seen;
       },
       both.1,
     )
@@ -260,7 +260,7 @@ pub look : (o : HubOpening) (k : KeptView) (shard now : ℕ) (old new : SeatView
     → (due ≡ false ↔ NothingDue now k.trace.states) → new ≡ having_seen old shard k.front.entries
     → IsLook o shard now old new due × Sees shard old new
 look o k shard now old new due kept here there begins is seen =
-    let both = sees_whole shard old new k.front.entries seen there begins in
+    let both = sees_whole shard old new k.front.entries (ap (λ (x : SeatView). x.fronts) seen) there begins in
     let history = subst (λ (n : ℕ). IsHistory (opening_at o n) (steps_in k.front.entries)) here
     (whole_history o k kept) in
     let end = whole_end o k kept ∙ ap (λ (n : ℕ). end_of (opening_at o n) (steps_in k.front.entries)) here in (
@@ -302,7 +302,7 @@ pub full : (o : HubOpening) (k : KeptView) (shard : ℕ) (old new : SeatView) �
     → k.front.shard ≡ shard → shard < length old.fronts → IsPrefix (front_of old shard) k.front.entries
     → new ≡ having_seen old shard k.front.entries → length k.trace.steps ≡ k.trace.limit → IsFull o shard new
 full o k shard old new kept here there begins seen all =
-    let both = sees_whole shard old new k.front.entries seen there begins in
+    let both = sees_whole shard old new k.front.entries (ap (λ (x : SeatView). x.fronts) seen) there begins in
     ap (λ (l : List HistoryEntry). length (stored_of l)) both.0 ∙ (ap length (sym kept.stored) ∙ (all ∙ kept.limit))
 
 -- how a realm stands where the history ends

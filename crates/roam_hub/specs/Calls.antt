@@ -13,7 +13,7 @@ use Rattle.roam_trace.specs.History.{IsHistory, end_of}
 use Rattle.roam_trace.specs.Steps.{PlainStep, octets_in, shown_answer}
 use Rattle.roam_history.specs.Entries.{HistoryEntry, let_go_entry, step_entry, steps_in, stored_of}
 use Rattle.roam_history.specs.HubOpening.{HubOpening, opening_at}
-use Rattle.roam_audit.specs.Seats.{SeatView, front_of, noted}
+use Rattle.roam_audit.specs.Seats.{SeatView, front_of, noted, once_more}
 use Rattle.roam_hub.specs.declared.answered.Answered.{Answered}
 use Rattle.roam_hub.specs.declared.answered.Refused.{Refused}
 use Rattle.roam_hub.specs.declared.answered.Ticked.{Ticked}
@@ -34,10 +34,10 @@ HasHistory o shard seat = IsHistory (opening_at o shard) (steps_in (front_of sea
 -- The caller's seat counted it; its step stands at its number in what the seat has then seen of the shard's one
 -- history, as the last one; that is a history from the hub's opening, and begins with all that the seat had
 -- seen. A call that isn't recorded leaves the seat's counts as they were, and gives the job back; whatever it
--- gives, of other shards the seat has seen what it had.
+-- gives, it lets go of no steps, as the seat counts that, and of other shards the seat has seen what it had.
 -- Source: ours
 -- Rules out: a receipt for an answer that no broker gives there; a number of another place; a call that is
--- counted and not recorded
+-- counted and not recorded; one that lets go of steps beside
 -- Stands in: `roam_hub` `Calls.antt`: `IsCall`, `Sees`, `HasHistory`; all of it in one, `Calls`; `Hub::answer`,
 -- `answer_noting`, `submit`, `tick`, `tick_if_due`
 --
@@ -88,12 +88,14 @@ pub record IsLook (o : HubOpening) (shard now : ℕ) (old new : SeatView) (due :
   pub due_is : due ≡ false ↔ NothingDue now (end_of (opening_at o shard) (steps_in (front_of new shard)))
 
 -- ## Steps let go of
--- They are those that were stored, and the history that the seat has then seen ends with the mark for it.
+-- They are those that were stored, the history that the seat has then seen ends with the mark for it, and the seat
+-- counts it. No other call of a seat does.
 -- Source: ours
--- Rules out: a step that is lost, or let go of twice
+-- Rules out: a step that is lost, or let go of twice; a letting go that nobody counts
 -- Stands in: `roam_hub` `Calls.antt`: `AreGone`; `Hub::let_go`
 --
--- the stored steps of a shard were let go of, and are these ones: the seat has seen the history up to there
+-- the stored steps of a shard were let go of, and are these ones: the seat counts it, and has seen the history up to
+-- there
 pub record AreGone (o : HubOpening) (shard : ℕ) (old new : SeatView) (steps : List PlainStep)
     : Type 0 where
   pub before : List HistoryEntry
@@ -101,6 +103,7 @@ pub record AreGone (o : HubOpening) (shard : ℕ) (old new : SeatView) (steps : 
   pub steps_are : steps ≡ stored_of before
   pub history : HasHistory o shard new
   pub tallies : new.tallies ≡ old.tallies
+  pub times : new.times ≡ once_more old.times shard
 
 module _ {A : Type 0} where
   -- the step of an event that was answered so
@@ -130,7 +133,8 @@ module _ {A : Type 0} where
   -- what a call with a job does. Where it was recorded, its step stands in the history of its shard with the answer
   -- that is returned, and the octets are those of the steps that are then stored. Whatever it gives, of that shard's
   -- history alone the seat has seen more. Where it wasn't recorded the seat counts nothing and the job comes back; it
-  -- is full only where as many steps are stored as the trace can hold, and its shard is there
+  -- is full only where as many steps are stored as the trace can hold, and its shard is there. It never lets go of
+  -- stored steps
   pub record Calls (o : HubOpening) (shard now : ℕ) (job : PlainJob) (old new : SeatView)
       (result : Result (Answered A) (Refused A)) : Type 0 where
     pub call : IfOk result
@@ -139,17 +143,19 @@ module _ {A : Type 0} where
     pub octets : IfOk result
         (λ a. a.octets ≡ min (octets_in (stored_of (front_of new a.shard))) (2 ^ 64 - 1))
     pub seen : Sees shard old new
+    pub times : new.times ≡ old.times
     pub err : OnErr result (new.tallies ≡ old.tallies)
     pub back : IfErr result (λ e. shown_job e.job ≡ job)
     pub full : IfErr result (λ e. e.fault ≡ hub.TraceFull → IsFull o shard new)
     pub no_shard : IfErr result (λ e. e.fault ≢ hub.NoShard)
 
   -- what a tick does where something is due, and else a look. Whatever it gives, of that shard's history alone the seat
-  -- has seen more. With an error the seat counts nothing, and it is full only where as many steps are stored as the
-  -- trace can hold
+  -- has seen more, and it lets go of no stored steps. With an error the seat counts nothing, and it is full only where
+  -- as many steps are stored as the trace can hold
   pub record TicksIfDue (o : HubOpening) (shard now : ℕ) (old new : SeatView)
       (result : Result (Option (Ticked A)) HubFault) : Type 0 where
     pub tick : IfOk result (IsTick o shard now old new)
     pub seen : Sees shard old new
+    pub times : new.times ≡ old.times
     pub err : OnErr result (new.tallies ≡ old.tallies)
     pub full : IsErrOf result hub.TraceFull → IsFull o shard new

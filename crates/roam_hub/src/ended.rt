@@ -125,8 +125,8 @@ impl<'c, A: Allocator + Copy, N: Opened> Hub<'c, A, N> {
         kept.take(call, seat, shard, job)
     }
 
-    /// As `tick_if_due`; and it notes of the entries that are due at the tick's moment those that wait and aren't sent to
-    /// their link again, and how they stand after the tick. That takes no memory.
+    /// As `tick_if_due`; and it notes of the entries that are due at the tick's moment those that wait and aren't sent
+    /// to their link again, and how they stand after the tick. That takes no memory.
     ///
     /// # Errors
     ///

@@ -89,6 +89,7 @@ impl<'c, A: Allocator + Copy, N: Opened> Hub<'c, A, N> {
         ensures shard { IfOk result (λ r. r.shard ≡ job.now.realm % N.opening.config.shards) }
         ensures front { IfOk result (λ r. r.front.entries ≡ front_of seat.new r.shard) }
         ensures seen { Sees (job.now.realm % N.opening.config.shards) seat.old seat.new }
+        ensures times { seat.new.times ≡ seat.old.times }
         ensures err { OnErr result (seat.new.tallies ≡ seat.old.tallies) }
         ensures full { IsErrOf result HubFault.TraceFull
             → IsFull N.opening (job.now.realm % N.opening.config.shards) seat.new }
@@ -128,6 +129,7 @@ impl<'c, A: Allocator + Copy, N: Opened> Hub<'c, A, N> {
         ensures shard { IfOk result (λ r. r.shard ≡ shard) }
         ensures front { IfOk result (λ r. r.front.entries ≡ front_of seat.new shard) }
         ensures seen { Sees shard seat.old seat.new }
+        ensures times { seat.new.times ≡ seat.old.times }
         ensures err { OnErr result (seat.new.tallies ≡ seat.old.tallies) }
         ensures full { IsErrOf result HubFault.TraceFull → IsFull N.opening shard seat.new }
         ensures no_shard { IsErrOf result HubFault.NoShard ↔ N.opening.config.shards ≤ shard }
@@ -151,9 +153,9 @@ impl<'c, A: Allocator + Copy, N: Opened> Hub<'c, A, N> {
     /// A tick of a shard where something is due in it at the call's moment, and no receipt. None where nothing is
     /// due: nothing is stored then, and no memory is wanted.
     ///
-    /// Where many entries are due, the tick's moment is an earlier one, at which few were, or the first at which any was;
-    /// only what has been due for long is worked off at once. The caller asks again until no more is due: between two
-    /// calls others have the lock.
+    /// Where many entries are due, the tick's moment is an earlier one, at which few were, or the first at which any
+    /// was; only what has been due for long is worked off at once. The caller asks again until no more is due: between
+    /// two calls others have the lock.
     ///
     /// # Errors
     ///
@@ -186,6 +188,7 @@ impl<'c, A: Allocator + Copy, N: Opened> Hub<'c, A, N> {
     ) -> Result<bool, HubFault>
         ensures look { IfOk result (IsLook N.opening shard now seat.old seat.new) }
         ensures seen { Sees shard seat.old seat.new }
+        ensures times { seat.new.times ≡ seat.old.times }
         ensures err { OnErr result (seat.new ≡ seat.old) }
         ensures causes { IfErr result (λ f. f ≢ HubFault.TraceFull) }
         ensures no_shard { IsErrOf result HubFault.NoShard ↔ N.opening.config.shards ≤ shard }
@@ -197,8 +200,8 @@ impl<'c, A: Allocator + Copy, N: Opened> Hub<'c, A, N> {
     }
 
     /// Lets go of the stored steps of a shard, for whose lock it waits: takes them out, and gives them
-    /// back. All else of the shard stays as it is, and the history goes on. Takes no memory, and a time
-    /// that doesn't grow with the steps.
+    /// back. All else of the shard stays as it is, and the history goes on. The seat counts it. Takes no memory, and a
+    /// time that doesn't grow with the steps.
     ///
     /// # Errors
     ///

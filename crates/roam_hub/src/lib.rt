@@ -19,8 +19,10 @@
 //! - where `tick_if_due` answers none, nothing was due, and the seat counts nothing; where it ticks, something
 //!   was due, at most 64 entries are due at the tick's moment (or they can't be parted, or were due 100 ms ago),
 //!   and it says whether more is due after it | `Hub::tick_if_due`: `TicksIfDue`, its `tick`
-//! - what is let go of is what was stored, and the history goes on with a mark for it | `Hub::let_go`: `gone`,
-//!   `seen`
+//! - what is let go of is what was stored, and the history goes on with a mark for it, which the caller's seat
+//!   counts. No other call of that seat counts one: so a call that lets go of steps by itself is refused, or, by
+//!   a seat that it hides, found by the audit | `Hub::let_go`: `gone`, `seen`; `answer`: `Calls`, its `times`;
+//!   `submit`, `tick`, `is_due`: `times`; `tick_if_due`: `TicksIfDue`, its `times`
 //! - the octets that are reported are those of the stored steps, up to 2^64 - 1 | `Hub::answer`: `Calls`, its
 //!   `octets`
 //! - the first seat of a hub counted no call and has seen nothing; when the hub closes or is paused, each

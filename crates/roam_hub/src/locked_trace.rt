@@ -176,6 +176,7 @@ impl<'c, A: Allocator + Copy, N: Opened> LockedTrace<'c, A, N> {
         ensures octets { IfOk result (λ a. a.octets
             ≡ min (octets_in (stored_of (front_of seat.new shard))) (2 ^ 64 - 1)) }
         ensures seen { Sees shard seat.old seat.new }
+        ensures times { seat.new.times ≡ seat.old.times }
         ensures err { OnErr result (seat.new.tallies ≡ seat.old.tallies) }
         ensures full { IsErrOf result HubFault.TraceFull → IsFull N.opening shard seat.new }
         ensures no_shard { IfErr result (λ f. f ≢ HubFault.NoShard) }
@@ -199,7 +200,7 @@ impl<'c, A: Allocator + Copy, N: Opened> LockedTrace<'c, A, N> {
         }
     }
 
-    /// Lets go of the stored steps, and gives them back. The seat has then seen that. Takes no memory.
+    /// Lets go of the stored steps, and gives them back. The seat counts that, and has then seen it. Takes no memory.
     pub(crate) fn let_go<R: Wait>(
         &mut self,
         rt: &R,
@@ -215,7 +216,7 @@ impl<'c, A: Allocator + Copy, N: Opened> LockedTrace<'c, A, N> {
         self.check(seat, shard)?;
         let steps = self.traced.let_go();
         self.front = without_steps(rt, &self.head, &self.front);
-        seat.learn(self.front.again());
+        seat.note_let_go(self.front.again());
         Ok(steps)
     }
 

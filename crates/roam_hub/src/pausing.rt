@@ -18,7 +18,7 @@ use crate::fault::HubFault;
 use crate::hub::Hub;
 use crate::locked_trace::LockedTrace;
 use crate::pause_room::PauseRoom;
-use roam_audit::{Report, Seat, no_tallies};
+use roam_audit::{Report, Seat, no_tallies, no_times};
 use roam_conf::Config;
 use roam_history::{Blank, Blanks, Front, Opened};
 use roam_shard::{Paused, Shard};
@@ -147,6 +147,9 @@ impl<'c, A: Allocator + Copy, N: Opened> Hub<'c, A, N> {
         let Ok(tallies) = no_tallies(alloc, count) else {
             return Err(shards);
         };
+        let Ok(times) = no_times(alloc, count) else {
+            return Err(shards);
+        };
         let mut left = shards.into_iter();
         let mut shard: u16 = 0;
         for blank in blanks.blanks {
@@ -158,7 +161,7 @@ impl<'c, A: Allocator + Copy, N: Opened> Hub<'c, A, N> {
             fronts.push_reserved(front);
             shard += 1;
         }
-        let seat = Seat::over(tallies, fronts);
+        let seat = Seat::over(tallies, times, fronts);
         let hub = Hub {
             alloc,
             config,

@@ -128,7 +128,8 @@ fn place_all(rows: &mut [Row], at: usize, column: Column) {
     }
 }
 
-/// Adds a table of so many columns, of which so many stand left and the others right. Each is as wide as its widest cell.
+/// Adds a table of so many columns, of which so many stand left and the others right. Each is as wide as its widest
+/// cell.
 pub(crate) fn push_table(
     out: &mut Vec<u8>,
     rows: &mut [Row],

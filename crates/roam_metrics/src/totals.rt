@@ -126,8 +126,8 @@ impl Service {
             .wrapping_add(counts.event(subject, CountedEvent::TakenOver(kind)))
     }
 
-    /// Of the packets that were sent there: new requests, those that were sent again, and those that another server left;
-    /// of the replies from there: all, and those that weren't taken.
+    /// Of the packets that were sent there: new requests, those that were sent again, and those that another server
+    /// left; of the replies from there: all, and those that weren't taken.
     pub fn totals<C: Counts>(self, counts: &C, realm: u16, server: u8) -> [u64; 5] {
         let subject = Subject::Server(realm, server);
         let kind = self.request();

@@ -3,7 +3,8 @@ use Rattle.std.proofs.Common.{◌≡◌, ◌∙◌, Bool, true, false, not, Deci
 use Rattle.std.proofs.lemmas.Bool.{true≢false}
 
 -- the test fails: they differ
-pub differs : {A : Type 0} (x y : A) (same test : Bool) → Decides same (x ≡ y) → test ≡ not same → test ≡ true → y ≡ x → ⊥
+pub differs : {A : Type 0} (x y : A) (same test : Bool) → Decides same (x ≡ y) → test ≡ not same → test ≡ true →
+    y ≡ x → ⊥
 differs x y same test decides is yes' e = true≢false (sym (sym is ∙ yes') ∙ ap not (decides.1 (sym e)))
 
 unnot : (t : Bool) → not t ≡ false → t ≡ true

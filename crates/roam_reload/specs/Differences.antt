@@ -34,6 +34,7 @@ RealmsDiffer old new realm_key.ReplyWithout = new.reply_without ≢ old.reply_wi
 RealmsDiffer old new realm_key.Share = new.share ≢ old.share
 
 abbrev pub PeersDiffer : PeerView → PeerView → PeerKey → Type 0
+PeersDiffer old new peer_key.Name = new.name ≢ old.name
 PeersDiffer old new peer_key.Ip = new.ip ≢ old.ip
 PeersDiffer old new peer_key.Secret = new.secret ≢ old.secret
 PeersDiffer old new peer_key.Coa = new.coa ≢ old.coa

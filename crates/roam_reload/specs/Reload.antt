@@ -11,10 +11,9 @@ use Rattle.roam_reload.specs.declared.kind.PlaceKind.TheVariants.{Auth, Acct, Ou
 abbrev pub realm_part : RealmView → RealmView
 realm_part realm = record realm { name = []; also = [] }
 
--- what they depend on in a peer's table: all but its name, and which of its Access-Requests need a
--- Message-Authenticator
+-- what they depend on in a peer's table: all but which of its Access-Requests need a Message-Authenticator
 abbrev pub peer_part : PeerView → PeerView
-peer_part peer = record peer { name = []; require_seal = false; limit_proxy_state = false }
+peer_part peer = record peer { require_seal = false; limit_proxy_state = false }
 
 -- the old peers are the first of the new ones, in this part of their tables
 pub record KeepsPeers (old new : List PeerView) : Type 0 where
@@ -23,13 +22,13 @@ pub record KeepsPeers (old new : List PeerView) : Type 0 where
 
 -- ## Carried over
 -- A realm is carried over from one configuration to another where it stands at the same index with an equal
--- table, its `name` and `also` aside, and the old peers are the first of the new ones, with equal `ip`,
--- `secret`, `coa`, `nas_ip`, `nas_id`, `operator_name`, `ask_cui`, `request_without` and `reply_without`; `name`,
--- `require_seal`, `limit_proxy_state` and further peers may differ. Of any other
--- realm it is said why it isn't: the first key that differs, the first old peer that went or differs, or that
--- it was added or removed.
+-- table, its `name` and `also` aside, and the old peers are the first of the new ones, with equal `name`, `ip`,
+-- `secret`, `coa`, `nas_ip`, `nas_id`, `operator_name`, `ask_cui`, `request_without` and `reply_without`;
+-- `require_seal`, `limit_proxy_state` and further peers may differ. Of any other realm it is said why it isn't: the
+-- first key that differs, the first old peer that went or differs, or that it was added or removed.
 -- Source: ours
--- Rules out: a realm that goes on under another secret; one whose peers have other indexes
+-- Rules out: a realm that goes on under another secret; one whose peers have other indexes; one whose `peers` name
+-- another peer by the same text
 -- Stands in: `roam_reload` `Reload.antt`: `IsCarried`, `KeepsPeers`; `Differences.antt`: `IsFate`;
 -- `is_carried`, `fate_of`
 --

@@ -22,9 +22,11 @@ pub enum RealmKey {
     Share,
 }
 
-/// A key of a peer's table; `name`, `require_seal` and `limit_proxy_state` aside.
+/// A key of a peer's table; `require_seal` and `limit_proxy_state` aside.
 #[derive(Clone, Copy, PartialEq, Eq)]
 pub enum PeerKey {
+    /// By which a realm's `peers` mean the peer.
+    Name,
     Ip,
     Secret,
     Coa,
@@ -64,6 +66,7 @@ impl PeerKey {
     /// The key as it is written in a configuration.
     pub fn name(self) -> &'static str {
         match self {
+            PeerKey::Name => "name",
             PeerKey::Ip => "ip",
             PeerKey::Secret => "secret",
             PeerKey::Coa => "coa",

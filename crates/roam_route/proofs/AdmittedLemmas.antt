@@ -20,10 +20,10 @@ use Rattle.roam_conf.specs.declared.accounting.Accounting.TheVariants.{Forwarded
 use Rattle.roam_conf.specs.declared.place.Link.{Link}
 use Rattle.roam_conf.specs.declared.place.Place.{Place}
 use Rattle.roam_conf.specs.declared.place.Place.TheVariants as place
-use Rattle.roam_fwd.specs.Forwarded.{forwarded_length}
 use Rattle.roam_route.specs.UserName.{realm_of, realm_part}
 use Rattle.roam_route.specs.LocalAnswer.{answer_length, local_reject, status_answer}
 use Rattle.roam_route.specs.LocalReject.{is_rejected, takes_of, taking}
+use Rattle.roam_route.specs.Shapings.{sent_length}
 use Rattle.roam_route.specs.Admission.{Arrival, PlainJob, Admission, refused, admitted, sender, checked, accounted, accounting_in, by_accounting, is_answered_unnamed, job_of, forwarded_for, answered_by, rejected_for, for_named_realm, route_request, packet_admission, sent_admission, read_admission, admission, is_taken, is_rightly_signed, is_rightly_sealed, has_needed_seal, has_few_hops, has_seal, is_status_request, status_from, seal_required, peer_secret, home_secret}
 use Rattle.roam_route.specs.AdmittedRequests.{IsRequestAt, IsRightlySigned, sealing_authenticator, HasNeededSeal, HasFewHops, IsRightRequest, IsJobOf, IsOfRequest, AdmittedIsRight, FailsFirst, IsPassedOn}
 use Rattle.roam_route.specs.declared.job.Side.{Side}
@@ -102,31 +102,32 @@ given_by a s p realm named job = (
 
 -- ---- where a request goes
 
--- a packet whose forwarded one has at most 4096 octets
-abbrev pub Fits : Packet → Type 0
-Fits p = forwarded_length p ≤ MAX_PACKET_LENGTH
+-- a size of at most 4096 octets
+abbrev pub Fits : ℕ → Type 0
+Fits size = size ≤ MAX_PACKET_LENGTH
 
-forwarded_admitted : (a : Arrival) (s : Side) (p : Packet) (realm : ℕ) (named : Option ℕ) (job : PlainJob)
-    → (forwarded_for a s p realm named ≡ admitted job)
-    ↔ (Fits p × ((job.realm ≡ realm) × IsJob a s p named job))
-forwarded_admitted a s p realm named job =
-    through (nat_le (forwarded_length p) MAX_PACKET_LENGTH) refusal.TooLong (job_of a s p realm named) job
-    (size_by (forwarded_length p)) (given_by a s p realm named job)
+forwarded_admitted : (size : ℕ) (a : Arrival) (s : Side) (p : Packet) (realm : ℕ) (named : Option ℕ) (job : PlainJob)
+    → (forwarded_for size a s p realm named ≡ admitted job)
+    ↔ (Fits size × ((job.realm ≡ realm) × IsJob a s p named job))
+forwarded_admitted size a s p realm named job =
+    through (nat_le size MAX_PACKET_LENGTH) refusal.TooLong (job_of a s p realm named) job
+    (size_by size) (given_by a s p realm named job)
 
 -- to the realm that is named, if one is
-named_admitted : (a : Arrival) (s : Side) (p : Packet) (o : Option ℕ) (job : PlainJob)
-    → (for_named_realm a s p o ≡ admitted job)
-    ↔ ((o ≡ Some job.realm) × (Fits p × IsJob a s p o job))
-named_admitted a s p None job = (λ h. absurd (cc h), λ h. absurd (cc h.0))
-named_admitted a s p (Some realm) job =
-    let further = forwarded_admitted a s p realm (Some realm) job in (
+named_admitted : (config : ConfigView) (a : Arrival) (s : Side) (p : Packet) (o : Option ℕ) (job : PlainJob)
+    → (for_named_realm config a s p o ≡ admitted job)
+    ↔ ((o ≡ Some job.realm) × (Fits (sent_length config s p job.realm) × IsJob a s p o job))
+named_admitted config a s p None job = (λ h. absurd (cc h), λ h. absurd (cc h.0))
+named_admitted config a s p (Some realm) job =
+    let Short : ℕ → Type 0 = λ r. Fits (sent_length config s p r) in
+    let further = forwarded_admitted (sent_length config s p realm) a s p realm (Some realm) job in (
       λ h. (
           let all = further.0 h in
-          (ap (λ (x : ℕ). Some x) (sym all.1.0), (all.0, all.1.1))
+          (ap (λ (x : ℕ). Some x) (sym all.1.0), (subst Short (sym all.1.0) all.0, all.1.1))
           ),
       λ h. (
           let here : realm ≡ job.realm = cc h.0 in
-          further.1 (h.1.0, (sym here, h.1.1))
+          further.1 (subst Short (sym here) h.1.0, (sym here, h.1.1))
           ),
     )
 
@@ -145,10 +146,10 @@ access_admitted : (config : ConfigView) (secret : List ℕ) (a : Arrival) (s : S
     → (route_request config secret a s p place.Auth ≡ admitted job)
     ↔ (IsPassedOn config s p
     × ((realm_of config p.attributes ≡ Some job.realm)
-    × (Fits p × IsJob a s p (realm_of config p.attributes) job)))
+    × (Fits (sent_length config s p job.realm) × IsJob a s p (realm_of config p.attributes) job)))
 access_admitted config secret a s p job =
     let passed = passed_decided config s p in
-    let further = named_admitted a s p (realm_of config p.attributes) job in
+    let further = named_admitted config a s p (realm_of config p.attributes) job in
     elim (cases_Bool (is_rejected config s p)) [
       | inl rejects ↦ rw rejects (
         λ h. absurd (rejected_never secret a p job h),
@@ -163,20 +164,22 @@ access_admitted config secret a s p job =
 -- ---- an Accounting-Request
 
 -- by what becomes of the realm's accounting
-by_admitted : (way : Accounting) (secret : List ℕ) (a : Arrival) (s : Side) (p : Packet) (realm : ℕ) (job : PlainJob)
-    → (by_accounting way secret a s p realm ≡ admitted job)
-    ↔ ((way ≡ Forwarded) × (Fits p × ((job.realm ≡ realm) × IsJob a s p (Some realm) job)))
-by_admitted Forwarded secret a s p realm job =
-    let goes = forwarded_admitted a s p realm (Some realm) job in
+by_admitted : (way : Accounting) (size : ℕ) (secret : List ℕ) (a : Arrival) (s : Side) (p : Packet) (realm : ℕ)
+    (job : PlainJob)
+    → (by_accounting size secret a s p realm way ≡ admitted job)
+    ↔ ((way ≡ Forwarded) × (Fits size × ((job.realm ≡ realm) × IsJob a s p (Some realm) job)))
+by_admitted Forwarded size secret a s p realm job =
+    let goes = forwarded_admitted size a s p realm (Some realm) job in
     (λ h. (refl, goes.0 h), λ h. goes.1 h.1)
-by_admitted Answered secret a s p realm job = (λ h. absurd (cc h), λ h. absurd (cc h.0))
-by_admitted Dropped secret a s p realm job = (λ h. absurd (cc h), λ h. absurd (cc h.0))
+by_admitted Answered size secret a s p realm job = (λ h. absurd (cc h), λ h. absurd (cc h.0))
+by_admitted Dropped size secret a s p realm job = (λ h. absurd (cc h), λ h. absurd (cc h.0))
 
 -- to the realm that is named, if one is that takes the sender's requests
 abbrev Accounts : ConfigView → Arrival → Side → Packet → Option ℕ → PlainJob → Type 0
 Accounts config a s p o job =
     (o ≡ Some job.realm) × (IsTrue (takes_of config job.realm s)
-    × ((accounting_in config job.realm ≡ Forwarded) × (Fits p × IsJob a s p o job)))
+    × ((accounting_in config job.realm ≡ Forwarded)
+    × (Fits (sent_length config s p job.realm) × IsJob a s p o job)))
 
 accounted_admitted : (config : ConfigView) (secret : List ℕ) (a : Arrival) (s : Side) (p : Packet) (o : Option ℕ)
     (job : PlainJob) → (accounted config secret a s p o ≡ admitted job) ↔ Accounts config a s p o job
@@ -184,20 +187,25 @@ accounted_admitted config secret a s p None job = (λ h. absurd (cc h), λ h. ab
 accounted_admitted config secret a s p (Some realm) job =
     let Takes : ℕ → Type 0 = λ r. IsTrue (takes_of config r s) in
     let Goes : ℕ → Type 0 = λ r. accounting_in config r ≡ Forwarded in
+    let Short : ℕ → Type 0 = λ r. Fits (sent_length config s p r) in
     let itself : Takes realm ↔ Takes realm = (λ h. h, λ h. h) in
+    let size : ℕ = sent_length config s p realm in
     let further = through (takes_of config realm s) refusal.NotForPeer
-    (by_accounting (accounting_in config realm) secret a s p realm) job itself
-    (by_admitted (accounting_in config realm) secret a s p realm job) in (
+    (by_accounting size secret a s p realm (accounting_in config realm)) job itself
+    (by_admitted (accounting_in config realm) size secret a s p realm job) in (
       λ h. (
           let all = further.0 h in
           let here : realm ≡ job.realm = sym all.1.1.1.0 in (
             ap (λ (x : ℕ). Some x) here,
-            (subst Takes here all.0, (subst Goes here all.1.0, (all.1.1.0, all.1.1.1.1))),
+            (subst Takes here all.0, (subst Goes here all.1.0, (subst Short here all.1.1.0, all.1.1.1.1))),
           )
           ),
       λ h. (
           let here : job.realm ≡ realm = cc h.0 in
-          further.1 (subst Takes here h.1.0, (subst Goes here h.1.1.0, (h.1.1.1.0, (here, h.1.1.1.1))))
+          further.1 (
+            subst Takes here h.1.0,
+            (subst Goes here h.1.1.0, (subst Short here h.1.1.1.0, (here, h.1.1.1.1))),
+          )
           ),
     )
 
@@ -423,13 +431,14 @@ reverse_admitted : (config : ConfigView) (a : Arrival) (own i : ℕ) (p : Packet
 reverse_admitted config a own i p job code =
     let secret : List ℕ = home_secret config own i in
     let other : p.code ≢ ACCESS_REQUEST = reverse_other own i p.code code in
-    let goes = forwarded_admitted a (side.Home i) p own (realm_of config p.attributes) job in
+    let size : ℕ = sent_length config (side.Home i) p own in
+    let goes = forwarded_admitted size a (side.Home i) p own (realm_of config p.attributes) job in
     let further = through (has_few_hops config.max_hops p) refusal.TooManyHops
-    (forwarded_for a (side.Home i) p own (realm_of config p.attributes)) job
+    (forwarded_for size a (side.Home i) p own (realm_of config p.attributes)) job
     (other_hops config.max_hops p other) goes in
     let whole = front_admitted config secret (side.Home i) p
     (checked (has_few_hops config.max_hops p) refusal.TooManyHops
-    (forwarded_for a (side.Home i) p own (realm_of config p.attributes))) job further in (
+    (forwarded_for size a (side.Home i) p own (realm_of config p.attributes))) job further in (
       λ h. (
           let all = whole.0 h in
           let rest = all.1.1 in (

@@ -1,5 +1,5 @@
 -- What is prepared of an arrival, and what holds of each event.
-use Rattle.std.proofs.Common.{◌≡◌, ◌<◌, ℕ, Bool, true, false, List, [], ◌∷◌, length, drop, Option, Some, None, IsSome, inl, inr, refl, sym, ap, subst, ◌∙◌, arith}
+use Rattle.std.proofs.Common.{◌≡◌, ◌<◌, ◌≤◌, ℕ, Bool, true, false, List, [], ◌∷◌, length, drop, Option, Some, None, IsSome, inl, inr, refl, sym, ap, subst, ◌∙◌, arith}
 use Rattle.std.specs.Prelude.{◌==◌, if◌then◌else◌, Result, Ok, Err, IfOk, nat_le, nat_lt, option_map}
 use Rattle.std.specs.List.{AllByRecursion}
 use Rattle.std.specs.Option.{option_map_or}
@@ -22,12 +22,13 @@ use Rattle.roam_conf.specs.declared.accounting.Accounting.{Accounting}
 use Rattle.roam_conf.specs.declared.accounting.Accounting.TheVariants.{Forwarded, Answered, Dropped}
 use Rattle.roam_conf.specs.declared.place.Place.{Place}
 use Rattle.roam_conf.specs.declared.place.Place.TheVariants as place
-use Rattle.roam_fwd.specs.Forwarded.{CanBeForwarded, HasPasswordBlocks, forwarded_length}
+use Rattle.roam_fwd.specs.Forwarded.{HasPasswordBlocks}
 use Rattle.roam_route.specs.UserName.{realm_of}
 use Rattle.roam_route.specs.LocalAnswer.{accounting_answer, answer_length, local_reject, status_answer}
 use Rattle.roam_route.specs.LocalReject.{is_rejected, takes_of}
 use Rattle.roam_route.specs.Admission.{Arrival, PlainJob, PlainOut, Admission, refused, rejected, admitted, sender, checked, accounted, accounting_in, by_accounting, is_answered_unnamed, job_of, forwarded_for, answered_by, rejected_for, for_named_realm, route_request, request_admission, packet_admission, sent_admission, read_admission, admission, is_taken, is_rightly_signed, is_rightly_sealed, has_needed_seal, has_few_hops, has_seal, is_status_request, status_admission, status_from, seal_required, peer_secret, home_secret}
 use Rattle.roam_route.specs.Events.{arrival_of, IsEvent, IsPrepared, IsConfigured, IsForwardable, IsNamed, EventHasRealm, EventIsSound}
+use Rattle.roam_route.specs.Shapings.{sent_length}
 use Rattle.roam_route.specs.Shown.{IsAdmission, shown_job}
 use Rattle.roam_route.specs.declared.job.Prepared.{Prepared}
 use Rattle.roam_route.specs.declared.job.Prepared.TheVariants as prepared
@@ -49,7 +50,7 @@ record IsAdmitted (config : ConfigView) (a : Arrival) (p : Packet) (job : PlainJ
   code : is_taken job.place job.side p.code ≡ true
   realm : job.realm < length config.realms
   sender : IsConfigured config job.realm job.side
-  forwardable : IsForwardable job.side p
+  forwardable : IsForwardable config job.realm job.side p
   names : IsNamed config job.side p job.named
 
 Admits : ConfigView → Arrival → Packet → Admission → Type 0
@@ -81,7 +82,7 @@ record IsFor (config : ConfigView) (a : Arrival) (s : Side) (p : Packet) (realm 
 
 given_admits : (config : ConfigView) (a : Arrival) (s : Side) (p : Packet) (realm : ℕ)
     (names : Option ℕ)
-    → IsFor config a s p realm → IsForwardable s p → IsNamed config s p names
+    → IsFor config a s p realm → IsForwardable config realm s p → IsNamed config s p names
     → Admits config a p (job_of a s p realm names)
 unfolding Admits
 given_admits config a s p realm names h forwardable named_so = record {
@@ -98,22 +99,26 @@ record IsSealable (p : Packet) : Type 0 where
   seal : HasAtMostOneMessageAuthenticator p
   passwords : p.code ≡ ACCESS_REQUEST → AllByRecursion HasPasswordBlocks p.attributes
 
-forwardable_from : (s : Side) (p : Packet) → CanBeForwarded p → IsForwardable s p
-forwardable_from (side.Peer i) p h = h
-forwardable_from (side.Link l) p h = tt
-forwardable_from (side.Home i) p h = h
+forwardable_from : (config : ConfigView) (realm : ℕ) (s : Side) (p : Packet) → IsSealable p
+    → sent_length config s p realm ≤ 4096 → IsForwardable config realm s p
+forwardable_from config realm (side.Peer i) p h short =
+    record { message_authenticator = h.seal; passwords = h.passwords; size = short }
+forwardable_from config realm (side.Link l) p h short = tt
+forwardable_from config realm (side.Home i) p h short =
+    record { message_authenticator = h.seal; passwords = h.passwords; size = short }
+
+short_by : (size : ℕ) → nat_le size 4096 ≡ true → size ≤ 4096
+short_by size short = grind (arith, nat_tests, short)
 
 forwarded_admits : (config : ConfigView) (a : Arrival) (s : Side) (p : Packet) (realm : ℕ)
     (names : Option ℕ)
     → IsFor config a s p realm → IsSealable p → IsNamed config s p names
-    → Admits config a p (forwarded_for a s p realm names)
+    → Admits config a p (forwarded_for (sent_length config s p realm) a s p realm names)
 forwarded_admits config a s p realm names h sealable named_so =
-    checked_admits config a p (nat_le (forwarded_length p) 4096) refusal.TooLong
-    (job_of a s p realm names) (λ short. given_admits config a s p realm names h (forwardable_from s p (record {
-      message_authenticator = sealable.seal;
-      passwords = sealable.passwords;
-      size = grind (arith, nat_tests, short);
-    })) named_so)
+    let size : ℕ = sent_length config s p realm in
+    checked_admits config a p (nat_le size 4096) refusal.TooLong (job_of a s p realm names)
+    (λ short. given_admits config a s p realm names h
+    (forwardable_from config realm s p sealable (short_by size short)) named_so)
 
 -- a request of a peer may go to each configured realm
 IsFromPeer : ConfigView → Arrival → ℕ → Packet → Type 0
@@ -123,7 +128,7 @@ IsFromPeer config a i p =
 named_admits : (config : ConfigView) (a : Arrival) (i : ℕ) (p : Packet) (realm : Option ℕ)
     → realm ≡ realm_of config p.attributes
     → ((x : ℕ) → realm ≡ Some x → IsFor config a (side.Peer i) p x) → IsSealable p
-    → Admits config a p (for_named_realm a (side.Peer i) p realm)
+    → Admits config a p (for_named_realm config a (side.Peer i) p realm)
 named_admits config a i p None is h sealable = refused_admits config a p refusal.NoRealm
 named_admits config a i p (Some realm) is h sealable =
     forwarded_admits config a (side.Peer i) p realm (Some realm) (h realm refl) sealable is
@@ -131,7 +136,7 @@ named_admits config a i p (Some realm) is h sealable =
 -- where it names one
 own_realm_admits : (config : ConfigView) (a : Arrival) (i : ℕ) (p : Packet)
     → IsFromPeer config a i p → IsSealable p
-    → Admits config a p (for_named_realm a (side.Peer i) p (realm_of config p.attributes))
+    → Admits config a p (for_named_realm config a (side.Peer i) p (realm_of config p.attributes))
 unfolding IsFromPeer
 own_realm_admits config a i p h sealable =
     named_admits config a i p (realm_of config p.attributes) refl
@@ -164,7 +169,7 @@ answer_admits config secret a p =
 accounting_admits : (config : ConfigView) (secret : List ℕ) (a : Arrival) (i : ℕ) (p : Packet) (realm : ℕ)
     (way : Accounting) → IsFor config a (side.Peer i) p realm → IsSealable p
     → IsNamed config (side.Peer i) p (Some realm)
-    → Admits config a p (by_accounting way secret a (side.Peer i) p realm)
+    → Admits config a p (by_accounting (sent_length config (side.Peer i) p realm) secret a (side.Peer i) p realm way)
 accounting_admits config secret a i p realm Forwarded h sealable named_so =
     forwarded_admits config a (side.Peer i) p realm (Some realm) h sealable named_so
 accounting_admits config secret a i p realm Answered h sealable named_so = answer_admits config secret a p
@@ -179,7 +184,7 @@ accounted_admits config secret a i p None is h sealable = refused_admits config 
 accounted_admits config secret a i p (Some realm) is h sealable =
     let way : Accounting = accounting_in config realm in
     checked_admits config a p (takes_of config realm (side.Peer i)) refusal.NotForPeer
-    (by_accounting way secret a (side.Peer i) p realm)
+    (by_accounting (sent_length config (side.Peer i) p realm) secret a (side.Peer i) p realm way)
     (λ _. accounting_admits config secret a i p realm way (h realm refl) sealable is)
 
 -- what is well sealed has at most one Message-Authenticator
@@ -226,7 +231,7 @@ peer_admits : (config : ConfigView) (secret : List ℕ) (a : Arrival) (i : ℕ) 
     → Admits config a p (route_request config secret a (side.Peer i) p at)
 unfolding IsFromPeer
 peer_admits config secret a i p place.Auth test h seal =
-    let named_one : Admission = for_named_realm a (side.Peer i) p (realm_of config p.attributes) in
+    let named_one : Admission = for_named_realm config a (side.Peer i) p (realm_of config p.attributes) in
     either_admits config a p (is_rejected config (side.Peer i) p) (rejected_for secret a p) named_one
     (reject_admits config secret a p)
     (λ passes. own_realm_admits config a i p h (record {
@@ -489,6 +494,6 @@ event_sound config job octets is =
       size = ap packet_length same ∙ sym (length-packet_text p packet) ∙ sym (ap length text);
       code = subst (λ (x : Packet). is_taken job.place job.side x.code ≡ true) (sym same) h.code;
       sender = h.sender;
-      forwardable = subst (IsForwardable job.side) (sym same) h.forwardable;
+      forwardable = subst (IsForwardable config job.realm job.side) (sym same) h.forwardable;
       named = subst (λ (x : Packet). IsNamed config job.side x job.named) (sym same) h.names;
     }

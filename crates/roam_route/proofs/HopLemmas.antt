@@ -1,6 +1,7 @@
 -- How many Proxy-States the forwarded packet has.
-use Rattle.std.proofs.Common.{◌≡◌, ◌+◌, ℕ, Bool, true, false, List, [], ◌∷◌, map, inl, inr, refl, sym, ap, ◌∙◌, arith}
+use Rattle.std.proofs.Common.{◌≡◌, ◌+◌, ◌≤◌, ℕ, Bool, true, false, List, [], ◌∷◌, map, inl, inr, refl, sym, ap, ◌∙◌, arith}
 use Rattle.std.specs.Prelude.{◌==◌, if◌then◌else◌}
+use Rattle.std.specs.List.{list_any}
 use Rattle.std.proofs.lemmas.Bool.{cases_Bool}
 use Rattle.std.proofs.lemmas.Bool.Decides.{nat_tests}
 use Rattle.std.proofs.lemmas.List.Sums.{sum_by-cons}
@@ -12,7 +13,11 @@ use Rattle.roam_auth.specs.Authenticators.{request_authenticator, with_authentic
 use Rattle.roam_auth.specs.MessageAuthenticator.{empty_message_authenticator, message_authenticator}
 use Rattle.roam_auth.proofs.SealingLemmas.{count_of-append}
 use Rattle.roam_auth.proofs.ValueLemmas.{count_of-no, count_of-with_value, count_of-yes}
+use Rattle.roam_filter.specs.Removal.{is_kind}
+use Rattle.roam_filter.proofs.WithoutLemmas.{count-kept, count-named}
 use Rattle.roam_fwd.specs.Forwarded.{Forwarding, access_attributes, added_challenge, carried_attributes, challenge_is_authenticator, forwarded, sealed, ticket_state, unsealed, with_password_anew}
+use Rattle.roam_fwd.specs.Shaped.{Shaping, shaped}
+use Rattle.roam_fwd.proofs.ShapedLemmas.{count-shaped}
 use Rattle.roam_route.specs.AdmittedRequests.{ForwardedHasFewHops}
 use Rattle.roam_route.proofs.AdmittedLemmas.{admitted_is_right}
 
@@ -104,9 +109,24 @@ hops-forwarded f q =
     hops-either (q.code == ACCESS_REQUEST) (sealed f q) (request_authenticator f.to_secret (sealed f q))
     (hops q.attributes + 1) (hops-sealed f q)
 
+-- a shaped request has no more
+hops-shaped : (s : Shaping) (q : Packet) → hops (shaped s q).attributes ≤ hops q.attributes
+hops-shaped s q =
+    let count = count-shaped PROXY_STATE s q refl refl refl in
+    elim (cases_Bool (list_any (is_kind PROXY_STATE) s.removed)) [
+      | inl named ↦ omega (arith, count, count-named s.removed PROXY_STATE named q.attributes)
+      | inr free ↦ omega (
+        arith,
+        count,
+        count-kept s.removed PROXY_STATE free (λ e. absurd (omega (arith, e))) q.attributes,
+      )
+    ]
+
 pub forwarded_has_few_hops : ForwardedHasFewHops
-forwarded_has_few_hops config a p job f limit read of is most =
+forwarded_has_few_hops config a p job f s limit read of is most =
     let right = ((admitted_is_right config a p job read of).0 is).1 in
     let few = right.hops limit most in
     let count = hops-forwarded f p in
-    omega (arith, few, count)
+    let count_shaped = hops-forwarded f (shaped s p) in
+    let fewer = hops-shaped s p in
+    (omega (arith, few, count), omega (arith, few, count_shaped, fewer))

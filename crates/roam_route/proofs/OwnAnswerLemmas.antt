@@ -1,6 +1,6 @@
 -- What the broker answers itself, in two configurations that agree on what such answers are made by.
 use Rattle.std.proofs.Common.{◌≡◌, ℕ, Bool, true, false, List, Option, Some, None, option_map, refl, sym, ap, ap₂, ◌∙◌}
-use Rattle.std.specs.Prelude.{◌==◌, ◌&&◌, nat_le, Result, Ok, Err, if◌then◌else◌}
+use Rattle.std.specs.Prelude.{◌==◌, ◌&&◌, ◌||◌, not, is_some, nat_le, Result, Ok, Err, if◌then◌else◌}
 use Rattle.roam_wire.specs.Packet.{Packet}
 use Rattle.roam_wire.specs.Reading.{reading}
 use Rattle.roam_wire.specs.declared.code.TheConstants.{STATUS_SERVER}
@@ -10,16 +10,17 @@ use Rattle.roam_wire.specs.declared.refusal.Refusal.TheVariants as refusal
 use Rattle.roam_conf.specs.Config.{ConfigView, PeerView}
 use Rattle.roam_conf.specs.Secrets as secrets
 use Rattle.roam_conf.specs.declared.accounting.Accounting.{Accounting}
+use Rattle.roam_conf.specs.declared.accounting.Accounting.TheVariants.{Forwarded, Answered, Dropped}
 use Rattle.roam_conf.specs.declared.endpoint.Endpoint.{Endpoint}
 use Rattle.roam_conf.specs.declared.place.Link.{Link}
 use Rattle.roam_conf.specs.declared.place.Place.{Place}
 use Rattle.roam_conf.specs.declared.place.Place.TheVariants as place
 use Rattle.roam_conf.specs.Lookup.{peer_with_ip, link_in, home_in}
-use Rattle.roam_fwd.specs.Forwarded.{forwarded_length}
 use Rattle.roam_route.specs.UserName.{realm_of}
 use Rattle.roam_route.specs.LocalAnswer.{accounting_answer}
-use Rattle.roam_route.specs.LocalReject.{takes_of, taking}
-use Rattle.roam_route.specs.Admission.{Arrival, Admission, sender, checked, accounted, answered_by, by_accounting, is_unnamed, route_request, job_of, forwarded_for, request_admission, sent_admission, status_admission, status_from, read_admission, admission, is_taken, peer_secret, home_secret, is_rightly_signed, is_rightly_sealed, has_needed_seal, has_few_hops, seal_required}
+use Rattle.roam_route.specs.LocalReject.{has_bad_password, has_too_many_hops, takes_of, taking}
+use Rattle.roam_route.specs.Shapings.{sent_length}
+use Rattle.roam_route.specs.Admission.{Arrival, Admission, sender, checked, accounted, accounting_in, answered_by, by_accounting, for_named_realm, is_unnamed, rejected_for, route_request, job_of, forwarded_for, request_admission, sent_admission, status_admission, status_from, read_admission, admission, is_taken, peer_secret, home_secret, is_rightly_signed, is_rightly_sealed, has_needed_seal, has_few_hops, seal_required}
 use Rattle.roam_route.specs.declared.job.Side.{Side}
 use Rattle.roam_route.specs.declared.job.Side.TheVariants as side
 use Rattle.roam_route.specs.OwnPart.{AnswerAlike, OwnAnswersDecided, answered}
@@ -29,6 +30,55 @@ use Rattle.roam_route.proofs.OwnLemmas.{LooksAlike, access_by, asked, peer-found
 none-checked : (b : Bool) (why : Refusal) (x : Admission) → answered x ≡ None → answered (checked b why x) ≡ None
 none-checked true why x none = none
 none-checked false why x none = refl
+
+-- and the same where what follows is
+answered-checked : (b : Bool) (why : Refusal) (x y : Admission) → answered x ≡ answered y
+    → answered (checked b why x) ≡ answered (checked b why y)
+answered-checked true why x y same = same
+answered-checked false why x y same = refl
+
+answered-either : (b : Bool) (first x y : Admission) → answered x ≡ answered y
+    → answered (if b then first else x) ≡ answered (if b then first else y)
+answered-either true first x y same = refl
+answered-either false first x y same = same
+
+answered-asked : (secret : List ℕ) (p : Packet) (required : Bool) (most : Option ℕ) (x y : Admission)
+    → answered x ≡ answered y
+    → answered (asked secret p required most x) ≡ answered (asked secret p required most y)
+answered-asked secret p required most x y is =
+    let few : Bool = has_few_hops most p in
+    let needed : Bool = has_needed_seal required p in
+    let fourth = answered-checked few refusal.TooManyHops x y is in
+    let third = answered-checked needed refusal.MissingMessageAuthenticator (checked few refusal.TooManyHops x)
+    (checked few refusal.TooManyHops y) fourth in
+    let second = answered-checked (is_rightly_sealed secret p) refusal.BadMessageAuthenticator
+    (checked needed refusal.MissingMessageAuthenticator (checked few refusal.TooManyHops x))
+    (checked needed refusal.MissingMessageAuthenticator (checked few refusal.TooManyHops y)) third in
+    answered-checked (is_rightly_signed secret p) refusal.BadAuthenticator
+    (checked (is_rightly_sealed secret p) refusal.BadMessageAuthenticator
+    (checked needed refusal.MissingMessageAuthenticator (checked few refusal.TooManyHops x)))
+    (checked (is_rightly_sealed secret p) refusal.BadMessageAuthenticator
+    (checked needed refusal.MissingMessageAuthenticator (checked few refusal.TooManyHops y))) second
+
+-- what is forwarded isn't answered, whatever its size
+not-answered : (size : ℕ) (a : Arrival) (s : Side) (p : Packet) (realm : ℕ) (names : Option ℕ)
+    → answered (forwarded_for size a s p realm names) ≡ None
+not-answered size a s p realm names =
+    none-checked (nat_le size MAX_PACKET_LENGTH) refusal.TooLong (job_of a s p realm names) refl
+
+by-same : (way : Accounting) (m n : ℕ) (secret : List ℕ) (a : Arrival) (s : Side) (p : Packet) (realm : ℕ)
+    → answered (by_accounting m secret a s p realm way) ≡ answered (by_accounting n secret a s p realm way)
+by-same Forwarded m n secret a s p realm =
+    not-answered m a s p realm (Some realm) ∙ sym (not-answered n a s p realm (Some realm))
+by-same Answered m n secret a s p realm = refl
+by-same Dropped m n secret a s p realm = refl
+
+named-same : (one other : ConfigView) (a : Arrival) (s : Side) (p : Packet) (o : Option ℕ)
+    → answered (for_named_realm one a s p o) ≡ answered (for_named_realm other a s p o)
+named-same one other a s p None = refl
+named-same one other a s p (Some realm) =
+    not-answered (sent_length one s p realm) a s p realm (Some realm)
+    ∙ sym (not-answered (sent_length other s p realm) a s p realm (Some realm))
 
 -- at a realm's sockets nothing is
 out-none : (config : ConfigView) (k : ℕ) (from : Endpoint) (octets : List ℕ) (p : Packet) (s : Option Side)
@@ -51,9 +101,9 @@ reverse-none config k from octets p (Some i) =
     (none-checked (is_rightly_signed secret p) refusal.BadAuthenticator _
     (none-checked (is_rightly_sealed secret p) refusal.BadMessageAuthenticator _
     (none-checked (has_needed_seal (seal_required config (side.Home i) p) p) refusal.MissingMessageAuthenticator _
-    (none-checked (has_few_hops config.max_hops p) refusal.TooManyHops (forwarded_for a (side.Home i) p k names)
-    (none-checked (nat_le (forwarded_length p) MAX_PACKET_LENGTH) refusal.TooLong (job_of a (side.Home i) p k names)
-    refl)))))
+    (none-checked (has_few_hops config.max_hops p) refusal.TooManyHops
+    (forwarded_for (sent_length config (side.Home i) p k) a (side.Home i) p k names)
+    (not-answered (sent_length config (side.Home i) p k) a (side.Home i) p k names)))))
 
 module _ (one other : ConfigView) (same : AnswerAlike one other) where
   alike : LooksAlike one other
@@ -70,20 +120,30 @@ module _ (one other : ConfigView) (same : AnswerAlike one other) where
   taking-same s (Some realm) = ap (λ (b : Bool). if b then Some realm else None) (takes-all realm s)
 
   accounted-same : (secret : List ℕ) (a : Arrival) (s : Side) (p : Packet) (o : Option ℕ)
-      → accounted one secret a s p o ≡ accounted other secret a s p o
+      → answered (accounted one secret a s p o) ≡ answered (accounted other secret a s p o)
   accounted-same secret a s p None = refl
   accounted-same secret a s p (Some realm) =
-      ap₂ (λ (b : Bool) (way : Accounting). checked b refusal.NotForPeer (by_accounting way secret a s p realm))
+      let m : ℕ = sent_length one s p realm in
+      let n : ℕ = sent_length other s p realm in
+      let way : Accounting = accounting_in other realm in
+      ap₂ (λ (b : Bool) (w : Accounting).
+      answered (checked b refusal.NotForPeer (by_accounting m secret a s p realm w)))
       (takes-all realm s) (same.accounting realm)
+      ∙ answered-checked (takes_of other realm s) refusal.NotForPeer (by_accounting m secret a s p realm way)
+      (by_accounting n secret a s p realm way) (by-same way m n secret a s p realm)
 
   access-same : (secret : List ℕ) (a : Arrival) (s : Side) (p : Packet)
-      → route_request one secret a s p place.Auth ≡ route_request other secret a s p place.Auth
+      → answered (route_request one secret a s p place.Auth) ≡ answered (route_request other secret a s p place.Auth)
   access-same secret a s p =
       let o : Option ℕ = realm_of other p.attributes in
-      ap (λ (n : Option ℕ). access_by secret a s p one.max_hops (taking one s n) n)
+      let asks : Option ℕ = taking other s o in
+      ap (λ (n : Option ℕ). answered (access_by one secret a s p one.max_hops (taking one s n) n))
       (realm-same one other alike p.attributes)
-      ∙ ap (λ (most : Option ℕ). access_by secret a s p most (taking one s o) o) same.max_hops
-      ∙ ap (λ (asks : Option ℕ). access_by secret a s p other.max_hops asks o) (taking-same s o)
+      ∙ ap (λ (most : Option ℕ). answered (access_by one secret a s p most (taking one s o) o)) same.max_hops
+      ∙ ap (λ (x : Option ℕ). answered (access_by one secret a s p other.max_hops x o)) (taking-same s o)
+      ∙ answered-either (not (is_some asks) || has_bad_password p || has_too_many_hops other.max_hops p)
+      (rejected_for secret a p) (for_named_realm one a s p o) (for_named_realm other a s p o)
+      (named-same one other a s p o)
 
   -- what an Accounting-Request gives, by whether unnamed ones are answered
   abbrev account_by : List ℕ → Arrival → Packet → Bool → Admission → Admission
@@ -91,36 +151,39 @@ module _ (one other : ConfigView) (same : AnswerAlike one other) where
       if answers && is_unnamed p.attributes then answered_by a (accounting_answer secret p) else further
 
   account-same : (secret : List ℕ) (a : Arrival) (s : Side) (p : Packet)
-      → route_request one secret a s p place.Acct ≡ route_request other secret a s p place.Acct
+      → answered (route_request one secret a s p place.Acct) ≡ answered (route_request other secret a s p place.Acct)
   account-same secret a s p =
       let o : Option ℕ = realm_of other p.attributes in
-      ap (λ (b : Bool). account_by secret a p b (accounted one secret a s p (realm_of one p.attributes)))
+      ap (λ (b : Bool). answered (account_by secret a p b (accounted one secret a s p (realm_of one p.attributes))))
       same.answer_unnamed
-      ∙ ap (λ (n : Option ℕ). account_by secret a p other.answer_unnamed (accounted one secret a s p n))
+      ∙ ap (λ (n : Option ℕ). answered (account_by secret a p other.answer_unnamed (accounted one secret a s p n)))
       (realm-same one other alike p.attributes)
-      ∙ ap (account_by secret a p other.answer_unnamed) (accounted-same secret a s p o)
+      ∙ answered-either (other.answer_unnamed && is_unnamed p.attributes) (answered_by a (accounting_answer secret p))
+      (accounted one secret a s p o) (accounted other secret a s p o) (accounted-same secret a s p o)
 
   route_request-same : (secret : List ℕ) (a : Arrival) (s : Side) (p : Packet) (at : Place)
-      → route_request one secret a s p at ≡ route_request other secret a s p at
+      → answered (route_request one secret a s p at) ≡ answered (route_request other secret a s p at)
   route_request-same secret a s p (place.Reverse k) =
-      ap (forwarded_for a s p k) (realm-same one other alike p.attributes)
+      not-answered (sent_length one s p k) a s p k (realm_of one p.attributes)
+      ∙ sym (not-answered (sent_length other s p k) a s p k (realm_of other p.attributes))
   route_request-same secret a s p place.Auth = access-same secret a s p
   route_request-same secret a s p place.Acct = account-same secret a s p
   route_request-same secret a s p (place.Out k) = account-same secret a s p
 
   request-same : (secret : List ℕ) (a : Arrival) (s : Side) (p : Packet) →
-      request_admission one secret a s p ≡ request_admission other secret a s p
+      answered (request_admission one secret a s p) ≡ answered (request_admission other secret a s p)
   request-same secret a s p =
-      ap (λ (required : Bool). asked secret p required one.max_hops (route_request one secret a s p a.at))
-      (seal-same one other alike s p)
-      ∙ ap (λ (most : Option ℕ). asked secret p (seal_required other s p) most (route_request one secret a s p a.at))
-      same.max_hops
-      ∙ ap (asked secret p (seal_required other s p) other.max_hops) (route_request-same secret a s p a.at)
+      let required : Bool = seal_required other s p in
+      let routed : Admission = route_request one secret a s p a.at in
+      ap (λ (b : Bool). answered (asked secret p b one.max_hops routed)) (seal-same one other alike s p)
+      ∙ ap (λ (most : Option ℕ). answered (asked secret p required most routed)) same.max_hops
+      ∙ answered-asked secret p required other.max_hops routed (route_request other secret a s p a.at)
+      (route_request-same secret a s p a.at)
 
   -- a request of a peer
   peer-same : (a : Arrival) (i : ℕ) (p : Packet) →
-      request_admission one (peer_secret one i) a (side.Peer i) p
-      ≡ request_admission other (peer_secret other i) a (side.Peer i) p
+      answered (request_admission one (peer_secret one i) a (side.Peer i) p)
+      ≡ answered (request_admission other (peer_secret other i) a (side.Peer i) p)
   peer-same a i p = rw (secret-same one other alike i) (request-same (peer_secret other i) a (side.Peer i) p)
 
   -- what answers a Status-Server of a peer
@@ -134,22 +197,25 @@ module _ (one other : ConfigView) (same : AnswerAlike one other) where
       if answers && is_status then status else checked is_taken_there refusal.WrongCode request
 
   judged-same : (a : Arrival) (i : ℕ) (p : Packet) (is_status is_taken_there : Bool)
-      → judged one.status_server is_status is_taken_there (status_from one a (side.Peer i) p)
-      (request_admission one (peer_secret one i) a (side.Peer i) p)
-      ≡ judged other.status_server is_status is_taken_there (status_from other a (side.Peer i) p)
-      (request_admission other (peer_secret other i) a (side.Peer i) p)
+      → answered (judged one.status_server is_status is_taken_there (status_from one a (side.Peer i) p)
+      (request_admission one (peer_secret one i) a (side.Peer i) p))
+      ≡ answered (judged other.status_server is_status is_taken_there (status_from other a (side.Peer i) p)
+      (request_admission other (peer_secret other i) a (side.Peer i) p))
   judged-same a i p is_status is_taken_there =
-      ap (λ (b : Bool). judged b is_status is_taken_there (status_from one a (side.Peer i) p)
-      (request_admission one (peer_secret one i) a (side.Peer i) p)) same.status_server
-      ∙ ap (λ (x : Admission). judged other.status_server is_status is_taken_there x
-      (request_admission one (peer_secret one i) a (side.Peer i) p)) (status-same a i p)
-      ∙ ap (λ (x : Admission). judged other.status_server is_status is_taken_there
-      (status_from other a (side.Peer i) p) x) (peer-same a i p)
+      let x : Admission = request_admission one (peer_secret one i) a (side.Peer i) p in
+      let y : Admission = request_admission other (peer_secret other i) a (side.Peer i) p in
+      let status : Admission = status_from other a (side.Peer i) p in
+      ap (λ (b : Bool). answered (judged b is_status is_taken_there (status_from one a (side.Peer i) p) x))
+      same.status_server
+      ∙ ap (λ (z : Admission). answered (judged other.status_server is_status is_taken_there z x)) (status-same a i p)
+      ∙ answered-either (other.status_server && is_status) status (checked is_taken_there refusal.WrongCode x)
+      (checked is_taken_there refusal.WrongCode y)
+      (answered-checked is_taken_there refusal.WrongCode x y (peer-same a i p))
 
   auth-same : (from : Endpoint) (octets : List ℕ) (p : Packet) (o : Option ℕ) → let a : Arrival =
       record { at = place.Auth; from = from; octets = octets } in
-      sent_admission one a p (option_map (λ i. side.Peer i) o)
-      ≡ sent_admission other a p (option_map (λ i. side.Peer i) o)
+      answered (sent_admission one a p (option_map (λ i. side.Peer i) o))
+      ≡ answered (sent_admission other a p (option_map (λ i. side.Peer i) o))
   auth-same from octets p None = refl
   auth-same from octets p (Some i) =
       let a : Arrival = record { at = place.Auth; from = from; octets = octets } in
@@ -157,8 +223,8 @@ module _ (one other : ConfigView) (same : AnswerAlike one other) where
 
   acct-same : (from : Endpoint) (octets : List ℕ) (p : Packet) (o : Option ℕ) → let a : Arrival =
       record { at = place.Acct; from = from; octets = octets } in
-      sent_admission one a p (option_map (λ i. side.Peer i) o)
-      ≡ sent_admission other a p (option_map (λ i. side.Peer i) o)
+      answered (sent_admission one a p (option_map (λ i. side.Peer i) o))
+      ≡ answered (sent_admission other a p (option_map (λ i. side.Peer i) o))
   acct-same from octets p None = refl
   acct-same from octets p (Some i) =
       let a : Arrival = record { at = place.Acct; from = from; octets = octets } in
@@ -168,9 +234,9 @@ module _ (one other : ConfigView) (same : AnswerAlike one other) where
       record { at = at; from = from; octets = octets } in
       answered (sent_admission one a p (sender one a at)) ≡ answered (sent_admission other a p (sender other a at))
   place-same place.Auth from octets p =
-      rw (peer-found one other alike from.ip) (ap answered (auth-same from octets p (peer_with_ip other.peers from.ip)))
+      rw (peer-found one other alike from.ip) (auth-same from octets p (peer_with_ip other.peers from.ip))
   place-same place.Acct from octets p =
-      rw (peer-found one other alike from.ip) (ap answered (acct-same from octets p (peer_with_ip other.peers from.ip)))
+      rw (peer-found one other alike from.ip) (acct-same from octets p (peer_with_ip other.peers from.ip))
   place-same (place.Out k) from octets p =
       out-none one k from octets p (option_map (λ l. side.Link l) (link_in one k from))
       ∙ sym (out-none other k from octets p (option_map (λ l. side.Link l) (link_in other k from)))

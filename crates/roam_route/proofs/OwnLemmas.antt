@@ -1,6 +1,6 @@
 -- What an arrival gives to one realm, in two configurations that have its part in common.
 use Rattle.std.proofs.Common.{◌≡◌, ℕ, Bool, true, false, List, [], ◌∷◌, Option, Some, None, option_map, refl, sym, ap, ap₂, subst, ◌∙◌, inl, inr, arith}
-use Rattle.std.specs.Prelude.{◌==◌, ◌&&◌, ◌||◌, not, is_some, if◌then◌else◌, nat_le, Result, Ok, Err}
+use Rattle.std.specs.Prelude.{◌==◌, ◌&&◌, ◌||◌, not, is_some, if◌then◌else◌, nat_le, slice_get, Result, Ok, Err}
 use Rattle.std.proofs.lemmas.Bool.{cases_Bool}
 use Rattle.std.proofs.lemmas.Bool.Decides.{Decides-eqb, nat_tests}
 use Rattle.std.specs.Option.{option_and_then}
@@ -20,9 +20,11 @@ use Rattle.roam_conf.specs.declared.endpoint.Endpoint.{Endpoint}
 use Rattle.roam_conf.specs.declared.place.Place.{Place}
 use Rattle.roam_conf.specs.declared.place.Place.TheVariants as place
 use Rattle.roam_fwd.specs.Forwarded.{forwarded_length}
+use Rattle.roam_fwd.specs.Shaped.{shaped}
 use Rattle.roam_route.specs.UserName.{realm_of, realm_part}
 use Rattle.roam_route.specs.LocalAnswer.{accounting_answer, answer_length, local_reject, status_answer}
 use Rattle.roam_route.specs.LocalReject.{has_bad_password, has_too_many_hops, takes_of, taking}
+use Rattle.roam_route.specs.Shapings.{sent_length, shaping_between}
 use Rattle.roam_route.specs.Admission.{Arrival, Admission, sender, checked, accounted, accounting_in, by_accounting, is_answered_unnamed, is_unnamed, job_of, forwarded_for, answered_by, rejected_for, for_named_realm, route_request, request_admission, packet_admission, sent_admission, status_from, is_status_request, read_admission, admission, is_taken, peer_secret, home_secret, is_rightly_signed, is_rightly_sealed, has_needed_seal, has_few_hops, has_seal, seal_required}
 use Rattle.roam_route.specs.declared.job.Side.{Side}
 use Rattle.roam_route.specs.declared.job.Side.TheVariants as side
@@ -44,10 +46,10 @@ none-given : (realm k : ℕ) (a : Arrival) (s : Side) (p : Packet) (names : Opti
     own realm (job_of a s p k names) ≡ None
 none-given realm k a s p names differs = rw differs refl
 
-none-forwarded : (realm k : ℕ) (a : Arrival) (s : Side) (p : Packet) (names : Option ℕ) → (k == realm) ≡ false →
-    own realm (forwarded_for a s p k names) ≡ None
-none-forwarded realm k a s p names differs =
-    none-checked realm (nat_le (forwarded_length p) 4096) refusal.TooLong (job_of a s p k names)
+none-forwarded : (realm k size : ℕ) (a : Arrival) (s : Side) (p : Packet) (names : Option ℕ)
+    → (k == realm) ≡ false → own realm (forwarded_for size a s p k names) ≡ None
+none-forwarded realm k size a s p names differs =
+    none-checked realm (nat_le size 4096) refusal.TooLong (job_of a s p k names)
     (none-given realm k a s p names differs)
 
 -- a Status-Server is no realm's
@@ -101,35 +103,37 @@ none-rejected realm secret a p =
     none-checked realm (nat_le (answer_length p) 4096) refusal.TooLong (answered_by a (local_reject secret p)) refl
 
 -- nor is an Accounting-Request of another realm
-none-by : (realm k : ℕ) (way : Accounting) (secret : List ℕ) (a : Arrival) (s : Side) (p : Packet)
-    → (k == realm) ≡ false → own realm (by_accounting way secret a s p k) ≡ None
-none-by realm k Forwarded secret a s p differs = none-forwarded realm k a s p (Some k) differs
-none-by realm k Answered secret a s p differs = refl
-none-by realm k Dropped secret a s p differs = refl
+none-by : (realm k size : ℕ) (way : Accounting) (secret : List ℕ) (a : Arrival) (s : Side) (p : Packet)
+    → (k == realm) ≡ false → own realm (by_accounting size secret a s p k way) ≡ None
+none-by realm k size Forwarded secret a s p differs = none-forwarded realm k size a s p (Some k) differs
+none-by realm k size Answered secret a s p differs = refl
+none-by realm k size Dropped secret a s p differs = refl
 
 none-accounted : (realm k : ℕ) (config : ConfigView) (secret : List ℕ) (a : Arrival) (s : Side) (p : Packet)
     → (k == realm) ≡ false → own realm (accounted config secret a s p (Some k)) ≡ None
 none-accounted realm k config secret a s p differs =
-    none-checked realm (takes_of config k s) refusal.NotForPeer (by_accounting (accounting_in config k) secret a s p k)
-    (none-by realm k (accounting_in config k) secret a s p differs)
+    let size : ℕ = sent_length config s p k in
+    none-checked realm (takes_of config k s) refusal.NotForPeer
+    (by_accounting size secret a s p k (accounting_in config k))
+    (none-by realm k size (accounting_in config k) secret a s p differs)
 
 -- an Access-Request, by the realm that it asks and the one that it names
-abbrev pub access_by : List ℕ → Arrival → Side → Packet → Option ℕ → Option ℕ → Option ℕ → Admission
-access_by secret a s p most asks named =
+abbrev pub access_by : ConfigView → List ℕ → Arrival → Side → Packet → Option ℕ → Option ℕ → Option ℕ → Admission
+access_by config secret a s p most asks named =
     if not (is_some asks) || has_bad_password p || has_too_many_hops most p then rejected_for secret a p
-    else for_named_realm a s p named
+    else for_named_realm config a s p named
 
 either-none : (realm : ℕ) (b : Bool) (x y : Admission) → own realm x ≡ None → own realm y ≡ None
     → own realm (if b then x else y) ≡ None
 either-none realm true x y first second = first
 either-none realm false x y first second = second
 
-none-access : (realm k : ℕ) (secret : List ℕ) (a : Arrival) (s : Side) (p : Packet) (most asks : Option ℕ)
-    → (k == realm) ≡ false → own realm (access_by secret a s p most asks (Some k)) ≡ None
-none-access realm k secret a s p most asks differs =
+none-access : (realm k : ℕ) (config : ConfigView) (secret : List ℕ) (a : Arrival) (s : Side) (p : Packet)
+    (most asks : Option ℕ) → (k == realm) ≡ false → own realm (access_by config secret a s p most asks (Some k)) ≡ None
+none-access realm k config secret a s p most asks differs =
     either-none realm (not (is_some asks) || has_bad_password p || has_too_many_hops most p) (rejected_for secret a p)
-    (for_named_realm a s p (Some k)) (none-rejected realm secret a p)
-    (none-forwarded realm k a s p (Some k) differs)
+    (for_named_realm config a s p (Some k)) (none-rejected realm secret a p)
+    (none-forwarded realm k (sent_length config s p k) a s p (Some k) differs)
 
 -- what names a realm has a name
 not-unnamed : {X Y Z : Type 0} (f : X → Option Y) (g : Y → Option Z) (o : Option X) (z : Z)
@@ -180,10 +184,24 @@ module _ (one other : ConfigView) (realm : ℕ) (same : HaveSamePart one other r
   accounting-same : accounting_in one realm ≡ accounting_in other realm
   accounting-same = rw same.entry refl
 
-  -- an Access-Request that names a realm
+  -- and is sent as many octets
+  sent-same : (s : Side) (p : Packet) → sent_length one s p realm ≡ sent_length other s p realm
+  sent-same (side.Peer i) p =
+      ap₂ (λ (ps : List PeerView) (r : Option RealmView).
+      forwarded_length (shaped (shaping_between (slice_get ps i) r) p)) same.peers same.entry
+  sent-same (side.Link l) p = refl
+  sent-same (side.Home i) p = refl
+
+  -- what an Access-Request gives that names a realm, by whether that takes it and how many octets it is sent
+  abbrev access_to : List ℕ → Arrival → Side → Packet → Option ℕ → ℕ → Bool → ℕ → Admission
+  access_to secret a s p most k takes size =
+      if not (is_some (if takes then Some k else None)) || has_bad_password p || has_too_many_hops most p
+      then rejected_for secret a p
+      else forwarded_for size a s p k (Some k)
+
   own-access-of : (secret : List ℕ) (a : Arrival) (s : Side) (p : Packet) (most o : Option ℕ)
-      → own realm (access_by secret a s p most (taking one s o) o)
-      ≡ own realm (access_by secret a s p most (taking other s o) o)
+      → own realm (access_by one secret a s p most (taking one s o) o)
+      ≡ own realm (access_by other secret a s p most (taking other s o) o)
   own-access-of secret a s p most None = refl
   own-access-of secret a s p most (Some k) =
       elim (cases_Bool (k == realm)) [
@@ -191,18 +209,20 @@ module _ (one other : ConfigView) (realm : ℕ) (same : HaveSamePart one other r
             let here : k ≡ realm = (Decides-eqb k realm).0 yes' in
             let takes : takes_of one k s ≡ takes_of other k s =
             subst (λ (j : ℕ). takes_of one j s ≡ takes_of other j s) (sym here) (takes-same s) in
-            ap (λ (b : Bool). own realm (access_by secret a s p most (if b then Some k else None) (Some k))) takes)
-        | inr no' ↦ none-access realm k secret a s p most (taking one s (Some k)) no'
-            ∙ sym (none-access realm k secret a s p most (taking other s (Some k)) no')
+            let size : sent_length one s p k ≡ sent_length other s p k =
+            subst (λ (j : ℕ). sent_length one s p j ≡ sent_length other s p j) (sym here) (sent-same s p) in
+            ap₂ (λ (b : Bool) (n : ℕ). own realm (access_to secret a s p most k b n)) takes size)
+        | inr no' ↦ none-access realm k one secret a s p most (taking one s (Some k)) no'
+            ∙ sym (none-access realm k other secret a s p most (taking other s (Some k)) no')
       ]
 
   own-access : (secret : List ℕ) (a : Arrival) (s : Side) (p : Packet)
       → own realm (route_request one secret a s p place.Auth) ≡ own realm (route_request other secret a s p place.Auth)
   own-access secret a s p =
       let o : Option ℕ = realm_of other p.attributes in
-      ap (λ (n : Option ℕ). own realm (access_by secret a s p one.max_hops (taking one s n) n))
+      ap (λ (n : Option ℕ). own realm (access_by one secret a s p one.max_hops (taking one s n) n))
       (realm-same one other alike p.attributes)
-      ∙ ap (λ (most : Option ℕ). own realm (access_by secret a s p most (taking one s o) o)) same.max_hops
+      ∙ ap (λ (most : Option ℕ). own realm (access_by one secret a s p most (taking one s o) o)) same.max_hops
       ∙ own-access-of secret a s p other.max_hops o
 
   -- an Accounting-Request that names a realm
@@ -215,7 +235,10 @@ module _ (one other : ConfigView) (realm : ℕ) (same : HaveSamePart one other r
             subst (λ (j : ℕ). own realm (accounted one secret a s p (Some j))
             ≡ own realm (accounted other secret a s p (Some j))) (sym here)
             (ap₂ (λ (b : Bool) (way : Accounting). own realm
-            (checked b refusal.NotForPeer (by_accounting way secret a s p realm))) (takes-same s) accounting-same))
+            (checked b refusal.NotForPeer (by_accounting (sent_length one s p realm) secret a s p realm way)))
+            (takes-same s) accounting-same
+            ∙ ap (λ (n : ℕ). own realm (checked (takes_of other realm s) refusal.NotForPeer
+            (by_accounting n secret a s p realm (accounting_in other realm)))) (sent-same s p)))
         | inr no' ↦ none-accounted realm k one secret a s p no' ∙ sym (none-accounted realm k other secret a s p no')
       ]
 
@@ -249,11 +272,26 @@ module _ (one other : ConfigView) (realm : ℕ) (same : HaveSamePart one other r
       ∙ own-account-of secret a s p o (is_answered_unnamed one p) (is_answered_unnamed other p)
       (λ k is. (unnamed-not one p k (same_realm ∙ is), unnamed-not other p k is))
 
+  -- a reverse request at a realm's place
+  own-reverse : (a : Arrival) (s : Side) (p : Packet) (k : ℕ)
+      → own realm (forwarded_for (sent_length one s p k) a s p k (realm_of one p.attributes))
+      ≡ own realm (forwarded_for (sent_length other s p k) a s p k (realm_of other p.attributes))
+  own-reverse a s p k =
+      elim (cases_Bool (k == realm)) [
+        | inl yes' ↦ (
+            let here : k ≡ realm = (Decides-eqb k realm).0 yes' in
+            let size : sent_length one s p k ≡ sent_length other s p k =
+            subst (λ (j : ℕ). sent_length one s p j ≡ sent_length other s p j) (sym here) (sent-same s p) in
+            ap₂ (λ (n : ℕ) (o : Option ℕ). own realm (forwarded_for n a s p k o)) size
+            (realm-same one other alike p.attributes))
+        | inr no' ↦ none-forwarded realm k (sent_length one s p k) a s p (realm_of one p.attributes) no'
+            ∙ sym (none-forwarded realm k (sent_length other s p k) a s p (realm_of other p.attributes) no')
+      ]
+
   -- where a request goes
   own-route : (secret : List ℕ) (a : Arrival) (s : Side) (p : Packet) (at : Place)
       → own realm (route_request one secret a s p at) ≡ own realm (route_request other secret a s p at)
-  own-route secret a s p (place.Reverse k) =
-      ap (λ (n : Option ℕ). own realm (forwarded_for a s p k n)) (realm-same one other alike p.attributes)
+  own-route secret a s p (place.Reverse k) = own-reverse a s p k
   own-route secret a s p place.Auth = own-access secret a s p
   own-route secret a s p place.Acct = own-account secret a s p
   own-route secret a s p (place.Out k) = own-account secret a s p
@@ -359,8 +397,9 @@ module _ (one other : ConfigView) (realm : ℕ) (same : HaveSamePart one other r
       (none-checked realm (has_needed_seal (seal_required config (side.Home i) p) p)
       refusal.MissingMessageAuthenticator _
       (none-checked realm (has_few_hops config.max_hops p) refusal.TooManyHops
-      (forwarded_for a (side.Home i) p k (realm_of config p.attributes))
-      (none-forwarded realm k a (side.Home i) p (realm_of config p.attributes) differs)))))
+      (forwarded_for (sent_length config (side.Home i) p k) a (side.Home i) p k (realm_of config p.attributes))
+      (none-forwarded realm k (sent_length config (side.Home i) p k) a (side.Home i) p
+      (realm_of config p.attributes) differs)))))
 
   place-same : (at : Place) (from : Endpoint) (octets : List ℕ) (p : Packet) → let a : Arrival =
       record { at = at; from = from; octets = octets } in

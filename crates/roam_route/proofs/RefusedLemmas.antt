@@ -14,12 +14,12 @@ use Rattle.roam_conf.specs.declared.accounting.Accounting.TheVariants.{Forwarded
 use Rattle.roam_conf.specs.declared.place.Link.{Link}
 use Rattle.roam_conf.specs.declared.place.Place.{Place}
 use Rattle.roam_conf.specs.declared.place.Place.TheVariants as place
-use Rattle.roam_fwd.specs.Forwarded.{forwarded_length}
 use Rattle.roam_route.specs.UserName.{realm_of}
 use Rattle.roam_route.specs.LocalAnswer.{answer_length, local_reject}
 use Rattle.roam_route.specs.LocalReject.{is_rejected, takes_of}
+use Rattle.roam_route.specs.Shapings.{sent_length}
 use Rattle.roam_route.specs.Admission.{Arrival, Admission, refused, checked, accounted, accounting_in, by_accounting, is_answered_unnamed, job_of, forwarded_for, answered_by, rejected_for, for_named_realm, route_request, request_admission, packet_admission, sent_admission, admission, is_rightly_signed, is_rightly_sealed, has_needed_seal, has_few_hops, seal_required, peer_secret, home_secret}
-use Rattle.roam_route.specs.AdmittedRequests.{IsRequestAt, IsRightlySigned, sealing_authenticator, HasNeededSeal, FailsFirst, NothingFails, IsPassedOn, FailsToAccount, FailsInRealm, FailsNamed, FailsToGo, FailsFor, RefusedFailsFirst}
+use Rattle.roam_route.specs.AdmittedRequests.{IsRequestAt, IsRightlySigned, sealing_authenticator, HasNeededSeal, FailsFirst, NothingFails, IsPassedOn, FailsToAccount, FailsForSize, FailsInRealm, FailsNamed, FailsToGo, FailsFor, RefusedFailsFirst}
 use Rattle.roam_route.specs.declared.job.Side.{Side}
 use Rattle.roam_route.specs.declared.job.Side.TheVariants as side
 use Rattle.roam_route.proofs.RequestTestLemmas.{signed_decided, sealed_decided, needed_decided, size_by, passed_decided}
@@ -28,18 +28,18 @@ use Rattle.roam_route.proofs.AdmittedLemmas.{asked_named, fails, Fits, other_hop
 -- ---- what is refused
 
 -- the size of the forwarded packet
-size_fails : (a : Arrival) (s : Side) (p : Packet) (realm : ℕ) (named : Option ℕ) (why : Refusal)
-    → (forwarded_for a s p realm named ≡ refused why) ↔ FailsFirst (Fits p) refusal.TooLong NothingFails why
-size_fails a s p realm named why =
-    fails NothingFails (nat_le (forwarded_length p) MAX_PACKET_LENGTH) refusal.TooLong
-    (job_of a s p realm named) why (size_by (forwarded_length p)) (λ h. absurd (cc h), λ h. absurd h)
+size_fails : (size : ℕ) (a : Arrival) (s : Side) (p : Packet) (realm : ℕ) (named : Option ℕ) (why : Refusal)
+    → (forwarded_for size a s p realm named ≡ refused why) ↔ FailsFirst (Fits size) refusal.TooLong NothingFails why
+size_fails size a s p realm named why =
+    fails NothingFails (nat_le size MAX_PACKET_LENGTH) refusal.TooLong
+    (job_of a s p realm named) why (size_by size) (λ h. absurd (cc h), λ h. absurd h)
 
 -- what becomes of the realm's accounting
-accounting_fails : (way : Accounting) (secret : List ℕ) (a : Arrival) (s : Side) (p : Packet) (realm : ℕ)
-    (why : Refusal) → (by_accounting way secret a s p realm ≡ refused why) ↔ FailsToAccount way p why
-accounting_fails Forwarded secret a s p realm why = size_fails a s p realm (Some realm) why
-accounting_fails Answered secret a s p realm why = (λ h. absurd (cc h), λ h. absurd h)
-accounting_fails Dropped secret a s p realm why = (
+accounting_fails : (way : Accounting) (size : ℕ) (secret : List ℕ) (a : Arrival) (s : Side) (p : Packet) (realm : ℕ)
+    (why : Refusal) → (by_accounting size secret a s p realm way ≡ refused why) ↔ FailsToAccount way size why
+accounting_fails Forwarded size secret a s p realm why = size_fails size a s p realm (Some realm) why
+accounting_fails Answered size secret a s p realm why = (λ h. absurd (cc h), λ h. absurd h)
+accounting_fails Dropped size secret a s p realm why = (
   λ h. (let same : refusal.AccountingDropped ≡ why = cc h in sym same),
   λ h. ap refused (sym h),
 )
@@ -54,8 +54,9 @@ accounted_fails config secret a s p None why = (
 accounted_fails config secret a s p (Some realm) why =
     let way : Accounting = accounting_in config realm in
     let itself : IsTrue (takes_of config realm s) ↔ IsTrue (takes_of config realm s) = (λ h. h, λ h. h) in
-    fails (FailsToAccount way p) (takes_of config realm s) refusal.NotForPeer (by_accounting way secret a s p realm)
-    why itself (accounting_fails way secret a s p realm why)
+    let size : ℕ = sent_length config s p realm in
+    fails (FailsToAccount way size) (takes_of config realm s) refusal.NotForPeer
+    (by_accounting size secret a s p realm way) why itself (accounting_fails way size secret a s p realm why)
 
 -- an Accounting-Request that is answered since it has no name isn't refused
 acct_fails : (config : ConfigView) (secret : List ℕ) (a : Arrival) (s : Side) (p : Packet) (why : Refusal)
@@ -74,10 +75,11 @@ acct_fails config secret a s p why =
     ]
 
 -- where one is named, the size alone
-named_fails : (a : Arrival) (s : Side) (p : Packet) (o : Option ℕ) (why : Refusal) → IsSome o
-    → (for_named_realm a s p o ≡ refused why) ↔ FailsFirst (Fits p) refusal.TooLong NothingFails why
-named_fails a s p None why there = absurd (cc there)
-named_fails a s p (Some realm) why there = size_fails a s p realm (Some realm) why
+named_fails : (config : ConfigView) (a : Arrival) (s : Side) (p : Packet) (o : Option ℕ) (why : Refusal) → IsSome o
+    → (for_named_realm config a s p o ≡ refused why) ↔ FailsForSize config s p o why
+named_fails config a s p None why there = absurd (cc there)
+named_fails config a s p (Some realm) why there =
+    size_fails (sent_length config s p realm) a s p realm (Some realm) why
 
 -- the size of a local reject
 answer_fails : (secret : List ℕ) (a : Arrival) (p : Packet) (why : Refusal)
@@ -107,7 +109,7 @@ access_fails config secret a s p why =
       | inr passes ↦ (
           let on : IsPassedOn config s p = passed.0 passes in
           let named = asked_named config s (realm_of config p.attributes) on.names in
-          let size = named_fails a s p (realm_of config p.attributes) why named in
+          let size = named_fails config a s p (realm_of config p.attributes) why named in
           rw passes (
             λ h. inl (on, size.0 h),
             λ h. elim h [
@@ -154,11 +156,12 @@ goes_fails config secret a (side.Peer i) p place.Acct why code =
     (route_request config secret a (side.Peer i) p place.Acct) why
     (other_hops config.max_hops p other) (acct_fails config secret a (side.Peer i) p why)
 goes_fails config secret a (side.Home i) p (place.Reverse k) why code =
-    fails (FailsFirst (Fits p) refusal.TooLong NothingFails)
+    let size : ℕ = sent_length config (side.Home i) p k in
+    fails (FailsFirst (Fits size) refusal.TooLong NothingFails)
     (has_few_hops config.max_hops p) refusal.TooManyHops
-    (forwarded_for a (side.Home i) p k (realm_of config p.attributes)) why
+    (forwarded_for size a (side.Home i) p k (realm_of config p.attributes)) why
     (other_hops config.max_hops p (reverse_other k i p.code code))
-    (size_fails a (side.Home i) p k (realm_of config p.attributes) why)
+    (size_fails size a (side.Home i) p k (realm_of config p.attributes) why)
 goes_fails config secret a (side.Peer i) p (place.Reverse k) why code = absurd code
 goes_fails config secret a (side.Link l) p (place.Reverse k) why code = absurd code
 goes_fails config secret a (side.Link l) p place.Auth why code = absurd code

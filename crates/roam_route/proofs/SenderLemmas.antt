@@ -10,7 +10,7 @@ use Rattle.roam_conf.specs.Config.{ConfigView, PeerView, RealmView}
 use Rattle.roam_conf.specs.Lookup.{realm_named, peer_with_ip, link_at, link_in, home_in, reverse_home}
 use Rattle.roam_conf.specs.declared.place.Link.{Link}
 use Rattle.roam_conf.specs.declared.place.Place.TheVariants as place
-use Rattle.roam_conf.proofs.NameLemmas.{realm_named_within}
+use Rattle.roam_conf.proofs.LookupLaws.{realm_named_within}
 use Rattle.roam_conf.proofs.OneLinkLemmas.{link_in_bound, home_in_bound}
 use Rattle.roam_route.specs.UserName.{realm_of, realm_part}
 use Rattle.roam_route.specs.Admission.{Arrival, sender}

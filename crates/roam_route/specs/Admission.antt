@@ -23,10 +23,10 @@ use Rattle.roam_conf.specs.declared.place.Link.{Link}
 use Rattle.roam_conf.specs.declared.place.Link.TheVariants as link
 use Rattle.roam_conf.specs.declared.place.Place.{Place}
 use Rattle.roam_conf.specs.declared.place.Place.TheVariants as place
-use Rattle.roam_fwd.specs.Forwarded.{forwarded_length}
 use Rattle.roam_route.specs.UserName.{realm_of}
 use Rattle.roam_route.specs.LocalAnswer.{accounting_answer, answer_length, local_reject, status_answer}
 use Rattle.roam_route.specs.LocalReject.{has_too_many_hops, is_rejected, takes_of}
+use Rattle.roam_route.specs.Shapings.{sent_length}
 use Rattle.roam_route.specs.declared.job.Side.{Side}
 use Rattle.roam_route.specs.declared.job.Side.TheVariants as side
 
@@ -159,10 +159,10 @@ job_of a s p realm names =
       named = names;
     })
 
--- a request of a realm, where its forwarded packet has at most 4096 octets
-abbrev pub forwarded_for : Arrival → Side → Packet → ℕ → Option ℕ → Admission
-forwarded_for a s p realm names =
-    checked (nat_le (forwarded_length p) MAX_PACKET_LENGTH) refusal.TooLong (job_of a s p realm names)
+-- a request of a realm, where the packet that is forwarded for it has at most 4096 octets
+abbrev pub forwarded_for : ℕ → Arrival → Side → Packet → ℕ → Option ℕ → Admission
+forwarded_for size a s p realm names =
+    checked (nat_le size MAX_PACKET_LENGTH) refusal.TooLong (job_of a s p realm names)
 
 -- an answer of the broker itself: it carries no realm, and goes back to where the request came from
 abbrev pub answered_by : Arrival → Packet → Admission
@@ -184,26 +184,26 @@ rejected_for secret a p =
     checked (nat_le (answer_length p) MAX_PACKET_LENGTH) refusal.TooLong (answered_by a (local_reject secret p))
 
 -- a request that names its realm, or none
-abbrev pub for_named_realm : Arrival → Side → Packet → Option ℕ → Admission
-for_named_realm a s p None = refused refusal.NoRealm
-for_named_realm a s p (Some realm) = forwarded_for a s p realm (Some realm)
+abbrev pub for_named_realm : ConfigView → Arrival → Side → Packet → Option ℕ → Admission
+for_named_realm config a s p None = refused refusal.NoRealm
+for_named_realm config a s p (Some realm) = forwarded_for (sent_length config s p realm) a s p realm (Some realm)
 
 -- what becomes of a realm's accounting
 abbrev pub accounting_in : ConfigView → ℕ → Accounting
 accounting_in config realm = option_map_or (λ r. r.accounting) (slice_get config.realms realm) Forwarded
 
--- an Accounting-Request of a realm, by what becomes of that
-abbrev pub by_accounting : Accounting → List ℕ → Arrival → Side → Packet → ℕ → Admission
-by_accounting Forwarded secret a s p realm = forwarded_for a s p realm (Some realm)
-by_accounting Answered secret a s p realm = answered_by a (accounting_answer secret p)
-by_accounting Dropped secret a s p realm = refused refusal.AccountingDropped
+-- an Accounting-Request of a realm, by what becomes of that, and by the size of what is forwarded
+abbrev pub by_accounting : ℕ → List ℕ → Arrival → Side → Packet → ℕ → Accounting → Admission
+by_accounting size secret a s p realm Forwarded = forwarded_for size a s p realm (Some realm)
+by_accounting size secret a s p realm Answered = answered_by a (accounting_answer secret p)
+by_accounting size secret a s p realm Dropped = refused refusal.AccountingDropped
 
 -- an Accounting-Request that names its realm, or none: the realm has to take the sender's requests
 abbrev pub accounted : ConfigView → List ℕ → Arrival → Side → Packet → Option ℕ → Admission
 accounted config secret a s p None = refused refusal.NoRealm
 accounted config secret a s p (Some realm) =
     checked (takes_of config realm s) refusal.NotForPeer
-    (by_accounting (accounting_in config realm) secret a s p realm)
+    (by_accounting (sent_length config s p realm) secret a s p realm (accounting_in config realm))
 
 -- whether a request has no User-Name
 abbrev pub is_unnamed : List Attribute → Bool
@@ -217,10 +217,10 @@ is_answered_unnamed config p = config.answer_unnamed && is_unnamed p.attributes
 -- where it came from a home server; else to the realm that it names
 abbrev pub route_request : ConfigView → List ℕ → Arrival → Side → Packet → Place → Admission
 route_request config secret a s p (place.Reverse realm) =
-    forwarded_for a s p realm (realm_of config p.attributes)
+    forwarded_for (sent_length config s p realm) a s p realm (realm_of config p.attributes)
 route_request config secret a s p place.Auth =
     if is_rejected config s p then rejected_for secret a p
-    else for_named_realm a s p (realm_of config p.attributes)
+    else for_named_realm config a s p (realm_of config p.attributes)
 route_request config secret a s p _ =
     if is_answered_unnamed config p then answered_by a (accounting_answer secret p)
     else accounted config secret a s p (realm_of config p.attributes)

@@ -18,10 +18,12 @@ use Rattle.roam_conf.specs.declared.accounting.Accounting.{Accounting}
 use Rattle.roam_conf.specs.declared.accounting.Accounting.TheVariants.{Forwarded, Answered, Dropped}
 use Rattle.roam_conf.specs.declared.place.Place.{Place}
 use Rattle.roam_conf.specs.declared.place.Place.TheVariants as place
-use Rattle.roam_fwd.specs.Forwarded.{Forwarding, forwarded, forwarded_length}
+use Rattle.roam_fwd.specs.Forwarded.{Forwarding, forwarded}
+use Rattle.roam_fwd.specs.Shaped.{Shaping, shaped}
 use Rattle.roam_route.specs.Admission.{Arrival, PlainJob, accounting_in, admission, admitted, home_secret, is_answered_unnamed, is_status_request, peer_secret, refused, seal_required, sender}
 use Rattle.roam_route.specs.LocalAnswer.{answer_length}
 use Rattle.roam_route.specs.LocalReject.{asked_realm, takes_of}
+use Rattle.roam_route.specs.Shapings.{sent_length}
 use Rattle.roam_route.specs.UserName.{realm_of}
 use Rattle.roam_route.specs.declared.job.Side.{Side}
 use Rattle.roam_route.specs.declared.job.Side.TheVariants as side
@@ -98,12 +100,13 @@ IsForwarded config realm = accounting_in config realm ≡ Forwarded
 -- Access-Request's passwords can be carried: at most one User-Password, of 16 to 128 octets in whole blocks,
 -- and none beside a CHAP-Password. It is for a realm: a home server's for the realm of its place, a peer's for
 -- the one that its User-Name names, which takes that peer's requests and, of an Accounting-Request, has its accounting
--- forwarded. Its forwarded packet has at most 4096 octets. An arrival gives a realm a
--- request just where it is one; what isn't is refused for the first of these parts that fails, in this order:
--- code, signature, Message-Authenticator, that there is one where it must be, hops, realm, that it may be asked, its
--- accounting, size. (An Access-Request that fails in its realm, passwords or hops is answered by a local reject, whose
--- size is then the last part; an Accounting-Request without a name, or for a realm that has these answered, may be
--- answered by the broker, and isn't refused then.)
+-- forwarded. The packet that is forwarded for it has at most 4096 octets: of a peer's request as the peer and the
+-- realm have it shaped, of a home server's as it came. An arrival gives a realm a request just where it is one; what
+-- isn't is refused for the first of these parts that fails, in this order: code, signature, Message-Authenticator,
+-- that there is one where it must be, hops, realm, that it may be asked, its accounting, size. (An Access-Request
+-- that fails in its realm, passwords or hops is answered by a local reject, whose size is then the last part; an
+-- Accounting-Request without a name, or for a realm that has these answered, may be answered by the broker, and isn't
+-- refused then.)
 -- Source: RFC 2865 sections 3, 4.1, 5.2 and 5.33, RFC 2866 sections 3 and 4.1, RFC 3579 sections 3.1 and 3.2,
 -- RFC 5176 sections 2.3 and 3.4; the order, the limit of hops, the seal that is required and that a seal over
 -- zeros is wanted in accounting: ours
@@ -125,7 +128,7 @@ pub record IsRightRequest (config : ConfigView) (at : Place) (s : Side) (p : Pac
     pub realm_is : IsForRealm config at p realm
     pub asks : MayAsk config s realm
     pub accounting : p.code ≡ ACCOUNTING_REQUEST → IsForwarded config realm
-    pub size : forwarded_length p ≤ MAX_PACKET_LENGTH
+    pub size : sent_length config s p realm ≤ MAX_PACKET_LENGTH
 
 -- a job is a packet's: from the place, the source and the sender of the arrival, with the packet's octets
 -- without padding, and the realm that its User-Name names
@@ -167,10 +170,10 @@ pub record IsPassedOn (config : ConfigView) (s : Side) (p : Packet) : Type 0 whe
 
 -- why an Accounting-Request for a realm isn't forwarded, by what becomes of the realm's accounting: it is answered, and
 -- not refused; it is dropped; or it is too long
-abbrev pub FailsToAccount : Accounting → Packet → Refusal → Type 0
-FailsToAccount Forwarded p why = FailsFirst (forwarded_length p ≤ MAX_PACKET_LENGTH) refusal.TooLong NothingFails why
-FailsToAccount Answered p why = ⊥
-FailsToAccount Dropped p why = why ≡ refusal.AccountingDropped
+abbrev pub FailsToAccount : Accounting → ℕ → Refusal → Type 0
+FailsToAccount Forwarded size why = FailsFirst (size ≤ MAX_PACKET_LENGTH) refusal.TooLong NothingFails why
+FailsToAccount Answered size why = ⊥
+FailsToAccount Dropped size why = why ≡ refusal.AccountingDropped
 
 -- why an Accounting-Request isn't forwarded, by the realm that it names: there is none, it may not be asked, or the
 -- above
@@ -178,23 +181,29 @@ abbrev pub FailsInRealm : ConfigView → Side → Packet → Option ℕ → Refu
 FailsInRealm config s p None why = why ≡ refusal.NoRealm
 FailsInRealm config s p (Some realm) why =
     FailsFirst (IsTrue (takes_of config realm s)) refusal.NotForPeer
-    (FailsToAccount (accounting_in config realm) p) why
+    (FailsToAccount (accounting_in config realm) (sent_length config s p realm)) why
 
 -- the same of a request that isn't answered since it has no name
 pub record FailsNamed (config : ConfigView) (s : Side) (p : Packet) (why : Refusal) : Type 0 where
   pub unanswered : is_answered_unnamed config p ≡ false
   pub fails : FailsInRealm config s p (realm_of config p.attributes) why
 
+-- why a request isn't forwarded for its size to the realm that it names; one that names none is never asked about
+abbrev pub FailsForSize : ConfigView → Side → Packet → Option ℕ → Refusal → Type 0
+FailsForSize config s p None why = ⊥
+FailsForSize config s p (Some realm) why =
+    FailsFirst (sent_length config s p realm ≤ MAX_PACKET_LENGTH) refusal.TooLong NothingFails why
+
 -- why a request isn't forwarded that is signed and sealed as it must be: its hops, its realm, its size,
 -- in this order. An Access-Request fails for the size alone, of its local reject where it gets one
 abbrev pub FailsToGo : ConfigView → Side → Packet → Place → Refusal → Type 0
 FailsToGo config s p place.Auth why =
-    (IsPassedOn config s p × FailsFirst (forwarded_length p ≤ MAX_PACKET_LENGTH) refusal.TooLong NothingFails why)
+    (IsPassedOn config s p × FailsForSize config s p (realm_of config p.attributes) why)
     ⊎ ((IsPassedOn config s p → ⊥)
     × FailsFirst (answer_length p ≤ MAX_PACKET_LENGTH) refusal.TooLong NothingFails why)
 FailsToGo config s p (place.Reverse own) why =
     FailsFirst (HasFewHops config.max_hops p) refusal.TooManyHops
-    (FailsFirst (forwarded_length p ≤ MAX_PACKET_LENGTH) refusal.TooLong NothingFails) why
+    (FailsFirst (sent_length config s p own ≤ MAX_PACKET_LENGTH) refusal.TooLong NothingFails) why
 FailsToGo config s p _ why =
     FailsFirst (HasFewHops config.max_hops p) refusal.TooManyHops (FailsNamed config s p) why
 
@@ -232,10 +241,12 @@ OtherCodeIsRefused = (config : ConfigView) (a : Arrival) (p : Packet) (s : Side)
     (IsRequestAt a.at s p.code → ⊥) → is_status_request config a.at s p.code ≡ false →
     admission config a ≡ refused refusal.WrongCode
 
--- what is forwarded of an admitted request has one Proxy-State more than the request, the ticket: so where
--- there is a limit of hops, at most one more than that (RFC 2865, section 5.33; the limit is ours)
+-- what is forwarded of an admitted request has at most one Proxy-State more than the request, the ticket: so where
+-- there is a limit of hops, at most one more than that, however the request is shaped (RFC 2865, section 5.33; the
+-- limit is ours)
 abbrev pub ForwardedHasFewHops : Type 0
 ForwardedHasFewHops = (config : ConfigView) (a : Arrival) (p : Packet) (job : PlainJob) (f : Forwarding)
-    (limit : ℕ) → reading a.octets ≡ Ok p → IsOfRequest job.side → admission config a ≡ admitted job →
+    (s : Shaping) (limit : ℕ) → reading a.octets ≡ Ok p → IsOfRequest job.side → admission config a ≡ admitted job →
     config.max_hops ≡ Some limit →
-    count_of PROXY_STATE (forwarded f p).attributes ≤ limit + 1
+    (count_of PROXY_STATE (forwarded f p).attributes ≤ limit + 1)
+    × (count_of PROXY_STATE (forwarded f (shaped s p)).attributes ≤ limit + 1)

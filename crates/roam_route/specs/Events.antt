@@ -5,11 +5,13 @@ use Rattle.roam_wire.specs.Reading.{IsPacketText, packet_of}
 use Rattle.roam_conf.specs.Config.{ConfigView}
 use Rattle.roam_conf.specs.Lookup.{IsLinkIn, servers_in}
 use Rattle.roam_fwd.specs.Forwarded.{CanBeForwarded}
+use Rattle.roam_fwd.specs.Shaped.{CanBeShaped}
 use Rattle.roam_route.specs.declared.job.Prepared.{Prepared}
 use Rattle.roam_route.specs.declared.job.Prepared.TheVariants as prepared
 use Rattle.roam_route.specs.declared.job.Side.{Side}
 use Rattle.roam_route.specs.declared.job.Side.TheVariants as side
 use Rattle.roam_route.specs.Admission.{Arrival, PlainJob, admitted, rejected, admission, is_taken}
+use Rattle.roam_route.specs.Shapings.{shaping_of}
 use Rattle.roam_route.specs.Shown.{shown_job, shown_out}
 use Rattle.roam_route.specs.UserName.{realm_of}
 
@@ -44,11 +46,11 @@ IsConfigured config realm (side.Peer i) = i < length config.peers
 IsConfigured config realm (side.Link l) = IsLinkIn config realm l
 IsConfigured config realm (side.Home i) = i < length (servers_in config realm)
 
--- a request can be forwarded; a reply comes from a link
-abbrev pub IsForwardable : Side → Packet → Type 0
-IsForwardable (side.Peer i) p = CanBeForwarded p
-IsForwardable (side.Link l) p = Unit {0}
-IsForwardable (side.Home i) p = CanBeForwarded p
+-- a request can be forwarded, a peer's as it is shaped for the realm; a reply comes from a link
+abbrev pub IsForwardable : ConfigView → ℕ → Side → Packet → Type 0
+IsForwardable config realm (side.Peer i) p = CanBeShaped (shaping_of config i realm) p
+IsForwardable config realm (side.Link l) p = Unit {0}
+IsForwardable config realm (side.Home i) p = CanBeForwarded p
 
 -- the realm that is named is the one which the first User-Name of a request gives; a reply names none
 abbrev pub IsNamed : ConfigView → Side → Packet → Option ℕ → Type 0
@@ -63,7 +65,7 @@ pub record IsSoundEvent (config : ConfigView) (job : PlainJob) : Type 0 where
   pub size : packet_length (packet_of job.octets) ≡ length job.octets
   pub code : is_taken job.place job.side (packet_of job.octets).code ≡ true
   pub sender : IsConfigured config job.realm job.side
-  pub forwardable : IsForwardable job.side (packet_of job.octets)
+  pub forwardable : IsForwardable config job.realm job.side (packet_of job.octets)
   pub named : IsNamed config job.side (packet_of job.octets) job.named
 
 -- the realm of an event is configured

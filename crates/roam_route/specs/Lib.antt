@@ -7,6 +7,7 @@ pub mod LocalReject
 pub mod NameLaws
 pub mod OwnPart
 pub mod RejectLaws
+pub mod Shapings
 pub mod Shown
 pub mod StatusLaws
 pub mod UserName

@@ -6,8 +6,9 @@
 //! # Proved
 //!
 //! - a realm is given a request just where it is right: code, sender, signature, seal, hops, passwords, realm, that
-//!   the realm takes its peer's requests, that its accounting is forwarded, and size, each a fact with its section; one that isn't is refused for the first part that fails; what
-//!   is forwarded has at most one Proxy-State more than `max_hops` | law `admitted_requests`: `admitted`,
+//!   the realm takes its peer's requests, that its accounting is forwarded, and the size of what is then sent, each a
+//!   fact with its section; one that isn't is refused for the first part that fails; what is forwarded has at most
+//!   one Proxy-State more than `max_hops`, however it is shaped | law `admitted_requests`: `admitted`,
 //!   `refused`, `hops`
 //! - passwords open to the same plain text, and all else but the Message-Authenticator is carried in its order,
 //!   octet for octet; in a request that isn't an Access-Request that stands where it stood, with another Value
@@ -40,6 +41,7 @@ mod job;
 mod laws;
 mod nas;
 mod routing;
+mod shapings;
 mod source;
 mod user_name;
 
@@ -49,5 +51,6 @@ pub use datagram::{Datagram, Out};
 pub use job::{Job, Prepared, Side};
 pub use laws::{accounting_answers, events, names, own_answers, own_part, rejects, status_answers};
 pub use nas::{NasName, nas_of};
+pub use shapings::request_shaping;
 pub use source::is_reverse_request;
 pub use user_name::{realm_of, realm_part};

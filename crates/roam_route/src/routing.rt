@@ -8,6 +8,7 @@ ghost use Rattle.roam_route.specs.Admission.{accounted, answered_by, for_named_r
 ghost use Rattle.roam_route.specs.Admission.{route_request};
 ghost use Rattle.roam_route.specs.LocalAnswer.{accounting_answer};
 ghost use Rattle.roam_route.specs.LocalReject.{is_rejected, taking};
+ghost use Rattle.roam_route.specs.Shapings.{sent_length};
 ghost use Rattle.roam_route.specs.UserName.{realm_of};
 ghost use Rattle.roam_route.specs.Shown.{Prepares, shown_arrival};
 
@@ -15,10 +16,10 @@ use crate::answering::{accounting_answer, reject};
 use crate::checks::{has_bad_password, has_too_many_hops, is_unnamed};
 use crate::datagram::{Datagram, Out};
 use crate::job::{Job, Prepared, Side};
+use crate::shapings::sent_len;
 use crate::source::{accounting_of, takes_of};
 use crate::user_name::realm_of;
 use roam_conf::{Accounting, Config, Place};
-use roam_fwd::forwarded_len;
 use roam_wire::{MAX_PACKET_LENGTH, Octets, Refusal, View};
 use std::alloc::Allocator;
 
@@ -52,16 +53,17 @@ pub(crate) fn job_of<A: Allocator + Copy>(
     }))
 }
 
-/// A request of a realm, where its forwarded packet has at most 4096 octets.
+/// A request of a realm, where the packet that is forwarded for it has at most 4096 octets.
 fn forwarded_for<A: Allocator + Copy>(
+    config: &Config,
     packet: &SentPacket<'_, A>,
     realm: u16,
     names: Option<u16>,
 ) -> Result<Prepared<A>, Refusal>
-    ensures { Prepares result (forwarded_for (shown_arrival packet.now.datagram.now)
-        packet.now.side packet.now.view realm names) }
+    ensures { Prepares result (forwarded_for (sent_length (shown config.now) packet.now.side packet.now.view realm)
+        (shown_arrival packet.now.datagram.now) packet.now.side packet.now.view realm names) }
 {
-    if forwarded_len(&packet.view) > MAX_PACKET_LENGTH {
+    if sent_len(config, packet.side, &packet.view, realm) > MAX_PACKET_LENGTH {
         return Err(Refusal::TooLong);
     }
     job_of(packet, realm, names)
@@ -69,15 +71,16 @@ fn forwarded_for<A: Allocator + Copy>(
 
 /// A request of the realm that it names, if it names one.
 fn for_named_realm<A: Allocator + Copy>(
+    config: &Config,
     packet: &SentPacket<'_, A>,
     realm: Option<u16>,
 ) -> Result<Prepared<A>, Refusal>
-    ensures { Prepares result (for_named_realm (shown_arrival packet.now.datagram.now) packet.now.side
-        packet.now.view realm) }
+    ensures { Prepares result (for_named_realm (shown config.now) (shown_arrival packet.now.datagram.now)
+        packet.now.side packet.now.view realm) }
 {
     match realm {
         None => Err(Refusal::NoRealm),
-        Some(index) => forwarded_for(packet, index, realm),
+        Some(index) => forwarded_for(config, packet, index, realm),
     }
 }
 
@@ -162,7 +165,7 @@ fn accounted<A: Allocator + Copy>(
         return Err(Refusal::NotForPeer);
     }
     match accounting_of(config, index) {
-        Accounting::Forwarded => forwarded_for(packet, index, realm),
+        Accounting::Forwarded => forwarded_for(config, packet, index, realm),
         Accounting::Answered => accounting_answered(packet, secret),
         Accounting::Dropped => Err(Refusal::AccountingDropped),
     }
@@ -186,13 +189,13 @@ pub(crate) fn route_request<A: Allocator + Copy>(
     let view = &packet.view;
     let realm = realm_of(config, view);
     if let Place::Reverse(own) = packet.datagram.at {
-        return forwarded_for(packet, own, realm);
+        return forwarded_for(config, packet, own, realm);
     }
     if packet.datagram.at == Place::Auth {
         return if is_rejected(config, packet, realm) {
             rejected_for(packet, secret)
         } else {
-            for_named_realm(packet, realm)
+            for_named_realm(config, packet, realm)
         };
     }
     if config.answer_unnamed && is_unnamed(view) {

@@ -17,7 +17,7 @@ pub struct AuditedHub<N: Opened> {
     pub shards: Vec<Paused<Global>>,
 }
 
-/// Closes a hub, and audits what it kept by the seats of its workers. Its shards stand where the histories end that
+/// Closes a hub, and audits what it kept by the seats of its threads. Its shards stand where the histories end that
 /// were audited.
 ///
 /// # Errors

@@ -19,6 +19,7 @@ mod parts;
 mod start;
 mod watch;
 
+pub use asked::attending::stopping;
 pub use change::configured::{Configured, Handover};
 pub use change::fresh::FreshMeans;
 pub use change::next::{Next, out_of_memory, widen_all};

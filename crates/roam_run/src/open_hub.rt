@@ -128,6 +128,7 @@ fn run<
         }
         Err(fault) => RunResult {
             ends: room.ends,
+            seats: room.seats,
             end: HubEnd::Failed(fault, handover),
         },
     }
@@ -163,12 +164,8 @@ fn run_to_end<
     ensures may { IfOk result (λ run. MayGoOn N.opening.config run.end) }
     ensures err { IfErr result IsAfterBinding }
 {
-    let ThreadRoom {
-        results,
-        seats,
-        outboxes,
-    } = room;
-    let RunResult { ends, end } = run(parts, configured, hub, seat, results, means);
+    let ThreadRoom { results, outboxes } = room;
+    let RunResult { ends, seats, end } = run(parts, configured, hub, seat, results, means);
     match gather(ends, seats, outboxes) {
         Ok(ended) => {
             if ended.has_given_up {

@@ -21,19 +21,17 @@ use std::alloc::Global;
 #[derive(Drop)]
 pub struct ThreadRoom<N: Opened> {
     pub results: ResultRoom<N>,
-    pub seats: Vec<Seat<Global, N>>,
     pub outboxes: Vec<Outbox<Global>>,
 }
 
 impl<N: Opened> ThreadRoom<N> {
-    /// Room for so many threads.
-    fn new(alloc: Global, threads: usize) -> Result<ThreadRoom<N>, ServeFault>
+    /// Room for the threads of so many shards.
+    fn new(alloc: Global, shards: u16) -> Result<ThreadRoom<N>, ServeFault>
         ensures { IfErr result IsAfterBinding }
     {
         Ok(ThreadRoom {
-            results: ResultRoom::new(alloc, threads)?,
-            seats: Vec::with_capacity(alloc, threads)?,
-            outboxes: Vec::with_capacity(alloc, threads)?,
+            results: ResultRoom::new(alloc, shards)?,
+            outboxes: Vec::with_capacity(alloc, usize::from(shards) + 1)?,
         })
     }
 }
@@ -52,9 +50,8 @@ impl<'c, N: Opened> HubRoom<'c, N> {
         requires { shown config.now ≡ N.opening.config }
         ensures { IfErr result IsAfterBinding }
     {
-        let threads = usize::from(config.shards) + 1;
         Ok(HubRoom {
-            threads: ThreadRoom::new(alloc, threads)?,
+            threads: ThreadRoom::new(alloc, config.shards)?,
             pause: PauseRoom::new(alloc, config)?,
         })
     }

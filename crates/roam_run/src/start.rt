@@ -8,7 +8,7 @@ use crate::change::source::Source;
 use crate::parts::HubEnd;
 use log::Log;
 use roam_control::Course;
-use roam_hub::{Gate, Opened};
+use roam_hub::{Gate, Opened, Seat};
 use roam_notices::ReloadEnd;
 use roam_sockets::{ServeFault, now};
 use roam_telling::{serving, tell_reload};
@@ -94,22 +94,28 @@ fn tell_start<R: Wait + Clock + Log, G, N: Opened>(
     shared: &Shared<'_, '_, G, N>,
     handover: Handover,
 ) {
-    let Handover { reply, before } = handover;
+    let Handover {
+        reply,
+        before,
+        is_awaited,
+    } = handover;
     tell_or_drop(rt, shared.config, serving(shared.config));
     drop(before);
     if let Some(reply) = reply {
         let office = shared.office;
         tell_reload(rt, reload_end(reply.course), reply.body.as_slice());
         office.count_reload(reply.course, now(rt, office.start, 0));
-        office.control.answer(rt, reply);
+        if is_awaited {
+            office.control.answer(rt, reply);
+        }
     }
 }
 
 /// Where all threads have started, tells that the configuration is served, and answers who asks for something until
 /// they end or another one is to follow.
-fn attend<R: Wait + Clock + Net + Log, G, N: Opened, S: Source>(
+fn attend<R: Threads + Wait + Clock + Net + Log + Sync, G, N: Opened, S: Source>(
     have_started: bool,
-    mut attendant: Attendant<'_, '_, R, G, N>,
+    attendant: &mut Attendant<'_, '_, R, G, N>,
     handover: Handover,
     source: &mut S,
 ) -> HubEnd
@@ -125,26 +131,30 @@ fn attend<R: Wait + Clock + Net + Log, G, N: Opened, S: Source>(
     }
 }
 
-/// What the threads gave back that served one configuration, and how its time ended.
+/// What the threads gave back that served one configuration, the seat of this thread, and how its time ended.
 #[derive(Drop)]
 pub struct RunResult<N: Opened> {
     pub ends: Vec<WorkerEnd<N>>,
+    pub seats: Vec<Seat<Global, N>>,
     pub end: HubEnd,
 }
 
-/// Room for what the workers and the timer give back.
+/// Room for what the workers and the timer give back, and for the seats of all threads.
 #[derive(Drop)]
 pub struct ResultRoom<N: Opened> {
     handles: Vec<JoinHandle<WorkerEnd<N>>>,
     pub ends: Vec<WorkerEnd<N>>,
+    pub seats: Vec<Seat<Global, N>>,
 }
 
 impl<N: Opened> ResultRoom<N> {
-    /// Room for so many.
-    pub fn new(alloc: Global, count: usize) -> Result<ResultRoom<N>, AllocError> {
+    /// Room for a worker for each of so many shards, the timer, and this thread, which has a seat too.
+    pub fn new(alloc: Global, shards: u16) -> Result<ResultRoom<N>, AllocError> {
+        let threads = usize::from(shards) + 1;
         Ok(ResultRoom {
-            handles: Vec::with_capacity(alloc, count)?,
-            ends: Vec::with_capacity(alloc, count)?,
+            handles: Vec::with_capacity(alloc, threads)?,
+            ends: Vec::with_capacity(alloc, threads)?,
+            seats: Vec::with_capacity(alloc, threads + 1)?,
         })
     }
 }
@@ -160,7 +170,7 @@ pub fn run_threads<
     N: Opened + Send + Sync,
     S: Source,
 >(
-    attendant: Attendant<'s, 'c, R, G, N>,
+    mut attendant: Attendant<'s, 'c, R, G, N>,
     prepared: ReadyThreads<'s, 'c, G, N>,
     room: ResultRoom<N>,
     handover: Handover,
@@ -173,6 +183,7 @@ pub fn run_threads<
     let ResultRoom {
         mut handles,
         mut ends,
+        mut seats,
     } = room;
     let end = thread::scope(
         thread::scope_env(),
@@ -181,7 +192,7 @@ pub fn run_threads<
             ensures { MayGoOn N.opening.config result }
         {
             let have_started = start_all(scope, rt, shared, prepared, &mut handles);
-            let end = attend(have_started, attendant, handover, source);
+            let end = attend(have_started, &mut attendant, handover, source);
             shared.end_all();
             for handle in handles {
                 let _is_kept = ends.push(handle.join(rt)).is_ok();
@@ -190,5 +201,6 @@ pub fn run_threads<
             end
         },
     );
-    RunResult { ends, end }
+    let _is_kept = seats.push(attendant.seat).is_ok();
+    RunResult { ends, seats, end }
 }

@@ -177,6 +177,7 @@ fn first_means<R: Net>(
         handover: Handover {
             reply: None,
             before: None,
+            is_awaited: false,
         },
     })
 }

@@ -75,8 +75,8 @@ pub(crate) fn all_few<A: Allocator + Copy>(
 }
 
 impl<A: Allocator + Copy> Shard<'_, A> {
-    /// Whether at most so many entries of the shard's realms are due at a moment in milliseconds. It looks at no more of
-    /// them. Takes no memory.
+    /// Whether at most so many entries of the shard's realms are due at a moment in milliseconds. It looks at no
+    /// more of them. Takes no memory.
     pub fn has_few_due(&self, now: u64, limit: u64) -> bool
         ensures few { result ≡ true → due_count now self.now.states ≤ limit }
         ensures more { result ≡ false → NothingDue now self.now.states → ⊥ }

@@ -93,6 +93,7 @@ pub fn change<R, G, S>(
                 handover: Handover {
                     reply: Some(done(report)),
                     before: Some(before),
+                    is_awaited: true,
                 },
             }
         }
@@ -103,6 +104,7 @@ pub fn change<R, G, S>(
             handover: Handover {
                 reply: Some(out_of_memory(parts.alloc)),
                 before: Some(after),
+                is_awaited: true,
             },
         },
     }

@@ -1,7 +1,7 @@
 //! One configuration after the other is served, each over the shards of the one before it.
 //!
 //! There is one hub for each configuration that is served: it is closed and audited at that one's end, and the hub of the
-//! next one goes on with its shards. What can't be started is tried again.
+//! next one goes on with its shards. What can't be started is tried again, and who asks meanwhile is told so.
 //!
 //! # Proved
 //!
@@ -13,5 +13,6 @@
 mod again;
 mod changing;
 mod serving;
+mod unserved;
 
 pub use serving::serve_all;

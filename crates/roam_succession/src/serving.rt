@@ -11,6 +11,7 @@ ghost use Rattle.roam_sockets.specs.Faults.{IsAfterBinding};
 
 use crate::again::{is_time_over, take_again, told_or};
 use crate::changing::{Changed, Ready, change};
+use crate::unserved::is_stopped;
 use log::Log;
 use roam_hub::{Blanks, Gate};
 use roam_port::Outbox;
@@ -153,7 +154,8 @@ fn serve_until_started<
     unreachable!()
 }
 
-/// Serves on where what serves couldn't be started before.
+/// Serves on where what serves couldn't be started before. Who asks is answered first, and it is over where the server
+/// is asked to stop.
 fn serve_on<R: Threads + Wait + Clock + Net + RandomSource + Log + Sync, G: Gate + Sync, S: Source>(
     parts: &mut ServerParts<'_, R, G, S>,
     configured: &Configured,
@@ -172,7 +174,17 @@ fn serve_on<R: Threads + Wait + Clock + Net + RandomSource + Log + Sync, G: Gate
         steps,
     } = served;
     match end {
-        HubEnd::Failed(_, handover) => {
+        HubEnd::Failed(fault, mut handover) => {
+            if is_stopped(parts, fault) {
+                return Ok(Served {
+                    end: HubEnd::Over,
+                    outboxes,
+                    rests,
+                    shards,
+                    steps,
+                });
+            }
+            handover.is_awaited = false;
             let again = serve_again(parts, configured, shards, outboxes, rests, handover)?;
             Ok(again.with_more(steps))
         }

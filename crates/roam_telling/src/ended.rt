@@ -236,8 +236,8 @@ fn seal_origin(datagram: &Datagram<Global>) -> Origin
     }
 }
 
-/// Where a datagram came that was refused so, or wasn't: of a reply that is refused for its seal it is said whether it has
-/// one.
+/// Where a datagram came that was refused so, or wasn't: of a reply that is refused for its seal it is said whether
+/// it has one.
 pub fn origin_of(datagram: &Datagram<Global>, refusal: Option<Refusal>) -> Origin
     ensures { result
         ≡ causes.origin_of datagram.now.at datagram.now.from datagram.now.octets refusal }

@@ -156,8 +156,8 @@ impl Exchanges {
         self.folded_due = Some(self.folded_due.unwrap_or(now.saturating_add(SECOND)));
     }
 
-    /// Counts a request that the broker rejected by itself at this moment: it is told within a second, and the time of a
-    /// round more, with those that are like it.
+    /// Counts a request that the broker rejected by itself at this moment: it is told within a second, and the time of
+    /// a round more, with those that are like it.
     pub fn reject(&mut self, exchange: &Exchange, now: u64)
         ensures rejected { IsCounted exchange.now self.old.rejected self.new.rejected }
         ensures replaced { self.new.replaced ≡ self.old.replaced }

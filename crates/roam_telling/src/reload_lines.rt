@@ -4,8 +4,8 @@ use log::{Level, Log, info, log_enabled, warn};
 use roam_notices::{DroppedText, ReloadEnd, ReloadText};
 use std::str;
 
-/// Tells what is said to who asked for another configuration, a line of the log for each line, where the log has room: not
-/// of realms that are carried over, of which there may be a thousand.
+/// Tells what is said to who asked for another configuration, a line of the log for each line, where the log has
+/// room: not of realms that are carried over, of which there may be a thousand.
 pub fn tell_reload<R: Log>(rt: &R, end: ReloadEnd, said: &[u8]) {
     let Ok(said) = str::from_utf8(said) else {
         return;

@@ -9,7 +9,9 @@ mod dealing;
 mod kits;
 mod parts;
 mod ready_threads;
+mod trial;
 
 pub use behind::{Behind, start_behind};
 pub use kits::{Kit, Kits, ThreadKits, fill_outboxes, make_kits, make_outboxes};
 pub use ready_threads::{ReadyThreads, prepare_threads};
+pub use trial::can_start;

@@ -5,7 +5,7 @@ ghost use Rattle.std.specs.Prelude.{◌≡◌};
 use std::alloc::{AllocError, AllocFailed};
 
 /// A growth was refused: there was no memory (refusal 21). Nothing was changed.
-#[derive(Clone, Copy, PartialEq, Eq)]
+#[derive(Clone, Copy, Debug, PartialEq, Eq)]
 pub struct NoMemory;
 
 impl From<AllocError> for NoMemory {
@@ -28,7 +28,7 @@ impl<T: Drop> From<AllocFailed<T>> for NoMemory {
 /// `Moment`; then, for a request, the first of `Exhausted` to `Busy`, where `ShareTaken` stands behind
 /// `Exhausted`, and for a reply the first of `NoEntry` to `ReplyTooLong`. `NoMemory` comes wherever a
 /// growth was refused.
-#[derive(Clone, Copy, PartialEq, Eq)]
+#[derive(Clone, Copy, Debug, PartialEq, Eq)]
 pub enum Refusal {
     /// The datagram has fewer than 20 octets.
     Short,

@@ -60,8 +60,8 @@ impl<G: Gate, N: Opened> WorkerContext<'_, '_, G, N> {
         self.now = now(rt, self.shared.start, self.now);
     }
 
-    /// Ticks a shard where something is due there, and hands its packets to the sockets. Answers whether more is due: the
-    /// tick had a part of it.
+    /// Ticks a shard where something is due there, and hands its packets to the sockets. Answers whether more is due:
+    /// the tick had a part of it.
     pub fn tick<R: Wait>(&mut self, rt: &R, shard: u16) -> bool {
         let shared = self.shared;
         let mut is_second = false;
@@ -185,8 +185,8 @@ impl<G: Gate, N: Opened> WorkerContext<'_, '_, G, N> {
         self.notices.refused(refusal, origin, self.now);
     }
 
-    /// Hands what was refused, rejected or replaced to the logger, once a second, and wakes it where there is something for it: for
-    /// lines of exchanges so many milliseconds after the first of them.
+    /// Hands what was refused, rejected or replaced to the logger, once a second, and wakes it where there is
+    /// something for it: for lines of exchanges so many milliseconds after the first of them.
     pub fn wake_logger(&mut self, within: u64) {
         self.notices.tell_due(self.now);
         let dropped = self.exchanges.tell_due(self.now);

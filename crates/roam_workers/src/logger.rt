@@ -11,8 +11,8 @@ use std::str;
 use std::sync::Wait;
 use std::thread::Parker;
 
-/// How many octets of lines are told at once: a log has room for 8,192 where it has any, and before each line stands its
-/// time.
+/// How many octets of lines are told at once: a log has room for 8,192 where it has any, and before each line stands
+/// its time.
 const OCTETS_AT_ONCE: usize = 4000;
 
 /// How many lines are told at once.

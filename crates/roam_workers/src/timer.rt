@@ -108,8 +108,8 @@ fn has_done_all<R: Wait, G: Gate, N: Opened>(rt: &R, timer: &mut Timer<'_, '_, G
     now.saturating_sub(since) >= QUIET
 }
 
-/// Ticks a shard until no more is due in it, and sends after each tick: between two others have its lock. Each has a later
-/// moment than the one before, and none is later than `LATE` milliseconds, so there are no more than that.
+/// Ticks a shard until no more is due in it, and sends after each tick: between two others have its lock. Each has a
+/// later moment than the one before, and none is later than `LATE` milliseconds, so there are no more than that.
 fn tick_shard<R: Wait, G: Gate, N: Opened>(rt: &R, timer: &mut Timer<'_, '_, G, N>, shard: u16) {
     for _ in 0..LATE {
         let is_more = timer.context.tick(rt, shard);

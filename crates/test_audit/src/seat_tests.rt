@@ -66,7 +66,9 @@ fn noted<N: Opened>(
     requires blanks { count_of blanks ≡ 2 }
     requires shards { N.opening.config.shards ≡ 2 }
 {
-    let mut seat = seat_of::<Global, N>(alloc, blanks).expect(rt, "a seat");
+    let mut seat = seat_of::<Global, N>(alloc, blanks)
+        .ok()
+        .expect(rt, "a seat");
     note_all(&mut seat, numbers);
     shown(&seat)
 }
@@ -106,7 +108,7 @@ const NOTED: &[(&str, &[u64], Tally)] = &[
 /// Whether each row of numbers is counted so.
 fn are_noted(rt: &impl Abort, alloc: Global) -> bool {
     for (_, numbers, tally) in NOTED {
-        let blanks = Blanks::new(alloc, 2).expect(rt, "memory");
+        let blanks = Blanks::new(alloc, 2).ok().expect(rt, "memory");
         let counted = noted::<Brand>(rt, alloc, blanks, numbers);
         if counted != [Some(NO_CALLS), Some(*tally)] {
             return false;
@@ -134,7 +136,9 @@ fn split_refused<'r, N: Opened>(
     requires blanks { count_of blanks ≡ 2 }
     requires shards { N.opening.config.shards ≡ 2 }
 {
-    let mut seat = seat_of::<Over<'r>, N>(over, blanks).expect(rt, "a seat");
+    let mut seat = seat_of::<Over<'r>, N>(over, blanks)
+        .ok()
+        .expect(rt, "a seat");
     note_all(&mut seat, &[3]);
     over.refuse_nth(n);
     let (refused, split_at_last) = match split(seat) {
@@ -161,7 +165,7 @@ fn splits_are_refused(rt: &impl Abort, alloc: Global) -> bool {
     );
     for n in over.each_growth() {
         over.refuse_nth(0);
-        let blanks = Blanks::new(&over, 2).expect(rt, "memory");
+        let blanks = Blanks::new(&over, 2).ok().expect(rt, "memory");
         let (refused, same, new) = split_refused::<Brand>(rt, &over, blanks, n);
         if refused != over.was_refused() || (same, new) != wanted {
             return false;

@@ -35,7 +35,9 @@ fn equal<N: Opened>(
             datagram: Datagram {
                 at: datagram.at,
                 from: datagram.from,
-                octets: Octets::copy_of(alloc, datagram.octets.as_slice()).expect(rt, "memory"),
+                octets: Octets::copy_of(alloc, datagram.octets.as_slice())
+                    .ok()
+                    .expect(rt, "memory"),
             },
         },
         answer: Answer {
@@ -47,7 +49,7 @@ fn equal<N: Opened>(
 }
 
 /// The seat, and another one that counted these calls: shard and number.
-fn counting<N: Opened>(
+pub(crate) fn counting<N: Opened>(
     rt: &impl Abort,
     seat: Seat<Global, N>,
     calls: &[(u16, u64)],
@@ -64,7 +66,7 @@ fn counting<N: Opened>(
 }
 
 /// What an audit finds.
-fn found<N: Opened>(
+pub(crate) fn found<N: Opened>(
     report: &Report<Global, N>,
     seats: &[Seat<Global, N>],
     receipts: &[Receipt<Global, N>],
@@ -72,7 +74,8 @@ fn found<N: Opened>(
     report.audit(seats, receipts).err()
 }
 
-/// Whether an audit by both seats finds nothing with no receipts and with theirs, and the second one where it comes twice.
+/// Whether an audit by both seats finds nothing with no receipts and with theirs, and the second one where it comes
+/// twice.
 fn are_found_with<N: Opened>(
     rt: &impl Abort,
     alloc: Global,
@@ -113,8 +116,8 @@ fn found_by<N: Opened>(
     (seat, by_both)
 }
 
-/// The calls that one other seat counted, and a second one, if there is one, and the shard of which the audit by them finds
-/// that it was called more or less.
+/// The calls that one other seat counted, and a second one, if there is one, and the shard of which the audit by them
+/// finds that it was called more or less.
 const COUNTED: [(&[(u16, u64)], &[(u16, u64)], Option<u16>); 5] = [
     (&[(0, 0)], &[], Some(0)),
     (&[(0, 0), (0, 1)], &[(0, 2)], Some(0)),
@@ -141,10 +144,10 @@ fn are_found<N: Opened>(
     (seat, are_so)
 }
 
-/// Whether audits of a hub of two shards find what they are to, where two callers made a call of shard 0 each: by both
-/// seats, with no receipts, with theirs, and with the second one twice; then by seats that counted what these say: call 0
-/// alone; both calls, and one that nobody made, of shard 0 and of shard 1; both calls by one seat, in their order, and in
-/// the other one.
+/// Whether audits of a hub of two shards find what they are to, where two callers made a call of shard 0 each: by
+/// both seats, with no receipts, with theirs, and with the second one twice; then by seats that counted what these
+/// say: call 0 alone; both calls, and one that nobody made, of shard 0 and of shard 1; both calls by one seat, in
+/// their order, and in the other one.
 pub(crate) fn audits<N: Opened + Send + Sync, R: Abort + Threads + Wait + Clock + Sync>(
     rt: &R,
     alloc: Global,

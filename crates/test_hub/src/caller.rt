@@ -65,7 +65,9 @@ pub(crate) fn datagram<A: Allocator + Copy>(
     Datagram {
         at,
         from,
-        octets: Octets::copy_of(alloc, octets.as_slice()).expect(rt, "memory"),
+        octets: Octets::copy_of(alloc, octets.as_slice())
+            .ok()
+            .expect(rt, "memory"),
     }
 }
 

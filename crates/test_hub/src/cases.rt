@@ -78,7 +78,9 @@ fn is_so_in<N: Opened + Send + Sync, R: Abort + Threads + Wait + Clock + Sync>(
     requires blanks { count_of blanks ≡ config.now.shards }
     requires starts { AreStarts (shown config.now) starts.now }
 {
-    let (hub, seat) = Hub::<Global, N>::open(alloc, config, starts, blanks).expect(rt, "a hub");
+    let (hub, seat) = Hub::<Global, N>::open(alloc, config, starts, blanks)
+        .ok()
+        .expect(rt, "a hub");
     match case {
         Case::Due => due(rt, alloc, config, hub, seat),
         Case::Portions => portions(rt, alloc, config, hub, seat),
@@ -96,8 +98,8 @@ fn is_so_in<N: Opened + Send + Sync, R: Abort + Threads + Wait + Clock + Sync>(
 fn is_so<R: Abort + Threads + Wait + Clock + Sync>(rt: &R, alloc: Global, case: Case) -> bool {
     let (shards, limit, added) = setting(case);
     let config = config_of(rt, alloc, shards, limit, added);
-    let starts = first_starts(alloc, &config).expect(rt, "memory");
-    let blanks = Blanks::new(alloc, config.shards).expect(rt, "memory");
+    let starts = first_starts(alloc, &config).ok().expect(rt, "memory");
+    let blanks = Blanks::new(alloc, config.shards).ok().expect(rt, "memory");
     is_so_in::<Brand, R>(rt, alloc, &config, &starts, blanks, case)
 }
 

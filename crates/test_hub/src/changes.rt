@@ -42,7 +42,8 @@ const SERVER_IN_REVERSE: Endpoint = Endpoint {
     port: 40000,
 };
 
-/// A Start of `u@a.example`, and as it leaves; the server's reply, and as the access server gets it. By the RFCs' formulas.
+/// A Start of `u@a.example`, and as it leaves; the server's reply, and as the access server gets it. By the RFCs'
+/// formulas.
 const START: &str =
     "0405002b40d7b5a889c55fa9032ba5d6be378f2e010d7540612e6578616d706c652806000000012c043031";
 
@@ -147,7 +148,8 @@ pub(crate) const GOES_ON: [Exchange; 3] = [
     },
 ];
 
-/// After the change: the second realm's request isn't known any more, and is sent as a new one; the third realm is there.
+/// After the change: the second realm's request isn't known any more, and is sent as a new one; the third realm is
+/// there.
 const BEGIN: [Exchange; 2] = [
     Exchange {
         at: Place::Auth,
@@ -208,9 +210,11 @@ pub(crate) fn paused<A: Allocator + Copy, N: Opened + Send + Sync, R: Abort + Wa
     requires starts { AreStarts (shown config.now) starts.now }
     ensures { ArePaused (shown config.now) result.items }
 {
-    let (hub, mut seat) = Hub::<A, N>::open(alloc, config, starts, blanks).expect(rt, "a hub");
+    let (hub, mut seat) = Hub::<A, N>::open(alloc, config, starts, blanks)
+        .ok()
+        .expect(rt, "a hub");
     assert!(rt; are_answered(rt, alloc, config, &hub, &mut seat, &BEFORE));
-    let room = hub.pause_room().expect(rt, "memory");
+    let room = hub.pause_room().ok().expect(rt, "memory");
     let PausedHub { shards, .. } = hub.pause(rt, room).expect(rt, "shards");
     shards
 }
@@ -255,11 +259,13 @@ fn are_answered_after<R: Abort + Wait>(
 ) -> bool
     requires { MayFollow (shown old.now) (shown new.now) }
 {
-    let starts = first_starts(alloc, old).expect(rt, "memory");
-    let blanks = Blanks::new(alloc, old.shards).expect(rt, "memory");
+    let starts = first_starts(alloc, old).ok().expect(rt, "memory");
+    let blanks = Blanks::new(alloc, old.shards).ok().expect(rt, "memory");
     let mut shards = paused::<_, Brand, R>(rt, alloc, old, &starts, blanks);
-    follow(alloc, old, new, &mut shards).expect(rt, "memory");
-    let blanks = Blanks::new(alloc, new.shards).expect(rt, "memory");
+    follow(alloc, old, new, &mut shards)
+        .ok()
+        .expect(rt, "memory");
+    let blanks = Blanks::new(alloc, new.shards).ok().expect(rt, "memory");
     goes_on::<_, Brand, R>(rt, alloc, new, shards, blanks, exchanges)
 }
 

@@ -37,14 +37,15 @@ fn sends_again<N: Opened, R: Abort + Wait>(
     }
 }
 
-/// Whether a tick where nothing is due has a receipt all the same, where it is asked for: as the third step, which sends
-/// nothing.
+/// Whether a tick where nothing is due has a receipt all the same, where it is asked for: as the third step, which
+/// sends nothing.
 fn is_recorded<N: Opened, R: Abort + Wait>(rt: &R, caller: &mut Caller<'_, '_, Global, N>) -> bool {
     let tick = caller.tick(rt, 1000, 0, &Open).expect(rt, "a receipt");
     tick.number == 2 && tick.answer.outs.is_empty()
 }
 
-/// Whether the first shard has three steps, and its realm goes on where it is to: one request took four words and a ticket.
+/// Whether the first shard has three steps, and its realm goes on where it is to: one request took four words and a
+/// ticket.
 fn ends<N: Opened>(report: &Report<Global, N>) -> bool {
     let steps = report.steps.first().map(|steps| steps.len());
     let next = Start {
@@ -54,8 +55,8 @@ fn ends<N: Opened>(report: &Report<Global, N>) -> bool {
     steps == Some(3) && report.starts.first() == Some(&next)
 }
 
-/// Ticks of a hub of one shard that is given one request: before it, before its deadline, at it and after it, and of a shard
-/// that isn't there; and what is said to be due.
+/// Ticks of a hub of one shard that is given one request: before it, before its deadline, at it and after it, and of
+/// a shard that isn't there; and what is said to be due.
 pub(crate) fn due<N: Opened + Send + Sync, R: Abort + Wait>(
     rt: &R,
     alloc: Global,

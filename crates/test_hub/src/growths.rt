@@ -41,7 +41,7 @@ pub(crate) fn blanks<'r>(rt: &impl Abort, over: Over<'r>, shards: u16) -> Blanks
     ensures { count_of result ≡ shards }
 {
     over.refuse_nth(0);
-    Blanks::new(over, shards).expect(rt, "memory")
+    Blanks::new(over, shards).ok().expect(rt, "memory")
 }
 
 /// A hub, while growths are refused, and then with memory: whether each refusal is told.
@@ -86,7 +86,9 @@ fn closed<'r, N: Opened + Send + Sync, R: Abort + Wait>(
     requires blanks { count_of blanks ≡ config.now.shards }
     requires starts { AreStarts (shown config.now) starts.now }
 {
-    let (hub, seat) = Hub::<Over<'r>, N>::open(over, config, starts, blanks).expect(rt, "a hub");
+    let (hub, seat) = Hub::<Over<'r>, N>::open(over, config, starts, blanks)
+        .ok()
+        .expect(rt, "a hub");
     let mut caller = Caller::new(rt, over, config, &hub, seat, REQUEST_7);
     let _receipt = caller.submit(rt, &Open).expect(rt, "a receipt");
     let _seat = caller.into_seat();
@@ -115,10 +117,11 @@ fn close_is_refused<'r, R: Abort + Wait>(
     true
 }
 
-/// Whether that holds of histories, of a hub's opening over one realm, and of its end. (Its calls are played with rows.)
+/// Whether that holds of histories, of a hub's opening over one realm, and of its end. (Its calls are played with
+/// rows.)
 pub(crate) fn are_refused<R: Abort + Wait>(rt: &R, alloc: Global) -> bool {
     let config = config_of(rt, alloc, 1, 1000, &[]);
-    let starts = first_starts(alloc, &config).expect(rt, "memory");
+    let starts = first_starts(alloc, &config).ok().expect(rt, "memory");
     let over = Refusing::new(alloc);
     let of_blanks = blanks_are_refused(&over);
     let of_open = open_is_refused(rt, &over, &config, &starts);

@@ -59,8 +59,8 @@ fn follow_is_refused<'r, R: Abort + Wait>(
     false
 }
 
-/// Opens a hub over shards, while a growth is refused: whether that is told, and the first realm goes on over the shards that
-/// come back.
+/// Opens a hub over shards, while a growth is refused: whether that is told, and the first realm goes on over the
+/// shards that come back.
 fn opens<'r, N: Opened + Send + Sync, R: Abort + Wait>(
     rt: &R,
     over: Over<'r>,
@@ -114,7 +114,7 @@ fn pause_is_refused<'r, N: Opened + Send + Sync, R: Abort + Wait>(
     requires starts { AreStarts (shown config.now) starts.now }
 {
     let opened = Hub::<Over<'r>, N>::open(over, config, starts, blanks);
-    let (hub, mut seat) = opened.expect(rt, "a hub");
+    let (hub, mut seat) = opened.ok().expect(rt, "a hub");
     assert!(rt; are_answered(rt, over, config, &hub, &mut seat, &BEFORE));
     for n in over.each_growth() {
         over.refuse_nth(n);
@@ -130,7 +130,7 @@ fn pause_is_refused<'r, N: Opened + Send + Sync, R: Abort + Wait>(
 /// Whether all that holds.
 pub(crate) fn are_refused<R: Abort + Wait>(rt: &R, alloc: Global) -> bool {
     let (old, new) = two_configurations(rt, alloc);
-    let starts = first_starts(alloc, &old).expect(rt, "memory");
+    let starts = first_starts(alloc, &old).ok().expect(rt, "memory");
     let over = Refusing::new(alloc);
     let blanks = blanks(rt, &over, old.shards);
     let of_pause = pause_is_refused::<Brand, R>(rt, &over, &old, &starts, blanks);

@@ -3,9 +3,10 @@
 ghost use Rattle.std.specs.Prelude.{◌≡◌};
 ghost use Rattle.roam_conf.specs.Shown.{shown};
 
+use crate::audits::{counting, found};
 use crate::caller::{NAS, REQUEST_7, REQUEST_8, datagram, sends};
 use roam_conf::{Config, Endpoint, Place};
-use roam_hub::{Answered, Call, Hub, HubFault, Open, Opened, Report, Seat};
+use roam_hub::{Answered, AuditFault, Call, Hub, HubFault, Open, Opened, Report, Seat};
 use roam_route::{Datagram, Prepared, prepare};
 use std::alloc::Global;
 use std::process::Abort;
@@ -84,7 +85,8 @@ fn arrive<N: Opened, R: Abort + Wait>(
     }
 }
 
-/// Whether at the end of a hub of one shard one step of two is stored, and the audit is passed.
+/// Whether at the end of a hub of one shard one step of two is stored, and the audit is passed by the seat, and not by
+/// one that counted both calls and no letting go.
 fn ends<N: Opened>(
     rt: &impl Abort,
     alloc: Global,
@@ -93,13 +95,17 @@ fn ends<N: Opened>(
 ) -> bool {
     let stored = report.steps.first().map(|steps| steps.len());
     let all = report.fronts.first().map(|front| front.len());
+    let (seat, calls_alone) = counting(rt, seat, &[(0, 0), (0, 1)]);
+    let none = Vec::new(alloc);
+    let missed = found(&report, &[calls_alone], none.as_slice());
     let mut seats = Vec::new(alloc);
     seats.push(seat).expect(rt, "memory");
-    stored == Some(1) && all == Some(2) && report.audited(seats).is_ok()
+    let is_missed = missed == Some(AuditFault::Seats { shard: 0 });
+    is_missed && stored == Some(1) && all == Some(2) && report.audited(seats).is_ok()
 }
 
-/// A hub that stores one step is given two requests: for the second one its step is let go of, and then it is sent as the
-/// second of its realm.
+/// A hub that stores one step is given two requests: for the second one its step is let go of, and then it is sent as
+/// the second of its realm.
 pub(crate) fn full<N: Opened + Send + Sync, R: Abort + Wait>(
     rt: &R,
     alloc: Global,
@@ -143,8 +149,8 @@ fn held<N: Opened, R: Abort + Wait>(
     held
 }
 
-/// Steps of a hub that stores one are let go of again and again, while a session lasts: its start is answered, a duplicate
-/// of it from the held reply each time, and at last it ends by its id alone.
+/// Steps of a hub that stores one are let go of again and again, while a session lasts: its start is answered, a
+/// duplicate of it from the held reply each time, and at last it ends by its id alone.
 pub(crate) fn session<N: Opened + Send + Sync, R: Abort + Wait>(
     rt: &R,
     alloc: Global,

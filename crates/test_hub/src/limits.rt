@@ -28,14 +28,16 @@ fn goes_on<N: Opened + Send + Sync, R: Abort + Wait>(
     requires blanks { count_of blanks ≡ config.now.shards }
     requires starts { AreStarts (shown config.now) starts.now }
 {
-    let (hub, seat) = Hub::<Global, N>::open(alloc, config, starts, blanks).expect(rt, "a hub");
+    let (hub, seat) = Hub::<Global, N>::open(alloc, config, starts, blanks)
+        .ok()
+        .expect(rt, "a hub");
     let mut caller = Caller::new(rt, alloc, config, &hub, seat, REQUEST_8);
     let receipt = caller.submit(rt, &Open).expect(rt, "a receipt");
     sends(rt, alloc, &receipt.answer, SECOND)
 }
 
-/// A hub that stores one step is called twice: the second call isn't recorded, since the trace is full; and another hub goes
-/// on from the end of this one.
+/// A hub that stores one step is called twice: the second call isn't recorded, since the trace is full; and another
+/// hub goes on from the end of this one.
 pub(crate) fn full_and_goes_on<N: Opened + Send + Sync, R: Abort + Wait>(
     rt: &R,
     alloc: Global,
@@ -52,6 +54,6 @@ pub(crate) fn full_and_goes_on<N: Opened + Send + Sync, R: Abort + Wait>(
     let report = hub.close(rt).expect(rt, "a report");
     let steps = report.steps.first().map(|steps| steps.len());
     let is_full = is_first && second == Some(HubFault::TraceFull) && steps == Some(1);
-    let blanks = Blanks::new(alloc, config.shards).expect(rt, "memory");
+    let blanks = Blanks::new(alloc, config.shards).ok().expect(rt, "memory");
     is_full && goes_on::<Brand, R>(rt, alloc, config, &report.starts, blanks)
 }

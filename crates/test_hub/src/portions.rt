@@ -37,7 +37,9 @@ fn request<N: Opened, R: Abort + Wait>(
     let datagram = Datagram {
         at: Place::Auth,
         from: NAS,
-        octets: Octets::copy_of(alloc, octets.as_slice()).expect(rt, "memory"),
+        octets: Octets::copy_of(alloc, octets.as_slice())
+            .ok()
+            .expect(rt, "memory"),
     };
     let Ok(Prepared::Job(job)) = prepare(alloc, config, &datagram) else {
         panic!(rt; "no job");

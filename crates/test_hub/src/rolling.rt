@@ -54,8 +54,8 @@ fn roll<R: Abort + Wait, N: Opened>(rt: &R, mut caller: Caller<'_, '_, Global, N
     }
 }
 
-/// Two threads roll over one hub: all their calls were recorded, as many steps were let go of and are stored, each thread's
-/// numbers rose, and the audit is passed.
+/// Two threads roll over one hub: all their calls were recorded, as many steps were let go of and are stored, each
+/// thread's numbers rose, and the audit is passed.
 pub(crate) fn rolls<N: Opened + Send + Sync, R: Abort + Threads + Wait + Sync>(
     rt: &R,
     alloc: Global,

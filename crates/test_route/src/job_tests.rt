@@ -39,7 +39,9 @@ fn expect_names(
 ) -> Result<(), Fail> {
     for &(digits, realm, ip_address, identifier) in rows {
         let packet = octets(rt, alloc, digits);
-        let view = View::read(&packet)?;
+        let Ok(view) = View::read(&packet) else {
+            panic!(rt; "{digits} reads as no packet");
+        };
         let expected = NasName {
             ip_address,
             identifier,

@@ -3,9 +3,8 @@
 //!
 //! Two realms share one home server; of two peers one must seal its Access-Requests. Once there is no
 //! limit of hops and Status-Server isn't answered, and once the other way round; and there is what an operator
-//! decides of peers, accounting and seals. The packets are
-//! those of the worked exchanges, and packets made, sealed and signed apart, with Python's hashlib and
-//! hmac.
+//! decides of peers, accounting, seals and attributes. The packets are those of the worked exchanges, and packets made,
+//! sealed and signed apart, with Python's hashlib and hmac.
 #![tactic(auto)]
 
 #[cfg(test)]
@@ -20,3 +19,5 @@ mod federation;
 mod job_tests;
 #[cfg(test)]
 mod policies;
+#[cfg(test)]
+mod sizes;

@@ -8,6 +8,7 @@ use crate::asking::{
     LOOP_NOT_PREVENTED, LOOP_PREVENTION, ORDER_OF_REFUSALS, PEERS_OF_A_REALM,
     WHICH_PEER_AND_ADDRESS,
 };
+use crate::sizes::{ADDED, AS_IT_CAME, TAKEN_OUT};
 use roam_conf::Config;
 use roam_conf_reader::read_config;
 use std::alloc::Global;
@@ -57,10 +58,19 @@ auth = \"198.51.100.1:1812\"
 secret = \"h1\"
 ";
 
+/// Keys of a peer: what is added to its requests.
+const ADDING: &str = "operator_name = \"inst.example\"
+ask_cui = true
+";
+
+/// A key of a peer, or of a realm.
+const TAKING_OUT: &str = "request_without = [\"25\"]
+";
+
 /// The parts of a configuration, and what arrives there.
 type Case = (&'static [&'static str], &'static [Rows]);
 
-pub const CASES: [Case; 11] = [
+pub const CASES: [Case; 15] = [
     (
         &[
             TOP,
@@ -155,6 +165,10 @@ pub const CASES: [Case; 11] = [
         &[TOP, PEER, "limit_proxy_state = true\n", REALM, SERVER],
         &PROXY_STATE,
     ),
+    (&[TOP, PEER, ADDING, REALM, SERVER], &ADDED),
+    (&[TOP, PEER, TAKING_OUT, REALM, SERVER], &TAKEN_OUT),
+    (&[TOP, PEER, REALM, TAKING_OUT, SERVER], &TAKEN_OUT),
+    (&[TOP, PEER, REALM, SERVER], &AS_IT_CAME),
 ];
 
 /// The configuration of these parts.

@@ -40,8 +40,8 @@ fn parts_of<'t>(alloc: Global, text: &'t str) -> io::Result<Vec<(usize, &'t str)
 }
 
 impl<'p, 'r> Player<'p, 'r> {
-    /// Plays a row with growths refused: over lists each one of each event in one pass, and else each one over brokers of
-    /// its own too.
+    /// Plays a row with growths refused: over lists each one of each event in one pass, and else each one over
+    /// brokers of its own too.
     fn plays_without_memory(&mut self, found: &Found<'_, 'r>, events: &[Event<Over<'r>>]) {
         let Found {
             row,

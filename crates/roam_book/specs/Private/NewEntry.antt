@@ -1,14 +1,13 @@
 -- How a new request is admitted, in steps: words of private functions alone (ours).
 use Rattle.std.specs.Prelude.{◌≡◌, ℕ, ◌<◌, ◌^◌, List, [], ◌∷◌, Option, Some, None, Result, Ok, Err, option_map, unwrap_or, is_some, true}
-use Rattle.roam_wire.specs.Reading.{packet_of}
 use Rattle.roam_wire.specs.declared.refusal.Refusal.{Refusal}
 use Rattle.roam_conf.specs.declared.place.Link.{Link}
 use Rattle.roam_conf.specs.declared.place.Link.TheVariants as link
-use Rattle.roam_fwd.specs.Forwarded.{forwarded_length}
 use Rattle.roam_pending.specs.PlainEntry.{PlainEntry, PlainRequest}
 use Rattle.roam_pending.specs.EntryList.{besides, find_client, first_done}
 use Rattle.roam_book.specs.RealmConfig.{RealmConfig, IsLink, links_from}
 use Rattle.roam_book.specs.RealmState.{RealmState, Target, next_toward}
+use Rattle.roam_book.specs.Shapings.{forwarded_size}
 use Rattle.roam_book.specs.Turn.{Turn, Answers, refuses}
 use Rattle.roam_book.specs.OnRequest.{admit, targets}
 use Rattle.roam_book.specs.Sound.{CountsAsGone, IsRequest, gone_ticket}
@@ -109,10 +108,10 @@ abbrev pub IsRequestPlan :
 IsRequestPlan c now s q (plan.Answered answer) turn = Answers answer s s turn
 IsRequestPlan c now s q (plan.Admitted way) turn = IsChosen c now s q way turn
 
--- all the memory of a new request, besides its place among the entries: buffers of the size of the
+-- all the memory of a new request toward a link, besides its place among the entries: buffers of the size of the
 -- packet that is forwarded for it
-pub record AreSupplies {A : Type 0} (request : List ℕ) (s : Supplies A) : Type 0 where
-  pub octets : s.octets ≡ request
-  pub buffers : HasBuffers (forwarded_length (packet_of request)) s.buffers
+pub record AreSupplies {A : Type 0} (c : RealmConfig) (q : PlainRequest) (l : Link) (s : Supplies A) : Type 0 where
+  pub octets : s.octets ≡ q.octets
+  pub buffers : HasBuffers (forwarded_size c q l) s.buffers
   pub copy : is_some s.buffers.copy ≡ s.outs.twice
   pub outs : IsOuts 1 s.outs.twice [] s.outs

@@ -4,7 +4,6 @@ ghost use Rattle.std.specs.Prelude.{◌≡◌, ◌<◌, ◌≤◌, ◌==◌, ◌
 ghost use Rattle.std.specs.Prelude.{List, [], Some, None, true, IfSome, is_some, length, slice_set};
 ghost use Rattle.roam_wire.specs.Reading.{IsPacketText, packet_of};
 ghost use Rattle.roam_wire.specs.declared.code.TheConstants.{ACCESS_REQUEST};
-ghost use Rattle.roam_fwd.specs.Forwarded.{forwarded_length};
 ghost use Rattle.roam_pending.specs.PlainEntry.{PlainEntry};
 ghost use Rattle.roam_pending.specs.EntryList.{IsEntryList, find_ticket, put};
 ghost use Rattle.roam_pending.specs.Shown.{shown_standing};
@@ -13,6 +12,7 @@ ghost use Rattle.roam_route.specs.Shown.{shown_out};
 ghost use Rattle.roam_book.specs.RealmConfig.{IsLink, link_place, link_count};
 ghost use Rattle.roam_book.specs.RealmState.{next_toward};
 ghost use Rattle.roam_book.specs.Rests.{after_choice};
+ghost use Rattle.roam_book.specs.Shapings.{forwarded_size};
 ghost use Rattle.roam_book.specs.OnRequest.{packet_to_link, packet_to_requester, drawn_at, position_after};
 ghost use Rattle.roam_book.specs.OnRequest.{forwarded_octets};
 ghost use Rattle.roam_book.specs.OnRequest.{forwarded_entry};
@@ -24,7 +24,7 @@ use crate::packets::buffers::{Buffers, copied_into};
 use crate::state::realm_numbers::RealmNumbers;
 use crate::state::realm_settings::RealmSettings;
 use roam_conf::{Link, Place};
-use roam_fwd::forward_reserved;
+use roam_fwd::{Forwarding, forward_shaped_reserved};
 use roam_pending::{Key, Requester, Waiting};
 use roam_random::{next_position, request_authenticator};
 use roam_route::Out;
@@ -146,8 +146,18 @@ fn position_after(asked: RequestRef<'_>, position: u128) -> u128
     }
 }
 
-/// Writes the forwarded packet of a request into an empty buffer that has room for it, with what is
-/// drawn from this position on.
+/// What is forwarded for a request has at most 304 octets more than it. It does nothing when it runs.
+pub(crate) fn gains_few(settings: &RealmSettings<'_>, asked: RequestRef<'_>, link: Link)
+    requires request { IsRequest settings.now (shown_request asked) }
+    requires link { IsLink settings.now link }
+    ensures { forwarded_size settings.now (shown_request asked.entry) link ≤ length asked.entry.octets.now + 304 }
+{
+    let code = View::of_packet(asked.octets).code();
+    let _shaping = settings.shaping_of(asked.requester, code, link);
+}
+
+/// Writes the forwarded packet of a request, as it is shaped, into an empty buffer that has room for it, with
+/// what is drawn from this position on.
 fn forward_into<A: Allocator>(
     settings: &RealmSettings<'_>,
     hop: Hop<'_>,
@@ -157,27 +167,24 @@ fn forward_into<A: Allocator>(
 )
     requires request { IsRequest settings.now (shown_request hop.asked) }
     requires link { IsLink settings.now hop.link }
-    requires room { HasRoom (forwarded_length (packet_of hop.asked.octets.now)) out.old }
+    requires room { HasRoom (forwarded_size settings.now (shown_request hop.asked) hop.link) out.old }
     ensures octets { out.new.items
         ≡ forwarded_octets settings.now (shown_request hop.entry.asked) position hop.entry.ticket
         (record { link = hop.entry.link; id = id }) }
     ensures waiting { IsWaiting settings.now (shown_request hop.entry.asked) hop.entry.link id out.new.items }
     ensures size { length out.new.items
-        ≡ forwarded_length (packet_of (shown_request hop.entry.asked).octets) }
+        ≡ forwarded_size settings.now (shown_request hop.entry.asked) hop.entry.link }
 {
     let request = View::of_packet(hop.asked.octets);
-    let from_secret = settings.secret_of_requester(hop.asked.requester);
-    let to_secret = settings.secret_of_link(hop.link);
-    let authenticator = drawn_at(settings, hop.asked, position);
-    forward_reserved(
-        &request,
-        from_secret,
-        to_secret,
+    let shaping = settings.shaping_of(hop.asked.requester, request.code(), hop.link);
+    let forwarding = Forwarding {
+        from_secret: settings.secret_of_requester(hop.asked.requester),
+        to_secret: settings.secret_of_link(hop.link),
         id,
-        authenticator,
-        hop.ticket,
-        out,
-    );
+        authenticator: drawn_at(settings, hop.asked, position),
+        ticket: hop.ticket,
+    };
+    forward_shaped_reserved(&request, &shaping, &forwarding, out);
 }
 
 /// Forwards a request to a link that has a free Identifier: the next one is its Identifier there,
@@ -196,7 +203,7 @@ pub(crate) fn send_new<A: Allocator + Copy>(
     requires count { length numbers.old.lanes.items ≡ link_count settings.now }
     requires free { has_free (lane_of settings.now numbers.old.lanes.items hop.link) ≡ true }
     requires made { (lane_of settings.now numbers.old.lanes.items hop.link).made ≡ true }
-    requires buffers { HasBuffers (forwarded_length (packet_of hop.asked.octets.now)) buffers }
+    requires buffers { HasBuffers (forwarded_size settings.now (shown_request hop.asked) hop.link) buffers }
     ensures next { (es : List PlainEntry) → IsEntryList es
         → LanesTell settings.now es numbers.old.lanes.items
         → next_toward settings.now (cursors_of numbers.old.lanes.items) es hop.entry.link ≡ Some result.1.id }

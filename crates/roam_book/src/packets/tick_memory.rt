@@ -23,7 +23,7 @@ pub(crate) struct TickSlot<A: Allocator> {
 }
 
 /// The memory of one tick, for the state and the moment that it was made for: of each entry that is
-/// due, two buffers of its request's octets and 46 more, and a place among the packets. Where the
+/// due, two buffers of its request's octets and 304 more, and a place among the packets. Where the
 /// answer is wanted twice, one buffer more, and a place among the copies.
 #[derive(Drop)]
 pub struct Room<A: Allocator> {
@@ -40,12 +40,16 @@ impl<A: Allocator> Room<A> {
     }
 }
 
+/// The most octets that a forwarded packet has more than its request, with what is added for the peer: 46 that any may
+/// gain, 255 of an Operator-Name and 3 of a Chargeable-User-Identity.
+const MAX_GROWTH: usize = 304;
+
 /// How many octets the forwarded packet of an entry may have.
 fn size_for<A: Allocator>(entry: Option<&Entry<A>>) -> usize
     ensures { result ≡ size_of (seen entry.entry) }
 {
     match entry {
-        Some(entry) => entry.request.octets.as_slice().len() + 46,
+        Some(entry) => entry.request.octets.as_slice().len() + MAX_GROWTH,
         None => 0,
     }
 }

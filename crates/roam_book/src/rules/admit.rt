@@ -3,16 +3,15 @@
 
 ghost use Rattle.std.specs.Prelude.{◌≡◌, ℕ, ◌+◌, ◌<◌, ◌≤◌, ◌^◌, ◌∷◌, [], true, IfErr};
 ghost use Rattle.std.specs.Prelude.{IfOk, OnOk, is_some};
-ghost use Rattle.roam_wire.specs.Reading.{IsPacketText, packet_of};
-ghost use Rattle.roam_fwd.specs.Forwarded.{forwarded_length};
 ghost use Rattle.roam_pending.specs.PlainEntry.{PlainRequest};
 ghost use Rattle.roam_pending.specs.EntryList.{besides};
 ghost use Rattle.roam_route.specs.Shown.{shown_out};
 ghost use Rattle.roam_book.specs.Private.Memory.{HasBuffers, IsCopied, Tells};
 ghost use Rattle.roam_book.specs.RealmConfig.{IsLink};
+ghost use Rattle.roam_book.specs.Shapings.{forwarded_size};
 ghost use Rattle.roam_book.specs.Private.NewEntry.{AreSupplies, IsWay, MakesWay, admits, cleared, straight_to};
 ghost use Rattle.roam_book.specs.RealmTurn.{IsRealm, Keeps, entries, room, state};
-ghost use Rattle.roam_book.specs.Sound.{CountsAsGone, IsSameButSlots, gone_ticket, lane_of, marks_of, shown_request};
+ghost use Rattle.roam_book.specs.Sound.{CountsAsGone, IsRequest, IsSameButSlots, gone_ticket, lane_of, marks_of, shown_request};
 ghost use Rattle.roam_book.specs.Turn.{packets_of, state_after};
 
 use crate::packets::answer::AnswerCopies;
@@ -22,8 +21,9 @@ use crate::packets::forwarding::{Hop, PacketCopies, RequestRef, send_new};
 use crate::rules::admit_plan::AdmitPlan;
 use crate::rules::replaced::Replaced;
 use crate::state::realm_broker::RealmBroker;
+use crate::state::realm_settings::RealmSettings;
 use roam_conf::Link;
-use roam_fwd::forwarded_len;
+use roam_fwd::forwarded_shaped_len;
 use roam_pending::{Entries, Entry, Request, Standing, insert_entry};
 use roam_wire::{NoMemory, Octets, View};
 use std::alloc::Allocator;
@@ -37,17 +37,26 @@ pub(crate) struct Supplies<A: Allocator> {
 }
 
 impl<A: Allocator + Copy> Supplies<A> {
-    /// All the memory that a new request of these octets may want: the buffers have the size of the
-    /// packet that is forwarded for it.
-    fn new(alloc: A, octets: &[u8], twice: bool) -> Result<Supplies<A>, NoMemory>
-        requires { IsPacketText octets.now }
-        ensures supplies { IfOk result (λ s. AreSupplies octets.now s) }
+    /// All the memory that a new request may want toward a link: the buffers have the size of the packet that
+    /// is forwarded for it.
+    fn new(
+        alloc: A,
+        settings: &RealmSettings<'_>,
+        asked: RequestRef<'_>,
+        link: Link,
+        twice: bool,
+    ) -> Result<Supplies<A>, NoMemory>
+        requires request { IsRequest settings.now (shown_request asked) }
+        requires link { IsLink settings.now link }
+        ensures supplies { IfOk result (λ s. AreSupplies settings.now (shown_request asked.entry) link s) }
         ensures twice { IfOk result (λ s. s.outs.twice ≡ twice) }
     {
-        let size = forwarded_len(&View::of_packet(octets));
+        let request = View::of_packet(asked.octets);
+        let shaping = settings.shaping_of(asked.requester, request.code(), link);
+        let size = forwarded_shaped_len(&request, &shaping);
         let buffers = Buffers::new(alloc, size, twice)?;
         let outs = AnswerBuilder::new(alloc, 1, twice)?;
-        let octets = Octets::copy_of(alloc, octets)?;
+        let octets = Octets::copy_of(alloc, asked.octets)?;
         Ok(Supplies {
             octets,
             buffers,
@@ -144,7 +153,7 @@ impl<A: Allocator + Copy, E: Entries<A>> RealmBroker<'_, '_, '_, '_, A, E> {
             ≡ true }
         requires room { 0 < room E.Entries self.old }
         requires octets { octets ≡ asked.octets.now }
-        requires buffers { HasBuffers (forwarded_length (packet_of asked.octets.now)) buffers }
+        requires buffers { HasBuffers (forwarded_size self.old.settings.now (shown_request asked) link) buffers }
         ensures out { shown_out result.out ∷ [] ≡ packets_of (admits self.old.settings.now now
             (state E.Entries self.old) (shown_request asked.entry) (straight_to link)) }
         ensures copied { IsCopied (is_some buffers.copy) result }
@@ -191,7 +200,7 @@ impl<A: Allocator + Copy, E: Entries<A>> RealmBroker<'_, '_, '_, '_, A, E> {
         requires made { (lane_of self.old.settings.now self.old.numbers.now.lanes.items way.link).made
             ≡ true }
         requires room { 0 < room E.Entries self.old }
-        requires supplies { AreSupplies asked.octets.now supplies }
+        requires supplies { AreSupplies self.old.settings.now (shown_request asked) way.link supplies }
         ensures turn { Tells supplies.outs.twice result (state E.Entries self.old)
             (state E.Entries self.new) (admits self.old.settings.now now (state E.Entries self.old)
             (shown_request asked.entry) way) }
@@ -228,7 +237,7 @@ impl<A: Allocator + Copy, E: Entries<A>> RealmBroker<'_, '_, '_, '_, A, E> {
             state E.Entries self.new ≡ state E.Entries self.old) }
         ensures keeps { Keeps E.Entries self.old self.new }
     {
-        let supplies = Supplies::new(self.numbers.alloc, asked.octets, twice)?;
+        let supplies = Supplies::new(self.numbers.alloc, self.settings, asked, way.link, twice)?;
         self.make_lane(way.link)?;
         self.entries.reserve(self.settings.index())?;
         Ok(self.admit_reserved(now, asked, way, supplies))

@@ -17,7 +17,7 @@ ghost use Rattle.roam_book.specs.Private.Memory.{HasBuffers, IsCopied};
 
 use crate::packets::buffers::{Buffers, copied_into};
 use crate::packets::forwarding::{
-    Hop, PacketCopies, RequestRef, packet_to_link, packet_to_requester, send_new,
+    Hop, PacketCopies, RequestRef, gains_few, packet_to_link, packet_to_requester, send_new,
 };
 use crate::state::realm_numbers::RealmNumbers;
 use crate::state::realm_settings::RealmSettings;
@@ -129,7 +129,7 @@ fn refuse<A: Allocator>(
     requires moment { now ≤ 2 ^ 62 }
     requires request { IsRequest settings.now (shown entry.now).request }
     requires reverse { is_reverse (shown entry.now).request ≡ true }
-    requires buffers { HasBuffers (length entry.now.request.octets + 46) buffers }
+    requires buffers { HasBuffers (length entry.now.request.octets + 304) buffers }
     ensures fate { GivesUp settings.now now (shown entry.now) result }
     ensures copied { IsFateCopied (is_some buffers.copy) result }
 {
@@ -155,7 +155,7 @@ fn give_up<A: Allocator>(
 ) -> DueAction<A>
     requires moment { now ≤ 2 ^ 62 }
     requires request { IsRequest settings.now (shown entry.now).request }
-    requires buffers { HasBuffers (length entry.now.request.octets + 46) buffers }
+    requires buffers { HasBuffers (length entry.now.request.octets + 304) buffers }
     ensures fate { GivesUp settings.now now (shown entry.now) result }
     ensures copied { IsFateCopied (is_some buffers.copy) result }
 {
@@ -184,7 +184,7 @@ fn fail_over<A: Allocator + Copy>(
     requires entry { IsEntry settings.now numbers.old.ticket (shown entry.now) }
     requires link { IsLink settings.now link }
     requires waits { waits_at link id (shown entry.now) ≡ true }
-    requires buffers { HasBuffers (length entry.now.request.octets + 46) buffers }
+    requires buffers { HasBuffers (length entry.now.request.octets + 304) buffers }
     ensures fate { (es : List PlainEntry) → IsHeld settings.now es (shown entry.now) numbers.old
         → IsFate settings.now now es (shown entry.now) numbers.new result
         (fail_over settings.now now
@@ -212,6 +212,7 @@ fn fail_over<A: Allocator + Copy>(
         ticket: entry.ticket,
         link: target,
     };
+    gains_few(settings, asked, target);
     let (sent, waiting) = send_new(settings, numbers, now, hop, buffers);
     DueAction::Forwarded(sent, waiting)
 }
@@ -228,7 +229,7 @@ pub(crate) fn act_on_due<A: Allocator + Copy>(
     requires count { length numbers.old.lanes.items ≡ link_count settings.now }
     requires lanes { AreOwnLanes settings.now (marks_of numbers.old.lanes.items) }
     requires entry { IsEntry settings.now numbers.old.ticket (shown entry.now) }
-    requires buffers { HasBuffers (length entry.now.request.octets + 46) buffers }
+    requires buffers { HasBuffers (length entry.now.request.octets + 304) buffers }
     ensures fate { (es : List PlainEntry) → IsHeld settings.now es (shown entry.now) numbers.old
         → IsFate settings.now now es (shown entry.now) numbers.new result
         (due_standing settings.now now (state_of es numbers.old) (shown entry.now)

@@ -54,7 +54,7 @@ fn refused_reply<A: Allocator>(alloc: A, why: Refusal) -> ReplyPlan<A>
 
 impl<A: Allocator + Copy, E: Entries<A>> RealmBroker<'_, '_, '_, '_, A, E> {
     /// The entry that waits on a link with an Identifier: the link's lane has its ticket.
-    fn waiting_at(&self, link: Link, id: u8) -> Option<&Entry<A>>
+    pub(crate) fn waiting_at(&self, link: Link, id: u8) -> Option<&Entry<A>>
         requires realm { IsRealm E.Entries self.now }
         ensures found { seen result ≡ find_link link id (entries E.Entries self.now) }
     {

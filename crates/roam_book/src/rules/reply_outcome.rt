@@ -11,7 +11,8 @@ ghost use Rattle.roam_pending.specs.Shown.{shown, shown_request};
 ghost use Rattle.roam_book.specs.RealmConfig.{IsLink, RealmConfig, link_secret, seal_required};
 ghost use Rattle.roam_book.specs.RealmState.{RealmState};
 ghost use Rattle.roam_book.specs.Turn.{packets_of, refuses};
-ghost use Rattle.roam_book.specs.OnReply.{counted_peer, judge, reply_fault, return_reply, returned_octets, returning};
+ghost use Rattle.roam_book.specs.OnReply.{counted_peer, judge, passing_to, reply_fault, return_reply, returned_octets};
+ghost use Rattle.roam_book.specs.OnReply.{returning};
 ghost use Rattle.roam_book.specs.OnReply.{to_standing};
 ghost use Rattle.roam_book.specs.Sound.{IsRequest, IsWaiting, StandsWell};
 ghost use Rattle.roam_book.specs.Private.Judged.{IsVerdict, returns_octets};
@@ -19,7 +20,7 @@ ghost use Rattle.roam_book.specs.Private.Judged.{IsVerdict, returns_octets};
 use crate::packets::answer::{Answer, one_packet, refused};
 use crate::packets::forwarding::packet_to_requester;
 use crate::state::realm_settings::RealmSettings;
-use roam_back::{back, check_reply};
+use roam_back::{back_passing, check_reply};
 use roam_conf::Link;
 use roam_pending::{Done, Entry, Key, Request, Requester, Standing, Waiting};
 use roam_wire::code::ACCOUNTING_RESPONSE;
@@ -71,7 +72,7 @@ struct Judging<'s, 'c, 'r, 'd, A: Allocator> {
     reply: &'r View<'d>,
 }
 
-/// The packet that is returned for a reply that was taken.
+/// The packet that is returned for a reply that was taken, of what passes of it.
 ///
 /// Refused in this order: `ReplyTooLong`, looked at before memory is asked for; `NoMemory`.
 fn returned_packet<A: Allocator + Copy>(
@@ -89,13 +90,16 @@ fn returned_packet<A: Allocator + Copy>(
         judging.now.reply.now) }
     ensures too_long { IsErrOf result Refusal.ReplyTooLong ↔ (4096 < returned_length
         (returning judging.now.settings.now (shown_request request.now) link forwarded.now)
-        judging.now.reply.now (packet_of request.now.octets)) }
+        (passing_to judging.now.settings.now (shown_request request.now) judging.now.reply.now)
+        (packet_of request.now.octets)) }
     ensures causes { IfErr result (λ e. (e ≡ Refusal.ReplyTooLong) ⊎ (e ≡ Refusal.NoMemory)) }
 {
+    let removal = judging.settings.removal_for(request.requester);
     let mut packet = Vec::new(judging.alloc);
-    match back(
+    match back_passing(
         judging.reply,
         &View::of_packet(request.octets.as_slice()),
+        &removal,
         forwarded.authenticator(),
         judging.settings.secret_of_link(link),
         judging.settings.secret_of_requester(request.requester),

@@ -99,7 +99,7 @@ fn freed_link(gone: Option<Replaced>) -> Option<Link>
 }
 
 /// The ticket of the entry that counts as gone.
-fn gone_ticket(gone: Option<Replaced>) -> Option<u64>
+pub(crate) fn gone_ticket(gone: Option<Replaced>) -> Option<u64>
     ensures { result ≡ gone_ticket gone }
 {
     match gone {
@@ -177,25 +177,29 @@ impl<A: Allocator + Copy, E: Entries<A>> RealmBroker<'_, '_, '_, '_, A, E> {
         }
     }
 
-    /// A new request with these targets: there must be a ticket for it, and a target with a free
-    /// Identifier. The entry of its key, if there is one, counts as gone.
+    /// A new request with these targets: there must be a ticket for it, less than its name's share waiting, and a
+    /// target with a free Identifier. The entry of its key, if there is one, counts as gone.
     fn plan_admit(
         &self,
         now: u64,
+        asked: RequestRef<'_>,
         gone: Option<Replaced>,
         targets: Targets,
     ) -> Result<AdmitPlan, Refusal>
         requires realm { IsRealm E.Entries self.now }
         requires gone { CountsAsGone gone (entries E.Entries self.now) }
         requires targets { AreConfigured self.now.settings.now targets }
-        ensures { (q : PlainRequest)
-            → IsNew self.now.settings.now (entries E.Entries self.now) gone targets q
-            → Chooses self.now.settings.now now (state E.Entries self.now) q result
+        requires new { IsNew self.now.settings.now (entries E.Entries self.now) gone targets
+            (shown_request asked) }
+        ensures { Chooses self.now.settings.now now (state E.Entries self.now) (shown_request asked.entry) result
             (new_request self.now.settings.now now (state E.Entries self.now)
-            (once_gone gone (entries E.Entries self.now)) q) }
+            (once_gone gone (entries E.Entries self.now)) (shown_request asked.entry)) }
     {
         if self.numbers.ticket == 1 << 63 {
             return Err(Refusal::Exhausted);
+        }
+        if self.is_share_taken(asked, gone) {
+            return Err(Refusal::ShareTaken);
         }
         match self.chosen_target(now, targets, freed_link(gone)) {
             None => Err(Refusal::NoIdentifier),
@@ -204,17 +208,23 @@ impl<A: Allocator + Copy, E: Entries<A>> RealmBroker<'_, '_, '_, '_, A, E> {
     }
 
     /// A new request with these targets is refused or admitted, while an entry counts as gone.
-    fn plan_new(&self, now: u64, gone: Option<Replaced>, targets: Targets) -> RequestPlan<A>
+    fn plan_new(
+        &self,
+        now: u64,
+        asked: RequestRef<'_>,
+        gone: Option<Replaced>,
+        targets: Targets,
+    ) -> RequestPlan<A>
         requires realm { IsRealm E.Entries self.now }
         requires gone { CountsAsGone gone (entries E.Entries self.now) }
         requires targets { AreConfigured self.now.settings.now targets }
-        ensures { (q : PlainRequest)
-            → IsNew self.now.settings.now (entries E.Entries self.now) gone targets q
-            → IsRequestPlan self.now.settings.now now (state E.Entries self.now) q result
-            (new_request self.now.settings.now now (state E.Entries self.now)
-            (once_gone gone (entries E.Entries self.now)) q) }
+        requires new { IsNew self.now.settings.now (entries E.Entries self.now) gone targets
+            (shown_request asked) }
+        ensures { IsRequestPlan self.now.settings.now now (state E.Entries self.now) (shown_request asked.entry)
+            result (new_request self.now.settings.now now (state E.Entries self.now)
+            (once_gone gone (entries E.Entries self.now)) (shown_request asked.entry)) }
     {
-        match self.plan_admit(now, gone, targets) {
+        match self.plan_admit(now, asked, gone, targets) {
             Ok(way) => RequestPlan::Admitted(way),
             Err(why) => RequestPlan::Answered(refused(self.numbers.alloc, why)),
         }
@@ -266,7 +276,7 @@ impl<A: Allocator + Copy, E: Entries<A>> RealmBroker<'_, '_, '_, '_, A, E> {
                 let answer = refused_by_nak(self.numbers.alloc, self.settings, asked, cause)?;
                 Ok(RequestPlan::Answered(answer))
             }
-            Ok(targets) => Ok(self.plan_new(now, gone, targets)),
+            Ok(targets) => Ok(self.plan_new(now, asked, gone, targets)),
         }
     }
 
@@ -299,7 +309,7 @@ impl<A: Allocator + Copy, E: Entries<A>> RealmBroker<'_, '_, '_, '_, A, E> {
     /// A request of the realm: a duplicate, a reverse request that is answered by a NAK, or a new one
     /// that is forwarded.
     ///
-    /// Refused in this order: `Moment`, `Exhausted`, `NoIdentifier`, `Busy`. `NoMemory` comes where
+    /// Refused in this order: `Moment`, `Exhausted`, `ShareTaken`, `NoIdentifier`, `Busy`. `NoMemory` comes where
     /// a growth was refused; the realm is then as it was. A refused request and a duplicate of one
     /// that waits want no memory.
     pub fn on_request(&mut self, now: u64, asked: RequestRef<'_>) -> Result<Answer<A>, NoMemory>

@@ -1,7 +1,7 @@
 //! What the rules of a realm read of the configuration.
 
 ghost use Rattle.std.specs.Prelude.{◌≡◌, ◌↔◌, ◌<◌, ◌≤◌, ◌+◌, IfOk, IsTrue, Some, length};
-ghost use Rattle.std.specs.Prelude.{unwrap_or, vec_len};
+ghost use Rattle.std.specs.Prelude.{slice_get, unwrap_or, vec_len};
 ghost use Rattle.std.specs.Result.{result_err};
 ghost use Rattle.roam_wire.specs.Secret.{IsSecret};
 ghost use Rattle.roam_conf.specs.Shown.{shown};
@@ -56,7 +56,7 @@ impl<'c> RealmSettings<'c> {
     }
 
     /// The realm's entry of the configuration.
-    fn realm(&self) -> &Realm
+    pub(crate) fn realm(&self) -> &Realm
         ensures { shown_realm result.now ≡ self.now.realm }
     {
         &self.config.realms[usize::from(self.realm)]
@@ -118,6 +118,13 @@ impl<'c> RealmSettings<'c> {
         self.realm().max_pending
     }
 
+    /// How many requests for one name may wait for a service, if there is a limit.
+    pub(crate) fn share(&self) -> Option<u16>
+        ensures { result ≡ self.now.realm.share }
+    {
+        self.realm().share
+    }
+
     /// How many home servers the realm has: at most 8.
     pub(crate) fn server_count(&self) -> usize
         ensures count { result ≡ length self.now.realm.servers }
@@ -146,10 +153,11 @@ impl<'c> RealmSettings<'c> {
     }
 
     /// The peer of an index.
-    fn peer(&self, peer: u16) -> &Peer
+    pub(crate) fn peer(&self, peer: u16) -> &Peer
         requires { peer < length self.now.peers }
         ensures secret { peer_secret self.now peer ≡ (shown_peer result.now).secret }
         ensures coa { link_endpoint self.now (Link.Coa peer) ≡ unwrap_or result.now.coa nowhere }
+        ensures peer { slice_get self.now.peers peer ≡ Some (shown_peer result.now) }
     {
         &self.config.peers[usize::from(peer)]
     }
@@ -197,7 +205,7 @@ impl<'c> RealmSettings<'c> {
         request: &View<'_>,
         sessions: &Sessions<A>,
     ) -> Result<u16, u32>
-        ensures cause { result_err result ≡ cause self.now.peers self.now.index named
+        ensures cause { result_err result ≡ cause (Some self.now.realm) self.now.peers self.now.index named
             request.now.attributes sessions.now.sessions }
         ensures target { IfOk result (λ peer. Some peer
             ≡ target self.now.peers request.now.attributes) }

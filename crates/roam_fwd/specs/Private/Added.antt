@@ -18,4 +18,4 @@ cui_of asked = if asked then record { kind = CHARGEABLE_USER_IDENTITY; value = 0
 -- in this order
 abbrev pub shown_added : Added → List Attribute
 shown_added a =
-    challenge_of a.challenge ++ name_of (option_map (λ name. name.now) a.operator_name) ++ cui_of a.cui
+    challenge_of a.challenge ++ (name_of (option_map (λ name. name.now) a.operator_name) ++ cui_of a.cui)

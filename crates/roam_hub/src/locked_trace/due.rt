@@ -88,6 +88,7 @@ impl<'c, A: Allocator + Copy, N: Opened> LockedTrace<'c, A, N> {
         requires { shard < N.opening.config.shards }
         ensures look { IfOk result (IsLook N.opening shard now seat.old seat.new) }
         ensures seen { Sees shard seat.old seat.new }
+        ensures times { seat.new.times ≡ seat.old.times }
         ensures err { OnErr result (seat.new ≡ seat.old) }
         ensures causes { IfErr result (λ f. (f ≢ HubFault.NoShard) × (f ≢ HubFault.TraceFull)) }
     {

@@ -22,6 +22,7 @@ use roam_workers::Shared;
 use std::alloc::{AllocError, Global};
 use std::net::Net;
 use std::sync::Wait;
+use std::thread::Threads;
 use std::time::Clock;
 
 /// What the server's own thread has while the others serve.
@@ -30,7 +31,7 @@ pub struct Attendant<'s, 'c, R, G, N: Opened> {
     pub rt: &'s R,
     pub shared: &'s Shared<'s, 'c, G, N>,
     pub sockets: &'s [BoundSocket],
-    /// Through which the stored steps of a shard are let go of.
+    /// Through which the stored steps of a shard are let go of. The audit counts that.
     pub seat: Seat<Global, N>,
     /// In milliseconds since the server's start.
     pub now: u64,
@@ -59,7 +60,14 @@ fn bare(alloc: Global, course: Course) -> Reply {
     plain_reply(course, Vec::new(alloc))
 }
 
-impl<R: Wait + Clock + Net + Log, G, N: Opened> Attendant<'_, '_, R, G, N> {
+/// What is answered to who has the server stop.
+pub fn stopping(alloc: Global) -> Reply {
+    let mut body = Vec::new(alloc);
+    let _is_said = body.extend_from_slice(b"stopping\n").is_ok();
+    plain_reply(Course::Begun, body)
+}
+
+impl<R: Threads + Wait + Clock + Net + Log + Sync, G, N: Opened> Attendant<'_, '_, R, G, N> {
     /// The counts of this thread, which are the timer's too.
     fn counts(&self) -> Option<ThreadCounts<'_>> {
         let shared = self.shared;
@@ -108,16 +116,14 @@ impl<R: Wait + Clock + Net + Log, G, N: Opened> Attendant<'_, '_, R, G, N> {
     }
 
     /// Has the server take no request any more, and end when those that wait had time to be answered.
-    fn stop(&self) -> Result<Reply, AllocError> {
+    fn stop(&self) -> Reply {
         let shared = self.shared;
         shared.stopping.ask();
         let end = self.now.saturating_add(grace(shared.config));
         if shared.stopping.end_at(end) {
             shared.rest.wake();
         }
-        let mut body = Vec::new(self.shared.alloc);
-        body.extend_from_slice(b"stopping\n")?;
-        Ok(plain_reply(Course::Begun, body))
+        stopping(shared.alloc)
     }
 
     /// Counts that so many stored steps of a shard were let go of.
@@ -221,7 +227,7 @@ impl<R: Wait + Clock + Net + Log, G, N: Opened> Attendant<'_, '_, R, G, N> {
         let reply = match order {
             Order::Metrics => self.metrics(),
             Order::Status(form) => self.status(form),
-            Order::Stop => self.stop(),
+            Order::Stop => Ok(self.stop()),
             Order::Trace(shard) => self.trace(shard),
             Order::Reload => {
                 match prepare_next(self.rt, self.shared, self.sockets, source) {

@@ -33,4 +33,6 @@ pub struct Handover {
     pub reply: Option<Reply>,
     /// The configuration that isn't served any more, with its descriptors.
     pub before: Option<Configured>,
+    /// Whether who asked for it still waits for the answer.
+    pub is_awaited: bool,
 }

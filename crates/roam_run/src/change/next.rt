@@ -16,10 +16,12 @@ use roam_sockets::{
     BoundSocket, RECEIVE_BUFFER, ServeFault, bind_following, descriptors_wanted, widen,
 };
 use roam_telling::{Counters, Notice};
-use roam_threads::Kits;
+use roam_threads::{Kits, can_start};
 use roam_workers::{Rests, Shared, tell_or_drop};
 use std::alloc::Global;
 use std::net::Net;
+use std::sync::Wait;
+use std::thread::Threads;
 
 /// The configuration that follows, and all that the server needs for it.
 #[derive(Drop)]
@@ -43,12 +45,32 @@ const SPARE_OF_A_THREAD: usize = 9 << 20;
 const SPARE_BESIDE: usize = 1 << 20;
 
 /// How many octets the lists and the stacks of the threads may take that start then. They aren't touched.
-fn spare_for(shards: u16, sockets: usize) -> usize {
-    let threads = usize::from(shards) + 2;
+fn spare_for(threads: usize, sockets: usize) -> usize {
     sockets
         .saturating_mul(SPARE_OF_A_SOCKET)
-        .saturating_add(threads * SPARE_OF_A_THREAD)
+        .saturating_add(threads.saturating_mul(SPARE_OF_A_THREAD))
         .saturating_add(SPARE_BESIDE)
+}
+
+/// The spare memory for the threads of a configuration that follows, which the system gives: as many are tried, in this
+/// memory, while the others run.
+///
+/// # Errors
+///
+/// `Memory` and `Thread`.
+fn room_for_threads<R: Threads + Wait + Sync>(
+    rt: &R,
+    alloc: Global,
+    configured: &Configured,
+) -> Result<Vec<u8>, ServeFault> {
+    let threads = usize::from(configured.config.shards) + 2;
+    let octets = spare_for(threads, configured.sockets.len());
+    let room: Vec<u8> = Vec::with_capacity(alloc, octets)?;
+    drop(room);
+    if !can_start(rt, threads) {
+        return Err(ServeFault::Thread);
+    }
+    Ok(Vec::with_capacity(alloc, octets)?)
 }
 
 /// Gives sockets that are new room for what arrives, and tells where the system gives less.
@@ -112,7 +134,7 @@ fn bind_next<R: Net + Log, G, N: Opened>(
 }
 
 /// All that the server needs for a configuration that follows the one that is served.
-fn make_next<R: Net + Log, G, N: Opened>(
+fn make_next<R: Threads + Wait + Net + Log + Sync, G, N: Opened>(
     rt: &R,
     shared: &Shared<'_, '_, G, N>,
     sockets: &[BoundSocket],
@@ -128,8 +150,7 @@ fn make_next<R: Net + Log, G, N: Opened>(
     let alloc = shared.alloc;
     let configured = bind_next(rt, shared, sockets, config, told_exchanges)?;
     let wanted = descriptors_wanted(shared.config, &configured.config);
-    let spare = spare_for(configured.config.shards, configured.sockets.len());
-    let spare = Vec::with_capacity(alloc, spare)?;
+    let spare = room_for_threads(rt, alloc, &configured)?;
     let FreshMeans {
         kits,
         rests,
@@ -151,7 +172,7 @@ fn make_next<R: Net + Log, G, N: Opened>(
 /// # Errors
 ///
 /// What is answered where none follows.
-pub fn prepare_next<R: Net + Log, G, N: Opened, S: Source>(
+pub fn prepare_next<R: Threads + Wait + Net + Log + Sync, G, N: Opened, S: Source>(
     rt: &R,
     shared: &Shared<'_, '_, G, N>,
     sockets: &[BoundSocket],

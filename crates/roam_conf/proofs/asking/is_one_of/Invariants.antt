@@ -5,4 +5,5 @@ use Rattle.roam_conf.proofs.asking.is_one_of.Given as goal
 
 abbrev pub invariant-loop-other : goal.invariant-loop-other
 invariant-loop-other l =
-    list_any (bytes_eq l.name) (map string_bytes (drop l.other-index l.names)) ≡ list_any (bytes_eq l.fn.name) (map string_bytes l.fn.names)
+    list_any (bytes_eq l.name) (map string_bytes (drop l.other-index l.names))
+    ≡ list_any (bytes_eq l.fn.name) (map string_bytes l.fn.names)

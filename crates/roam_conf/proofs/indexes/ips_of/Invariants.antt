@@ -11,4 +11,6 @@ use Rattle.roam_conf.proofs.indexes.ips_of.Given as goal
 -- the peer of an address is the one that was noted, or else one of those that are left
 abbrev pub invariant-loop-place : goal.invariant-loop-place
 invariant-loop-place l =
-    (ip : List ℕ) → option_or (owner_of (owners l.index) ip) (position_from (λ (peer : PeerView). bytes_eq peer.ip ip) l.place (map shown_peer (drop l.place l.peers))) ≡ first_place (λ (peer : PeerView). bytes_eq peer.ip ip) (map shown_peer l.fn.peers)
+    (ip : List ℕ) → option_or (owner_of (owners l.index) ip)
+    (position_from (λ (peer : PeerView). bytes_eq peer.ip ip) l.place (map shown_peer (drop l.place l.peers)))
+    ≡ first_place (λ (peer : PeerView). bytes_eq peer.ip ip) (map shown_peer l.fn.peers)

@@ -4,4 +4,5 @@ use Rattle.roam_conf.proofs.laws.longest_suffix_comes_next.Goals as goal
 
 pub returns : goal.returns
 returns c =
-    longest_suffix (shown c.args.config.now) c.args.name.now c.args.ending.now c.args.owner c.requires.unnamed c.requires.fits c.requires.ends c.requires.named c.requires.longest
+    longest_suffix (shown c.args.config.now) c.args.name.now c.args.ending.now c.args.owner c.requires.unnamed
+    c.requires.fits c.requires.ends c.requires.named c.requires.longest

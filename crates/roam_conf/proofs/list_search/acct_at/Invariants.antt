@@ -7,4 +7,5 @@ use Rattle.roam_conf.proofs.list_search.acct_at.Given as goal
 
 abbrev pub invariant-loop-i : goal.invariant-loop-i
 invariant-loop-i l =
-    position_from (λ (x : ServerView). is_there l.endpoint x.acct) l.i (map shown_server (drop l.i l.servers)) ≡ first_place (λ (x : ServerView). is_there l.fn.endpoint x.acct) (map shown_server l.fn.servers)
+    position_from (λ (x : ServerView). is_there l.endpoint x.acct) l.i (map shown_server (drop l.i l.servers))
+    ≡ first_place (λ (x : ServerView). is_there l.fn.endpoint x.acct) (map shown_server l.fn.servers)

@@ -8,4 +8,5 @@ use Rattle.roam_conf.proofs.list_search.auth_at.Given as goal
 
 abbrev pub invariant-loop-i : goal.invariant-loop-i
 invariant-loop-i l =
-    position_from (λ (x : ServerView). same_endpoint x.auth l.endpoint) l.i (map shown_server (drop l.i l.servers)) ≡ first_place (λ (x : ServerView). same_endpoint x.auth l.fn.endpoint) (map shown_server l.fn.servers)
+    position_from (λ (x : ServerView). same_endpoint x.auth l.endpoint) l.i (map shown_server (drop l.i l.servers))
+    ≡ first_place (λ (x : ServerView). same_endpoint x.auth l.fn.endpoint) (map shown_server l.fn.servers)

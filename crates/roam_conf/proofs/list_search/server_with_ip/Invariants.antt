@@ -9,4 +9,7 @@ use Rattle.roam_conf.proofs.list_search.server_with_ip.Given as goal
 
 abbrev pub invariant-loop-place : goal.invariant-loop-place
 invariant-loop-place l =
-    position_from (λ (x : ServerView). bytes_eq x.auth.ip l.ip || option_map_or (λ e. bytes_eq e.ip l.ip) x.acct false) l.place (map shown_server (drop l.place l.servers)) ≡ first_place (λ (x : ServerView). bytes_eq x.auth.ip l.fn.ip || option_map_or (λ e. bytes_eq e.ip l.fn.ip) x.acct false) (map shown_server l.fn.servers)
+    position_from (λ (x : ServerView). bytes_eq x.auth.ip l.ip || option_map_or (λ e. bytes_eq e.ip l.ip) x.acct
+    false) l.place (map shown_server (drop l.place l.servers))
+    ≡ first_place (λ (x : ServerView). bytes_eq x.auth.ip l.fn.ip || option_map_or (λ e. bytes_eq e.ip l.fn.ip)
+    x.acct false) (map shown_server l.fn.servers)

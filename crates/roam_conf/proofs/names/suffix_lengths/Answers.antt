@@ -7,8 +7,10 @@ use Rattle.roam_conf.proofs.names.suffix_lengths.Goals as goal
 pub loop-key-preserved : goal.loop-key-preserved
 loop-key-preserved c = λ name small off.
     let marks = c.mark_suffix.new.marks in
-    let mark : HasMark marks c.key-item.result.items = subst (λ (key : List ℕ). HasMark marks key) c.as_slice.ensures.value c.mark_suffix.ensures.own in
-    one_less marks c.as_slice-key-items.result.now c.loop-key.key-index c.key-item.result name (omega arith) c.key-item.is mark small off
+    let mark : HasMark marks c.key-item.result.items =
+    subst (λ (key : List ℕ). HasMark marks key) c.as_slice.ensures.value c.mark_suffix.ensures.own in
+    one_less marks c.as_slice-key-items.result.now c.loop-key.key-index c.key-item.result name (omega arith)
+    c.key-item.is mark small off
     ∙ c.loop-key.invariant name small (not_before c.loop-key.marks marks (length name) c.mark_suffix.ensures.others off)
 
 -- all of them were

@@ -5,4 +5,5 @@ use Rattle.roam_conf.proofs.peer_names.has_other.Given as goal
 
 abbrev pub invariant-loop-name : goal.invariant-loop-name
 invariant-loop-name l =
-    list_any (is_unowned (owners l.index)) (map string_bytes (drop l.name-index l.names)) ≡ list_any (is_unowned (owners l.fn.index)) (map string_bytes l.fn.names)
+    list_any (is_unowned (owners l.index)) (map string_bytes (drop l.name-index l.names))
+    ≡ list_any (is_unowned (owners l.fn.index)) (map string_bytes l.fn.names)

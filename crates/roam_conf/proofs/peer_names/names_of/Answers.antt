@@ -15,12 +15,17 @@ loop-place-preserved c = λ name.
     let peers = c.args.peers.now in
     let i = c.loop-place.place in
     let peer = c.index-peers-place.result in
-    let noted : owners c.note.new.index ≡ with_key (owners c.loop-place.index) (string_bytes peer.name) i = c.in_ok-note.ensures.noted ∙ ap (λ key. with_key (owners c.loop-place.index) key i) (c.in_ok-key.ensures ∙ c.as_bytes.ensures.value) in
-    noted_one (owners c.loop-place.index) (owners c.note.new.index) name (string_bytes peer.name) i (position_from (λ (x : PeerView). bytes_eq x.name name) (i + 1) (map shown_peer (drop (i + 1) peers))) noted
-    ∙ ap (λ o. option_or (owner_of (owners c.loop-place.index) name) o) (position_at (λ (x : PeerView). bytes_eq x.name name) peers i peer (omega arith) c.index-peers-place.is)
+    let noted : owners c.note.new.index ≡ with_key (owners c.loop-place.index) (string_bytes peer.name) i =
+    c.in_ok-note.ensures.noted ∙ ap (λ key. with_key (owners c.loop-place.index) key i) (c.in_ok-key.ensures
+    ∙ c.as_bytes.ensures.value) in
+    noted_one (owners c.loop-place.index) (owners c.note.new.index) name (string_bytes peer.name) i
+    (position_from (λ (x : PeerView). bytes_eq x.name name) (i + 1) (map shown_peer (drop (i + 1) peers))) noted
+    ∙ ap (λ o. option_or (owner_of (owners c.loop-place.index) name) o)
+    (position_at (λ (x : PeerView). bytes_eq x.name name) peers i peer (omega arith) c.index-peers-place.is)
     ∙ c.loop-place.invariant name
 
 -- all peers were noted
 pub returns : goal.returns
 returns c = λ name.
-    position_past (λ (x : PeerView). bytes_eq x.name name) c.args.peers.now c.loop-place.place (owner_of (owners c.loop-place.index) name) (omega arith) ∙ c.loop-place.invariant name
+    position_past (λ (x : PeerView). bytes_eq x.name name) c.args.peers.now c.loop-place.place
+    (owner_of (owners c.loop-place.index) name) (omega arith) ∙ c.loop-place.invariant name

@@ -11,4 +11,7 @@ use Rattle.roam_conf.proofs.peer_names.names_of.Given as goal
 -- the peer of a name is the one that was noted, or else one of those that are left
 abbrev pub invariant-loop-place : goal.invariant-loop-place
 invariant-loop-place l =
-    (name : List ℕ) → option_or (owner_of (owners l.index) name) (position_from (λ (peer : PeerView). bytes_eq peer.name name) l.place (map shown_peer (drop l.place l.peers))) ≡ first_place (λ (peer : PeerView). bytes_eq peer.name name) (map shown_peer l.fn.peers)
+    (name : List ℕ) → option_or (owner_of (owners l.index) name)
+    (position_from (λ (peer : PeerView). bytes_eq peer.name name) l.place
+    (map shown_peer (drop l.place l.peers)))
+    ≡ first_place (λ (peer : PeerView). bytes_eq peer.name name) (map shown_peer l.fn.peers)

@@ -7,4 +7,7 @@ use Rattle.roam_conf.proofs.peer_names.some_states_other.Given as goal
 
 abbrev pub invariant-loop-realm : goal.invariant-loop-realm
 invariant-loop-realm l =
-    list_any (λ realm. option_map_or (list_any (is_unowned (owners l.index))) realm.peers false) (map shown_realm (drop l.realm-index l.realms)) ≡ list_any (λ realm. option_map_or (list_any (is_unowned (owners l.fn.index))) realm.peers false) (map shown_realm l.fn.realms)
+    list_any (λ realm. option_map_or (list_any (is_unowned (owners l.index))) realm.peers false)
+    (map shown_realm (drop l.realm-index l.realms))
+    ≡ list_any (λ realm. option_map_or (list_any (is_unowned (owners l.fn.index))) realm.peers false)
+    (map shown_realm l.fn.realms)

@@ -8,4 +8,7 @@ use Rattle.roam_conf.proofs.well_formed.are_labels.Goals as goal
 pub returns : goal.returns
 unfolding parts
 returns c =
-    all_from_yields_List is_label _ _ _ c.all.ensures.ran (YieldsList-from_slice_split _ (λ octet. octet == 46) c.args.name.now c.split.ensures.rest c.split.ensures.done c.split.ensures.closure (λ x r q k. search (rules, tests))) (λ x b q k. search (rules, tests))
+    all_from_yields_List is_label _ _ _ c.all.ensures.ran
+    (YieldsList-from_slice_split _ (λ octet. octet == 46) c.args.name.now c.split.ensures.rest
+    c.split.ensures.done c.split.ensures.closure (λ x r q k. search (rules, tests)))
+    (λ x b q k. search (rules, tests))

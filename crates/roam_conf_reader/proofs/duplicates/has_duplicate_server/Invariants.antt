@@ -6,4 +6,6 @@ use Rattle.roam_conf_reader.proofs.duplicates.has_duplicate_server.Given as goal
 
 abbrev pub invariant-loop-realm : goal.invariant-loop-realm
 invariant-loop-realm l =
-    list_any (λ realm. has_pair same_endpoint (server_endpoints realm.servers)) (map shown_realm (drop l.realm-index l.realms)) ≡ list_any (λ realm. has_pair same_endpoint (server_endpoints realm.servers)) (map shown_realm l.fn.realms)
+    list_any (λ realm. has_pair same_endpoint (server_endpoints realm.servers))
+    (map shown_realm (drop l.realm-index l.realms))
+    ≡ list_any (λ realm. has_pair same_endpoint (server_endpoints realm.servers)) (map shown_realm l.fn.realms)

@@ -6,4 +6,5 @@ use Rattle.roam_conf_reader.proofs.duplicates.is_among_peers.Given as goal
 
 abbrev pub invariant-loop-other : goal.invariant-loop-other
 invariant-loop-other l =
-    list_any (same_peer (shown_peer l.peer)) (map shown_peer (drop l.other-index l.others)) ≡ list_any (same_peer (shown_peer l.fn.peer)) (map shown_peer l.fn.others)
+    list_any (same_peer (shown_peer l.peer)) (map shown_peer (drop l.other-index l.others))
+    ≡ list_any (same_peer (shown_peer l.fn.peer)) (map shown_peer l.fn.others)

@@ -6,4 +6,5 @@ use Rattle.roam_conf_reader.proofs.duplicates.own_endpoints.Given as goal
 
 abbrev pub invariant-loop-realm : goal.invariant-loop-realm
 invariant-loop-realm l =
-    l.endpoints.items ++ flat_map realm_endpoints (map shown_realm (drop l.realm-index l.realms)) ≡ own_endpoints l.fn.auth l.fn.acct (map shown_realm l.fn.realms)
+    l.endpoints.items ++ flat_map realm_endpoints (map shown_realm (drop l.realm-index l.realms))
+    ≡ own_endpoints l.fn.auth l.fn.acct (map shown_realm l.fn.realms)

@@ -5,4 +5,5 @@ use Rattle.roam_conf_reader.proofs.duplicates.server_endpoints.Given as goal
 
 abbrev pub invariant-loop-server : goal.invariant-loop-server
 invariant-loop-server l =
-    l.endpoints.items ++ server_endpoints (map shown_server (drop l.server-index l.servers)) ≡ server_endpoints (map shown_server l.fn.servers)
+    l.endpoints.items ++ server_endpoints (map shown_server (drop l.server-index l.servers))
+    ≡ server_endpoints (map shown_server l.fn.servers)

@@ -7,4 +7,5 @@ use Rattle.roam_conf_reader.proofs.peer.all_from.Given as goal
 
 abbrev pub invariant-loop-value : goal.invariant-loop-value
 invariant-loop-value l =
-    Pushed StatesPeer (items_view l.fn.items.items) (items_view (drop l.value-index l.items.items)) (map shown_peer l.all.items)
+    Pushed StatesPeer (items_view l.fn.items.items) (items_view (drop l.value-index l.items.items))
+    (map shown_peer l.all.items)

@@ -13,9 +13,12 @@ use Rattle.roam_conf_reader.proofs.realm.all_from.Goals as goal
 pub returns-in_err-realm-in-Some-clause-bad : goal.returns-in_err-realm-in-Some-clause-bad
 returns-in_err-realm-in-Some-clause-bad c = λ is_bad vs stated.
     let items = c.args.items.now.items in
-    let is : c.value-item.result ≡ get_or items c.loop-value.value-index c.value-item.result = c.value-item.is ∙ ap (λ xs. get_or xs c.loop-value.value-index c.value-item.result) c.deref-value-items.ensures.value in
-    let here = pushed_at StatesRealm items c.loop-value.value-index c.value-item.result (map shown_realm c.loop-value.all.items) (omega arith) is c.loop-value.invariant in
-    let table_is : as_table (view c.value-item.result) ≡ Some (table_view c.in-Some.table.now) = sym c.in-Some.ensures in
+    let is : c.value-item.result ≡ get_or items c.loop-value.value-index c.value-item.result = c.value-item.is
+    ∙ ap (λ xs. get_or xs c.loop-value.value-index c.value-item.result) c.deref-value-items.ensures.value in
+    let here = pushed_at StatesRealm items c.loop-value.value-index c.value-item.result
+    (map shown_realm c.loop-value.all.items) (omega arith) is c.loop-value.invariant in
+    let table_is : as_table (view c.value-item.result) ≡ Some (table_view c.in-Some.table.now) =
+    sym c.in-Some.ensures in
     let fault = err_from_is_err_and c.from_residual.result c.from_residual.ensures.1 in
     let bad = c.in_err-realm-in-Some.ensures.bad (cc) in
     pushed_bad StatesRealm _ _ _ _ _ vs here table_is bad stated
@@ -24,14 +27,19 @@ returns-in_err-realm-in-Some-clause-bad c = λ is_bad vs stated.
 pub loop-value-preserved : goal.loop-value-preserved
 loop-value-preserved c =
     let items = c.args.items.now.items in
-    let is : c.value-item.result ≡ get_or items c.loop-value.value-index c.value-item.result = c.value-item.is ∙ ap (λ xs. get_or xs c.loop-value.value-index c.value-item.result) c.deref-value-items.ensures.value in
-    let here = pushed_at StatesRealm items c.loop-value.value-index c.value-item.result (map shown_realm c.loop-value.all.items) (omega arith) is c.loop-value.invariant in
-    let table_is : as_table (view c.value-item.result) ≡ Some (table_view c.in-Some.table.now) = sym c.in-Some.ensures in
-    let added : c.push.new.self.items ≡ c.loop-value.all.items ++ c.in_ok-realm-in-Some.realm ∷ [] = grind (arith, common_steps) in
+    let is : c.value-item.result ≡ get_or items c.loop-value.value-index c.value-item.result = c.value-item.is
+    ∙ ap (λ xs. get_or xs c.loop-value.value-index c.value-item.result) c.deref-value-items.ensures.value in
+    let here = pushed_at StatesRealm items c.loop-value.value-index c.value-item.result
+    (map shown_realm c.loop-value.all.items) (omega arith) is c.loop-value.invariant in
+    let table_is : as_table (view c.value-item.result) ≡ Some (table_view c.in-Some.table.now) =
+    sym c.in-Some.ensures in
+    let added : c.push.new.self.items ≡ c.loop-value.all.items ++ c.in_ok-realm-in-Some.realm ∷ [] =
+    grind (arith, common_steps) in
     let next = pushed_more StatesRealm _ _ _ _ _ _ here table_is c.in_ok-realm-in-Some.ensures.ok in
     rw (added, map-append) next
 
 -- All items were read.
 pub returns-clause-ok : goal.returns-clause-ok
 returns-clause-ok c =
-    pushed_end StatesRealm c.args.items.now.items c.loop-value.value-index (map shown_realm c.loop-value.all.items) (omega arith) c.loop-value.invariant
+    pushed_end StatesRealm c.args.items.now.items c.loop-value.value-index (map shown_realm c.loop-value.all.items)
+    (omega arith) c.loop-value.invariant

@@ -6,4 +6,5 @@ use Rattle.roam_conf_reader.proofs.tables.some_misses.Given as goal
 
 abbrev pub invariant-loop-value : goal.invariant-loop-value
 invariant-loop-value l =
-    some_table (misses (shown_keys l.keys)) (items_view (drop l.value-index l.items.items)) ≡ some_table (misses (shown_keys l.fn.keys)) (items_view l.fn.items.items)
+    some_table (misses (shown_keys l.keys)) (items_view (drop l.value-index l.items.items))
+    ≡ some_table (misses (shown_keys l.fn.keys)) (items_view l.fn.items.items)

@@ -1,9 +1,9 @@
-use Rattle.std.proofs.Common.{◌+◌, ◌++◌, List, ℕ, length, ap, ◌∙◌, arith, length-append}
+use Rattle.std.proofs.Common.{◌/◌, ◌%◌, ◌++◌, List, ℕ, length, ap, ◌∙◌, arith, length-append}
 use Rattle.roam_wire.specs.Packet.{Attribute, attributes_text}
 use Rattle.roam_filter.specs.Without.{without}
 use Rattle.roam_fwd.specs.Private.Added.{shown_added}
 use Rattle.roam_fwd.specs.Shaped.{shown_shaping}
-use Rattle.roam_fwd.proofs.AddedLemmas.{shaped-text}
+use Rattle.roam_fwd.proofs.AddedLemmas.{length-header, shaped-text}
 use Rattle.roam_fwd.proofs.ShapedLemmas.{length-shaped}
 use Rattle.roam_fwd.proofs.shaped.append_shaped.Goals as goal
 
@@ -19,14 +19,16 @@ append_without-requires g c =
     let s = shown_shaping c.args.shaping.now in
     let q = c.args.request.now in
     let header = rw (c.code.ensures, c.id.ensures, c.authenticator.ensures) at c.append_header.ensures.items in
+    let header_size = length-header c.args.out.now.items c.append_header.new.out.items q.code q.id (c.args.size / 256)
+    (c.args.size % 256) q.authenticator header c.requires.packet.authenticator in
     omega (
       arith,
       c.requires.room,
       c.requires.size,
       length-shaped s q,
-      c.requires.packet.authenticator,
-      ap length header,
-      length-append c.args.out.now.items _,
+      header_size,
+      c.args.out.now.ok.0,
+      c.append_header.new.out.ok.0,
       c.append_header.ensures.capacity,
     )
 
@@ -35,15 +37,18 @@ append_added-requires-clause-room g c =
     let s = shown_shaping c.args.shaping.now in
     let q = c.args.request.now in
     let header = rw (c.code.ensures, c.id.ensures, c.authenticator.ensures) at c.append_header.ensures.items in
+    let header_size = length-header c.args.out.now.items c.append_header.new.out.items q.code q.id (c.args.size / 256)
+    (c.args.size % 256) q.authenticator header c.requires.packet.authenticator in
     omega (
       arith,
       c.requires.room,
       c.requires.size,
       length-shaped s q,
-      c.requires.packet.authenticator,
-      ap length header,
-      length-append c.args.out.now.items _,
+      header_size,
+      c.args.out.now.ok.0,
+      c.append_header.new.out.ok.0,
       c.append_header.ensures.capacity,
+      c.append_without.new.out.ok.0,
       ap length c.append_without.ensures.items,
       length-append c.append_header.new.out.items (attributes_text (without s.removed q.attributes)),
       c.append_without.ensures.capacity,

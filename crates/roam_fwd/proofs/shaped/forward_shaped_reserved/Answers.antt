@@ -1,14 +1,22 @@
-use Rattle.std.proofs.Common.{◌≡◌, ℕ, ◌+◌, ◌-◌, ◌≤◌, List, ◌++◌, length, take, replicate, sym, ap, ◌∙◌, arith}
-use Rattle.roam_wire.specs.Packet.{IsPacket, Packet, packet_length, packet_text}
+use Rattle.std.proofs.Common.{◌≡◌, ℕ, ◌+◌, ◌-◌, ◌≤◌, List, ◌++◌, length, take, replicate, sym, ap, ◌∙◌, arith, length-append}
+use Rattle.std.specs.Option.{ForSome}
+use Rattle.roam_wire.specs.Packet.{AreOctets, IsPacket, Packet, packet_length, packet_text}
 use Rattle.roam_wire.specs.Reading.{packet_of}
 use Rattle.roam_wire.proofs.LawLemmas.{length-packet_text}
 use Rattle.roam_fwd.specs.Forwarded.{Forwarding, forwarded, forwarded_length}
 use Rattle.roam_fwd.specs.Rewriting.{shown}
-use Rattle.roam_fwd.specs.Shaped.{shaped, shown_shaping}
+use Rattle.roam_fwd.specs.Shaped.{HasShortName, Shaping, shaped, shown_shaping}
 use Rattle.roam_fwd.proofs.AddedLemmas.{held-padded}
 use Rattle.roam_fwd.proofs.BufferLemmas.{HoldsRequest, can_be_rewritten, from_start, from_start-is, packet_of-there, written_back}
 use Rattle.roam_fwd.proofs.ShapedLemmas.{CanBeForwarded-shaped, IsPacket-shaped}
 use Rattle.roam_fwd.proofs.shaped.forward_shaped_reserved.Goals as goal
+
+-- what is shorter than the packet that is forwarded for it is a packet
+packet_shaped : (s : Shaping) (q : Packet) (more : ℕ) → HasShortName s → ForSome s.operator_name AreOctets →
+    IsPacket q → packet_length (shaped s q) + more ≡ forwarded_length (shaped s q) →
+    forwarded_length (shaped s q) ≤ 4096 → IsPacket (shaped s q)
+packet_shaped s q more name octets packet grown limit =
+    IsPacket-shaped s q name octets packet (omega (arith, limit, grown))
 
 -- the shaped request is short enough for a packet
 pub append_shaped-requires-clause-short : goal.append_shaped-requires-clause-short
@@ -20,17 +28,36 @@ pub append_shaped-requires-clause-room : goal.append_shaped-requires-clause-room
 append_shaped-requires-clause-room g c =
     omega (arith, c.requires.room, c.growth-more.ensures.size, c.shaped_len-len.ensures.size)
 
+-- behind it there is room for what is added
+pub append_zeros-requires : goal.append_zeros-requires
+append_zeros-requires g c =
+    let s = shown_shaping c.args.shaping.now in
+    let q = c.args.request.now in
+    let p : Packet = shaped s q in
+    let grown = c.growth-more.ensures.size in
+    let packet : IsPacket p = packet_shaped s q c.growth-more.result c.requires.name c.shaped_len-len.ensures.octets
+    c.shaped_len-len.ensures.packet grown c.requires.can_be_shaped.size in
+    omega (
+      arith,
+      c.requires.room,
+      grown,
+      ap length c.append_shaped.ensures.items,
+      length-append c.args.out.now.items (packet_text p),
+      length-packet_text p packet,
+      c.append_shaped.ensures.capacity,
+      c.args.out.now.ok.0,
+      c.append_shaped.new.out.ok.0,
+    )
+
 -- behind the buffer's own octets stand those of a packet that can be forwarded, with room for what is added
 pub rewrite-requires-clause-rewritable : goal.rewrite-requires-clause-rewritable
 rewrite-requires-clause-rewritable g c =
     let s = shown_shaping c.args.shaping.now in
     let q = c.args.request.now in
     let p : Packet = shaped s q in
-    let limit = c.requires.can_be_shaped.size in
     let grown = c.growth-more.ensures.size in
-    let short : packet_length p ≤ 4096 = omega (arith, limit, grown) in
-    let packet : IsPacket p =
-    IsPacket-shaped s q c.requires.name c.shaped_len-len.ensures.octets c.shaped_len-len.ensures.packet short in
+    let packet : IsPacket p = packet_shaped s q c.growth-more.result c.requires.name c.shaped_len-len.ensures.octets
+    c.shaped_len-len.ensures.packet grown c.requires.can_be_shaped.size in
     let old : List ℕ = c.args.out.now.items in
     let all : List ℕ = c.as_mut_slice.result.now in
     let start : ℕ = c.len-start.result in
@@ -50,11 +77,9 @@ returns-clause-octets g c =
     let s = shown_shaping c.args.shaping.now in
     let q = c.args.request.now in
     let p : Packet = shaped s q in
-    let limit = c.requires.can_be_shaped.size in
     let grown = c.growth-more.ensures.size in
-    let short : packet_length p ≤ 4096 = omega (arith, limit, grown) in
-    let packet : IsPacket p =
-    IsPacket-shaped s q c.requires.name c.shaped_len-len.ensures.octets c.shaped_len-len.ensures.packet short in
+    let packet : IsPacket p = packet_shaped s q c.growth-more.result c.requires.name c.shaped_len-len.ensures.octets
+    c.shaped_len-len.ensures.packet grown c.requires.can_be_shaped.size in
     let old : List ℕ = c.args.out.now.items in
     let all : List ℕ = c.as_mut_slice.result.now in
     let start : ℕ = c.len-start.result in

@@ -1,7 +1,7 @@
 use Rattle.std.proofs.Common.{◌≡◌, length, IsTrue, arith}
 use Rattle.std.proofs.lemmas.List.{length-map}
 use borrow.Author.Count.{below_more}
-use Rattle.roam_audit.specs.Shown.{all_in, recorded}
+use Rattle.roam_audit.specs.Shown.{all_in, recorded, whole_of}
 use Rattle.roam_audit.specs.Audit.{Agrees}
 use Rattle.roam_audit.proofs.report.Report.check_seats.Goals as goal
 
@@ -10,7 +10,7 @@ pub loop-shard-preserved : goal.loop-shard-preserved
 loop-shard-preserved g c =
     let steps = recorded c.args.self.now in
     let agrees : IsTrue c.agrees.result = cc in
-    below_more (Agrees steps c.args.seats.now) c.loop-shard.shard
+    below_more (Agrees steps (whole_of c.args.self.now) c.args.seats.now) c.loop-shard.shard
     c.loop-shard.invariant (c.agrees.ensures.0 agrees)
 
 pub returns : goal.returns

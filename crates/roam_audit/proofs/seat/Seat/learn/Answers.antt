@@ -15,5 +15,5 @@ returns g c =
     ≡ slice_set (entries_of fronts) front.shard front.entries =
     map-set (λ (f : FrontView). f.entries) fronts c.from-shard.result front
     ∙ ap (λ (k : ℕ). slice_set (entries_of fronts) k front.entries) n in
-    (λ j. record { tallies = i.tallies.items; fronts = set j })
+    (λ j. record { tallies = i.tallies.items; times = i.times.items; fronts = set j })
     ∙ ap (λ (s : SeatView). having_seen s front.shard front.entries) c.self.view_is

@@ -18,5 +18,6 @@ returns-clause-state g c =
       sessions = (kept.sessions i).sessions;
       rests = kept.rests i;
     } in
-    let before : c.args.self.now.state ≡ state_of es inside.numbers = sym (ap (λ (b : BookView). b.state) c.self.view_is) in
+    let before : c.args.self.now.state ≡ state_of es inside.numbers =
+    sym (ap (λ (b : BookView). b.state) c.self.view_is) in
     c.carry_over.ensures.state es ∙ (λ i. carried (c.new-settings.ensures i) ((same ∙ sym before) i))

@@ -17,7 +17,8 @@ let_go-requires-clause-realm g c =
     let of = c.new-settings.ensures in
     let inv = c.self.invariant in
     let config = shown b.config.now in
-    let own : entries_in b.entries c.new-settings.result.index ≡ b.entries.entries = held-entries b.entries b.realm c.new-settings.result config of inv.own_entries in
+    let own : entries_in b.entries c.new-settings.result.index ≡ b.entries.entries =
+    held-entries b.entries b.realm c.new-settings.result config of inv.own_entries in
     record {
       kept_here = held-kept b.entries b.realm c.new-settings.result config of inv.own_entries;
       sound = rw own (subst (λ (k : RealmConfig). IsSound k b.entries.entries b.numbers) (sym of) inv.sound);
@@ -28,7 +29,9 @@ let_go-requires-clause-realm g c =
 pub let_go-requires-clause-done : goal.let_go-requires-clause-done
 let_go-requires-clause-done g c =
     let b = c.self.inside in
-    let own : entries_in b.entries c.new-settings.result.index ≡ b.entries.entries = held-entries b.entries b.realm c.new-settings.result (shown b.config.now) c.new-settings.ensures c.self.invariant.own_entries in
+    let own : entries_in b.entries c.new-settings.result.index ≡ b.entries.entries =
+    held-entries b.entries b.realm c.new-settings.result (shown b.config.now) c.new-settings.ensures
+    c.self.invariant.own_entries in
     let done = rw (← c.self.view_is) at c.requires.done in
     subst (λ (es : List PlainEntry). only_done_due c.args.now es ≡ true) (sym own) done
 

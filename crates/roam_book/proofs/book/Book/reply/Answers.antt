@@ -18,11 +18,13 @@ on_reply-requires-clause-packet g c =
     let b = c.self.inside in
     let job = shown_job c.args.job.now in
     let config : ConfigView = shown b.config.now in
-    let octets : AreOctets job.octets = subst AreOctets c.as_slice-octets.ensures (λ i. omega (arith, c.type_inv.octets i)) in
+    let octets : AreOctets job.octets =
+    subst AreOctets c.as_slice-octets.ensures (λ i. omega (arith, c.type_inv.octets i)) in
     let event : IsEvent config job = rw (← c.self.view_is) at c.requires.event in
     let own : job.realm ≡ b.realm = rw (← c.self.view_is) at c.requires.own in
     let taken = job_of_book config job b.realm c.new-settings.result octets event own c.new-settings.ensures in
-    let packet : IsPacketText job.octets = subst (λ (s : Side). IsTakenFrom c.new-settings.result job s) c.link_of.ensures taken in
+    let packet : IsPacketText job.octets =
+    subst (λ (s : Side). IsTakenFrom c.new-settings.result job s) c.link_of.ensures taken in
     subst IsPacketText (sym c.as_slice-octets.ensures) packet
 
 -- the turn of its reply is that of its event

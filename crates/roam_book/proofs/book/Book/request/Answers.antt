@@ -15,7 +15,8 @@ request_of_job-asked-requires-clause-taken g c =
     let b = c.self.inside in
     let job = shown_job c.args.job.now in
     let config : ConfigView = shown b.config.now in
-    let octets : AreOctets job.octets = subst AreOctets c.as_slice-octets.ensures (λ i. omega (arith, c.type_inv.octets i)) in
+    let octets : AreOctets job.octets =
+    subst AreOctets c.as_slice-octets.ensures (λ i. omega (arith, c.type_inv.octets i)) in
     let event : IsEvent config job = rw (← c.self.view_is) at c.requires.event in
     let own : job.realm ≡ b.realm = rw (← c.self.view_is) at c.requires.own in
     job_of_book config job b.realm c.new-settings.result octets event own c.new-settings.ensures

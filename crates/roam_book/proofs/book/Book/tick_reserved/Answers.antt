@@ -17,7 +17,8 @@ on_tick-requires-clause-realm g c =
     let of = c.new-settings.ensures in
     let inv = c.self.invariant in
     let config = shown b.config.now in
-    let own : entries_in b.entries c.new-settings.result.index ≡ b.entries.entries = held-entries b.entries b.realm c.new-settings.result config of inv.own_entries in
+    let own : entries_in b.entries c.new-settings.result.index ≡ b.entries.entries =
+    held-entries b.entries b.realm c.new-settings.result config of inv.own_entries in
     record {
       kept_here = held-kept b.entries b.realm c.new-settings.result config of inv.own_entries;
       sound = rw own (subst (λ (k : RealmConfig). IsSound k b.entries.entries b.numbers) (sym of) inv.sound);
@@ -39,7 +40,9 @@ invariant_of-self g c =
 pub on_tick-requires-clause-room : goal.on_tick-requires-clause-room
 on_tick-requires-clause-room g c =
     let b = c.self.inside in
-    let own : entries_in b.entries c.new-settings.result.index ≡ b.entries.entries = held-entries b.entries b.realm c.new-settings.result (shown b.config.now) c.new-settings.ensures c.self.invariant.own_entries in
+    let own : entries_in b.entries c.new-settings.result.index ≡ b.entries.entries =
+    held-entries b.entries b.realm c.new-settings.result (shown b.config.now) c.new-settings.ensures
+    c.self.invariant.own_entries in
     let room = rw (← c.self.view_is) at c.requires.room in
     subst (λ (es : List PlainEntry). IsRoomFor c.args.now es c.args.room) (sym own) room
 

@@ -12,7 +12,8 @@ returns-clause-tells g c =
     λ es tells none.
     let q : PlainRequest = shown_request c.args.hop.asked in
     let target : Target = record { link = c.args.hop.link; id = c.in-Some.id } in
-    let e : PlainEntry = forwarded_entry c.args.settings.now c.args.now q c.args.numbers.now.stream_position c.args.hop.ticket
+    let e : PlainEntry = forwarded_entry c.args.settings.now c.args.now q c.args.numbers.now.stream_position
+    c.args.hop.ticket
     target in
     subst (LanesTell c.args.settings.now (put e es)) (sym c.put_off.ensures.lanes)
     (c.in-Some.ensures.tells e es tells none refl (λ l i. refl))

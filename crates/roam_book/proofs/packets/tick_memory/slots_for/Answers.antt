@@ -18,7 +18,8 @@ loop-due-preserved g c =
     let slot = c.in_ok-slot_for.field-0 in
     reading-turn c.args.twice c.args.now es c.loop-due.slots.items _ slot c.loop-due.last c.in-Some.due
     c.in-Some.ensures.list.in_order c.loop-due.invariant c.in-Some.ensures.found
-    c.in_ok-slot_for.ensures.due c.in_ok-slot_for.ensures.buffers c.in_ok-slot_for.ensures.copy c.in_ok-push.ensures.items
+    c.in_ok-slot_for.ensures.due c.in_ok-slot_for.ensures.buffers c.in_ok-slot_for.ensures.copy
+    c.in_ok-push.ensures.items
 
 pub loop-due-smaller : goal.loop-due-smaller
 loop-due-smaller g c =

@@ -6,7 +6,6 @@ use Rattle.roam_pending.proofs.OrderLemmas.{list-without}
 use Rattle.roam_pending.proofs.ChangeLemmas.{find-without}
 use Rattle.roam_book.proofs.FateLemmas.{IsSent, gone-freed, forwarded-freed, was-freed}
 use Rattle.roam_book.proofs.RoomLemmas.{buffers-smaller}
-use Rattle.roam_book.proofs.SendingLemmas.{forwarded_length-request}
 use Rattle.roam_book.proofs.rules.due_action.fail_over.Goals as goal
 
 -- no later target has a free Identifier
@@ -96,6 +95,5 @@ returns-clause-fate g c =
 -- the buffers have room for the packet that is forwarded
 pub send_new-sent-requires-clause-buffers : goal.send_new-sent-requires-clause-buffers
 send_new-sent-requires-clause-buffers g c =
-    let q = (shown c.args.entry.now).request in
-    let fits = forwarded_length-request c.args.settings.now q c.requires.entry.request in
+    let fits = rw c.as_slice.ensures at c.gains_few.ensures in
     rw c.as_slice.ensures (buffers-smaller _ _ c.args.buffers fits c.requires.buffers)

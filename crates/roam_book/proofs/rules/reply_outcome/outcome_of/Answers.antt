@@ -15,7 +15,13 @@ returns-in-Some-clause-turn g c =
     let secret = link_secret c.args.judging.now.settings.now c.args.waiting.now.link in
     let required = seal_required c.args.judging.now.settings.now c.args.waiting.now.link in
     let fault : Some c.in-Some.why ≡ reply_fault secret required c.args.judging.now.reply.now forwarded =
-    rw (c.secret_of_link-secret.ensures.text, c.seal_required-seal_required.ensures, c.of_packet-forwarded.ensures, c.as_slice.ensures) at c.in-Some.ensures.fault in
+    rw (
+      c.secret_of_link-secret.ensures.text,
+      c.seal_required-seal_required.ensures,
+      c.of_packet-forwarded.ensures,
+      c.as_slice.ensures,
+    ) at c.in-Some.ensures.fault in
     λ s. same-verdict c.args.judging.now.settings.now c.not_taken.result e c.args.waiting.now.link s _ _
     (c.not_taken.ensures c.args.judging.now.settings.now e c.args.waiting.now.link s)
-    (ap (judge c.args.judging.now.settings.now c.args.judging.now.moment s e c.args.waiting.now.link forwarded c.args.judging.now.reply.now) fault)
+    (ap (judge c.args.judging.now.settings.now c.args.judging.now.moment s e c.args.waiting.now.link forwarded
+    c.args.judging.now.reply.now) fault)

@@ -16,10 +16,14 @@ returns-in-Ok-clause-turn g c =
     let octets : List ℕ = c.in-Ok.packet.items in
     IfOk-weaker c.return_packet.result
     (λ v. (x : PlainEntry) (l : Link) → IsVerdict c.args.judging.now.settings.now v x l
-    (λ s. returns_octets c.args.judging.now.settings.now c.args.judging.now.moment e.request.key c.counted_peer-counted.result octets x l s))
-    (λ v. IsVerdict c.args.judging.now.settings.now v e c.args.link (λ s. return_reply c.args.judging.now.settings.now c.args.judging.now.moment s e c.args.link c.args.forwarded.now c.args.judging.now.reply.now))
+    (λ s. returns_octets c.args.judging.now.settings.now c.args.judging.now.moment e.request.key
+    c.counted_peer-counted.result octets x l s))
+    (λ v. IsVerdict c.args.judging.now.settings.now v e c.args.link
+    (λ s. return_reply c.args.judging.now.settings.now c.args.judging.now.moment s e c.args.link
+    c.args.forwarded.now c.args.judging.now.reply.now))
     (λ v h s. same-verdict c.args.judging.now.settings.now v e c.args.link s _ _ (h e c.args.link s)
-    (returned-turn c.args.judging.now.settings.now c.args.judging.now.moment s e c.args.link c.args.forwarded.now c.args.judging.now.reply.now
+    (returned-turn c.args.judging.now.settings.now c.args.judging.now.moment s e c.args.link c.args.forwarded.now
+    c.args.judging.now.reply.now
     c.counted_peer-counted.result octets
     (λ lt. absurd (let k = c.in-Ok.ensures.too_long.1 lt in cc)) c.in-Ok.ensures.octets
     c.counted_peer-counted.ensures))
@@ -32,4 +36,5 @@ returns-in-Err-ReplyTooLong-clause-turn g c =
     let long = c.in-Err-ReplyTooLong.ensures.too_long.0 (ap Err c.in-Err-ReplyTooLong.field-0-is) in
     λ s. same-verdict c.args.judging.now.settings.now c.not_taken.result e c.args.link s _ _
     (c.not_taken.ensures c.args.judging.now.settings.now e c.args.link s)
-    (long-turn c.args.judging.now.settings.now c.args.judging.now.moment s e c.args.link c.args.forwarded.now c.args.judging.now.reply.now long)
+    (long-turn c.args.judging.now.settings.now c.args.judging.now.moment s e c.args.link c.args.forwarded.now
+    c.args.judging.now.reply.now long)

@@ -10,5 +10,7 @@ use Rattle.roam_conf.proofs.config.Config.is_peer_of.Goals as goal
 pub returns : goal.returns
 returns c =
     c.is_peer_if_both.ensures
-    ∙ ap (λ (r : Option RealmView). both_pass is_peer_of r (option_map (λ p. shown_peer p.now) c.peer_at.result)) c.realm_at.ensures
-    ∙ ap (λ (p : Option PeerView). both_pass is_peer_of (slice_get (shown c.args.self.now).realms c.args.realm) p) c.peer_at.ensures
+    ∙ ap (λ (r : Option RealmView). both_pass is_peer_of r (option_map (λ p. shown_peer p.now) c.peer_at.result))
+    c.realm_at.ensures
+    ∙ ap (λ (p : Option PeerView). both_pass is_peer_of (slice_get (shown c.args.self.now).realms c.args.realm) p)
+    c.peer_at.ensures

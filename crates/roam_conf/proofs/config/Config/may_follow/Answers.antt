@@ -18,9 +18,11 @@ pub returns-then-text-place-eq46-clause-none : goal.returns-then-text-place-eq46
 returns-then-text-place-eq46-clause-none c = λ off.
     let f = λ (name : List ℕ). owner_with (shown c.args.self.now) (suffix name) in
     let rest = drop (c.args.place + 1) c.args.text.now in
-    past_dot f c.args.text.now c.args.place (omega arith) c.if-text-place-eq46.true (c.may_have_suffix.ensures.none off rest (omega (arith, length-drop (c.args.place + 1) c.args.text.now)))
+    past_dot f c.args.text.now c.args.place (omega arith) c.if-text-place-eq46.true
+    (c.may_have_suffix.ensures.none off rest (omega (arith, length-drop (c.args.place + 1) c.args.text.now)))
 
 -- another octet
 pub returns-else-text-place-eq46-clause-none : goal.returns-else-text-place-eq46-clause-none
 returns-else-text-place-eq46-clause-none c = λ off.
-    past_other (λ (name : List ℕ). owner_with (shown c.args.self.now) (suffix name)) c.args.text.now c.args.place (omega arith) c.if-text-place-eq46.false
+    past_other (λ (name : List ℕ). owner_with (shown c.args.self.now) (suffix name)) c.args.text.now c.args.place
+    (omega arith) c.if-text-place-eq46.false

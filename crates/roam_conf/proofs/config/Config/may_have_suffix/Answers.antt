@@ -9,7 +9,8 @@ use Rattle.roam_conf.proofs.config.Config.may_have_suffix.Goals as goal
 -- the length isn't marked
 pub returns-then-octets-lt254-clause-none : goal.returns-then-octets-lt254-clause-none
 returns-then-octets-lt254-clause-none c = λ off name size.
-    no_suffix (shown c.args.self.now) c.args.self.now.found_by.suffix_lengths _ c.args.octets c.args.self.now.found_by.marked c.args.self.now.names_noted (grind (arith, nat_tests)) off name size
+    no_suffix (shown c.args.self.now) c.args.self.now.found_by.suffix_lengths _ c.args.octets
+    c.args.self.now.found_by.marked c.args.self.now.names_noted (grind (arith, nat_tests)) off name size
 
 -- no realm has a name so long
 pub returns-else-octets-lt254-clause-none : goal.returns-else-octets-lt254-clause-none

@@ -11,7 +11,8 @@ pub returns-in-Some : goal.returns-in-Some
 returns-in-Some c =
     let config = shown c.args.self.now in
     let some : 1 ≤ length c.args.name.now = grind (arith, nat_tests, c.is_empty.ensures, c.if-is_empty.false) in
-    let found = sym c.in-Some.is ∙ c.owner_of_longest_suffix.ensures ∙ ap (λ l. first_answer (λ n. owner_with config (suffix n)) (after_dots l)) c.from_place.ensures in
+    let found = sym c.in-Some.is ∙ c.owner_of_longest_suffix.ensures
+    ∙ ap (λ l. first_answer (λ n. owner_with config (suffix n)) (after_dots l)) c.from_place.ensures in
     further_answer (owner_with config) c.args.name.now _ some found
 
 -- none is
@@ -19,5 +20,6 @@ pub returns-in-None : goal.returns-in-None
 returns-in-None c =
     let config = shown c.args.self.now in
     let some : 1 ≤ length c.args.name.now = grind (arith, nat_tests, c.is_empty.ensures, c.if-is_empty.false) in
-    let found = sym c.in-None.is ∙ c.owner_of_longest_suffix.ensures ∙ ap (λ l. first_answer (λ n. owner_with config (suffix n)) (after_dots l)) c.from_place.ensures in
+    let found = sym c.in-None.is ∙ c.owner_of_longest_suffix.ensures
+    ∙ ap (λ l. first_answer (λ n. owner_with config (suffix n)) (after_dots l)) c.from_place.ensures in
     c.owner_with.ensures ∙ further_answer (owner_with config) c.args.name.now _ some found

@@ -11,4 +11,5 @@ returns-then-name-gt253 c =
 
 pub returns : goal.returns
 returns c =
-    c.owner_of_pattern.ensures ∙ found_in (shown c.args.self.now) (pattern_seen c.args.pattern) _ _ c.args.self.now.names_noted c.kind_and_name-kind.ensures
+    c.owner_of_pattern.ensures ∙ found_in (shown c.args.self.now) (pattern_seen c.args.pattern) _ _
+    c.args.self.now.names_noted c.kind_and_name-kind.ensures

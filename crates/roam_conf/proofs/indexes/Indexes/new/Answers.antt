@@ -12,5 +12,7 @@ returns-clause-names c =
     let realms = map shown_realm c.args.realms.now in
     let reject = map shown_pattern c.args.reject.now in
     let empty = ap (map entry_shown) c.new-names.ensures.empty in
-    let is_new : c.in_ok-note_all.field-0 ≡ true = first_noted realms reject _ c.in_ok-note_all.field-0 empty c.in_ok-note_all.ensures.new ∙ ap not c.requires.distinct in
+    let is_new : c.in_ok-note_all.field-0 ≡ true =
+    first_noted realms reject _ c.in_ok-note_all.field-0 empty c.in_ok-note_all.ensures.new
+    ∙ ap not c.requires.distinct in
     c.in_ok-note_all.ensures.noted is_new ∙ ap (λ l. l ++ all_patterns 0 (pattern_lists realms reject)) empty

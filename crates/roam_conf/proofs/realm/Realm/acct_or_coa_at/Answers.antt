@@ -4,4 +4,9 @@ pub returns-in-Some : goal.returns-in-Some
 returns-in-Some c = rw (← c.as_slice.ensures.value, ← c.in-Some.ensures.value)
 
 pub returns-in-None : goal.returns-in-None
-returns-in-None c = rw (← c.as_slice.ensures.value, ← c.in-None.ensures.value, c.link_to_peer.ensures, c.coa_at.ensures.value)
+returns-in-None c = rw (
+  ← c.as_slice.ensures.value,
+  ← c.in-None.ensures.value,
+  c.link_to_peer.ensures,
+  c.coa_at.ensures.value,
+)

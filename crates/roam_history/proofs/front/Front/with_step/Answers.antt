@@ -1,7 +1,7 @@
 -- It has one entry more, which is a step.
-use Rattle.std.proofs.Common.{◌∷◌, [], length, ap, ◌∙◌, arith, length-append}
-use Rattle.roam_history.specs.Entries.{last_of, steps_in}
-use Rattle.roam_history.proofs.EntryLemmas.{counts_step, steps-few}
+use Rattle.std.proofs.Common.{◌∷◌, [], length, ap, sym, ◌∙◌, arith, length-append}
+use Rattle.roam_history.specs.Entries.{last_of, steps_in, times_let_go}
+use Rattle.roam_history.proofs.EntryLemmas.{counts_step, keeps_times, steps-few}
 use Rattle.roam_history.proofs.front.Front.with_step.Goals as goal
 
 pub overflow_add-result-2 : goal.overflow_add-result-2
@@ -24,4 +24,6 @@ invariant_of-result g c =
         counts_step log steps c.requires.step.0 c.requires.step.1,
       ),
       c.in_ok-seen.ensures.book ∙ c.self.invariant.2,
+      c.self.invariant.3
+          ∙ sym (ap (λ l. times_let_go l) is ∙ keeps_times log steps c.requires.step.0 c.requires.step.1),
     )

@@ -2,7 +2,7 @@
 use Rattle.std.proofs.Common.{◌≡◌, ℕ, ap, sym, subst, ◌∙◌}
 use mathlib.Core.List.{IsPrefix}
 use Rattle.roam_history.specs.Fronts.{FrontView}
-use Rattle.roam_audit.specs.Seats.{front_of, having_seen}
+use Rattle.roam_audit.specs.Seats.{SeatView, front_of, having_seen}
 use Rattle.roam_hub.specs.Calls.{IsLook, Sees}
 use Rattle.roam_hub.specs.Keeping.{KeptView}
 use Rattle.roam_hub.proofs.KeptLemmas.{look}
@@ -30,6 +30,9 @@ all g c =
 
 pub returns-clause-look : goal.returns-clause-look
 returns-clause-look g c = (all g c).0
+
+pub returns-clause-times : goal.returns-clause-times
+returns-clause-times g c = ap (λ (s : SeatView). s.times) c.learn.ensures
 
 pub returns-clause-seen : goal.returns-clause-seen
 returns-clause-seen g c = (all g c).1

@@ -4,16 +4,16 @@ use mathlib.Core.List.{IsPrefix}
 use Rattle.roam_trace.specs.History.{Ends, TraceView, without_steps}
 use Rattle.roam_history.specs.Entries.{gone_of, let_go_entry}
 use Rattle.roam_history.specs.Fronts.{FrontView}
-use Rattle.roam_audit.specs.Seats.{front_of, having_seen}
+use Rattle.roam_audit.specs.Seats.{after_letting_go, front_of}
 use Rattle.roam_hub.specs.Calls.{AreGone, Sees}
 use Rattle.roam_hub.specs.Keeping.{IsKept, KeptView}
 use Rattle.roam_hub.proofs.KeptLemmas.{gone_of_shard, kept_gone}
 use Rattle.roam_hub.proofs.locked_trace.LockedTrace.let_go.Given.{Over}
 use Rattle.roam_hub.proofs.locked_trace.LockedTrace.let_go.Goals as goal
 
-all : (g : Over) (c : goal.After-learn g)
-    → AreGone g.N.Opened.opening c.args.shard c.args.seat.now c.learn.new.self c.let_go-steps.result.items
-    × Sees c.args.shard c.args.seat.now c.learn.new.self
+all : (g : Over) (c : goal.After-note_let_go g)
+    → AreGone g.N.Opened.opening c.args.shard c.args.seat.now c.note_let_go.new.self c.let_go-steps.result.items
+    × Sees c.args.shard c.args.seat.now c.note_let_go.new.self
 all g c =
     let i = c.self.inside in
     let k : KeptView = record { trace = i.traced; front = i.front } in
@@ -24,10 +24,10 @@ all g c =
     let begins : IsPrefix (front_of old c.args.shard) i.front.entries =
     subst (λ (v : KeptView). IsPrefix (front_of old c.args.shard) v.front.entries) (sym c.self.view_is)
     c.in_ok-check.ensures.begins in
-    let seen : c.learn.new.self ≡ having_seen old c.args.shard whole =
-    c.learn.ensures ∙ (ap (λ (f : FrontView). having_seen old f.shard f.entries) (c.again.ensures
-    ∙ c.without_steps.ensures) ∙ ap (λ (n : ℕ). having_seen old n whole) here) in
-    gone_of_shard g.N.Opened.opening k c.args.shard old c.learn.new.self c.let_go-steps.result.items
+    let seen : c.note_let_go.new.self ≡ after_letting_go old c.args.shard whole =
+    c.note_let_go.ensures ∙ (ap (λ (f : FrontView). after_letting_go old f.shard f.entries) (c.again.ensures
+    ∙ c.without_steps.ensures) ∙ ap (λ (n : ℕ). after_letting_go old n whole) here) in
+    gone_of_shard g.N.Opened.opening k c.args.shard old c.note_let_go.new.self c.let_go-steps.result.items
     c.self.invariant.0 here c.in_ok-check.ensures.there begins
     c.let_go-steps.ensures.steps seen
 

@@ -9,7 +9,7 @@ use Rattle.roam_trace.specs.Steps.{PlainStep, octets_in, shown_answer}
 use Rattle.roam_history.specs.Entries.{HistoryEntry, last_of, step_entry, stored_of}
 use Rattle.roam_history.proofs.EntryLemmas.{last-push}
 use Rattle.roam_history.specs.Fronts.{FrontView}
-use Rattle.roam_audit.specs.Seats.{after_call, front_of}
+use Rattle.roam_audit.specs.Seats.{SeatView, after_call, front_of}
 use Rattle.roam_hub.specs.Keeping.{KeptView}
 use Rattle.roam_hub.proofs.KeptLemmas.{Recorded, recorded}
 use Rattle.roam_hub.proofs.locked_trace.LockedTrace.take.Given.{Over}
@@ -78,6 +78,7 @@ returns-in-Ok-clause-calls g c =
       shard_is = refl;
       octets = c.octets-octets.ensures ∙ ap (λ (l : List PlainStep). min (octets_in l) (2 ^ 64 - 1)) are;
       seen = it.sees;
+      times = ap (λ (s : SeatView). s.times) c.recorded-number.ensures.seat;
       err = tt;
       back = tt;
       full = tt;

@@ -8,7 +8,7 @@ use Rattle.roam_trace.specs.Steps.{PlainStep, octets_in, shown_answer}
 use Rattle.roam_history.specs.Entries.{HistoryEntry, last_of, step_entry, stored_of, steps_in}
 use Rattle.roam_history.proofs.EntryLemmas.{last-push}
 use Rattle.roam_history.specs.Fronts.{FrontView}
-use Rattle.roam_audit.specs.Seats.{after_call, front_of}
+use Rattle.roam_audit.specs.Seats.{SeatView, after_call, front_of}
 use Rattle.roam_hub.specs.Keeping.{KeptView}
 use Rattle.roam_hub.proofs.KeptLemmas.{Recorded, recorded, whole_end}
 use Rattle.roam_hub.proofs.locked_trace.LockedTrace.tick.Given.{Over}
@@ -96,6 +96,9 @@ pub returns-in-Ok-clause-octets : goal.returns-in-Ok-clause-octets
 returns-in-Ok-clause-octets g c =
     let are = (all g c).kept.stored ∙ sym (ap (λ (l : List HistoryEntry). stored_of l) (all g c).front) in
     c.octets-octets.ensures ∙ ap (λ (l : List PlainStep). min (octets_in l) (2 ^ 64 - 1)) are
+
+pub returns-in-Ok-clause-times : goal.returns-in-Ok-clause-times
+returns-in-Ok-clause-times g c = ap (λ (s : SeatView). s.times) c.recorded-number.ensures.seat
 
 pub returns-in-Ok-clause-seen : goal.returns-in-Ok-clause-seen
 returns-in-Ok-clause-seen g c = (all g c).sees

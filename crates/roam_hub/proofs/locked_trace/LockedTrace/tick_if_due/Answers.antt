@@ -8,7 +8,7 @@ use Rattle.roam_trace.specs.History.{end_of}
 use Rattle.roam_history.specs.Entries.{HistoryEntry, step_entry, steps_in}
 use Rattle.roam_history.specs.Fronts.{FrontView}
 use Rattle.roam_history.specs.HubOpening.{opening_at}
-use Rattle.roam_audit.specs.Seats.{front_of, having_seen}
+use Rattle.roam_audit.specs.Seats.{SeatView, front_of, having_seen}
 use Rattle.roam_hub.specs.Keeping.{KeptView}
 use Rattle.roam_core.specs.Events.{ticks}
 use Rattle.roam_hub.specs.Calls.{answered_step}
@@ -33,7 +33,14 @@ returns-in-None-clause-tick g c =
     let both = look g.N.Opened.opening k c.args.shard c.args.call.moment old c.learn.new.self false
     c.self.invariant.0 here c.in_ok-check.ensures.there begins
     (λ _. none, λ _. refl) seen in
-    record { tick = both.0; seen = both.1; err = tt; full = λ is. absurd (let bad : Ok _ ≡ Err _ = is in cc) }
+    let times = ap (λ (s : SeatView). s.times) c.learn.ensures in
+    record {
+      tick = both.0;
+      seen = both.1;
+      times = times;
+      err = tt;
+      full = λ is. absurd (let bad : Ok _ ≡ Err _ = is in cc);
+    }
 
 pub returns-in_ok-answered-in-Some-clause-tick : goal.returns-in_ok-answered-in-Some-clause-tick
 returns-in_ok-answered-in-Some-clause-tick g c =
@@ -68,6 +75,7 @@ returns-in_ok-answered-in-Some-clause-tick g c =
             ↔ NothingDue now t) end c.has_due-is_more.ensures;
       };
       seen = c.in_ok-answered-in-Some.ensures.seen;
+      times = c.in_ok-answered-in-Some.ensures.times;
       err = tt;
       full = λ is. absurd (let bad : Ok _ ≡ Err _ = is in cc);
     }

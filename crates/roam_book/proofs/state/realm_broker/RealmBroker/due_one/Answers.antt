@@ -116,8 +116,11 @@ returns-clause-keeps g c =
     let new = c.apply_action.new.self in
     let loans = c.apply_action.ensures.loans in
     let kept = c.requires.realm in
-    let list : IsEntryList (entries g.E.Entries new) = rw (here g c) (list-after config c.args.now (entry g c) (held g c) c.act_on_due-fate.result kept.list (own g c)) in
-    let sound : IsSound config (entries g.E.Entries new) new.numbers.now = rw (here g c, c.apply_action.ensures.numbers) ((fate g c).sound) in
+    let list : IsEntryList (entries g.E.Entries new) =
+    rw (here g c) (list-after config c.args.now (entry g c) (held g c) c.act_on_due-fate.result kept.list
+    (own g c)) in
+    let sound : IsSound config (entries g.E.Entries new) new.numbers.now =
+    rw (here g c, c.apply_action.ensures.numbers) ((fate g c).sound) in
     record {
       realm = record {
         kept_here = rw (loans.keeps, loans.settings) kept.kept_here;

@@ -1,29 +1,40 @@
-use Rattle.std.proofs.Common.{ap, ◌∙◌}
+use Rattle.std.proofs.Common.{ap, sym, ◌∙◌}
 use Rattle.roam_book.specs.RealmTurn.{entries, state}
-use Rattle.roam_book.specs.Sound.{chosen_link}
-use Rattle.roam_book.proofs.RequestLemmas.{at-none, at-open}
+use Rattle.roam_book.specs.Private.NewEntry.{once_gone}
+use Rattle.roam_book.specs.Sound.{chosen_link, shown_request}
+use Rattle.roam_book.proofs.RequestLemmas.{at-none, at-open, share-refused}
 use Rattle.roam_book.proofs.WayLemmas.{chosen-same, straight-way}
 use Rattle.roam_book.proofs.state.realm_broker.RealmBroker.plan_admit.Goals as goal
 
+-- the share of its name is taken
+pub returns-then-is_share_taken : goal.returns-then-is_share_taken
+returns-then-is_share_taken g c =
+    let r = c.args.self.now in
+    share-refused r.settings.now c.args.now (state g.E.Entries r) (once_gone c.args.gone (entries g.E.Entries r))
+    (shown_request c.args.asked) c.if-self.false (sym c.is_share_taken.ensures ∙ c.if-is_share_taken.true)
+
 -- no link has a free Identifier
 pub returns-in-None : goal.returns-in-None
-returns-in-None g c = λ q new.
+returns-in-None g c =
     let r = c.args.self.now in
     let n = r.numbers.now in
-    at-none r.settings.now c.args.now (entries g.E.Entries r) n c.args.gone q c.freed_link.result
-    c.requires.realm.sound c.requires.realm.list c.requires.gone c.if-self.false c.freed_link.ensures
+    at-none r.settings.now c.args.now (entries g.E.Entries r) n c.args.gone (shown_request c.args.asked)
+    c.freed_link.result c.requires.realm.sound c.requires.realm.list c.requires.gone c.if-self.false
+    (sym c.is_share_taken.ensures ∙ c.if-is_share_taken.false) c.freed_link.ensures
     (c.in-None.ensures.chosen
-    ∙ ap (chosen_link r.settings.now c.args.now n.rests.items n.lanes.items c.freed_link.result) new.targets)
+    ∙ ap (chosen_link r.settings.now c.args.now n.rests.items n.lanes.items c.freed_link.result) c.requires.new.targets)
 
 -- the link that is chosen is the target's
 pub returns-in-Some : goal.returns-in-Some
-returns-in-Some g c = λ q new.
+returns-in-Some g c =
     let r = c.args.self.now in
     let n = r.numbers.now in
     let s = state g.E.Entries r in
+    let q = shown_request c.args.asked in
+    let new = c.requires.new in
     let at = at-open r.settings.now c.args.now (entries g.E.Entries r) n c.args.gone q
     c.freed_link.result c.in-Some.link c.requires.realm.sound c.requires.realm.list c.requires.gone
-    c.if-self.false c.freed_link.ensures
+    c.if-self.false (sym c.is_share_taken.ensures ∙ c.if-is_share_taken.false) c.freed_link.ensures
     (c.in-Some.ensures.chosen
     ∙ ap (chosen_link r.settings.now c.args.now n.rests.items n.lanes.items c.freed_link.result) new.targets) in
     let way = straight-way r.settings.now s q c.args.gone c.in-Some.link new.request

@@ -52,5 +52,6 @@ returns-clause-plan g c =
     let answers = c.in_ok-answer.ensures.turn c.args.link c.id-id.result waits s in
     rw asked (elim c.match-done.branch [
       | in-None w ↦ rw w.settled-is (plan-none config s e v c.args.link turn w.in-None.is answers)
-      | in-Some-done w ↦ rw w.settled-is (plan-some config s e v turn _ w.in-Some-done.is refl link refl here waits answers)
+      | in-Some-done w ↦ rw w.settled-is
+          (plan-some config s e v turn _ w.in-Some-done.is refl link refl here waits answers)
     ])

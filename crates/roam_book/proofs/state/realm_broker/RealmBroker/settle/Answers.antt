@@ -15,8 +15,10 @@ returns-clause-keeps g c =
     let es = entries g.E.Entries old in
     let t = c.in-Some.settled.ticket in
     let can = rw c.in-Some.is at c.requires.settled in
-    let found = found-with (find_ticket t es) (λ (x : PlainEntry). waits_at c.in-Some.settled.link c.in-Some.settled.id x ≡ true) can.1 in
-    let here : find_ticket found.0.ticket es ≡ Some found.0 = ap (λ (n : ℕ). find_ticket n es) (found-ticket t es found.0 found.1) ∙ found.1 in
+    let found = found-with (find_ticket t es)
+    (λ (x : PlainEntry). waits_at c.in-Some.settled.link c.in-Some.settled.id x ≡ true) can.1 in
+    let here : find_ticket found.0.ticket es ≡ Some found.0 =
+    ap (λ (n : ℕ). find_ticket n es) (found-ticket t es found.0 found.1) ∙ found.1 in
     let become = rw (c.index.ensures, found.1) at c.set_standing.ensures.entries in
     let back = c.give_back.ensures in
     let made = c.change_ledger.ensures in

@@ -68,7 +68,8 @@ loop-slot-preserved g c =
     let config = c.args.self.now.settings.now in
     let s = state g.E.Entries c.loop-slot.self in
     let after = state g.E.Entries c.due_one.new.self in
-    let step : IsStep c.loop-slot.self.settings.now c.args.now s after c.in-Some.slot.due c.loop-slot.outs c.due_one.new.outs = record {
+    let step : IsStep c.loop-slot.self.settings.now c.args.now s after c.in-Some.slot.due c.loop-slot.outs
+    c.due_one.new.outs = record {
       gathers = one.outs;
       state = one.state;
       count = one.count;

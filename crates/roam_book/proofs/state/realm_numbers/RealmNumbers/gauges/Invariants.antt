@@ -3,4 +3,5 @@ use Rattle.roam_book.proofs.state.realm_numbers.RealmNumbers.gauges.Given as goa
 
 -- what was counted before stays
 abbrev pub invariant-loop-place : goal.invariant-loop-place
-invariant-loop-place g l = (l.gauges.entries ≡ l.initial.gauges.entries) × (l.gauges.sessions ≡ l.initial.gauges.sessions)
+invariant-loop-place g l = (l.gauges.entries ≡ l.initial.gauges.entries)
+    × (l.gauges.sessions ≡ l.initial.gauges.sessions)

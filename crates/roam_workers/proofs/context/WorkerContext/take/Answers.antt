@@ -2,7 +2,7 @@
 use Rattle.std.proofs.Common.{◌∙◌, ap, sym, subst}
 use Rattle.roam_route.specs.Shown.{WantsMemory, shown_job}
 use Rattle.roam_audit.specs.Seats.{SeatView}
-use Rattle.roam_workers.proofs.arrivals.WorkerContext.take.Goals as goal
+use Rattle.roam_workers.proofs.context.WorkerContext.take.Goals as goal
 
 pub returns-in-Ok-clause-handled : goal.returns-in-Ok-clause-handled
 returns-in-Ok-clause-handled g c = record {

@@ -1,6 +1,6 @@
 -- The call that was recorded is of the job that was handed in.
 use Rattle.roam_workers.proofs.HandlingLemmas.{answered_so}
-use Rattle.roam_workers.proofs.arrivals.WorkerContext.answer.Goals as goal
+use Rattle.roam_workers.proofs.context.WorkerContext.answer.Goals as goal
 
 pub returns-in-Ok-clause-answered : goal.returns-in-Ok-clause-answered
 returns-in-Ok-clause-answered g c =

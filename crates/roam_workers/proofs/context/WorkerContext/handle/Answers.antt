@@ -7,7 +7,7 @@ use Rattle.roam_route.specs.Shown.{IsAdmission, shown_arrival, shown_out}
 use Rattle.roam_route.specs.declared.job.Prepared.{Prepared}
 use Rattle.roam_workers.specs.Handlings.{IsHandled}
 use Rattle.roam_workers.proofs.HandlingLemmas.{job_is, refusal_is, reject_is}
-use Rattle.roam_workers.proofs.arrivals.WorkerContext.handle.Goals as goal
+use Rattle.roam_workers.proofs.context.WorkerContext.handle.Goals as goal
 
 pub take-requires-clause-admission : goal.take-requires-clause-admission
 take-requires-clause-admission g c =

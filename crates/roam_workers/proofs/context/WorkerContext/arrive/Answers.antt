@@ -2,7 +2,7 @@
 use Rattle.std.proofs.Common.{◌∙◌, ap}
 use Rattle.roam_counters.specs.Datagrams.{handled}
 use Rattle.roam_counters.specs.declared.datagrams.Datagrams.{Datagrams}
-use Rattle.roam_workers.proofs.arrivals.WorkerContext.arrive.Goals as goal
+use Rattle.roam_workers.proofs.context.WorkerContext.arrive.Goals as goal
 
 pub returns-clause-arrives : goal.returns-clause-arrives
 returns-clause-arrives g c = record {

@@ -1,0 +1,120 @@
+//! The share of a name: how many requests for one name may wait for a service.
+//!
+//! What waits for a service is looked up by the Identifiers in use toward its servers, 256 for each, so that a look
+//! costs no more because replies are held or other requests are pending.
+
+ghost use Rattle.std.specs.Prelude.{◌≡◌, ◌≤◌, length, option_map, if◌then◌else◌};
+ghost use Rattle.roam_wire.specs.Reading.{IsPacketText};
+ghost use Rattle.roam_book.specs.Private.NewEntry.{once_gone};
+ghost use Rattle.roam_book.specs.Private.Sharing.{has_part, has_part_below, sum_below};
+ghost use Rattle.roam_book.specs.RealmConfig.{server_link};
+ghost use Rattle.roam_book.specs.RealmTurn.{IsRealm, entries};
+ghost use Rattle.roam_book.specs.Shares.{name_part, same_part, share_taken};
+ghost use Rattle.roam_book.specs.Sound.{CountsAsGone, IsRequest, shown_request};
+
+use crate::packets::forwarding::RequestRef;
+use crate::rules::replaced::Replaced;
+use crate::rules::requests::gone_ticket;
+use crate::state::realm_broker::RealmBroker;
+use crate::state::service::Service;
+use roam_conf::Link;
+use roam_pending::Entries;
+use roam_route::{is_reverse_request, realm_part};
+use roam_wire::View;
+use roam_wire::attribute_type::USER_NAME;
+use std::alloc::Allocator;
+
+/// The name part of a request.
+fn name_part(octets: &[u8]) -> Option<&[u8]>
+    requires { IsPacketText octets.now }
+    ensures { option_map (λ part. part.now) result ≡ name_part octets.entry.now }
+{
+    realm_part(View::of_packet(octets).first(USER_NAME)?)
+}
+
+/// Whether two name parts are equal without ASCII case.
+fn is_same_part(part: Option<&[u8]>, other: Option<&[u8]>) -> bool
+    ensures { result ≡ same_part (option_map (λ part. part.now) part.entry)
+        (option_map (λ part. part.now) other.entry) }
+{
+    match (part, other) {
+        (None, None) => true,
+        (Some(part), Some(other)) => part.eq_ignore_ascii_case(other),
+        _ => false,
+    }
+}
+
+/// One, where that is so.
+fn one_if(is_so: bool) -> usize
+    ensures value { result ≡ if is_so then 1 else 0 }
+    ensures small { result ≤ 1 }
+{
+    if is_so { 1 } else { 0 }
+}
+
+impl<A: Allocator + Copy, E: Entries<A>> RealmBroker<'_, '_, '_, '_, A, E> {
+    /// Whether a request of this name part waits on a link with an Identifier, besides the one that counts as gone.
+    fn holds_part(&self, link: Link, id: u8, part: Option<&[u8]>, gone: Option<u64>) -> bool
+        requires realm { IsRealm E.Entries self.now }
+        ensures { result ≡ has_part (option_map (λ part. part.now) part.entry) gone link id
+            (entries E.Entries self.now) }
+    {
+        match self.waiting_at(link, id) {
+            None => false,
+            Some(entry) => {
+                gone != Some(entry.ticket)
+                    && is_same_part(name_part(entry.request.octets.as_slice()), part)
+            }
+        }
+    }
+
+    /// How many requests of this name part wait on a link.
+    fn part_count_at(&self, link: Link, part: Option<&[u8]>, gone: Option<u64>) -> usize
+        requires realm { IsRealm E.Entries self.now }
+        ensures count { result ≡ has_part_below 256 (option_map (λ part. part.now) part.entry) gone link
+            (entries E.Entries self.now) }
+        ensures few { result ≤ 256 }
+    {
+        let mut count = 0;
+        for id in 0..256u16 {
+            count += one_if(self.holds_part(link, id as u8, part, gone));
+        }
+        count
+    }
+
+    /// How many requests of this name part wait for a service.
+    fn part_count(&self, service: Service, part: Option<&[u8]>, gone: Option<u64>) -> usize
+        requires realm { IsRealm E.Entries self.now }
+        ensures { result ≡ sum_below (length self.now.settings.now.realm.servers) (λ server.
+            has_part_below 256 (option_map (λ part. part.now) part.entry) gone
+            (server_link service server) (entries E.Entries self.now)) }
+    {
+        let mut count = 0;
+        for server in 0..self.settings.server_count() {
+            count += self.part_count_at(service.link(server as u8), part, gone);
+        }
+        count
+    }
+
+    /// Whether the share of a new request's name is taken, while an entry counts as gone.
+    pub(crate) fn is_share_taken(&self, asked: RequestRef<'_>, gone: Option<Replaced>) -> bool
+        requires realm { IsRealm E.Entries self.now }
+        requires request { IsRequest self.now.settings.now (shown_request asked) }
+        requires gone { CountsAsGone gone (entries E.Entries self.now) }
+        ensures { result ≡ share_taken self.now.settings.now
+            (once_gone gone (entries E.Entries self.now)) (shown_request asked.entry) }
+    {
+        let code = View::of_packet(asked.octets).code();
+        if is_reverse_request(code) {
+            return false;
+        }
+        match self.settings.share() {
+            None => false,
+            Some(share) => {
+                let part = name_part(asked.octets);
+                let count = self.part_count(Service::of_code(code), part, gone_ticket(gone));
+                count >= usize::from(share)
+            }
+        }
+    }
+}

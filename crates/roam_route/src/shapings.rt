@@ -1,0 +1,92 @@
+//! How a realm has the requests of its peers forwarded, and how many octets it is then sent.
+
+ghost use Rattle.std.specs.Prelude.{◌≡◌, ◌≤◌, length, option_map, slice_get, string_bytes};
+ghost use Rattle.std.specs.Option.{ForSome};
+ghost use Rattle.roam_conf.specs.Parts.{shown_peer, shown_realm};
+ghost use Rattle.roam_conf.specs.Shown.{shown};
+ghost use Rattle.roam_fwd.specs.Shaped.{HasShortName, shown_shaping};
+ghost use Rattle.roam_route.specs.Shapings.{request_shaping, sent_length, shaping_between, shaping_of};
+
+use crate::job::Side;
+use roam_conf::{Config, Peer, Realm};
+use roam_filter::Removal;
+use roam_fwd::{Shaping, forwarded_len, forwarded_shaped_len, no_shaping};
+use roam_wire::View;
+
+/// The octets of a peer's realm, with which an Operator-Name is added.
+fn operator_name(peer: &Peer) -> Option<&[u8]>
+    ensures name { option_map (λ name. name.now) result ≡ option_map string_bytes peer.now.operator_name }
+    ensures short { ForSome (option_map (λ name. name.now) result) (λ name. length name ≤ 252) }
+{
+    match &peer.operator_name {
+        Some(name) => Some(name.as_bytes()),
+        None => None,
+    }
+}
+
+/// What a peer and a realm have done to a request of that peer. Takes no memory.
+#[tactic(auto, unfolding(roam_filter::specs::Removal::removed_by))]
+pub fn request_shaping<'a>(peer: &'a Peer, realm: &'a Realm) -> Shaping<'a>
+    ensures shaping { shown_shaping result ≡ request_shaping (shown_peer peer.now) (shown_realm realm.now) }
+    ensures name { HasShortName (shown_shaping result) }
+{
+    Shaping {
+        removal: Removal {
+            peer: peer.request_without.as_slice(),
+            realm: realm.request_without.as_slice(),
+            keeps_session: false,
+        },
+        operator_name: operator_name(peer),
+        ask_cui: peer.ask_cui,
+    }
+}
+
+/// The same, and nothing where an entry isn't there.
+fn shaping_between<'a>(peer: Option<&'a Peer>, realm: Option<&'a Realm>) -> Shaping<'a>
+    ensures shaping { shown_shaping result ≡ shaping_between (option_map (λ p. shown_peer p.now) peer.entry)
+        (option_map (λ r. shown_realm r.now) realm.entry) }
+    ensures name { HasShortName (shown_shaping result) }
+{
+    match (peer, realm) {
+        (Some(peer), Some(realm)) => request_shaping(peer, realm),
+        _ => no_shaping(),
+    }
+}
+
+/// The peer of an index, where it is configured.
+fn peer_at(config: &Config, peer: u16) -> Option<&Peer>
+    ensures { option_map (λ p. shown_peer p.now) result ≡ slice_get (shown config.now).peers peer }
+{
+    match config.peers.get(usize::from(peer)) {
+        Some(peer) => Some(peer),
+        None => None,
+    }
+}
+
+/// The realm of an index, where it is configured.
+fn realm_at(config: &Config, realm: u16) -> Option<&Realm>
+    ensures { option_map (λ r. shown_realm r.now) result ≡ slice_get (shown config.now).realms realm }
+{
+    match config.realms.get(usize::from(realm)) {
+        Some(realm) => Some(realm),
+        None => None,
+    }
+}
+
+/// What a peer and a realm of these indexes have done to a request.
+fn shaping_of(config: &Config, peer: u16, realm: u16) -> Shaping<'_>
+    ensures shaping { shown_shaping result ≡ shaping_of (shown config.now) peer realm }
+    ensures name { HasShortName (shown_shaping result) }
+{
+    shaping_between(peer_at(config, peer), realm_at(config, realm))
+}
+
+/// How many octets a realm is sent for a sender's request.
+pub(crate) fn sent_len(config: &Config, side: Side, request: &View<'_>, realm: u16) -> usize
+    ensures { result ≡ sent_length (shown config.now) side request.now realm }
+{
+    match side {
+        Side::Peer(peer) => forwarded_shaped_len(request, &shaping_of(config, peer, realm)),
+        Side::Link(_) | Side::Home(_) => forwarded_len(request),
+    }
+}
