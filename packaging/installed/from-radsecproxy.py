@@ -9,17 +9,14 @@ Where a whole client or realm isn't carried over, its status is 1.
 import argparse
 import ipaddress
 import re
-import socket
 import sys
 
+from converted_conf import (ALSO, HOPS, NAME, REJECTS, REST_AFTER_OF_ALL, SERVERS, TABLES, Written, closed, endpoint_of, fault_of,
+                            options_of, peer_name, toml)
+from converted_conf import endpoint_text as written
 from radsecproxy_conf import Block, Unreadable, blocks_of
 from radsecproxy_names import NotASuffix, covers, items_of
 from radsecproxy_rewrite import MOST, rewriting_of
-
-NAME = re.compile(r"[A-Za-z0-9.-]{1,253}\Z")
-TABLES, SERVERS, ALSO, REJECTS = 1024, 8, 256, 1024
-# Behind `*` a server is silent where one home server behind it is.
-REST_AFTER_OF_ALL, HOPS = 50, 10
 
 FTICKS = "f-ticks.py makes F-Ticks lines of the log"
 
@@ -42,31 +39,8 @@ REASONS = {
 }
 
 
-# What is written
-
-def toml(text):
-    plain = all(32 <= ord(letter) and ord(letter) != 127 for letter in text)
-    if plain and "'" not in text and ("\\" in text or '"' in text):
-        return f"'{text}'"
-    escaped = "".join(f"\\u{ord(letter):04X}" if ord(letter) < 32 or ord(letter) == 127 else letter
-                      for letter in text.replace("\\", "\\\\").replace('"', '\\"'))
-    return f'"{escaped}"'
-
-
-class Output:
-    def __init__(self):
-        self.lines, self.lost, self.changed = [], 0, 0
-
-    def put(self, *lines):
-        self.lines += lines
-
-    def lose(self, what):
-        self.lost += 1
-        self.put(f"# Not carried over: {printable(what)}")
-
-    def change(self, what):
-        self.changed += 1
-        self.put(f"# Changed: {printable(what)}")
+class Output(Written):
+    """What is written, with the options that have no key."""
 
     def lose_options(self, block, known):
         for option, value in block.options:
@@ -85,45 +59,9 @@ IDLE = {("ipv4only", "on"), ("ipv6only", "off"), ("tcpkeepalive", "off"), ("loop
         ("accountingresponse", "off"), ("blockingstartup", "off")}
 
 
-def printable(text):
-    return "".join(letter if letter.isprintable() else "?" for letter in text)
-
-
-def endpoint_of(text, port, options):
-    """An address and a port of `address`, `*`, `name` and these with a port; None for what is no IPv4 address."""
-    if text.startswith("[") or text.count(":") > 1:
-        return None
-    host, _, stated = text.partition(":")
-    stated = stated or str(port)
-    if not stated.isdigit() or not 1 <= int(stated) <= 65535:
-        return None
-    try:
-        return str(ipaddress.IPv4Address(host)), int(stated)
-    except ValueError:
-        if host != "*" and options.resolve:
-            try:
-                return socket.gethostbyname(host), int(stated)
-            except OSError:
-                pass
-        return None
-
-
-def written(endpoint):
-    return f'"{endpoint[0]}:{endpoint[1]}"'
-
-
 def secret_of(block):
     """Its secret as text, or why it can't be written."""
-    secret = block.get("secret")
-    if secret is None:
-        return None, "it has no secret"
-    octets = secret.encode(errors="surrogateescape")
-    if not 1 <= len(octets) <= 64:
-        return None, f"its secret has {len(octets)} octets, and roam takes 1 to 64"
-    try:
-        return octets.decode(), None
-    except UnicodeDecodeError:
-        return None, "its secret isn't text in UTF-8"
+    return fault_of(block.get("secret"))
 
 
 def is_udp(block):
@@ -309,11 +247,7 @@ class Conversion:
 
     def write_peer(self, block, address, secret, is_first):
         out = self.out
-        name = re.sub(r"[^A-Za-z0-9._-]", "-", block.name)[:58] or "client"
-        chosen, number = name, 2
-        while chosen in self.names:
-            chosen, number = f"{name}-{number}", number + 1
-        self.names.add(chosen)
+        chosen = peer_name(block.name, self.names)
         self.addresses[address] = block.name
         if is_first:
             self.tell_client(block)
@@ -594,34 +528,14 @@ class Conversion:
             self.out.lose(f"server {self.servers[name].name}: no realm uses it")
 
 
-def tidy(lines):
-    """One empty line between two parts, and none at the end."""
-    return re.sub(r"\n{3,}", "\n\n", "\n".join(lines)).strip("\n") + "\n"
-
-
 def main():
-    parser = argparse.ArgumentParser(description=__doc__, formatter_class=argparse.RawDescriptionHelpFormatter)
-    parser.add_argument("conf", help="the radsecproxy.conf")
-    parser.add_argument("--address", help="this machine's address, where the file names none")
-    parser.add_argument("--resolve", action="store_true", help="look names of clients and servers up, now")
-    parser.add_argument("--expand", type=int, default=16, help="a prefix of clients of at most so many addresses becomes a peer for each of them")
-    parser.add_argument("--out", type=int, default=20001, help="port of the first realm's `out`")
-    parser.add_argument("--reverse", type=int, help="port of the first realm's `reverse`, where there are to be any")
-    parser.add_argument("--max-pending", type=int, help="of each realm")
-    options = parser.parse_args()
+    options = options_of(__doc__, "the radsecproxy.conf")
     try:
         conversion = Conversion(*blocks_of(options.conf), options)
         conversion.run()
     except (Unreadable, ValueError) as error:
         sys.exit(f"from-radsecproxy.py: {error}")
-    out = conversion.out
-    sys.stdout.write(tidy(out.lines))
-    print(f"peers {len(conversion.addresses)}, realms {conversion.realms}, not carried over {out.lost},"
-          f" changed {out.changed}", file=sys.stderr)
-    if not conversion.addresses or not conversion.realms:
-        sys.exit("from-radsecproxy.py: roam needs at least one peer and one realm")
-    if conversion.lost_tables:
-        sys.exit("from-radsecproxy.py: not carried over as a whole: " + printable(", ".join(conversion.lost_tables)))
+    closed("from-radsecproxy.py", conversion.out, len(conversion.addresses), conversion.realms, conversion.lost_tables)
 
 
 if __name__ == "__main__":

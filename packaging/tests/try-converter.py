@@ -451,23 +451,23 @@ def keeps_the_rules(conf):
     assert 1 <= len(conf["peer"]) <= 1024 and 1 <= len(conf["realm"]) <= 1024
     for peer in conf["peer"]:
         assert set(peer) <= {"name", "ip", "secret", "require_seal", "limit_proxy_state", "operator_name", "ask_cui",
-                             "request_without", "reply_without"}
+                             "request_without", "reply_without", "coa", "nas_ip"}
         keeps_lists(peer)
         assert re.fullmatch(r"[A-Za-z0-9._-]{1,64}", peer["name"]) and 1 <= len(peer["secret"].encode()) <= 64
     names, endpoints = [], [conf["auth"], conf["acct"]]
     for realm in conf["realm"]:
-        assert set(realm) <= {"name", "also", "out", "tries", "wait", "rest_after", "hold", "max_pending", "accounting",
+        assert set(realm) <= {"name", "also", "out", "reverse", "tries", "wait", "rest", "rest_after", "hold", "max_pending", "accounting",
                               "loop_prevention", "request_without", "reply_without", "server"}
         keeps_lists(realm)
         names += [realm["name"]] + realm.get("also", [])
-        endpoints += [realm["out"]]
+        endpoints += [realm[key] for key in ("out", "reverse") if key in realm]
         assert realm.get("accounting") in (None, "answer", "drop")
         assert all(("acct" in server) == ("accounting" not in realm) for server in realm["server"])
         servers = [server[key] for server in realm["server"] for key in ("auth", "acct") if key in server]
         assert len(set(servers)) == len(servers) and all(map(is_endpoint, servers))
         assert 1 <= len(realm["server"]) <= 8 and len(realm.get("also", [])) <= 256
         assert in_range(realm.get("tries", 3), 1, 10) and in_range(realm.get("wait", 2000), 1, 60000)
-        assert in_range(realm.get("rest_after", 3), 1, 256) and in_range(realm.get("hold", 10000), 0, 60000)
+        assert in_range(realm.get("rest", 30000), 0, 3600000) and in_range(realm.get("rest_after", 3), 1, 256) and in_range(realm.get("hold", 10000), 0, 60000)
     assert len(conf.get("reject", [])) <= 1024 and "*" not in conf.get("reject", [])
     names += conf.get("reject", [])
     for name in names:
