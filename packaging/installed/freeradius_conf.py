@@ -44,7 +44,7 @@ def words_of(line):
             return found
         word = WORD.match(line, at)
         if not word:
-            raise Unreadable(f"{line.strip()}: a quotation mark without its end")
+            raise Unreadable("a quotation mark without its end")
         double, single, *bare = word.groups()
         quoted = double if double is not None else single
         if quoted is not None:
@@ -64,8 +64,11 @@ def read_into(section, path, missed):
     except OSError as error:
         raise Unreadable(f"{path}: {error.strerror}") from error
     opened = [section]
-    for line in text.split("\n"):
-        words = words_of(line)
+    for number, line in enumerate(text.split("\n"), 1):
+        try:
+            words = words_of(line)
+        except Unreadable as error:
+            raise Unreadable(f"{path}:{number}: {error}") from error
         if words and words[0] == ("$INCLUDE", False) or words and words[0] == ("$-INCLUDE", False):
             include(opened[-1], path, words[1][0], missed)
             continue

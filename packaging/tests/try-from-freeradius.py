@@ -300,6 +300,11 @@ def main():
     assert x["accounting"] == every["accounting"] == "answer" and every["also"] == ["*"] and every["rest_after"] == 50
     assert conf["reject"] == ["here.example"] and conf["log_exchanges"] == "none" and "status_server" not in conf
     print(f"{agree(conf, module.realm_in_roam)} names mean the same realm")
+    with tempfile.NamedTemporaryFile("w", suffix=".conf") as file:
+        file.write('client one {\n  secret = "never shown\n}\n')
+        file.flush()
+        done = run([sys.executable, CONVERTER, file.name])
+        assert (done.returncode, done.stderr) == (1, f"from-freeradius.py: {file.name}:2: a quotation mark without its end\n"), done.stderr
     files = {it: open(os.path.join(ROOT, "examples", "migrating", it), encoding="utf-8").read() for it in ("clients.conf", "proxy.conf")}
     conf, _ = look_over("examples/migrating", files, module, roam, [])
     with open(os.path.join(ROOT, "docs", "MIGRATING.md"), encoding="utf-8") as file:
