@@ -76,7 +76,8 @@ standing_stays b c k q (waiting l id forwarded sends_left deadline) w =
 standing_stays b c k q (done reply deadline) w = tt
 
 -- a peer that stays has its requests forwarded as before
-peer_part_of : (peers : List PeerView) (i : ℕ) → slice_get (map peer_part peers) i ≡ option_map peer_part (slice_get peers i)
+peer_part_of : (peers : List PeerView) (i : ℕ) →
+    slice_get (map peer_part peers) i ≡ option_map peer_part (slice_get peers i)
 peer_part_of [] i = refl
 peer_part_of (p ∷ ps) zero = refl
 peer_part_of (p ∷ ps) (suc i) = peer_part_of ps i

@@ -1,4 +1,5 @@
--- What an arrival gives to a realm, as the realm looks at it: nothing where it is another's, and by what a request names
+-- What an arrival gives to a realm, as the realm looks at it: nothing where it is another's, and by what a request
+-- names
 -- where it is the realm's.
 use Rattle.std.proofs.Common.{◌≡◌, ℕ, Bool, true, false, List, [], Option, Some, None, map, option_map, refl, sym, ap, ◌∙◌, inl, inr, arith}
 use Rattle.std.specs.Prelude.{◌==◌, ◌&&◌, ◌||◌, not, is_some, nat_le, if◌then◌else◌}
@@ -141,14 +142,17 @@ module _ (realm now : ℕ) where
   none-accounted Answered size secret a s p k differs = refl
   none-accounted Dropped size secret a s p k differs = refl
 
-  pub accounted-given : (config : ConfigView) (secret : List ℕ) (a : Arrival) (s : Side) (p : Packet) (named : Option ℕ) →
+  pub accounted-given : (config : ConfigView) (secret : List ℕ) (a : Arrival) (s : Side) (p : Packet)
+      (named : Option ℕ) →
       gives (accounted config secret a s p named)
-      ≡ where_accounted (takes_of config realm s) (accounting_in config realm) (sent_length config s p realm) secret a s p
+      ≡ where_accounted (takes_of config realm s) (accounting_in config realm) (sent_length config s p realm) secret
+      a s p
       (is_realm realm named)
   accounted-given config secret a s p None = refl
   accounted-given config secret a s p (Some k) =
       let at_realm : Bool → List RealmEvent =
-      where_accounted (takes_of config realm s) (accounting_in config realm) (sent_length config s p realm) secret a s p in
+      where_accounted (takes_of config realm s) (accounting_in config realm) (sent_length config s p realm) secret a
+      s p in
       elim (cases_Bool (k == realm)) [
         | inl yes' ↦ (
             let here : k ≡ realm = (Decides-eqb k realm).0 yes' in
@@ -171,11 +175,13 @@ module _ (realm now : ℕ) where
   pub acct-given : (config : ConfigView) (secret : List ℕ) (a : Arrival) (s : Side) (p : Packet) →
       gives (if is_answered_unnamed config p then answered_by a (accounting_answer secret p)
       else accounted config secret a s p (realm_of config p.attributes))
-      ≡ where_accounted (takes_of config realm s) (accounting_in config realm) (sent_length config s p realm) secret a s p
+      ≡ where_accounted (takes_of config realm s) (accounting_in config realm) (sent_length config s p realm) secret
+      a s p
       (is_realm realm (realm_of config p.attributes))
   acct-given config secret a s p =
       let at_realm : Bool → List RealmEvent =
-      where_accounted (takes_of config realm s) (accounting_in config realm) (sent_length config s p realm) secret a s p in
+      where_accounted (takes_of config realm s) (accounting_in config realm) (sent_length config s p realm) secret a
+      s p in
       elim (cases_Bool (is_answered_unnamed config p)) [
         | inl yes' ↦ (
             let unnamed = second-true config.answer_unnamed (is_unnamed p.attributes) yes' in
