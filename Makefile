@@ -14,7 +14,7 @@ help:
 	@echo 'make pages                what is generated, written anew; names, keys, refusals and mistakes of the pages looked at'
 	@echo 'make look CRATE=NAME      layout, names, types and borrows of a crate; no proof'
 	@echo 'make proof CRATE=NAME     a crate and what it needs, proved'
-	@echo 'make scripts              tries the converter and f-ticks.py; no program, no root'
+	@echo 'make scripts              tries the converters, the samples and f-ticks.py; no program, no root'
 	@echo 'make trials ROAM=PROGRAM  tries a program by its sockets: diagnoses, control, reload, exchanges, and what fails beside'
 	@echo '                          it (a log, a path, descriptors, an answer, a socket without room); no root'
 	@echo 'make deb ROAM=PROGRAM     the Debian package'
@@ -51,10 +51,13 @@ proof:
 
 scripts:
 	packaging/tests/try-converter.py
+	packaging/tests/try-from-freeradius.py
+	packaging/tests/try-samples.py
 	packaging/tests/try-fticks.py
 
 trials: scripts
 	packaging/tests/try-diagnoses.py $(ROAM)
+	packaging/tests/try-samples.py $(ROAM)
 	packaging/tests/try-statements.py $(ROAM)
 	packaging/tests/try-control.py $(ROAM)
 	packaging/tests/try-reload.py $(ROAM)

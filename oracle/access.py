@@ -242,3 +242,32 @@ fwd = forward_access(NAME, 0, 5, K(5), H2)
 row.tick(2002, [sent(fwd, S2_AUTH)], "moved")
 row.reply(2003, response(fwd, salted(H2, K(5)), H2, 2), [given_back(access_back(req, 2, salted(P, Q)), place="auth")],
           "those of the second server's Accept", source=S2_AUTH)
+
+# The same of other vendors, and what stays: a vendor whose values go on, one with another hiding, other types, values
+# too short or without whole blocks, and a list that is none.
+SALTED = b"\x80\1" + ANY
+
+
+def of_vendors(secret, authenticator):
+    return b"".join(of_vendor(number, attribute(200, SALTED), *(
+        tunnel(tag, bytes([0x80 + n, kind]), BLOCKS if kind == 19 else BLOCK, secret, authenticator, kind)
+        for kind in kinds)) for n, (number, kinds, tag) in enumerate(SALTING_VENDORS))
+
+
+VENDORS_STAY = b"".join(of_vendor(number, *subs) for number, subs in (
+    (24757, [attribute(5, b"\0" + SALTED)]), (529, [attribute(214, SALTED)]), (4846, [attribute(214, SALTED)]),
+    (6527, [attribute(kind, SALTED) for kind in (58, 121, 126, 137, 140, 141, 143)]),
+    (4874, [attribute(kind, SALTED) for kind in (9, 57, 62, 122)]), (0, [attribute(69, b"\0" + SALTED)]),
+    (2356, [attribute(19, value) for value in (b"", b"\1", b"\1\x80", b"\1\x80\1", SALTED, b"\1" + SALTED + b"\0")]),
+    (14823, [attribute(44, SALTED), b"\x2c"]), (26928, [attribute(3, SALTED), b"\3\1"]), (2356, [])))
+
+row = Row("salted-vendors", "two-servers", SOURCE)
+req = access(1, NAME + ps)
+fwd = give(row, 0, req, 0, 0, "an Access-Request")
+row.reply(1, response(fwd, of_vendors(H1, K(0)) + VENDORS_STAY, code=2),
+          [given_back(access_back(req, 2, of_vendors(P, Q) + VENDORS_STAY + ps), place="auth")],
+          "what vendors hide with a salt, in an Accept, and what stays", source=S1_AUTH)
+req = access(2, NAME)
+fwd = give(row, 1, req, 1, 1, "an Access-Request")
+row.reply(1, response(fwd, of_vendors(H1, K(1)), code=11),
+          [given_back(access_back(req, 11, of_vendors(H1, K(1))), place="auth")], "in a Challenge", source=S1_AUTH)

@@ -175,18 +175,31 @@ def password(plain, secret, authenticator):
     return attribute(2, hide(plain, secret, authenticator))
 
 
-def tunnel(tag, salt, plain, secret, authenticator):
-    """Tunnel-Password (RFC 2868 section 3.5)."""
-    return attribute(69, tag + salt + hide(plain, secret, authenticator + salt))
+def tunnel(tag, salt, plain, secret, authenticator, kind=69):
+    """Tunnel-Password (RFC 2868 section 3.5), or a vendor's type that is hidden as it is."""
+    return attribute(kind, tag + salt + hide(plain, secret, authenticator + salt))
 
 
 def key(kind, salt, plain, secret, authenticator):
-    """MS-MPPE-Send-Key (16) or MS-MPPE-Recv-Key (17) in a Vendor-Specific (RFC 2548 section 2.4)."""
-    return attribute(kind, salt + hide(plain, secret, authenticator + salt))
+    """MS-MPPE-Send-Key (16) or MS-MPPE-Recv-Key (17) in a Vendor-Specific (RFC 2548 section 2.4), or another vendor's
+    type that is hidden as they are."""
+    return tunnel(b"", salt, plain, secret, authenticator, kind)
+
+
+def of_vendor(number, *subs):
+    """A Vendor-Specific (RFC 2865 section 5.26)."""
+    return attribute(26, number.to_bytes(4, "big") + b"".join(subs))
 
 
 def microsoft(*subs):
-    return attribute(26, bytes([0, 0, 1, 55]) + b"".join(subs))
+    return of_vendor(311, *subs)
+
+
+# Whose types are hidden as Tunnel-Password's string is: vendor, types, and what stands before the salt.
+SALTING_VENDORS = [
+    (161, (11,), b""), (831, (116, 117, 118, 119), b""), (2356, (19, 20), b"\x01"), (4874, (58, 59, 60, 61), b""),
+    (5535, (58,), b""), (6527, (122, 123, 124, 125, 138, 139, 142), b""), (14823, (44,), b""), (26928, (3,), b""),
+]
 
 
 # Disconnect and CoA

@@ -79,9 +79,9 @@ class Packet:
         )
 
     def is_salted(self):
-        """Whether it holds what RFC 2868 or RFC 2548 hides with a salt, of whatever size."""
-        return bool(self.values(TUNNEL_PASSWORD)) or any(
-            kind in (SEND_KEY, RECV_KEY)
+        """Whether it holds what is hidden with a salt, of whatever size."""
+        return any(kind in TAGS[None] for kind, _ in self.attributes) or any(
+            kind in TAGS.get(vendor_of(value), ())
             for value in self.values(VENDOR_SPECIFIC) for kind, _ in vendor_list(value) or []
         )
 
@@ -123,6 +123,21 @@ def seal_in_front(attributes):
 
 MICROSOFT, SEND_KEY, RECV_KEY = bytes([0, 0, 1, 55]), 16, 17
 
+# Of what is hidden with a salt, by vendor and type, how many octets of tag stand before the salt: RFC 2868 section 3.5,
+# RFC 2548 section 2.4, and of other vendors what FreeRADIUS 3.2.1 marks `encrypt=2` (a tag with `has_tag`).
+TAGS = {
+    None: {TUNNEL_PASSWORD: 1},
+    161: {11: 0},
+    311: {SEND_KEY: 0, RECV_KEY: 0},
+    831: {116: 0, 117: 0, 118: 0, 119: 0},
+    2356: {19: 1, 20: 1},
+    4874: {58: 0, 59: 0, 60: 0, 61: 0},
+    5535: {58: 0},
+    6527: {122: 0, 123: 0, 124: 0, 125: 0, 138: 0, 139: 0, 142: 0},
+    14823: {44: 0},
+    26928: {3: 0},
+}
+
 
 def xor(some, others):
     return bytes(a ^ b for a, b in zip(some, others))
@@ -155,31 +170,39 @@ def hidden_anew(octets, key, new_key, salt=b""):
     return hidden(plain, new_secret, new_authenticator + salt)
 
 
-def tunnel_anew(value, key, new_key):
-    """Tunnel-Password (RFC 2868 section 3.5): tag, salt, string."""
-    return value[:3] + hidden_anew(value[3:], key, new_key, value[1:3])
+def salted_value_anew(value, tag, key, new_key):
+    """Tag, salt, string (RFC 2868 section 3.5), with so many octets of tag."""
+    front = value[:tag + 2]
+    return front + hidden_anew(value[tag + 2:], key, new_key, front[tag:])
+
+
+def vendor_of(value):
+    return int.from_bytes(value[:4], "big") if len(value) >= 4 else None
 
 
 def vendor_list(value):
-    """What a Vendor-Specific of Microsoft lists (RFC 2548), or None."""
-    return pairs(value[4:]) if value[:4] == MICROSOFT else None
+    """What a Vendor-Specific lists (RFC 2865 section 5.26), or None."""
+    return None if vendor_of(value) is None else pairs(value[4:])
+
+
+def listed_anew(listed, vendor, key, new_key):
+    """The attributes of a packet, or a vendor's, hidden anew by their types."""
+    tags = TAGS.get(vendor, {})
+    return [(k, salted_value_anew(v, tags[k], key, new_key) if k in tags else v) for k, v in listed]
 
 
 def vendor_anew(value, key, new_key):
-    """MS-MPPE-Send-Key and MS-MPPE-Recv-Key (RFC 2548 sections 2.4.2 and 2.4.3): salt, string."""
+    """A Vendor-Specific hidden anew; one without a list stays."""
     listed = vendor_list(value)
     if listed is None:
         return value
-    return MICROSOFT + b"".join(
-        bytes([k, len(v) + 2])
-        + (v[:2] + hidden_anew(v[2:], key, new_key, v[:2]) if k in (SEND_KEY, RECV_KEY) else v)
-        for k, v in listed
-    )
+    return value[:4] + b"".join(
+        bytes([k, len(v) + 2]) + v for k, v in listed_anew(listed, vendor_of(value), key, new_key))
 
 
 def salted_anew(attributes, key, new_key):
-    how = {TUNNEL_PASSWORD: tunnel_anew, VENDOR_SPECIFIC: vendor_anew}
-    return [(k, how[k](v, key, new_key) if k in how else v) for k, v in attributes]
+    return [(k, vendor_anew(v, key, new_key) if k == VENDOR_SPECIFIC else v)
+            for k, v in listed_anew(attributes, None, key, new_key)]
 
 
 def password_fits(value):

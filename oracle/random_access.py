@@ -261,3 +261,19 @@ class AccessScript(Script):
     KINDS = (access, accounting, repeat, local_reject, bad_access, Script.reply, Script.late_reply,
              bad_access_reply, long_reply, Script.tick, Script.late_tick, Script.no_shard, Script.too_late)
     WEIGHTS = (30, 8, 11, 5, 6, 26, 5, 7, 1, 14, 4, 0.5, 1)
+
+
+class VendorScript(AccessScript):
+    """Access whose replies have other vendors' salted values, of all sizes, in lists and in what is none."""
+
+    def keys(self):
+        vendor = self.random.choice([vendor for vendor in TAGS if vendor])
+        kinds = self.random.choices([*TAGS[vendor], *TAGS[vendor], 16, 58, 69], k=self.random.choice((1, 1, 2, 3)))
+        values = [self.octets(18, 18, 19, 19, 34, 35, 0, 1, 2, 3, 17) for _ in kinds]
+        listed = b"".join(bytes([k, len(v) + 2]) + v for k, v in zip(kinds, values))
+        if self.chance(0.1):
+            listed += self.random.choice((b"\x10", b"\x10\x01", b"\x10\x14abc"))
+        return (VENDOR_SPECIFIC, vendor.to_bytes(4, "big") + listed)
+
+    def salted(self):
+        return self.keys()

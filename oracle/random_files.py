@@ -1,5 +1,5 @@
 """The files of random scripts."""
-from random_access import AccessScript
+from random_access import AccessScript, VendorScript
 from random_federation import FederationScript, SilenceScript
 from random_mutated import MutatedScript
 from random_policy import PolicyScript
@@ -14,6 +14,7 @@ FILES = {
     "access": (AccessScript, "access", 3001, 70),
     "access-and-shared": (AccessScript, "access-and-shared", 4001, 70),
     "access-in-two-shards": (AccessScript, "access-in-two-shards", 5001, 70),
+    "access-with-vendors": (VendorScript, "access", 20001, 50),
     "all": (ReverseScript, "all", 6001, 90),
     "all-and-shared": (ReverseScript, "all-and-shared", 7001, 90),
     "all-in-two-shards": (ReverseScript, "all-in-two-shards", 8001, 90),

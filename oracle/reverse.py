@@ -245,6 +245,19 @@ for what, attributes in (
 ):
     row.ask(what, NAS1 + attributes + NAME)
 
+row = Story("disconnects-salted-by-vendors", "one-server")
+for number, kinds, tag in SALTING_VENDORS:
+    for kind in kinds:
+        row.nak(f"type {kind} of vendor {number}", 401, NAS1 + of_vendor(
+            number, attribute(200, b""), attribute(kind, tag + b"\x80\1" + ANY)) + NAME, 43)
+for what, attributes in (
+    ("a vendor whose values go on", of_vendor(24757, attribute(5, b"\0\x80\1" + ANY))),
+    ("another vendor's type", of_vendor(6527, attribute(58, b"\x80\1" + ANY))),
+    ("a vendor's type that isn't hidden", of_vendor(2356, attribute(21, b""), attribute(18, b""))),
+    ("a list that is none", of_vendor(14823, attribute(44, b"\x80\1" + ANY), b"\x2c")),
+):
+    row.ask(what, NAS1 + attributes + NAME)
+
 row = Story("answers-of-access-servers", "two-servers")
 for code in (40, 43):
     req, fwd = row.ask("a request", NAS1 + NAME + ps, code, 9, answered=False)

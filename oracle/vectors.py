@@ -3,7 +3,7 @@
 
 vectors.txt has what this prints; write_rows.py writes it.
 """
-from formulas import H1, K, P, Q, header, hide, key, md5, microsoft, seal, tunnel
+from formulas import H1, K, P, Q, header, hide, key, md5, microsoft, of_vendor, seal, tunnel
 from packets import chacha_block
 
 ZERO, ONE, COUNTING = bytes(32), bytes(31) + b"\1", bytes(range(32))
@@ -121,9 +121,18 @@ def keys():
         yield "computed: " + " ".join([plain.hex(), other.hex()] + both)
 
 
+def vendors():
+    yield "Vendor-Specific of 6527 (types 122, 142: salt), of 2356 (19, 20: tag 1, salt): as the keys"
+    (_, plain), (_, other) = STRINGS[:2]
+    for number, tag, kinds in ((6527, b"", (122, 142)), (2356, b"\1", (19, 20))):
+        both = [of_vendor(number, *(tunnel(tag, *string, *side, kind) for string, kind in zip(STRINGS, kinds)))
+                for side in ((H1, K(0)), (P, Q))]
+        yield "computed: " + " ".join([plain.hex(), other.hex()] + [one[2:].hex() for one in both])
+
+
 def text():
     lines = [f"# K0 is {K(0).hex()}, Q is {Q.hex()}"]
-    for part in (random_words, signatures, seals, passwords, tunnel_passwords, keys):
+    for part in (random_words, signatures, seals, passwords, tunnel_passwords, keys, vendors):
         heading, *rest = part()
         lines += ["", "# " + heading] + rest
     return "".join(line + "\n" for line in lines)

@@ -8,7 +8,7 @@ s,^PATH=\$PWD/crates/roam/out:\$PATH$,cp -r @DOC@/examples .,
 # What is installed, and where.
 s,docs/\([A-Z]*\.md\),\1,g
 s,packaging/samples,samples,g
-s,`packaging/installed/from-radsecproxy\.py`,`@LIB@/from-radsecproxy.py`,g
+s,`packaging/installed/from-\(radsecproxy\|freeradius\)\.py`,`@LIB@/from-\1.py`,g
 s,`packaging/installed/roam\.service`,`roam.service`,g
 s,/usr/local/lib/roam,@LIB@,g
 s,/usr/local/share/doc/roam,@DOC@,g

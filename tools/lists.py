@@ -5,7 +5,7 @@
     tools/lists.py --check    says what doesn't agree; ends with 1 where something doesn't
 
 - The keys of a configuration: the table of docs/FILES.md. The manual page's are made of it, and the reader's own lists
-  (crates/roam_conf_reader/src/tables.rt) compared with it.
+  (crates/roam_conf_reader/src/tables.rt) compared with it; each stands in examples/two-realms.conf.
 - The refusals: the table of docs/REFUSALS.md. The manual page's are made of it, and the names in their order
   (crates/roam_wire/src/refusal.rt) compared with it.
 """
@@ -115,6 +115,9 @@ def faults() -> list[str]:
     for table, keys in keys_of_the_reader().items():
         said += [f"docs/FILES.md lacks the key {it} of {table}" for it in sorted(keys - listed.get(table, set()))]
         said += [f"docs/FILES.md has a key {it} of {table} that the reader doesn't know" for it in sorted(listed.get(table, set()) - keys)]
+    shown = (ROOT / "examples" / "two-realms.conf").read_text(encoding="utf-8")
+    said += [f"examples/two-realms.conf lacks the key {it}" for keys in listed.values() for it in sorted(keys)
+             if not re.search(rf"^(?:{it} =|\[\[(?:\w+\.)?{it}\]\])", shown, re.M)]
     code = (ROOT / "crates" / "roam_wire" / "src" / "refusal.rt").read_text(encoding="utf-8")
     names = re.findall(r"^    ([A-Z][A-Za-z]+),$", code.split("pub enum Refusal {")[1].split("}")[0], re.M)
     rows = [(number, name.strip("`")) for number, name, *_ in rows_of("REFUSALS.md", "no.")]

@@ -6,10 +6,12 @@
 A GOAL is a crate's name (it is built, or where it is a program checked), NAME:test (its tests are proved and run, a program is run)
 or NAME:edits (its must-fail edits are tried). What a goal needs is proved first. `rt` locks a crate and all below it while it works,
 so two crates of one tree are never proved side by side; here each worker has a copy of the tree, and what is proved (the
-folders `out`) is carried from one to the next. FOLDER keeps all that, and the output of each step under `logs`. It reads the tree
-as it stands when a step begins.
+folders `out`) is carried from one to the next. FOLDER keeps all that, the output of each step under `logs`, and under `stamps` of
+which texts a step passed, so that it isn't taken again for the same. It reads the tree as it stands when a step begins: change no
+crate while it runs.
 """
 import argparse
+import hashlib
 import os
 import pathlib
 import subprocess
@@ -20,7 +22,8 @@ import minutes
 
 ROOT = pathlib.Path(__file__).resolve().parent.parent
 # Crates whose check is worth several jobs, and how many.
-JOBS = {"roam_workers": 2, "roam_run": 2, "roam_succession": 2, "roam_serve": 2, "roam_book": 2, "roam_core": 2, "roam_tables": 2, "roam_shard": 2, "roam_hub": 2, "roam_commands": 2}
+JOBS = {"roam_book": 3, "roam_core": 2, "roam_tables": 2, "roam_shard": 2, "roam_hub": 3, "roam_workers": 3, "roam_threads": 2,
+        "roam_run": 4, "roam_succession": 3, "roam_serve": 3, "roam_commands": 4, "test_server": 3, "test_hub": 2}
 # Processor minutes from nothing, as they were read last: what stands longest above a crate goes first.
 MINUTES = {crate: sum(of.values()) for crate, of in minutes.read(minutes.KEPT.read_text(encoding="utf-8")).items()}
 
@@ -51,6 +54,11 @@ class Plan:
                 self.needs[goal] = self.uses[name] + ([name] if kind == "edits" else [])
         (store / "out").mkdir(parents=True, exist_ok=True)
         (store / "logs").mkdir(exist_ok=True)
+        (store / "stamps").mkdir(exist_ok=True)
+        for step in self.needs:
+            stamp, crate = store / "stamps" / step, step.partition(":")[0]
+            if stamp.exists() and stamp.read_text(encoding="utf-8") == digest(self.below(crate) + [crate]):
+                self.done.add(step)
 
     def below(self, name: str) -> list[str]:
         """All crates that a crate stands on."""
@@ -92,6 +100,16 @@ class Plan:
             self.turn.notify_all()
 
 
+def digest(names: list[str]) -> str:
+    """What a step depends on: the texts of a crate and of all below it, and what crates.txt says of them."""
+    made = hashlib.sha256()
+    for name in sorted(names):
+        made.update(f"{name}: {dependencies()[name]}".encode())
+        for path in sorted(it for it in (ROOT / "crates" / name).rglob("*") if it.is_file() and "out" not in it.relative_to(ROOT).parts):
+            made.update(str(path.relative_to(ROOT)).encode() + path.read_bytes())
+    return made.hexdigest()
+
+
 def carry(source: pathlib.Path, target: pathlib.Path, *more: str) -> None:
     """Makes a folder what another is."""
     target.mkdir(parents=True, exist_ok=True)
@@ -119,11 +137,13 @@ def take(plan: Plan, step: str, folder: pathlib.Path) -> None:
             # What a later check of a crate goes on from is large, and wanted for the crate itself alone.
             more = [] if crate == name else ["--exclude", "incremental", "--delete-excluded"]
             carry(plan.store / "out" / crate, folder / "crates" / crate / "out", *more)
-    begin = time.monotonic()
+    begin, inputs = time.monotonic(), digest(plan.below(name) + [name])
     with open(plan.store / "logs" / step, "wb") as log:
         at = folder if kind == "edits" else folder / "crates" / name
         process = subprocess.Popen(words_of(step, folder), cwd=at, stdout=log, stderr=log)
         _, status, used = os.wait4(process.pid, 0)
+    if status == 0:
+        (plan.store / "stamps" / step).write_text(inputs, encoding="utf-8")
     if status == 0 and kind != "edits":
         carry(folder / "crates" / name / "out", plan.store / "out" / name)
     print(f"{time.strftime('%H:%M:%S')} {'passed' if status == 0 else 'FAILED'} {step}: {time.monotonic() - begin:.0f} s, "

@@ -9,15 +9,14 @@ Where a whole client or realm isn't carried over, its status is 1.
 import argparse
 import ipaddress
 import re
-import socket
 import sys
 
+from converted_conf import (ALSO, HOPS, NAME, REJECTS, REST_AFTER_OF_ALL, SERVERS, TABLES, Written, closed, endpoint_of, fault_of,
+                            options_of, peer_name, toml)
+from converted_conf import endpoint_text as written
 from radsecproxy_conf import Block, Unreadable, blocks_of
 from radsecproxy_names import NotASuffix, covers, items_of
-
-NAME = re.compile(r"[A-Za-z0-9.-]{1,253}\Z")
-TABLES, SERVERS, ALSO = 1024, 8, 256
-REST, REST_AFTER, HOPS = 30000, 3, 10
+from radsecproxy_rewrite import MOST, rewriting_of
 
 FTICKS = "f-ticks.py makes F-Ticks lines of the log"
 
@@ -33,41 +32,15 @@ REASONS = {
     "addttl": "max_hops counts the proxies by their Proxy-States",
     "listentcp": "no TCP", "listentls": "no TLS", "listendtls": "no DTLS",
     "sourcetcp": "no TCP", "sourcetls": "no TLS", "sourcedtls": "no DTLS", "ipv6only": "no IPv6",
-    "rewrite": "attributes are carried as they stand", "rewritein": "attributes are carried as they stand",
-    "rewriteout": "attributes are carried as they stand",
-    "rewriteattribute": "attributes are carried as they stand",
+    "rewriteattribute": "a User-Name is carried as it stands",
     "dynamiclookupcommand": "home servers aren't discovered", "blockingstartup": "home servers aren't discovered",
     "replymessage": "an Access-Reject of the broker has no Reply-Message",
-    "accountingresponse": "accounting is answered by a home server or not at all",
-    "requiremessageauthenticatorproxy": "require_seal = true is stricter, and wants one in each Access-Request: set it if you can",
+    "accountingresponse": "accounting of a name that is rejected is refused (9)",
 }
 
 
-# What is written
-
-def toml(text):
-    plain = all(32 <= ord(letter) and ord(letter) != 127 for letter in text)
-    if plain and "'" not in text and ("\\" in text or '"' in text):
-        return f"'{text}'"
-    escaped = "".join(f"\\u{ord(letter):04X}" if ord(letter) < 32 or ord(letter) == 127 else letter
-                      for letter in text.replace("\\", "\\\\").replace('"', '\\"'))
-    return f'"{escaped}"'
-
-
-class Output:
-    def __init__(self):
-        self.lines, self.lost, self.changed = [], 0, 0
-
-    def put(self, *lines):
-        self.lines += lines
-
-    def lose(self, what):
-        self.lost += 1
-        self.put(f"# Not carried over: {printable(what)}")
-
-    def change(self, what):
-        self.changed += 1
-        self.put(f"# Changed: {printable(what)}")
+class Output(Written):
+    """What is written, with the options that have no key."""
 
     def lose_options(self, block, known):
         for option, value in block.options:
@@ -77,51 +50,18 @@ class Output:
                 self.lose(f"{option}{shown}: {reason}")
 
 
+REWRITES = ("rewrite", "rewritein", "rewriteout")
+# Expressions of names without an `@`, which the broker rejects anyway.
+WITHOUT_REALM = ("/^$/", "/^[^@]*$/", "/^[^@]+$/")
 # Options that say what is so anyway.
 IDLE = {("ipv4only", "on"), ("ipv6only", "off"), ("tcpkeepalive", "off"), ("loopprevention", "off"),
         ("requiremessageauthenticator", "off"), ("requiremessageauthenticatorproxy", "off"),
         ("accountingresponse", "off"), ("blockingstartup", "off")}
 
 
-def printable(text):
-    return "".join(letter if letter.isprintable() else "?" for letter in text)
-
-
-def endpoint_of(text, port, options):
-    """An address and a port of `address`, `*`, `name` and these with a port; None for what is no IPv4 address."""
-    if text.startswith("[") or text.count(":") > 1:
-        return None
-    host, _, stated = text.partition(":")
-    stated = stated or str(port)
-    if not stated.isdigit() or not 1 <= int(stated) <= 65535:
-        return None
-    try:
-        return str(ipaddress.IPv4Address(host)), int(stated)
-    except ValueError:
-        if host != "*" and options.resolve:
-            try:
-                return socket.gethostbyname(host), int(stated)
-            except OSError:
-                pass
-        return None
-
-
-def written(endpoint):
-    return f'"{endpoint[0]}:{endpoint[1]}"'
-
-
 def secret_of(block):
     """Its secret as text, or why it can't be written."""
-    secret = block.get("secret")
-    if secret is None:
-        return None, "it has no secret"
-    octets = secret.encode(errors="surrogateescape")
-    if not 1 <= len(octets) <= 64:
-        return None, f"its secret has {len(octets)} octets, and roam takes 1 to 64"
-    try:
-        return octets.decode(), None
-    except UnicodeDecodeError:
-        return None, "its secret isn't text in UTF-8"
+    return fault_of(block.get("secret"))
 
 
 def is_udp(block):
@@ -133,23 +73,24 @@ class Conversion:
         self.top, self.blocks, self.options, self.out = top, blocks, options, Output()
         self.of_kind = lambda kind: [block for block in blocks if block.kind == kind]
         self.servers = {block.name.lower(): block for block in self.of_kind("server")}
-        self.used, self.addresses, self.names = set(), set(), set()
-        self.lost_tables = []
+        self.rewrites = {block.name: block for block in self.of_kind("rewrite")}
+        self.used, self.addresses, self.names = set(), {}, set()
+        self.lost_tables, self.rejects, self.reject_at = [], [], 0
         self.realms, self.taken, self.forwarding = 0, [], []
 
     def run(self):
         self.write_top()
         for block in self.of_kind("client"):
             self.write_client(block)
-        for block in self.blocks:
-            if block.kind in ("tls", "rewrite"):
-                self.out.put("")
-                why = "no TLS" if block.kind == "tls" else "attributes are carried as they stand"
-                self.out.lose(f"the block {block.kind} {block.name}: {why}")
+        for block in self.of_kind("tls"):
+            self.out.put("")
+            self.out.lose(f"the block tls {block.name}: no TLS")
+        self.tell_rewrites()
         self.forwarding = self.forwarded_items()
         for block in self.of_kind("realm"):
             self.write_realm(block)
         self.write_unused_servers()
+        self.write_rejects()
 
     # The top of the file
 
@@ -177,20 +118,69 @@ class Conversion:
         if home and home[1] != 1:
             out.change(f"sourceudp {source}: each realm has a port of its own")
         if top.is_on("loopprevention"):
-            out.change("loopprevention compares names; max_hops counts the proxies that a request has passed")
+            out.change("loopprevention compares names; loop_prevention, in the realms that it is for, compares addresses, and an"
+                       " Access-Request gets an Access-Reject")
         self.source = home[0] if home else auth[0]
         out.lose_options(top, {"listenudp", "sourceudp", "loopprevention", "logfullusername", "logmac"})
         self.used |= {auth, acct}
-        out.put("shards = 1",
-                "# `roam serve` draws its own seed. This one is for `roam sim`.", f'seed = "{"0" * 64}"',
-                f"auth = {written(auth)}", f"acct = {written(acct)}", "trace_limit = 50000",
-                "trace_octets = 16777216", "spread = true",
-                "# Status-Server is answered, as radsecproxy does.", "status_server = true",
-                "# How many proxies a request may have passed; in place of TTL and LoopPrevention.",
+        out.put(f"auth = {written(auth)}", f"acct = {written(acct)}",
+                "# Status-Server is answered, and accounting without a User-Name (Accounting-On), as radsecproxy does.",
+                "status_server = true", "answer_unnamed = true",
+                "# How many proxies a request may have passed; in place of TTL.",
                 f"max_hops = {HOPS}",
                 "# `roam ctl` asks, reloads and stops it through this; `systemctl reload` and `stop` do.",
                 'control = "/run/roam/control"', "# Its counts, for Prometheus:", '# metrics = "127.0.0.1:9812"')
         self.write_log()
+        self.reject_at = len(out.lines)
+
+    def write_rejects(self):
+        """The names of realms without a server that another realm would take, at the top."""
+        if self.rejects:
+            names = ",\n".join(f"    {toml(name)}" for name in self.rejects)
+            self.out.lines[self.reject_at:self.reject_at] = [
+                "# Names of realms without a server: an Access-Reject, whichever realm has a wider pattern.",
+                f"reject = [\n{names},\n]"]
+
+    # What is rewritten
+
+    def rewrite_named(self, block, option):
+        """The rewrite block that counts for requests or replies of a client or server, if one does."""
+        name = block.get(option) or (block.get("rewrite") if option == "rewritein" else None)
+        if name is not None:
+            return self.rewrites.get(name)
+        defaults = (f"default{block.kind.capitalize()}", "default") if option == "rewritein" else ()
+        return next((self.rewrites[it] for it in defaults if it in self.rewrites), None)
+
+    def rewriting(self, block, way):
+        """What is rewritten of its requests or replies: none where no block says so."""
+        is_client = block.kind == "client"
+        named = self.rewrite_named(block, "rewritein" if (way == "request") == is_client else "rewriteout")
+        return named and rewriting_of(named, way, is_client)
+
+    def tell_rewrites(self):
+        """What of each block has no key, by what it is used for."""
+        lost, used = {}, set()
+        for block in self.of_kind("client") + self.of_kind("server"):
+            for option in ("rewritein", "rewriteout"):
+                named = self.rewrite_named(block, option)
+                if named is None:
+                    continue
+                used.add(named.name)
+                is_client = block.kind == "client"
+                way = "request" if (option == "rewritein") == is_client else "reply"
+                of = f"the block rewrite {named.name}, for {'requests' if way == 'request' else 'replies'} of a {block.kind}"
+                lost.update({f"{of}: {why}": None for why in rewriting_of(named, way, is_client).lost})
+        lost.update({f"the block rewrite {name}: nothing uses it": None for name in self.rewrites if name not in used})
+        if lost:
+            self.out.put("")
+        for why in lost:
+            self.out.lose(why)
+
+    def write_lists(self, request, reply):
+        """The two lists of what doesn't pass."""
+        for key, without in (("request_without", request), ("reply_without", reply)):
+            if without:
+                self.out.put(f"{key} = [" + ", ".join(map(toml, without)) + "]")
 
     def write_log(self):
         """Whether users and stations are logged: not where they weren't."""
@@ -261,18 +251,37 @@ class Conversion:
 
     def write_peer(self, block, address, secret, is_first):
         out = self.out
-        name = re.sub(r"[^A-Za-z0-9._-]", "-", block.name)[:58] or "client"
-        chosen, number = name, 2
-        while chosen in self.names:
-            chosen, number = f"{name}-{number}", number + 1
-        self.names.add(chosen)
-        self.addresses.add(address)
+        chosen = peer_name(block.name, self.names)
+        self.addresses[address] = block.name
         if is_first:
-            out.lose_options(block, {"host", "type", "secret", "duplicateinterval", "requiremessageauthenticator"})
+            self.tell_client(block)
         out.put("[[peer]]", f"name = {toml(chosen)}", f'ip = "{address}"', f"secret = {toml(secret)}")
         if block.is_on("requiremessageauthenticator"):
             out.put("require_seal = true")
+        elif block.is_on("requiremessageauthenticatorproxy"):
+            out.put("limit_proxy_state = true")
+        request, reply = self.rewriting(block, "request"), self.rewriting(block, "reply")
+        if request and request.operator_name:
+            out.put(f"operator_name = {toml(request.operator_name)}")
+        if request and request.asks_cui:
+            out.put("ask_cui = true")
+        self.write_lists(request and request.without, reply and reply.without)
         out.put("")
+
+    def tell_missing(self, block):
+        """Rewrite blocks that aren't there."""
+        for option, name in block.options:
+            if option in REWRITES and name not in self.rewrites:
+                self.out.lose(f"{option} {name}: there is no such block")
+
+    def tell_client(self, block):
+        """What of a client's options isn't said in a table."""
+        known = {"host", "type", "secret", "duplicateinterval", "requiremessageauthenticator", "requiremessageauthenticatorproxy"}
+        self.out.lose_options(block, known | set(REWRITES))
+        self.tell_missing(block)
+        request = self.rewriting(block, "request")
+        if request and request.asks_cui:
+            self.out.change("radsecproxy asks for a Chargeable-User-Identity in accounting too; roam in Access-Requests alone")
 
     # Realms
 
@@ -301,6 +310,9 @@ class Conversion:
     def write_realm(self, block):
         out = self.out
         out.put("")
+        if block.name in WITHOUT_REALM and not block.all("server"):
+            self.tell_reject(block, [])
+            return
         try:
             items, notes = self.items(block)
         except NotASuffix:
@@ -339,13 +351,14 @@ class Conversion:
         return f". The realm of {after[0]} takes its names" if after else ""
 
     def tell_reject(self, block, items):
-        fallen = self.fallen(items)
-        if fallen:
-            self.out.lose(f"realm {block.name}: it has no server, so radsecproxy rejects its names{fallen}")
-            self.lost_tables.append(f"realm {block.name}")
-        else:
-            self.out.change(f"realm {block.name}: it has no server. An unknown realm gets an Access-Reject,"
-                            " without a Reply-Message")
+        """A realm without a server: its names are rejected, by `reject` where another realm would take them."""
+        if self.fallen(items):
+            room = REJECTS - len(self.rejects)
+            self.rejects += items[:room]
+            for item in items[room:]:
+                self.out.lose(f"realm {block.name}: {item}: `reject` has {REJECTS} names{self.fallen([item])}")
+        self.out.change(f"realm {block.name}: it has no server. Its names get an Access-Reject, "
+                        + ("without a Reply-Message" if block.get("replymessage") else "where radsecproxy keeps silent"))
         self.out.lose_options(block, {"replymessage"})
 
     def write_realm_table(self, block, items, pairs):
@@ -353,28 +366,71 @@ class Conversion:
         whole = [item for item in items if not item.startswith("*")]
         name = whole[0] if whole else "default.invalid" if "*" in items else f"under.{items[0][2:]}.invalid"
         also = [item for item in items if item != name]
-        known = {"server", "accountingserver"}
-        out.lose_options(block, known)
+        is_forwarded = any(partner for _, partner in pairs)
+        out.lose_options(block, {"server", "accountingserver", "accountingresponse"})
+        if "*" in items:
+            out.change(f"realm {block.name}: radsecproxy takes names without an `@` here; roam rejects them")
         if not whole:
             out.put("# `name` is required, and this realm has patterns alone: this name is nobody's.")
         retries, interval = (first.get("retrycount", "2"), first.get("retryinterval", "5"))
         if any((one.get("retrycount", "2"), one.get("retryinterval", "5")) != (retries, interval)
-               for one, _, _ in pairs):
+               for one, _ in pairs):
             out.change("its servers differ in retrycount or retryinterval: the first one's count for all")
         out.put("[[realm]]", f"name = {toml(name[:253])}")
         if also:
             out.put("also = [" + ", ".join(map(toml, also)) + "]")
         index, self.realms = self.realms, self.realms + 1
-        hold = max([int(one.get("duplicateinterval", "0")) for one in self.of_kind("client")] or [0]) or 10
-        out.put(f"out = {written(self.free_port(self.options.out + index))}",
-                f"reverse = {written(self.free_port(self.options.reverse + index))}",
-                f"tries = {min(int(retries) + 1, 10)}", f"wait = {min(max(int(interval), 1), 60) * 1000}",
-                f"rest = {REST}", f"rest_after = {REST_AFTER}", f"hold = {min(hold, 60) * 1000}",
-                f"max_pending = {self.options.max_pending}",
-                "# No peer above has `coa`, so no ledger is needed. With Disconnects, choose it.", "max_sessions = 0")
+        out.put(f"out = {written(self.free_port(self.options.out + index))}")
+        if self.options.reverse:
+            out.put(f"reverse = {written(self.free_port(self.options.reverse + index))}")
+        if not is_forwarded:
+            answered = block.is_on("accountingresponse")
+            out.put(f'accounting = "{"answer" if answered else "drop"}"')
+        self.write_loops(block, pairs)
+        self.write_realm_lists(block, pairs)
+        self.write_numbers(int(retries) + 1, int(interval), "*" in items)
         taken = set()
-        for server, auth, acct in pairs:
-            self.write_server(server, auth, acct, taken)
+        for server, partner in pairs:
+            self.write_server(server, partner, is_forwarded, taken)
+
+    def write_numbers(self, tries, wait, is_of_all):
+        """The numbers of a realm that aren't what counts where they are absent."""
+        hold = max([int(one.get("duplicateinterval", "0")) for one in self.of_kind("client")] or [0]) or 10
+        numbers = {"tries": (min(tries, 10), 3), "wait": (min(max(wait, 1), 60) * 1000, 2000), "hold": (min(hold, 60) * 1000, 10000),
+                   "rest_after": (REST_AFTER_OF_ALL if is_of_all else 3, 3), "max_pending": (self.options.max_pending, None)}
+        self.out.put(*(f"{key} = {number}" for key, (number, usual) in numbers.items() if number != usual))
+
+    def write_loops(self, block, pairs):
+        """Whether nothing goes back to a client that has the name of one of its servers."""
+        known, named = {}, False
+        for server in (it for pair in pairs for it in pair if it):
+            known[self.endpoint(server)[0]] = server.name
+            on = server.is_on("loopprevention") if server.get("loopprevention") else self.top.is_on("loopprevention")
+            clients = [it for it in self.of_kind("client") if on and it.name == server.name]
+            if clients and self.addresses.get(self.endpoint(server)[0]) != server.name:
+                self.out.lose(f"loopprevention of server {server.name}: the client of this name has another address")
+            elif clients:
+                named = True
+        if not named:
+            return
+        for address, server in known.items():
+            client = self.addresses.get(address, server)
+            if client != server:
+                self.out.change(f"realm {block.name}: client {client} has the address of server {server}, and isn't let in there")
+        self.out.put("loop_prevention = true")
+
+    def write_realm_lists(self, block, pairs):
+        """What doesn't pass of its servers: one list for all of them."""
+        lists = []
+        for way in ("request", "reply"):
+            each = [found.without if found else [] for pair in pairs for it in pair if it for found in [self.rewriting(it, way)]]
+            together = list(dict.fromkeys(one for without in each for one in without))
+            if any(set(it) != set(together) for it in each):
+                self.out.change(f"realm {block.name}: its servers differ in what is taken out of a {way}: all of it counts for each")
+            for one in together[MOST:]:
+                self.out.lose(f"realm {block.name}: {one}: a list has {MOST} attributes")
+            lists.append(together[:MOST])
+        self.write_lists(*lists)
 
     def free_port(self, port):
         while (self.source, port) in self.used:
@@ -402,7 +458,7 @@ class Conversion:
         return endpoint_of(host, int(block.get("port", "1812")), self.options)
 
     def pairs(self, block):
-        """A server, its `auth` and its `acct` for each server of the realm."""
+        """Each server of the realm, with the one for its accounting, if there is one."""
         accounting = []
         for name in block.all("accountingserver"):
             server, fault = self.server(name)
@@ -421,12 +477,12 @@ class Conversion:
             partner = self.partner(server, accounting)
             if partner:
                 accounting.remove(partner)
-            pairs.append((server, self.endpoint(server), self.endpoint(partner) if partner else None))
+            pairs.append((server, partner))
         for server in accounting:
             self.out.lose(f"realm {block.name}: accountingserver {server.name}: no server of this realm has its"
                           " secret, or each has one already")
-        if pairs and not block.all("accountingserver"):
-            self.out.change(f"realm {block.name}: radsecproxy drops its accounting; roam forwards it to `acct`")
+        if pairs and block.all("accountingserver") and not any(partner for _, partner in pairs):
+            self.out.change(f"realm {block.name}: its accounting goes to no server here")
         return pairs
 
     def partner(self, server, accounting):
@@ -435,14 +491,16 @@ class Conversion:
         near = [one for one in same if self.endpoint(one)[0] == self.endpoint(server)[0]]
         return (near or same or [None])[0]
 
-    def write_server(self, server, auth, acct, taken):
-        out = self.out
+    def write_server(self, server, partner, is_forwarded, taken):
+        out, auth = self.out, self.endpoint(server)
+        acct = self.endpoint(partner) if partner else None
         out.put("")
         for host in server.all("host")[1:]:
             out.lose(f"server {server.name}: host {host}: a server has one address")
         known = {"host", "port", "type", "secret", "retrycount", "retryinterval", "source", "statusserver",
-                 "requiremessageauthenticator", "loopprevention"}
+                 "requiremessageauthenticator", "loopprevention", *REWRITES}
         out.lose_options(server, known)
+        self.tell_missing(server)
         if server.get("source"):
             out.change(f"server {server.name}: source {server.get('source')}: `out` of the realm is its source")
         if server.is_on("statusserver"):
@@ -451,7 +509,7 @@ class Conversion:
             out.lose(f"server {server.name}: {written(auth)} is a server of this realm already")
             return
         taken.add(auth)
-        if acct is None or acct in taken:
+        if is_forwarded and (acct is None or acct in taken):
             wanted = acct
             acct = auth
             while acct in taken:
@@ -461,7 +519,7 @@ class Conversion:
             else:
                 out.change(f"server {server.name} had no accounting of its own; roam wants an endpoint for it")
         taken.add(acct)
-        out.put("[[realm.server]]", f"auth = {written(auth)}", f"acct = {written(acct)}",
+        out.put("[[realm.server]]", f"auth = {written(auth)}", *([f"acct = {written(acct)}"] if acct else []),
                 f"secret = {toml(secret_of(server)[0])}")
         if server.is_on("requiremessageauthenticator"):
             out.put("require_seal = true")
@@ -474,34 +532,14 @@ class Conversion:
             self.out.lose(f"server {self.servers[name].name}: no realm uses it")
 
 
-def tidy(lines):
-    """One empty line between two parts, and none at the end."""
-    return re.sub(r"\n{3,}", "\n\n", "\n".join(lines)).strip("\n") + "\n"
-
-
 def main():
-    parser = argparse.ArgumentParser(description=__doc__, formatter_class=argparse.RawDescriptionHelpFormatter)
-    parser.add_argument("conf", help="the radsecproxy.conf")
-    parser.add_argument("--address", help="this machine's address, where the file names none")
-    parser.add_argument("--resolve", action="store_true", help="look names of clients and servers up, now")
-    parser.add_argument("--expand", type=int, default=16, help="a prefix of clients of at most so many addresses becomes a peer for each of them")
-    parser.add_argument("--out", type=int, default=20001, help="port of the first realm's `out`")
-    parser.add_argument("--reverse", type=int, default=30001, help="port of the first realm's `reverse`")
-    parser.add_argument("--max-pending", type=int, default=1000, help="of each realm")
-    options = parser.parse_args()
+    options = options_of(__doc__, "the radsecproxy.conf")
     try:
         conversion = Conversion(*blocks_of(options.conf), options)
         conversion.run()
     except (Unreadable, ValueError) as error:
         sys.exit(f"from-radsecproxy.py: {error}")
-    out = conversion.out
-    sys.stdout.write(tidy(out.lines))
-    print(f"peers {len(conversion.addresses)}, realms {conversion.realms}, not carried over {out.lost},"
-          f" changed {out.changed}", file=sys.stderr)
-    if not conversion.addresses or not conversion.realms:
-        sys.exit("from-radsecproxy.py: roam needs at least one peer and one realm")
-    if conversion.lost_tables:
-        sys.exit("from-radsecproxy.py: not carried over as a whole: " + printable(", ".join(conversion.lost_tables)))
+    closed("from-radsecproxy.py", conversion.out, len(conversion.addresses), conversion.realms, conversion.lost_tables)
 
 
 if __name__ == "__main__":

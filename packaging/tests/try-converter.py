@@ -1,9 +1,10 @@
 #!/usr/bin/env python3
 """try-converter.py [ROAM]
 
-Tries from-radsecproxy.py on a file of eduroam's kind, with 10 clients, 8 servers and 12 realms, and on one of 500
-realms. Where radsecproxy is installed, it judges both (`-p`). What is written has to keep docs/FILES.md, and to choose
-for each of many names the realm that radsecproxy chooses. Where a program ROAM is given, `roam check` judges it too.
+Tries from-radsecproxy.py on a file of eduroam's kind, with 10 clients, 8 servers and 12 realms, on one that rewrites
+attributes, and on one of 500 realms. Where radsecproxy is installed, it judges them (`-p`). What is written has to keep
+docs/FILES.md, and to choose for each of many names the realm that radsecproxy chooses. Where a program ROAM is given,
+`roam check` judges it too.
 """
 
 import os
@@ -17,6 +18,7 @@ import tomllib
 
 sys.dont_write_bytecode = True
 HERE = os.path.dirname(os.path.abspath(__file__))
+ROOT = os.path.dirname(os.path.dirname(HERE))
 INSTALLED = os.path.join(os.path.dirname(HERE), "installed")
 sys.path.insert(0, INSTALLED)
 import radsecproxy_conf  # noqa: E402
@@ -192,16 +194,165 @@ realm * {
 
 # Words that must stand in a comment, beside whether something is lost by it.
 TOLD = [("Not carried over", what) for what in (
-    "loglevel 3", "logdestination", "fticksreporting Full", "ftickskey:", "the block rewrite no-vlan", "rewritein",
+    "loglevel 3", "logdestination", "fticksreporting Full", "ftickskey:",
     "prefix 10.20.0.0/16", "IPv6", "localhost is a name", "90 octets", "192.0.2.1 is a client before it",
-    "realm /^$/", "realm suspended.example: it has no server, so radsecproxy rejects its names. The realm of * takes",
-    "realm /@.+\\.3gppnetwork\\.org$/: it has no server, so", "lab.home.example is never reached",
-    "accountingserver books", "accountingresponse on",
+    "lab.home.example is never reached", "accountingserver books",
     "realm six.example: none of its servers could be carried over. The realm of * takes",
     "realm /^[a-k].*@half\\.example$/: neither", "server spare: no realm")]
 TOLD += [("Changed", what) for what in (
     "takes Access and accounting", "loopprevention compares", "no Status-Server is sent",
-    "nothing behind its `@`", "radsecproxy drops its accounting")]
+    "realm /^$/: it has no server. Its names get an Access-Reject, without a Reply-Message",
+    "realm suspended.example: it has no server", "realm /@.+\\.3gppnetwork\\.org$/: it has no server",
+    "nothing behind its `@`", "its accounting goes to no server here")]
+
+# What an operator decides: of each option of rewrite blocks, loops, accounting and realms without a server.
+DECIDED = r"""# An operator who takes out, supplements and rejects
+ListenUDP 203.0.113.10:1812
+SourceUDP 203.0.113.10
+LoopPrevention on
+LogMAC FullyHashed
+
+rewrite defaultClient {
+    removeAttribute 126
+    addAttribute 126:'1visited.example
+    supplementAttribute 89:%00
+    removeVendorAttribute 9:1
+    removeVendorAttribute 311
+    modifyAttribute 1:/^(.*)@local$/\1@a.example/
+    addAttribute 6:2
+    supplementAttribute 126:1visited.example
+    removeAttribute 33
+}
+rewrite guests {
+    removeAttribute 64
+    removeAttribute 65
+    removeAttribute 81
+    removeAttribute 81
+    supplementAttribute 27:3600
+}
+rewrite only-some {
+    whitelistMode on
+    whitelistAttribute 1
+}
+rewrite towards-home {
+    removeAttribute 30
+    supplementAttribute 126:'1everybody.example
+}
+rewrite spare {
+    removeAttribute 6
+}
+
+client one {
+    host 192.0.2.1
+    type udp
+    secret of-one
+    rewriteOut guests
+}
+client two {
+    host 192.0.2.2
+    type udp
+    secret of-two
+    rewriteIn only-some
+}
+client upper {
+    host 198.51.100.1
+    type udp
+    secret of-upper
+    rewriteIn guests
+}
+client elsewhere {
+    host 192.0.2.4
+    type udp
+    secret of-elsewhere
+    rewrite towards-home
+}
+
+server upper {
+    host 198.51.100.1
+    type udp
+    secret of-upper
+    rewriteIn guests
+}
+server home {
+    host 198.51.100.17
+    type udp
+    secret of-home
+    rewriteOut towards-home
+}
+server home-2 {
+    host 198.51.100.18
+    type udp
+    secret of-home
+    loopPrevention off
+}
+server elsewhere {
+    host 198.51.100.33
+    type udp
+    secret of-elsewhere
+}
+
+realm shut.a.example {
+}
+realm /@(.+\.)?a\.example$/ {
+    server home
+    server home-2
+    accountingServer home
+    accountingServer home-2
+}
+realm b.example {
+    server elsewhere
+    accountingResponse on
+}
+realm c.example {
+    server elsewhere
+}
+realm /@.+\.3gppnetwork\.org$/ {
+    replyMessage "no telephones"
+    accountingResponse on
+}
+realm * {
+    server upper
+}
+"""
+
+DECIDED_TOLD = [("Not carried over", what) for what in (
+    "the block rewrite defaultClient, for requests of a client: modifyattribute",
+    "the block rewrite defaultClient, for requests of a client: addattribute 6:2",
+    "the block rewrite defaultClient, for requests of a client: supplementattribute 126:1visited.example",
+    "the block rewrite defaultClient, for requests of a client: removeattribute 33",
+    "the block rewrite guests, for replies of a client: supplementattribute 27:3600",
+    "the block rewrite only-some, for requests of a client: whitelistmode on",
+    "the block rewrite towards-home, for requests of a server: supplementattribute 126:'1everybody.example",
+    "the block rewrite spare: nothing uses it", "loopprevention of server elsewhere: the client of this name has another address",
+    "accountingresponse on: accounting of a name that is rejected")]
+DECIDED_TOLD += [("Changed", what) for what in (
+    "asks for a Chargeable-User-Identity in accounting too", "its servers differ in what is taken out of a request",
+    "realm shut.a.example: it has no server. Its names get an Access-Reject, where radsecproxy keeps silent")]
+# Options of radsecproxy 1.11, which an older one doesn't know.
+NEWER = """ListenUDP 203.0.113.10:1812
+client one {
+    host 192.0.2.1
+    type udp
+    secret of-one
+    requireMessageAuthenticatorProxy on
+}
+client two {
+    host 192.0.2.2
+    type udp
+    secret of-two
+    requireMessageAuthenticator on
+    requireMessageAuthenticatorProxy on
+}
+server home {
+    host 198.51.100.17
+    type udp
+    secret of-home
+    requireMessageAuthenticator on
+}
+realm a.example {
+    server home
+}
+"""
 
 
 # Expressions over the User-Name, and what they take of names behind its `@`: None where that isn't names and ends.
@@ -243,7 +394,7 @@ EXPRESSIONS = [
 
 
 # What of it is lost as a whole.
-LOST = ["client dormitories", "client of-six", "client named", "client long", "realm /^$/", "realm six.example",
+LOST = ["client dormitories", "client of-six", "client named", "client long", "realm six.example",
         r"realm /^[a-k].*@half\.example$/"]
 
 
@@ -283,26 +434,42 @@ def is_endpoint(text):
     return re.fullmatch(r"(\d{1,3}\.){3}\d{1,3}", host) and in_range(int(port), 1, 65535)
 
 
+def keeps_lists(table):
+    """Attributes that don't pass."""
+    for key, kept in (("request_without", (1, 2, 3, 24, 33, 60, 79, 80)), ("reply_without", (24, 33, 79, 80))):
+        without = table.get(key, [])
+        assert len(set(without)) == len(without) <= 64
+        for one in without:
+            numbers = [int(it) for it in one.split(".")]
+            assert one == ".".join(map(str, numbers)) and in_range(numbers[0], 1, 255) and numbers[0] not in kept
+            assert len(numbers) == 1 or numbers[0] == 26 and len(numbers) <= 3
+
+
 def keeps_the_rules(conf):
-    assert set(conf) <= {"shards", "seed", "auth", "acct", "trace_limit", "trace_octets", "max_hops", "status_server",
-                         "spread", "control", "log_exchanges", "log_station", "peer", "realm"}
+    assert set(conf) <= {"auth", "acct", "max_hops", "status_server", "answer_unnamed", "reject", "control", "log_exchanges", "log_station",
+                         "peer", "realm"}
     assert 1 <= len(conf["peer"]) <= 1024 and 1 <= len(conf["realm"]) <= 1024
     for peer in conf["peer"]:
-        assert set(peer) <= {"name", "ip", "secret", "require_seal"}
+        assert set(peer) <= {"name", "ip", "secret", "require_seal", "limit_proxy_state", "operator_name", "ask_cui",
+                             "request_without", "reply_without", "coa", "nas_ip"}
+        keeps_lists(peer)
         assert re.fullmatch(r"[A-Za-z0-9._-]{1,64}", peer["name"]) and 1 <= len(peer["secret"].encode()) <= 64
     names, endpoints = [], [conf["auth"], conf["acct"]]
     for realm in conf["realm"]:
-        assert set(realm) <= {"name", "also", "out", "reverse", "tries", "wait", "rest", "rest_after", "hold",
-                              "max_pending", "max_sessions", "server"}
+        assert set(realm) <= {"name", "also", "out", "reverse", "tries", "wait", "rest", "rest_after", "hold", "max_pending", "accounting",
+                              "loop_prevention", "request_without", "reply_without", "server"}
+        keeps_lists(realm)
         names += [realm["name"]] + realm.get("also", [])
-        endpoints += [realm["out"], realm["reverse"]]
-        servers = [server[key] for server in realm["server"] for key in ("auth", "acct")]
+        endpoints += [realm[key] for key in ("out", "reverse") if key in realm]
+        assert realm.get("accounting") in (None, "answer", "drop")
+        assert all(("acct" in server) == ("accounting" not in realm) for server in realm["server"])
+        servers = [server[key] for server in realm["server"] for key in ("auth", "acct") if key in server]
         assert len(set(servers)) == len(servers) and all(map(is_endpoint, servers))
         assert 1 <= len(realm["server"]) <= 8 and len(realm.get("also", [])) <= 256
-        assert in_range(realm["tries"], 1, 10) and in_range(realm["wait"], 1, 60000)
-        assert in_range(realm["rest"], 0, 3600000) and in_range(realm["rest_after"], 1, 256)
-        assert in_range(realm["hold"], 0, 60000) and in_range(realm["max_pending"], 1, 4096)
-        assert in_range(realm["max_sessions"], 0, 65536)
+        assert in_range(realm.get("tries", 3), 1, 10) and in_range(realm.get("wait", 2000), 1, 60000)
+        assert in_range(realm.get("rest", 30000), 0, 3600000) and in_range(realm.get("rest_after", 3), 1, 256) and in_range(realm.get("hold", 10000), 0, 60000)
+    assert len(conf.get("reject", [])) <= 1024 and "*" not in conf.get("reject", [])
+    names += conf.get("reject", [])
     for name in names:
         assert re.fullmatch(r"(\*\.)?[A-Za-z0-9.-]{1,253}|\*", name), name
     for unique in ([name.lower() for name in names], endpoints, [peer["ip"] for peer in conf["peer"]],
@@ -315,8 +482,8 @@ def realm_in_roam(conf, user):
     if "@" not in user:
         return None
     name, best = user.rpartition("@")[2].lower(), None
-    for realm in conf["realm"]:
-        for pattern in [realm["name"]] + realm.get("also", []):
+    for realm in conf["realm"] + [None]:
+        for pattern in [realm["name"]] + realm.get("also", []) if realm else conf.get("reject", []):
             pattern = pattern.lower()
             fits = pattern == name or pattern == "*" and name or (
                 pattern.startswith("*.") and name.endswith(pattern[1:]) and len(name) >= len(pattern))
@@ -373,17 +540,16 @@ def with_origin(conf, blocks):
         realm["of"] = block.name
 
 
-# Realms of the first file that roam can't have: lost, or rejected there and taken by `*` here.
-NOT_CARRIED = {"/^$/", "/@(.+\\.)?myabc\\.com$/", "/@.+\\.3gppnetwork\\.org$/", "suspended.example", "lab.home.example",
-               "six.example", "/^[a-k].*@half\\.example$/"}
+# Realms of the first file that roam can't have.
+NOT_CARRIED = {"lab.home.example", "six.example", "/^[a-k].*@half\\.example$/"}
 
 
-def look_over(name, text, peers, realms, told, lost, roam):
+def look_over(name, text, peers, realms, told, lost, roam, is_old=True):
     with tempfile.TemporaryDirectory() as directory:
         path = os.path.join(directory, name)
         with open(path, "w") as file:
             file.write(text)
-        if shutil.which("radsecproxy"):
+        if is_old and shutil.which("radsecproxy"):
             judged = run(["radsecproxy", "-p", "-c", path])
             assert judged.returncode == 0, judged.stderr
         written, counted = converted(path, lost)
@@ -415,14 +581,52 @@ def read_expressions():
     print(f"{len(EXPRESSIONS)} expressions")
 
 
+def network():
+    """The network of docs/MIGRATING.md: what the page has of it is what the converter writes, but for what is new there."""
+    with open(os.path.join(ROOT, "docs", "MIGRATING.md"), encoding="utf-8") as file:
+        page = tomllib.loads(file.read().split("```toml\n")[1].split("```")[0])
+    written, counted = converted(os.path.join(ROOT, "examples", "migrating", "radsecproxy.conf"), [])
+    made, usual = tomllib.loads(written), {"tries": 3, "wait": 2000, "rest": 30000, "rest_after": 3, "hold": 10000}
+    for here, there in ((page, made), (page["peer"][0], made["peer"][0]), (page["realm"][0], made["realm"][0])):
+        for key, value in there.items():
+            assert key in ("peer", "realm", "control") or here.get(key, usual.get(key)) == value, (key, value)
+        new = {key for key in here if key not in there and usual.get(key) != here[key]}
+        assert new <= {"require_seal", "coa", "nas_id", "reverse"}, new
+    print(f"examples/migrating: {counted.strip()}; as docs/MIGRATING.md has it")
+
+
+def decided(conf):
+    """What became of each option of DECIDED."""
+    one, two, upper, elsewhere = conf["peer"]
+    assert one["operator_name"] == "visited.example" and one["ask_cui"] and one["request_without"] == ["126", "26.9.1", "26.311"]
+    assert one["reply_without"] == ["64", "65", "81"]
+    assert set(two) == {"name", "ip", "secret"}
+    assert upper["request_without"] == ["64", "65", "81"] and "reply_without" not in upper and "operator_name" not in upper
+    assert elsewhere["operator_name"] == "everybody.example" and elsewhere["request_without"] == ["30"]
+    a, b, c, every = conf["realm"]
+    assert a["name"] == "a.example" and a["request_without"] == ["30"] and "accounting" not in a and "loop_prevention" not in a
+    assert b["accounting"] == "answer" and c["accounting"] == "drop" and "loop_prevention" not in b
+    assert every["loop_prevention"] and every["reply_without"] == ["64", "65", "81"] and every["accounting"] == "drop"
+    assert conf["reject"] == ["shut.a.example", "*.3gppnetwork.org"] and conf["log_exchanges"] == "none"
+
+
 def main():
     roam = sys.argv[1] if len(sys.argv) > 1 else None
     read_expressions()
+    network()
     conf = look_over("eduroam.conf", EDUROAM, 9, 4, TOLD, LOST, roam)
-    assert "log_exchanges" not in conf and conf["control"] == "/run/roam/control"
+    assert "log_exchanges" not in conf and conf["control"] == "/run/roam/control" and conf["answer_unnamed"]
+    assert conf["reject"] == ["myabc.com", "*.myabc.com", "*.3gppnetwork.org", "suspended.example"]
+    assert [realm.get("accounting") for realm in conf["realm"]] == [None, "drop", "answer", None]
+    assert [peer["name"] for peer in conf["peer"] if peer.get("request_without") == ["81"]] == ["wired", "wired-2", "wired-3", "wired-4"]
     assert [peer["secret"] for peer in conf["peer"]][:3] == ["a\\bcA d"] + ['it is "quoted"'] * 2
-    assert conf["realm"][3]["also"] == ["*"] and conf["realm"][3]["tries"] == 2 and conf["realm"][3]["wait"] == 3000
+    last = conf["realm"][3]
+    assert last["also"] == ["*"] and last["tries"] == 2 and last["wait"] == 3000 and last["loop_prevention"] and last["rest_after"] == 50
     assert [server["acct"] for server in conf["realm"][0]["server"]] == ["198.51.100.17:1813", "198.51.100.18:11813"]
+    decided(look_over("decided.conf", DECIDED, 4, 4, DECIDED_TOLD, [], roam))
+    newer = look_over("newer.conf", NEWER, 2, 1, [], [], roam, is_old=False)
+    assert [(peer.get("require_seal"), peer.get("limit_proxy_state")) for peer in newer["peer"]] == [(None, True), (True, None)]
+    assert newer["realm"][0]["accounting"] == "drop" and newer["realm"][0]["server"][0]["require_seal"]
     look_over("five-hundred.conf", five_hundred(), 100, 500, [], [], roam)
     private = look_over("private.conf", "LogFullUsername off\n" + five_hundred(), 100, 500, [], [], roam)
     assert private["log_exchanges"] == "none"

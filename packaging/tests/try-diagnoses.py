@@ -82,8 +82,8 @@ class Sample:
 
 TOP, ONE_PEER, REALM, SERVER = None, "[[peer]]", "[[realm]]", "[[realm.server]]"
 # What the sample leaves to the defaults, and a mistake may be made in.
-UNSAID_AT_THE_TOP = {"shards": "1", "seed": '"' + "0" * 64 + '"'}
-UNSAID = {"tries": "3", "wait": "2000", "rest": "30000", "rest_after": "3", "hold": "10000"}
+UNSAID_AT_THE_TOP = {"shards": "1", "seed": '"' + "0" * 64 + '"', "trace_limit": "50000", "trace_octets": "16777216", "spread": "true"}
+UNSAID = {"tries": "3", "wait": "2000", "rest": "30000", "rest_after": "3", "hold": "10000", "max_pending": "500", "max_sessions": "2000"}
 NAMES = {TOP: "", ONE_PEER: PEER + ": "}
 
 

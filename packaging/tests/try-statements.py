@@ -19,7 +19,7 @@ sys.dont_write_bytecode = True
 ROOT = os.path.dirname(os.path.dirname(os.path.dirname(os.path.abspath(__file__))))
 FOLDERS = ("packaging/samples", "examples")
 # What counts where one of these is absent can't be written.
-WITHOUT_DEFAULT = {"max_hops", "metrics", "control", "coa", "nas_ip", "nas_id", "reverse"}
+WITHOUT_DEFAULT = {"max_hops", "metrics", "control", "coa", "nas_ip", "nas_id", "reverse", "operator_name", "peers", "share", "acct"}
 USAGE = "usage: roam check CONF\n"
 
 

@@ -1,75 +1,33 @@
 -- What the returned packet carries of the reply.
-use Rattle.std.proofs.Common.{◌≡◌, ◌≢◌, ℕ, Bool, true, false, inl, inr, List, [], ◌∷◌, ◌++◌, map, refl, ap, ◌∙◌, arith}
-use Rattle.std.specs.Prelude.{if◌then◌else◌, ◌==◌}
+use Rattle.std.proofs.Common.{◌≡◌, ◌≢◌, ℕ, true, false, inl, inr, List, [], ◌∷◌, ◌++◌, map, refl, ap, ◌∙◌, arith}
+use Rattle.std.specs.Prelude.{◌==◌}
 use Rattle.std.specs.List.{AllZip}
 use Rattle.std.proofs.lemmas.Bool.{cases_Bool, eq-eqb, ne_eqb}
 use Rattle.std.proofs.lemmas.List.{map-append}
 use Rattle.roam_wire.specs.Packet.{Attribute, Packet}
 use Rattle.roam_wire.specs.Attributes.{has_kind, count_of, only_kind, without_kind}
-use Rattle.roam_wire.specs.declared.attribute_type.TheConstants.{PROXY_STATE, MESSAGE_AUTHENTICATOR, TUNNEL_PASSWORD, VENDOR_SPECIFIC}
+use Rattle.roam_wire.specs.declared.attribute_type.TheConstants.{PROXY_STATE, MESSAGE_AUTHENTICATOR}
 use Rattle.roam_wire.specs.declared.code.TheConstants.{ACCESS_ACCEPT}
 use Rattle.roam_auth.specs.Authenticators.{zero_octets}
 use Rattle.roam_auth.specs.MessageAuthenticator.{attribute_with_value, attributes_with_value}
 use Rattle.roam_auth.proofs.ValueLemmas.{stands_in_place}
 use Rattle.roam_auth.proofs.SealingLemmas.{count_of-append}
-use Rattle.roam_hide.specs.Hiding.{Key}
-use Rattle.roam_hide.specs.SaltedFunctions.{tunnel_anew, vendor_anew}
-use Rattle.roam_hide.specs.SaltedValues.{IsTunnelAnew, IsVendorAnew}
-use Rattle.roam_hide.proofs.SaltedFunctionLemmas.{tunnel_anew_is, vendor_anew_is}
+use Rattle.roam_hide.specs.SaltedValues.{IsAttributeAnew}
+use Rattle.roam_hide.proofs.VendorLemmas.{salted_hidden_anew_is}
 use Rattle.roam_wire.specs.Codes.{is_access_reply}
 use Rattle.roam_back.specs.Returned.{Returning, proxy_states, with_salted_anew, returned_attributes, returned}
-use Rattle.roam_back.specs.CarriedLaws.{own_attributes, IsCarriedBack}
+use Rattle.roam_back.specs.CarriedLaws.{own_attributes}
 use Rattle.roam_back.proofs.ReturnedLemmas.{count_of-only, other_kind, carried-others}
 use Rattle.roam_back.proofs.EveryCodeLemmas.{carried-access, count_of-rest, access_rest, seal_of, seal_apart}
 use Rattle.roam_back.proofs.PlainLemmas.{from_key, to_key, accept_is_access}
 
--- ---- an attribute of an Access-Accept
-
-first_of : (P : List ℕ → Type 0) (a b : Bool) (x y z : List ℕ) → a ≡ true → P x →
-    P (if a then x else if b then y else z)
-first_of P true b x y z is h = h
-first_of P false b x y z is h = absurd (cc)
-
-second_of : (P : List ℕ → Type 0) (a b : Bool) (x y z : List ℕ) → a ≡ false → b ≡ true → P y →
-    P (if a then x else if b then y else z)
-second_of P true b x y z other is h = absurd (cc)
-second_of P false true x y z other is h = h
-second_of P false false x y z other is h = absurd (cc)
-
-neither_of : (a b : Bool) (x y z : List ℕ) → a ≡ false → b ≡ false → (if a then x else if b then y else z) ≡ z
-neither_of true b x y z first second = absurd (cc)
-neither_of false true x y z first second = absurd (cc)
-neither_of false false x y z first second = refl
-
-vendor_is_no_tunnel : (a : Attribute) → a.kind ≡ VENDOR_SPECIFIC → a.kind ≢ TUNNEL_PASSWORD
-vendor_is_no_tunnel a vendor tunnel = absurd (omega (arith, vendor, tunnel))
-
-carried_one : (r : Returning) (request : Packet) (a : Attribute) →
-    IsCarriedBack (from_key r) (to_key r request) a (with_salted_anew r request a)
-carried_one r request a =
-    let from : Key = from_key r in
-    let to : Key = to_key r request in
-    let tunnel : Bool = a.kind == TUNNEL_PASSWORD in
-    let vendor : Bool = a.kind == VENDOR_SPECIFIC in
-    let x : List ℕ = tunnel_anew from to a.value in
-    let y : List ℕ = vendor_anew from to a.value in
-    record {
-      kind = refl;
-      tunnel_password = λ is. first_of (IsTunnelAnew from to a.value) tunnel vendor x y a.value
-          (eq-eqb a.kind TUNNEL_PASSWORD is) (tunnel_anew_is from to a.value);
-      vendor_specific = λ is. second_of (IsVendorAnew from to a.value) tunnel vendor x y a.value
-          (ne_eqb a.kind TUNNEL_PASSWORD (vendor_is_no_tunnel a is)) (eq-eqb a.kind VENDOR_SPECIFIC is)
-          (vendor_anew_is from to a.value);
-      other = λ no_tunnel no_vendor. neither_of tunnel vendor x y a.value (ne_eqb a.kind TUNNEL_PASSWORD no_tunnel)
-          (ne_eqb a.kind VENDOR_SPECIFIC no_vendor);
-    }
+-- ---- an Access reply
 
 carried_all : (r : Returning) (request : Packet) (all : List Attribute) →
-    AllZip (IsCarriedBack (from_key r) (to_key r request)) all (map (with_salted_anew r request) all)
+    AllZip (IsAttributeAnew (from_key r) (to_key r request)) all (map (with_salted_anew r request) all)
 carried_all r request [] = tt
-carried_all r request (a ∷ all) = (carried_one r request a, carried_all r request all)
-
--- ---- an Access reply
+carried_all r request (a ∷ all) =
+    (salted_hidden_anew_is (from_key r) (to_key r request) a, carried_all r request all)
 
 -- the Message-Authenticator's Value is the only one that is filled in
 filled_in : (r : Returning) (reply request : Packet) → is_access_reply reply.code ≡ true →
@@ -94,7 +52,7 @@ filled_in r reply request access =
 pub accept_carries : (r : Returning) (reply request : Packet) → reply.code ≡ ACCESS_ACCEPT → (seal : List ℕ)
     × (carried : List Attribute) × ((returned r reply request).attributes
     ≡ (record { kind = MESSAGE_AUTHENTICATOR; value = seal } ∷ carried) ++ proxy_states request)
-    × AllZip (IsCarriedBack (from_key r) (to_key r request)) (own_attributes reply) carried
+    × AllZip (IsAttributeAnew (from_key r) (to_key r request)) (own_attributes reply) carried
 accept_carries r reply request is =
     let own : List Attribute = own_attributes reply in
     let accept : (reply.code == ACCESS_ACCEPT) ≡ true = eq-eqb reply.code ACCESS_ACCEPT is in

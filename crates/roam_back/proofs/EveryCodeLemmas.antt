@@ -7,7 +7,7 @@ use Rattle.std.proofs.lemmas.List.Sums.{sum_by-cons}
 use Rattle.std.proofs.lemmas.List.Elements.{filter-append}
 use Rattle.roam_wire.specs.Packet.{AreOctets, Attribute, IsAttribute, Packet, IsPacket, packet_length}
 use Rattle.roam_wire.specs.Attributes.{has_kind, count_of, only_kind, without_kind}
-use Rattle.roam_wire.specs.declared.attribute_type.TheConstants.{PROXY_STATE, TUNNEL_PASSWORD, VENDOR_SPECIFIC}
+use Rattle.roam_wire.specs.declared.attribute_type.TheConstants.{PROXY_STATE}
 use Rattle.roam_wire.specs.declared.code.TheConstants.{ACCESS_ACCEPT}
 use Rattle.roam_wire.specs.declared.attribute_type.TheConstants.{MESSAGE_AUTHENTICATOR}
 use Rattle.roam_auth.specs.Authenticators.{response_authenticator, IsSignedReply}
@@ -18,9 +18,8 @@ use Rattle.roam_auth.proofs.DigestLemmas.{IsPacket-signed_reply, length-message_
 use Rattle.roam_auth.proofs.SealingLemmas.{count_of-append}
 use Rattle.roam_wire.proofs.OctetLemmas.{AreOctets-zeros}
 use Rattle.roam_hide.specs.Hiding.{Key}
-use Rattle.roam_hide.specs.SaltedFunctions.{tunnel_anew, vendor_anew}
-use Rattle.roam_hide.proofs.SaltedFunctionLemmas.{tunnel_anew_is, vendor_anew_is, length_tunnel_anew, length_vendor_anew}
-use Rattle.roam_hide.proofs.OctetLemmas.{AreOctets-tunnel_anew, AreOctets-vendor_anew}
+use Rattle.roam_hide.proofs.VendorLemmas.{salted_hidden_anew_is, length_attribute_anew}
+use Rattle.roam_hide.proofs.OctetLemmas.{AreOctets-attribute_anew}
 use Rattle.roam_wire.specs.Codes.{is_access_reply}
 use Rattle.roam_back.specs.Returned.{Returning, proxy_states, with_salted_anew, returned_attributes, unsealed_return, sealed_return, returned, returned_length}
 use Rattle.roam_auth.proofs.SignedLemmas.{IsPacket-sealed}
@@ -28,38 +27,21 @@ use Rattle.roam_back.proofs.ReturnedLemmas.{other_kind, count_of-without_itself,
 
 -- ---- salted strings hidden anew
 
--- the Value chosen has as many octets
-same_size : (tunnel vendor : Bool) (x y z : List ℕ) → length x ≡ length z → length y ≡ length z →
-    length (if tunnel then x else if vendor then y else z) ≡ length z
-same_size true vendor x y z first second = first
-same_size false true x y z first second = second
-same_size false false x y z first second = refl
-
+-- the Value has as many octets
 pub salted_size : (r : Returning) (request : Packet) (a : Attribute) →
     length (with_salted_anew r request a).value ≡ length a.value
 salted_size r request a =
     let from : Key = record { secret = r.home_secret; first = r.forwarded_authenticator } in
     let to : Key = record { secret = r.client_secret; first = request.authenticator } in
-    same_size (a.kind == TUNNEL_PASSWORD) (a.kind == VENDOR_SPECIFIC) (tunnel_anew from to a.value)
-    (vendor_anew from to a.value) a.value
-    (length_tunnel_anew from to a.value (tunnel_anew from to a.value) (tunnel_anew_is from to a.value))
-    (length_vendor_anew from to a.value (vendor_anew from to a.value) (vendor_anew_is from to a.value))
+    length_attribute_anew from to a (with_salted_anew r request a) (salted_hidden_anew_is from to a)
 
 -- and is octets
-either_octets : (tunnel vendor : Bool) (x y z : List ℕ) → AreOctets x → AreOctets y → AreOctets z →
-    AreOctets (if tunnel then x else if vendor then y else z)
-either_octets true vendor x y z first second third = first
-either_octets false true x y z first second third = second
-either_octets false false x y z first second third = third
-
 salted_octets : (r : Returning) (request : Packet) (a : Attribute) → AreOctets a.value →
     AreOctets (with_salted_anew r request a).value
 salted_octets r request a h =
     let from : Key = record { secret = r.home_secret; first = r.forwarded_authenticator } in
     let to : Key = record { secret = r.client_secret; first = request.authenticator } in
-    either_octets (a.kind == TUNNEL_PASSWORD) (a.kind == VENDOR_SPECIFIC) (tunnel_anew from to a.value)
-    (vendor_anew from to a.value) a.value (AreOctets-tunnel_anew from to a.value h)
-    (AreOctets-vendor_anew from to a.value h) h
+    AreOctets-attribute_anew from to a h
 
 pub short_salted : (r : Returning) (request : Packet) (all : List Attribute) → AllByRecursion IsAttribute all →
     AllByRecursion IsAttribute (map (with_salted_anew r request) all)

@@ -11,7 +11,8 @@ use Rattle.roam_wire.specs.declared.code.TheConstants.{ACCESS_ACCEPT}
 use Rattle.roam_wire.specs.declared.removed_attribute.RemovedAttribute.{RemovedAttribute}
 use Rattle.roam_filter.specs.Without.{without}
 use Rattle.roam_filter.proofs.WithoutLemmas.{without_kind-without}
-use Rattle.roam_back.specs.CarriedLaws.{IsCarriedBack, own_attributes}
+use Rattle.roam_hide.specs.SaltedValues.{IsAttributeAnew}
+use Rattle.roam_back.specs.CarriedLaws.{own_attributes}
 use Rattle.roam_back.specs.PassingLaws.{AcceptCarriesWhatPasses, AccessPasses, NothingNamed, OthersPassWhole}
 use Rattle.roam_back.specs.Returned.{passing, passing_reply}
 use Rattle.roam_back.proofs.CarriedLemmas.{accept_carries}
@@ -39,7 +40,7 @@ accept_carries_what_passes r removed reply request is =
       all.0,
       all.1,
       all.2,
-      subst (λ (own : List Attribute). AllZip (IsCarriedBack (from_key r) (to_key r request)) own all.1)
+      subst (λ (own : List Attribute). AllZip (IsAttributeAnew (from_key r) (to_key r request)) own all.1)
           (access_passes removed reply access) all.3,
     )
 

@@ -1,5 +1,5 @@
 -- The returned packet before its salted strings are hidden anew: its size, its octets, what it becomes.
-use Rattle.std.proofs.Common.{◌≡◌, ℕ, ◌+◌, ◌≤◌, Bool, true, false, inl, inr, List, [], ◌∷◌, ◌++◌, length, map, filter, take, drop, refl, sym, ap, subst, ◌∙◌, arith, length-append}
+use Rattle.std.proofs.Common.{◌≡◌, ℕ, ◌+◌, ◌≤◌, Bool, true, false, inl, inr, List, [], ◌∷◌, ◌++◌, length, map, filter, take, drop, None, refl, sym, ap, subst, ◌∙◌, arith, length-append}
 use Rattle.std.specs.Prelude.{◌==◌, if◌then◌else◌}
 use Rattle.std.specs.List.{AllByRecursion}
 use Rattle.std.proofs.lemmas.Bool.{cases_Bool, eqb-true}
@@ -15,6 +15,8 @@ use Rattle.roam_auth.proofs.SealingLemmas.{length-attributes_text-append}
 use Rattle.roam_hide.specs.declared.packet_values.Hidden.TheVariants.{SaltedStrings}
 use Rattle.roam_hide.specs.Hiding.{Key}
 use Rattle.roam_hide.specs.PacketAnew.{packet_anew, CanBeHiddenAnew}
+use Rattle.roam_hide.specs.SaltedKinds.{salting_of}
+use Rattle.roam_hide.proofs.VendorLemmas.{unsalted_stays, proxy_state_unsalted, message_authenticator_unsalted}
 use Rattle.roam_wire.specs.Codes.{is_access_reply}
 use Rattle.roam_back.specs.Returned.{Returning, proxy_states, with_salted_anew, returned_attributes, unsealed_return, returned_length}
 use Rattle.roam_back.specs.Private.Plain.{is_carried, first_seal, plain_attributes, plain_packet}
@@ -50,10 +52,10 @@ carried-some (a ∷ all) =
 -- what isn't salted stays
 stays : (r : Returning) (request : Packet) (a : Attribute) → a.kind ≡ PROXY_STATE → with_salted_anew r request a ≡ a
 stays r request a is =
-    ap (λ (kind : ℕ). record (with_salted_anew r request (record { kind = kind; value = a.value })) {
-      kind =
-          a.kind;
-    }) is
+    let from : Key = record { secret = r.home_secret; first = r.forwarded_authenticator } in
+    let to : Key = record { secret = r.client_secret; first = request.authenticator } in
+    unsalted_stays from to a (ap (salting_of None) is ∙ proxy_state_unsalted)
+    (λ vendor. absurd (omega (arith, is, vendor)))
 
 proxy_states-stay : (r : Returning) (request : Packet) (all : List Attribute) →
     map (with_salted_anew r request) (only_kind PROXY_STATE all) ≡ only_kind PROXY_STATE all
@@ -67,10 +69,24 @@ proxy_states-stay r request (a ∷ all) =
       | inr further ↦ rw further (proxy_states-stay r request all)
     ]
 
-seal-stays : (r : Returning) (request : Packet) (access : Bool) →
-    map (with_salted_anew r request) (first_seal access) ≡ first_seal access
-seal-stays r request true = refl
-seal-stays r request false = refl
+-- and so does a Message-Authenticator
+abbrev IsSeal : Attribute → Type 0
+IsSeal a = a.kind ≡ MESSAGE_AUTHENTICATOR
+
+seals-stay : (r : Returning) (request : Packet) (all : List Attribute) → AllByRecursion IsSeal all →
+    map (with_salted_anew r request) all ≡ all
+seals-stay r request [] h = refl
+seals-stay r request (a ∷ all) h =
+    let from : Key = record { secret = r.home_secret; first = r.forwarded_authenticator } in
+    let to : Key = record { secret = r.client_secret; first = request.authenticator } in
+    let here = unsalted_stays from to a (ap (salting_of None) h.0 ∙ message_authenticator_unsalted)
+    (λ vendor. absurd (omega (arith, h.0, vendor))) in
+    ap (λ (x : Attribute). x ∷ map (with_salted_anew r request) all) here
+    ∙ ap (λ (l : List Attribute). a ∷ l) (seals-stay r request all h.1)
+
+seals-first : (access : Bool) → AllByRecursion IsSeal (first_seal access)
+seals-first true = (refl, tt)
+seals-first false = tt
 
 -- the octets are as many
 length-salted : (r : Returning) (request : Packet) (all : List Attribute) →
@@ -98,7 +114,8 @@ between-anew r request access own =
     ∙ ap (λ (l : List Attribute). map anew (first_seal access ++ own) ++ l)
     (proxy_states-stay r request request.attributes)
     ∙ ap (λ (l : List Attribute). l ++ proxy_states request) (map-append anew (first_seal access) own)
-    ∙ ap (λ (l : List Attribute). l ++ map anew own ++ proxy_states request) (seal-stays r request access)
+    ∙ ap (λ (l : List Attribute). l ++ map anew own ++ proxy_states request)
+    (seals-stay r request (first_seal access) (seals-first access))
 
 -- a packet with the header that is returned
 abbrev with_header : Packet → Packet → List Attribute → Packet

@@ -4,11 +4,11 @@ use Rattle.std.specs.Prelude.{◌≡◌, ◌≢◌, ℕ, true, false, List, [], 
 use Rattle.std.specs.List.{AllZip}
 use Rattle.roam_wire.specs.Packet.{Attribute, Packet}
 use Rattle.roam_wire.specs.Attributes.{without_kind}
-use Rattle.roam_wire.specs.declared.attribute_type.TheConstants.{PROXY_STATE, MESSAGE_AUTHENTICATOR, TUNNEL_PASSWORD, VENDOR_SPECIFIC}
+use Rattle.roam_wire.specs.declared.attribute_type.TheConstants.{PROXY_STATE, MESSAGE_AUTHENTICATOR}
 use Rattle.roam_wire.specs.declared.code.TheConstants.{ACCESS_ACCEPT}
 use Rattle.roam_auth.specs.MessageAuthenticator.{attributes_with_value}
 use Rattle.roam_hide.specs.Hiding.{Key}
-use Rattle.roam_hide.specs.SaltedValues.{IsTunnelAnew, IsVendorAnew}
+use Rattle.roam_hide.specs.SaltedValues.{IsAttributeAnew}
 use Rattle.roam_wire.specs.Codes.{is_access_reply}
 use Rattle.roam_back.specs.Returned.{Returning, proxy_states, returned}
 
@@ -16,17 +16,9 @@ use Rattle.roam_back.specs.Returned.{Returning, proxy_states, returned}
 abbrev pub own_attributes : Packet → List Attribute
 own_attributes reply = without_kind MESSAGE_AUTHENTICATOR (without_kind PROXY_STATE reply.attributes)
 
--- an attribute of an Access-Accept as it is carried to the requester: salted strings hide the same plain
--- texts with the other key, and all else is the same octet for octet (RFC 2868, section 3.5; RFC 2548,
--- section 2.4)
-pub record IsCarriedBack (from to : Key) (old new : Attribute) : Type 0 where
-  pub kind : new.kind ≡ old.kind
-  pub tunnel_password : old.kind ≡ TUNNEL_PASSWORD → IsTunnelAnew from to old.value new.value
-  pub vendor_specific : old.kind ≡ VENDOR_SPECIFIC → IsVendorAnew from to old.value new.value
-  pub other : old.kind ≢ TUNNEL_PASSWORD → old.kind ≢ VENDOR_SPECIFIC → new.value ≡ old.value
-
--- An Access-Accept's attributes: a Message-Authenticator, then each of the reply's own in their order,
--- then the request's Proxy-States.
+-- An Access-Accept's attributes: a Message-Authenticator, then each of the reply's own in their order, whose salted
+-- strings hide the same plain texts with the other key, all else octet for octet (RFC 2868, section 3.5; RFC 2548,
+-- section 2.4), then the request's Proxy-States.
 abbrev pub AcceptCarriesAll : Type 0
 AcceptCarriesAll = (r : Returning) (reply request : Packet) → reply.code ≡ ACCESS_ACCEPT →
     let from : Key = record { secret = r.home_secret; first = r.forwarded_authenticator } in
@@ -34,7 +26,7 @@ AcceptCarriesAll = (r : Returning) (reply request : Packet) → reply.code ≡ A
     (seal : List ℕ) × (carried : List Attribute)
     × ((returned r reply request).attributes
     ≡ (record { kind = MESSAGE_AUTHENTICATOR; value = seal } ∷ carried) ++ proxy_states request)
-    × AllZip (IsCarriedBack from to) (own_attributes reply) carried
+    × AllZip (IsAttributeAnew from to) (own_attributes reply) carried
 
 -- those of an Access-Reject and an Access-Challenge: the same, all octet for octet
 abbrev pub RejectCarriesAll : Type 0

@@ -8,8 +8,9 @@ use Rattle.roam_wire.specs.declared.attribute_type.TheConstants.{MESSAGE_AUTHENT
 use Rattle.roam_wire.specs.declared.code.TheConstants.{ACCESS_ACCEPT}
 use Rattle.roam_wire.specs.declared.removed_attribute.RemovedAttribute.{RemovedAttribute}
 use Rattle.roam_hide.specs.Hiding.{Key}
+use Rattle.roam_hide.specs.SaltedValues.{IsAttributeAnew}
 use Rattle.roam_filter.specs.Without.{without}
-use Rattle.roam_back.specs.CarriedLaws.{IsCarriedBack, own_attributes}
+use Rattle.roam_back.specs.CarriedLaws.{own_attributes}
 use Rattle.roam_back.specs.Returned.{Returning, passing_reply, proxy_states, returned}
 
 -- of an Access reply's attributes, Proxy-States and Message-Authenticator apart, just those pass that the lists don't
@@ -28,7 +29,7 @@ AcceptCarriesWhatPasses = (r : Returning) (removed : List RemovedAttribute) (rep
     (seal : List ℕ) × (carried : List Attribute)
     × ((returned r (passing_reply removed reply) request).attributes
     ≡ (record { kind = MESSAGE_AUTHENTICATOR; value = seal } ∷ carried) ++ proxy_states request)
-    × AllZip (IsCarriedBack from to) (without removed (own_attributes reply)) carried
+    × AllZip (IsAttributeAnew from to) (without removed (own_attributes reply)) carried
 
 -- any other reply passes whole
 abbrev pub OthersPassWhole : Type 0

@@ -9,7 +9,7 @@ use Rattle.roam_filter.specs.Without.{without}
 use Rattle.roam_auth.specs.Authenticators.{with_authenticator, response_authenticator}
 use Rattle.roam_auth.specs.MessageAuthenticator.{empty_message_authenticator, with_message_authenticator}
 use Rattle.roam_hide.specs.Hiding.{Key}
-use Rattle.roam_hide.specs.PacketAnew.{salted_hidden_anew}
+use Rattle.roam_hide.specs.SaltedFunctions.{salted_hidden_anew}
 use Rattle.roam_wire.specs.Codes.{is_access_reply}
 
 -- what a reply is returned with: the Authenticator of the forwarded request, the secret shared with

@@ -76,10 +76,11 @@ standing_stays b c k q (waiting l id forwarded sends_left deadline) w =
 standing_stays b c k q (done reply deadline) w = tt
 
 -- a peer that stays has its requests forwarded as before
-part_of : (peers : List PeerView) (i : ℕ) → slice_get (map peer_part peers) i ≡ option_map peer_part (slice_get peers i)
-part_of [] i = refl
-part_of (p ∷ ps) zero = refl
-part_of (p ∷ ps) (suc i) = part_of ps i
+peer_part_of : (peers : List PeerView) (i : ℕ) →
+    slice_get (map peer_part peers) i ≡ option_map peer_part (slice_get peers i)
+peer_part_of [] i = refl
+peer_part_of (p ∷ ps) zero = refl
+peer_part_of (p ∷ ps) (suc i) = peer_part_of ps i
 
 first_of : (peers more : List PeerView) (i : ℕ) → i < length peers → slice_get (peers ++ more) i ≡ slice_get peers i
 first_of [] more i there = absurd (omega (arith, there))
@@ -98,7 +99,7 @@ shaping_stays b c k i there =
     ap (λ (ps : List PeerView). slice_get ps i) k.peers.same
     ∙ first_of (map peer_part b.peers) k.peers.more i within in
     let both : option_map peer_part (slice_get c.peers i) ≡ option_map peer_part (slice_get b.peers i) =
-    sym (part_of c.peers i) ∙ part ∙ part_of b.peers i in
+    sym (peer_part_of c.peers i) ∙ part ∙ peer_part_of b.peers i in
     sym (by_parts (slice_get c.peers i) c.realm)
     ∙ ap (λ (r : RealmView). shaping_between (option_map peer_part (slice_get c.peers i)) (Some r)) k.table
     ∙ ap (λ (o : Option PeerView). shaping_between o (Some (realm_part b.realm))) both

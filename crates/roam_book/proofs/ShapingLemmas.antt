@@ -12,9 +12,11 @@ use Rattle.roam_wire.specs.declared.code.TheConstants.{ACCESS_REQUEST, COA_REQUE
 use Rattle.roam_wire.specs.declared.removed_attribute.RemovedAttribute.{RemovedAttribute}
 use Rattle.roam_conf.specs.declared.place.Link.{Link}
 use Rattle.roam_conf.specs.declared.place.Link.TheVariants as link
+use Rattle.roam_filter.specs.Removal.{removed_by, without_sessions}
 use Rattle.roam_filter.specs.Without.{without}
+use Rattle.roam_filter.specs.declared.removal.Removal.{Removal}
 use Rattle.roam_filter.proofs.WithoutLemmas.{length-without}
-use Rattle.roam_fwd.specs.Forwarded.{CanBeForwarded, challenge_is_authenticator, forwarded_length}
+use Rattle.roam_fwd.specs.Forwarded.{challenge_is_authenticator, forwarded_length}
 use Rattle.roam_fwd.specs.Shaped.{CanBeShaped, HasShortName, Shaping, added_cui, added_operator_name, all_added, challenge_first, no_shaping, passing, shaped, takes_operator_name}
 use Rattle.roam_fwd.proofs.AddedLemmas.{growth-other, growth-sealed, length-added, length-name}
 use Rattle.roam_fwd.proofs.ShapedLemmas.{IsPacket-shaped, length-shaped}
@@ -24,6 +26,12 @@ use Rattle.roam_pending.specs.declared.key.Requester.TheVariants as requester
 use Rattle.roam_book.specs.RealmConfig.{RealmConfig}
 use Rattle.roam_book.specs.Shapings.{shaping_of, shaping_to}
 use Rattle.roam_book.specs.Sound.{CanGo, IsOfHome}
+
+-- what both lists of a removal name, with or without what names a session
+pub removed-is : (r : Removal) (list : List RemovedAttribute) → r.peer.now ++ r.realm.now ≡ list →
+    removed_by r ≡ (if r.keeps_session then without_sessions list else list)
+unfolding removed_by
+removed-is r list is = λ i. if r.keeps_session then without_sessions (is i) else is i
 
 -- ---- how long it can get
 

@@ -1,22 +1,23 @@
 -- How many requests of one name wait for a service, by the Identifiers in use toward its servers and by the entries.
-use Rattle.std.proofs.Common.{◌≡◌, ◌≢◌, ℕ, zero, suc, ◌+◌, ◌*◌, ◌<◌, ◌≤◌, ◌==◌, ◌&&◌, Bool, true, false, cond, List, [], ◌∷◌, Option, Some, None, length, refl, ap, sym, ◌∙◌, subst, arith, inl, inr, eqb, eqb-true}
-use Rattle.std.specs.Prelude.{not, unwrap_or, option_map_or, if◌then◌else◌}
-use Rattle.std.specs.List.{AllByRecursion, count_by, filter, find, sum_by}
+use Rattle.std.proofs.Common.{◌≡◌, ◌≢◌, ℕ, zero, suc, ◌+◌, ◌<◌, ◌≤◌, ◌==◌, ◌&&◌, Bool, true, false, List, [], ◌∷◌, Option, Some, None, length, refl, ap, sym, ◌∙◌, subst, arith, inl, inr, eqb, eqb-true}
+use Rattle.std.specs.Prelude.{not, unwrap_or, if◌then◌else◌}
+use Rattle.std.specs.Option.{option_map_or}
+use Rattle.std.specs.List.{AllByRecursion, count_by, filter}
 use Rattle.std.proofs.lemmas.Bool.{cases_Bool, true≢false, false≢true}
 use Rattle.std.proofs.lemmas.List.Sums.{sum_by-cons}
 use Rattle.roam_conf.specs.declared.place.Link.{Link}
 use Rattle.roam_conf.specs.declared.place.Link.TheVariants as link
 use Rattle.roam_ids.specs.LaneState.{ticket_at}
-use Rattle.roam_pending.specs.PlainEntry.{PlainEntry, PlainRequest, PlainStanding, waiting, done, has_ticket, same_link, stands_at, waits_at}
-use Rattle.roam_pending.specs.EntryList.{IsEntryList, IsInOrder, besides, find_link, find_ticket, is_beside, without}
+use Rattle.roam_pending.specs.PlainEntry.{PlainEntry, PlainRequest, PlainStanding, waiting, done, has_ticket, stands_at, waits_at}
+use Rattle.roam_pending.specs.EntryList.{IsEntryList, IsInOrder, besides, find_link, find_ticket}
 use Rattle.roam_pending.proofs.TestLemmas.{differs, same}
 use Rattle.roam_book.specs.declared.state.realm_numbers.RealmNumbers.{RealmNumbers}
 use Rattle.roam_book.specs.declared.state.service.Service.{Service}
 use Rattle.roam_book.specs.declared.state.service.Service.TheVariants as service
 use Rattle.roam_book.specs.Private.Sharing.{has_part, has_part_below, is_of_part, sum_below}
-use Rattle.roam_book.specs.RealmConfig.{RealmConfig, IsLink, server_link, service_of}
-use Rattle.roam_book.specs.Shares.{name_part, same_part, shares, waits_for}
-use Rattle.roam_book.specs.Sound.{IsEntry, IsSound, LanesTell, StandsWell, lane_of}
+use Rattle.roam_book.specs.RealmConfig.{RealmConfig, IsLink, server_link}
+use Rattle.roam_book.specs.Shares.{name_part, same_part, waits_for}
+use Rattle.roam_book.specs.Sound.{IsEntry, IsSound, StandsWell, lane_of}
 use Rattle.roam_book.proofs.WaitingLemmas.{parks, waits_as}
 
 -- one where it holds

@@ -14,9 +14,8 @@ use log::Log;
 use roam_conf::Config;
 use roam_conf_reader::{Settings, read_config, read_settings};
 use roam_diagnosis::{Lines, diagnose};
-use roam_hub::Open;
 use roam_serve::{
-    Build, ControlSocket, Counters, ServeFault, ServeOptions, SocketPath, StationForm, Watch,
+    Build, ControlSocket, Counters, Open, ServeFault, ServeOptions, SocketPath, StationForm, Watch,
     descriptors_wanted, reason_of, serve, with_drawn_seed,
 };
 use roam_words::{Fault, TextFile};

@@ -22,6 +22,7 @@ pub mod OriginReplyLemmas
 pub mod OriginTickLemmas
 pub mod ProvenanceLemmas
 pub mod TicketLemmas
+pub mod ToRealmLemmas
 pub mod DrawLemmas
 pub mod SumLemmas
 pub mod AmplificationLemmas

@@ -1,6 +1,9 @@
 pub mod HidingLemmas
-pub mod SaltedLemmas
+pub mod FirstLemmas
+pub mod InPlaceLemmas
 pub mod SaltedFunctionLemmas
+pub mod SubAttributeLemmas
+pub mod VendorLemmas
 pub mod SaltedTestLemmas
 pub mod OctetLemmas
 pub mod StandardFacts

@@ -1,21 +1,25 @@
 -- What is hidden anew is octets, as what it was hidden from.
-use Rattle.std.proofs.Common.{◌≡◌, ℕ, zero, suc, ◌*◌, ◌/◌, ◌==◌, Bool, true, false, List, [], ◌∷◌, ◌++◌, length, take, drop, Option, Some, sym, ap, subst, inl, inr, arith}
-use Rattle.std.specs.Prelude.{◌||◌, bit_xor, if◌then◌else◌, slice_index, map}
+use Rattle.std.proofs.Common.{◌≡◌, ℕ, zero, suc, ◌*◌, ◌/◌, ◌==◌, Bool, true, false, List, [], ◌∷◌, ◌++◌, length, take, drop, Option, Some, None, sym, ap, subst, inl, inr, arith}
+use Rattle.std.specs.Prelude.{bit_xor, if◌then◌else◌, nat_le, slice_index, map}
 use Rattle.std.specs.Int.{w32, to_le_bytes}
 use Rattle.std.specs.List.{AllByRecursion}
 use Rattle.std.specs.Option.{option_map_or}
 use Rattle.std.specs.Simd.Lanes.{zip2}
 use Rattle.std.proofs.lemmas.Nat.{xor_of_8}
-use Rattle.std.proofs.lemmas.Option.{option_and_then_some}
 use Rattle.md5.specs.Md5.{digest_bytes, md5}
 use Rattle.roam_wire.specs.Packet.{AreOctets, Attribute, IsAttribute, attributes_text}
 use Rattle.roam_wire.specs.Reading.{attributes_of}
+use Rattle.roam_wire.specs.declared.attribute_type.TheConstants.{VENDOR_SPECIFIC}
 use Rattle.roam_wire.proofs.OctetLemmas.{AreOctets-empty, AreOctets-cons, AreOctets-append, AreOctets-take, AreOctets-drop, AreOctets-attributes_text}
 use Rattle.roam_wire.proofs.AttributeLemmas.{read_spells}
+use Rattle.roam_hide.specs.declared.salted_kinds.Salting.{Salting}
+use Rattle.roam_hide.specs.declared.salted_kinds.Salting.TheVariants.{Salt, TagAndSalt}
 use Rattle.roam_hide.specs.Hiding.{Key, block, cover, xor_octets, blocks_to, hidden_text, plain_text, hidden_anew}
-use Rattle.roam_hide.specs.SaltedValues.{salted_key, microsoft, microsoft_value}
-use Rattle.roam_hide.specs.SaltedFunctions.{has_whole_blocks, salted_anew, tunnel_anew, sub_attribute_anew, behind_microsoft, microsoft_subs, vendor_anew}
-use Rattle.roam_hide.proofs.SaltedFunctionLemmas.{salted_anew_is, length_salted_anew, behind_microsoft_spelt, vendor_or_not}
+use Rattle.roam_hide.specs.SaltedKinds.{salting_of}
+use Rattle.roam_hide.specs.SaltedValues.{salted_key, vendor_number}
+use Rattle.roam_hide.specs.SaltedFunctions.{has_whole_blocks, salted_anew, tunnel_anew, value_anew, sub_attribute_anew, subs_anew, vendor_subs, vendor_anew, salted_hidden_anew}
+use Rattle.roam_hide.proofs.SaltedFunctionLemmas.{value_anew_is, length_value_anew}
+use Rattle.roam_hide.proofs.VendorLemmas.{vendor_or_not, where_there}
 
 -- ---- a digest
 
@@ -86,51 +90,59 @@ AreOctets-salted_anew from to old h =
     (AreOctets-append salt fresh (AreOctets-take 2 old h)
     (AreOctets-hidden_anew (salted_key from salt) (salted_key to salt) string (AreOctets-drop 2 old h))) h
 
-pub AreOctets-tunnel_anew : (from to : Key) (old : List ℕ) → AreOctets old → AreOctets (tunnel_anew from to old)
+AreOctets-tunnel_anew : (from to : Key) (old : List ℕ) → AreOctets old → AreOctets (tunnel_anew from to old)
 AreOctets-tunnel_anew from to old h =
     AreOctets-append (take 1 old) (salted_anew from to (drop 1 old)) (AreOctets-take 1 old h)
     (AreOctets-salted_anew from to (drop 1 old) (AreOctets-drop 1 old h))
 
--- a sub-attribute stays an attribute
-IsAttribute-fresh : (b : Bool) (sub : Attribute) (fresh : List ℕ) → IsAttribute sub → AreOctets fresh →
-    length fresh ≡ length sub.value → IsAttribute (if b then record sub { value = fresh } else sub)
-IsAttribute-fresh true sub fresh h octets same =
-    let limit = h.size in
-    record { kind = h.kind; octets = octets; size = omega (arith, limit, same) }
-IsAttribute-fresh false sub fresh h octets same = h
+AreOctets-value_anew : (from to : Key) (salting : Option Salting) (old : List ℕ) → AreOctets old →
+    AreOctets (value_anew from to salting old)
+AreOctets-value_anew from to None old h = h
+AreOctets-value_anew from to (Some Salt) old h = AreOctets-salted_anew from to old h
+AreOctets-value_anew from to (Some TagAndSalt) old h = AreOctets-tunnel_anew from to old h
 
-IsAttribute-subs : (from to : Key) (subs : List Attribute) → AllByRecursion IsAttribute subs →
-    AllByRecursion IsAttribute (map (sub_attribute_anew from to) subs)
-IsAttribute-subs from to [] h = tt
-IsAttribute-subs from to (sub ∷ others) h =
-    let fresh : List ℕ = salted_anew from to sub.value in
-    let same = length_salted_anew from to sub.value fresh (salted_anew_is from to sub.value) in (
-      IsAttribute-fresh ((sub.kind == 16) || (sub.kind == 17)) sub fresh h.0
-          (AreOctets-salted_anew from to sub.value h.0.octets) same,
-      IsAttribute-subs from to others h.1,
+-- sub-attributes stay attributes
+IsAttribute-subs : (from to : Key) (vendor : ℕ) (subs : List Attribute) → AllByRecursion IsAttribute subs →
+    AllByRecursion IsAttribute (map (sub_attribute_anew from to vendor) subs)
+IsAttribute-subs from to vendor [] h = tt
+IsAttribute-subs from to vendor (sub ∷ others) h =
+    let salting : Option Salting = salting_of (Some vendor) sub.kind in
+    let limit = h.0.size in
+    let same = length_value_anew from to salting sub.value (value_anew from to salting sub.value)
+    (value_anew_is from to salting sub.value) in (
+      record {
+        kind = h.0.kind;
+        octets = AreOctets-value_anew from to salting sub.value h.0.octets;
+        size = omega (arith, limit, same);
+      },
+      IsAttribute-subs from to vendor others h.1,
     )
 
 -- the sub-attributes that are read from octets are attributes
-subs_are : (value : List ℕ) (subs : List Attribute) → AreOctets value → microsoft_subs value ≡ Some subs →
+subs_are : (value : List ℕ) (subs : List Attribute) → AreOctets value → vendor_subs value ≡ Some subs →
     AllByRecursion IsAttribute subs
 subs_are value subs h read =
-    option_and_then_some attributes_of (behind_microsoft value) subs read (λ octets found spelt.
-    let whole : AreOctets (microsoft ++ octets) = subst AreOctets (behind_microsoft_spelt value octets found) h in
-    let behind : AreOctets octets = λ i. whole (suc (suc (suc (suc i)))) in
-    (read_spells (length octets) octets subs (omega arith) behind spelt).attributes)
+    let octets : List ℕ = drop 4 value in
+    let spelt = where_there (nat_le 4 (length value)) (attributes_of octets) subs read in
+    (read_spells (length octets) octets subs (omega arith) (AreOctets-drop 4 value h) spelt.1).attributes
 
-pub AreOctets-vendor_anew : (from to : Key) (old : List ℕ) → AreOctets old → AreOctets (vendor_anew from to old)
+AreOctets-vendor_anew : (from to : Key) (old : List ℕ) → AreOctets old → AreOctets (vendor_anew from to old)
 AreOctets-vendor_anew from to old h =
-    let anew = λ (subs : List Attribute). microsoft_value (map (sub_attribute_anew from to) subs) in
-    let chosen : Option (List Attribute) → List ℕ = λ o. option_map_or anew o old in
+    let vendor : List ℕ = take 4 old in
+    let chosen : Option (List Attribute) → List ℕ = λ o. option_map_or (subs_anew from to vendor) o old in
     elim (vendor_or_not old) [
       | inl has ↦
-          let fresh : List Attribute = map (sub_attribute_anew from to) has.0 in
-          let text = AreOctets-attributes_text fresh (IsAttribute-subs from to has.0 (subs_are old has.0 h has.1)) in
-          let vendor : AreOctets microsoft =
-          AreOctets-cons 0 (0 ∷ 1 ∷ 55 ∷ []) (omega arith)
-          (AreOctets-cons 0 (1 ∷ 55 ∷ []) (omega arith)
-          (AreOctets-cons 1 (55 ∷ []) (omega arith) (AreOctets-cons 55 [] (omega arith) AreOctets-empty))) in
-          subst AreOctets (sym (ap chosen has.1)) (AreOctets-append microsoft (attributes_text fresh) vendor text)
+          let fresh : List Attribute = map (sub_attribute_anew from to (vendor_number vendor)) has.0 in
+          let text = AreOctets-attributes_text fresh
+          (IsAttribute-subs from to (vendor_number vendor) has.0 (subs_are old has.0 h has.1)) in
+          subst AreOctets (sym (ap chosen has.1))
+          (AreOctets-append vendor (attributes_text fresh) (AreOctets-take 4 old h) text)
       | inr none ↦ subst AreOctets (sym (ap chosen none)) h
     ]
+
+pub AreOctets-attribute_anew : (from to : Key) (old : Attribute) → AreOctets old.value →
+    AreOctets (salted_hidden_anew from to old).value
+AreOctets-attribute_anew from to old h =
+    either (old.kind == VENDOR_SPECIFIC) (vendor_anew from to old.value)
+    (value_anew from to (salting_of None old.kind) old.value) (AreOctets-vendor_anew from to old.value h)
+    (AreOctets-value_anew from to (salting_of None old.kind) old.value h)

@@ -1,17 +1,17 @@
 -- The test of salted strings says what the relation says.
-use Rattle.std.proofs.Common.{◌≡◌, ℕ, ◌==◌, Bool, true, false, List, [], ◌∷◌, ◌++◌, Option, Some, None, length, refl, ap, ◌∙◌, inl, inr, arith}
-use Rattle.std.specs.Prelude.{◌⊎◌, ◌&&◌, ◌||◌, Any}
+use Rattle.std.proofs.Common.{◌≡◌, ℕ, ◌==◌, Bool, true, false, List, ◌∷◌, Option, Some, None, take, refl, sym, ap, ◌∙◌, subst, inl, inr, arith}
+use Rattle.std.specs.Prelude.{◌⊎◌, ◌&&◌, ◌||◌, Any, IsSome}
 use Rattle.std.specs.List.{list_any}
-use Rattle.std.specs.Option.{option_map_or}
+use Rattle.std.specs.Option.{is_some, option_map_or}
 use Rattle.std.proofs.lemmas.Bool.Decides.{nat_tests}
 use Rattle.std.proofs.lemmas.List.Folds.{Any-from_list_any, list_any-from_Any}
-use Rattle.std.proofs.lemmas.Option.{cond_some, option_and_then_some}
 use Rattle.roam_wire.specs.Packet.{Attribute, Packet}
-use Rattle.roam_wire.specs.Reading.{attributes_of}
-use Rattle.roam_hide.specs.SaltedValues.{microsoft, microsoft_value, IsKeyType, HoldsKey, IsSaltedAttribute, IsSalted}
-use Rattle.roam_hide.specs.SaltedFunctions.{behind_microsoft, microsoft_subs}
-use Rattle.roam_hide.proofs.SaltedFunctionLemmas.{subs_read, read_spells}
-use Rattle.roam_hide.specs.Salted.{is_key, holds_key, is_salted_attribute, is_salted}
+use Rattle.roam_wire.specs.declared.attribute_type.TheConstants.{VENDOR_SPECIFIC}
+use Rattle.roam_hide.specs.SaltedKinds.{salting_of}
+use Rattle.roam_hide.specs.SaltedValues.{vendor_number, HoldsSalted, IsSaltedAttribute, IsSalted}
+use Rattle.roam_hide.specs.SaltedFunctions.{vendor_subs}
+use Rattle.roam_hide.specs.Salted.{is_salted_sub, holds_salted, is_salted_attribute, is_salted}
+use Rattle.roam_hide.proofs.VendorLemmas.{vendor_subs_spelt, front_is, vendor_subs_read}
 
 -- a test, and what it means
 abbrev pub Means : Bool → Type 0 → Type 0
@@ -40,67 +40,58 @@ means-any test P each xs = (
 
 -- ---- the value of a Vendor-Specific
 
-behind-spelt : (value octets : List ℕ) → behind_microsoft value ≡ Some octets
-    → value ≡ microsoft ++ octets
-behind-spelt [] octets h = absurd (cc)
-behind-spelt (a ∷ []) octets h = absurd (cc)
-behind-spelt (a ∷ b ∷ []) octets h = absurd (cc)
-behind-spelt (a ∷ b ∷ c ∷ []) octets h = absurd (cc)
-behind-spelt (a ∷ b ∷ c ∷ d ∷ rest) octets h =
-    let found = cond_some _ _ _ h in
-    let first : a ≡ 0 = grind (arith, nat_tests, found.0) in
-    let second : b ≡ 0 = grind (arith, nat_tests, found.0) in
-    let third : c ≡ 1 = grind (arith, nat_tests, found.0) in
-    let fourth : d ≡ 55 = grind (arith, nat_tests, found.0) in
-    let behind : rest ≡ octets = found.1 in
-    rw (first, second, third, fourth, behind) refl
+-- some sub-attribute of a vendor's
+abbrev AnySalted : List ℕ → List Attribute → Type 0
+AnySalted vendor subs = Any (λ (sub : Attribute). IsSome (salting_of (Some (vendor_number vendor)) sub.kind)) subs
 
-subs-spelt : (value : List ℕ) (subs : List Attribute) → microsoft_subs value ≡ Some subs
-    → value ≡ microsoft_value subs
-subs-spelt value subs h =
-    option_and_then_some attributes_of (behind_microsoft value) subs h (λ octets found read.
-    behind-spelt value octets found
-    ∙ ap (λ (t : List ℕ). microsoft ++ t) (read_spells (length octets) octets subs (omega arith) read))
+means-subs : (vendor : List ℕ) (subs : List Attribute)
+    → Means (list_any (is_salted_sub (vendor_number vendor)) subs) (AnySalted vendor subs)
+means-subs vendor subs =
+    means-any (is_salted_sub (vendor_number vendor))
+    (λ (sub : Attribute). IsSome (salting_of (Some (vendor_number vendor)) sub.kind)) (λ sub. (λ h. h, λ h. h)) subs
 
-means-key : (sub : Attribute) → Means (is_key sub) (IsKeyType sub.kind)
-means-key sub =
-    means-or (sub.kind == 16) (sub.kind == 17) (sub.kind ≡ 16) (sub.kind ≡ 17)
-    (means-equal sub.kind 16) (means-equal sub.kind 17)
-
-means-keys : (subs : List Attribute) → Means (list_any is_key subs) (Any (λ (sub : Attribute). IsKeyType sub.kind) subs)
-means-keys subs = means-any is_key (λ (sub : Attribute). IsKeyType sub.kind) means-key subs
-
-held : (value : List ℕ) (read : Option (List Attribute)) → microsoft_subs value ≡ read
-    → option_map_or (list_any is_key) read false ≡ true → HoldsKey value
+held : (value : List ℕ) (read : Option (List Attribute)) → vendor_subs value ≡ read
+    → option_map_or (list_any (is_salted_sub (vendor_number (take 4 value)))) read false ≡ true → HoldsSalted value
 held value None e h = absurd (cc)
-held value (Some subs) e h = (subs, subs-spelt value subs e, (means-keys subs).0 h)
+held value (Some subs) e h = record {
+  vendor = take 4 value;
+  subs = subs;
+  is = vendor_subs_spelt value subs e;
+  some = (means-subs (take 4 value) subs).0 h;
+}
 
-means-held : (value : List ℕ) → Means (holds_key value) (HoldsKey value)
+means-held : (value : List ℕ) → Means (holds_salted value) (HoldsSalted value)
 means-held value = (
-  λ h. held value (microsoft_subs value) refl h,
+  λ h. held value (vendor_subs value) refl h,
   λ holds.
-      let read : microsoft_subs value ≡ Some holds.0 =
-      ap microsoft_subs holds.1 ∙ subs_read holds.0 in
-      ap (λ (o : Option (List Attribute)). option_map_or (list_any is_key) o false) read
-      ∙ (means-keys holds.0).1 holds.2,
+      let front : take 4 value ≡ holds.vendor = front_is holds.vendor holds.subs value holds.is in
+      let some : AnySalted (take 4 value) holds.subs =
+      subst (λ (vendor : List ℕ). AnySalted vendor holds.subs) (sym front) holds.some in
+      ap (λ (o : Option (List Attribute)). option_map_or (list_any (is_salted_sub (vendor_number (take 4 value)))) o
+      false) (vendor_subs_read holds.vendor holds.subs value holds.is)
+      ∙ (means-subs (take 4 value) holds.subs).1 some,
 )
 
 -- ---- attributes, and all of them
 
 means-attribute : (a : Attribute) → Means (is_salted_attribute a) (IsSaltedAttribute a)
 means-attribute a =
-    means-or (a.kind == 69) (a.kind == 26 && holds_key a.value) (a.kind ≡ 69)
-    ((a.kind ≡ 26) × HoldsKey a.value) (means-equal a.kind 69)
-    (means-and (a.kind == 26) (holds_key a.value) (a.kind ≡ 26) (HoldsKey a.value)
-    (means-equal a.kind 26) (means-held a.value))
+    means-or (is_some (salting_of None a.kind)) (a.kind == VENDOR_SPECIFIC && holds_salted a.value)
+    (IsSome (salting_of None a.kind)) ((a.kind ≡ VENDOR_SPECIFIC) × HoldsSalted a.value) (λ h. h, λ h. h)
+    (means-and (a.kind == VENDOR_SPECIFIC) (holds_salted a.value) (a.kind ≡ VENDOR_SPECIFIC) (HoldsSalted a.value)
+    (means-equal a.kind VENDOR_SPECIFIC) (means-held a.value))
 
 pub means-salted : (packet : Packet) → Means (is_salted packet.attributes) (IsSalted packet)
 unfolding is_salted
 means-salted packet = means-any is_salted_attribute IsSaltedAttribute means-attribute packet.attributes
 
--- two tests of one meaning are equal
-pub same-test : (a b : Bool) (P : Type 0) → Means a P → Means b P → a ≡ b
-same-test true true P ha hb = refl
-same-test true false P ha hb = absurd (cc (hb.1 (ha.0 refl)))
-same-test false true P ha hb = absurd (cc (ha.1 (hb.0 refl)))
-same-test false false P ha hb = refl
+-- ---- a walk over a list
+
+-- the first is it
+pub any-first : {X : Type 0} (test : X → Bool) (x : X) (xs : List X) → test x ≡ true → list_any test (x ∷ xs) ≡ true
+any-first test x xs is = ap (λ (b : Bool). b || list_any test xs) is
+
+-- the first isn't it
+pub any-behind : {X : Type 0} (test : X → Bool) (x : X) (xs : List X) → test x ≡ false
+    → list_any test (x ∷ xs) ≡ list_any test xs
+any-behind test x xs other = ap (λ (b : Bool). b || list_any test xs) other

@@ -2,10 +2,10 @@
 use Rattle.std.specs.Prelude.{◌≡◌, ◌↔◌, ℕ, ◌%◌, IsTrue, List, length}
 use Rattle.roam_hide.specs.Hiding.{Key, IsHidden, IsHiddenAnew, IsPasswordSize, password_fits, hidden_text, plain_text, hidden_anew}
 
--- this is the one text of which the fact holds
-pub record IsTheOne (Fact : List ℕ → Type 0) (text : List ℕ) : Type 0 where
-  pub holds : Fact text
-  pub no_other : (other : List ℕ) → Fact other → other ≡ text
+-- this is the one of which the fact holds
+pub record IsTheOne {X : Type 0} (Fact : X → Type 0) (one : X) : Type 0 where
+  pub holds : Fact one
+  pub no_other : (other : X) → Fact other → other ≡ one
 
 -- a plain text of whole blocks has just one hidden text
 abbrev pub OneHiddenText : Type 0

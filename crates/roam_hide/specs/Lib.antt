@@ -1,6 +1,7 @@
 pub mod Hiding
 pub mod HidingKeys
 pub mod HidingLaws
+pub mod SaltedKinds
 pub mod SaltedValues
 pub mod SaltedFunctions
 pub mod Salted

@@ -1,26 +1,16 @@
 -- A packet whose hidden values are hidden anew (RFC 2865, section 2.3).
 use Rattle.std.specs.Prelude.{◌≡◌, ◌==◌, ℕ, ◌+◌, List, map, slice_index, slice_range, if◌then◌else◌}
 use Rattle.roam_wire.specs.Packet.{Attribute, Packet}
-use Rattle.roam_wire.specs.declared.attribute_type.TheConstants.{USER_PASSWORD, TUNNEL_PASSWORD, VENDOR_SPECIFIC}
+use Rattle.roam_wire.specs.declared.attribute_type.TheConstants.{USER_PASSWORD}
 use Rattle.roam_hide.specs.declared.packet_values.Hidden.{Hidden}
 use Rattle.roam_hide.specs.declared.packet_values.Hidden.TheVariants.{UserPassword, SaltedStrings}
 use Rattle.roam_hide.specs.Hiding.{Key, HasWholeBlocks, hidden_anew}
-use Rattle.roam_hide.specs.SaltedFunctions.{tunnel_anew, vendor_anew}
+use Rattle.roam_hide.specs.SaltedFunctions.{salted_hidden_anew}
 
 -- an attribute with a User-Password hidden anew (RFC 2865, section 5.2)
 abbrev pub password_hidden_anew : Key → Key → Attribute → Attribute
 password_hidden_anew from to a =
     record a { value = if a.kind == USER_PASSWORD then hidden_anew from to a.value else a.value }
-
--- an attribute with its salted strings hidden anew (RFC 2868, section 3.5; RFC 2548, section 2.4)
-abbrev pub salted_hidden_anew : Key → Key → Attribute → Attribute
-salted_hidden_anew from to a =
-    record a {
-      value =
-          if a.kind == TUNNEL_PASSWORD then tunnel_anew from to a.value
-          else if a.kind == VENDOR_SPECIFIC then vendor_anew from to a.value
-          else a.value;
-    }
 
 -- the attribute that stands in octets from one to another: its Type, its Length, its Value (RFC 2865,
 -- section 5)

@@ -1,24 +1,27 @@
--- Whether a packet holds a salted string, as a test (RFC 2868, section 3.5; RFC 2548, sections
--- 2.4.2 and 2.4.3). What it means is said by `IsSalted`, and a law says that they agree.
-use Rattle.std.specs.Prelude.{ℕ, ◌==◌, ◌&&◌, ◌||◌, Bool, false, List}
+-- Whether a packet holds a salted string, as a test. What it means is said by `IsSalted`, and a law says that they
+-- agree.
+use Rattle.std.specs.Prelude.{ℕ, ◌==◌, ◌&&◌, ◌||◌, Bool, false, List, take, Some, None}
 use Rattle.std.specs.List.{list_any}
-use Rattle.std.specs.Option.{option_map_or}
+use Rattle.std.specs.Option.{is_some, option_map_or}
 use Rattle.roam_wire.specs.Packet.{Attribute}
-use Rattle.roam_wire.specs.declared.attribute_type.TheConstants.{TUNNEL_PASSWORD, VENDOR_SPECIFIC}
-use Rattle.roam_hide.specs.SaltedFunctions.{microsoft_subs}
+use Rattle.roam_wire.specs.declared.attribute_type.TheConstants.{VENDOR_SPECIFIC}
+use Rattle.roam_hide.specs.SaltedKinds.{salting_of}
+use Rattle.roam_hide.specs.SaltedValues.{vendor_number}
+use Rattle.roam_hide.specs.SaltedFunctions.{vendor_subs}
 
--- MS-MPPE-Send-Key, MS-MPPE-Recv-Key
-abbrev pub is_key : Attribute → Bool
-is_key sub = sub.kind == 16 || sub.kind == 17
+-- a vendor's sub-attribute has a salted string
+abbrev pub is_salted_sub : ℕ → Attribute → Bool
+is_salted_sub vendor sub = is_some (salting_of (Some vendor) sub.kind)
 
--- a Vendor-Specific of Microsoft, well formed, with a key among its sub-attributes
-abbrev pub holds_key : List ℕ → Bool
-holds_key value = option_map_or (list_any is_key) (microsoft_subs value) false
+-- a Vendor-Specific, well formed, with a salted string among its sub-attributes
+abbrev pub holds_salted : List ℕ → Bool
+holds_salted value =
+    option_map_or (list_any (is_salted_sub (vendor_number (take 4 value)))) (vendor_subs value) false
 
--- a Tunnel-Password, whatever its size, or a Vendor-Specific that holds a key
+-- an attribute of a kind with a salted string, whatever its size, or a Vendor-Specific that holds one
 abbrev pub is_salted_attribute : Attribute → Bool
 is_salted_attribute a =
-    a.kind == TUNNEL_PASSWORD || (a.kind == VENDOR_SPECIFIC && holds_key a.value)
+    is_some (salting_of None a.kind) || (a.kind == VENDOR_SPECIFIC && holds_salted a.value)
 
 -- some attribute has a salted string
 unfoldable pub is_salted : List Attribute → Bool

@@ -1,10 +1,14 @@
--- Values with salted strings: Tunnel-Password (RFC 2868, section 3.5), MS-MPPE-Send-Key and
--- MS-MPPE-Recv-Key (RFC 2548, sections 2.4.2 and 2.4.3).
-use Rattle.std.specs.Prelude.{◌≡◌, ◌≢◌, ℕ, ◌≤◌, ◌⊎◌, List, [], ◌∷◌, ◌++◌, length, take, drop, slice_index, Any}
+-- Values with salted strings: that of Tunnel-Password (RFC 2868, section 3.5), of MS-MPPE-Send-Key and
+-- MS-MPPE-Recv-Key (RFC 2548, sections 2.4.2 and 2.4.3), and of each other kind of the one list.
+use Rattle.std.specs.Prelude.{◌≡◌, ◌≢◌, ℕ, ◌⊎◌, List, ◌++◌, length, take, drop, Option, Some, None, IsSome, Any}
+use Rattle.std.specs.Int.{w32, from_be_bytes}
 use Rattle.std.specs.List.{AllZip}
 use Rattle.roam_wire.specs.Packet.{Attribute, Packet, attributes_text}
-use Rattle.roam_wire.specs.declared.attribute_type.TheConstants.{TUNNEL_PASSWORD, VENDOR_SPECIFIC}
+use Rattle.roam_wire.specs.declared.attribute_type.TheConstants.{VENDOR_SPECIFIC}
+use Rattle.roam_hide.specs.declared.salted_kinds.Salting.{Salting}
+use Rattle.roam_hide.specs.declared.salted_kinds.Salting.TheVariants.{Salt, TagAndSalt}
 use Rattle.roam_hide.specs.Hiding.{Key, HasWholeBlocks, IsHiddenAnew}
+use Rattle.roam_hide.specs.SaltedKinds.{salting_of}
 
 -- A string behind a salt: the digest of its first block reads the Request Authenticator, then the
 -- salt (RFC 2868, section 3.5: b(1) = MD5(S + R + A)).
@@ -12,13 +16,14 @@ abbrev pub salted_key : Key → List ℕ → Key
 salted_key key salt = record key { first = key.first ++ salt }
 
 -- ## Salted strings
--- As hidden, with `hidden(0)` the Authenticator followed by the salt, on the string of a Tunnel-Password, and
--- of MS-MPPE-Send-Key and -Recv-Key in a Vendor-Specific of vendor 311. All other octets stay, and so does a
--- string whose size isn't a positive multiple of 16, and a malformed list of sub-attributes.
+-- As hidden, with `hidden(0)` the Authenticator followed by the salt, on the string of each kind with a salted
+-- string. All other octets stay, and so does a string whose size isn't a positive multiple of 16, and a malformed
+-- list of sub-attributes.
 -- Source: RFC 2868 section 3.5, RFC 2548 section 2.4
--- Rules out: a tag taken for salt; a string of 24 octets mangled
--- Stands in: `roam_hide` `SaltedValues.antt`: `IsSaltedAnew`, `IsTunnelAnew`, `IsVendorAnew`, `IsSalted`;
--- `rehide_salted`, `rehide_tunnel`, `rehide_vendor`, `salted`, the law `salted_decided`
+-- Rules out: a tag taken for salt; a string of 24 octets mangled; a kind overlooked
+-- Stands in: `roam_hide` `SaltedValues.antt`: `IsSaltedAnew`, `IsTunnelAnew`, `IsVendorAnew`, `IsAttributeAnew`,
+-- `IsSalted`; `rehide_salted`, `rehide_tunnel`, `rehide_vendor`, `salted`, the laws `one_attribute_anew`,
+-- `salted_decided`
 --
 -- A value that is a salt of two octets, then a string: the salt stays, a string of whole blocks is
 -- hidden anew. A value with any other string, or too short for its salt, stays (ours).
@@ -29,66 +34,57 @@ pub record IsSaltedAnew (from to : Key) (old new : List ℕ) : Type 0 where
       (drop 2 old) (drop 2 new)
   pub other_string : ¬ HasWholeBlocks (drop 2 old) → new ≡ old
 
--- the value of a Tunnel-Password: a tag of one octet, which stays, then salt and string (RFC 2868,
--- section 3.5)
+-- A tag of one octet, which stays, then salt and string, as a Tunnel-Password has it (RFC 2868, section 3.5).
 pub record IsTunnelAnew (from to : Key) (old new : List ℕ) : Type 0 where
   pub tag : take 1 new ≡ take 1 old
   pub salted : IsSaltedAnew from to (drop 1 old) (drop 1 new)
 
--- Microsoft's vendor number 311 in four octets, the high one first (RFC 2865, section 5.26; RFC
--- 2548, section 2)
-abbrev pub microsoft : List ℕ
-microsoft = 0 ∷ 0 ∷ 1 ∷ 55 ∷ []
+-- by how a value begins; one without a salted string stays
+abbrev pub IsValueAnew : Key → Key → Option Salting → List ℕ → List ℕ → Type 0
+IsValueAnew from to None old new = new ≡ old
+IsValueAnew from to (Some Salt) old new = IsSaltedAnew from to old new
+IsValueAnew from to (Some TagAndSalt) old new = IsTunnelAnew from to old new
 
--- octets that are sub-attributes, each of them Type, Length, Value as an attribute is (RFC 2865,
--- section 5.26)
-abbrev pub AreSubAttributes : List ℕ → Type 0
-AreSubAttributes octets = (subs : List Attribute) × (octets ≡ attributes_text subs)
+-- the value of a Vendor-Specific: four octets of the vendor, then sub-attributes, each of them Type, Length, Value as
+-- an attribute is (RFC 2865, section 5.26)
+pub record IsVendorValue (vendor : List ℕ) (subs : List Attribute) (value : List ℕ) : Type 0 where
+  pub four_octets : length vendor ≡ 4
+  pub spelt : value ≡ vendor ++ attributes_text subs
 
--- the Length of the sub-attribute at the front is there, is 2 at least and doesn't pass the end
-pub record HasFirst (octets : List ℕ) : Type 0 where
-  pub is_there : 2 ≤ length octets
-  pub counts_both : 2 ≤ slice_index octets 1
-  pub within : slice_index octets 1 ≤ length octets
+-- the number of a vendor: its octets, the high one first
+abbrev pub vendor_number : List ℕ → ℕ
+vendor_number vendor = from_be_bytes w32 vendor
 
--- the value of a Vendor-Specific of Microsoft: the vendor, then sub-attributes
-abbrev pub microsoft_value : List Attribute → List ℕ
-microsoft_value subs = microsoft ++ attributes_text subs
-
--- MS-MPPE-Send-Key, MS-MPPE-Recv-Key (RFC 2548, sections 2.4.2 and 2.4.3)
-abbrev pub IsKeyType : ℕ → Type 0
-IsKeyType kind = (kind ≡ 16) ⊎ (kind ≡ 17)
-
--- a sub-attribute keeps its Type; a key's value is salt and string, any other value stays
-pub record IsSubAttributeAnew (from to : Key) (old new : Attribute) : Type 0 where
+-- a vendor's sub-attribute: its Type stays
+pub record IsSubAttributeAnew (from to : Key) (vendor : ℕ) (old new : Attribute) : Type 0 where
   pub kind : new.kind ≡ old.kind
-  pub key : IsKeyType old.kind → IsSaltedAnew from to old.value new.value
-  pub other : ¬ IsKeyType old.kind → new.value ≡ old.value
+  pub value : IsValueAnew from to (salting_of (Some vendor) old.kind) old.value new.value
 
--- The value of a Vendor-Specific: Microsoft's sub-attributes one by one. The value of another
--- vendor stays, and so does one whose sub-attributes aren't well formed (ours).
+-- The value of a Vendor-Specific: its sub-attributes one by one. One without sub-attributes that are well formed
+-- stays (ours).
 pub record IsVendorAnew (from to : Key) (old new : List ℕ) : Type 0 where
-  pub well_formed : (subs : List Attribute) → old ≡ microsoft_value subs
-      → (fresh : List Attribute) × (new ≡ microsoft_value fresh)
-      × AllZip (IsSubAttributeAnew from to) subs fresh
-  pub other : ((subs : List Attribute) → old ≢ microsoft_value subs) → new ≡ old
+  pub well_formed : (vendor : List ℕ) (subs : List Attribute) → IsVendorValue vendor subs old
+      → (fresh : List Attribute) × IsVendorValue vendor fresh new
+      × AllZip (IsSubAttributeAnew from to (vendor_number vendor)) subs fresh
+  pub other : ((vendor : List ℕ) (subs : List Attribute) → ¬ IsVendorValue vendor subs old) → new ≡ old
 
--- some sub-attribute is a key
-abbrev pub AnyKey : List Attribute → Type 0
-AnyKey subs = Any (λ sub. IsKeyType sub.kind) subs
+-- an attribute of a packet: its Type stays; a Vendor-Specific by its vendor's sub-attributes, any other by its Type
+pub record IsAttributeAnew (from to : Key) (old new : Attribute) : Type 0 where
+  pub kind : new.kind ≡ old.kind
+  pub vendor_specific : old.kind ≡ VENDOR_SPECIFIC → IsVendorAnew from to old.value new.value
+  pub other : old.kind ≢ VENDOR_SPECIFIC → IsValueAnew from to (salting_of None old.kind) old.value new.value
 
--- octets that are sub-attributes, with a key among them
-abbrev pub HasKey : List ℕ → Type 0
-HasKey octets = (subs : List Attribute) × (octets ≡ attributes_text subs) × AnyKey subs
+-- a Vendor-Specific with a salted string among its sub-attributes
+pub record HoldsSalted (value : List ℕ) : Type 0 where
+  pub vendor : List ℕ
+  pub subs : List Attribute
+  pub is : IsVendorValue vendor subs value
+  pub some : Any (λ sub. IsSome (salting_of (Some (vendor_number vendor)) sub.kind)) subs
 
--- a Vendor-Specific of Microsoft with a key among its sub-attributes
-abbrev pub HoldsKey : List ℕ → Type 0
-HoldsKey value = (subs : List Attribute) × (value ≡ microsoft_value subs) × AnyKey subs
-
--- a Tunnel-Password, whatever its size, or a Vendor-Specific that holds a key
+-- an attribute of a kind with a salted string, whatever its size, or a Vendor-Specific that holds one
 abbrev pub IsSaltedAttribute : Attribute → Type 0
 IsSaltedAttribute a =
-    (a.kind ≡ TUNNEL_PASSWORD) ⊎ ((a.kind ≡ VENDOR_SPECIFIC) × HoldsKey a.value)
+    IsSome (salting_of None a.kind) ⊎ ((a.kind ≡ VENDOR_SPECIFIC) × HoldsSalted a.value)
 
 -- the packet has an attribute with a salted string (ours)
 abbrev pub IsSalted : Packet → Type 0

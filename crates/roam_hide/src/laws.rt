@@ -3,9 +3,9 @@
 
 ghost use Rattle.roam_hide.specs.HidingLaws.{OneHiddenText, OnePlainText, OneTextAnew, SameKeyChangesNothing};
 ghost use Rattle.roam_hide.specs.HidingLaws.{FirstKeyBringsBack, PasswordSizeIsDecided};
-ghost use Rattle.roam_hide.specs.SaltedLaws.{OneListOfSubAttributes, OneTunnelAnew, OneVendorAnew, HiddenAnewKeepsSize};
-ghost use Rattle.roam_hide.specs.SaltedLaws.{TunnelAnewKeepsSize, VendorAnewKeepsSize, HiddenAnewIsOctets};
-ghost use Rattle.roam_hide.specs.SaltedLaws.{TunnelAnewIsOctets, VendorAnewIsOctets, SaltedIsDecided};
+ghost use Rattle.roam_hide.specs.SaltedLaws.{OneListOfSubAttributes, OneAttributeAnew, HiddenAnewKeepsSize};
+ghost use Rattle.roam_hide.specs.SaltedLaws.{AttributeAnewKeepsSize, HiddenAnewIsOctets, AttributeAnewIsOctets};
+ghost use Rattle.roam_hide.specs.SaltedLaws.{SaltedIsDecided};
 
 /// A plain text of whole blocks has just one hidden text.
 pub fn one_hidden_text()
@@ -37,28 +37,21 @@ pub fn one_list_of_sub_attributes()
     ensures { OneListOfSubAttributes }
 {}
 
-/// The value of a Tunnel-Password can be hidden anew in just one way.
-pub fn one_tunnel_anew()
-    ensures { OneTunnelAnew }
-{}
-
-/// The value of a Vendor-Specific can be hidden anew in just one way.
-pub fn one_vendor_anew()
-    ensures { OneVendorAnew }
+/// An attribute's salted strings can be hidden anew in just one way.
+pub fn one_attribute_anew()
+    ensures { OneAttributeAnew }
 {}
 
 /// What is hidden anew keeps its size.
 pub fn sizes_stay()
     ensures hidden { HiddenAnewKeepsSize }
-    ensures tunnel { TunnelAnewKeepsSize }
-    ensures vendor { VendorAnewKeepsSize }
+    ensures attribute { AttributeAnewKeepsSize }
 {}
 
 /// What octets are hidden anew to is octets.
 pub fn octets_stay()
     ensures hidden { HiddenAnewIsOctets }
-    ensures tunnel { TunnelAnewIsOctets }
-    ensures vendor { VendorAnewIsOctets }
+    ensures attribute { AttributeAnewIsOctets }
 {}
 
 /// The test of a password's size is true just where it may have that size.

@@ -8,11 +8,12 @@ ghost use Rattle.roam_wire.specs.declared.attribute_type.TheConstants.{USER_PASS
 ghost use Rattle.roam_hide.specs.HidingKeys.{password_key};
 ghost use Rattle.roam_hide.specs.PacketAnew.{attribute_in, attribute_anew, packet_anew, CanBeHiddenAnew};
 
+use crate::by_salting::rehide_by;
 use crate::hiding_key::HidingKey;
 use crate::password::rehide_password;
-use crate::tunnel_password::rehide_tunnel;
+use crate::salted_kinds::salting_of;
 use crate::vendor_specific::rehide_vendor;
-use roam_wire::attribute_type::{TUNNEL_PASSWORD, USER_PASSWORD, VENDOR_SPECIFIC};
+use roam_wire::attribute_type::{USER_PASSWORD, VENDOR_SPECIFIC};
 use std::ops::Range;
 
 /// Which values of a packet are hidden anew.
@@ -20,8 +21,7 @@ use std::ops::Range;
 pub enum Hidden {
     /// An Access-Request's User-Password (RFC 2865, section 5.2).
     UserPassword,
-    /// An Access-Accept's salted strings: Tunnel-Password (RFC 2868, section 3.5), MS-MPPE-Send-Key
-    /// and MS-MPPE-Recv-Key (RFC 2548, section 2.4).
+    /// An Access-Accept's salted strings, by `SALTED_KINDS` (RFC 2868, section 3.5; RFC 2548, section 2.4).
     SaltedStrings,
 }
 
@@ -43,11 +43,13 @@ fn rehide_value_of(
                 rehide_password(value, from, to);
             }
         }
-        Hidden::SaltedStrings => match kind {
-            TUNNEL_PASSWORD => rehide_tunnel(value, from, to),
-            VENDOR_SPECIFIC => rehide_vendor(value, from, to),
-            _ => {}
-        },
+        Hidden::SaltedStrings => {
+            if kind == VENDOR_SPECIFIC {
+                rehide_vendor(value, from, to);
+            } else {
+                rehide_by(salting_of(None, kind), value, from, to);
+            }
+        }
     }
 }
 

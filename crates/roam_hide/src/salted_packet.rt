@@ -2,27 +2,25 @@
 
 ghost use Rattle.std.specs.Prelude.{◌≡◌, ◌↔◌, IsTrue};
 ghost use Rattle.roam_wire.specs.Shown.{shown};
-ghost use Rattle.roam_hide.specs.Salted.{is_salted};
-ghost use Rattle.roam_hide.specs.SaltedValues.{IsSalted, IsSaltedAttribute};
+ghost use Rattle.roam_hide.specs.Salted.{is_salted, is_salted_attribute};
+ghost use Rattle.roam_hide.specs.SaltedValues.{IsSalted};
 
-use crate::vendor_specific::holds_key;
-use roam_wire::attribute_type::{TUNNEL_PASSWORD, VENDOR_SPECIFIC};
+use crate::salted_kinds::salting_of;
+use crate::vendor_specific::holds_salted;
+use roam_wire::attribute_type::VENDOR_SPECIFIC;
 use roam_wire::{Attr, View};
 
-/// Whether an attribute is a Tunnel-Password, or holds a key of Microsoft's.
+/// Whether an attribute is of a kind with a salted string, or a Vendor-Specific that holds one.
 fn is_salted(attribute: &Attr<'_>) -> bool
-    ensures { IsTrue result ↔ IsSaltedAttribute (shown attribute.now) }
+    ensures { result ≡ is_salted_attribute (shown attribute.now) }
 {
-    match attribute.kind {
-        TUNNEL_PASSWORD => true,
-        VENDOR_SPECIFIC => holds_key(attribute.value),
-        _ => false,
-    }
+    salting_of(None, attribute.kind).is_some()
+        || (attribute.kind == VENDOR_SPECIFIC && holds_salted(attribute.value))
 }
 
 /// Whether a packet has an attribute with a salted string. One pass.
 fn has_salted(view: &View<'_>) -> bool
-    ensures { IsTrue result ↔ IsSalted view.now }
+    ensures { result ≡ is_salted view.now.attributes }
 {
     for attribute in view.attributes() {
         if is_salted(&attribute) {
@@ -32,9 +30,8 @@ fn has_salted(view: &View<'_>) -> bool
     false
 }
 
-/// Whether a packet has a Tunnel-Password (type 69), of whatever size, or a Vendor-Specific (type
-/// 26) of vendor 311 whose sub-attributes are well formed and hold an MS-MPPE-Send-Key or
-/// MS-MPPE-Recv-Key (types 16 and 17).
+/// Whether a packet has an attribute of a kind with a salted string, of whatever size, or a Vendor-Specific whose
+/// sub-attributes are well formed and hold one (`SALTED_KINDS`).
 pub fn salted(view: &View<'_>) -> bool
     ensures salted { IsTrue result ↔ IsSalted view.now }
     ensures test { result ≡ is_salted view.now.attributes }

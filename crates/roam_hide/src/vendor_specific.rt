@@ -1,12 +1,23 @@
-//! The value of a Vendor-Specific (RFC 2865, section 5.26; RFC 2548, section 2.4).
+//! The value of a Vendor-Specific (RFC 2865, section 5.26).
 
-ghost use Rattle.std.specs.Prelude.{◌≡◌, ◌↔◌, ◌≤◌, List, IsTrue, length, drop};
-ghost use Rattle.roam_wire.specs.Packet.{Attribute};
+ghost use Rattle.std.specs.Prelude.{◌≡◌, ◌≤◌, length, take, drop};
+ghost use Rattle.std.specs.Option.{is_some};
 ghost use Rattle.roam_hide.specs.HidingKeys.{password_key};
-ghost use Rattle.roam_hide.specs.SaltedValues.{HoldsKey, IsVendorAnew, microsoft_value};
+ghost use Rattle.roam_hide.specs.Salted.{holds_salted};
+ghost use Rattle.roam_hide.specs.SaltedFunctions.{vendor_subs};
+ghost use Rattle.roam_hide.specs.SaltedValues.{IsVendorAnew, vendor_number};
 
 use crate::hiding_key::HidingKey;
-use crate::sub_attributes::{are_sub_attributes, has_key, rehide_keys};
+use crate::sub_attributes::{any_salted, rehide_subs};
+use roam_wire::Attrs;
+
+/// The vendor in the first four octets.
+fn vendor_of(value: &[u8]) -> u32
+    requires { 4 ≤ length value.now }
+    ensures { result ≡ vendor_number (take 4 value.now) }
+{
+    u32::from_be_bytes([value[0], value[1], value[2], value[3]])
+}
 
 /// What stands behind the vendor.
 fn behind_vendor(value: &[u8]) -> &[u8]
@@ -16,31 +27,28 @@ fn behind_vendor(value: &[u8]) -> &[u8]
     value.split_at(4).1
 }
 
-/// Whether a value is Microsoft's, with sub-attributes that are well formed.
-pub(crate) fn is_microsoft(value: &[u8]) -> bool
-    ensures { IsTrue result ↔ ((subs : List Attribute) × (value.now ≡ microsoft_value subs)) }
+/// Whether a value has a vendor, and sub-attributes that are well formed.
+fn is_well_formed(value: &[u8]) -> bool
+    ensures { result ≡ is_some (vendor_subs value.now) }
 {
-    let [0, 0, 1, 55, rest @ ..] = value else {
-        return false;
-    };
-    are_sub_attributes(rest)
+    value.len() >= 4 && Attrs::read(behind_vendor(value)).is_some()
 }
 
-/// Whether a value is Microsoft's, with sub-attributes that are well formed and hold a key.
-pub(crate) fn holds_key(value: &[u8]) -> bool
-    ensures { IsTrue result ↔ HoldsKey value.now }
+/// Whether a value has a vendor, and sub-attributes that are well formed, one of them with a salted string.
+pub(crate) fn holds_salted(value: &[u8]) -> bool
+    ensures { result ≡ holds_salted value.now }
 {
-    is_microsoft(value) && has_key(behind_vendor(value))
+    value.len() >= 4 && any_salted(behind_vendor(value), vendor_of(value))
 }
 
-/// Hides each MS-MPPE-Send-Key and MS-MPPE-Recv-Key (types 16 and 17) of a Vendor-Specific of
-/// vendor 311 anew, in place (RFC 2548, section 2.4). All else stays as it is: the value of another
-/// vendor, one in which a Length is missing, below 2 or past the end, other sub-attributes, and keys
-/// whose string has no octets or no whole blocks of 16.
+/// Hides the salted strings of a Vendor-Specific anew, in place. All else stays as it is: sub-attributes of a kind
+/// without a salted string, strings of no octets or no whole blocks of 16, and a value of less than four octets, or in
+/// which a Length is missing, below 2 or past the end.
 pub fn rehide_vendor(value: &mut [u8], from: HidingKey<'_>, to: HidingKey<'_>)
     ensures { IsVendorAnew (password_key from.entry) (password_key to.entry) value.old value.new }
 {
-    if is_microsoft(value) {
-        rehide_keys(&mut value[4..], from, to);
+    if is_well_formed(value) {
+        let vendor = vendor_of(value);
+        rehide_subs(&mut value[4..], vendor, from, to);
     }
 }

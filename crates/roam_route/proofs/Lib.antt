@@ -1,4 +1,7 @@
+pub mod AccountingLemmas
+pub mod AdmitsLemmas
 pub mod AdmittedLemmas
+pub mod AlikeLemmas
 pub mod AnswerLemmas
 pub mod CheckLemmas
 pub mod EventLemmas
@@ -10,5 +13,7 @@ pub mod PasswordLemmas
 pub mod RefusedArrivalLemmas
 pub mod RefusedLemmas
 pub mod RequestTestLemmas
+pub mod RightLemmas
+pub mod RoutedLemmas
 pub mod SenderLemmas
-pub mod AccountingLemmas
+pub mod SentLemmas

@@ -24,7 +24,7 @@ use Rattle.roam_route.specs.Admission.{Arrival, Admission, sender, checked, acco
 use Rattle.roam_route.specs.declared.job.Side.{Side}
 use Rattle.roam_route.specs.declared.job.Side.TheVariants as side
 use Rattle.roam_route.specs.OwnPart.{AnswerAlike, OwnAnswersDecided, answered}
-use Rattle.roam_route.proofs.OwnLemmas.{LooksAlike, access_by, asked, peer-found, realm-same, seal-same, secret-same}
+use Rattle.roam_route.proofs.AlikeLemmas.{LooksAlike, access_by, asked, peer-found, realm-same, seal-same, secret-same}
 
 -- what is checked is answered nowhere, where what follows isn't
 none-checked : (b : Bool) (why : Refusal) (x : Admission) → answered x ≡ None → answered (checked b why x) ≡ None

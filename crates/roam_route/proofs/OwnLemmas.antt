@@ -1,175 +1,32 @@
 -- What an arrival gives to one realm, in two configurations that have its part in common.
-use Rattle.std.proofs.Common.{◌≡◌, ℕ, Bool, true, false, List, [], ◌∷◌, Option, Some, None, option_map, refl, sym, ap, ap₂, subst, ◌∙◌, inl, inr, arith}
-use Rattle.std.specs.Prelude.{◌==◌, ◌&&◌, ◌||◌, not, is_some, if◌then◌else◌, nat_le, slice_get, Result, Ok, Err}
+use Rattle.std.proofs.Common.{◌≡◌, ℕ, Bool, false, List, [], Option, Some, None, option_map, refl, sym, ap, ap₂, subst, ◌∙◌, inl, inr}
+use Rattle.std.specs.Prelude.{◌==◌, ◌&&◌, ◌||◌, not, is_some, if◌then◌else◌, slice_get, Result, Ok, Err}
 use Rattle.std.proofs.lemmas.Bool.{cases_Bool}
-use Rattle.std.proofs.lemmas.Bool.Decides.{Decides-eqb, nat_tests}
-use Rattle.std.specs.Option.{option_and_then}
-use Rattle.roam_wire.specs.Packet.{Attribute, Packet}
+use Rattle.std.proofs.lemmas.Bool.Decides.{Decides-eqb}
+use Rattle.roam_wire.specs.Packet.{Packet}
 use Rattle.roam_wire.specs.Attributes.{first_value}
 use Rattle.roam_wire.specs.Reading.{reading}
 use Rattle.roam_wire.specs.declared.attribute_type.TheConstants.{USER_NAME}
 use Rattle.roam_wire.specs.declared.refusal.Refusal.{Refusal}
 use Rattle.roam_wire.specs.declared.refusal.Refusal.TheVariants as refusal
-use Rattle.roam_auth.specs.Deciding.{is_well_sealed}
 use Rattle.roam_conf.specs.Config.{ConfigView, PeerView, RealmView}
-use Rattle.roam_conf.specs.Lookup.{realm_named, peer_with_ip, link_in, home_in, servers_of}
+use Rattle.roam_conf.specs.Lookup.{realm_named, link_in, home_in, servers_of}
 use Rattle.roam_conf.specs.Secrets as secrets
 use Rattle.roam_conf.specs.declared.accounting.Accounting.{Accounting}
-use Rattle.roam_conf.specs.declared.accounting.Accounting.TheVariants.{Forwarded, Answered, Dropped}
 use Rattle.roam_conf.specs.declared.endpoint.Endpoint.{Endpoint}
 use Rattle.roam_conf.specs.declared.place.Place.{Place}
 use Rattle.roam_conf.specs.declared.place.Place.TheVariants as place
 use Rattle.roam_fwd.specs.Forwarded.{forwarded_length}
 use Rattle.roam_fwd.specs.Shaped.{shaped}
 use Rattle.roam_route.specs.UserName.{realm_of, realm_part}
-use Rattle.roam_route.specs.LocalAnswer.{accounting_answer, answer_length, local_reject, status_answer}
+use Rattle.roam_route.specs.LocalAnswer.{accounting_answer}
 use Rattle.roam_route.specs.LocalReject.{has_bad_password, has_too_many_hops, takes_of, taking}
 use Rattle.roam_route.specs.Shapings.{sent_length, shaping_between}
-use Rattle.roam_route.specs.Admission.{Arrival, Admission, sender, checked, accounted, accounting_in, by_accounting, is_answered_unnamed, is_unnamed, job_of, forwarded_for, answered_by, rejected_for, for_named_realm, route_request, request_admission, packet_admission, sent_admission, status_from, is_status_request, read_admission, admission, is_taken, peer_secret, home_secret, is_rightly_signed, is_rightly_sealed, has_needed_seal, has_few_hops, has_seal, seal_required}
+use Rattle.roam_route.specs.Admission.{Arrival, Admission, sender, checked, accounted, accounting_in, by_accounting, is_answered_unnamed, is_unnamed, forwarded_for, answered_by, rejected_for, route_request, request_admission, packet_admission, sent_admission, read_admission, admission, is_taken, peer_secret, home_secret, is_rightly_signed, is_rightly_sealed, has_needed_seal, has_few_hops, seal_required}
 use Rattle.roam_route.specs.declared.job.Side.{Side}
 use Rattle.roam_route.specs.declared.job.Side.TheVariants as side
 use Rattle.roam_route.specs.OwnPart.{own, HaveSamePart, OwnPartDecides}
-
--- what is checked gives the same where what follows does, and nothing where that gives nothing
-own-checked : (realm : ℕ) (b : Bool) (why : Refusal) (x y : Admission) → own realm x ≡ own realm y →
-    own realm (checked b why x) ≡ own realm (checked b why y)
-own-checked realm true why x y same = same
-own-checked realm false why x y same = refl
-
-none-checked : (realm : ℕ) (b : Bool) (why : Refusal) (x : Admission) → own realm x ≡ None →
-    own realm (checked b why x) ≡ None
-none-checked realm true why x none = none
-none-checked realm false why x none = refl
-
--- a packet of another realm
-none-given : (realm k : ℕ) (a : Arrival) (s : Side) (p : Packet) (names : Option ℕ) → (k == realm) ≡ false →
-    own realm (job_of a s p k names) ≡ None
-none-given realm k a s p names differs = rw differs refl
-
-none-forwarded : (realm k size : ℕ) (a : Arrival) (s : Side) (p : Packet) (names : Option ℕ)
-    → (k == realm) ≡ false → own realm (forwarded_for size a s p k names) ≡ None
-none-forwarded realm k size a s p names differs =
-    none-checked realm (nat_le size 4096) refusal.TooLong (job_of a s p k names)
-    (none-given realm k a s p names differs)
-
--- a Status-Server is no realm's
-none-status : (realm : ℕ) (config : ConfigView) (a : Arrival) (s : Side) (p : Packet) →
-    own realm (status_from config a s p) ≡ None
-none-status realm config a (side.Peer i) p =
-    let secret = peer_secret config i in
-    none-checked realm (is_well_sealed secret (p.authenticator ∷ []) p) refusal.BadMessageAuthenticator
-    (checked (has_seal p) refusal.MissingMessageAuthenticator (answered_by a (status_answer a.at secret p)))
-    (none-checked realm (has_seal p) refusal.MissingMessageAuthenticator
-    (answered_by a (status_answer a.at secret p)) refl)
-none-status realm config a (side.Link l) p = refl
-none-status realm config a (side.Home i) p = refl
-
--- what a packet of a known sender gives, unless it is a Status-Server
-abbrev judged : ConfigView → Arrival → Packet → Side → Admission
-judged config a p s = checked (is_taken a.at s p.code) refusal.WrongCode (packet_admission config a s p a.at)
-
--- what a request gives, by what it goes to
-abbrev pub asked : List ℕ → Packet → Bool → Option ℕ → Admission → Admission
-asked secret p required most further =
-    checked (is_rightly_signed secret p) refusal.BadAuthenticator
-    (checked (is_rightly_sealed secret p) refusal.BadMessageAuthenticator
-    (checked (has_needed_seal required p) refusal.MissingMessageAuthenticator
-    (checked (has_few_hops most p) refusal.TooManyHops further)))
-
--- a Status-Server's code is taken for nothing else
-not_taken : (config : ConfigView) (at : Place) (s : Side) (code : ℕ) → is_status_request config at s code ≡ true →
-    is_taken at s code ≡ false
-not_taken config place.Auth (side.Peer i) code is = grind (arith, nat_tests, is)
-not_taken config place.Acct (side.Peer i) code is = grind (arith, nat_tests, is)
-not_taken config place.Auth (side.Link l) code is = refl
-not_taken config place.Acct (side.Link l) code is = refl
-not_taken config place.Auth (side.Home i) code is = refl
-not_taken config place.Acct (side.Home i) code is = refl
-not_taken config (place.Out k) s code is = absurd (cc is)
-not_taken config (place.Reverse k) s code is = absurd (cc is)
-
--- so it gives nothing to a realm, whether it is answered or not
-sent-own : (realm : ℕ) (config : ConfigView) (a : Arrival) (p : Packet) (s : Side) →
-    own realm (sent_admission config a p (Some s)) ≡ own realm (judged config a p s)
-sent-own realm config a p s =
-    elim (cases_Bool (is_status_request config a.at s p.code)) [
-      | inl is ↦ rw (is, not_taken config a.at s p.code is) (none-status realm config a s p)
-      | inr not_so ↦ rw not_so refl
-    ]
-
--- no local reject is a realm's
-none-rejected : (realm : ℕ) (secret : List ℕ) (a : Arrival) (p : Packet) → own realm (rejected_for secret a p) ≡ None
-none-rejected realm secret a p =
-    none-checked realm (nat_le (answer_length p) 4096) refusal.TooLong (answered_by a (local_reject secret p)) refl
-
--- nor is an Accounting-Request of another realm
-none-by : (realm k size : ℕ) (way : Accounting) (secret : List ℕ) (a : Arrival) (s : Side) (p : Packet)
-    → (k == realm) ≡ false → own realm (by_accounting size secret a s p k way) ≡ None
-none-by realm k size Forwarded secret a s p differs = none-forwarded realm k size a s p (Some k) differs
-none-by realm k size Answered secret a s p differs = refl
-none-by realm k size Dropped secret a s p differs = refl
-
-none-accounted : (realm k : ℕ) (config : ConfigView) (secret : List ℕ) (a : Arrival) (s : Side) (p : Packet)
-    → (k == realm) ≡ false → own realm (accounted config secret a s p (Some k)) ≡ None
-none-accounted realm k config secret a s p differs =
-    let size : ℕ = sent_length config s p k in
-    none-checked realm (takes_of config k s) refusal.NotForPeer
-    (by_accounting size secret a s p k (accounting_in config k))
-    (none-by realm k size (accounting_in config k) secret a s p differs)
-
--- an Access-Request, by the realm that it asks and the one that it names
-abbrev pub access_by : ConfigView → List ℕ → Arrival → Side → Packet → Option ℕ → Option ℕ → Option ℕ → Admission
-access_by config secret a s p most asks named =
-    if not (is_some asks) || has_bad_password p || has_too_many_hops most p then rejected_for secret a p
-    else for_named_realm config a s p named
-
-either-none : (realm : ℕ) (b : Bool) (x y : Admission) → own realm x ≡ None → own realm y ≡ None
-    → own realm (if b then x else y) ≡ None
-either-none realm true x y first second = first
-either-none realm false x y first second = second
-
-none-access : (realm k : ℕ) (config : ConfigView) (secret : List ℕ) (a : Arrival) (s : Side) (p : Packet)
-    (most asks : Option ℕ) → (k == realm) ≡ false → own realm (access_by config secret a s p most asks (Some k)) ≡ None
-none-access realm k config secret a s p most asks differs =
-    either-none realm (not (is_some asks) || has_bad_password p || has_too_many_hops most p) (rejected_for secret a p)
-    (for_named_realm config a s p (Some k)) (none-rejected realm secret a p)
-    (none-forwarded realm k (sent_length config s p k) a s p (Some k) differs)
-
--- what names a realm has a name
-not-unnamed : {X Y Z : Type 0} (f : X → Option Y) (g : Y → Option Z) (o : Option X) (z : Z)
-    → option_and_then g (option_and_then f o) ≡ Some z → not (is_some o) ≡ false
-not-unnamed f g None z is = absurd (cc is)
-not-unnamed f g (Some x) z is = refl
-
-and-false : (b : Bool) → (b && false) ≡ false
-and-false true = refl
-and-false false = refl
-
--- two configurations have the same peers, the same meaning of each name, and the same limit of hops
-pub record LooksAlike (one other : ConfigView) : Type 0 where
-  pub peers : one.peers ≡ other.peers
-  pub names : (name : List ℕ) → realm_named one name ≡ realm_named other name
-  pub max_hops : one.max_hops ≡ other.max_hops
-
-module _ (one other : ConfigView) (same : LooksAlike one other) where
-  names-same : (o : Option (List ℕ)) → option_and_then (realm_named one) o ≡ option_and_then (realm_named other) o
-  names-same None = refl
-  names-same (Some name) = same.names name
-
-  pub realm-same : (attributes : List Attribute) → realm_of one attributes ≡ realm_of other attributes
-  realm-same attributes = names-same (option_and_then realm_part (first_value USER_NAME attributes))
-
-  pub seal-same : (s : Side) (p : Packet) → seal_required one s p ≡ seal_required other s p
-  seal-same (side.Peer i) p = rw same.peers refl
-  seal-same (side.Home i) p = refl
-  seal-same (side.Link l) p = refl
-
-  pub secret-same : (i : ℕ) → peer_secret one i ≡ peer_secret other i
-  secret-same i = ap (λ (ps : List PeerView). secrets.peer_secret ps i) same.peers
-
-  -- and which peer it is
-  pub peer-found : (ip : List ℕ) → peer_with_ip one.peers ip ≡ peer_with_ip other.peers ip
-  peer-found ip = ap (λ (ps : List PeerView). peer_with_ip ps ip) same.peers
+use Rattle.roam_route.proofs.AlikeLemmas.{LooksAlike, access_by, and-false, asked, either-none, none-access, none-accounted, none-forwarded, not-unnamed, own-checked, peer-found, realm-same, seal-same, secret-same, sent-own, out-none, reverse-none}
 
 module _ (one other : ConfigView) (realm : ℕ) (same : HaveSamePart one other realm) where
   alike : LooksAlike one other
@@ -372,35 +229,6 @@ module _ (one other : ConfigView) (realm : ℕ) (same : HaveSamePart one other r
   home-found : (ip : List ℕ) → home_in one realm ip ≡ home_in other realm ip
   home-found ip = rw same.entry refl
 
-  -- at another realm's places nothing is the realm's
-  out-none : (config : ConfigView) (k : ℕ) (from : Endpoint) (octets : List ℕ) (p : Packet) (s : Option Side) →
-      (k == realm) ≡ false
-      → own realm (sent_admission config (record { at = place.Out k; from = from; octets = octets }) p s) ≡ None
-  out-none config k from octets p None differs = refl
-  out-none config k from octets p (Some s) differs =
-      let a : Arrival = record { at = place.Out k; from = from; octets = octets } in
-      none-checked realm (is_taken (place.Out k) s p.code) refusal.WrongCode (job_of a s p k None)
-      (none-given realm k a s p None differs)
-
-  reverse-none : (config : ConfigView) (k : ℕ) (from : Endpoint) (octets : List ℕ) (p : Packet) (o : Option ℕ) →
-      (k == realm) ≡ false
-      → own realm (sent_admission config (record { at = place.Reverse k; from = from; octets = octets }) p
-      (option_map (λ i. side.Home i) o)) ≡ None
-  reverse-none config k from octets p None differs = refl
-  reverse-none config k from octets p (Some i) differs =
-      let a : Arrival = record { at = place.Reverse k; from = from; octets = octets } in
-      let secret = home_secret config k i in
-      none-checked realm (is_taken (place.Reverse k) (side.Home i) p.code) refusal.WrongCode
-      (request_admission config secret a (side.Home i) p)
-      (none-checked realm (is_rightly_signed secret p) refusal.BadAuthenticator _
-      (none-checked realm (is_rightly_sealed secret p) refusal.BadMessageAuthenticator _
-      (none-checked realm (has_needed_seal (seal_required config (side.Home i) p) p)
-      refusal.MissingMessageAuthenticator _
-      (none-checked realm (has_few_hops config.max_hops p) refusal.TooManyHops
-      (forwarded_for (sent_length config (side.Home i) p k) a (side.Home i) p k (realm_of config p.attributes))
-      (none-forwarded realm k (sent_length config (side.Home i) p k) a (side.Home i) p
-      (realm_of config p.attributes) differs)))))
-
   place-same : (at : Place) (from : Endpoint) (octets : List ℕ) (p : Packet) → let a : Arrival =
       record { at = at; from = from; octets = octets } in
       own realm (sent_admission one a p (sender one a at)) ≡ own realm (sent_admission other a p (sender other a at))
@@ -421,8 +249,8 @@ module _ (one other : ConfigView) (realm : ℕ) (same : HaveSamePart one other r
             (ap (λ o. option_map (λ l. side.Link l) o) (link-found from)) in
             known-same a p (sender one a (place.Out k)) (λ j is. absurd (cc is))
             ∙ ap (λ (s : Option Side). own realm (sent_admission other a p s)) found_by)
-        | inr no' ↦ out-none one k from octets p (sender one a (place.Out k)) no'
-            ∙ sym (out-none other k from octets p (sender other a (place.Out k)) no')
+        | inr no' ↦ out-none realm one k from octets p (sender one a (place.Out k)) no'
+            ∙ sym (out-none realm other k from octets p (sender other a (place.Out k)) no')
       ]
   place-same (place.Reverse k) from octets p =
       let a : Arrival = record { at = place.Reverse k; from = from; octets = octets } in
@@ -435,8 +263,8 @@ module _ (one other : ConfigView) (realm : ℕ) (same : HaveSamePart one other r
             (ap (λ o. option_map (λ i. side.Home i) o) (home-found from.ip)) in
             known-same a p (sender one a (place.Reverse k)) (λ j is. (let at_k : k ≡ j = cc is in sym at_k ∙ here))
             ∙ ap (λ (s : Option Side). own realm (sent_admission other a p s)) found_by)
-        | inr no' ↦ reverse-none one k from octets p (home_in one k from.ip) no'
-            ∙ sym (reverse-none other k from octets p (home_in other k from.ip) no')
+        | inr no' ↦ reverse-none realm one k from octets p (home_in one k from.ip) no'
+            ∙ sym (reverse-none realm other k from octets p (home_in other k from.ip) no')
       ]
 
   read-same : (a : Arrival) (read : Result Packet Refusal) →

@@ -23,7 +23,9 @@ use Rattle.roam_route.specs.AdmittedRequests.{IsRequestAt, IsRightlySigned, seal
 use Rattle.roam_route.specs.declared.job.Side.{Side}
 use Rattle.roam_route.specs.declared.job.Side.TheVariants as side
 use Rattle.roam_route.proofs.RequestTestLemmas.{signed_decided, sealed_decided, needed_decided, size_by, passed_decided}
-use Rattle.roam_route.proofs.AdmittedLemmas.{asked_named, fails, Fits, other_hops, access_hops, front_checked, reverse_other, judged_is, as_sent}
+use Rattle.roam_route.proofs.RoutedLemmas.{asked_named, fails, Fits}
+use Rattle.roam_route.proofs.RightLemmas.{other_hops, access_hops, front_checked, reverse_other}
+use Rattle.roam_route.proofs.AdmittedLemmas.{judged_is, as_sent}
 
 -- ---- what is refused
 

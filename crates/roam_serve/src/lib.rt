@@ -16,10 +16,9 @@
 mod server;
 
 pub use roam_control::Build;
-pub use roam_run::{Following, NoSource, Source, Watch};
 pub use roam_sockets::{
     ControlSocket, Reason, ServeFault, SocketPath, descriptors_wanted, reason_of, with_drawn_seed,
 };
 pub use roam_stations::{StationForm, StationKey};
-pub use roam_telling::Counters;
+pub use roam_succession::{Counters, Following, NoSource, Open, Source, Watch};
 pub use server::{ServeOptions, serve};

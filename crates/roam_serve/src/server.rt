@@ -8,15 +8,14 @@ ghost use Rattle.roam_sockets.specs.Faults.{IsAfterBinding, IsFaultOf};
 use log::Log;
 use roam_conf::{Config, ExchangeLines};
 use roam_control::{Build, Office, Stopping};
-use roam_hub::Gate;
 use roam_port::socket_numbers;
-use roam_run::{Configured, Handover, Means, ServerParts, Source, Watch, widen_all};
 use roam_sockets::{BoundSocket, ServeFault, bind_all, descriptors_wanted, listen_at, reason_of};
 use roam_stations::StationForm;
-use roam_succession::serve_all;
-use roam_telling::Notice;
-use roam_threads::{Behind, make_kits, make_outboxes, start_behind};
-use roam_workers::{CAUSES, OldHistory, Rests, SharedLosses, tell_or_drop};
+use roam_succession::{
+    Behind, CAUSES, Configured, Gate, Handover, Means, Notice, OldHistory, Rests, ServerParts,
+    SharedLosses, Source, Watch, make_kits, make_outboxes, serve_all, start_behind, tell_or_drop,
+    widen_all,
+};
 use std::alloc::Global;
 use std::net::{Net, TcpListener};
 use std::random::RandomSource;

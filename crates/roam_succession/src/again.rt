@@ -5,10 +5,8 @@ ghost use Rattle.roam_history.specs.Books.{count_of};
 ghost use Rattle.roam_sockets.specs.Faults.{IsAfterBinding};
 
 use roam_port::{Outbox, socket_numbers};
-use roam_run::{Configured, FreshMeans, ServerParts};
+use roam_run::{Configured, FreshMeans, Rests, ServerParts, fill_outboxes};
 use roam_sockets::{ServeFault, descriptors_wanted, now};
-use roam_threads::fill_outboxes;
-use roam_workers::Rests;
 use std::alloc::Global;
 use std::net::Net;
 use std::time::Clock;

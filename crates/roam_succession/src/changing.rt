@@ -11,11 +11,10 @@ ghost use Rattle.roam_succession.specs.Served.{GoOn};
 use roam_conf::Config;
 use roam_control::done;
 use roam_hub::{Blanks, follow};
-use roam_run::{Configured, Handover, Next, ServerParts, counters_of, out_of_memory};
+use roam_run::{
+    Configured, Counters, Handover, Kits, Next, Rests, ServerParts, counters_of, out_of_memory,
+};
 use roam_shard::Paused;
-use roam_telling::Counters;
-use roam_threads::Kits;
-use roam_workers::Rests;
 use std::alloc::Global;
 
 /// Goes on with what was counted, under the configuration that follows.

@@ -16,3 +16,12 @@ mod serving;
 mod unserved;
 
 pub use serving::serve_all;
+
+// What stands above takes these from here, and lists this crate alone of those that it goes over: `rt` looks at all
+// below a crate by each way down, and the ways double with each crate that lists all others.
+pub use roam_hub::{Gate, Open};
+pub use roam_run::{
+    Behind, CAUSES, Configured, Counters, Following, Handover, Means, NoSource, Notice, OldHistory,
+    Rests, ServerParts, SharedLosses, Source, Watch, make_kits, make_outboxes, start_behind,
+    tell_or_drop, widen_all,
+};

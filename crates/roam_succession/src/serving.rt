@@ -16,13 +16,11 @@ use log::Log;
 use roam_hub::{Blanks, Gate};
 use roam_port::Outbox;
 use roam_run::{
-    Configured, FreshMeans, Handover, HubEnd, Means, Served, ServerParts, Source, Unserved,
-    serve_first, serve_over,
+    Configured, FreshMeans, Handover, HubEnd, Means, Notice, Rests, Served, ServerParts, Source,
+    Unserved, serve_first, serve_over, tell_or_drop,
 };
 use roam_shard::{Paused, first_starts};
 use roam_sockets::ServeFault;
-use roam_telling::Notice;
-use roam_workers::{Rests, tell_or_drop};
 use std::alloc::Global;
 use std::marker::Brand;
 use std::net::Net;

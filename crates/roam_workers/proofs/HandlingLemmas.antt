@@ -97,6 +97,7 @@ pub refusal_is : (o : HubOpening) (config : ConfigView) (now : ℕ) (d : Arrival
     → config ≡ o.config → IsAdmission {A = Global} (Err why) (admission config d)
     → (why ≡ refusal.NoMemory → WantsMemory (admission config d)) → new ≡ old
     → IsHandled o now d old new (refused_as why)
+unfolding error_or
 refusal_is o config now d why old new same is memory kept = elim is [
   | inl none ↦ wants o config now d why old new same memory kept (ap (error_or refusal.NoMemory) none)
   | inr found ↦ (elim (as_refused why) [

@@ -1,6 +1,6 @@
 //! All examples, in one test: a test costs the proof more than an example.
 
-use crate::{auth_tests, hide_tests};
+use crate::{auth_tests, hide_tests, salted_tests};
 
 #[test]
 fn all_examples(rt: HostRuntime) {
@@ -14,8 +14,8 @@ fn all_examples(rt: HostRuntime) {
     hide_tests::passwords_are_hidden_anew(&rt);
     hide_tests::published_passwords_are_hidden_anew(&rt);
     hide_tests::passwords_of_these_sizes_fit(&rt);
-    hide_tests::tunnel_passwords_are_hidden_anew(&rt);
-    hide_tests::salted_strings_are_hidden_anew(&rt);
-    hide_tests::other_vendor_specifics_stay(&rt);
-    hide_tests::salted_packets_are_told(&rt);
+    salted_tests::tunnel_passwords_are_hidden_anew(&rt);
+    salted_tests::salted_strings_are_hidden_anew(&rt);
+    salted_tests::other_vendor_specifics_stay(&rt);
+    salted_tests::salted_packets_are_told(&rt);
 }

@@ -1,9 +1,8 @@
 //! What is shown of an answer, whether it is whole, and what a log writes whose writer fails.
 
 use log::Level;
-use roam_commands::body_of;
+use roam_commands::{Reason, ServeFault, SocketPath, body_of};
 use roam_outlet::{LogReader, Outlet, write_on};
-use roam_serve::{Reason, ServeFault, SocketPath};
 use roam_words::{Fault, shown};
 use std::io;
 use std::io::{ErrorKind, Write};

@@ -2,9 +2,8 @@
 
 use crate::statement_tests::STATED;
 use log::Log;
-use roam_commands::command;
+use roam_commands::{Reason, ServeFault, command};
 use roam_conf::Endpoint;
-use roam_serve::{Reason, ServeFault};
 use roam_words::Fault;
 use std::io::{ErrorKind, Write};
 use std::net::Net;

@@ -5,6 +5,7 @@
 
 ghost use Rattle.std.specs.Prelude.{◌≡◌, ◌≤◌, length, option_map, if◌then◌else◌};
 ghost use Rattle.roam_wire.specs.Reading.{IsPacketText};
+ghost use Rattle.roam_pending.specs.EntryList.{is_beside};
 ghost use Rattle.roam_book.specs.Private.NewEntry.{once_gone};
 ghost use Rattle.roam_book.specs.Private.Sharing.{has_part, has_part_below, sum_below};
 ghost use Rattle.roam_book.specs.RealmConfig.{server_link};
@@ -44,6 +45,16 @@ fn is_same_part(part: Option<&[u8]>, other: Option<&[u8]>) -> bool
     }
 }
 
+/// Whether a ticket isn't the one that counts as gone.
+fn is_beside(gone: Option<u64>, ticket: u64) -> bool
+    ensures { result ≡ is_beside gone ticket }
+{
+    match gone {
+        None => true,
+        Some(gone) => ticket != gone,
+    }
+}
+
 /// One, where that is so.
 fn one_if(is_so: bool) -> usize
     ensures value { result ≡ if is_so then 1 else 0 }
@@ -62,7 +73,7 @@ impl<A: Allocator + Copy, E: Entries<A>> RealmBroker<'_, '_, '_, '_, A, E> {
         match self.waiting_at(link, id) {
             None => false,
             Some(entry) => {
-                gone != Some(entry.ticket)
+                is_beside(gone, entry.ticket)
                     && is_same_part(name_part(entry.request.octets.as_slice()), part)
             }
         }

@@ -1,5 +1,11 @@
+use Rattle.std.proofs.Common.{◌≡◌, ◌==◌, false, Option, ap, ◌∙◌}
+use Rattle.std.proofs.lemmas.Bool.{ne_eqb}
+use Rattle.roam_wire.specs.declared.attribute_type.TheConstants.{VENDOR_SPECIFIC}
+use Rattle.roam_hide.specs.declared.salted_kinds.Salting.{Salting}
+use Rattle.roam_hide.specs.SaltedFunctions.{value_anew}
 use Rattle.roam_hide.specs.HidingKeys.{password_key}
-use Rattle.roam_hide.proofs.SaltedFunctionLemmas.{is_hidden_anew, is_tunnel_anew, is_vendor_anew}
+use Rattle.roam_hide.proofs.SaltedFunctionLemmas.{is_hidden_anew}
+use Rattle.roam_hide.proofs.VendorLemmas.{is_vendor_anew}
 use Rattle.roam_hide.proofs.packet_values.rehide_value_of.Goals as goal
 
 -- the one way in which it can be hidden anew
@@ -9,14 +15,17 @@ returns-then-kind-eq-USER_PASSWORD c =
     (is_hidden_anew (password_key c.args.from) (password_key c.args.to) c.args.value.now
     c.rehide_password.new.value c.rehide_password.ensures)
 
-pub returns-in-69 : goal.returns-in-69
-returns-in-69 c =
-    rw (c.in-SaltedStrings.is, c.in-69.is)
-    (is_tunnel_anew (password_key c.args.from) (password_key c.args.to) c.args.value.now
-    c.rehide_tunnel.new.value c.rehide_tunnel.ensures)
-
-pub returns-in-26 : goal.returns-in-26
-returns-in-26 c =
-    rw (c.in-SaltedStrings.is, c.in-26.is)
+pub returns-then-kind-eq-VENDOR_SPECIFIC : goal.returns-then-kind-eq-VENDOR_SPECIFIC
+returns-then-kind-eq-VENDOR_SPECIFIC c =
+    rw (c.in-SaltedStrings.is, c.if-kind-eq-VENDOR_SPECIFIC.true)
     (is_vendor_anew (password_key c.args.from) (password_key c.args.to) c.args.value.now
     c.rehide_vendor.new.value c.rehide_vendor.ensures)
+
+pub returns-else-kind-eq-VENDOR_SPECIFIC : goal.returns-else-kind-eq-VENDOR_SPECIFIC
+returns-else-kind-eq-VENDOR_SPECIFIC c =
+    let no : (c.args.kind == VENDOR_SPECIFIC) ≡ false =
+    ne_eqb c.args.kind VENDOR_SPECIFIC c.if-kind-eq-VENDOR_SPECIFIC.false in
+    rw (c.in-SaltedStrings.is, no)
+    (c.rehide_by.ensures
+    ∙ ap (λ (salting : Option Salting). value_anew (password_key c.args.from) (password_key c.args.to) salting
+    c.args.value.now) c.salting_of.ensures)

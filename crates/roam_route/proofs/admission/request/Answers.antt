@@ -1,5 +1,5 @@
 use Rattle.std.proofs.Common.{sym, ◌∙◌}
-use Rattle.roam_route.proofs.EventLemmas.{sealed_once}
+use Rattle.roam_route.proofs.AdmitsLemmas.{sealed_once}
 use Rattle.roam_route.proofs.admission.request.Goals as goal
 
 -- what is rightly sealed has at most one Message-Authenticator

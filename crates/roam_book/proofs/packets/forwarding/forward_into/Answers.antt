@@ -1,12 +1,12 @@
-use Rattle.std.proofs.Common.{◌≡◌, ◌∙◌, ap, length, subst, sym, arith}
+use Rattle.std.proofs.Common.{◌≡◌, ◌∙◌, ℕ, ap, length, subst, sym, arith}
+use Rattle.roam_wire.specs.Packet.{Packet}
 use Rattle.roam_wire.specs.Reading.{packet_of}
-use Rattle.roam_fwd.specs.Shaped.{CanBeShaped, HasShortName, Shaping, shaped, shown_shaping}
-use Rattle.roam_fwd.specs.Forwarded.{forwarded_length}
+use Rattle.roam_fwd.specs.Shaped.{shown_shaping}
 use Rattle.roam_pending.specs.PlainEntry.{PlainRequest}
 use Rattle.roam_book.specs.RealmConfig.{RealmConfig}
 use Rattle.roam_book.specs.RealmState.{Target}
 use Rattle.roam_book.specs.OnRequest.{forwarded_octets}
-use Rattle.roam_book.specs.Shapings.{forwarded_size, shaping}
+use Rattle.roam_book.specs.Shapings.{shaping, shaping_of}
 use Rattle.roam_book.specs.Sound.{shown_request, IsWaiting}
 use Rattle.roam_book.proofs.SendingLemmas.{IsSpelt, IsWaiting-forwarded, length-forwarded_octets, octets-written}
 use Rattle.roam_book.proofs.ShapingLemmas.{can-be-shaped}
@@ -17,8 +17,10 @@ pub forward_shaped_reserved-requires-clause-room : goal.forward_shaped_reserved-
 forward_shaped_reserved-requires-clause-room g c =
     let q : PlainRequest = shown_request c.args.hop.asked in
     let read : c.of_packet-request.result ≡ packet_of q.octets = c.of_packet-request.ensures in
+    let code : c.code.result ≡ (packet_of q.octets).code = c.code.ensures ∙ ap (λ (x : Packet). x.code) read in
     let shape : shown_shaping c.shaping_of-shaping.result ≡ shaping c.args.settings.now q c.args.hop.link =
-    rw read at c.shaping_of-shaping.ensures.shaping in
+    c.shaping_of-shaping.ensures.shaping
+    ∙ ap (λ (k : ℕ). shaping_of c.args.settings.now q.requester k c.args.hop.link) code in
     rw (shape, read) (omega (arith, c.requires.room.room, c.requires.room.length))
 
 -- the request can be forwarded as it is shaped
@@ -26,8 +28,10 @@ pub forward_shaped_reserved-requires-clause-can_be_shaped : goal.forward_shaped_
 forward_shaped_reserved-requires-clause-can_be_shaped g c =
     let q : PlainRequest = shown_request c.args.hop.asked in
     let read : c.of_packet-request.result ≡ packet_of q.octets = c.of_packet-request.ensures in
+    let code : c.code.result ≡ (packet_of q.octets).code = c.code.ensures ∙ ap (λ (x : Packet). x.code) read in
     let shape : shown_shaping c.shaping_of-shaping.result ≡ shaping c.args.settings.now q c.args.hop.link =
-    rw read at c.shaping_of-shaping.ensures.shaping in
+    c.shaping_of-shaping.ensures.shaping
+    ∙ ap (λ (k : ℕ). shaping_of c.args.settings.now q.requester k c.args.hop.link) code in
     rw (shape, read)
     (can-be-shaped c.args.settings.now q.requester (packet_of q.octets) c.args.hop.link
     c.requires.request.packet.packet c.requires.request.can_go)
@@ -39,8 +43,10 @@ returns-clause-octets g c =
     let q : PlainRequest = shown_request c.args.hop.asked in
     let target : Target = record { link = c.args.hop.link; id = c.args.id } in
     let read : c.of_packet-request.result ≡ packet_of q.octets = c.of_packet-request.ensures in
+    let code : c.code.result ≡ (packet_of q.octets).code = c.code.ensures ∙ ap (λ (x : Packet). x.code) read in
     let shape : shown_shaping c.shaping_of-shaping.result ≡ shaping config q c.args.hop.link =
-    rw read at c.shaping_of-shaping.ensures.shaping in
+    c.shaping_of-shaping.ensures.shaping
+    ∙ ap (λ (k : ℕ). shaping_of config q.requester k c.args.hop.link) code in
     octets-written config q c.args.position c.args.hop.ticket target c.drawn_at.result c.args.out.now.items
     c.forward_shaped_reserved.new.out.items c.secret_of_requester.result.now c.secret_of_link.result.now
     (shown_shaping c.shaping_of-shaping.result) c.of_packet-request.result
@@ -53,8 +59,10 @@ returns-clause-waiting g c =
     let q : PlainRequest = shown_request c.args.hop.asked in
     let target : Target = record { link = c.args.hop.link; id = c.args.id } in
     let read : c.of_packet-request.result ≡ packet_of q.octets = c.of_packet-request.ensures in
+    let code : c.code.result ≡ (packet_of q.octets).code = c.code.ensures ∙ ap (λ (x : Packet). x.code) read in
     let shape : shown_shaping c.shaping_of-shaping.result ≡ shaping config q c.args.hop.link =
-    rw read at c.shaping_of-shaping.ensures.shaping in
+    c.shaping_of-shaping.ensures.shaping
+    ∙ ap (λ (k : ℕ). shaping_of config q.requester k c.args.hop.link) code in
     let spelt : IsSpelt (shaping config q c.args.hop.link) =
     subst IsSpelt shape
     (record { name = c.shaping_of-shaping.ensures.name; octets = c.shaping_of-shaping.ensures.octets }) in
@@ -76,8 +84,10 @@ returns-clause-size g c =
     let q : PlainRequest = shown_request c.args.hop.asked in
     let target : Target = record { link = c.args.hop.link; id = c.args.id } in
     let read : c.of_packet-request.result ≡ packet_of q.octets = c.of_packet-request.ensures in
+    let code : c.code.result ≡ (packet_of q.octets).code = c.code.ensures ∙ ap (λ (x : Packet). x.code) read in
     let shape : shown_shaping c.shaping_of-shaping.result ≡ shaping config q c.args.hop.link =
-    rw read at c.shaping_of-shaping.ensures.shaping in
+    c.shaping_of-shaping.ensures.shaping
+    ∙ ap (λ (k : ℕ). shaping_of config q.requester k c.args.hop.link) code in
     let spelt : IsSpelt (shaping config q c.args.hop.link) =
     subst IsSpelt shape
     (record { name = c.shaping_of-shaping.ensures.name; octets = c.shaping_of-shaping.ensures.octets }) in

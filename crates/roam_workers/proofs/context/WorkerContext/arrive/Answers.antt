@@ -8,6 +8,6 @@ pub returns-clause-arrives : goal.returns-clause-arrives
 returns-clause-arrives g c = record {
   handling = c.handle-handling.result;
   is_handled = c.handle-handling.ensures.handled;
-  counted = c.after.ensures
+  counted = c.after-self.ensures
       ∙ ap (λ (d : Datagrams). handled d.counts c.handle-handling.result) c.handle-handling.ensures.kept.0;
 }

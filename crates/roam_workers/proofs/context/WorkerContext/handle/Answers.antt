@@ -1,6 +1,7 @@
 -- What admission says of a datagram is what becomes of it.
-use Rattle.std.proofs.Common.{Ok, subst, sym}
+use Rattle.std.proofs.Common.{◌≡◌, Ok, Err, ap, subst, sym}
 use Rattle.std.specs.declared.alloc.Global.{Global}
+use Rattle.roam_wire.specs.declared.refusal.Refusal.TheVariants as refusal
 use Rattle.roam_conf.specs.Shown.{shown}
 use Rattle.roam_route.specs.Admission.{admission}
 use Rattle.roam_route.specs.Shown.{IsAdmission, shown_arrival, shown_out}
@@ -34,5 +35,7 @@ returns-in-Err-clause-handled g c =
     let d = shown_arrival c.args.datagram.now in
     let self = c.args.self.now in
     subst (IsHandled o self.now d self.seat c.refuse.new.self.seat) (sym c.refused_as.ensures)
-    (refusal_is o _ self.now d c.in-Err.refusal _ _ self.shared.now.same c.in-Err.ensures.answer c.in-Err.ensures.memory
+    (refusal_is o _ self.now d c.in-Err.refusal _ _ self.shared.now.same c.in-Err.ensures.answer
+    (λ (none : c.in-Err.refusal ≡ refusal.NoMemory).
+    c.in-Err.ensures.memory (ap Err none))
     c.refuse.ensures.kept.0)

@@ -1,0 +1,164 @@
+-- What is admitted of a packet, by its sender.
+use Rattle.std.proofs.Common.{◌≡◌, ℕ, Bool, true, List, [], ◌∷◌, Option, Some, None, refl, sym, ap, subst, ◌∙◌, arith}
+use Rattle.std.specs.Prelude.{option_map}
+use Rattle.std.proofs.lemmas.Bool.Decides.{nat_tests}
+use Rattle.roam_wire.specs.Packet.{Packet, packet_text}
+use Rattle.roam_wire.specs.declared.code.TheConstants.{ACCESS_REQUEST}
+use Rattle.roam_wire.specs.declared.refusal.Refusal.TheVariants as refusal
+use Rattle.roam_auth.specs.Deciding.{is_well_sealed}
+use Rattle.roam_auth.specs.MessageAuthenticator.{HasAtMostOneMessageAuthenticator}
+use Rattle.roam_conf.specs.Config.{ConfigView}
+use Rattle.roam_conf.specs.Lookup.{peer_with_ip}
+use Rattle.roam_conf.specs.declared.place.Place.{Place}
+use Rattle.roam_conf.specs.declared.place.Place.TheVariants as place
+use Rattle.roam_route.specs.UserName.{realm_of}
+use Rattle.roam_route.specs.LocalAnswer.{accounting_answer, status_answer}
+use Rattle.roam_route.specs.LocalReject.{is_rejected}
+use Rattle.roam_route.specs.Admission.{Arrival, PlainOut, Admission, sender, checked, accounted, is_answered_unnamed, answered_by, rejected_for, for_named_realm, route_request, packet_admission, sent_admission, is_taken, has_seal, is_status_request, status_admission, status_from, peer_secret, home_secret}
+use Rattle.roam_route.specs.declared.job.Side.{Side}
+use Rattle.roam_route.specs.declared.job.Side.TheVariants as side
+use Rattle.roam_route.proofs.PasswordLemmas.{unrejected_blocks}
+use Rattle.roam_route.proofs.SenderLemmas.{realm_of_within, peer_known, link_known, home_known}
+use Rattle.roam_route.proofs.AdmitsLemmas.{Admits, IsFor, IsFromPeer, accounted_admits, answer_admits, checked_admits, either_admits, forwarded_admits, given_admits, own_realm_admits, refused_admits, reject_admits, rejected_admits, request_admits}
+
+-- the codes of an access server at each place, and of a home server
+code_at_acct : (s : Side) (code : ℕ) → is_taken place.Acct s code ≡ true → code ≡ ACCESS_REQUEST
+    → ⊥
+code_at_acct (side.Peer i) code taken access = grind (arith, nat_tests, taken, access)
+code_at_acct (side.Link l) code taken access = absurd (cc taken)
+code_at_acct (side.Home i) code taken access = absurd (cc taken)
+
+code_at_reverse : (realm i code : ℕ) → is_taken (place.Reverse realm) (side.Home i) code ≡ true
+    → code ≡ ACCESS_REQUEST → ⊥
+code_at_reverse realm i code taken access = grind (arith, nat_tests, taken, access)
+
+-- a peer's request, where it goes from its place
+peer_admits : (config : ConfigView) (secret : List ℕ) (a : Arrival) (i : ℕ) (p : Packet)
+    (at : Place)
+    → is_taken at (side.Peer i) p.code ≡ true → IsFromPeer config a i p
+    → HasAtMostOneMessageAuthenticator p
+    → Admits config a p (route_request config secret a (side.Peer i) p at)
+unfolding IsFromPeer
+peer_admits config secret a i p place.Auth test h seal =
+    let named_one : Admission = for_named_realm config a (side.Peer i) p (realm_of config p.attributes) in
+    either_admits config a p (is_rejected config (side.Peer i) p) (rejected_for secret a p) named_one
+    (reject_admits config secret a p)
+    (λ passes. own_realm_admits config a i p h (record {
+      seal = seal;
+      passwords = λ _. unrejected_blocks config (side.Peer i) p passes;
+    }))
+peer_admits config secret a i p place.Acct test h seal =
+    let named : Option ℕ = realm_of config p.attributes in
+    either_admits config a p (is_answered_unnamed config p) (answered_by a (accounting_answer secret p))
+    (accounted config secret a (side.Peer i) p named) (answer_admits config secret a p)
+    (λ _. accounted_admits config secret a i p named refl (λ x is. h x (realm_of_within config p.attributes x is))
+    (record {
+      seal = seal;
+      passwords = λ access. absurd (code_at_acct (side.Peer i) p.code test access);
+    }))
+peer_admits config secret a i p (place.Out realm) test h seal = absurd (cc test)
+peer_admits config secret a i p (place.Reverse realm) test h seal = absurd (cc test)
+
+-- a home server's goes to the realm of its place
+home_admits : (config : ConfigView) (secret : List ℕ) (a : Arrival) (i : ℕ) (p : Packet) (realm : ℕ)
+    → is_taken (place.Reverse realm) (side.Home i) p.code ≡ true
+    → IsFor config a (side.Home i) p realm → HasAtMostOneMessageAuthenticator p
+    → Admits config a p (route_request config secret a (side.Home i) p (place.Reverse realm))
+home_admits config secret a i p realm test h seal =
+    forwarded_admits config a (side.Home i) p realm (realm_of config p.attributes) h (record {
+      seal = seal;
+      passwords = λ access. absurd (code_at_reverse realm i p.code test access);
+    }) refl
+
+from_peer : (config : ConfigView) (a : Arrival) (i : ℕ) (p : Packet)
+    → option_map (λ n. side.Peer n) (peer_with_ip config.peers a.from.ip) ≡ Some (side.Peer i)
+    → is_taken a.at (side.Peer i) p.code ≡ true → IsFromPeer config a i p
+unfolding IsFromPeer
+from_peer config a i p from test = λ realm within. record {
+  code = test;
+  within = within;
+  sender = peer_known config a i from;
+}
+
+-- the same by the place of the arrival
+taken_at : (a : Arrival) (s : Side) (p : Packet) (at : Place) → a.at ≡ at
+    → is_taken at s p.code ≡ true → is_taken a.at s p.code ≡ true
+taken_at a s p at is test = ap (λ (x : Place). is_taken x s p.code) is ∙ test
+
+routed_at : (config : ConfigView) (secret : List ℕ) (a : Arrival) (s : Side) (p : Packet)
+    (at : Place)
+    → a.at ≡ at → Admits config a p (route_request config secret a s p at)
+    → Admits config a p (route_request config secret a s p a.at)
+routed_at config secret a s p at is h =
+    subst (λ (x : Place). Admits config a p (route_request config secret a s p x)) (sym is) h
+
+-- a packet from a sender that is known, and of a code that is taken
+packet_admits : (config : ConfigView) (a : Arrival) (s : Side) (p : Packet) (at : Place)
+    → a.at ≡ at → sender config a at ≡ Some s → is_taken at s p.code ≡ true
+    → Admits config a p (packet_admission config a s p at)
+packet_admits config a (side.Link l) p (place.Out realm) is from test =
+    let known = link_known config a realm l from in
+    given_admits config a (side.Link l) p realm None (record {
+      code = taken_at a (side.Link l) p (place.Out realm) is test;
+      within = known.0;
+      sender = known.1;
+    }) tt refl
+packet_admits config a (side.Peer i) p (place.Out realm) is from test = absurd (cc test)
+packet_admits config a (side.Home i) p (place.Out realm) is from test = absurd (cc test)
+packet_admits config a (side.Peer i) p place.Auth is from test =
+    let secret = peer_secret config i in
+    let of_peer = from_peer config a i p from (taken_at a (side.Peer i) p place.Auth is test) in
+    request_admits config secret a (side.Peer i) p (λ seal.
+    routed_at config secret a (side.Peer i) p place.Auth is
+    (peer_admits config secret a i p place.Auth test of_peer seal))
+packet_admits config a (side.Peer i) p place.Acct is from test =
+    let secret = peer_secret config i in
+    let of_peer = from_peer config a i p from (taken_at a (side.Peer i) p place.Acct is test) in
+    request_admits config secret a (side.Peer i) p (λ seal.
+    routed_at config secret a (side.Peer i) p place.Acct is
+    (peer_admits config secret a i p place.Acct test of_peer seal))
+packet_admits config a (side.Peer i) p (place.Reverse realm) is from test = absurd (cc test)
+packet_admits config a (side.Home i) p (place.Reverse realm) is from test =
+    let secret = home_secret config realm i in
+    let known = home_known config a realm i from in
+    request_admits config secret a (side.Home i) p (λ seal.
+    routed_at config secret a (side.Home i) p (place.Reverse realm) is
+    (home_admits config secret a i p realm test (record {
+      code = taken_at a (side.Home i) p (place.Reverse realm) is test;
+      within = known.0;
+      sender = known.1;
+    }) seal))
+packet_admits config a (side.Home i) p place.Auth is from test = absurd (cc test)
+packet_admits config a (side.Home i) p place.Acct is from test = absurd (cc test)
+packet_admits config a (side.Link l) p place.Auth is from test = absurd (cc test)
+packet_admits config a (side.Link l) p place.Acct is from test = absurd (cc test)
+packet_admits config a (side.Link l) p (place.Reverse realm) is from test = absurd (cc test)
+
+-- a Status-Server is no event
+status_admits : (config : ConfigView) (secret : List ℕ) (a : Arrival) (p : Packet)
+    → Admits config a p (status_admission secret a p)
+status_admits config secret a p =
+    let answer : Admission = answered_by a (status_answer a.at secret p) in
+    let bytes : List ℕ = packet_text (status_answer a.at secret p) in
+    let out : PlainOut = record { realm = None; from = a.at; to = a.from; bytes = bytes } in
+    checked_admits config a p (is_well_sealed secret (p.authenticator ∷ []) p)
+    refusal.BadMessageAuthenticator (checked (has_seal p) refusal.MissingMessageAuthenticator answer) (λ _.
+    checked_admits config a p (has_seal p) refusal.MissingMessageAuthenticator answer (λ _.
+    rejected_admits config a p out))
+
+status_from_admits : (config : ConfigView) (a : Arrival) (s : Side) (p : Packet)
+    → Admits config a p (status_from config a s p)
+status_from_admits config a (side.Peer i) p = status_admits config (peer_secret config i) a p
+status_from_admits config a (side.Link l) p = refused_admits config a p refusal.WrongCode
+status_from_admits config a (side.Home i) p = refused_admits config a p refusal.WrongCode
+
+pub sent_admits : (config : ConfigView) (a : Arrival) (p : Packet) (s : Option Side)
+    → sender config a a.at ≡ s → Admits config a p (sent_admission config a p s)
+sent_admits config a p None from = refused_admits config a p refusal.UnknownSource
+sent_admits config a p (Some s) from =
+    let code : Bool = is_taken a.at s p.code in
+    let judged : Admission = packet_admission config a s p a.at in
+    either_admits config a p (is_status_request config a.at s p.code) (status_from config a s p)
+    (checked code refusal.WrongCode judged) (status_from_admits config a s p) (λ _.
+    checked_admits config a p code refusal.WrongCode judged (λ test.
+    packet_admits config a s p a.at refl from test))

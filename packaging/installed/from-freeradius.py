@@ -1,0 +1,331 @@
+#!/usr/bin/env python3
+"""Reads FreeRADIUS' proxy.conf, clients.conf and what else is named (3.2), and writes a configuration of roam on standard output.
+
+What can't be said there stands in it as a comment, at its place: `# Not carried over: ..`. What is said in another way
+is a comment too: `# Changed: ..`. How many there are is said on standard error. Read them all, and then `roam check`.
+Of clients, home servers, pools, realms, listen, log and security sections it is; what modules and policies do is not read.
+Where a whole client or realm isn't carried over, its status is 1.
+"""
+
+import ipaddress
+import sys
+
+from converted_conf import (ALSO, HOPS, NAME, REJECTS, REST_AFTER_OF_ALL, SERVERS, TABLES, Written, closed, endpoint_of, fault_of,
+                            options_of, peer_name, toml)
+from converted_conf import endpoint_text as written
+from freeradius_conf import Unreadable, read
+from radsecproxy_names import NotASuffix, covers, items_of
+
+# What has no key, of each kind of section, and why.
+REASONS = {
+    "client": {"proto": "UDP alone", "virtual_server": "one way for all", "response_window": "`wait` and `tries` are the realm's"},
+    "home_server": {"virtual_server": "nothing is answered for a home server", "proto": "UDP alone", "max_outstanding": "256 for each endpoint",
+                    "username": "no test users", "password": "no test users", "zombie_period": "a server rests at once"},
+    "realm": {"virtual_server": "nothing is answered for a home server", "fallback": "none", "coa_pool": "a Disconnect goes to the peer that it names"},
+}
+ADDRESSES = ("ipaddr", "ipv4addr")
+
+
+class Conversion:
+    def __init__(self, root, missed, options):
+        self.root, self.missed, self.options, self.out = root, missed, options, Written()
+        self.homes = {it.name: it for it in root.own("home_server")}
+        self.pools = {it.name: it for it in root.own("home_server_pool")}
+        self.security = next(iter(root.own("security")), None)
+        self.used, self.addresses, self.names = set(), set(), set()
+        self.lost_tables, self.rejects, self.reject_at, self.realms, self.taken = [], [], 0, 0, []
+
+    def run(self):
+        self.write_top()
+        for section in self.root.own("client"):
+            self.out.put("")
+            self.write_client(section)
+        if any(it.get("coa_server") for it in self.root.own("client")) and not self.listening(("coa",)) and not self.options.reverse:
+            self.out.put("")
+            self.out.lose("where Disconnects come: no listen of type coa is in these files (--reverse, or name the site too)")
+        realms = [(section, self.items(section)) for section in self.root.own("realm") if section.name not in ("LOCAL", "NULL")]
+        self.forwarded = [item for section, (items, _) in realms for item in items or [] if self.servers_of(section)]
+        for section, (items, notes) in realms:
+            self.out.put("")
+            self.write_realm(section, items, notes)
+        named = {it for pool in self.pools.values() for it in pool.all("home_server")} | {it.get("coa_server") for it in self.root.own("client")}
+        for name in sorted(set(self.homes) - named):
+            self.out.put("")
+            self.out.lose(f"home_server {name}: no pool uses it")
+        if self.rejects:
+            self.out.lines[self.reject_at:self.reject_at] = [
+                "# Realms that FreeRADIUS handles itself: an Access-Reject, whichever realm has a wider pattern.",
+                "reject = [" + ", ".join(map(toml, self.rejects)) + "]"]
+
+    def lose_settings(self, section, known):
+        for key, value in section.settings:
+            if key in REASONS[section.kind] and key not in known:
+                self.out.lose(f"{section.kind} {section.name}: {key} {value or ''}: {REASONS[section.kind][key]}")
+
+    # The top of the file
+
+    def listening(self, kinds):
+        """The first listen section of such a type with its endpoint's parts."""
+        return next((it for it in self.root.of("listen") if (it.get("type") or "").lower() in kinds), None)
+
+    def endpoint_at(self, section, port):
+        stated = section and section.get("port")
+        port = int(stated) if stated and stated.isdigit() and int(stated) else port
+        address = section and next((section.get(key) for key in ADDRESSES if section.get(key)), None)
+        found = endpoint_of(address, port, self.options) if address else None
+        return found or (self.address, port)
+
+    def write_top(self):
+        out = self.out
+        out.put("# Written by from-freeradius.py. `roam check` judges it; docs/FILES.md has every key, and",
+                "# docs/TUNING.md how each number is chosen. It has secrets: owner root, mode 0600.", "")
+        for name in self.missed:
+            out.lose(f"$INCLUDE {name}: name that file beside the others")
+        auth, acct = self.listening(("auth", "auth+acct")), self.listening(("acct", "auth+acct"))
+        stated = [it.get(key) for it in (auth, acct, *self.homes.values()) if it for key in (*ADDRESSES, "src_ipaddr") if it.kind == "listen" or key == "src_ipaddr"]
+        found = [it for text in stated if text for it in [endpoint_of(text, 1, self.options)] if it]
+        self.address = self.options.address or (found[0][0] if found else None)
+        if not self.address:
+            out.change("the files name no address of this machine: write it in place of 127.0.0.1, everywhere")
+            self.address = "127.0.0.1"
+        places = self.endpoint_at(auth, 1812), self.endpoint_at(acct, 1813)
+        self.used |= set(places)
+        out.put(f"auth = {written(places[0])}", f"acct = {written(places[1])}")
+        if self.security is None or self.security.says("status_server") is not False:
+            out.put("status_server = true")
+        out.put("# Accounting-On is answered, as FreeRADIUS does.", "answer_unnamed = true",
+                "# How many proxies a request may have passed.", f"max_hops = {HOPS}",
+                "# `roam ctl` asks, reloads and stops it through this; `systemctl reload` and `stop` do.", 'control = "/run/roam/control"')
+        if any(it.says("auth") for it in self.root.own("log")):
+            out.change('each exchange that ends is logged with its user and station: `log_exchanges = "none"` ends that')
+        else:
+            out.put("# No line tells of an exchange, for it would have the user and the station.", 'log_exchanges = "none"')
+        self.reject_at = len(out.lines)
+
+    # Clients
+
+    def write_client(self, section):
+        out, before = self.out, len(self.addresses)
+        secret, fault = fault_of(section.get("secret"))
+        if (section.get("proto") or "udp").lower() not in ("udp", "*"):
+            fault = f"no {section.get('proto').upper()}"
+        text = next((section.get(key) for key in ADDRESSES if section.get(key)), None)
+        if text is None and not section.get("ipv6addr"):
+            text = section.name
+        for address in [] if fault else self.addresses_of(section, text):
+            if address in self.addresses:
+                out.lose(f"client {section.name}: {address} is a client before it")
+            elif len(self.addresses) == TABLES:
+                out.lose(f"client {section.name}: {address}: roam takes {TABLES} peers")
+            else:
+                self.write_peer(section, address, secret)
+        if fault:
+            out.lose(f"client {section.name}: {fault}")
+        if len(self.addresses) == before:
+            self.lost_tables.append(f"client {section.name}")
+
+    def addresses_of(self, section, text):
+        mask = section.get("netmask")
+        if text is None:
+            self.out.lose(f"client {section.name}: it is of IPv6")
+            return []
+        if "/" in text or mask and mask != "32":
+            try:
+                found = [str(it) for it in ipaddress.IPv4Network(text if "/" in text else f"{text}/{mask}", strict=False)]
+            except ValueError:
+                found = []
+            if 1 <= len(found) <= self.options.expand:
+                if len(found) > 1:
+                    self.out.change(f"client {section.name}: the prefix {text} is {len(found)} peers, one for each address")
+                return found
+            self.out.lose(f"client {section.name}: the prefix {text} "
+                          + (f"has {len(found)} addresses, each a peer (--expand)" if found else "isn't of IPv4"))
+            return []
+        found = endpoint_of(text, 1, self.options)
+        if not found:
+            self.out.lose(f"client {section.name}: {text} is no IPv4 address (names need --resolve)")
+        return [found[0]] if found else []
+
+    def wants(self, section, key):
+        """Whether yes is said of a client: by itself, or else for all."""
+        said = section.get(key) or self.security and self.security.get(key) or "no"
+        if said.lower() == "auto":
+            self.out.change(f"client {section.name}: {key} auto: there is no auto, so it isn't wanted")
+        return said.lower() in ("yes", "on", "1")
+
+    def write_peer(self, section, address, secret):
+        out = self.out
+        self.addresses.add(address)
+        seal, limit = self.wants(section, "require_message_authenticator"), self.wants(section, "limit_proxy_state")
+        self.lose_settings(section, ("proto",))
+        coa = self.homes.get(section.get("coa_server") or "")
+        place = coa and endpoint_of(next((coa.get(key) for key in ADDRESSES if coa.get(key)), ""), int(coa.get("port") or 3799), self.options)
+        if section.get("coa_server") and not place:
+            out.lose(f"client {section.name}: coa_server {section.get('coa_server')}: no home_server of an IPv4 address")
+        if place:
+            out.change(f"client {section.name}: a Disconnect names it by NAS-IP-Address {address}; by `nas_id` too, if you write one")
+        out.put("[[peer]]", f"name = {toml(peer_name(section.get('shortname') or section.name, self.names))}", f'ip = "{address}"',
+                f"secret = {toml(secret)}", *(["require_seal = true"] if seal else []), *(["limit_proxy_state = true"] if limit and not seal else []),
+                *([f"coa = {written(place)}", f'nas_ip = "{address}"'] if place else []), "")
+
+    # Realms
+
+    def items(self, section):
+        """Its names and patterns, and what changed; none where it can't be said so."""
+        name = section.name
+        if name == "DEFAULT":
+            return ["*"], []
+        if name.startswith("~"):
+            body = name[1:]
+            try:
+                return items_of("/@" + body[1:] + "/" if body.startswith("^") else "/" + body + "/")
+            except NotASuffix:
+                return None, []
+        return ([name.lower()], []) if NAME.match(name) else (None, [])
+
+    def members(self, section, key):
+        """The home servers of a realm's pool, in order."""
+        name = section.get(key) or section.get("pool")
+        pool = self.pools.get(name or "")
+        return [self.homes[it] for it in pool.all("home_server") if it in self.homes] if pool else []
+
+    def servers_of(self, section):
+        return [it for it in self.members(section, "auth_pool") if self.fault_of_home(it) is None]
+
+    def fault_of_home(self, home):
+        """Why a home server can't be one of roam, or nothing."""
+        if (home.get("proto") or "udp").lower() != "udp":
+            return f"no {home.get('proto').upper()}"
+        if (home.get("type") or "auth").lower() not in ("auth", "acct", "auth+acct"):
+            return f"it is of type {home.get('type')}"
+        text = next((home.get(key) for key in ADDRESSES if home.get(key)), "")
+        if not endpoint_of(text, 1, self.options):
+            return f"{text or 'it'} is no IPv4 address (names need --resolve)"
+        return fault_of(home.get("secret"))[1]
+
+    def endpoint(self, home, port):
+        text = next(home.get(key) for key in ADDRESSES if home.get(key))
+        return endpoint_of(text, int(home.get("port") or port), self.options)
+
+    def fallen(self, items, own=()):
+        """What becomes of names whose own realm isn't there."""
+        after = [it for it in self.forwarded if it not in own and any(covers(it, one) for one in items)]
+        return f". The realm of {after[0]} takes its names" if after else ""
+
+    def write_realm(self, section, items, notes):
+        out = self.out
+        if items is None:
+            out.lose(f"realm {section.name}: neither a name nor a suffix{self.fallen(['*'])}")
+            self.lost_tables.append(f"realm {section.name}")
+            return
+        # A whole name counts before each expression, and those in their order.
+        reached = [it for it in items if not it.startswith("*") or it == "*" or not any(covers(before, it) for before in self.taken)]
+        self.taken += [it for it in reached if section.name.startswith("~")]
+        for item in items:
+            if item not in reached:
+                out.lose(f"realm {section.name}: {item} is never reached, an expression before it takes these names")
+        if not reached:
+            return
+        self.lose_settings(section, ())
+        if not section.get("pool") and not section.get("auth_pool"):
+            if self.fallen(reached, reached):
+                self.rejects += reached[:REJECTS - len(self.rejects)]
+            out.lose(f"realm {section.name}: it has no pool, and is handled there; here its names get an Access-Reject")
+            self.lost_tables.append(f"realm {section.name}")
+            return
+        homes = []
+        for home in self.members(section, "auth_pool"):
+            fault = self.fault_of_home(home) or (f"roam takes {SERVERS}" if len(homes) == SERVERS else None)
+            if fault:
+                out.lose(f"realm {section.name}: home_server {home.name}: {fault}")
+            else:
+                homes.append(home)
+        if not homes or len(reached) > ALSO or self.realms == TABLES:
+            out.lose(f"realm {section.name}: none of its servers or names could be carried over{self.fallen(reached, reached)}")
+            self.lost_tables.append(f"realm {section.name}")
+            return
+        for note in notes:
+            out.change(f"realm {section.name}: {note}")
+        self.write_table(section, reached, homes)
+
+    def write_table(self, section, items, homes):
+        out = self.out
+        whole = [it for it in items if not it.startswith("*")]
+        name = whole[0] if whole else "default.invalid" if "*" in items else f"under.{items[0][2:]}.invalid"
+        also, pool = [it for it in items if it != name], self.pools[section.get("auth_pool") or section.get("pool")]
+        if (pool.get("type") or "fail-over").lower() != "fail-over":
+            out.change(f"realm {section.name}: its pool is of type {pool.get('type')}; roam asks its servers in order, and the next one where one is silent")
+        if not any(key == "nostrip" for key, _ in section.settings):
+            out.change(f"realm {section.name}: FreeRADIUS strips the realm of its names; roam never does")
+        partners = [it for it in self.members(section, "acct_pool") if self.fault_of_home(it) is None and (it.get("type") or "auth") != "auth"]
+        out.put("[[realm]]", f"name = {toml(name)}", *(["also = [" + ", ".join(map(toml, also)) + "]"] if also else []))
+        index, self.realms = self.realms, self.realms + 1
+        source = endpoint_of(homes[0].get("src_ipaddr") or "", 1, self.options)
+        source = source[0] if source else self.address
+        out.put(f"out = {written(self.free_port(source, self.options.out + index))}")
+        coa = self.listening(("coa",))
+        if coa or self.options.reverse:
+            port = self.options.reverse or int(coa.get("port") or 3799)
+            out.put(f"reverse = {written(self.free_port(self.endpoint_at(coa, port)[0], port + index))}")
+        if not partners:
+            out.change(f"realm {section.name}: FreeRADIUS handles its accounting itself; here it is answered, and kept nowhere")
+            out.put('accounting = "answer"')
+        self.write_numbers(homes[0], "*" in items)
+        taken = set()
+        for home in homes:
+            self.write_server(section, home, partners, taken)
+
+    def free_port(self, address, port):
+        while (address, port) in self.used:
+            port += 1
+        self.used.add((address, port))
+        return address, port
+
+    def write_numbers(self, home, is_of_all):
+        """What of a home server's numbers isn't what counts where it is absent."""
+        window, probes = float(home.get("response_window") or 30), (home.get("status_check") or "none").lower() != "none"
+        rest = int(home.get("check_interval") or 30) if probes else int(home.get("revive_interval") or 300)
+        after = REST_AFTER_OF_ALL if is_of_all else int(home.get("response_timeouts") or 1)
+        hold = next((int(value) for key, value in self.root.settings if key == "cleanup_delay"), 5)
+        numbers = {"wait": (min(max(int(window * 1000 / 3), 1), 60000), 2000), "rest": (min(rest * 1000, 3600000), 30000),
+                   "rest_after": (min(max(after, 1), 256), 3), "hold": (min(hold, 60) * 1000, 10000), "max_pending": (self.options.max_pending, None)}
+        self.out.put("# Three sendings in response_window.", *(f"{key} = {number}" for key, (number, usual) in numbers.items() if number != usual))
+
+    def write_server(self, section, home, partners, taken):
+        out, auth = self.out, self.endpoint(home, 1812)
+        out.put("")
+        self.lose_settings(home, ("proto",))
+        if (home.get("status_check") or "none").lower() != "none":
+            out.change(f"home_server {home.name}: no Status-Server and no test user is sent; `rest` of the realm is in its place")
+        if auth in taken:
+            out.lose(f"home_server {home.name}: {written(auth)} is a server of this realm already")
+            return
+        acct = None
+        if partners:
+            same = [it for it in partners if it.get("secret") == home.get("secret") and self.endpoint(it, 1813)[0] == auth[0]]
+            partner = home if home in partners else (same or [None])[0]
+            is_both = partner is not None and (partner.get("type") or "").lower() == "auth+acct"
+            acct = (auth[0], auth[1] + 1) if is_both or partner is None else self.endpoint(partner, 1813)
+            if partner is None:
+                out.change(f"home_server {home.name} had no accounting of its own; roam wants an endpoint for it")
+            if acct in taken or acct == auth:
+                acct = self.free_port(*acct)
+                out.change("roam wants an endpoint for each purpose")
+        taken |= {auth, acct}
+        out.put("[[realm.server]]", f"auth = {written(auth)}", *([f"acct = {written(acct)}"] if acct else []),
+                f"secret = {toml(fault_of(home.get('secret'))[0])}",
+                *(["require_seal = true"] if home.says("require_message_authenticator") else []))
+
+
+def main():
+    options = options_of(__doc__, "proxy.conf, clients.conf, and radiusd.conf and sites, if you will")
+    try:
+        conversion = Conversion(*read(options.conf), options)
+        conversion.run()
+    except (Unreadable, ValueError) as error:
+        sys.exit(f"from-freeradius.py: {error}")
+    closed("from-freeradius.py", conversion.out, len(conversion.addresses), conversion.realms, conversion.lost_tables)
+
+
+if __name__ == "__main__":
+    main()

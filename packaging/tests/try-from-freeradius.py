@@ -1,0 +1,322 @@
+#!/usr/bin/env python3
+"""try-from-freeradius.py [ROAM]
+
+Tries from-freeradius.py on clients, home servers, pools and realms of each kind, and on those of examples/migrating. Where FreeRADIUS is
+installed, it judges them (`-XC`). What is written has to keep docs/FILES.md, and to choose for each of many names the realm that
+FreeRADIUS chooses. Where a program ROAM is given, `roam check` judges it too.
+"""
+
+import importlib.util
+import os
+import random
+import re
+import shutil
+import subprocess
+import sys
+import tempfile
+import tomllib
+
+sys.dont_write_bytecode = True
+HERE = os.path.dirname(os.path.abspath(__file__))
+ROOT = os.path.dirname(os.path.dirname(HERE))
+CONVERTER = os.path.join(ROOT, "packaging", "installed", "from-freeradius.py")
+
+RADIUSD = """prefix = {root}/usr
+libdir = {root}/usr/lib/freeradius
+logdir = {directory}
+run_dir = {directory}
+db_dir = {directory}
+radacctdir = {directory}
+cleanup_delay = 7
+log {{
+  destination = files
+  file = {directory}/log
+  auth = {auth}
+}}
+security {{
+  status_server = no
+  allow_vulnerable_openssl = yes
+}}
+thread pool {{
+  start_servers = 1
+}}
+modules {{
+  realm suffix {{
+    format = suffix
+    delimiter = "@"
+  }}
+  always reject {{
+    rcode = reject
+  }}
+}}
+$INCLUDE clients.conf
+$INCLUDE proxy.conf
+server default {{
+  listen {{
+    type = auth
+    ipaddr = 203.0.113.10
+    port = 0
+  }}
+  listen {{
+    type = acct
+    ipaddr = 203.0.113.10
+    port = 0
+  }}
+  listen {{
+    type = coa
+    ipaddr = 203.0.113.10
+    port = 3799
+  }}
+  authorize {{
+    suffix
+    if (&User-Name =~ /^$/) {{
+      reject
+    }}
+  }}
+}}
+"""
+CLIENTS = r"""# A secret with what has to be escaped, and a name of its own
+client one {
+  ipaddr = 192.0.2.1
+  secret = "a \"secret\" # of one"
+  shortname = first
+  limit_proxy_state = yes
+  coa_server = one-coa
+}
+client 192.0.2.2 {
+  secret = of-two
+}
+client wired {
+  ipaddr = 192.0.2.16/30
+  secret = 'of wired'
+  require_message_authenticator = yes
+}
+client dormitories {
+  ipaddr = 10.20.0.0/16
+  secret = of-many
+}
+client six {
+  ipv6addr = 2001:db8::1
+  secret = of-six
+}
+client undecided {
+  ipaddr = 192.0.2.40
+  secret = of-undecided
+  limit_proxy_state = auto
+}
+"""
+PROXY = r"""proxy server {
+  default_fallback = no
+}
+home_server one-coa {
+  type = coa
+  ipaddr = 192.0.2.1
+  port = 3799
+  secret = of-coa
+}
+home_server home-1 {
+  type = auth
+  ipaddr = 198.51.100.1
+  port = 1812
+  secret = of-home
+  response_window = 12
+  response_timeouts = 3
+  revive_interval = 60
+  status_check = none
+  src_ipaddr = 203.0.113.11
+  require_message_authenticator = yes
+}
+home_server home-1-acct {
+  type = acct
+  ipaddr = 198.51.100.1
+  port = 1813
+  secret = of-home
+}
+home_server home-2 {
+  type = auth+acct
+  ipaddr = 198.51.100.2
+  port = 11812
+  secret = of-home-2
+  response_window = 6
+  status_check = status-server
+  check_interval = 30
+}
+home_server upper {
+  type = auth
+  ipaddr = 198.51.100.65
+  port = 1812
+  secret = of-upper
+  response_window = 6
+}
+home_server of-six {
+  type = auth
+  ipv6addr = 2001:db8::2
+  port = 1812
+  secret = of-six
+}
+home_server_pool home {
+  type = fail-over
+  home_server = home-1
+}
+home_server_pool home-acct {
+  type = fail-over
+  home_server = home-1-acct
+}
+home_server_pool second {
+  type = load-balance
+  home_server = home-2
+}
+home_server_pool upper {
+  type = fail-over
+  home_server = upper
+}
+home_server_pool six {
+  type = fail-over
+  home_server = of-six
+}
+realm a.example {
+  auth_pool = home
+  acct_pool = home-acct
+  nostrip
+}
+realm "~^(.*\.)*b\.example$" {
+  pool = second
+}
+realm "~.*\.c\.b\.example$" {
+  pool = second
+}
+realm x.b.example {
+  auth_pool = home
+  nostrip
+}
+realm here.example {
+}
+realm six.example {
+  auth_pool = six
+}
+realm "~^[a-k]+\.half\.example$" {
+  pool = second
+}
+realm LOCAL {
+}
+realm NULL {
+}
+realm DEFAULT {
+  auth_pool = upper
+  nostrip
+}
+"""
+TOLD = [("Not carried over", what) for what in (
+    "client dormitories: the prefix 10.20.0.0/16", "client six: it is of IPv6", "realm ~.*\\.c\\.b\\.example$: *.c.b.example is never reached",
+    "realm here.example: it has no pool", "realm six.example: home_server of-six", "realm ~^[a-k]+\\.half\\.example$: neither")]
+TOLD += [("Changed", what) for what in (
+    "client undecided: limit_proxy_state auto", "client one: a Disconnect names it by NAS-IP-Address 192.0.2.1", "its pool is of type load-balance",
+    "FreeRADIUS strips the realm", "no Status-Server and no test user", "FreeRADIUS handles its accounting itself")]
+LOST = ["client dormitories", "client six", "realm here.example", "realm six.example"]
+
+
+def parts_of_try_converter():
+    spec = importlib.util.spec_from_file_location("converter", os.path.join(HERE, "try-converter.py"))
+    module = importlib.util.module_from_spec(spec)
+    spec.loader.exec_module(module)
+    return module
+
+
+def run(words):
+    return subprocess.run(words, capture_output=True, text=True, check=False)
+
+
+def judged_by_freeradius(directory):
+    program = shutil.which("freeradius") or shutil.which("freeradius", path="/usr/sbin")
+    if not program:
+        return False
+    root = re.sub("/usr/sbin/freeradius$", "", program)
+    judged = run([program, "-XC", "-d", directory, "-D", f"{root}/usr/share/freeradius"])
+    assert judged.returncode == 0, judged.stdout[-2000:]
+    return True
+
+
+def realm_in_freeradius(name):
+    """The realm of PROXY that FreeRADIUS takes: the whole name, else the first expression that fits, else DEFAULT."""
+    realms = re.findall(r'^realm (?:"([^"]*)"|(\S+)) \{', PROXY, re.M)
+    names = [one or other for one, other in realms]
+    whole = next((it for it in names if it.lower() == name.lower()), None)
+    return whole or next((it for it in names if it.startswith("~") and re.search(it[1:], name, re.I)), "DEFAULT")
+
+
+def agree(conf, choose):
+    """How many names mean the realm that was made of FreeRADIUS' one."""
+    made = {"a.example": "a.example", "~^(.*\\.)*b\\.example$": "b.example", "x.b.example": "x.b.example", "DEFAULT": "default.invalid"}
+    chance, told = random.Random(7), 0
+    bases = ["a.example", "b.example", "x.b.example", "c.b.example", "y.c.b.example", "here.example", "elsewhere.org", "example"]
+    for name in [one for base in bases for one in (base, "z." + base, "q" + base)]:
+        there = realm_in_freeradius(name)
+        here = choose(conf, "u@" + (name.upper() if chance.randrange(2) else name))
+        if there in made:
+            assert here and here["name"] == made[there], (name, there, here and here["name"])
+            told += 1
+        elif there == "here.example":
+            assert here is None, (name, here["name"])
+    return told
+
+
+def look_over(name, texts, module, roam, lost):
+    with tempfile.TemporaryDirectory() as directory:
+        for file, text in texts.items():
+            with open(os.path.join(directory, file), "w", encoding="utf-8") as opened:
+                opened.write(text.replace("{directory}", directory) if file == "radiusd.conf" else text)
+        is_judged = "radiusd.conf" in texts and judged_by_freeradius(directory)
+        paths = [os.path.join(directory, it) for it in (["radiusd.conf"] if "radiusd.conf" in texts else texts)]
+        done = run([sys.executable, CONVERTER, *paths])
+        assert done.returncode == (1 if lost else 0), done.stderr
+        assert all(it in done.stderr for it in lost), done.stderr
+        conf = tomllib.loads(done.stdout)
+        module.keeps_the_rules(conf)
+        if roam:
+            made = os.path.join(directory, "roam.conf")
+            with open(made, "w", encoding="utf-8") as opened:
+                opened.write(done.stdout)
+            assert run([roam, "check", made]).returncode == 0, run([roam, "check", made]).stderr
+        print(f"{name}: {done.stderr.splitlines()[0]}" + ("; read by FreeRADIUS" if is_judged else ""))
+    return conf, done.stdout
+
+
+def main():
+    roam, module = sys.argv[1] if len(sys.argv) > 1 else None, parts_of_try_converter()
+    program = shutil.which("freeradius") or "/usr/sbin/freeradius"
+    radiusd = RADIUSD.format(root=re.sub("/usr/sbin/freeradius$", "", program), directory="{directory}", auth="no")
+    conf, text = look_over("each kind", {"radiusd.conf": radiusd, "clients.conf": CLIENTS, "proxy.conf": PROXY}, module, roam, LOST)
+    for kind, what in TOLD:
+        assert any(line.startswith(f"# {kind}: ") and what in line for line in text.splitlines()), what
+    assert [(it["name"], it["ip"], it["secret"]) for it in conf["peer"]][:3] == [
+        ("first", "192.0.2.1", 'a "secret" # of one'), ("192.0.2.2", "192.0.2.2", "of-two"), ("wired", "192.0.2.16", "of wired")]
+    first = conf["peer"][0]
+    assert first["coa"] == "192.0.2.1:3799" and first["nas_ip"] == "192.0.2.1" and first["limit_proxy_state"] and "require_seal" not in first
+    assert [it["name"] for it in conf["peer"] if it.get("require_seal")] == ["wired", "wired-2", "wired-3", "wired-4"]
+    a, b, x, every = conf["realm"]
+    assert a["server"] == [{"auth": "198.51.100.1:1812", "acct": "198.51.100.1:1813", "secret": "of-home", "require_seal": True}]
+    assert (a["wait"], a["rest"], a["out"], a["reverse"], a["hold"]) == (4000, 60000, "203.0.113.11:20001", "203.0.113.10:3799", 7000)
+    assert b["also"] == ["*.b.example"] and b["server"][0]["acct"] == "198.51.100.2:11813" and "rest" not in b and b["reverse"] != a["reverse"]
+    assert x["accounting"] == every["accounting"] == "answer" and every["also"] == ["*"] and every["rest_after"] == 50
+    assert conf["reject"] == ["here.example"] and conf["log_exchanges"] == "none" and "status_server" not in conf
+    print(f"{agree(conf, module.realm_in_roam)} names mean the same realm")
+    with tempfile.NamedTemporaryFile("w", suffix=".conf") as file:
+        file.write('client one {\n  secret = "never shown\n}\n')
+        file.flush()
+        done = run([sys.executable, CONVERTER, file.name])
+        assert (done.returncode, done.stderr) == (1, f"from-freeradius.py: {file.name}:2: a quotation mark without its end\n"), done.stderr
+    files = {it: open(os.path.join(ROOT, "examples", "migrating", it), encoding="utf-8").read() for it in ("clients.conf", "proxy.conf")}
+    conf, _ = look_over("examples/migrating", files, module, roam, [])
+    with open(os.path.join(ROOT, "docs", "MIGRATING.md"), encoding="utf-8") as file:
+        page = tomllib.loads(file.read().split("```toml\n")[1].split("```")[0])
+    for key in ("auth", "acct", "max_hops", "status_server", "answer_unnamed"):
+        assert conf[key] == page[key], key
+    for key in ("name", "ip", "secret", "require_seal", "coa"):
+        assert conf["peer"][0][key] == page["peer"][0][key], key
+    for key in ("name", "out", "server"):
+        assert conf["realm"][0][key] == page["realm"][0][key], key
+    print("examples/migrating: as docs/MIGRATING.md has it")
+
+
+if __name__ == "__main__":
+    main()

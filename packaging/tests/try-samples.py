@@ -1,0 +1,236 @@
+#!/usr/bin/env python3
+"""try-samples.py [PROGRAM]
+
+Plays requests over each configuration of packaging/samples, and looks whether what comes of each is what the sample says
+that an operator gets: CASES has that. It is played by the broker that is written apart (oracle/broker.py); where a PROGRAM
+is given, `roam check` has to accept each sample, and `roam sim` to print the same packets.
+"""
+
+import hashlib
+import os
+import subprocess
+import sys
+import tempfile
+
+sys.dont_write_bytecode = True
+HERE = os.path.dirname(os.path.abspath(__file__))
+ROOT = os.path.dirname(os.path.dirname(HERE))
+SAMPLES = os.path.join(ROOT, "packaging", "samples")
+sys.path.insert(0, os.path.join(ROOT, "oracle"))
+import broker  # noqa: E402
+import packets  # noqa: E402
+
+ACCESS, ACCOUNTING = packets.ACCESS_REQUEST, packets.ACCOUNTING_REQUEST
+CLASS = (25, b"of a class")
+CISCO = (26, bytes([0, 0, 0, 9, 1, 6]) + b"priv")
+CALLED, OPERATOR, CUI = 30, 126, 89
+SERVICE, TUNNEL_TYPE, TUNNEL_MEDIUM, TUNNEL_GROUP = (6, bytes([0, 0, 0, 6])), (64, bytes([0, 0, 0, 13])), (65, bytes([0, 0, 0, 6])), (81, b"99")
+VLAN = [SERVICE, TUNNEL_TYPE, TUNNEL_MEDIUM, TUNNEL_GROUP]
+ASKED = [(4, bytes([192, 0, 2, 200])), (CALLED, b"00-11-22-33-44-55:room"), CISCO]
+START, OF_SESSION = (40, bytes([0, 0, 0, 1])), (44, b"0001")
+
+
+def to(endpoint, has=(), lacks=(), accept=None):
+    """Forwarded there, with these attributes and none of those types; an Access-Accept of the first comes back as the second."""
+    return ("to", endpoint, list(has), set(lacks), accept)
+
+
+REJECT, ANSWER = ("reject",), ("answer",)
+
+
+def refused(number):
+    return ("refused", number)
+
+
+def named(name):
+    """The attributes of an Operator-Name, and of the question for a Chargeable-User-Identity."""
+    return [(OPERATOR, b"1" + name.encode()), (CUI, b"\0")]
+
+
+# Of which sample and peer a request of which code is for which User-Name (none: without), and what comes of it; and how it is made
+# where it isn't sealed, or has further attributes.
+UNSEALED, IN_A_CIRCLE = "unsealed", "unsealed, with a Proxy-State"
+CASES = [
+    ("federation", "university", ACCESS, "u@college.example", to("192.0.2.17:1812", named("university.example"), (), (VLAN + [CLASS], [CLASS]))),
+    ("federation", "university", ACCESS, "u@dep.institute.example", to("192.0.2.33:1812")),
+    ("federation", "college", ACCESS, "u@University.Example", to("192.0.2.1:1812", named("college.example"))),
+    ("federation", "university", ACCESS, "u@university.example", REJECT),
+    ("federation", "university", ACCESS, "u@nobody.example", REJECT),
+    ("federation", "university", ACCESS, "u@example", REJECT),
+    ("federation", "university", ACCESS, "0001@wlan.mnc001.mcc001.3gppnetwork.org", REJECT),
+    ("federation", "university", ACCESS, "u@a..b", REJECT),
+    ("federation", "university", ACCESS, "u@b.", REJECT),
+    ("federation", "university", ACCESS, "u@a b.org", REJECT),
+    ("federation", "university", ACCESS, "u", REJECT),
+    ("federation", "university", ACCESS, "u@inst.org", to("198.51.100.65:1812", (), (), ([CLASS], [CLASS]))),
+    ("federation", "university", ACCESS, "u@inst.test", to("198.51.100.65:1812")),
+    ("federation", "above-1", ACCESS, "u@inst.org", REJECT),
+    ("federation", "above-2", ACCESS, "u@inst.test", REJECT),
+    ("federation", "above-1", ACCESS, "u@college.example", to("192.0.2.17:1812", (), (OPERATOR, CUI), (VLAN, VLAN))),
+    ("federation", "above-1", ACCESS, "u@school.example", REJECT),
+    ("federation", "library", ACCESS, "u@school.example", to("192.0.2.49:1812")),
+    ("federation", "institute", ACCESS, "u@college.example", to("192.0.2.17:1812", (), (26,))),
+    ("federation", "university", ACCESS, "u@college.example", refused(8), UNSEALED),
+    ("federation", "school", ACCESS, "u@college.example", to("192.0.2.17:1812", named("school.example")[:1], (CUI,)), UNSEALED),
+    ("federation", "school", ACCESS, "u@college.example", refused(8), IN_A_CIRCLE),
+    ("federation", "university", ACCOUNTING, "u@college.example", to("192.0.2.17:1813", named("university.example")[:1], (CUI,))),
+    ("federation", "university", ACCOUNTING, "u@institute.example", ANSWER),
+    ("federation", "university", ACCOUNTING, "u@inst.org", ANSWER),
+    ("federation", "university", ACCOUNTING, None, ANSWER),
+    ("federation", "university", ACCOUNTING, "u@school.example", refused(26)),
+    ("federation", "above-1", ACCOUNTING, "u@school.example", refused(25)),
+    ("federation", "university", ACCOUNTING, "u@nobody.example", refused(9)),
+    ("hub", "airport", ACCESS, "0001@mnc001.mcc001.3gppnetwork.org",
+     to("198.51.100.1:1812", [*named("airport.example"), ASKED[1]], (), (VLAN + [CISCO, CLASS], [CLASS]))),
+    ("hub", "airport", ACCESS, "0002@wlan.mnc002.mcc001.3gppnetwork.org", to("198.51.100.17:1812", (), (CALLED,))),
+    ("hub", "trains", ACCESS, "u@operator.example", to("198.51.100.17:1812", named("trains.example"), (CALLED,)), [(OPERATOR, b"1another.example")]),
+    ("hub", "airport", ACCESS, "u@operator.example", to("198.51.100.17:1812", [(OPERATOR, b"1another.example")]), [(OPERATOR, b"1another.example")]),
+    ("hub", "stadium", ACCESS, "0001@mnc001.mcc001.3gppnetwork.org", REJECT),
+    ("hub", "stadium", ACCESS, "u@operator.example", to("198.51.100.17:1812", named("stadium.example"))),
+    ("hub", "stadium", ACCOUNTING, "0001@mnc001.mcc001.3gppnetwork.org", refused(25)),
+    ("hub", "airport", ACCESS, "u@a.members.example", to("198.51.100.33:1812")),
+    ("hub", "airport", ACCOUNTING, "u@a.members.example", refused(26)),
+    ("hub", "airport", ACCOUNTING, "u@operator.example", to("198.51.100.17:1813", named("airport.example")[:1], (CALLED,))),
+    ("hub", "airport", ACCESS, "u@unknown.example", REJECT),
+    ("visited-network", "visited-network", ACCESS, "u@university.example", to("198.51.100.1:1812", ASKED, (OPERATOR, CUI), (VLAN, VLAN))),
+    ("visited-network", "visited-network", ACCOUNTING, "u@college.example", to("198.51.100.17:1813")),
+    ("visited-network", "visited-network", ACCESS, "u@elsewhere.example", REJECT),
+    ("visited-network", "visited-network", ACCOUNTING, "u@elsewhere.example", refused(9)),
+]
+
+
+def request(code, number, user, secret, how):
+    """The octets of a request."""
+    attributes = ([(1, user.encode())] if user else []) + ASKED + (how if isinstance(how, list) else [])
+    if code == ACCOUNTING:
+        return packets.signed(code, number, packets.ZEROS, attributes + [START, OF_SESSION], secret)
+    authenticator = hashlib.md5(bytes([number])).digest()
+    attributes += [(2, packets.hidden(b"a password".ljust(16, b"\0"), secret, authenticator))]
+    attributes += [(33, b"of a proxy")] if how == IN_A_CIRCLE else []
+    attributes += [] if how in (UNSEALED, IN_A_CIRCLE) else [(80, packets.ZEROS)]
+    return packets.text(code, number, authenticator, packets.sealed(code, number, authenticator, attributes, secret))
+
+
+def reply(octets, secret, attributes):
+    """A home server's sealed Access-Accept of a forwarded request."""
+    asked = packets.Packet(octets)
+    attributes = [(80, packets.ZEROS)] + attributes + [(33, it) for it in asked.values(33)]
+    attributes = packets.sealed(packets.ACCESS_ACCEPT, asked.id, asked.authenticator, attributes, secret)
+    return answer_text(asked, attributes, secret)
+
+
+def answer_text(asked, attributes, secret):
+    """A reply whose Response Authenticator is right (RFC 2865 section 3)."""
+    unsigned = packets.text(packets.ACCESS_ACCEPT, asked.id, asked.authenticator, attributes)
+    return unsigned[:4] + hashlib.md5(unsigned + secret).digest() + unsigned[20:]
+
+
+class Played:
+    """A sample as it is played, with its script."""
+
+    def __init__(self, name):
+        with open(os.path.join(SAMPLES, f"{name}.conf"), encoding="utf-8") as file:
+            self.config = broker.Config(file.read())
+        self.broker, self.script, self.sent, self.now = broker.Broker(self.config), [], [], 0
+
+    def event(self, line):
+        self.script.append(line)
+        sent, number = self.broker.event(line)
+        self.sent += [broker.spelled(it) for it in sent]
+        return sent, number
+
+    def secret_at(self, realm, endpoint):
+        """The secret of the home server that is asked there."""
+        servers = self.config.realms[realm]["server"]
+        return next(it["secret"].encode() for it in servers if endpoint in it["links"].values())
+
+    def play(self, number, name, code, user, expected, how=None):
+        """What is wrong of a case, or nothing."""
+        peer = next(it for it in self.config.peers if it["name"] == name)
+        octets = request(code, number, user, peer["secret"].encode(), how)
+        # Each case has a moment of its own, at which nothing of the cases before it is held.
+        self.now += 100000
+        for shard in range(self.config.shards):
+            for past in range(10):
+                self.event(f"T {self.now - 90000 + past * 5000} {shard}")
+        at = "auth" if code == ACCESS else "acct"
+        sent, why = self.event(f"A {self.now} {at} {peer['ip']}:40000 {octets.hex()}")
+        if expected[0] == "refused":
+            return None if why == expected[1] and not sent else f"{why} {sent}"
+        if why is not None or len(sent) != 1:
+            return f"refused {why}, {len(sent)} packets"
+        realm, place, goes_to, octets = sent[0]
+        packet = packets.Packet(octets)
+        if expected[0] in ("reject", "answer"):
+            wanted = packets.ACCESS_REJECT if expected == REJECT else packets.ACCOUNTING_RESPONSE
+            return None if realm == "-" and packet.code == wanted else f"realm {realm}, code {packet.code}"
+        return self.forwarded(realm, place, goes_to, packet, *expected[1:])
+
+    def forwarded(self, realm, place, goes_to, packet, endpoint, has, lacks, accept):
+        if realm == "-" or f"{goes_to[0]}:{goes_to[1]}" != endpoint:
+            return f"went to {goes_to}"
+        missing = [it for it in has if packet.attributes.count(it) != 1]
+        kept = [kind for kind, _ in packet.attributes if kind in lacks]
+        if missing or kept:
+            return f"lacks {missing}, keeps {kept}"
+        if accept is None:
+            return None
+        octets = reply(packet.octets, self.secret_at(realm, goes_to), accept[0])
+        sent, why = self.event(f"A {self.now + 5} {place} {endpoint} {octets.hex()}")
+        returned = [it for it in packets.Packet(sent[0][3]).attributes if it[0] not in (80, 33)] if sent else why
+        return None if returned == accept[1] else f"returned {returned}"
+
+
+def share(played):
+    """What is wrong of a realm's share: of one name, dead at home, no more wait than the sample has; another name goes on."""
+    peer = next(it for it in played.config.peers if it["name"] == "university")
+    played.now += 100000
+    numbers = []
+    for number in range(66):
+        user = "u@alive.org" if number == 65 else "u@dead.org"
+        octets = request(ACCESS, number, user, peer["secret"].encode(), None)
+        numbers.append(played.event(f"A {played.now} auth {peer['ip']}:40001 {octets.hex()}")[1])
+    return [] if numbers == [None] * 64 + [27, None] else [f"federation: of one name {numbers.count(None)} wait, {numbers[-2:]}"]
+
+
+def run(program, *words):
+    ran = subprocess.run([program, *words], capture_output=True, text=True, timeout=60, check=False)
+    return ran.returncode, ran.stdout, ran.stderr
+
+
+def by_program(program, name, played):
+    """What the program does otherwise."""
+    path = os.path.join(SAMPLES, f"{name}.conf")
+    counts = f"ok realms {len(played.config.realms)} peers {len(played.config.peers)} shards {played.config.shards}\n"
+    status, printed, said = run(program, "check", path)
+    if (status, printed) != (0, counts):
+        return [f"{name}: check prints {printed!r} {said!r}, not {counts!r}"]
+    with tempfile.NamedTemporaryFile("w", suffix=".script") as script:
+        script.write("\n".join(played.script) + "\n")
+        script.flush()
+        status, printed, said = run(program, "sim", path, script.name)
+    wrong = [(one, other) for one, other in zip(printed.splitlines(), played.sent) if one != other]
+    if status == 0 and printed.splitlines() == played.sent:
+        return []
+    return [f"{name}: sim ends with {status} {said!r}, {len(printed.splitlines())} lines, not {len(played.sent)}: {wrong[:1]}"]
+
+
+def main():
+    if len(sys.argv) > 2:
+        sys.exit(__doc__)
+    names = sorted(it.removesuffix(".conf") for it in os.listdir(SAMPLES))
+    played, faults = {name: Played(name) for name in names}, []
+    for number, (sample, *case) in enumerate(CASES, 1):
+        wrong = played[sample].play(number, *case)
+        if wrong:
+            faults.append(f"{sample}: {case[:3]}: {wrong}")
+    faults += share(played["federation"])
+    faults += [f"{name}: no case is of it" for name in names if name not in {it[0] for it in CASES}]
+    for name in names if len(sys.argv) == 2 else []:
+        faults += by_program(os.path.abspath(sys.argv[1]), name, played[name])
+    print("\n".join(faults) or f"{len(CASES)} requests are answered and forwarded as {len(names)} samples say")
+    return int(bool(faults))
+
+
+if __name__ == "__main__":
+    sys.exit(main())
