@@ -446,8 +446,8 @@ def keeps_lists(table):
 
 
 def keeps_the_rules(conf):
-    assert set(conf) <= {"auth", "acct", "max_hops", "status_server", "answer_unnamed", "reject", "control", "log_exchanges", "log_station",
-                         "peer", "realm"}
+    assert set(conf) <= {"auth", "acct", "max_hops", "status_server", "answer_unnamed", "reject", "control", "log_exchanges",
+                         "log_station", "peer", "realm"}
     assert 1 <= len(conf["peer"]) <= 1024 and 1 <= len(conf["realm"]) <= 1024
     for peer in conf["peer"]:
         assert set(peer) <= {"name", "ip", "secret", "require_seal", "limit_proxy_state", "operator_name", "ask_cui",
@@ -607,7 +607,7 @@ def decided(conf):
     assert a["name"] == "a.example" and a["request_without"] == ["30"] and "accounting" not in a and "loop_prevention" not in a
     assert b["accounting"] == "answer" and c["accounting"] == "drop" and "loop_prevention" not in b
     assert every["loop_prevention"] and every["reply_without"] == ["64", "65", "81"] and every["accounting"] == "drop"
-    assert conf["reject"] == ["shut.a.example", "*.3gppnetwork.org"] and conf["log_exchanges"] == "none"
+    assert conf["reject"] == ["shut.a.example", "*.3gppnetwork.org"] and conf["log_station"] == "hmac"
 
 
 def main():
