@@ -157,8 +157,8 @@ def try_commands(name, page, shell, booted, tally):
 def configurations(page):
     """The page's configurations: each that begins one, with the tables that the page adds to it."""
     blocks = re.findall(r"^```toml\n(.*?)^```$", page, re.DOTALL | re.MULTILINE)
-    whole = [block for block in blocks if block.startswith("shards")]
-    return whole + [whole[0] + block for block in blocks if whole and not block.startswith("shards")]
+    whole = [block for block in blocks if not block.startswith("[")]
+    return whole + [whole[0] + block for block in blocks if whole and block.startswith("[")]
 
 
 def try_configurations(page, program, tally):
