@@ -51,14 +51,22 @@ def function_of(edit: pathlib.Path) -> str | None:
     return found[1] if found else None
 
 
+# What the prover says of a proof that names what an edit took away, which says little of the contract.
+NAMES = re.compile(r"has no field|is not in scope|has no `|was not admitted|not checked")
+
+
 def judged(text: str, function: str) -> str:
     """What the prover's output says of an edit: nothing where it was refused, else what is wrong."""
     counts = re.search(r"^only=(\d+) proved=(\d+)", text, re.M)
-    if re.search(r"error[\[:]", text) or not counts:
-        return "wasn't read: " + next((it for it in text.splitlines() if "error" in it), text[-300:])
+    unread = re.search(r"^(rattle: error|(\./)?(src|specs)/\S+ error).*", text, re.M)
+    if unread or not counts:
+        return "wasn't read: " + (unread[0] if unread else text[-300:])
     if counts[1] == counts[2]:
         return "is proved"
-    return "" if re.search(rf"^fn \S*{re.escape(function)}: no proof", text, re.M) else f"leaves {function} proved, or not looked at"
+    if not re.search(rf"^fn \S*{re.escape(function)}: (no proof|not proved)", text, re.M):
+        return f"leaves {function} proved, or not looked at"
+    told = re.findall(r"^(?:\./)?proofs/\S+ error: .*|^note: \S+ it is not proved that.*", text, re.M)
+    return "" if any(not NAMES.search(it) for it in told) else "is refused for names that it took away alone"
 
 
 def refused_alone(crates: dict, edit: pathlib.Path) -> bool:

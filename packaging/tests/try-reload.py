@@ -428,7 +428,7 @@ def try_refused(server):
     with open(f'/proc/{server.process.pid}/status') as file:
         base = next(int(line.split()[1]) for line in file if line.startswith('VmData')) * 1024
     for number in range(60):
-        resource.prlimit(server.process.pid, resource.RLIMIT_DATA, (base + (number - 4) * (1 << 20), none))
+        resource.prlimit(server.process.pid, resource.RLIMIT_DATA, (base + (number - 4) * (2 << 20), none))
         result = server.ctl('reload')
         resource.prlimit(server.process.pid, resource.RLIMIT_DATA, (none, none))
         is_declined = result.stdout.startswith('roam: out of memory\n')

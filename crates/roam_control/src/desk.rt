@@ -34,7 +34,7 @@ pub enum Course {
     Begun,
     /// There is no such thing.
     Unknown,
-    /// It was not done, and the body says why. Nothing has changed.
+    /// It was not done, and the body says why. Nothing has changed, unless it says that it is tried again.
     Declined,
     /// Memory is wanting, or the server ends.
     Unavailable,

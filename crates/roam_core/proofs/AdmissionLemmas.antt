@@ -51,7 +51,7 @@ named_so config a s p None = refused_so refusal.NoRealm
 named_so config a s p (Some realm) = forwarded_so (sent_length config s p realm) a s p realm (Some realm)
 
 accounting_so : (how : Accounting) (size : ℕ) (secret : List ℕ) (a : Arrival) (s : Side) (p : Packet) (realm : ℕ) →
-    RejectsForNone (by_accounting how size secret a s p realm)
+    RejectsForNone (by_accounting size secret a s p realm how)
 accounting_so Forwarded size secret a s p realm = forwarded_so size a s p realm (Some realm)
 accounting_so Answered size secret a s p realm = rejected_so _ refl
 accounting_so Dropped size secret a s p realm = refused_so refusal.AccountingDropped

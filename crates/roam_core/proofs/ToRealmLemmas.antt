@@ -133,11 +133,11 @@ module _ (realm now : ℕ) where
   abbrev pub where_accounted : Bool → Accounting → ℕ → List ℕ → Arrival → Side → Packet → Bool → List RealmEvent
   where_accounted takes how size secret a s p means =
       if means
-      then gives (checked takes refusal.NotForPeer (by_accounting how size secret a s p realm))
+      then gives (checked takes refusal.NotForPeer (by_accounting size secret a s p realm how))
       else []
 
   pub none-accounted : (how : Accounting) (size : ℕ) (secret : List ℕ) (a : Arrival) (s : Side) (p : Packet) (k : ℕ) →
-      (k == realm) ≡ false → gives (by_accounting how size secret a s p k) ≡ []
+      (k == realm) ≡ false → gives (by_accounting size secret a s p k how) ≡ []
   none-accounted Forwarded size secret a s p k differs = none-forwarded size k a s p (Some k) differs
   none-accounted Answered size secret a s p k differs = refl
   none-accounted Dropped size secret a s p k differs = refl

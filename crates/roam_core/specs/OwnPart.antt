@@ -18,7 +18,8 @@ use Rattle.roam_core.specs.Openings.{openings, start_of}
 -- N brokers. (A realm with a suffix or with `*` takes the names that a removed realm leaves: then a name means
 -- it that didn't, and the two don't agree for it.) For what one arrival gives to the realm, octet for octet
 -- with the realm that a request names: the peers, what each name means, `max_hops` and the realm's own table.
--- For the broker's own answers: the peers, what each name means, `max_hops` and `status_server`.
+-- For the broker's own answers: the peers, what each name means, `max_hops`, `status_server`, `answer_unnamed`, and of
+-- each realm which peers may ask it and what becomes of its accounting.
 -- Source: ours
 -- Rules out: another realm's server, secret, socket, name or being there that takes a realm's arrivals away or
 -- changes its packets, or decides whether the broker answers itself

@@ -38,6 +38,9 @@ no_opening = record {
     max_hops = None;
     status_server = false;
     spread = false;
+    reject = [];
+    well_formed = false;
+    answer_unnamed = false;
     peers = [];
     realms = [];
   };

@@ -8,7 +8,7 @@ use Rattle.std.proofs.lemmas.List.Elements.{Contains-append_cases, Contains-appe
 use Rattle.roam_conf.specs.Config.{ConfigView, RealmView}
 use Rattle.roam_conf.specs.declared.endpoint.Endpoint.{Endpoint}
 use Rattle.roam_conf.specs.Duplicates.{same_endpoint}
-use Rattle.roam_conf.proofs.EqualLemmas.{endpoint_decides}
+use Rattle.roam_conf.proofs.EqualPartsLemmas.{endpoint_decides}
 use Rattle.roam_conf.specs.declared.place.Place.{Place}
 use Rattle.roam_conf.specs.declared.place.Place.TheVariants as place
 use Rattle.roam_port.specs.Sockets.{socket_endpoint, socket_number}

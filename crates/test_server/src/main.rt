@@ -26,7 +26,7 @@ use crate::exchange::Verdict;
 use crate::reload::Next;
 use crate::row::{ROWS, Row, TAKEN};
 use crate::stage::{Stage, Turnstile};
-use roam_conf::{Config, ExchangeLines};
+use roam_conf::ExchangeLines;
 use roam_serve::{Build, ControlSocket, ServeFault, ServeOptions, StationForm, Watch, serve};
 use std::sync::atomic::AtomicU64;
 use std::{io, thread};
@@ -73,73 +73,58 @@ fn verdict_beside(row: Row, second: Option<Result<(), ServeFault>>) -> Verdict {
     }
 }
 
-/// Serves a row's configuration while its act goes on, and a second one beside it where the row has one: what the act
-/// said, and how the server ended.
-fn serve_row(
-    rt: &HostRuntime,
-    row: Row,
-    stage: &Stage<'_, HostRuntime>,
-    ends: &Ends,
-    config: Config,
-    second: Option<Config>,
-) -> (Verdict, Result<(), ServeFault>) {
-    let alloc = rt.alloc();
-    let mut next = Next {
-        alloc,
-        config: row.following(rt, alloc),
-    };
-    let control = row.control(rt);
-    let control = control.as_ref();
-    thread::scope(thread::scope_env(), rt, |scope| {
-        let server = scope.spawn(move || {
-            let watch = watch(stage, row, control);
-            let options = options(stage, row, watch);
-            let served = serve(stage, alloc, config, options, &mut next);
-            stage.note_end();
-            served
-        });
-        let acted = row.act(rt, stage, ends, alloc);
-        let beside = match second {
-            Some(config) => {
-                let none = &mut Next {
-                    alloc,
-                    config: None,
-                };
-                Some(serve(stage, alloc, config, options(stage, row, None), none))
-            }
-            None => None,
-        };
-        if row.ends_early() {
-            stage.end();
-        }
-        match server {
-            Ok(server) => (acted.and(verdict_beside(row, beside)), server.join(rt)),
-            Err(_) => (acted, Err(ServeFault::Memory)),
-        }
-    })
-}
-
-/// Plays a row, and says whether all went as it should.
-fn play(rt: &HostRuntime, row: Row, earlier: &AtomicU64) -> &'static str {
-    let alloc = rt.alloc();
-    let mut stage = Stage::new(rt, row, earlier);
-    let second = row.second(&stage, rt, alloc);
-    match (row.config(&stage, rt, alloc), Ends::bind(rt, row)) {
-        (Some(Ok(config)), Ok(ends)) => {
-            stage.counters = row.counters(alloc, &config);
-            let (acted, served) = serve_row(rt, row, &stage, &ends, config, second);
-            row.verdict(&stage, acted, served)
-        }
-        (Some(Err(fault)), _) => row.verdict(&stage, Ok(()), Err(fault)),
-        _ => "the configuration or the sockets of the test can't be had",
-    }
-}
-
 fn main(rt: HostRuntime) -> io::Result<()> {
+    let alloc = rt.alloc();
     let earlier = AtomicU64::new(0);
     for row in ROWS {
+        let mut stage = Stage::new(&rt, row, &earlier);
+        let second = row.second(&stage, &rt, alloc);
+        let config = row.config(&stage, &rt, alloc);
+        if let Some(Ok(config)) = &config {
+            stage.counters = row.counters(alloc, config);
+        }
+        let mut next = Next {
+            alloc,
+            config: row.following(&rt, alloc),
+        };
+        let control = row.control(&rt);
+        let control = control.as_ref();
+        let stage = &stage;
+        let verdict = match (config, Ends::bind(&rt, row)) {
+            (Some(Ok(config)), Ok(ends)) => {
+                let (acted, served) = thread::scope(thread::scope_env(), &rt, |scope| {
+                    let server = scope.spawn(move || {
+                        let watch = watch(stage, row, control);
+                        let options = options(stage, row, watch);
+                        let served = serve(stage, alloc, config, options, &mut next);
+                        stage.note_end();
+                        served
+                    });
+                    let acted = row.act(&rt, stage, &ends, alloc);
+                    let beside = match second {
+                        Some(config) => {
+                            let none = &mut Next {
+                                alloc,
+                                config: None,
+                            };
+                            Some(serve(stage, alloc, config, options(stage, row, None), none))
+                        }
+                        None => None,
+                    };
+                    if row.ends_early() {
+                        stage.end();
+                    }
+                    match server {
+                        Ok(server) => (acted.and(verdict_beside(row, beside)), server.join(&rt)),
+                        Err(_) => (acted, Err(ServeFault::Memory)),
+                    }
+                });
+                row.verdict(stage, acted, served)
+            }
+            (Some(Err(fault)), _) => row.verdict(stage, Ok(()), Err(fault)),
+            _ => "the configuration or the sockets of the test can't be had",
+        };
         let name = row.name();
-        let verdict = play(&rt, row, &earlier);
         println!(rt; "{name}: {verdict}")?;
     }
     Ok(())

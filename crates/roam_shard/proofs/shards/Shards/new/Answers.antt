@@ -1,7 +1,10 @@
 use Rattle.std.proofs.Common.{arith}
 use Rattle.roam_conf.specs.Shown.{shown}
-use Rattle.roam_shard.proofs.AcrossLemmas.{all_opened, all_sharded, one_shard_more}
+use Rattle.roam_shard.proofs.AcrossLemmas.{all_opened, all_sharded, no_shards, one_shard_more}
 use Rattle.roam_shard.proofs.shards.Shards.new.Goals as goal
+
+pub loop-shard-init : goal.loop-shard-init
+loop-shard-init g c = rw c.in_ok-shards.ensures.items (no_shards (shown c.args.config.now) c.args.starts.now)
 
 pub loop-shard-preserved : goal.loop-shard-preserved
 loop-shard-preserved g c =
