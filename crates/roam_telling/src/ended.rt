@@ -202,6 +202,18 @@ pub fn local_reject_of(config: &Config, datagram: &Datagram<Global>) -> Exchange
     exchange
 }
 
+/// What is told of an Accounting-Request that the broker answers by itself: as of one that a home server answered, but
+/// that there is none, and no realm where it has no name.
+pub fn local_response_of(config: &Config, datagram: &Datagram<Global>) -> Exchange {
+    let octets = datagram.octets.as_slice();
+    let mut exchange = said_by(octets, ExchangeEnd::Response);
+    exchange.peer = config.peer_by_ip(datagram.from.ip);
+    if let Ok(view) = View::read(octets) {
+        exchange.realm = realm_of(config, &view);
+    }
+    exchange
+}
+
 /// Where a reply was refused for its seal: whether it has one.
 fn seal_origin(datagram: &Datagram<Global>) -> Origin
     ensures { result ≡ causes.seal_origin datagram.now.at datagram.now.from (reading datagram.now.octets) }

@@ -26,7 +26,9 @@ mod said;
 pub use counted::turn_of;
 pub use counters::{Counters, ThreadCounts};
 pub use counting::Counting;
-pub use ended::{End, cause_of, end_of, exchange_of, local_reject_of, nak_of, origin_of};
+pub use ended::{
+    End, cause_of, end_of, exchange_of, local_reject_of, local_response_of, nak_of, origin_of,
+};
 pub use exchanges::{Exchanges, notes_of_timer, notes_of_worker, queue_of_lines};
 pub use notice::{Notice, notices_in, server_endpoint, serving, tell};
 pub use notices::{Notices, queue_of_notices};

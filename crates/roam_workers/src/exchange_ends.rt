@@ -8,8 +8,8 @@ use roam_counters::{CountedEvent, CountedTurn, Process};
 use roam_hub::{Gate, Opened, Past, Stood};
 use roam_notices::{Exchange, ExchangeEnd};
 use roam_route::Datagram;
-use roam_telling::{End, end_of, exchange_of, local_reject_of, nak_of};
-use roam_wire::code::ACCESS_REJECT;
+use roam_telling::{End, end_of, exchange_of, local_reject_of, local_response_of, nak_of};
+use roam_wire::code::{ACCESS_REJECT, ACCOUNTING_REQUEST};
 use std::alloc::Global;
 
 impl<G: Gate, N: Opened> WorkerContext<'_, '_, G, N> {
@@ -27,7 +27,19 @@ impl<G: Gate, N: Opened> WorkerContext<'_, '_, G, N> {
         }
     }
 
-    /// Counts a request that the broker rejected by itself, and has it be told with those that are like it.
+    /// Has an Accounting-Request be told that the broker answered by itself.
+    fn tell_local_response(&mut self, datagram: &Datagram<Global>)
+        ensures kept { (self.new.seat ≡ self.old.seat) × (self.new.datagrams ≡ self.old.datagrams)
+            × (self.new.now ≡ self.old.now) }
+    {
+        if self.exchanges.are_told(ExchangeEnd::Response) {
+            let exchange = local_response_of(self.shared.config, datagram);
+            self.tell(Some(exchange));
+        }
+    }
+
+    /// Has a request be told that the broker answered by itself: a rejected one is counted, and told with those that
+    /// are like it. Of the answer to a Status-Server nothing is told.
     pub fn tell_local(&mut self, datagram: &Datagram<Global>, octets: &[u8])
         ensures kept { (self.new.seat ≡ self.old.seat) × (self.new.datagrams ≡ self.old.datagrams)
             × (self.new.now ≡ self.old.now) }
@@ -38,6 +50,8 @@ impl<G: Gate, N: Opened> WorkerContext<'_, '_, G, N> {
                 let exchange = local_reject_of(self.shared.config, datagram);
                 self.exchanges.reject(&exchange, self.now);
             }
+        } else if datagram.octets.as_slice().first() == Some(&ACCOUNTING_REQUEST) {
+            self.tell_local_response(datagram);
         }
     }
 
