@@ -5,7 +5,8 @@
 
 The mistakes are the edits of crates/NAME/must-fail and of mistakes/NAME; in bold type on the page are those that the gate tries:
 the former, and of the latter those with a line `only: FUNCTION`. The status is 1 where one is missing, is there twice, isn't kept
-any more, is in the wrong type or under a heading with another count, or where the text that it changes isn't in its file once.
+any more, is in the wrong type or under a heading with another count, where its function isn't there, or where the text that it changes
+isn't in its file once.
 """
 import collections
 import pathlib
@@ -55,6 +56,11 @@ def is_edit(crate: str, path: pathlib.Path) -> bool:
     return all(code.count(re.sub(r"^old: ?", "", old, flags=re.M).rstrip("\n")) == 1 for old in olds)
 
 
+def has_function(crate: str, function: str) -> bool:
+    """Whether a crate has a function of this name."""
+    return any(re.search(rf"\bfn {function}\b", path.read_text(encoding="utf-8")) for path in (ROOT / "crates" / crate / "src").rglob("*.rt"))
+
+
 def main() -> int:
     """Says what is wrong, or how many there are."""
     files = kept()
@@ -64,6 +70,8 @@ def main() -> int:
     faults += [f"{' '.join(name)}: on the page {count} times" for name, count in times.items() if count > 1]
     faults += [f"{' '.join(name)}: on the page, and not kept" for name in times if name not in files]
     faults += [f"{' '.join(name)}: in the other type" for name, bold in entries if name in files and files[name][0] != bold]
+    faults += [f"{path.relative_to(ROOT)}: {crate} has no function {function}"
+               for (crate, function, _), (_, path) in files.items() if not has_function(crate, function)]
     faults += [f"{path.relative_to(ROOT)}: what it changes isn't there once"
                for (crate, _, _), (_, path) in files.items() if not is_edit(crate, path)]
     for fault in faults:

@@ -33,6 +33,5 @@ mod watch;
 pub use control::body_of;
 pub use program::command;
 
-// What tests of this crate take from the server, so that they needn't list it: `rt` looks at all below a crate by each
-// way down.
+// What tests of this crate take from the server, so that they needn't list it.
 pub use roam_serve::{Reason, ServeFault, SocketPath};

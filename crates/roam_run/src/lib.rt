@@ -28,8 +28,7 @@ pub use open_hub::{serve_first, serve_over};
 pub use parts::{HubEnd, Means, Served, ServerParts, Unserved, counters_of};
 pub use watch::Watch;
 
-// What stands above takes these from here, and lists this crate alone of those that it goes over: `rt` looks at all
-// below a crate by each way down, and the ways double with each crate that lists all others.
+// What stands above takes these from here, and lists this crate alone of those that it goes over.
 pub use roam_telling::{Counters, Notice};
 pub use roam_threads::{Behind, Kits, fill_outboxes, make_kits, make_outboxes, start_behind};
 pub use roam_workers::{CAUSES, OldHistory, Rests, SharedLosses, tell_or_drop};

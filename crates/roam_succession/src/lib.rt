@@ -17,8 +17,7 @@ mod unserved;
 
 pub use serving::serve_all;
 
-// What stands above takes these from here, and lists this crate alone of those that it goes over: `rt` looks at all
-// below a crate by each way down, and the ways double with each crate that lists all others.
+// What stands above takes these from here, and lists this crate alone of those that it goes over.
 pub use roam_hub::{Gate, Open};
 pub use roam_run::{
     Behind, CAUSES, Configured, Counters, Following, Handover, Means, NoSource, Notice, OldHistory,
