@@ -8,8 +8,6 @@ use roam_conf::{Config, Endpoint, Link, Realm};
 use roam_notices::{RefusalCount, RefusedText};
 use roam_port::LossCause;
 use roam_sockets::Reason;
-use std::fmt;
-use std::fmt::{Display, Formatter};
 
 /// What is told on standard error.
 #[derive(Clone, Copy, PartialEq, Eq)]
@@ -86,61 +84,33 @@ pub fn server_endpoint(realm: &Realm, link: Link) -> Option<Endpoint> {
     }
 }
 
-/// A notice in words.
-struct NoticeText<'c> {
-    config: &'c Config,
-    notice: Notice,
-}
-
-impl Display for NoticeText<'_> {
-    fn fmt(&self, f: &mut Formatter<'_>) -> fmt::Result {
-        match self.notice {
-            Notice::Refused(tally) => write!(f, "{}", RefusedText::new(self.config, tally)),
-            Notice::Dropped(count) => write!(f, "{count} notices dropped"),
-            Notice::Lost(cause, count) => write!(f, "{count} packets lost {}", words_of(cause)),
-            Notice::Narrow(at, octets) => write!(f, "{at} has room for {octets} octets alone"),
-            Notice::NoMetrics(at, Reason(number)) => {
-                write!(f, "no metrics at {at} (errno {number})")
-            }
-            Notice::LinesDropped(count) => write!(f, "{count} lines of exchanges dropped"),
-            Notice::Silent(realm, link) => {
-                let LinkText { at, realm } = link_text(self.config, realm, link);
-                write!(f, "home server {at} of {realm} keeps silent: it rests")
-            }
-            Notice::Answers(realm, link) => {
-                let LinkText { at, realm } = link_text(self.config, realm, link);
-                write!(f, "home server {at} of {realm} answers again")
-            }
-            Notice::Stopping => write!(f, "asked to stop: no request is taken any more"),
-            Notice::TriesAgain => write!(f, "what serves can't be started: tried again"),
-            Notice::Serving(realms, peers, shards) => {
-                write!(f, "serving realms {realms} peers {peers} shards {shards}")
-            }
-            Notice::Ended(steps, times) => {
-                write!(
-                    f,
-                    "ended after {steps} steps, let go of {times} times: audited"
-                )
-            }
-        }
-    }
-}
-
-/// Whether nothing is wrong where a notice is told.
-fn is_news(notice: Notice) -> bool {
-    matches!(
-        notice,
-        Notice::Answers(..) | Notice::Stopping | Notice::Serving(..) | Notice::Ended(..)
-    )
-}
-
 /// Tells a notice. Waits where standard error has no room.
 pub fn tell<R: Log>(rt: &R, config: &Config, notice: Notice) {
-    let text = NoticeText { config, notice };
-    if is_news(notice) {
-        info!(rt; "{}", text)
-    } else {
-        warn!(rt; "{}", text)
+    match notice {
+        Notice::Refused(tally) => warn!(rt; "{}", RefusedText::new(config, tally)),
+        Notice::Dropped(count) => warn!(rt; "{} notices dropped", count),
+        Notice::Lost(cause, count) => warn!(rt; "{} packets lost {}", count, words_of(cause)),
+        Notice::Narrow(at, octets) => { warn!(rt; "{} has room for {} octets alone", at, octets) }
+        Notice::NoMetrics(at, Reason(number)) => {
+            warn!(rt; "no metrics at {} (errno {})", at, number)
+        }
+        Notice::LinesDropped(count) => warn!(rt; "{} lines of exchanges dropped", count),
+        Notice::Silent(realm, link) => {
+            let LinkText { at, realm } = link_text(config, realm, link);
+            warn!(rt; "home server {} of {} keeps silent: it rests", at, realm)
+        }
+        Notice::Answers(realm, link) => {
+            let LinkText { at, realm } = link_text(config, realm, link);
+            info!(rt; "home server {} of {} answers again", at, realm)
+        }
+        Notice::Stopping => info!(rt; "asked to stop: no request is taken any more"),
+        Notice::TriesAgain => warn!(rt; "what serves can't be started: tried again"),
+        Notice::Serving(realms, peers, shards) => {
+            info!(rt; "serving realms {} peers {} shards {}", realms, peers, shards)
+        }
+        Notice::Ended(steps, times) => {
+            info!(rt; "ended after {} steps, let go of {} times: audited", steps, times)
+        }
     }
 }
 
