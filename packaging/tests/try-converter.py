@@ -630,7 +630,7 @@ def main():
     look_over("five-hundred.conf", five_hundred(), 100, 500, [], [], roam)
     private = look_over("private.conf", "LogFullUsername off\n" + five_hundred(), 100, 500, [], [], roam)
     assert private["log_exchanges"] == "none"
-    hashed = look_over("hashed.conf", "LogMAC VendorKeyHashed\n" + five_hundred(), 100, 500, [], [], roam)
+    hashed = look_over("hashed.conf", "LogMAC VendorKeyHashed\nLogKey salt\n" + five_hundred(), 100, 500, [], [], roam)
     assert "log_exchanges" not in hashed and hashed["log_station"] == "hmac"
     named = five_hundred().replace("host 192.0.2.100", "host localhost")
     look_over("named.conf", named, 99, 500, [("Not carried over", "localhost is a name")], ["client nas100"], roam)
