@@ -11,7 +11,7 @@ use Rattle.roam_notices.specs.Values.{digits_text, octets_if, octets_of}
 pub station-hashed : (before : List ℕ) (how : StationForm) (station : Option Value) (key : StationKey) (value : Value)
     (octets : List ℕ) → how ≡ form.Hashed key → station ≡ Some value → octets ≡ octets_of value →
     before ++ codes " station=hmac:" ++ digits_text (hash_of key.block octets)
-        ≡ before ++ station_text how (octets_if station)
+    ≡ before ++ station_text how (octets_if station)
 station-hashed before how station key value octets hashed stands kept =
     rw (hashed, stands, kept)
-        (append_assoc before (codes " station=hmac:") (digits_text (hash_of key.block (octets_of value))))
+    (append_assoc before (codes " station=hmac:") (digits_text (hash_of key.block (octets_of value))))

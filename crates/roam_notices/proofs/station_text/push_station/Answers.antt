@@ -4,7 +4,7 @@ use Rattle.roam_notices.proofs.station_text.push_station.Goals as goal
 
 pub returns-in-Hashed-Some : goal.returns-in-Hashed-Some
 returns-in-Hashed-Some c =
-  let octets = c.octets-in-Hashed-Some in
-  let told = station-hashed c.args.line.now.items c.args.form.now c.args.station.now c.in-Hashed-Some.key
-        c.in-Hashed-Some.station octets.result.now c.in-Hashed-Some.is-0 c.in-Hashed-Some.is-1 octets.ensures in
-  subst (λ text. OnOk c.push_hash.result (c.push_hash.new.line.items ≡ text)) told c.push_hash.ensures
+    let octets = c.octets-in-Hashed-Some in
+    let told = station-hashed c.args.line.now.items c.args.form.now c.args.station.now c.in-Hashed-Some.key
+    c.in-Hashed-Some.station octets.result.now c.in-Hashed-Some.is-0 c.in-Hashed-Some.is-1 octets.ensures in
+    subst (λ text. OnOk c.push_hash.result (c.push_hash.new.line.items ≡ text)) told c.push_hash.ensures
