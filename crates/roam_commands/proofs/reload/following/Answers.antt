@@ -10,6 +10,6 @@ none-holds P None nothing holds = holds
 none-holds P (Some x) nothing holds = absurd (let k : true ≡ false = nothing in cc)
 
 pub returns : goal.returns
-returns c =
+returns g c =
     none-holds (MayFollow (shown c.args.old.now) (shown c.in_ok-config.config)) c.hindrance_of-hindrance.result
     (sym c.is_some.ensures ∙ c.if-is_some.false) c.hindrance_of-hindrance.ensures.none
