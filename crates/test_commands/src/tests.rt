@@ -258,7 +258,9 @@ fn expect_comparison<
     let new = file(rt, process, "new.conf", new.as_bytes());
     let told = match status {
         0 => String::new(rt.alloc()),
-        _ => format!(in rt.alloc(); "roam: {}: may not follow\n", new.as_str())?,
+        _ => format!(in rt.alloc(); "roam: {}: may not follow\n", new.as_str()).expect(
+            rt, "memory",
+        ),
     };
     expect(
         rt,
