@@ -139,9 +139,11 @@ fn check_too_long(rt: &impl Abort, alloc: Global) -> Result<(), Fail> {
     assert!(rt; authenticator_octets.len() == 16);
     let mut authenticator = [0; 16];
     authenticator.copy_from_slice(&authenticator_octets);
+    let view = View::read(&reply).expect(rt, "a reply");
+    assert!(rt; view.count(MESSAGE_AUTHENTICATOR) == 0);
     let mut out = vec![in alloc; 0xee]?;
     let result = back_passing(
-        &View::read(&reply).expect(rt, "a reply"),
+        &view,
         &View::read(&request).expect(rt, "a request"),
         &removal_of(Case::Vendors),
         authenticator,

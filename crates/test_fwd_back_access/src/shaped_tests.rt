@@ -280,20 +280,20 @@ const ROWS: [(Case, &str, &str); 35] = [
     ),
 ];
 
-/// Sixteen octets of a packet from one on.
-fn sixteen(packet: &[u8], at: usize) -> [u8; 16] {
+/// The Authenticator of a packet.
+fn authenticator_of(rt: &impl Abort, packet: &[u8]) -> [u8; 16] {
+    assert!(rt; packet.len() >= 20);
     let mut authenticator = [0; 16];
-    authenticator.copy_from_slice(&packet[at..at + 16]);
+    authenticator.copy_from_slice(&packet[4..20]);
     authenticator
 }
 
 /// The ticket at the end of a packet.
 fn ticket_of(packet: &[u8]) -> u64 {
-    let mut ticket = 0;
-    for octet in &packet[packet.len() - 8..] {
-        ticket = ticket * 256 + u64::from(*octet);
+    match packet {
+        [.., a, b, c, d, e, f, g, h] => u64::from_be_bytes([*a, *b, *c, *d, *e, *f, *g, *h]),
+        _ => 0,
     }
-    ticket
 }
 
 /// This is forwarded behind what stood in the buffer.
@@ -321,7 +321,7 @@ fn check_shaped(
             HOME_SERVER
         },
         id: expected[1],
-        authenticator: sixteen(&expected, 4),
+        authenticator: authenticator_of(rt, &expected),
         ticket: ticket_of(&expected),
     };
     let mut out = Vec::with_capacity(alloc, 4097)?;

@@ -26,17 +26,9 @@ use crate::exchange::Verdict;
 use crate::reload::Next;
 use crate::row::{ROWS, Row, TAKEN};
 use crate::stage::{Stage, Turnstile};
-use log::Log;
-use roam_conf::{Config, ExchangeLines};
+use roam_conf::ExchangeLines;
 use roam_serve::{Build, ControlSocket, ServeFault, ServeOptions, StationForm, Watch, serve};
-use std::alloc::Global;
-use std::net::Net;
-use std::random::RandomSource;
-use std::rt::Files;
-use std::sync::Wait;
 use std::sync::atomic::AtomicU64;
-use std::thread::Threads;
-use std::time::Clock;
 use std::{io, thread};
 
 /// Who watches the server of a row.
@@ -81,97 +73,58 @@ fn verdict_beside(row: Row, second: Option<Result<(), ServeFault>>) -> Verdict {
     }
 }
 
-/// Serves the configuration of a row, and notes when that ends.
-fn serve_first<'t, R: Threads + Wait + Clock + Net + RandomSource + Log + Sync>(
-    stage: &Stage<'t, R>,
-    row: Row,
-    config: Config,
-    control: Option<&ControlSocket>,
-    next: &mut Next,
-) -> Result<(), ServeFault> {
-    let options = options(stage, row, watch(stage, row, control));
-    let served = serve(stage, next.alloc, config, options, next);
-    stage.note_end();
-    served
-}
-
-/// Serves a second configuration beside the first, where there is one, and says how that ends.
-fn serve_second<'t, R: Threads + Wait + Clock + Net + RandomSource + Log + Sync>(
-    stage: &Stage<'t, R>,
-    row: Row,
-    config: Option<Config>,
-    alloc: Global,
-) -> Option<Result<(), ServeFault>> {
-    let mut next = Next {
-        alloc,
-        config: None,
-    };
-    match config {
-        Some(config) => {
-            let options = options(stage, row, None);
-            Some(serve(stage, alloc, config, options, &mut next))
-        }
-        None => None,
-    }
-}
-
-/// Acts while the server of a row serves, with a second one beside it where the row has one: what is said of the acts,
-/// and how the server ended.
-fn act_beside<'t, R: Threads + Wait + Clock + Net + RandomSource + Log + Files + Sync>(
-    rt: &R,
-    stage: &Stage<'t, R>,
-    ends: &Ends,
-    row: Row,
-    configs: (Config, Option<Config>),
-    alloc: Global,
-) -> (Verdict, Result<(), ServeFault>) {
-    let (config, second) = configs;
-    let control = row.control(rt);
-    let control = control.as_ref();
-    let mut next = Next {
-        alloc,
-        config: row.following(rt, alloc),
-    };
-    thread::scope(thread::scope_env(), rt, |scope| {
-        let server = scope.spawn(move || serve_first(stage, row, config, control, &mut next));
-        let acted = row.act(rt, stage, ends, alloc);
-        let beside = serve_second(stage, row, second, alloc);
-        if row.ends_early() {
-            stage.end();
-        }
-        match server {
-            Ok(server) => (acted.and(verdict_beside(row, beside)), server.join(rt)),
-            Err(_) => (acted, Err(ServeFault::Memory)),
-        }
-    })
-}
-
-/// Plays a row, and says whether all went as it should.
-fn play<R: Threads + Wait + Clock + Net + RandomSource + Log + Files + Sync>(
-    rt: &R,
-    row: Row,
-    earlier: &AtomicU64,
-    alloc: Global,
-) -> &'static str {
-    let mut stage = Stage::new(rt, row, earlier);
-    let second = row.second(&stage, rt, alloc);
-    match (row.config(&stage, rt, alloc), Ends::bind(rt, row)) {
-        (Some(Ok(config)), Ok(ends)) => {
-            stage.counters = row.counters(alloc, &config);
-            let (acted, served) = act_beside(rt, &stage, &ends, row, (config, second), alloc);
-            row.verdict(&stage, acted, served)
-        }
-        (Some(Err(fault)), _) => row.verdict(&stage, Ok(()), Err(fault)),
-        _ => "the configuration or the sockets of the test can't be had",
-    }
-}
-
 fn main(rt: HostRuntime) -> io::Result<()> {
     let alloc = rt.alloc();
     let earlier = AtomicU64::new(0);
     for row in ROWS {
+        let mut stage = Stage::new(&rt, row, &earlier);
+        let second = row.second(&stage, &rt, alloc);
+        let config = row.config(&stage, &rt, alloc);
+        if let Some(Ok(config)) = &config {
+            stage.counters = row.counters(alloc, config);
+        }
+        let mut next = Next {
+            alloc,
+            config: row.following(&rt, alloc),
+        };
+        let control = row.control(&rt);
+        let control = control.as_ref();
+        let stage = &stage;
+        let verdict = match (config, Ends::bind(&rt, row)) {
+            (Some(Ok(config)), Ok(ends)) => {
+                let (acted, served) = thread::scope(thread::scope_env(), &rt, |scope| {
+                    let server = scope.spawn(move || {
+                        let watch = watch(stage, row, control);
+                        let options = options(stage, row, watch);
+                        let served = serve(stage, alloc, config, options, &mut next);
+                        stage.note_end();
+                        served
+                    });
+                    let acted = row.act(&rt, stage, &ends, alloc);
+                    let beside = match second {
+                        Some(config) => {
+                            let none = &mut Next {
+                                alloc,
+                                config: None,
+                            };
+                            Some(serve(stage, alloc, config, options(stage, row, None), none))
+                        }
+                        None => None,
+                    };
+                    if row.ends_early() {
+                        stage.end();
+                    }
+                    match server {
+                        Ok(server) => (acted.and(verdict_beside(row, beside)), server.join(&rt)),
+                        Err(_) => (acted, Err(ServeFault::Memory)),
+                    }
+                });
+                row.verdict(stage, acted, served)
+            }
+            (Some(Err(fault)), _) => row.verdict(stage, Ok(()), Err(fault)),
+            _ => "the configuration or the sockets of the test can't be had",
+        };
         let name = row.name();
-        let verdict = play(&rt, row, &earlier, alloc);
         println!(rt; "{name}: {verdict}")?;
     }
     Ok(())
