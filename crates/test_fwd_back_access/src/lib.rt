@@ -12,5 +12,3 @@ mod exchanges;
 mod fwd_tests;
 #[cfg(test)]
 mod passing_tests;
-#[cfg(test)]
-mod shaped_tests;
