@@ -41,6 +41,7 @@ all_events =
     event.Refused refusal.Moment ∷ event.Refused refusal.NoShard ∷ event.Refused refusal.NoMemory ∷
     event.Refused refusal.TraceFull ∷ event.Refused refusal.Misplaced ∷ event.Refused refusal.TooManyHops ∷
     event.Refused refusal.NotForPeer ∷ event.Refused refusal.AccountingDropped ∷ event.Refused refusal.ShareTaken ∷
+    event.Refused refusal.TooManyAttributes ∷ event.Refused refusal.Stale ∷
     event.TakenOver request.Access ∷ event.TakenOver request.Accounting ∷
     event.TakenOver request.Disconnect ∷ event.TakenOver request.Coa ∷
     event.FailedOver ∷ event.GivenUp ∷
@@ -127,6 +128,8 @@ event-at_place (event.Refused refusal.TooManyHops) = refl
 event-at_place (event.Refused refusal.NotForPeer) = refl
 event-at_place (event.Refused refusal.AccountingDropped) = refl
 event-at_place (event.Refused refusal.ShareTaken) = refl
+event-at_place (event.Refused refusal.TooManyAttributes) = refl
+event-at_place (event.Refused refusal.Stale) = refl
 event-at_place (event.TakenOver request.Access) = refl
 event-at_place (event.TakenOver request.Accounting) = refl
 event-at_place (event.TakenOver request.Disconnect) = refl

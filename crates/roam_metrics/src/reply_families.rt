@@ -206,5 +206,7 @@ pub(crate) const REFUSED: Family = Family {
         ("25", CountedEvent::Refused(Refusal::NotForPeer)),
         ("26", CountedEvent::Refused(Refusal::AccountingDropped)),
         ("27", CountedEvent::Refused(Refusal::ShareTaken)),
+        ("28", CountedEvent::Refused(Refusal::TooManyAttributes)),
+        ("29", CountedEvent::Refused(Refusal::Stale)),
     ],
 };

@@ -9,6 +9,8 @@ pub const CHAP_PASSWORD: u8 = 3;
 
 pub const NAS_IP_ADDRESS: u8 = 4;
 
+pub const STATE: u8 = 24;
+
 pub const VENDOR_SPECIFIC: u8 = 26;
 
 pub const NAS_IDENTIFIER: u8 = 32;
