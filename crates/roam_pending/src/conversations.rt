@@ -57,7 +57,7 @@ impl<A: Allocator> Standing<A> {
 }
 
 /// Whether an entry keeps a peer's round of this State.
-fn is_round<A: Allocator>(entry: &Entry<A>, peer: u16, state: &[u8]) -> bool
+pub fn is_round<A: Allocator>(entry: &Entry<A>, peer: u16, state: &[u8]) -> bool
     ensures { result ≡ is_round peer state.now (shown entry.now) }
 {
     let Requester::Peer(own) = entry.request.requester else {

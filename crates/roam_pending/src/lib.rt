@@ -24,7 +24,7 @@ mod one_realm;
 mod pending;
 mod updates;
 
-pub use conversations::challenge_state;
+pub use conversations::{challenge_state, is_round};
 pub use due::Due;
 pub use entries::Entries;
 pub use entry::{Done, Entry, Request, Standing, Waiting};
