@@ -46,9 +46,9 @@ all_events =
     event.TakenOver request.Disconnect ∷ event.TakenOver request.Coa ∷
     event.FailedOver ∷ event.GivenUp ∷
     event.Replaced ∷ event.AnsweredAgain ∷
-    event.LocalReject ∷ event.Nak nak.UnsupportedAttribute ∷
+    event.LocalReject ∷ event.Nak nak.UnsupportedAttribute ∷ event.Nak nak.InvalidRequest ∷
     event.Nak nak.RequestNotRoutable ∷ event.Nak nak.SessionNotFound ∷
-    event.Nak nak.OtherProxyProcessingError ∷ event.AnswerWithin delay.Within10 ∷
+    event.Nak nak.OtherProxyProcessingError ∷ event.Nak nak.MultipleSessions ∷ event.AnswerWithin delay.Within10 ∷
     event.AnswerWithin delay.Within30 ∷ event.AnswerWithin delay.Within100 ∷
     event.AnswerWithin delay.Within300 ∷ event.AnswerWithin delay.Within1000 ∷
     event.AnswerWithin delay.Within3000 ∷ event.AnswerWithin delay.Within10000 ∷
@@ -140,9 +140,11 @@ event-at_place event.Replaced = refl
 event-at_place event.AnsweredAgain = refl
 event-at_place event.LocalReject = refl
 event-at_place (event.Nak nak.UnsupportedAttribute) = refl
+event-at_place (event.Nak nak.InvalidRequest) = refl
 event-at_place (event.Nak nak.RequestNotRoutable) = refl
 event-at_place (event.Nak nak.SessionNotFound) = refl
 event-at_place (event.Nak nak.OtherProxyProcessingError) = refl
+event-at_place (event.Nak nak.MultipleSessions) = refl
 event-at_place (event.AnswerWithin delay.Within10) = refl
 event-at_place (event.AnswerWithin delay.Within30) = refl
 event-at_place (event.AnswerWithin delay.Within100) = refl

@@ -24,5 +24,5 @@ event_place event.Replaced = 80
 event_place event.AnsweredAgain = 81
 event_place event.LocalReject = 82
 event_place (event.Nak cause) = 83 + cause_place cause
-event_place (event.AnswerWithin delay) = 87 + delay_place delay
-event_place event.AnswerTime = 95
+event_place (event.AnswerWithin delay) = 89 + delay_place delay
+event_place event.AnswerTime = 97

@@ -8,7 +8,7 @@ use crate::kinds::{NakCause, ReplyKind, RequestKind};
 use roam_wire::Refusal;
 
 /// How many events are told apart.
-pub const EVENTS: usize = 96;
+pub const EVENTS: usize = 98;
 
 /// What is counted of a realm, a home server or a peer.
 #[derive(Clone, Copy, PartialEq, Eq)]
@@ -56,7 +56,7 @@ impl CountedEvent {
     /// Its place among all events.
     pub fn place(self) -> usize
         ensures value { result ≡ spec.event_place self }
-        ensures below { result < 96 }
+        ensures below { result < 98 }
     {
         match self {
             CountedEvent::Request(kind) => kind.place(),
@@ -75,8 +75,8 @@ impl CountedEvent {
             CountedEvent::AnsweredAgain => 81,
             CountedEvent::LocalReject => 82,
             CountedEvent::Nak(cause) => 83 + cause.place(),
-            CountedEvent::AnswerWithin(delay) => 87 + delay.place(),
-            CountedEvent::AnswerTime => 95,
+            CountedEvent::AnswerWithin(delay) => 89 + delay.place(),
+            CountedEvent::AnswerTime => 97,
         }
     }
 }

@@ -157,12 +157,14 @@ pub(crate) const NAKS: Family = Family {
     label: Some("error_cause"),
     samples: &[
         ("401", CountedEvent::Nak(NakCause::UnsupportedAttribute)),
+        ("404", CountedEvent::Nak(NakCause::InvalidRequest)),
         ("502", CountedEvent::Nak(NakCause::RequestNotRoutable)),
         ("503", CountedEvent::Nak(NakCause::SessionNotFound)),
         (
             "505",
             CountedEvent::Nak(NakCause::OtherProxyProcessingError),
         ),
+        ("508", CountedEvent::Nak(NakCause::MultipleSessions)),
     ],
 };
 

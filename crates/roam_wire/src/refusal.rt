@@ -25,8 +25,8 @@ impl<T: Drop> From<AllocFailed<T>> for NoMemory {
 ///
 /// An arrival is refused by the first of `Short` to `TooLong` whose cause holds, where
 /// `TooManyAttributes` stands between `WrongCode` and `BadAuthenticator`, `TooManyHops` between
-/// `MissingMessageAuthenticator` and `NoRealm`, and `NotForPeer` and then `AccountingDropped` between
-/// `NoRealm` and `TooLong`; and a tick by `NoShard`. Then comes `Moment`; then, for a request, the
+/// `MissingMessageAuthenticator` and `NoRealm`, and `Stale`, `NotForPeer` and then `AccountingDropped`
+/// between `NoRealm` and `TooLong`; and a tick by `NoShard`. Then comes `Moment`; then, for a request, the
 /// first of `Exhausted` to `Busy`, where `ShareTaken` stands behind `Exhausted`, and for a reply the
 /// first of `NoEntry` to `ReplyTooLong`. `NoMemory` comes wherever a growth was refused.
 #[derive(Clone, Copy, Debug, PartialEq, Eq)]
@@ -90,7 +90,7 @@ pub enum Refusal {
     ShareTaken,
     /// A request has more attributes than may be.
     TooManyAttributes,
-    /// A Disconnect- or CoA-Request tells another time than it is, or none.
+    /// A Disconnect- or CoA-Request's Event-Timestamp is too far from the wall clock.
     Stale,
 }
 
