@@ -18,7 +18,7 @@ use Rattle.roam_pending.specs.PlainEntry.{PlainRequest, PlainStanding, PlainEntr
 use Rattle.roam_pending.specs.EntryList.{find_ticket}
 use Rattle.roam_book.specs.RealmConfig.{RealmConfig, IsLink, IsRequester, link_place, link_count}
 use Rattle.roam_book.specs.RealmState.{RealmState}
-use Rattle.roam_book.specs.Rests.{stands_back}
+use Rattle.roam_book.specs.Rests.{has_moment, stands_back}
 use Rattle.roam_book.specs.Shapings.{shaping_from}
 use Rattle.roam_book.specs.declared.rules.replaced.Replaced.{Replaced}
 use Rattle.roam_book.specs.declared.packets.forwarding.RequestRef.{RequestRef}
@@ -165,6 +165,10 @@ is_open c lanes freed l = is_freed freed l || has_free (lane_of c lanes l)
 abbrev pub stands_back_at : RealmConfig → Option ℕ → List Rest → Link → Bool
 stands_back_at c None rests l = false
 stands_back_at c (Some now) rests l = stands_back c now rests l
+
+-- it is open, and has no moment until which it rests
+abbrev pub is_untried : RealmConfig → List Rest → List LaneState → Option Link → Link → Bool
+is_untried c rests lanes freed l = not (has_moment c rests l) && is_open c lanes freed l
 
 -- it is open, and doesn't stand back
 abbrev pub is_ready :

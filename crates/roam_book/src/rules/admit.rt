@@ -18,7 +18,7 @@ use crate::packets::answer::AnswerCopies;
 use crate::packets::answer_builder::AnswerBuilder;
 use crate::packets::buffers::Buffers;
 use crate::packets::forwarding::{Hop, PacketCopies, RequestRef, send_new};
-use crate::rules::admit_plan::AdmitPlan;
+use crate::rules::admit_plan::{AdmitPlan, LinkChoice};
 use crate::rules::replaced::Replaced;
 use crate::state::realm_broker::RealmBroker;
 use crate::state::realm_settings::RealmSettings;
@@ -135,38 +135,41 @@ impl<A: Allocator + Copy, E: Entries<A>> RealmBroker<'_, '_, '_, '_, A, E> {
         self.numbers.make_lane(self.settings, link)
     }
 
-    /// Forwards a new request to a link that has a free Identifier, under the next ticket. Its
-    /// entry is put where there is room. Gives the packet that is sent. Takes no memory.
+    /// Forwards a new request to a link that has a free Identifier, under the next ticket; the link's rest
+    /// is put off, where it isn't bound there. Its entry is put where there is room. Gives the packet that is sent. Takes no memory.
     fn forward_new(
         &mut self,
         now: u64,
         asked: RequestRef<'_>,
-        link: Link,
+        choice: LinkChoice,
         octets: Octets<A>,
         buffers: Buffers<A>,
     ) -> PacketCopies<A>
         requires realm { IsRealm E.Entries self.old }
         requires moment { now ≤ 2 ^ 62 }
         requires way { IsWay self.old.settings.now (state E.Entries self.old) (shown_request asked)
-            (straight_to link) }
-        requires made { (lane_of self.old.settings.now self.old.numbers.now.lanes.items link).made
+            (straight_to choice.link choice.bound) }
+        requires made { (lane_of self.old.settings.now self.old.numbers.now.lanes.items choice.link).made
             ≡ true }
         requires room { 0 < room E.Entries self.old }
         requires octets { octets ≡ asked.octets.now }
-        requires buffers { HasBuffers (forwarded_size self.old.settings.now (shown_request asked) link) buffers }
+        requires buffers { HasBuffers (forwarded_size self.old.settings.now (shown_request asked) choice.link) buffers }
         ensures out { shown_out result.out ∷ [] ≡ packets_of (admits self.old.settings.now now
-            (state E.Entries self.old) (shown_request asked.entry) (straight_to link)) }
+            (state E.Entries self.old) (shown_request asked.entry)
+            (straight_to choice.link choice.bound)) }
         ensures copied { IsCopied (is_some buffers.copy) result }
         ensures state { state E.Entries self.new ≡ state_after (state E.Entries self.old)
             (admits self.old.settings.now now (state E.Entries self.old) (shown_request asked.entry)
-            (straight_to link)) }
+            (straight_to choice.link choice.bound)) }
         ensures keeps { Keeps E.Entries self.old self.new }
     {
+        self.numbers
+            .put_off_unless(self.settings, now, choice.link, choice.bound);
         let ticket = self.numbers.ticket;
         let hop = Hop {
             asked,
             ticket,
-            link,
+            link: choice.link,
         };
         let (sent, waiting) = send_new(self.settings, self.numbers, now, hop, buffers);
         let request = Request {
@@ -212,7 +215,11 @@ impl<A: Allocator + Copy, E: Entries<A>> RealmBroker<'_, '_, '_, '_, A, E> {
             buffers,
             mut outs,
         } = supplies;
-        let sent = self.forward_new(now, asked, way.link, octets, buffers);
+        let choice = LinkChoice {
+            link: way.link,
+            bound: way.bound,
+        };
+        let sent = self.forward_new(now, asked, choice, octets, buffers);
         outs.push(sent);
         outs.finish()
     }

@@ -125,6 +125,27 @@ impl<'c> RealmSettings<'c> {
         self.realm().share
     }
 
+    /// How many requests of one peer may wait, if there is a limit.
+    pub(crate) fn peer_share(&self) -> Option<u16>
+        ensures { result ≡ self.now.realm.peer_share }
+    {
+        self.realm().peer_share
+    }
+
+    /// Whether of an Access-Accept own names alone are returned.
+    pub(crate) fn own_names(&self) -> bool
+        ensures { result ≡ self.now.realm.own_names }
+    {
+        self.realm().own_names
+    }
+
+    /// Whether a request that goes on with a conversation goes to the server that has that.
+    pub(crate) fn keeps_conversations(&self) -> bool
+        ensures { result ≡ self.now.realm.conversations }
+    {
+        self.realm().conversations
+    }
+
     /// How many home servers the realm has: at most 8.
     pub(crate) fn server_count(&self) -> usize
         ensures count { result ≡ length self.now.realm.servers }
