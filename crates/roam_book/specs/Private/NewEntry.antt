@@ -73,6 +73,10 @@ pub record IsWay (c : RealmConfig) (s : RealmState) (q : PlainRequest) (way : Ad
   pub link : IsLink c way.link
   pub free : HasNext c s.cursors (once_gone way.gone s.entries) way.link
 
+-- what a new request does that goes to a link, where no entry has to go and the link was chosen
+abbrev pub forwards : RealmConfig → ℕ → RealmState → PlainRequest → Link → Turn
+forwards c now s q l = admit c now s s.entries q (target_at c s.cursors s.entries l)
+
 -- what a new request does that goes this way
 abbrev pub admits : RealmConfig → ℕ → RealmState → PlainRequest → AdmitPlan → Turn
 admits c now s q way =

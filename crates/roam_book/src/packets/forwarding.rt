@@ -237,6 +237,7 @@ pub(crate) fn send_new<A: Allocator + Copy>(
     ensures sessions { numbers.new.sessions ≡ numbers.old.sessions }
     ensures rests { numbers.new.rests.items ≡ numbers.old.rests.items }
 {
+    let signs = numbers.signs_of(settings, hop.link);
     let Some(id) = numbers.take_next(settings, hop.link, hop.ticket) else {
         unreachable!();
     };
@@ -255,7 +256,7 @@ pub(crate) fn send_new<A: Allocator + Copy>(
         forwarded,
         sends_left: settings.tries().saturating_sub(1),
         deadline: now + u64::from(settings.wait()),
-        signs: numbers.signs_of(settings, hop.link),
+        signs,
     };
     let out = packet_to_link(settings, hop.link, Octets::from_vec(sent));
     (PacketCopies::new(out, copy), waiting)

@@ -1,7 +1,7 @@
 //! How a new request is admitted, once its way is chosen: memory is taken, way is made, and the
 //! request is forwarded.
 
-ghost use Rattle.std.specs.Prelude.{◌≡◌, ℕ, ◌+◌, ◌<◌, ◌≤◌, ◌^◌, ◌∷◌, [], true, IfErr};
+ghost use Rattle.std.specs.Prelude.{◌≡◌, ℕ, ◌+◌, ◌<◌, ◌≤◌, ◌^◌, ◌∷◌, [], false, true, IfErr};
 ghost use Rattle.std.specs.Prelude.{IfOk, OnOk, is_some};
 ghost use Rattle.roam_pending.specs.PlainEntry.{PlainRequest};
 ghost use Rattle.roam_pending.specs.EntryList.{besides};
@@ -9,7 +9,10 @@ ghost use Rattle.roam_route.specs.Shown.{shown_out};
 ghost use Rattle.roam_book.specs.Private.Memory.{HasBuffers, IsCopied, Tells};
 ghost use Rattle.roam_book.specs.RealmConfig.{IsLink};
 ghost use Rattle.roam_book.specs.Shapings.{forwarded_size};
-ghost use Rattle.roam_book.specs.Private.NewEntry.{AreSupplies, IsWay, MakesWay, admits, cleared, straight_to};
+ghost use Rattle.roam_book.specs.Private.NewEntry.{AreSupplies, IsWay, MakesWay, admits, cleared, forwards};
+ghost use Rattle.roam_book.specs.Private.NewEntry.{straight_to};
+ghost use Rattle.roam_book.specs.Conversing.{rests_chosen};
+ghost use Rattle.roam_book.specs.RealmState.{with_rests};
 ghost use Rattle.roam_book.specs.RealmTurn.{IsRealm, Keeps, entries, room, state};
 ghost use Rattle.roam_book.specs.Sound.{CountsAsGone, IsRequest, IsSameButSlots, gone_ticket, lane_of, marks_of, shown_request};
 ghost use Rattle.roam_book.specs.Turn.{packets_of, state_after};
@@ -18,7 +21,7 @@ use crate::packets::answer::AnswerCopies;
 use crate::packets::answer_builder::AnswerBuilder;
 use crate::packets::buffers::Buffers;
 use crate::packets::forwarding::{Hop, PacketCopies, RequestRef, send_new};
-use crate::rules::admit_plan::{AdmitPlan, LinkChoice};
+use crate::rules::admit_plan::AdmitPlan;
 use crate::rules::replaced::Replaced;
 use crate::state::realm_broker::RealmBroker;
 use crate::state::realm_settings::RealmSettings;
@@ -135,41 +138,51 @@ impl<A: Allocator + Copy, E: Entries<A>> RealmBroker<'_, '_, '_, '_, A, E> {
         self.numbers.make_lane(self.settings, link)
     }
 
-    /// Forwards a new request to a link that has a free Identifier, under the next ticket; the link's rest
-    /// is put off, where it isn't bound there. Its entry is put where there is room. Gives the packet that is sent. Takes no memory.
+    /// A link is chosen for a new request: its rest is put off, where no conversation bound the request there.
+    fn choose(&mut self, now: u64, link: Link, bound: bool)
+        requires realm { IsRealm E.Entries self.old }
+        requires moment { now ≤ 2 ^ 62 }
+        requires link { IsLink self.old.settings.now link }
+        ensures state { state E.Entries self.new ≡ with_rests (state E.Entries self.old)
+            (rests_chosen self.old.settings.now now (state E.Entries self.old).rests bound link) }
+        ensures lanes { self.new.numbers.now.lanes.items ≡ self.old.numbers.now.lanes.items }
+        ensures room { room E.Entries self.new ≡ room E.Entries self.old }
+        ensures keeps { Keeps E.Entries self.old self.new }
+    {
+        self.numbers.put_off_unless(self.settings, now, link, bound);
+    }
+
+    /// Forwards a new request to a link that has a free Identifier, under the next ticket. Its
+    /// entry is put where there is room. Gives the packet that is sent. Takes no memory.
     fn forward_new(
         &mut self,
         now: u64,
         asked: RequestRef<'_>,
-        choice: LinkChoice,
+        link: Link,
         octets: Octets<A>,
         buffers: Buffers<A>,
     ) -> PacketCopies<A>
         requires realm { IsRealm E.Entries self.old }
         requires moment { now ≤ 2 ^ 62 }
         requires way { IsWay self.old.settings.now (state E.Entries self.old) (shown_request asked)
-            (straight_to choice.link choice.bound) }
-        requires made { (lane_of self.old.settings.now self.old.numbers.now.lanes.items choice.link).made
+            (straight_to link false) }
+        requires made { (lane_of self.old.settings.now self.old.numbers.now.lanes.items link).made
             ≡ true }
         requires room { 0 < room E.Entries self.old }
         requires octets { octets ≡ asked.octets.now }
-        requires buffers { HasBuffers (forwarded_size self.old.settings.now (shown_request asked) choice.link) buffers }
-        ensures out { shown_out result.out ∷ [] ≡ packets_of (admits self.old.settings.now now
-            (state E.Entries self.old) (shown_request asked.entry)
-            (straight_to choice.link choice.bound)) }
+        requires buffers { HasBuffers (forwarded_size self.old.settings.now (shown_request asked) link) buffers }
+        ensures out { shown_out result.out ∷ [] ≡ packets_of (forwards self.old.settings.now now
+            (state E.Entries self.old) (shown_request asked.entry) link) }
         ensures copied { IsCopied (is_some buffers.copy) result }
         ensures state { state E.Entries self.new ≡ state_after (state E.Entries self.old)
-            (admits self.old.settings.now now (state E.Entries self.old) (shown_request asked.entry)
-            (straight_to choice.link choice.bound)) }
+            (forwards self.old.settings.now now (state E.Entries self.old) (shown_request asked.entry) link) }
         ensures keeps { Keeps E.Entries self.old self.new }
     {
-        self.numbers
-            .put_off_unless(self.settings, now, choice.link, choice.bound);
         let ticket = self.numbers.ticket;
         let hop = Hop {
             asked,
             ticket,
-            link: choice.link,
+            link,
         };
         let (sent, waiting) = send_new(self.settings, self.numbers, now, hop, buffers);
         let request = Request {
@@ -215,11 +228,8 @@ impl<A: Allocator + Copy, E: Entries<A>> RealmBroker<'_, '_, '_, '_, A, E> {
             buffers,
             mut outs,
         } = supplies;
-        let choice = LinkChoice {
-            link: way.link,
-            bound: way.bound,
-        };
-        let sent = self.forward_new(now, asked, choice, octets, buffers);
+        self.choose(now, way.link, way.bound);
+        let sent = self.forward_new(now, asked, way.link, octets, buffers);
         outs.push(sent);
         outs.finish()
     }
