@@ -83,6 +83,8 @@ impl<A: Allocator + Copy, E: Entries<A>> RealmBroker<'_, '_, '_, '_, A, E> {
         ensures bound { result ≡ bound_way self.now.settings.now self.now.numbers.now.lanes.items freed
             (shown_request asked.entry) (entries E.Entries self.now) }
         ensures link { IfSome result (λ l. IsLink self.now.settings.now l) }
+        ensures bound_is_link { IfSome (bound_link self.now.settings.now (shown_request asked.entry)
+            (entries E.Entries self.now)) (λ l. IsLink self.now.settings.now l) }
     {
         match self.bound_link(asked) {
             None => None,
@@ -161,6 +163,8 @@ impl<A: Allocator + Copy, E: Entries<A>> RealmBroker<'_, '_, '_, '_, A, E> {
             ≡ is_some (bound_way self.now.settings.now self.now.numbers.now.lanes.items freed
             (shown_request asked.entry) (entries E.Entries self.now))) }
         ensures link { IfSome result (λ choice. IsLink self.now.settings.now choice.link) }
+        ensures bound_is_link { IfSome (bound_link self.now.settings.now (shown_request asked.entry)
+            (entries E.Entries self.now)) (λ l. IsLink self.now.settings.now l) }
     {
         if let Some(link) = self.bound_way(asked, freed) {
             return Some(LinkChoice { link, bound: true });
