@@ -51,7 +51,7 @@ counted_peer (requester.Home server) reply = None
 abbrev pub counted : RealmConfig → PlainRequest → Option ℕ → List Session → List Session
 counted c q None sessions = sessions
 counted c q (Some peer) sessions =
-    applied c.realm.max_sessions peer (packet_of q.octets).attributes sessions
+    applied c.realm.max_sessions c.realm.own_sessions peer (packet_of q.octets).attributes sessions
 
 -- the state once a reply from a link was returned for an entry: its Identifier is free, it is done until
 -- `now + hold`, the ledger tells its request, and the link is awake

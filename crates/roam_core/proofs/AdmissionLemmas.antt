@@ -12,6 +12,7 @@ use Rattle.roam_conf.specs.declared.place.Place.{Place}
 use Rattle.roam_conf.specs.declared.place.Place.TheVariants as place
 use Rattle.roam_route.specs.UserName.{realm_of}
 use Rattle.roam_route.specs.LocalAnswer.{accounting_answer}
+use Rattle.roam_route.specs.Freshness.{is_fresh}
 use Rattle.roam_route.specs.LocalReject.{is_rejected, takes_of}
 use Rattle.roam_route.specs.Shapings.{sent_length}
 use Rattle.roam_route.specs.Admission.{Arrival, PlainJob, PlainOut, Admission, refused, rejected, admitted, sender, checked, job_of, forwarded_for, rejected_for, for_named_realm, accounted, accounting_in, answered_by, by_accounting, is_answered_unnamed, route_request, request_admission, packet_admission, sent_admission, read_admission, admission, is_taken, peer_secret, home_secret, is_rightly_signed, is_rightly_sealed, has_needed_seal, has_few_hops, seal_required, has_seal, is_status_request, status_admission, status_from}
@@ -83,7 +84,8 @@ unnamed_so config secret a s p =
 routed_so : (config : ConfigView) (secret : List ℕ) (a : Arrival) (s : Side) (p : Packet) (at : Place) →
     RejectsForNone (route_request config secret a s p at)
 routed_so config secret a s p (place.Reverse realm) =
-    forwarded_so (sent_length config s p realm) a s p realm (realm_of config p.attributes)
+    checked_so (is_fresh config.fresh a.seconds p.attributes) refusal.Stale _
+    (forwarded_so (sent_length config s p realm) a s p realm (realm_of config p.attributes))
 routed_so config secret a s p place.Auth =
     either_so (is_rejected config s p) (rejected_for secret a p)
     (for_named_realm config a s p (realm_of config p.attributes))

@@ -2,6 +2,7 @@ pub mod AccountingLaws
 pub mod Admission
 pub mod AdmittedRequests
 pub mod Events
+pub mod Freshness
 pub mod LocalAnswer
 pub mod LocalReject
 pub mod NameLaws

@@ -147,7 +147,7 @@ fn sent<A: Allocator + Copy>(
 
 /// What an arrival gives: the event of a realm, with the packet's octets, or a local answer, or the
 /// first of `Short` to `TooLong` whose cause holds, where `TooManyHops` stands between
-/// `MissingMessageAuthenticator` and `NoRealm`, and `NotForPeer` and `AccountingDropped` behind that.
+/// `MissingMessageAuthenticator` and `NoRealm`, and `Stale`, `NotForPeer` and `AccountingDropped` behind that.
 /// `NoMemory` comes where a growth was refused, and nowhere else: memory is wanted only for what passes,
 /// and for an answer that is sent.
 #[tactic(auto, unfolding(crate::specs::Admission::admission))]

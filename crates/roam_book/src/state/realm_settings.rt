@@ -111,6 +111,13 @@ impl<'c> RealmSettings<'c> {
         self.realm().max_sessions
     }
 
+    /// Whether its reverse requests name sessions of its own ledger, which then keeps the names of access servers.
+    pub(crate) fn own_sessions(&self) -> bool
+        ensures { result ≡ self.now.realm.own_sessions }
+    {
+        self.realm().own_sessions
+    }
+
     /// How many requests may be pending.
     pub(crate) fn max_pending(&self) -> u16
         ensures { result ≡ self.now.realm.max_pending }
@@ -193,7 +200,7 @@ impl<'c> RealmSettings<'c> {
     {
         match requester {
             Requester::Peer(peer) => self.peer(peer).secret(),
-            Requester::Home(server) => self.server(server).secret(),
+            Requester::Home(home) => self.realm().secret_of_home(home),
         }
     }
 
