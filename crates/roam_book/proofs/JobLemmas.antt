@@ -2,14 +2,15 @@
 use Rattle.std.proofs.Common.{◌≡◌, ◌⊎◌, ℕ, zero, suc, ◌+◌, ◌<◌, Bool, true, false, cond, List, [], ◌∷◌, length, Option, Some, None, inl, inr, refl, sym, ap, subst, ◌∙◌, arith}
 use Rattle.std.specs.Prelude.{IfSome, slice_get, slice_index_or}
 use Rattle.std.specs.List.{position_from}
+use Rattle.std.specs.Option.{option_map_or}
 use Rattle.std.proofs.lemmas.Bool.{false≢true}
 use Rattle.std.proofs.lemmas.Bool.Decides.{nat_tests}
 use Rattle.roam_wire.specs.Codes.{is_reverse_request}
 use Rattle.roam_wire.specs.Packet.{AreOctets}
 use Rattle.roam_wire.specs.Reading.{IsPacketText, packet_of}
 use Rattle.roam_wire.specs.Packet.{Attribute}
-use Rattle.roam_conf.specs.Config.{ConfigView, PeerView, RealmView, ServerView}
-use Rattle.roam_conf.specs.Lookup.{servers_of}
+use Rattle.roam_conf.specs.Config.{ConfigView, PeerView, RealmView}
+use Rattle.roam_conf.specs.Lookup.{homes}
 use Rattle.roam_conf.specs.declared.place.Place.{Place}
 use Rattle.roam_conf.specs.declared.place.Place.TheVariants as place
 use Rattle.roam_fwd.specs.Shaped.{CanBeShaped}
@@ -49,12 +50,12 @@ pub target-within : (peers : List PeerView) (attributes : List Attribute)
 unfolding reverse.target
 target-within peers attributes = first_within _ peers _ refl
 
--- the servers of a realm are those that a configuration has for its index
-servers-at : (realms : List RealmView) (realm : ℕ)
-    → servers_of (slice_get realms realm) ≡ (slice_index_or realms realm no_realm).servers
-servers-at [] realm = refl
-servers-at (r ∷ rs) zero = refl
-servers-at (r ∷ rs) (suc realm) = servers-at rs realm
+-- a realm has as many sources of reverse requests as a configuration has for its index
+homes-at : (realms : List RealmView) (realm : ℕ)
+    → option_map_or homes (slice_get realms realm) 0 ≡ homes (slice_index_or realms realm no_realm)
+homes-at [] realm = refl
+homes-at (r ∷ rs) zero = refl
+homes-at (r ∷ rs) (suc realm) = homes-at rs realm
 
 -- and its entry is the one that it has
 realm-at : (realms : List RealmView) (realm : ℕ) → realm < length realms
@@ -99,7 +100,7 @@ sound_taken config job (side.Home i) there packet sender code forwardable = reco
     code = home-code job.place i (packet_of job.octets).code code;
     can_be_forwarded = forwardable;
   };
-  requester = subst (λ (all : List ServerView). i < length all) (servers-at config.realms job.realm) sender;
+  requester = subst (λ (n : ℕ). i < n) (homes-at config.realms job.realm) sender;
 }
 
 pub event_taken : EventIsTaken

@@ -162,9 +162,9 @@ module _ (c : RealmConfig) (start : Start) (events : List RealmEvent) (out : Pla
   of-nak : IsNakPacket c start events out → IsForOwnSession c start events out
   of-nak p = elim p.nak [
     | inl at_once ↦ absurd-code out _ (ap (λ (o : PlainOut). o.bytes) at_once.is_nak) reverse
-      (nak-never c p.request at_once.cause)
+        (nak-never c p.request at_once.cause)
     | inr given_up ↦ absurd-code out _ (ap (λ (o : PlainOut). o.bytes) given_up.is_nak) reverse
-      (nak-never c p.request _)
+        (nak-never c p.request _)
   ]
 
 pub sent_is_of_own_session : SentIsOfOwnSession
