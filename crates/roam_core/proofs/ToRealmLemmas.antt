@@ -241,18 +241,22 @@ module _ (realm now : ℕ) where
       ]
 
   -- at another realm's places nothing is the realm's
-  pub none-out : (config : ConfigView) (k : ℕ) (from : Endpoint) (octets : List ℕ) (seconds : Option ℕ) (p : Packet) (s : Option Side) →
+  pub none-out : (config : ConfigView) (k : ℕ) (from : Endpoint) (octets : List ℕ) (seconds : Option ℕ) (p : Packet)
+      (s : Option Side) →
       (k == realm) ≡ false
-      → gives (sent_admission config (record { at = place.Out k; from = from; octets = octets; seconds = seconds }) p s) ≡ []
+      → gives
+      (sent_admission config (record { at = place.Out k; from = from; octets = octets; seconds = seconds }) p s) ≡ []
   none-out config k from octets seconds p None differs = refl
   none-out config k from octets seconds p (Some s) differs =
       let a : Arrival = record { at = place.Out k; from = from; octets = octets; seconds = seconds } in
       none-checked (is_taken (place.Out k) s p.code) refusal.WrongCode (job_of a s p k None)
       (none-given k a s p None differs)
 
-  pub none-reverse : (config : ConfigView) (k : ℕ) (from : Endpoint) (octets : List ℕ) (seconds : Option ℕ) (p : Packet) (o : Option ℕ) →
+  pub none-reverse : (config : ConfigView) (k : ℕ) (from : Endpoint) (octets : List ℕ) (seconds : Option ℕ)
+      (p : Packet) (o : Option ℕ) →
       (k == realm) ≡ false
-      → gives (sent_admission config (record { at = place.Reverse k; from = from; octets = octets; seconds = seconds }) p
+      → gives
+      (sent_admission config (record { at = place.Reverse k; from = from; octets = octets; seconds = seconds }) p
       (option_map (λ i. side.Home i) o)) ≡ []
   none-reverse config k from octets seconds p None differs = refl
   none-reverse config k from octets seconds p (Some i) differs =

@@ -1,6 +1,6 @@
 -- Which part of a configuration decides what a realm sends (ours): its own entry, the peers, which names mean
--- it, the limits of hops and of a reverse request's age, the seed and the number of shards. What it says of other realms isn't looked at, nor
--- which they are.
+-- it, the limits of hops and of a reverse request's age, the seed and the number of shards. What it says of other
+-- realms isn't looked at, nor which they are.
 use Rattle.std.specs.Prelude.{◌≡◌, ◌<◌, ◌≤◌, ℕ, List, length, slice_get}
 use Rattle.roam_conf.specs.Config.{ConfigView}
 use Rattle.roam_conf.specs.Lookup.{realm_named}

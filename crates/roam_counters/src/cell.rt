@@ -8,8 +8,8 @@ use crate::event::{CountedEvent, EVENTS};
 use crate::process::Process;
 use roam_conf::Config;
 
-/// How many sources of requests and replies a realm has at most, of which each is counted by itself: eight home servers,
-/// and all that send reverse requests with a higher number as one.
+/// How many sources of packets are told apart in a realm: eight home servers, and all that send reverse requests with a
+/// higher number as one.
 const SERVERS: usize = 9;
 
 /// Of whom something is counted.

@@ -40,8 +40,9 @@ IsHeard (send_failed why to octets) at old new h = ⊥
 
 -- ## Receiving with a count of faults
 -- One receive. What came is heard as an arrival with its octets, its source and the socket's place (the wall clock's
--- seconds come to it later), or is lost, out of memory; the count of receives that failed in a row is 0 again, also where nothing came. Where the
--- receive failed the count rises by one, up to 100; at 100 the answer is that the socket is to be given up.
+-- seconds come to it later), or is lost, out of memory; the count of receives that failed in a row is 0 again, also
+-- where nothing came. Where the receive failed the count rises by one, up to 100; at 100 the answer is that the socket
+-- is to be given up.
 -- Source: ours
 -- Rules out: octets behind the datagram; a socket that fails for ever; one that is given up for faults far
 -- apart

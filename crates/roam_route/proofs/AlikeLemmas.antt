@@ -142,20 +142,22 @@ none-access realm k config secret a s p most asks differs =
     (none-forwarded realm k (sent_length config s p k) a s p (Some k) differs)
 
 -- at another realm's places nothing is the realm's
-pub out-none : (realm : ℕ) (config : ConfigView) (k : ℕ) (from : Endpoint) (octets : List ℕ) (seconds : Option ℕ) (p : Packet)
-    (s : Option Side) →
+pub out-none : (realm : ℕ) (config : ConfigView) (k : ℕ) (from : Endpoint) (octets : List ℕ) (seconds : Option ℕ)
+    (p : Packet) (s : Option Side) →
     (k == realm) ≡ false
-    → own realm (sent_admission config (record { at = place.Out k; from = from; octets = octets; seconds = seconds }) p s) ≡ None
+    → own realm
+    (sent_admission config (record { at = place.Out k; from = from; octets = octets; seconds = seconds }) p s) ≡ None
 out-none realm config k from octets seconds p None differs = refl
 out-none realm config k from octets seconds p (Some s) differs =
     let a : Arrival = record { at = place.Out k; from = from; octets = octets; seconds = seconds } in
     none-checked realm (is_taken (place.Out k) s p.code) refusal.WrongCode (job_of a s p k None)
     (none-given realm k a s p None differs)
 
-pub reverse-none : (realm : ℕ) (config : ConfigView) (k : ℕ) (from : Endpoint) (octets : List ℕ) (seconds : Option ℕ) (p : Packet)
-    (o : Option ℕ) →
+pub reverse-none : (realm : ℕ) (config : ConfigView) (k : ℕ) (from : Endpoint) (octets : List ℕ) (seconds : Option ℕ)
+    (p : Packet) (o : Option ℕ) →
     (k == realm) ≡ false
-    → own realm (sent_admission config (record { at = place.Reverse k; from = from; octets = octets; seconds = seconds }) p
+    → own realm
+    (sent_admission config (record { at = place.Reverse k; from = from; octets = octets; seconds = seconds }) p
     (option_map (λ i. side.Home i) o)) ≡ None
 reverse-none realm config k from octets seconds p None differs = refl
 reverse-none realm config k from octets seconds p (Some i) differs =

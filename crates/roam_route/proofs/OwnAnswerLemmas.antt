@@ -90,15 +90,19 @@ named-same one other a s p (Some realm) =
     ∙ sym (not-answered (sent_length other s p realm) a s p realm (Some realm))
 
 -- at a realm's sockets nothing is
-out-none : (config : ConfigView) (k : ℕ) (from : Endpoint) (octets : List ℕ) (seconds : Option ℕ) (p : Packet) (s : Option Side)
-    → answered (sent_admission config (record { at = place.Out k; from = from; octets = octets; seconds = seconds }) p s) ≡ None
+out-none : (config : ConfigView) (k : ℕ) (from : Endpoint) (octets : List ℕ) (seconds : Option ℕ) (p : Packet)
+    (s : Option Side)
+    → answered
+    (sent_admission config (record { at = place.Out k; from = from; octets = octets; seconds = seconds }) p s) ≡ None
 out-none config k from octets seconds p None = refl
 out-none config k from octets seconds p (Some s) =
     let a : Arrival = record { at = place.Out k; from = from; octets = octets; seconds = seconds } in
     none-checked (is_taken (place.Out k) s p.code) refusal.WrongCode (job_of a s p k None) refl
 
-reverse-none : (config : ConfigView) (k : ℕ) (from : Endpoint) (octets : List ℕ) (seconds : Option ℕ) (p : Packet) (o : Option ℕ)
-    → answered (sent_admission config (record { at = place.Reverse k; from = from; octets = octets; seconds = seconds }) p
+reverse-none : (config : ConfigView) (k : ℕ) (from : Endpoint) (octets : List ℕ) (seconds : Option ℕ) (p : Packet)
+    (o : Option ℕ)
+    → answered
+    (sent_admission config (record { at = place.Reverse k; from = from; octets = octets; seconds = seconds }) p
     (option_map (λ i. side.Home i) o)) ≡ None
 reverse-none config k from octets seconds p None = refl
 reverse-none config k from octets seconds p (Some i) =

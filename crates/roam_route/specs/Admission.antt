@@ -23,6 +23,7 @@ use Rattle.roam_conf.specs.declared.place.Link.{Link}
 use Rattle.roam_conf.specs.declared.place.Link.TheVariants as link
 use Rattle.roam_conf.specs.declared.place.Place.{Place}
 use Rattle.roam_conf.specs.declared.place.Place.TheVariants as place
+pub use Rattle.roam_route.specs.Arrivals.{Arrival, PlainJob, PlainOut}
 use Rattle.roam_route.specs.Freshness.{is_fresh}
 use Rattle.roam_route.specs.UserName.{realm_of}
 use Rattle.roam_route.specs.LocalAnswer.{accounting_answer, answer_length, local_reject, status_answer}
@@ -30,31 +31,6 @@ use Rattle.roam_route.specs.LocalReject.{has_too_many_hops, is_rejected, takes_o
 use Rattle.roam_route.specs.Shapings.{sent_length}
 use Rattle.roam_route.specs.declared.job.Side.{Side}
 use Rattle.roam_route.specs.declared.job.Side.TheVariants as side
-
--- a datagram that arrived: at which place, from where, its octets, and, where they came with it, the wall clock's
--- seconds since the beginning of 1970
-pub record Arrival : Type 0 where
-  pub at : Place
-  pub from : Endpoint
-  pub octets : List ℕ
-  pub seconds : Option ℕ
-
--- what a realm is given: a request or a reply, with the place and the source, who sent it, the octets
--- up to Length, and the realm that the first User-Name of a request names; none in a reply
-pub record PlainJob : Type 0 where
-  pub realm : ℕ
-  pub place : Place
-  pub from : Endpoint
-  pub side : Side
-  pub octets : List ℕ
-  pub named : Option ℕ
-
--- a packet that leaves: for which realm, from which place, where to, and its octets
-pub record PlainOut : Type 0 where
-  pub realm : Option ℕ
-  pub from : Place
-  pub to : Endpoint
-  pub bytes : List ℕ
 
 -- what an arrival gives; what is rejected is answered by the broker itself, by a local reject or as a
 -- Status-Server

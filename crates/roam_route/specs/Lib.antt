@@ -1,6 +1,7 @@
 pub mod AccountingLaws
 pub mod Admission
 pub mod AdmittedRequests
+pub mod Arrivals
 pub mod Events
 pub mod Freshness
 pub mod LocalAnswer

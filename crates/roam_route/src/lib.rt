@@ -6,9 +6,8 @@
 //! # Proved
 //!
 //! - a realm is given a request just where it is right: code, sender, signature, seal, hops, passwords, realm, that
-//!   a reverse one isn't stale, that the realm takes its peer's requests, that its accounting is forwarded, and the size
-//!   of what is then sent, each a
-//!   fact with its section; one that isn't is refused for the first part that fails; what is forwarded has at most
+//!   a reverse one isn't stale, that the realm takes its peer's requests, that its accounting is forwarded, and the
+//!   size of what is then sent, each a fact with its section; one that isn't is refused for the first part that fails; what is forwarded has at most
 //!   one Proxy-State more than `max_hops`, however it is shaped | law `admitted_requests`: `admitted`,
 //!   `refused`, `hops`
 //! - passwords open to the same plain text, and all else but the Message-Authenticator is carried in its order,

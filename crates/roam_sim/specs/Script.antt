@@ -127,8 +127,9 @@ lines_state number (line ∷ lines) = line_before (line_states line) number (lin
 -- ## Script
 -- Lines that end with a line feed, the last with or without it. Empty lines and lines that begin with `#` are
 -- skipped; every other line is an arrival, `A now place ip:port hex`, or a tick, `T now shard`, with fields
--- parted by one space, or it is faulty. Behind the moment of an arrival may stand `/` and the wall clock's seconds. A script states the list of its events, in order, or the number of its
--- first faulty line, counted from 1 with the skipped ones.
+-- parted by one space, or it is faulty. Behind the moment of an arrival may stand `/` and the wall clock's seconds.
+-- A script states the list of its events, in order, or the number of its first faulty line, counted from 1 with the
+-- skipped ones.
 -- Source: ours
 -- Rules out: a line that is half read; a fault of a line that isn't there
 -- Stands in: `roam_sim` `Script.antt`: `script_states`, `line_states`; `read_script`
