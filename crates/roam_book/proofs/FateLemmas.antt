@@ -95,8 +95,8 @@ gone-done {A} c now es e n reply deadline stands held =
 stands-again :
     (c : RealmConfig) (q : PlainRequest) (s : PlainStanding) (d : ℕ) → StandsWell c q s
     → StandsWell c q (waits_on d s)
-stands-again c q (waiting l id forwarded sends_left deadline) d h = h
-stands-again c q (done reply deadline) d h = h
+stands-again c q (waiting l id forwarded sends_left deadline signs) d h = h
+stands-again c q (done reply deadline from) d h = h
 
 entry-again : (c : RealmConfig) (n : ℕ) (e : PlainEntry) (d : ℕ) → IsEntry c n e
     → IsEntry c n (sent_again d e)

@@ -71,9 +71,9 @@ rest-standing :
     → 1 ≤ c.realm.wait
     → IsInOrder s.entries → e.standing ≡ p
     → IsRest now e.ticket s.entries (due_standing c now s e p).state.entries
-rest-standing c now s e (done reply deadline) wait order is = rest-without now e.ticket s.entries
+rest-standing c now s e (done reply deadline from) wait order is = rest-without now e.ticket s.entries
     order
-rest-standing c now s e (waiting l id forwarded sends_left deadline) wait order is =
+rest-standing c now s e (waiting l id forwarded sends_left deadline signs) wait order is =
     elim (cases_Bool (ltb 0 sends_left)) [
       | inl y ↦
           let later : now < deadline_of (sent_again (now + c.realm.wait) e).standing = rw is

@@ -76,9 +76,9 @@ new_or_not b c k (link.Coa p) is =
 -- entries stay well
 standing_stays : (b c : RealmConfig) → Carries b c → (q : PlainRequest) (s : PlainStanding) → StandsWell b q s →
     StandsWell c q s
-standing_stays b c k q (waiting l id forwarded sends_left deadline) w =
+standing_stays b c k q (waiting l id forwarded sends_left deadline signs) w =
     record { link = link_stays b c k l w.link; id = w.id; packet = w.packet; size = w.size }
-standing_stays b c k q (done reply deadline) w = tt
+standing_stays b c k q (done reply deadline from) w = tt
 
 -- a peer that stays has its requests forwarded as before
 peer_part_of : (peers : List PeerView) (i : ℕ) →
@@ -137,8 +137,8 @@ entries_stay b c k n (e ∷ es) all = (entry_stays b c k n e all.0, entries_stay
 -- nothing waits on a link that isn't there
 not_there : (b : RealmConfig) (q : PlainRequest) (s : PlainStanding) (l : Link) (id : ℕ) → StandsWell b q s →
     (IsLink b l → ⊥) → stands_at l id s ≡ false
-not_there b q (done reply deadline) l id w away = refl
-not_there b q (waiting k i forwarded sends_left deadline) l id w away = by (same_link k l) refl
+not_there b q (done reply deadline from) l id w away = refl
+not_there b q (waiting k i forwarded sends_left deadline signs) l id w away = by (same_link k l) refl
   where
     by : (t : Bool) → same_link k l ≡ t → (same_link k l && i == id) ≡ false
     by false e = rw e refl

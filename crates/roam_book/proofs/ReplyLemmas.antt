@@ -84,15 +84,15 @@ pub link-stands : (l : Link) (i : ℕ) (s : PlainStanding) (at : Link) (id : ℕ
     (sends_left deadline : ℕ) → s ≡ waiting at id forwarded sends_left deadline
     → stands_at l i s ≡ true → at ≡ l
 link-stands l i s at id forwarded sends_left deadline is h =
-    let here : stands_at l i (waiting at id forwarded sends_left deadline) ≡ true = rw is at h in
+    let here : stands_at l i (waiting at id forwarded sends_left deadline signs) ≡ true = rw is at h in
     same_link-equal at l (and_left (same_link at l) (eqb id i) here)
 
 -- an entry that waits on a link waits on a link of the realm
 pub link-of : (c : RealmConfig) (l : Link) (i : ℕ) (q : PlainRequest) (s : PlainStanding)
     → stands_at l i s ≡ true → StandsWell c q s → IsLink c l
-link-of c l i q (waiting link id forwarded sends_left deadline) h well =
+link-of c l i q (waiting link id forwarded sends_left deadline signs) h well =
     subst (IsLink c) (same_link-equal link l (and_left (same_link link l) (eqb id i) h)) well.link
-link-of c l i q (done reply deadline) h well = absurd (let k : false ≡ true = h in cc)
+link-of c l i q (done reply deadline from) h well = absurd (let k : false ≡ true = h in cc)
 
 -- the entry that a fact of the found one speaks of
 pub found-with : {X : Type 0} (o : Option X) (P : X → Type 0) → IsSomeAnd o P
@@ -103,14 +103,14 @@ found-with (Some x) P h = (x, refl, h)
 -- once an entry is done and its Identifier given back, its realm keeps what it kept
 pub done-sound : {A : Type 0} (c : RealmConfig) (t : ℕ) (e : PlainEntry) (es fs : List PlainEntry)
     (reply : List ℕ) (deadline : ℕ) (old new : RealmNumbers A) → IsSound c es old
-    → find_ticket t es ≡ Some e → fs ≡ put (with_standing (done reply deadline) e) es
+    → find_ticket t es ≡ Some e → fs ≡ put (with_standing (done reply deadline from) e) es
     → LanesTell c (without e.ticket es) new.lanes.items
     → length new.lanes.items ≡ length old.lanes.items → new.ticket ≡ old.ticket
     → new.stream_position ≡ old.stream_position
     → marks_of new.lanes.items ≡ marks_of old.lanes.items
     → new.sessions.limit ≡ old.sessions.limit → IsSound c fs new
 done-sound c t e es fs reply deadline old new sound at is tells count ticket position marks limit =
-    let x = with_standing (done reply deadline) e in
+    let x = with_standing (done reply deadline from) e in
     let was : IsEntry c old.ticket e = kept-ticket c old.ticket t e es at sound.each in
     let here : IsEntry c old.ticket x = record { ticket = was.ticket; request = was.request; standing = tt } in
     record {

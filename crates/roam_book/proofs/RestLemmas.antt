@@ -103,10 +103,10 @@ module _ (c : RealmConfig) (K : List Rest → Type 0)
 
   to_standing-keeps : (now : ℕ) (s : RealmState) (e : PlainEntry) (reply : Packet) (p : PlainStanding)
       → K s.rests → After K s (to_standing c now s e reply p)
-  to_standing-keeps now s e reply (waiting l id forwarded sends_left deadline) k =
+  to_standing-keeps now s e reply (waiting l id forwarded sends_left deadline signs) k =
       judge-keeps now s e l (packet_of forwarded) reply
       (reply_fault (link_secret c l) (seal_required c l) reply (packet_of forwarded)) k
-  to_standing-keeps now s e reply (done old deadline) k = k
+  to_standing-keeps now s e reply (done old deadline from) k = k
 
   to_entry-keeps : (now : ℕ) (s : RealmState) (reply : Packet) (o : Option PlainEntry) → K s.rests
       → After K s (to_entry c now s reply o)
@@ -126,8 +126,8 @@ module _ (c : RealmConfig) (K : List Rest → Type 0)
     (answered : (rests : List Rest) (l : Link) → K rests → K (after_reply c rests l)) where
   due_standing-keeps : (now : ℕ) (s : RealmState) (e : PlainEntry) (p : PlainStanding) → K s.rests
       → Then K (due_standing c now s e p)
-  due_standing-keeps now s e (done reply deadline) k = k
-  due_standing-keeps now s e (waiting l id forwarded sends_left deadline) k =
+  due_standing-keeps now s e (done reply deadline from) k = k
+  due_standing-keeps now s e (waiting l id forwarded sends_left deadline signs) k =
       either (Then K) (ltb 0 sends_left) _ _ k
       (fail_over-keeps c K chosen now (given_up_at c now l s e) e _ (silent now s.rests l k))
 

@@ -280,8 +280,8 @@ module _ (c : RealmConfig) where
       ap (nak_or_new (bare c) now s q) (cause_of_same s named q) ∙ nak_or_new_same now s q (reverse_cause c s named q)
 
   held_same : (q : PlainRequest) (s : PlainStanding) → held_reply (bare c) q.key s ≡ held_reply c q.key s
-  held_same q (waiting l id forwarded sends_left deadline) = refl
-  held_same q (done reply deadline) = refl
+  held_same q (waiting l id forwarded sends_left deadline signs) = refl
+  held_same q (done reply deadline from) = refl
 
   of_key_same : (now : ℕ) (s : RealmState) (named : Option ℕ) (q : PlainRequest) (e : Option PlainEntry) →
       of_key (bare c) now s named q e ≡ of_key c now s named q e
@@ -342,14 +342,14 @@ module _ (c : RealmConfig) where
 
   standing_same : (now : ℕ) (s : RealmState) (e : PlainEntry) (reply : Packet) (x : PlainStanding) →
       to_standing (bare c) now s e reply x ≡ to_standing c now s e reply x
-  standing_same now s e reply (waiting l id octets sends_left deadline) =
+  standing_same now s e reply (waiting l id octets sends_left deadline signs) =
       let why : reply_fault (link_secret (bare c) l) (seal_required (bare c) l) reply (packet_of octets)
       ≡ reply_fault (link_secret c l) (seal_required c l) reply (packet_of octets) =
       λ i. reply_fault (secret_of l i) (seal_same l i) reply (packet_of octets) in
       ap (judge (bare c) now s e l (packet_of octets) reply) why
       ∙ judge_same now s e l (packet_of octets) reply
       (reply_fault (link_secret c l) (seal_required c l) reply (packet_of octets))
-  standing_same now s e reply (done old deadline) = refl
+  standing_same now s e reply (done old deadline from) = refl
 
   to_entry_same : (now : ℕ) (s : RealmState) (reply : Packet) (e : Option PlainEntry) →
       to_entry (bare c) now s reply e ≡ to_entry c now s reply e
@@ -388,8 +388,8 @@ module _ (c : RealmConfig) where
 
   due_standing_same : (now : ℕ) (s : RealmState) (e : PlainEntry) (x : PlainStanding) →
       due_standing (bare c) now s e x ≡ due_standing c now s e x
-  due_standing_same now s e (done reply deadline) = refl
-  due_standing_same now s e (waiting l id octets sends_left deadline) =
+  due_standing_same now s e (done reply deadline from) = refl
+  due_standing_same now s e (waiting l id octets sends_left deadline signs) =
       let es = without e.ticket s.entries in
       let chosen : chosen_target (bare c) now (after_silence (bare c) now s.rests l) s.cursors es
       (later_targets (bare c) l)

@@ -118,7 +118,7 @@ at-server : (c : RealmConfig) (asked : Service) (q : Bool) (r : PlainRequest) (s
     sum_below (length c.realm.servers)
     (λ server. sum_below 256 (λ id. one_if (stands_at (server_link asked server) id s && q)))
     ≡ one_if (waits_for asked s && q)
-at-server c asked q r (done reply deadline) well =
+at-server c asked q r (done reply deadline from) well =
     none-in_table (length c.realm.servers) 256 (λ server id. 0) (λ server id. refl)
 at-server c service.Authentication q r (waiting (link.Auth a) id forwarded sends_left deadline) well =
     one-in_table (length c.realm.servers) 256 a id q well.link well.id

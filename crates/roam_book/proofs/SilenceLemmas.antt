@@ -167,8 +167,8 @@ module _ (c : RealmConfig) (l : Link) where
 
   standing-at : (n now : ℕ) (s : RealmState) (e : PlainEntry) (p : PlainStanding) → At c l n s.rests
       → At c l (n + one_if (ends_at c l p)) (due_standing c now s e p).state.rests
-  standing-at n now s e (done reply deadline) h = more c n (n + 0) (rest_of c s.rests l) (omega arith) h
-  standing-at n now s e (waiting k id forwarded sends_left deadline) h =
+  standing-at n now s e (done reply deadline from) h = more c n (n + 0) (rest_of c s.rests l) (omega arith) h
+  standing-at n now s e (waiting k id forwarded sends_left deadline signs) h =
       let m = n + one_if (is_link c l k) in
       waits-by (nat_lt 0 sends_left) (is_link c l k) n _ _ h
       (fail_over-keeps c (At c l m) (chosen-at m) now (given_up_at c now k s e) e _ (silent-at n now s.rests k h))
@@ -257,11 +257,11 @@ module _ (c : RealmConfig) (l : Link) where
   standing-wakes : (now : ℕ) (s : RealmState) (e : PlainEntry) (from : Link) (id : ℕ) (reply : Packet)
       (p : PlainStanding) → stands_at from id p ≡ true → link_place c from ≡ link_place c l
       → Wakes s (to_standing c now s e reply p)
-  standing-wakes now s e from id reply (waiting k i forwarded sends_left deadline) at is =
+  standing-wakes now s e from id reply (waiting k i forwarded sends_left deadline signs) at is =
       let same = same_place k from (both_true (same_link k from) (i == id) at) in
       judge-wakes now s e k (packet_of forwarded) reply
       (reply_fault (link_secret c k) (seal_required c k) reply (packet_of forwarded)) (same ∙ is)
-  standing-wakes now s e from id reply (done old deadline) at is = refuses-wakes s refusal.NoEntry
+  standing-wakes now s e from id reply (done old deadline from) at is = refuses-wakes s refusal.NoEntry
 
   entry-wakes : (now : ℕ) (s : RealmState) (from : Link) (id : ℕ) (reply : Packet)
       (o : Option PlainEntry) → find_link from id s.entries ≡ o → link_place c from ≡ link_place c l

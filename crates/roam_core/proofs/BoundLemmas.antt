@@ -141,8 +141,8 @@ nak_or_new-few c now s q None =
 nak_or_new-few c now s q (Some why) = omega arith
 
 held-few : (c : RealmConfig) (q : PlainRequest) (standing : PlainStanding) → length (held_reply c q.key standing) ≤ 1
-held-few c q (waiting l id forwarded sends_left deadline) = omega arith
-held-few c q (done reply deadline) = omega arith
+held-few c q (waiting l id forwarded sends_left deadline signs) = omega arith
+held-few c q (done reply deadline from) = omega arith
 
 of_key-few : (c : RealmConfig) (now : ℕ) (s : RealmState) (named : Option ℕ) (q : PlainRequest)
     (found : Option PlainEntry) → Few (of_key c now s named q found)
@@ -161,10 +161,10 @@ judge-few c now s e l forwarded reply None =
 
 to_standing-few : (c : RealmConfig) (now : ℕ) (s : RealmState) (e : PlainEntry) (reply : Packet)
     (standing : PlainStanding) → Few (to_standing c now s e reply standing)
-to_standing-few c now s e reply (waiting l id forwarded sends_left deadline) =
+to_standing-few c now s e reply (waiting l id forwarded sends_left deadline signs) =
     judge-few c now s e l (packet_of forwarded) reply
     (reply_fault (link_secret c l) (seal_required c l) reply (packet_of forwarded))
-to_standing-few c now s e reply (done old deadline) = omega arith
+to_standing-few c now s e reply (done old deadline from) = omega arith
 
 to_entry-few : (c : RealmConfig) (now : ℕ) (s : RealmState) (reply : Packet) (found : Option PlainEntry) →
     Few (to_entry c now s reply found)
@@ -183,8 +183,8 @@ fail_over-few c now s e (Some target) = omega arith
 
 due_standing-few : (c : RealmConfig) (now : ℕ) (s : RealmState) (e : PlainEntry) (standing : PlainStanding) →
     FewIn (due_standing c now s e standing)
-due_standing-few c now s e (done reply deadline) = omega arith
-due_standing-few c now s e (waiting l id forwarded sends_left deadline) =
+due_standing-few c now s e (done reply deadline from) = omega arith
+due_standing-few c now s e (waiting l id forwarded sends_left deadline signs) =
     either FewIn (ltb 0 sends_left) _ _ (omega arith)
     (fail_over-few c now (given_up_at c now l s e) e (chosen_target c now (after_silence c now s.rests l) s.cursors
     (without e.ticket s.entries) (later_targets c l)))

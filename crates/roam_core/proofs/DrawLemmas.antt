@@ -97,9 +97,9 @@ judge-rests c now s e l forwarded reply None =
 
 to_standing-rests : (c : RealmConfig) (now : ℕ) (s : RealmState) (e : PlainEntry) (reply : Packet)
     (standing : PlainStanding) → Rests s (to_standing c now s e reply standing)
-to_standing-rests c now s e reply (waiting l id forwarded sends_left deadline) =
+to_standing-rests c now s e reply (waiting l id forwarded sends_left deadline signs) =
     judge-rests c now s e l (packet_of forwarded) reply _
-to_standing-rests c now s e reply (done old deadline) = refl
+to_standing-rests c now s e reply (done old deadline from) = refl
 
 to_entry-rests : (c : RealmConfig) (now : ℕ) (s : RealmState) (reply : Packet) (found : Option PlainEntry) →
     Rests s (to_entry c now s reply found)
@@ -129,8 +129,8 @@ fail_over-goes c now s e (Some target) = spent e.request s.stream_position
 
 due_standing-goes : (c : RealmConfig) (now : ℕ) (s : RealmState) (e : PlainEntry) (standing : PlainStanding) →
     Goes s (due_standing c now s e standing)
-due_standing-goes c now s e (done reply deadline) = stays s
-due_standing-goes c now s e (waiting l id forwarded sends_left deadline) =
+due_standing-goes c now s e (done reply deadline from) = stays s
+due_standing-goes c now s e (waiting l id forwarded sends_left deadline signs) =
     either (Goes s) (ltb 0 sends_left) _ _ (stays s) (fail_over-goes c now _ e _)
 
 pub due_entry-goes : (c : RealmConfig) (now : ℕ) (s : RealmState) (found : Option PlainEntry) →

@@ -89,8 +89,8 @@ new_request_for c now s entries q =
 
 held_reply_for : (c : RealmConfig) (key : Key) (standing : PlainStanding) (s : RealmState) →
     SendsFor c.index (sends (held_reply c key standing) s)
-held_reply_for c key (waiting l id forwarded sends_left deadline) s = nothing_for c.index s
-held_reply_for c key (done reply deadline) s = one_for c.index (packet_to_requester c key reply) s refl
+held_reply_for c key (waiting l id forwarded sends_left deadline signs) s = nothing_for c.index s
+held_reply_for c key (done reply deadline from) s = one_for c.index (packet_to_requester c key reply) s refl
 
 nak_or_new_for : (c : RealmConfig) (now : ℕ) (s : RealmState) (q : PlainRequest) (why : Option ℕ)
     → SendsFor c.index (nak_or_new c now s q why)
@@ -124,10 +124,10 @@ judge_for c now s e l forwarded reply None = return_reply_for c now s e l forwar
 
 to_standing_for : (c : RealmConfig) (now : ℕ) (s : RealmState) (e : PlainEntry) (reply : Packet)
     (standing : PlainStanding) → SendsFor c.index (to_standing c now s e reply standing)
-to_standing_for c now s e reply (waiting l id forwarded sends_left deadline) =
+to_standing_for c now s e reply (waiting l id forwarded sends_left deadline signs) =
     judge_for c now s e l (packet_of forwarded) reply
     (reply_fault (link_secret c l) (seal_required c l) reply (packet_of forwarded))
-to_standing_for c now s e reply (done old deadline) = refuses_for c.index refusal.NoEntry
+to_standing_for c now s e reply (done old deadline from) = refuses_for c.index refusal.NoEntry
 
 to_entry_for : (c : RealmConfig) (now : ℕ) (s : RealmState) (reply : Packet) (e : Option PlainEntry) →
     SendsFor c.index (to_entry c now s reply e)
@@ -159,8 +159,8 @@ fail_over_for c now s e (Some target) = made_for c.index _ _ refl
 
 due_standing_for : (c : RealmConfig) (now : ℕ) (s : RealmState) (e : PlainEntry) (standing : PlainStanding) →
     MadeFor c.index (due_standing c now s e standing)
-due_standing_for c now s e (done reply deadline) = silent_for c.index (without_entry s e)
-due_standing_for c now s e (waiting l id forwarded sends_left deadline) =
+due_standing_for c now s e (done reply deadline from) = silent_for c.index (without_entry s e)
+due_standing_for c now s e (waiting l id forwarded sends_left deadline signs) =
     let target = chosen_target c now (after_silence c now s.rests l) s.cursors
     (without e.ticket s.entries) (later_targets c l) in
     either (MadeFor c.index) (nat_lt 0 sends_left) _ (fail_over c now (given_up_at c now l s e) e target)

@@ -8,7 +8,7 @@ use Rattle.roam_wire.specs.declared.refusal.Refusal.TheVariants as refusal
 use Rattle.roam_conf.specs.Config.{ConfigView}
 use Rattle.roam_conf.specs.declared.place.Place.{Place}
 use Rattle.roam_conf.specs.declared.place.Place.TheVariants as place
-use Rattle.roam_route.specs.Admission.{Arrival, PlainJob, Admission, admitted, checked, forwarded_for, has_few_hops, has_needed_seal, home_secret, is_rightly_sealed, is_rightly_signed, is_status_request, is_taken, packet_admission, peer_secret, request_admission, route_request, seal_required, sent_admission, status_from}
+use Rattle.roam_route.specs.Admission.{Arrival, PlainJob, Admission, admitted, checked, forwarded_for, has_few_attributes, has_few_hops, has_needed_seal, home_secret, is_rightly_sealed, is_rightly_signed, is_status_request, is_taken, packet_admission, peer_secret, request_admission, route_request, seal_required, sent_admission, status_from}
 use Rattle.roam_route.specs.Freshness.{IsFresh, are_near, is_fresh, near_enough, sent_at}
 use Rattle.roam_route.specs.Shapings.{sent_length}
 use Rattle.roam_route.specs.UserName.{realm_of}
@@ -101,11 +101,12 @@ keeps-request config secret a s p =
     let second = keeps-checked sealed refusal.BadMessageAuthenticator
     (checked needed refusal.MissingMessageAuthenticator (checked few refusal.TooManyHops one))
     (checked needed refusal.MissingMessageAuthenticator (checked few refusal.TooManyHops other)) third in
-    keeps-checked (is_rightly_signed secret p) refusal.BadAuthenticator
+    let first = keeps-checked (is_rightly_signed secret p) refusal.BadAuthenticator
     (checked sealed refusal.BadMessageAuthenticator
     (checked needed refusal.MissingMessageAuthenticator (checked few refusal.TooManyHops one)))
     (checked sealed refusal.BadMessageAuthenticator
-    (checked needed refusal.MissingMessageAuthenticator (checked few refusal.TooManyHops other))) second
+    (checked needed refusal.MissingMessageAuthenticator (checked few refusal.TooManyHops other))) second in
+    keeps-checked (has_few_attributes config.max_attributes p) refusal.TooManyAttributes _ _ first
 
 keeps-packet : (config : ConfigView) (a : Arrival) (s : Side) (p : Packet) (at : Place)
     → Keeps (packet_admission config a s p at) (packet_admission config (without_clock a) s p at)

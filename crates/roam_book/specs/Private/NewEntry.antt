@@ -1,12 +1,13 @@
 -- How a new request is admitted, in steps: words of private functions alone (ours).
-use Rattle.std.specs.Prelude.{◌≡◌, ℕ, ◌<◌, ◌^◌, List, [], ◌∷◌, Option, Some, None, Result, Ok, Err, option_map, unwrap_or, is_some, true}
+use Rattle.std.specs.Prelude.{◌≡◌, ℕ, ◌<◌, ◌^◌, Bool, List, [], ◌∷◌, Option, Some, None, Result, Ok, Err, option_map, unwrap_or, is_some, true}
 use Rattle.roam_wire.specs.declared.refusal.Refusal.{Refusal}
 use Rattle.roam_conf.specs.declared.place.Link.{Link}
 use Rattle.roam_conf.specs.declared.place.Link.TheVariants as link
 use Rattle.roam_pending.specs.PlainEntry.{PlainEntry, PlainRequest}
 use Rattle.roam_pending.specs.EntryList.{besides, find_client, first_done}
 use Rattle.roam_book.specs.RealmConfig.{RealmConfig, IsLink, links_from}
-use Rattle.roam_book.specs.RealmState.{RealmState, Target, next_toward}
+use Rattle.roam_book.specs.Conversing.{rests_chosen}
+use Rattle.roam_book.specs.RealmState.{RealmState, Target, next_toward, with_rests}
 use Rattle.roam_book.specs.Shapings.{forwarded_size}
 use Rattle.roam_book.specs.Turn.{Turn, Answers, refuses}
 use Rattle.roam_book.specs.OnRequest.{admit, targets}
@@ -48,14 +49,14 @@ left_by way entries = besides way.done (once_gone way.gone entries)
 
 -- a way to a link where no entry has to go, or the one that counts as gone alone; a way once those
 -- that had to go are gone
-abbrev pub straight_to : Link → AdmitPlan
-straight_to link = record { gone = None; done = None; link = link }
+abbrev pub straight_to : Link → Bool → AdmitPlan
+straight_to link bound = record { gone = None; done = None; link = link; bound = bound }
 
-abbrev pub straight_after : Option Replaced → Link → AdmitPlan
-straight_after gone link = record { gone = gone; done = None; link = link }
+abbrev pub straight_after : Option Replaced → Link → Bool → AdmitPlan
+straight_after gone link bound = record { gone = gone; done = None; link = link; bound = bound }
 
 abbrev pub cleared : AdmitPlan → AdmitPlan
-cleared way = straight_to way.link
+cleared way = straight_to way.link way.bound
 
 -- a new request can go this way: what counts as gone and what makes way are there, the request's
 -- key is free then, and its link has a free Identifier
@@ -71,7 +72,7 @@ pub record IsWay (c : RealmConfig) (s : RealmState) (q : PlainRequest) (way : Ad
 -- what a new request does that goes this way
 abbrev pub admits : RealmConfig → ℕ → RealmState → PlainRequest → AdmitPlan → Turn
 admits c now s q way =
-    admit c now s (left_by way s.entries) q
+    admit c now (with_rests s (rests_chosen c now s.rests way.bound way.link)) (left_by way s.entries) q
     (target_at c s.cursors (once_gone way.gone s.entries) way.link)
 
 -- the links of targets, in the order of their use
