@@ -22,7 +22,7 @@ use Rattle.roam_route.specs.Freshness.{is_fresh}
 use Rattle.roam_route.specs.LocalAnswer.{accounting_answer}
 use Rattle.roam_route.specs.LocalReject.{has_bad_password, has_too_many_hops, takes_of}
 use Rattle.roam_route.specs.Shapings.{sent_length}
-use Rattle.roam_route.specs.Admission.{Arrival, Admission, sender, checked, forwarded_for, answered_by, accounted, accounting_in, is_answered_unnamed, route_request, request_admission, packet_admission, sent_admission, read_admission, admission, is_taken, peer_secret, home_secret, is_rightly_signed, is_rightly_sealed, has_needed_seal, has_few_hops, seal_required}
+use Rattle.roam_route.specs.Admission.{Arrival, Admission, sender, checked, forwarded_for, answered_by, accounted, accounting_in, is_answered_unnamed, route_request, request_admission, packet_admission, sent_admission, read_admission, admission, is_taken, peer_secret, home_secret, has_few_attributes, is_rightly_signed, is_rightly_sealed, has_needed_seal, has_few_hops, seal_required}
 use Rattle.roam_route.specs.declared.job.Side.{Side}
 use Rattle.roam_route.specs.declared.job.Side.TheVariants as side
 use Rattle.roam_core.specs.Isolation.{is_realm}
@@ -98,6 +98,9 @@ module _ (one other : ConfigView) (realm now : ℕ) (agree : AgreeFor one other 
       (checked (has_needed_seal required p) refusal.MissingMessageAuthenticator
       (checked (has_few_hops most p) refusal.TooManyHops further)))
 
+  abbrev counted : Option ℕ → Packet → Admission → Admission
+  counted most p further = checked (has_few_attributes most p) refusal.TooManyAttributes further
+
   asked-same : (secret : List ℕ) (p : Packet) (required : Bool) (most : Option ℕ) (x y : Admission) →
       gives realm now x ≡ gives realm now y →
       gives realm now (asked secret p required most x) ≡ gives realm now (asked secret p required most y)
@@ -112,10 +115,15 @@ module _ (one other : ConfigView) (realm now : ℕ) (agree : AgreeFor one other 
       gives realm now (request_admission one secret a s p) ≡ gives realm now (request_admission other secret a s p)
   request-same secret a s p own_place =
       let goes = route_request one secret a s p a.at in
-      ap (λ (required : Bool). gives realm now (asked secret p required one.max_hops goes)) (seal-same s p)
-      ∙ ap (λ (most : Option ℕ). gives realm now (asked secret p (seal_required other s p) most goes)) agree.max_hops
-      ∙ asked-same secret p (seal_required other s p) other.max_hops goes (route_request other secret a s p a.at)
-      (route-same secret a s p a.at own_place)
+      let required = seal_required other s p in
+      let few = other.max_attributes in
+      ap (λ (most : Option ℕ). gives realm now (counted most p
+      (asked secret p (seal_required one s p) one.max_hops goes))) agree.max_attributes
+      ∙ ap (λ (b : Bool). gives realm now (counted few p (asked secret p b one.max_hops goes))) (seal-same s p)
+      ∙ ap (λ (most : Option ℕ). gives realm now (counted few p (asked secret p required most goes))) agree.max_hops
+      ∙ same-checked realm now (has_few_attributes few p) refusal.TooManyAttributes _ _
+      (asked-same secret p required other.max_hops goes (route_request other secret a s p a.at)
+      (route-same secret a s p a.at own_place))
 
   -- a request of a peer, and of a home server of the realm
   peer-same : (a : Arrival) (i : ℕ) (p : Packet) → ((k : ℕ) → a.at ≡ place.Reverse k → k ≡ realm) →

@@ -23,7 +23,7 @@ use Rattle.roam_route.specs.LocalAnswer.{accounting_answer, answer_length, local
 use Rattle.roam_route.specs.Freshness.{is_fresh}
 use Rattle.roam_route.specs.LocalReject.{takes_of, taking}
 use Rattle.roam_route.specs.Shapings.{sent_length}
-use Rattle.roam_route.specs.Admission.{Arrival, Admission, checked, job_of, forwarded_for, answered_by, rejected_for, reversed, for_named_realm, accounted, accounting_in, by_accounting, is_answered_unnamed, is_unnamed, request_admission, packet_admission, sent_admission, status_from, is_status_request, is_taken, peer_secret, home_secret, is_rightly_signed, is_rightly_sealed, has_needed_seal, has_few_hops, has_seal, seal_required}
+use Rattle.roam_route.specs.Admission.{Arrival, Admission, checked, job_of, forwarded_for, answered_by, rejected_for, reversed, for_named_realm, accounted, accounting_in, by_accounting, is_answered_unnamed, is_unnamed, request_admission, packet_admission, sent_admission, status_from, is_status_request, is_taken, peer_secret, home_secret, has_few_attributes, is_rightly_signed, is_rightly_sealed, has_needed_seal, has_few_hops, has_seal, seal_required}
 use Rattle.roam_route.specs.declared.job.Side.{Side}
 use Rattle.roam_route.specs.declared.job.Side.TheVariants as side
 use Rattle.roam_book.specs.OneRealm.{RealmEvent}
@@ -210,9 +210,11 @@ module _ (realm now : ℕ) where
   pub none-status : (config : ConfigView) (a : Arrival) (s : Side) (p : Packet) → gives (status_from config a s p) ≡ []
   none-status config a (side.Peer i) p =
       let secret = peer_secret config i in
-      none-checked _ refusal.BadMessageAuthenticator
+      none-checked (has_few_attributes config.max_attributes p) refusal.TooManyAttributes _
+      (none-checked _ refusal.BadMessageAuthenticator
       (checked (has_seal p) refusal.MissingMessageAuthenticator (answered_by a (status_answer a.at secret p)))
-      (none-checked (has_seal p) refusal.MissingMessageAuthenticator (answered_by a (status_answer a.at secret p)) refl)
+      (none-checked (has_seal p) refusal.MissingMessageAuthenticator (answered_by a (status_answer a.at secret p))
+      refl))
   none-status config a (side.Link l) p = refl
   none-status config a (side.Home i) p = refl
 
@@ -264,8 +266,9 @@ module _ (realm now : ℕ) where
       let secret = home_secret config k i in
       none-checked (is_taken (place.Reverse k) (side.Home i) p.code) refusal.WrongCode
       (request_admission config secret a (side.Home i) p)
+      (none-checked (has_few_attributes config.max_attributes p) refusal.TooManyAttributes _
       (none-checked (is_rightly_signed secret p) refusal.BadAuthenticator _
       (none-checked (is_rightly_sealed secret p) refusal.BadMessageAuthenticator _
       (none-checked (has_needed_seal (seal_required config (side.Home i) p) p) refusal.MissingMessageAuthenticator _
       (none-checked (has_few_hops config.max_hops p) refusal.TooManyHops (reversed config a (side.Home i) p k)
-      (none-reversed config k a (side.Home i) p differs)))))
+      (none-reversed config k a (side.Home i) p differs))))))
