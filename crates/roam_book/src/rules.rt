@@ -4,6 +4,7 @@ pub mod admit;
 pub mod admit_plan;
 pub mod due_action;
 pub mod evict_done;
+pub mod new_requests;
 pub mod reload;
 pub mod replaced;
 pub mod replies;

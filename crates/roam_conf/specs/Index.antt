@@ -49,6 +49,10 @@ pattern_seen Any = any
 abbrev pub of_owner : ℕ → PatternView → List ℕ × ℕ
 of_owner owner pattern = (pattern_key pattern, owner)
 
+-- a text that nobody owns: the owners of such an index don't count
+abbrev pub of_nobody : List ℕ → List ℕ × ℕ
+of_nobody text = (text, 0)
+
 -- all patterns of these lists, of which the first has this owner
 abbrev pub all_patterns : ℕ → List (List PatternView) → List (List ℕ × ℕ)
 all_patterns i [] = []

@@ -22,7 +22,7 @@ use Rattle.roam_route.specs.UserName.{realm_of, realm_part}
 use Rattle.roam_route.specs.LocalAnswer.{answer_length, local_reject, status_answer}
 use Rattle.roam_route.specs.LocalReject.{has_bad_password, has_too_many_hops, takes_of}
 use Rattle.roam_route.specs.Shapings.{sent_length}
-use Rattle.roam_route.specs.Admission.{Arrival, Admission, checked, accounted, accounting_in, by_accounting, job_of, forwarded_for, answered_by, rejected_for, for_named_realm, request_admission, packet_admission, sent_admission, status_from, is_status_request, is_taken, peer_secret, home_secret, is_rightly_signed, is_rightly_sealed, has_needed_seal, has_few_hops, has_seal, seal_required}
+use Rattle.roam_route.specs.Admission.{Arrival, Admission, checked, accounted, accounting_in, by_accounting, job_of, forwarded_for, answered_by, rejected_for, for_named_realm, request_admission, packet_admission, sent_admission, status_from, is_status_request, is_taken, peer_secret, home_secret, has_few_attributes, is_rightly_signed, is_rightly_sealed, has_needed_seal, has_few_hops, has_seal, seal_required}
 use Rattle.roam_route.specs.declared.job.Side.{Side}
 use Rattle.roam_route.specs.declared.job.Side.TheVariants as side
 use Rattle.roam_route.specs.OwnPart.{own}
@@ -54,10 +54,11 @@ none-status : (realm : ℕ) (config : ConfigView) (a : Arrival) (s : Side) (p : 
     own realm (status_from config a s p) ≡ None
 none-status realm config a (side.Peer i) p =
     let secret = peer_secret config i in
-    none-checked realm (is_well_sealed secret (p.authenticator ∷ []) p) refusal.BadMessageAuthenticator
+    none-checked realm (has_few_attributes config.max_attributes p) refusal.TooManyAttributes _
+    (none-checked realm (is_well_sealed secret (p.authenticator ∷ []) p) refusal.BadMessageAuthenticator
     (checked (has_seal p) refusal.MissingMessageAuthenticator (answered_by a (status_answer a.at secret p)))
     (none-checked realm (has_seal p) refusal.MissingMessageAuthenticator
-    (answered_by a (status_answer a.at secret p)) refl)
+    (answered_by a (status_answer a.at secret p)) refl))
 none-status realm config a (side.Link l) p = refl
 none-status realm config a (side.Home i) p = refl
 
@@ -72,6 +73,10 @@ asked secret p required most further =
     (checked (is_rightly_sealed secret p) refusal.BadMessageAuthenticator
     (checked (has_needed_seal required p) refusal.MissingMessageAuthenticator
     (checked (has_few_hops most p) refusal.TooManyHops further)))
+
+-- where it has few attributes
+abbrev pub counted : Option ℕ → Packet → Admission → Admission
+counted limit p further = checked (has_few_attributes limit p) refusal.TooManyAttributes further
 
 -- a Status-Server's code is taken for nothing else
 not_taken : (config : ConfigView) (at : Place) (s : Side) (code : ℕ) → is_status_request config at s code ≡ true →
@@ -154,6 +159,7 @@ reverse-none realm config k from octets p (Some i) differs =
     let secret = home_secret config k i in
     none-checked realm (is_taken (place.Reverse k) (side.Home i) p.code) refusal.WrongCode
     (request_admission config secret a (side.Home i) p)
+    (none-checked realm (has_few_attributes config.max_attributes p) refusal.TooManyAttributes _
     (none-checked realm (is_rightly_signed secret p) refusal.BadAuthenticator _
     (none-checked realm (is_rightly_sealed secret p) refusal.BadMessageAuthenticator _
     (none-checked realm (has_needed_seal (seal_required config (side.Home i) p) p)
@@ -161,7 +167,7 @@ reverse-none realm config k from octets p (Some i) differs =
     (none-checked realm (has_few_hops config.max_hops p) refusal.TooManyHops
     (forwarded_for (sent_length config (side.Home i) p k) a (side.Home i) p k (realm_of config p.attributes))
     (none-forwarded realm k (sent_length config (side.Home i) p k) a (side.Home i) p
-    (realm_of config p.attributes) differs)))))
+    (realm_of config p.attributes) differs))))))
 
 -- what names a realm has a name
 pub not-unnamed : {X Y Z : Type 0} (f : X → Option Y) (g : Y → Option Z) (o : Option X) (z : Z)
@@ -173,10 +179,11 @@ pub and-false : (b : Bool) → (b && false) ≡ false
 and-false true = refl
 and-false false = refl
 
--- two configurations have the same peers, the same meaning of each name, and the same limit of hops
+-- two configurations have the same peers, the same meaning of each name, and the same limits of attributes and hops
 pub record LooksAlike (one other : ConfigView) : Type 0 where
   pub peers : one.peers ≡ other.peers
   pub names : (name : List ℕ) → realm_named one name ≡ realm_named other name
+  pub max_attributes : one.max_attributes ≡ other.max_attributes
   pub max_hops : one.max_hops ≡ other.max_hops
 
 module _ (one other : ConfigView) (same : LooksAlike one other) where

@@ -20,11 +20,11 @@ use Rattle.roam_route.specs.UserName.{realm_of}
 use Rattle.roam_route.specs.LocalAnswer.{accounting_answer}
 use Rattle.roam_route.specs.LocalReject.{has_bad_password, has_too_many_hops, takes_of, taking}
 use Rattle.roam_route.specs.Shapings.{sent_length}
-use Rattle.roam_route.specs.Admission.{Arrival, Admission, sender, checked, accounted, accounting_in, answered_by, by_accounting, for_named_realm, is_unnamed, rejected_for, route_request, job_of, forwarded_for, request_admission, sent_admission, status_admission, status_from, read_admission, admission, is_taken, peer_secret, home_secret, is_rightly_signed, is_rightly_sealed, has_needed_seal, has_few_hops, seal_required}
+use Rattle.roam_route.specs.Admission.{Arrival, Admission, sender, checked, accounted, accounting_in, answered_by, by_accounting, for_named_realm, is_unnamed, rejected_for, route_request, job_of, forwarded_for, request_admission, sent_admission, status_admission, status_from, read_admission, admission, is_taken, peer_secret, home_secret, has_few_attributes, is_rightly_signed, is_rightly_sealed, has_needed_seal, has_few_hops, seal_required}
 use Rattle.roam_route.specs.declared.job.Side.{Side}
 use Rattle.roam_route.specs.declared.job.Side.TheVariants as side
 use Rattle.roam_route.specs.OwnPart.{AnswerAlike, OwnAnswersDecided, answered}
-use Rattle.roam_route.proofs.AlikeLemmas.{LooksAlike, access_by, asked, peer-found, realm-same, seal-same, secret-same}
+use Rattle.roam_route.proofs.AlikeLemmas.{LooksAlike, access_by, asked, counted, peer-found, realm-same, seal-same, secret-same}
 
 -- what is checked is answered nowhere, where what follows isn't
 none-checked : (b : Bool) (why : Refusal) (x : Admission) → answered x ≡ None → answered (checked b why x) ≡ None
@@ -98,16 +98,22 @@ reverse-none config k from octets p (Some i) =
     let names = realm_of config p.attributes in
     none-checked (is_taken (place.Reverse k) (side.Home i) p.code) refusal.WrongCode
     (request_admission config secret a (side.Home i) p)
+    (none-checked (has_few_attributes config.max_attributes p) refusal.TooManyAttributes _
     (none-checked (is_rightly_signed secret p) refusal.BadAuthenticator _
     (none-checked (is_rightly_sealed secret p) refusal.BadMessageAuthenticator _
     (none-checked (has_needed_seal (seal_required config (side.Home i) p) p) refusal.MissingMessageAuthenticator _
     (none-checked (has_few_hops config.max_hops p) refusal.TooManyHops
     (forwarded_for (sent_length config (side.Home i) p k) a (side.Home i) p k names)
-    (not-answered (sent_length config (side.Home i) p k) a (side.Home i) p k names)))))
+    (not-answered (sent_length config (side.Home i) p k) a (side.Home i) p k names))))))
 
 module _ (one other : ConfigView) (same : AnswerAlike one other) where
   alike : LooksAlike one other
-  alike = record { peers = same.peers; names = same.names; max_hops = same.max_hops }
+  alike = record {
+    peers = same.peers;
+    names = same.names;
+    max_attributes = same.max_attributes;
+    max_hops = same.max_hops;
+  }
 
   -- each realm takes the requests of the same senders
   takes-all : (realm : ℕ) (s : Side) → takes_of one realm s ≡ takes_of other realm s
@@ -175,10 +181,16 @@ module _ (one other : ConfigView) (same : AnswerAlike one other) where
   request-same secret a s p =
       let required : Bool = seal_required other s p in
       let routed : Admission = route_request one secret a s p a.at in
-      ap (λ (b : Bool). answered (asked secret p b one.max_hops routed)) (seal-same one other alike s p)
-      ∙ ap (λ (most : Option ℕ). answered (asked secret p required most routed)) same.max_hops
-      ∙ answered-asked secret p required other.max_hops routed (route_request other secret a s p a.at)
-      (route_request-same secret a s p a.at)
+      let there : Admission = route_request other secret a s p a.at in
+      ap (λ (limit : Option ℕ). answered (counted limit p
+      (asked secret p (seal_required one s p) one.max_hops routed))) same.max_attributes
+      ∙ ap (λ (b : Bool). answered (counted other.max_attributes p (asked secret p b one.max_hops routed)))
+      (seal-same one other alike s p)
+      ∙ ap (λ (most : Option ℕ). answered (counted other.max_attributes p (asked secret p required most routed)))
+      same.max_hops
+      ∙ answered-checked (has_few_attributes other.max_attributes p) refusal.TooManyAttributes
+      (asked secret p required other.max_hops routed) (asked secret p required other.max_hops there)
+      (answered-asked secret p required other.max_hops routed there (route_request-same secret a s p a.at))
 
   -- a request of a peer
   peer-same : (a : Arrival) (i : ℕ) (p : Packet) →
@@ -189,7 +201,9 @@ module _ (one other : ConfigView) (same : AnswerAlike one other) where
   -- what answers a Status-Server of a peer
   status-same : (a : Arrival) (i : ℕ) (p : Packet) →
       status_from one a (side.Peer i) p ≡ status_from other a (side.Peer i) p
-  status-same a i p = ap (λ (ps : List PeerView). status_admission (secrets.peer_secret ps i) a p) same.peers
+  status-same a i p =
+      ap₂ (λ (most : Option ℕ) (ps : List PeerView). status_admission most (secrets.peer_secret ps i) a p)
+      same.max_attributes same.peers
 
   -- what a peer's packet gives, where its requests are taken
   abbrev judged : Bool → Bool → Bool → Admission → Admission → Admission

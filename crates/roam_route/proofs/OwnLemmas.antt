@@ -22,15 +22,20 @@ use Rattle.roam_route.specs.UserName.{realm_of, realm_part}
 use Rattle.roam_route.specs.LocalAnswer.{accounting_answer}
 use Rattle.roam_route.specs.LocalReject.{has_bad_password, has_too_many_hops, takes_of, taking}
 use Rattle.roam_route.specs.Shapings.{sent_length, shaping_between}
-use Rattle.roam_route.specs.Admission.{Arrival, Admission, sender, checked, accounted, accounting_in, by_accounting, is_answered_unnamed, is_unnamed, forwarded_for, answered_by, rejected_for, route_request, request_admission, packet_admission, sent_admission, read_admission, admission, is_taken, peer_secret, home_secret, is_rightly_signed, is_rightly_sealed, has_needed_seal, has_few_hops, seal_required}
+use Rattle.roam_route.specs.Admission.{Arrival, Admission, sender, checked, accounted, accounting_in, by_accounting, is_answered_unnamed, is_unnamed, forwarded_for, answered_by, rejected_for, route_request, request_admission, packet_admission, sent_admission, read_admission, admission, is_taken, peer_secret, home_secret, has_few_attributes, is_rightly_signed, is_rightly_sealed, has_needed_seal, has_few_hops, seal_required}
 use Rattle.roam_route.specs.declared.job.Side.{Side}
 use Rattle.roam_route.specs.declared.job.Side.TheVariants as side
 use Rattle.roam_route.specs.OwnPart.{own, HaveSamePart, OwnPartDecides}
-use Rattle.roam_route.proofs.AlikeLemmas.{LooksAlike, access_by, and-false, asked, either-none, none-access, none-accounted, none-forwarded, not-unnamed, own-checked, peer-found, realm-same, seal-same, secret-same, sent-own, out-none, reverse-none}
+use Rattle.roam_route.proofs.AlikeLemmas.{LooksAlike, access_by, and-false, asked, counted, either-none, none-access, none-accounted, none-forwarded, not-unnamed, own-checked, peer-found, realm-same, seal-same, secret-same, sent-own, out-none, reverse-none}
 
 module _ (one other : ConfigView) (realm : ℕ) (same : HaveSamePart one other realm) where
   alike : LooksAlike one other
-  alike = record { peers = same.peers; names = same.names; max_hops = same.max_hops }
+  alike = record {
+    peers = same.peers;
+    names = same.names;
+    max_attributes = same.max_attributes;
+    max_hops = same.max_hops;
+  }
 
   -- the realm takes the requests of the same senders
   takes-same : (s : Side) → takes_of one realm s ≡ takes_of other realm s
@@ -174,13 +179,19 @@ module _ (one other : ConfigView) (realm : ℕ) (same : HaveSamePart one other r
   own-request : (secret : List ℕ) (a : Arrival) (s : Side) (p : Packet)
       → own realm (request_admission one secret a s p) ≡ own realm (request_admission other secret a s p)
   own-request secret a s p =
-      ap (λ (required : Bool). own realm
-      (asked secret p required one.max_hops (route_request one secret a s p a.at))) (seal-same one other alike s p)
-      ∙ ap (λ (most : Option ℕ). own realm
-      (asked secret p (seal_required other s p) most (route_request one secret a s p a.at))) same.max_hops
-      ∙ own-asked secret p (seal_required other s p) other.max_hops (route_request one secret a s p a.at)
-      (route_request other secret a s p a.at)
-      (own-route secret a s p a.at)
+      let required : Bool = seal_required other s p in
+      let before : Admission = asked secret p required other.max_hops (route_request one secret a s p a.at) in
+      let after : Admission = asked secret p required other.max_hops (route_request other secret a s p a.at) in
+      ap (λ (limit : Option ℕ). own realm (counted limit p
+      (asked secret p (seal_required one s p) one.max_hops (route_request one secret a s p a.at))))
+      same.max_attributes
+      ∙ ap (λ (r : Bool). own realm (counted other.max_attributes p
+      (asked secret p r one.max_hops (route_request one secret a s p a.at)))) (seal-same one other alike s p)
+      ∙ ap (λ (most : Option ℕ). own realm (counted other.max_attributes p
+      (asked secret p required most (route_request one secret a s p a.at)))) same.max_hops
+      ∙ own-checked realm (has_few_attributes other.max_attributes p) refusal.TooManyAttributes before after
+      (own-asked secret p required other.max_hops (route_request one secret a s p a.at)
+      (route_request other secret a s p a.at) (own-route secret a s p a.at))
 
   -- a request of a peer
   own-peer : (a : Arrival) (i : ℕ) (p : Packet)

@@ -18,11 +18,11 @@ use Rattle.roam_route.specs.UserName.{realm_of}
 use Rattle.roam_route.specs.LocalAnswer.{answer_length, local_reject}
 use Rattle.roam_route.specs.LocalReject.{is_rejected, takes_of}
 use Rattle.roam_route.specs.Shapings.{sent_length}
-use Rattle.roam_route.specs.Admission.{Arrival, Admission, refused, checked, accounted, accounting_in, by_accounting, is_answered_unnamed, job_of, forwarded_for, answered_by, rejected_for, for_named_realm, route_request, request_admission, packet_admission, sent_admission, admission, is_rightly_signed, is_rightly_sealed, has_needed_seal, has_few_hops, seal_required, peer_secret, home_secret}
-use Rattle.roam_route.specs.AdmittedRequests.{IsRequestAt, IsRightlySigned, sealing_authenticator, HasNeededSeal, FailsFirst, NothingFails, IsPassedOn, FailsToAccount, FailsForSize, FailsInRealm, FailsNamed, FailsToGo, FailsFor, RefusedFailsFirst}
+use Rattle.roam_route.specs.Admission.{Arrival, Admission, refused, checked, accounted, accounting_in, by_accounting, is_answered_unnamed, job_of, forwarded_for, answered_by, rejected_for, for_named_realm, route_request, request_admission, packet_admission, sent_admission, admission, has_few_attributes, is_rightly_signed, is_rightly_sealed, has_needed_seal, has_few_hops, seal_required, peer_secret, home_secret}
+use Rattle.roam_route.specs.AdmittedRequests.{IsRequestAt, HasFewAttributes, IsRightlySigned, sealing_authenticator, HasNeededSeal, FailsFirst, NothingFails, IsPassedOn, FailsToAccount, FailsForSize, FailsInRealm, FailsNamed, FailsToGo, FailsFor, RefusedFailsFirst}
 use Rattle.roam_route.specs.declared.job.Side.{Side}
 use Rattle.roam_route.specs.declared.job.Side.TheVariants as side
-use Rattle.roam_route.proofs.RequestTestLemmas.{signed_decided, sealed_decided, needed_decided, size_by, passed_decided}
+use Rattle.roam_route.proofs.RequestTestLemmas.{attributes_decided, signed_decided, sealed_decided, needed_decided, size_by, passed_decided}
 use Rattle.roam_route.proofs.RoutedLemmas.{asked_named, fails, Fits}
 use Rattle.roam_route.proofs.RightLemmas.{other_hops, access_hops, front_checked, reverse_other}
 use Rattle.roam_route.proofs.AdmittedLemmas.{judged_is, as_sent}
@@ -126,9 +126,10 @@ access_fails config secret a s p why =
 front_fails : (F : Refusal → Type 0) (config : ConfigView) (secret : List ℕ) (s : Side) (p : Packet)
     (further : Admission) (why : Refusal) → ((further ≡ refused why) ↔ F why)
     → (front_checked config secret s p further ≡ refused why)
-    ↔ FailsFirst (IsRightlySigned secret p) refusal.BadAuthenticator
+    ↔ FailsFirst (HasFewAttributes config.max_attributes p) refusal.TooManyAttributes
+    (FailsFirst (IsRightlySigned secret p) refusal.BadAuthenticator
     (FailsFirst (IsWellSealed secret (sealing_authenticator p ∷ []) p) refusal.BadMessageAuthenticator
-    (FailsFirst (HasNeededSeal (seal_required config s p) p) refusal.MissingMessageAuthenticator F)) why
+    (FailsFirst (HasNeededSeal (seal_required config s p) p) refusal.MissingMessageAuthenticator F))) why
 front_fails F config secret s p further why f =
     let needed : Bool = has_needed_seal (seal_required config s p) p in
     let third = fails F needed refusal.MissingMessageAuthenticator further why
@@ -137,12 +138,21 @@ front_fails F config secret s p further why f =
     (FailsFirst (HasNeededSeal (seal_required config s p) p) refusal.MissingMessageAuthenticator F)
     (is_rightly_sealed secret p) refusal.BadMessageAuthenticator
     (checked needed refusal.MissingMessageAuthenticator further) why (sealed_decided secret p) third in
-    fails
+    let first = fails
     (FailsFirst (IsWellSealed secret (sealing_authenticator p ∷ []) p) refusal.BadMessageAuthenticator
     (FailsFirst (HasNeededSeal (seal_required config s p) p) refusal.MissingMessageAuthenticator F))
     (is_rightly_signed secret p) refusal.BadAuthenticator
     (checked (is_rightly_sealed secret p) refusal.BadMessageAuthenticator
-    (checked needed refusal.MissingMessageAuthenticator further)) why (signed_decided secret p) second
+    (checked needed refusal.MissingMessageAuthenticator further)) why (signed_decided secret p) second in
+    fails
+    (FailsFirst (IsRightlySigned secret p) refusal.BadAuthenticator
+    (FailsFirst (IsWellSealed secret (sealing_authenticator p ∷ []) p) refusal.BadMessageAuthenticator
+    (FailsFirst (HasNeededSeal (seal_required config s p) p) refusal.MissingMessageAuthenticator F)))
+    (has_few_attributes config.max_attributes p) refusal.TooManyAttributes
+    (checked (is_rightly_signed secret p) refusal.BadAuthenticator
+    (checked (is_rightly_sealed secret p) refusal.BadMessageAuthenticator
+    (checked needed refusal.MissingMessageAuthenticator further))) why
+    (attributes_decided config.max_attributes p) first
 
 -- its hops, and where it goes
 goes_fails : (config : ConfigView) (secret : List ℕ) (a : Arrival) (s : Side) (p : Packet) (at : Place)
@@ -178,10 +188,11 @@ goes_fails config secret a (side.Home i) p (place.Out k) why code = absurd code
 request_fails : (config : ConfigView) (secret : List ℕ) (a : Arrival) (s : Side) (p : Packet) (at : Place)
     (why : Refusal) → a.at ≡ at → IsRequestAt at s p.code
     → (request_admission config secret a s p ≡ refused why)
-    ↔ FailsFirst (IsRightlySigned secret p) refusal.BadAuthenticator
+    ↔ FailsFirst (HasFewAttributes config.max_attributes p) refusal.TooManyAttributes
+    (FailsFirst (IsRightlySigned secret p) refusal.BadAuthenticator
     (FailsFirst (IsWellSealed secret (sealing_authenticator p ∷ []) p) refusal.BadMessageAuthenticator
     (FailsFirst (HasNeededSeal (seal_required config s p) p) refusal.MissingMessageAuthenticator
-    (FailsToGo config s p at))) why
+    (FailsToGo config s p at)))) why
 request_fails config secret a s p at why is code =
     let goes = subst (λ (x : Place).
     (checked (has_few_hops config.max_hops p) refusal.TooManyHops (route_request config secret a s p x)

@@ -1,6 +1,6 @@
 -- What an arrival gives: a refusal, a local answer, or an event of a realm (RFC 2865 sections 2.3 and
 -- 3, RFC 2866, RFC 5176, RFC 5997; the order of the checks is ours).
-use Rattle.std.specs.Prelude.{ℕ, ◌==◌, ◌&&◌, ◌||◌, not, nat_lt, nat_le, Bool, false, List, [], ◌∷◌, Option, Some, None, option_map, is_some, slice_get, Result, Ok, Err, if◌then◌else◌}
+use Rattle.std.specs.Prelude.{ℕ, ◌==◌, ◌&&◌, ◌||◌, not, nat_lt, nat_le, Bool, true, false, List, [], ◌∷◌, length, Option, Some, None, option_map, is_some, slice_get, Result, Ok, Err, if◌then◌else◌}
 use Rattle.std.specs.Option.{option_map_or}
 use Rattle.roam_wire.specs.Packet.{Attribute, Packet, packet_text}
 use Rattle.roam_wire.specs.Attributes.{count_of, first_value}
@@ -142,6 +142,19 @@ abbrev pub seal_required : ConfigView → Side → Packet → Bool
 seal_required config (side.Peer i) p = option_map_or (λ peer. wants_seal peer p) (slice_get config.peers i) false
 seal_required config _ p = false
 
+-- ## Attributes
+-- A request may have so many attributes as `max_attributes` says, where that is set: one with more is refused (28) before
+-- a digest of it is looked at, whatever its code. What came is counted; what is forwarded may have five more. Replies
+-- aren't counted.
+-- Source: ours
+-- Rules out: a request whose many attributes are gone through again and again before it is known to be anybody's
+-- Stands in: `roam_route` `Admission.antt`: `has_few_attributes`; `prepare`
+--
+-- whether a request has no more attributes than may be, where there is a limit
+abbrev pub has_few_attributes : Option ℕ → Packet → Bool
+has_few_attributes None p = true
+has_few_attributes (Some most) p = nat_le (length p.attributes) most
+
 -- whether a request that is forwarded hasn't too many hops: an Access-Request that has is answered by a
 -- local reject (ours)
 abbrev pub has_few_hops : Option ℕ → Packet → Bool
@@ -228,11 +241,12 @@ route_request config secret a s p _ =
 -- what a request gives
 abbrev pub request_admission : ConfigView → List ℕ → Arrival → Side → Packet → Admission
 request_admission config secret a s p =
-    checked (is_rightly_signed secret p) refusal.BadAuthenticator
+    checked (has_few_attributes config.max_attributes p) refusal.TooManyAttributes
+    (checked (is_rightly_signed secret p) refusal.BadAuthenticator
     (checked (is_rightly_sealed secret p) refusal.BadMessageAuthenticator
     (checked (has_needed_seal (seal_required config s p) p) refusal.MissingMessageAuthenticator
     (checked (has_few_hops config.max_hops p) refusal.TooManyHops
-    (route_request config secret a s p a.at))))
+    (route_request config secret a s p a.at)))))
 
 -- what a packet of a known sender and a code that is taken gives: a reply goes to the realm of its
 -- place as it is, and is judged there
@@ -255,17 +269,18 @@ is_status_request config _ _ code = false
 abbrev pub has_seal : Packet → Bool
 has_seal p = nat_lt 0 (count_of MESSAGE_AUTHENTICATOR p.attributes)
 
--- what a Status-Server gives: the local answer, where it is sealed over its own Authenticator (RFC 5997,
--- section 3)
-abbrev pub status_admission : List ℕ → Arrival → Packet → Admission
-status_admission secret a p =
-    checked (is_well_sealed secret (p.authenticator ∷ []) p) refusal.BadMessageAuthenticator
+-- what a Status-Server gives: the local answer, where it has few attributes and is sealed over its own Authenticator
+-- (RFC 5997, section 3)
+abbrev pub status_admission : Option ℕ → List ℕ → Arrival → Packet → Admission
+status_admission most secret a p =
+    checked (has_few_attributes most p) refusal.TooManyAttributes
+    (checked (is_well_sealed secret (p.authenticator ∷ []) p) refusal.BadMessageAuthenticator
     (checked (has_seal p) refusal.MissingMessageAuthenticator
-    (answered_by a (status_answer a.at secret p)))
+    (answered_by a (status_answer a.at secret p))))
 
 -- the same of a sender, of whom the peers alone have it answered
 abbrev pub status_from : ConfigView → Arrival → Side → Packet → Admission
-status_from config a (side.Peer i) p = status_admission (peer_secret config i) a p
+status_from config a (side.Peer i) p = status_admission config.max_attributes (peer_secret config i) a p
 status_from config a s p = refused refusal.WrongCode
 
 -- what a packet gives: the source first, then the code
@@ -281,7 +296,7 @@ read_admission config a (Err why) = refused why
 read_admission config a (Ok p) = sent_admission config a p (sender config a a.at)
 
 -- ## Admission
--- What one arrival gives: a refusal, the first of the refusals 1 to 8, 24, 9, 25, 26 and 10 whose cause holds; a local
+-- What one arrival gives: a refusal, the first of the refusals 1 to 5, 28, 6 to 8, 24, 9, 25, 26 and 10 whose cause holds; a local
 -- answer: a local reject, for an Access-Request that has too many hops, names no realm that takes its peer's requests
 -- or whose password can't be carried, looked at between 8 and 9, the answer to a Status-Server, or to an
 -- Accounting-Request that isn't forwarded; or an event of a realm: a request from a peer or a home server, or a

@@ -38,6 +38,10 @@ IsRequestAt (place.Reverse realm) (side.Home i) code =
     (code ≡ DISCONNECT_REQUEST) ⊎ (code ≡ COA_REQUEST)
 IsRequestAt _ _ code = ⊥
 
+-- where there is a limit of attributes, it has no more than that (ours)
+abbrev pub HasFewAttributes : Option ℕ → Packet → Type 0
+HasFewAttributes most p = (limit : ℕ) → most ≡ Some limit → length p.attributes ≤ limit
+
 -- the secret that the sender of a request shares with the broker (RFC 2865, section 3)
 abbrev pub shared_secret : ConfigView → Place → Side → List ℕ
 shared_secret config at (side.Peer i) = peer_secret config i
@@ -92,7 +96,8 @@ IsForwarded config realm = accounting_in config realm ≡ Forwarded
 -- ## A right request
 -- A request that a realm is given, by the side that sent it, a peer or a home server of the realm. Its code
 -- belongs to its place and its sender: a peer's Access-Request where those are taken, its Accounting-Request
--- where those are, a home server's Disconnect-Request or CoA-Request at its realm's own place. It is signed
+-- where those are, a home server's Disconnect-Request or CoA-Request at its realm's own place. Where there is a limit of
+-- attributes, it has at most so many. It is signed
 -- with the secret that the two share where its code has a signature, which is each but an Access-Request. It
 -- has no Message-Authenticator, or just one, and that is over its own Authenticator in an Access-Request and
 -- over sixteen zero octets in any other. An Access-Request has one where it has an EAP-Message, and where its
@@ -102,7 +107,7 @@ IsForwarded config realm = accounting_in config realm ≡ Forwarded
 -- the one that its User-Name names, which takes that peer's requests and, of an Accounting-Request, has its accounting
 -- forwarded. The packet that is forwarded for it has at most 4096 octets: of a peer's request as the peer and the
 -- realm have it shaped, of a home server's as it came. An arrival gives a realm a request just where it is one; what
--- isn't is refused for the first of these parts that fails, in this order: code, signature, Message-Authenticator,
+-- isn't is refused for the first of these parts that fails, in this order: code, attributes, signature, Message-Authenticator,
 -- that there is one where it must be, hops, realm, that it may be asked, its accounting, size. (An Access-Request
 -- that fails in its realm, passwords or hops is answered by a local reject, whose size is then the last part; an
 -- Accounting-Request without a name, or for a realm that has these answered, may be answered by the broker, and isn't
@@ -119,6 +124,7 @@ IsForwarded config realm = accounting_in config realm ≡ Forwarded
 pub record IsRightRequest (config : ConfigView) (at : Place) (s : Side) (p : Packet) (realm : ℕ) : Type 0
   where
     pub code : IsRequestAt at s p.code
+    pub attributes : HasFewAttributes config.max_attributes p
     pub signed : IsRightlySigned (shared_secret config at s) p
     pub well_sealed :
         IsWellSealed (shared_secret config at s) (sealing_authenticator p ∷ []) p
@@ -207,15 +213,16 @@ FailsToGo config s p (place.Reverse own) why =
 FailsToGo config s p _ why =
     FailsFirst (HasFewHops config.max_hops p) refusal.TooManyHops (FailsNamed config s p) why
 
--- why a request of a sender isn't admitted: the first part that fails, of its signature, its
+-- why a request of a sender isn't admitted: the first part that fails, of its attributes, its signature, its
 -- Message-Authenticator, that it has one where it must, and what is wanted to forward it (the order is ours)
 abbrev pub FailsFor : ConfigView → Place → Side → Packet → Refusal → Type 0
 FailsFor config at s p why =
-    FailsFirst (IsRightlySigned (shared_secret config at s) p) refusal.BadAuthenticator
+    FailsFirst (HasFewAttributes config.max_attributes p) refusal.TooManyAttributes
+    (FailsFirst (IsRightlySigned (shared_secret config at s) p) refusal.BadAuthenticator
     (FailsFirst (IsWellSealed (shared_secret config at s) (sealing_authenticator p ∷ []) p)
     refusal.BadMessageAuthenticator
     (FailsFirst (HasNeededSeal (seal_required config s p) p) refusal.MissingMessageAuthenticator
-    (FailsToGo config s p at))) why
+    (FailsToGo config s p at)))) why
 
 -- a request is refused just for the first part that fails
 abbrev pub RefusedFailsFirst : Type 0

@@ -14,8 +14,8 @@ ghost use Rattle.roam_book.specs.Shares.{name_part, same_part, share_taken};
 ghost use Rattle.roam_book.specs.Sound.{CountsAsGone, IsRequest, shown_request};
 
 use crate::packets::forwarding::RequestRef;
+use crate::rules::new_requests::gone_ticket;
 use crate::rules::replaced::Replaced;
-use crate::rules::requests::gone_ticket;
 use crate::state::realm_broker::RealmBroker;
 use crate::state::service::Service;
 use roam_conf::Link;
