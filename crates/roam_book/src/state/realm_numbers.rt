@@ -122,7 +122,7 @@ impl<A: Allocator + Copy> RealmNumbers<A> {
             lanes,
             ticket: start.ticket,
             stream_position: start.place,
-            sessions: Sessions::new(alloc, settings.max_sessions()),
+            sessions: Sessions::new(alloc, settings.max_sessions(), settings.hash_key()),
             rests,
         })
     }

@@ -12,7 +12,9 @@ ghost use Rattle.roam_book.specs.RealmConfig.{realm_config, server_secret, peer_
 ghost use Rattle.roam_book.specs.RealmConfig.{seal_required, link_endpoint, link_place, link_count, nowhere, IsLink};
 ghost use Rattle.roam_book.specs.RealmConfig.{IsRequester};
 
+use crate::state::hash_key::hash_key;
 use roam_conf::{Config, Endpoint, Link, Peer, Realm, Server};
+use roam_hash::HashKey;
 use roam_pending::Requester;
 use roam_reverse::{Sessions, route_of};
 use roam_wire::View;
@@ -102,6 +104,11 @@ impl<'c> RealmSettings<'c> {
         ensures { result ≡ self.now.realm.rest_after }
     {
         self.realm().rest_after
+    }
+
+    /// What keys the hashes of its ledger.
+    pub(crate) fn hash_key(&self) -> HashKey {
+        hash_key(self.config)
     }
 
     /// How many sessions the ledger holds at most.
