@@ -30,10 +30,13 @@ use Rattle.roam_book.specs.OnRequest.{forwarded_octets, forwarding, held_reply, 
 use Rattle.roam_book.specs.OnReply.{passing_to, returned_octets, returning}
 use Rattle.roam_book.specs.OneRealm.{RealmEvent, request_came, on_event}
 use Rattle.roam_book.specs.declared.state.start.Start.{Start}
+use Rattle.roam_core.specs.LifeLaws.{AdmittedIsOfOwnSessionIn}
+use Rattle.roam_core.specs.Lives.{Stage, event, stage_then}
 use Rattle.roam_core.specs.Openings.{one_realm_packets, state_then}
 use Rattle.roam_core.specs.OwnSessions.{AdmittedIsOfOwnSession, EachSentIsOfOwnSession, IsForOwnSession, SentIsOfOwnSession}
 use Rattle.roam_core.specs.Provenance.{IsForwardedPacket, IsNakPacket, IsReturnedPacket}
 use Rattle.roam_core.proofs.IsolationLemmas.{isolated_from_start}
+use Rattle.roam_core.proofs.LifeLemmas.{stage-next}
 use Rattle.roam_core.proofs.ProvenanceLemmas.{each_packet_has_origin}
 use Rattle.roam_core.proofs.RealmRunLemmas.{state-next}
 
@@ -89,6 +92,18 @@ admitted_is_of_own_session c start events q ticket own reverse given =
     let taken : (state_after s (on_event c s e)).ticket ≡ s.ticket + 1 =
     next ∙ ap (λ (n : ℕ). n + 1) (sym given.given.next) in
     of_one c s given.named q own reverse (no_cause c given.asked_at s given.named q taken)
+
+-- also over a realm's life
+pub admitted_is_of_own_session_in : AdmittedIsOfOwnSessionIn
+admitted_is_of_own_session_in b life q ticket given own reverse =
+    let at = stage_then b given.first in
+    let e = request_came given.asked_at given.named q in
+    let next : (state_after at.state (on_event at.config at.state e)).ticket ≡ ticket + 1 =
+    sym (ap (λ (x : Stage). x.state.ticket) (stage-next b given.first (event e))) ∙ given.given.taken in
+    let taken : (state_after at.state (on_event at.config at.state e)).ticket ≡ at.state.ticket + 1 =
+    next ∙ ap (λ (n : ℕ). n + 1) (sym given.given.next) in
+    of_one at.config at.state given.named q own reverse
+    (no_cause at.config given.asked_at at.state given.named q taken)
 
 -- ---- which of a realm's packets are reverse requests
 

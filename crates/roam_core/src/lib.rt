@@ -45,7 +45,8 @@
 //!   lets its reverse requests pass | law `isolated_ledgers`
 //! - in a realm with `own_sessions` each Disconnect- or CoA-Request that is sent was of one session of the realm's
 //!   ledger when it came: with one Acct-Session-Id, at most one User-Name, and just one session that has that id, is
-//!   of its target and agrees with the access server that it names | law `own_sessions`: `admitted`, `sent`, `each`
+//!   of its target and agrees with the access server that it names | law `own_sessions`: `admitted`, `sent`,
+//!   `each`; and of what is forwarded over a realm's life, under the configuration of the time: `life`
 //! - of a fresh broker over shared tables a proved caller concludes from contracts alone that each realm is
 //!   isolated, where each packet comes from, and which events were given and which were lost | `fresh_run` of
 //!   `test_callers`: `isolated`, `provenance`, `given`, `lost`, `wanted`
