@@ -1,5 +1,5 @@
 -- A request that isn't stale, as a test and as a fact; and that what was admitted needs no wall clock.
-use Rattle.std.proofs.Common.{◌≡◌, ◌↔◌, ◌≤◌, ◌+◌, ◌×◌, ℕ, Bool, true, false, List, Option, Some, None, IsTrue, refl, arith}
+use Rattle.std.proofs.Common.{◌≡◌, ◌↔◌, ◌≤◌, ◌+◌, ℕ, Bool, true, false, List, Option, Some, None, IsTrue, refl, arith}
 use Rattle.std.specs.Prelude.{if◌then◌else◌}
 use Rattle.std.proofs.lemmas.Bool.Decides.{nat_tests}
 use Rattle.roam_wire.specs.Packet.{Attribute, Packet}
@@ -33,15 +33,15 @@ AreNear fresh seconds sent =
     (most now at : ℕ) → fresh ≡ Some most → seconds ≡ Some now → sent ≡ Some at → (now ≤ at + most) × (at ≤ now + most)
 
 near_decided : (fresh seconds sent : Option ℕ) → IsTrue (near_enough fresh seconds sent) ↔ AreNear fresh seconds sent
-near_decided None seconds sent = (λ h. λ most now at is there then. absurd (cc is), λ h. refl)
-near_decided (Some most) None sent = (λ h. λ m now at is there then. absurd (cc there), λ h. refl)
-near_decided (Some most) (Some now) None = (λ h. λ m n at is there then. absurd (cc then), λ h. refl)
+near_decided None seconds sent = (λ h. λ most now at is there sent_is. absurd (cc is), λ h. refl)
+near_decided (Some most) None sent = (λ h. λ m now at is there sent_is. absurd (cc there), λ h. refl)
+near_decided (Some most) (Some now) None = (λ h. λ m n at is there sent_is. absurd (cc sent_is), λ h. refl)
 near_decided (Some most) (Some now) (Some sent) = (
-  λ h. λ m n at is there then. (
+  λ h. λ m n at is there sent_is. (
       let near = (near_by most now sent).0 h in
       let same_most : most ≡ m = cc is in
       let same_now : now ≡ n = cc there in
-      let same_sent : sent ≡ at = cc then in
+      let same_sent : sent ≡ at = cc sent_is in
       let one : now ≤ sent + most = near.0 in
       let other : sent ≤ now + most = near.1 in
       (omega (arith, one, same_most, same_now, same_sent), omega (arith, other, same_most, same_now, same_sent))
