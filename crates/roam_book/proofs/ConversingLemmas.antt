@@ -51,7 +51,7 @@ round-is_link c es n peer state e sound is =
 
 -- ---- which links have a free Identifier
 
--- a link has one beside an entry that counts as gone, just where the code finds it open
+-- a link has one beside an entry that counts as gone, just where the code finds it free
 open-at : {A : Type 0} (c : RealmConfig) (es : List PlainEntry) (n : RealmNumbers A) (t : ℕ) (e : PlainEntry)
     (place : Option (Link × ℕ)) → IsSound c es n → IsEntryList es → find_ticket t es ≡ Some e
     → standing_place e.standing ≡ place → (k : Link) → IsLink c k
@@ -80,15 +80,15 @@ only-are : (c : RealmConfig) (o : Option Link) → IfSome o (λ l. IsLink c l) �
 only-are c None h = tt
 only-are c (Some l) h = (h, tt)
 
-untried-by : (c : RealmConfig) (rests : List Rest) (cursors : List ℕ) (es : List PlainEntry) (open : Link → Bool)
+untried-by : (c : RealmConfig) (rests : List Rest) (cursors : List ℕ) (es : List PlainEntry) (is_free : Link → Bool)
     (asked : Bool) (links : List Link)
-    → AllByRecursion (λ l. is_some (next_toward c cursors es l) ≡ open l) links
+    → AllByRecursion (λ l. is_some (next_toward c cursors es l) ≡ is_free l) links
     → option_map (λ t. t.link) (first_target c cursors es
     (if asked then filter (λ l. not (has_moment c rests l)) links else []))
-    ≡ (if asked then find (λ l. not (has_moment c rests l) && open l) links else None)
-untried-by c rests cursors es open true links h =
-    target-among c cursors es open (λ l. not (has_moment c rests l)) links h
-untried-by c rests cursors es open false links h = refl
+    ≡ (if asked then find (λ l. not (has_moment c rests l) && is_free l) links else None)
+untried-by c rests cursors es is_free true links h =
+    target-among c cursors es is_free (λ l. not (has_moment c rests l)) links h
+untried-by c rests cursors es is_free false links h = refl
 
 -- the target of a new request is at the link that the code chooses
 pub way-is : {A : Type 0} (c : RealmConfig) (now : ℕ) (es : List PlainEntry) (n : RealmNumbers A)
@@ -100,15 +100,15 @@ pub way-is : {A : Type 0} (c : RealmConfig) (now : ℕ) (es : List PlainEntry) (
 way-is c now es n o q links sound list gone are bound =
     let cursors = cursors_of n.lanes.items in
     let mid = besides (gone_ticket o) es in
-    let open = is_open c n.lanes.items (freed_link o) in
-    let at : (k : Link) → IsLink c k → is_some (next_toward c cursors mid k) ≡ open k =
+    let is_free = is_open c n.lanes.items (freed_link o) in
+    let at : (k : Link) → IsLink c k → is_some (next_toward c cursors mid k) ≡ is_free k =
     opens c es n o sound list gone in
-    let all = all-weaker (IsLink c) (λ l. is_some (next_toward c cursors mid l) ≡ open l) links at are in
-    let only = all-weaker (IsLink c) (λ l. is_some (next_toward c cursors mid l) ≡ open l)
+    let all = all-weaker (IsLink c) (λ l. is_some (next_toward c cursors mid l) ≡ is_free l) links at are in
+    let only = all-weaker (IsLink c) (λ l. is_some (next_toward c cursors mid l) ≡ is_free l)
     (only_link (bound_link c q es)) at (only-are c (bound_link c q es) bound) in
-    let first = target-by c cursors mid open (only_link (bound_link c q es)) only in
-    let second = untried-by c n.rests.items cursors mid open (is_some (asked_state c q)) links all in
-    let third = chosen-by c now n.rests.items cursors mid open links all in
+    let first = target-by c cursors mid is_free (only_link (bound_link c q es)) only in
+    let second = untried-by c n.rests.items cursors mid is_free (is_some (asked_state c q)) links all in
+    let third = chosen-by c now n.rests.items cursors mid is_free links all in
     link-or (first_target c cursors mid (only_link (bound_link c q es)))
     (option_or (first_target c cursors mid (untried c n.rests.items q links))
     (chosen_target c now n.rests.items cursors mid links))
@@ -130,11 +130,11 @@ pub bound-is : {A : Type 0} (c : RealmConfig) (es : List PlainEntry) (n : RealmN
 bound-is c es n o q sound list gone bound =
     let cursors = cursors_of n.lanes.items in
     let mid = besides (gone_ticket o) es in
-    let open = is_open c n.lanes.items (freed_link o) in
-    let only = all-weaker (IsLink c) (λ l. is_some (next_toward c cursors mid l) ≡ open l)
+    let is_free = is_open c n.lanes.items (freed_link o) in
+    let only = all-weaker (IsLink c) (λ l. is_some (next_toward c cursors mid l) ≡ is_free l)
     (only_link (bound_link c q es)) (opens c es n o sound list gone) (only-are c (bound_link c q es) bound) in
     sym (mapped-some (first_target c cursors mid (only_link (bound_link c q es))))
-    ∙ ap is_some (target-by c cursors mid open (only_link (bound_link c q es)) only)
+    ∙ ap is_some (target-by c cursors mid is_free (only_link (bound_link c q es)) only)
 
 -- ---- the target's Identifier
 

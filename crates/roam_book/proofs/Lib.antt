@@ -27,6 +27,7 @@ pub mod SharingLemmas
 pub mod SilenceLemmas
 pub mod SoundLemmas
 pub mod TakenLaneLemmas
+pub mod TargetLemmas
 pub mod TickLemmas
 pub mod TurnLemmas
 pub mod UsedLemmas

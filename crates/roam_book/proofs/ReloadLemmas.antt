@@ -4,6 +4,7 @@ use Rattle.std.specs.List.{AllByRecursion}
 use Rattle.std.proofs.lemmas.Bool.{cases_Bool, cases_lt}
 use Rattle.std.proofs.lemmas.List.{length-map, length-append, length_push, get_or-take, get_or-map, get_or_append_left, get_or_past, get_or_push, map_push, replicate_more, take-append-le}
 use Rattle.roam_conf.specs.Config.{ConfigView, PeerView, RealmView}
+use Rattle.roam_conf.specs.Lookup.{homes}
 use Rattle.roam_wire.specs.Packet.{Packet}
 use Rattle.roam_wire.specs.Reading.{packet_of}
 use Rattle.roam_fwd.specs.Shaped.{CanBeShaped, Shaping}
@@ -34,6 +35,10 @@ peers b c k =
     ap length k.peers.same ∙ length-append (map peer_part b.peers) k.peers.more in
     omega (arith, both, length-map c.peers peer_part, length-map b.peers peer_part)
 
+-- the sources of reverse requests are as many
+sources : (b c : RealmConfig) → Carries b c → homes c.realm ≡ homes b.realm
+sources b c k = ap (λ (x : RealmView). homes x) k.table
+
 -- so links and senders of requests stay what they are
 link_stays : (b c : RealmConfig) → Carries b c → (l : Link) → IsLink b l → IsLink c l
 link_stays b c k (link.Auth s) is = omega (arith, servers b c k, is)
@@ -42,7 +47,7 @@ link_stays b c k (link.Coa p) is = omega (arith, peers b c k, is)
 
 requester_stays : (b c : RealmConfig) → Carries b c → (r : Requester) → IsRequester b r → IsRequester c r
 requester_stays b c k (requester.Peer p) is = omega (arith, peers b c k, is)
-requester_stays b c k (requester.Home s) is = omega (arith, servers b c k, is)
+requester_stays b c k (requester.Home s) is = omega (arith, sources b c k, is)
 
 place_stays : (b c : RealmConfig) → Carries b c → (l : Link) → link_place c l ≡ link_place b l
 place_stays b c k (link.Auth s) = refl

@@ -24,7 +24,7 @@ use Rattle.roam_book.specs.Turn.{Turn, refuses, sends}
 use Rattle.roam_book.specs.declared.rules.replaced.Replaced.{Replaced}
 use Rattle.roam_book.specs.declared.state.realm_numbers.RealmNumbers.{RealmNumbers}
 use Rattle.roam_book.proofs.ConversingLemmas.{bound-is, new-next, way-is}
-use Rattle.roam_book.proofs.JobLemmas.{target-within}
+use Rattle.roam_book.proofs.TargetLemmas.{target-within}
 use Rattle.roam_book.proofs.LaneLemmas.{links-are}
 
 -- the target is the link that was chosen, with its next free Identifier

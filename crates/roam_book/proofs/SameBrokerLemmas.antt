@@ -3,9 +3,9 @@
 use Rattle.std.proofs.Common.{◌≡◌, ℕ, zero, suc, ◌+◌, ◌-◌, ◌%◌, ◌^◌, ◌==◌, nat_lt, nat_eq, Bool, not, List, [], ◌∷◌, ◌++◌, length, map, Option, Some, None, unwrap_or, slice_get, slice_index, slice_index_or, slice_set, if◌then◌else◌, refl, ap, sym, ◌∙◌, arith, append-nil, append_assoc}
 use Rattle.std.proofs.lemmas.List.{length-append, length-map, nil_from_length}
 use Rattle.std.specs.Cmp.Lexicographic.{pointwise}
-use Rattle.std.specs.List.{filter, position_from}
+use Rattle.std.specs.List.{filter}
 use Rattle.std.specs.Option.{option_map_or, option_or, option_and_then}
-use Rattle.roam_wire.specs.Packet.{Attribute, Packet, packet_text}
+use Rattle.roam_wire.specs.Packet.{Packet, packet_text}
 use Rattle.roam_wire.specs.Reading.{packet_of}
 use Rattle.roam_wire.specs.declared.code.TheConstants.{COA_REQUEST}
 use Rattle.roam_wire.specs.declared.packet_size.TheConstants.{MAX_PACKET_LENGTH}
@@ -31,13 +31,10 @@ use Rattle.roam_pending.specs.EntryList.{find_client, find_link, find_ticket, fi
 use Rattle.roam_pending.specs.PlainEntry.{PlainEntry, PlainRequest, PlainStanding, waiting, done}
 use Rattle.roam_pending.specs.Realms.{sent_again, with_standing}
 use Rattle.roam_reload.specs.Reload.{peer_part, realm_part}
-use Rattle.roam_reverse.specs.Causes.{cause, cause_at_target}
 use Rattle.roam_reverse.specs.Sessions.{Session}
-use Rattle.roam_reverse.specs.Target as reverse
 use Rattle.roam_reverse.specs.declared.error_cause.TheConstants.{OTHER_PROXY_PROCESSING_ERROR}
 use Rattle.roam_route.specs.Admission.{PlainOut}
 use Rattle.roam_route.specs.Shapings.{shaping_between}
-use Rattle.roam_route.specs.UserName.{nas_of}
 use Rattle.roam_book.specs.Shapings.{removed_for, shaping_of, shaping_to}
 use Rattle.roam_book.specs.Shares.{share_taken}
 use Rattle.roam_book.specs.OneRealm.{RealmEvent, request_came, reply_came, tick_came, on_event, one_realm_run}
@@ -50,6 +47,7 @@ use Rattle.roam_book.specs.Reload.{Carries}
 use Rattle.roam_book.specs.Rests.{after_choice, after_silence, awake, is_resting, once_chosen, once_silent, rest_of, stands_back, with_rest}
 use Rattle.roam_book.specs.Turn.{Turn, in_time, packets_of, refuses, sends, state_after}
 use Rattle.roam_book.specs.declared.state.rest.Rest.{Rest}
+use Rattle.roam_book.proofs.TargetLemmas.{cause_same, target_same}
 
 -- a part of a configuration without what isn't looked at
 abbrev pub bare : RealmConfig → RealmConfig
@@ -68,39 +66,6 @@ coa_same : (peers : List PeerView) (p : ℕ) →
 coa_same [] p = refl
 coa_same (x ∷ xs) zero = refl
 coa_same (x ∷ xs) (suc p) = coa_same xs p
-
--- the first peer that passes a test which doesn't look at it either
-place_same : (test : PeerView → Bool) (n : ℕ) (peers : List PeerView) →
-    ((x : PeerView) → test (peer_part x) ≡ test x) →
-    position_from test n (map peer_part peers) ≡ position_from test n peers
-place_same test n [] same = refl
-place_same test n (x ∷ xs) same = λ i. if same x i then Some n else place_same test (n + 1) xs same i
-
-target_same : (peers : List PeerView) (attributes : List Attribute) →
-    reverse.target (map peer_part peers) attributes ≡ reverse.target peers attributes
-unfolding reverse.target
-target_same peers attributes = place_same (reverse.is_target (nas_of attributes)) 0 peers (λ x. refl)
-
--- whether a peer is among the realm's
-is_among_same : (realm : RealmView) (peers : List PeerView) (p : ℕ) →
-    reverse.is_among (Some (realm_part realm)) (map peer_part peers) p ≡ reverse.is_among (Some realm) peers p
-is_among_same realm [] p = refl
-is_among_same realm (x ∷ xs) zero = refl
-is_among_same realm (x ∷ xs) (suc p) = is_among_same realm xs p
-
-among_same : (realm : RealmView) (peers : List PeerView) (o : Option ℕ) →
-    reverse.among (Some (realm_part realm)) (map peer_part peers) o ≡ reverse.among (Some realm) peers o
-among_same realm peers None = refl
-among_same realm peers (Some p) = λ i. if is_among_same realm peers p i then Some p else None
-
-cause_same : (realm : RealmView) (peers : List PeerView) (r : ℕ) (named : Option ℕ) (attributes : List Attribute)
-    (sessions : List Session) → cause (Some (realm_part realm)) (map peer_part peers) r named attributes sessions
-    ≡ cause (Some realm) peers r named attributes sessions
-unfolding cause
-cause_same realm peers r named attributes sessions =
-    ap (λ (o : Option ℕ). cause_at_target r named attributes sessions
-    (reverse.among (Some (realm_part realm)) (map peer_part peers) o)) (target_same peers attributes)
-    ∙ ap (cause_at_target r named attributes sessions) (among_same realm peers (reverse.target peers attributes))
 
 -- how a peer's requests are forwarded, and replies returned to it
 between_same : (realm : RealmView) (peers : List PeerView) (p : ℕ) →

@@ -3,6 +3,7 @@
 use Rattle.std.specs.Prelude.{ℕ, ◌+◌, ◌==◌, nat_lt, Bool, true, false, List, [], ◌∷◌, Option, Some, None, if◌then◌else◌}
 use Rattle.roam_wire.specs.Packet.{Packet, packet_text}
 use Rattle.roam_wire.specs.Reading.{packet_of}
+use Rattle.roam_wire.specs.Refusal.{number_of}
 use Rattle.roam_wire.specs.declared.code.TheConstants.{ACCOUNTING_RESPONSE}
 use Rattle.roam_wire.specs.declared.refusal.Refusal.{Refusal}
 use Rattle.roam_wire.specs.declared.refusal.Refusal.TheVariants as refusal
@@ -51,7 +52,7 @@ counted_peer (requester.Home server) reply = None
 abbrev pub counted : RealmConfig → PlainRequest → Option ℕ → List Session → List Session
 counted c q None sessions = sessions
 counted c q (Some peer) sessions =
-    applied c.realm.max_sessions peer (packet_of q.octets).attributes sessions
+    applied c.realm.max_sessions c.realm.own_sessions peer (packet_of q.octets).attributes sessions
 
 -- the state once a link gave a sign of life
 abbrev pub once_heard_from : RealmConfig → RealmState → Link → RealmState
@@ -79,8 +80,7 @@ return_reply c now s e l forwarded reply =
 -- a reply of which this is wrong is a sign of life of its link: it answers what was forwarded, by its code and its
 -- signature, and its seal alone is wrong, or missing
 abbrev pub shows_life : Refusal → Bool
-shows_life refusal.BadReplyMessageAuthenticator = true
-shows_life _ = false
+shows_life why = number_of why == number_of refusal.BadReplyMessageAuthenticator
 
 -- such a reply
 abbrev pub faulted : RealmConfig → RealmState → Link → Refusal → Turn

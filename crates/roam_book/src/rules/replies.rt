@@ -156,7 +156,8 @@ impl<A: Allocator + Copy, E: Entries<A>> RealmBroker<'_, '_, '_, '_, A, E> {
             return Ok(None);
         };
         let request = View::of_packet(entry.request.octets.as_slice());
-        let change = self.numbers.prepare_ledger(peer, &request)?;
+        let own = self.settings.own_sessions();
+        let change = self.numbers.prepare_ledger(own, peer, &request)?;
         Ok(Some(change))
     }
 
