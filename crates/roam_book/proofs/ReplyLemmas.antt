@@ -171,7 +171,7 @@ pub plan-some : {A : Type 0} (c : RealmConfig) (s : RealmState) (e : PlainEntry)
     → IsReplyPlan c s (record { answer = v.answer; heard = if v.heard then Some d.link else None; settled = Some d })
     turn
 plan-some c s e v turn d is counts link ticket found waits h = record {
-  settles = (link, rw (ticket, found) waits);
+  settles = (link, rw (ticket, found) waits, rw is at h.from);
   hears = link-heard c d.link v.heard link;
   answers = rw (ticket, found) (rw (is, counts) at h.answers);
   silent = λ none. absurd (let k : Some d.done ≡ None = sym is ∙ h.silent none in cc);

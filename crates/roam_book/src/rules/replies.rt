@@ -4,7 +4,7 @@
 //! memory is taken, that of the ledger of sessions too; that changes nothing. Then the entry is settled: where
 //! its reply wants memory to be found by its State, that is taken first.
 
-ghost use Rattle.std.specs.Prelude.{◌≡◌, ◌≤◌, ◌^◌, [], None, Some, IfOk, IsOk, OnErr, OnOk};
+ghost use Rattle.std.specs.Prelude.{◌≡◌, ◌≤◌, ◌^◌, [], None, Some, IfOk, IsOk, OnErr, OnOk, if◌then◌else◌};
 ghost use Rattle.roam_wire.specs.Reading.{IsPacketText};
 ghost use Rattle.roam_pending.specs.EntryList.{find_link};
 ghost use Rattle.roam_pending.specs.Shown.{seen};
@@ -57,6 +57,13 @@ fn refused_reply<A: Allocator>(alloc: A, why: Refusal) -> ReplyPlan<A>
     }
 }
 
+/// The link that gave a sign of life, if it did.
+fn heard_from(heard: bool, link: Link) -> Option<Link>
+    ensures { result ≡ (if heard then Some link else None) }
+{
+    if heard { Some(link) } else { None }
+}
+
 impl<A: Allocator + Copy, E: Entries<A>> RealmBroker<'_, '_, '_, '_, A, E> {
     /// The entry that waits on a link with an Identifier: the link's lane has its ticket.
     pub(crate) fn waiting_at(&self, link: Link, id: u8) -> Option<&Entry<A>>
@@ -107,10 +114,9 @@ impl<A: Allocator + Copy, E: Entries<A>> RealmBroker<'_, '_, '_, '_, A, E> {
                 })
             }
         };
-        let heard = if heard { Some(link) } else { None };
         Ok(ReplyPlan {
             answer,
-            heard,
+            heard: heard_from(heard, link),
             settled,
         })
     }
