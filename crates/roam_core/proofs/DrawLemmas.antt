@@ -48,23 +48,24 @@ spent : (q : PlainRequest) (p : ℕ) → Moved p (position_after q p)
 spent q p = either (Moved p) (draws q) (next_position p) p (inr refl) (inl refl)
 
 -- a request draws once at most
-make_way-moves : (c : RealmConfig) (now : ℕ) (s : RealmState) (es : List PlainEntry) (q : PlainRequest)
-    (target : Target) (way : Option ℕ) → Moves s (make_way c now s es q target way)
-make_way-moves c now s es q target None = stays s
-make_way-moves c now s es q target (Some ticket) = spent q s.stream_position
+make_way-moves : (c : RealmConfig) (now : ℕ) (s : RealmState) (rests : List Rest) (es : List PlainEntry)
+    (q : PlainRequest) (target : Target) (way : Option ℕ)
+    → Moves s (make_way c now (with_rests s rests) es q target way)
+make_way-moves c now s rests es q target None = stays s
+make_way-moves c now s rests es q target (Some ticket) = spent q s.stream_position
 
-at_target-moves : (c : RealmConfig) (now : ℕ) (s : RealmState) (es : List PlainEntry) (q : PlainRequest)
-    (target : Option Target) → Moves s (at_target c now s es q target)
-at_target-moves c now s es q None = stays s
-at_target-moves c now s es q (Some target) =
+at_target-moves : (c : RealmConfig) (now : ℕ) (s : RealmState) (rests : List Rest) (es : List PlainEntry)
+    (q : PlainRequest) (target : Option Target) → Moves s (at_target c now (with_rests s rests) es q target)
+at_target-moves c now s rests es q None = stays s
+at_target-moves c now s rests es q (Some target) =
     either (Moves s) (ltb (length es) c.realm.max_pending) _ _ (spent q s.stream_position)
-    (make_way-moves c now s es q target (first_done es))
+    (make_way-moves c now s rests es q target (first_done es))
 
 new_request-moves : (c : RealmConfig) (now : ℕ) (s : RealmState) (es : List PlainEntry) (q : PlainRequest) →
     Moves s (new_request c now s es q)
 new_request-moves c now s es q =
     either (Moves s) (eqb s.ticket (2 ^ 63)) _ _ (stays s)
-    (either (Moves s) (share_taken c es q) _ _ (stays s) (at_target-moves c now s es q _))
+    (either (Moves s) (share_taken c es q) _ _ (stays s) (at_target-moves c now s _ es q _))
 
 nak_or_new-moves : (c : RealmConfig) (now : ℕ) (s : RealmState) (q : PlainRequest) (why : Option ℕ) →
     Moves s (nak_or_new c now s q why)
@@ -89,7 +90,7 @@ Rests old turn = (state_after old turn).stream_position ≡ old.stream_position
 
 judge-rests : (c : RealmConfig) (now : ℕ) (s : RealmState) (e : PlainEntry) (l : Link) (forwarded reply : Packet)
     (why : Option Refusal) → Rests s (judge c now s e l forwarded reply why)
-judge-rests c now s e l forwarded reply (Some why) = refl
+judge-rests c now s e l forwarded reply (Some why) = either (Rests s) (shows_life why) _ _ refl refl
 judge-rests c now s e l forwarded reply None =
     either (Rests s) (ltb 4096 (returned_length (returning c e.request l forwarded) (passing_to c e.request reply)
     (packet_of e.request.octets))) _ _
